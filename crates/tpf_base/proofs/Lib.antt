@@ -1,0 +1,6 @@
+pub mod Appended
+pub mod Shelves
+pub mod Rooms
+pub mod AddressRows
+pub mod HttpReaderLemmas
+pub mod HttpRows

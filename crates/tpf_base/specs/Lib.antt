@@ -1,0 +1,14 @@
+pub mod Causes
+pub mod Outside
+pub mod Wrote
+pub mod FileFaults
+pub mod Failures
+pub mod Files
+pub mod Memory
+pub mod Links
+pub mod Unowed
+pub mod Addresses
+pub mod HttpReader
+pub mod HttpHeads
+pub mod HttpText
+pub mod HttpReply

@@ -1,0 +1,26 @@
+//! What the program is handed from outside: files, a place to write to, and links to other hosts.
+#![tactic(auto)]
+
+mod failing;
+mod fault;
+mod mem_shelf;
+mod mem_sink;
+mod no_wire;
+mod shelf;
+mod sink;
+mod steps;
+#[cfg(test)]
+mod tests;
+mod text;
+mod wire;
+
+pub use failing::Failing;
+pub use fault::{Fault, OutOfMemory};
+pub use mem_shelf::MemShelf;
+pub use mem_sink::MemSink;
+pub use no_wire::NoWire;
+pub use shelf::{FileFault, Shelf, read_file};
+pub use sink::{Sink, write_all};
+pub use steps::Steps;
+pub use text::{Bytes, Text};
+pub use wire::{Accept, Dial, Moved, Ready, Wire};

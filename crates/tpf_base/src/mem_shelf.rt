@@ -1,0 +1,166 @@
+// A shelf in memory, which fails where it is told to.
+ghost use Rattle.std.specs.Prelude.{ℕ, ◌≡◌, ◌≢◌, ◌+◌, ◌-◌, ◌^◌, ◌<◌, ◌≤◌, ◌⊎◌, ◌↔◌, ◌++◌, List, [], length, take, drop, min, Option, Some, None, false, IsTrue, Err, IfOk, OnErr, IfSome, IfNone, IsErrOf, slice_get};
+ghost use Rattle.tpf_base.specs.Causes.{HasCause, counted};
+ghost use Rattle.tpf_base.specs.Outside.{content_of, Finds, Leaves, Reads};
+ghost use Rattle.tpf_base.specs.Failures.{is_due, room};
+ghost use Rattle.tpf_base.specs.Files.{file_rest};
+
+use crate::failing::Failures;
+use crate::{Bytes, Failing, Fault, Shelf, Text};
+use std::alloc::Global;
+
+/// A file that was found: which of the contents, and how many of its bytes were read.
+#[derive(Clone, Copy, Debug)]
+pub struct Opened {
+    which: usize,
+    at: usize,
+}
+
+/// A shelf in memory, which tells its contents. Where a name stands twice the first counts.
+///
+/// Each call of `find` and of `read` counts, also one that ends in want of memory, and fails where
+/// its `Failing` says so.
+#[derive(Drop)]
+pub struct MemShelf {
+    files: Vec<(Text, Bytes)>,
+    opened: Vec<Opened>,
+    moved: u64,
+    failures: Failures,
+}
+
+/// The first file with a name.
+fn place_of(files: &[(Text, Bytes)], name: &str) -> Option<usize>
+    ensures found { IfSome result (λ i. (file : List ℕ × List ℕ) × (slice_get files.now i ≡ Some file) × (content_of files.now name.now ≡ Some file.1)) }
+    ensures missing { IfNone result (content_of files.now name.now ≡ None) }
+{
+    for (i, file) in files.iter().enumerate() {
+        if file.0.as_str() == name {
+            return Some(i);
+        }
+    }
+    None
+}
+
+/// The bytes that are left of a file that was found.
+fn bytes_left(files: &[(Text, Bytes)], opened: Opened) -> &[u8]
+    ensures value { IfSome (file_rest files.now opened.which opened.at) (λ rest. rest ≡ result.now) }
+    ensures fits { opened.at + length result.now < 2 ^ 64 }
+{
+    if opened.which >= files.len() {
+        return &[];
+    }
+    let bytes = files[opened.which].1.as_slice();
+    if opened.at >= bytes.len() {
+        return &[];
+    }
+    &bytes[opened.at..]
+}
+
+/// Copies the front of these bytes, as many as may move, and says how many.
+fn copy_front(failures: &Failures, moved: u64, from: &[u8], to: &mut [u8]) -> usize
+    requires { (there : ℕ) → 0 < there → 0 < room failures.now.failing moved there }
+    ensures amount { result ≡ room failures.now.failing moved (min (length to.old) (length from.now)) }
+    ensures within { result ≤ length to.new }
+    ensures fits { result ≤ length from.now }
+    ensures bytes { from.now ≡ take result to.new ++ drop result from.now }
+    ensures end { 0 < length to.old → result ≡ 0 → from.now ≡ [] }
+{
+    let n = failures.room(moved, to.len().min(from.len()));
+    to[..n].copy_from_slice(&from[..n]);
+    n
+}
+
+impl MemShelf {
+    ghost use Rattle.tpf_base.specs.Memory.{shelf_files, shelf_given, shelf_failing, shelf_calls, shelf_moved, shelf_faults};
+
+    /// A shelf with these files, of which none was found yet. It takes no memory.
+    pub fn new(alloc: Global, files: Vec<(Text, Bytes)>, failing: Failing) -> MemShelf
+        ensures files { shelf_files result ≡ files.items }
+        ensures given { shelf_given result ≡ 0 }
+        ensures failing { shelf_failing result ≡ failing }
+        ensures calls { shelf_calls result ≡ 0 }
+        ensures moved { shelf_moved result ≡ 0 }
+        ensures faults { shelf_faults result ≡ 0 }
+    {
+        MemShelf {
+            files,
+            opened: Vec::new(alloc),
+            moved: 0,
+            failures: Failures::new(failing),
+        }
+    }
+}
+
+impl Shelf for MemShelf {
+    ghost use Rattle.tpf_base.specs.Memory.{shelf_files, shelf_given, shelf_rest, shelf_failing, shelf_calls, shelf_moved, shelf_faults, CountsCall};
+
+    ghost told = { λ shelf. Some (shelf_files shelf) };
+
+    ghost given = { shelf_given };
+
+    ghost rest = { shelf_rest };
+
+    ghost faults = { shelf_faults };
+
+    /// `Failed` exactly where the call is due, the name is not held, or all 2^32 numbers were given.
+    fn find(&mut self, name: &str) -> Result<u32, Fault>
+        ensures ok { IfOk result (Finds (Some (shelf_files self.old)) name.now (shelf_given self.old) (shelf_given self.new) (shelf_rest self.old) (shelf_rest self.new)) }
+        ensures err { OnErr result (Leaves (shelf_given self.old) (shelf_given self.new) (shelf_rest self.old) (shelf_rest self.new)) }
+        ensures told { shelf_files self.new ≡ shelf_files self.old }
+        ensures cause { HasCause (shelf_faults self.old) (shelf_faults self.new) result }
+        ensures failed { IsErrOf result Fault.Failed → IsTrue (is_due (shelf_failing self.old) (counted (shelf_calls self.old)) (shelf_moved self.old))
+            ⊎ (content_of (shelf_files self.old) name.now ≡ None) ⊎ (2 ^ 32 ≤ shelf_given self.old) }
+        ensures due { IsTrue (is_due (shelf_failing self.old) (counted (shelf_calls self.old)) (shelf_moved self.old)) → IsErrOf result Fault.Failed }
+        ensures missing { content_of (shelf_files self.old) name.now ≡ None → IsErrOf result Fault.Failed }
+        ensures counts { CountsCall (shelf_calls self.old) (shelf_calls self.new) (shelf_faults self.old) (shelf_faults self.new) result }
+        ensures failing { shelf_failing self.new ≡ shelf_failing self.old }
+        ensures moved { shelf_moved self.new ≡ shelf_moved self.old }
+    {
+        if self.failures.is_next_due(self.moved) {
+            self.failures.fail();
+            return Err(Fault::Failed);
+        }
+        let number = self.opened.len();
+        match place_of(&self.files, name) {
+            Some(which) if number <= u32::MAX as usize => {
+                match self.opened.push(Opened { which, at: 0 }) {
+                    Ok(()) => Ok(number as u32),
+                    Err(_) => Err(Fault::OutOfMemory),
+                }
+            }
+            _ => {
+                self.failures.fail();
+                Err(Fault::Failed)
+            }
+        }
+    }
+
+    /// `Failed` exactly where the call is due; want of memory never comes.
+    fn read(&mut self, file: u32, to: &mut [u8]) -> Result<usize, Fault>
+        requires given { file < shelf_given self.old }
+        requires room { 0 < length to.old }
+        ensures ok { IfOk result (λ n. Reads file n to.new (shelf_rest self.old) (shelf_rest self.new)) }
+        ensures err { OnErr result (Leaves (shelf_given self.old) (shelf_given self.new) (shelf_rest self.old) (shelf_rest self.new)) }
+        ensures given { shelf_given self.new ≡ shelf_given self.old }
+        ensures told { shelf_files self.new ≡ shelf_files self.old }
+        ensures cause { HasCause (shelf_faults self.old) (shelf_faults self.new) result }
+        ensures failed { IsErrOf result Fault.Failed ↔ IsTrue (is_due (shelf_failing self.old) (counted (shelf_calls self.old)) (shelf_moved self.old)) }
+        ensures memory { result ≢ Err Fault.OutOfMemory }
+        ensures amount { IfOk result (λ n. (rest : List ℕ) → shelf_rest self.old file ≡ Some rest → n ≡ room (shelf_failing self.old) (shelf_moved self.old) (min (length to.old) (length rest))) }
+        ensures counts { CountsCall (shelf_calls self.old) (shelf_calls self.new) (shelf_faults self.old) (shelf_faults self.new) result }
+        ensures failing { shelf_failing self.new ≡ shelf_failing self.old }
+        ensures moved { IfOk result (λ n. shelf_moved self.new ≡ min (shelf_moved self.old + n) (2 ^ 64 - 1)) }
+        ensures still { OnErr result (shelf_moved self.new ≡ shelf_moved self.old) }
+    {
+        if self.failures.is_next_due(self.moved) {
+            self.failures.fail();
+            return Err(Fault::Failed);
+        }
+        let opened = self.opened[file as usize];
+        let left = bytes_left(&self.files, opened);
+        let n = copy_front(&self.failures, self.moved, left, to);
+        self.opened[file as usize].at = opened.at + n;
+        self.moved = self.moved.saturating_add(n as u64);
+        Ok(n)
+    }
+}

@@ -1,0 +1,45 @@
+// A place to write to.
+ghost use Rattle.std.specs.Prelude.{ℕ, ◌≡◌, ◌<◌, ◌≤◌, List, length, Option, IfOk, OnOk, OnErr, IsErrOf};
+ghost use Rattle.std.specs.Io.KnownBytes.{Appends};
+ghost use Rattle.tpf_base.specs.Causes.{Rose, HasCause};
+ghost use Rattle.tpf_base.specs.Wrote.{Writes, AppendsPrefix};
+
+use crate::Fault;
+
+/// A place that takes bytes, one after another.
+///
+/// The count of faults never falls, and stands still at its last value.
+pub trait Sink {
+    /// The bytes taken so far, where it tells.
+    ghost taken: { Self → Option (List ℕ) };
+
+    /// How often it has failed.
+    ghost faults: { Self → ℕ };
+
+    /// Takes a part of the piece's front, at least one byte, and says how many.
+    ///
+    /// At a fault it takes none.
+    fn write(&mut self, piece: &[u8]) -> Result<usize, Fault>
+        requires { 0 < length piece.now }
+        ensures ok { IfOk result (λ n. Writes n piece.now (taken self.old) (taken self.new)) }
+        ensures err { OnErr result (taken self.new ≡ taken self.old) }
+        ensures cause { HasCause (faults self.old) (faults self.new) result };
+}
+
+/// Writes the piece whole, with as many writes as that takes.
+///
+/// At a fault it may have written a part of the front. `Failed` only where the sink's count of
+/// faults rose in this call.
+pub fn write_all<K: Sink>(out: &mut K, piece: &[u8]) -> Result<(), Fault>
+    ensures ok { OnOk result (Appends (K.taken out.old) (K.taken out.new) piece.now) }
+    ensures err { OnErr result (AppendsPrefix (K.taken out.old) (K.taken out.new) piece.now) }
+    ensures later { K.faults out.old ≤ K.faults out.new }
+    ensures failed { IsErrOf result Fault.Failed → Rose (K.faults out.old) (K.faults out.new) }
+{
+    let mut rest = piece;
+    while !rest.is_empty() {
+        let n = out.write(rest)?;
+        rest = &rest[n..];
+    }
+    Ok(())
+}
