@@ -1,0 +1,6 @@
+pub mod Books
+pub mod Checks
+pub mod FragmentLaws
+pub mod Lengths
+pub mod Tags
+pub mod Types

@@ -1,0 +1,16 @@
+pub mod Book
+pub mod Canon
+pub mod Compare
+pub mod Datatype
+pub mod EqualityLaws
+pub mod Fragments
+pub mod Index
+pub mod Iri
+pub mod Kinds
+pub mod Label
+pub mod Order
+pub mod OrderLaws
+pub mod Same
+pub mod Slots
+pub mod Tag
+pub mod Triples

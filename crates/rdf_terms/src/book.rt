@@ -1,0 +1,100 @@
+// A book of distinct terms, each with a number.
+ghost use Rattle.std.specs.Prelude.{ℕ, ◌≡◌, ◌<◌, Some, None, List, [], length, IfOk, OnErr, MatchOption, slice_get};
+ghost use Rattle.std.specs.List.{Contains};
+ghost use Rattle.rdf_terms.specs.Book.{Interns, Finds};
+
+use crate::Term;
+use std::alloc::Global;
+use std::collections::BTreeMap;
+use std::marker::Model;
+use tpf_base::OutOfMemory;
+
+/// Distinct terms, numbered from 0 as they came, which contracts see as their list. A term is found by the order of terms, in
+/// time that grows with the logarithm of their number. Each term is held twice, in the list and as a key.
+#[derive(Drop)]
+pub struct TermBook {
+    alloc: Global,
+    terms: Vec<Term>,
+    ids: BTreeMap<Term, u32>,
+}
+
+impl Model for TermBook {
+    ghost use Rattle.std.specs.Prelude.{List};
+    ghost use Rattle.rdf_terms.specs.declared.term.Term.{Term};
+
+    ghost Value = { List Term };
+
+    ghost use Rattle.rdf_terms.specs.Index.{IsIndex};
+
+    ghost view = { λ b. b.terms.items };
+
+    ghost invariant = { λ b. IsIndex b.terms.items b.ids };
+}
+
+impl TermBook {
+    /// A book that holds no term.
+    pub fn new(alloc: Global) -> TermBook
+        ensures { result ≡ [] }
+    {
+        TermBook {
+            alloc,
+            terms: Vec::new(alloc),
+            ids: BTreeMap::new(alloc),
+        }
+    }
+
+    /// How many terms are held.
+    pub fn len(&self) -> usize
+        ensures { result ≡ length self.now }
+    {
+        self.terms.len()
+    }
+
+    /// The term with this id.
+    pub fn get(&self, id: u32) -> &Term
+        requires { id < length self.now }
+        ensures { slice_get self.now id ≡ Some result.now }
+    {
+        &self.terms[id as usize]
+    }
+
+    /// The id of a term; `None` exactly where it is not held. It takes no memory.
+    pub fn find(&self, term: &Term) -> Option<u32>
+        ensures { Finds self.now term.now result }
+    {
+        self.ids.get(term).copied()
+    }
+
+    /// The id of a term, which is added at the end where it is not held. Ids given before keep their terms. After `OutOfMemory`
+    /// the book is as before.
+    pub fn intern(&mut self, term: &Term) -> Result<u32, OutOfMemory>
+        requires { length self.old < 4294967295 }
+        ensures interned { IfOk result (λ id. Interns self.old term.now self.new id) }
+        ensures unchanged { OnErr result (self.new ≡ self.old) }
+    {
+        if let Some(id) = self.find(term) {
+            return Ok(id);
+        }
+        self.add(term)
+    }
+
+    /// Adds a term that is not held.
+    fn add(&mut self, term: &Term) -> Result<u32, OutOfMemory>
+        requires few { length self.old < 4294967295 }
+        requires absent { Finds self.old term.now None }
+        ensures added { IfOk result (λ id. Interns self.old term.now self.new id) }
+        ensures unchanged { OnErr result (self.new ≡ self.old) }
+    {
+        let key = term.copy(self.alloc)?;
+        let copy = term.copy(self.alloc)?;
+        let id = self.terms.len() as u32;
+        self.terms.push(copy)?;
+        match self.ids.insert(key, id) {
+            Ok(_) => Ok(id),
+            Err(_) => {
+                self.terms.pop();
+                Err(OutOfMemory)
+            }
+        }
+    }
+}

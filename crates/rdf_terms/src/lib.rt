@@ -1,0 +1,26 @@
+//! Terms of RDF: their grammar, equality and order, triples and quads, and the slots of a fragment.
+#![tactic(auto)]
+
+mod book;
+mod datatype;
+mod fragment;
+mod iri;
+mod label;
+mod order;
+mod slots;
+mod tag;
+mod term;
+#[cfg(test)]
+mod tests;
+
+pub use book::TermBook;
+pub use datatype::{Datatype, is_datatype, is_lang_string, is_xsd_string};
+pub use fragment::{canonical_len_is, fragment_is_one, no_other_fragment};
+pub use iri::{IriText, has_scheme, is_iri, is_iri_byte};
+pub use label::{Label, is_label, is_label_char, is_label_start};
+pub use order::{
+    order_is_total, order_tells_apart, triple_order_is_total, triple_order_tells_apart,
+};
+pub use slots::{Slot, Slots};
+pub use tag::{Tag, is_tag, lower_is_kept, lowered};
+pub use term::{Kind, Quad, Term, TermFault, Triple};

@@ -1,0 +1,233 @@
+// The order of terms and of triples, found without making canonical text.
+ghost use Rattle.std.specs.Prelude.{ℕ, ◌≡◌, ◌↔◌, List};
+ghost use Rattle.rdf_terms.specs.declared.term.Term.{Term};
+ghost use Rattle.rdf_terms.specs.declared.term.Triple.{Triple};
+ghost use Rattle.std.specs.declared.cmp.Ordering.{Ordering};
+ghost use Rattle.std.specs.Cmp.{IsTotalOrder};
+ghost use Rattle.rdf_terms.specs.Canon.{is_marked, after_mark};
+ghost use Rattle.rdf_terms.specs.Compare.{ended_cmp, first_written, byte_cmp, form_cmp, kind_cmp, term_cmp};
+ghost use Rattle.rdf_terms.specs.Order.{bytes_order, term_order, triple_order};
+
+use crate::{Kind, Term, Triple};
+use std::cmp::Ordering;
+
+fn is_marked(b: u8) -> bool
+    ensures { result ≡ is_marked b }
+{
+    matches!(b, b'"' | b'\\' | b'\n' | b'\r')
+}
+
+fn after_mark(b: u8) -> u8
+    ensures { result ≡ after_mark b }
+{
+    match b {
+        b'\n' => b'n',
+        b'\r' => b'r',
+        _ => b,
+    }
+}
+
+fn first_written(b: u8) -> u8
+    ensures { result ≡ first_written b }
+{
+    if is_marked(b) { b'\\' } else { b }
+}
+
+fn byte_cmp(x: u8, y: u8) -> Ordering
+    ensures { result ≡ byte_cmp x y }
+{
+    if is_marked(x) {
+        if is_marked(y) {
+            after_mark(x).cmp(&after_mark(y))
+        } else {
+            b'\\'.cmp(&y)
+        }
+    } else if is_marked(y) {
+        x.cmp(&b'\\')
+    } else {
+        x.cmp(&y)
+    }
+}
+
+/// Two texts, each with this byte behind it.
+fn ended_cmp(end: u8, a: &[u8], b: &[u8]) -> Ordering
+    ensures { result ≡ ended_cmp end a.now b.now }
+{
+    let mut n: usize = 0;
+    while n < a.len() && n < b.len() {
+        if a[n] != b[n] {
+            return a[n].cmp(&b[n]);
+        }
+        n += 1;
+    }
+    if n < b.len() {
+        end.cmp(&b[n]).then(Ordering::Less)
+    } else if n < a.len() {
+        a[n].cmp(&end).then(Ordering::Greater)
+    } else {
+        Ordering::Equal
+    }
+}
+
+/// Two forms as they are written; where they are the same, the rest decides.
+fn form_cmp(rest: Ordering, a: &[u8], b: &[u8]) -> Ordering
+    ensures { result ≡ form_cmp rest a.now b.now }
+{
+    let mut n: usize = 0;
+    while n < a.len() && n < b.len() {
+        if a[n] != b[n] {
+            return byte_cmp(a[n], b[n]);
+        }
+        n += 1;
+    }
+    if n < b.len() {
+        b'"'.cmp(&first_written(b[n]))
+    } else if n < a.len() {
+        first_written(a[n]).cmp(&b'"')
+    } else {
+        rest
+    }
+}
+
+fn bytes_cmp(a: &str, b: &str) -> Ordering
+    ensures { result ≡ bytes_order a.now b.now }
+{
+    a.as_bytes().cmp(b.as_bytes())
+}
+
+fn kind_cmp(a: &Kind, b: &Kind) -> Ordering
+    ensures { result ≡ kind_cmp a.now b.now }
+{
+    match a {
+        Kind::Plain => match b {
+            Kind::Plain => Ordering::Equal,
+            _ => Ordering::Less,
+        },
+        Kind::Typed(d) => match b {
+            Kind::Typed(e) => ended_cmp(b'>', d.as_str().as_bytes(), e.as_str().as_bytes()),
+            _ => Ordering::Greater,
+        },
+        Kind::Tagged(t) => match b {
+            Kind::Plain => Ordering::Greater,
+            Kind::Typed(_) => Ordering::Less,
+            Kind::Tagged(u) => bytes_cmp(t.as_str(), u.as_str()),
+        },
+    }
+}
+
+fn term_cmp(a: &Term, b: &Term) -> Ordering
+    ensures { result ≡ term_cmp a.now b.now }
+{
+    match a {
+        Term::Iri(a) => match b {
+            Term::Iri(b) => ended_cmp(b'>', a.as_str().as_bytes(), b.as_str().as_bytes()),
+            _ => Ordering::Less,
+        },
+        Term::Blank(a) => match b {
+            Term::Iri(_) => Ordering::Greater,
+            Term::Blank(b) => bytes_cmp(a.as_str(), b.as_str()),
+            _ => Ordering::Less,
+        },
+        Term::Literal { form: f, kind: k } => match b {
+            Term::Literal { form: g, kind: l } => {
+                form_cmp(kind_cmp(k, l), f.as_str().as_bytes(), g.as_str().as_bytes())
+            }
+            _ => Ordering::Greater,
+        },
+    }
+}
+
+impl PartialOrd for Term {
+    ghost use Rattle.std.specs.Ordering.{as_partial_cmp};
+    ghost use Rattle.rdf_terms.specs.Order.{term_order};
+    ghost use Rattle.rdf_terms.specs.OrderLaws.{term_partial};
+
+    ghost partial_cmp = { as_partial_cmp term_order };
+
+    ghost laws = { term_partial };
+
+    fn partial_cmp(&self, other: &Term) -> Option<Ordering> {
+        Some(self.cmp(other))
+    }
+}
+
+/// IRIs come before blank nodes, and these before literals; within a class the bytes of the canonical text decide. Terms
+/// are equal in this order exactly where they are the same. It takes no memory.
+impl Ord for Term {
+    ghost use Rattle.std.proofs.Common.{refl};
+    ghost use Rattle.rdf_terms.specs.Order.{term_order};
+    ghost use Rattle.rdf_terms.specs.OrderLaws.{term_total, term_ties};
+
+    ghost cmp = { term_order };
+
+    ghost total = { term_total };
+
+    ghost matches_partial_cmp = { λ _ _. refl };
+
+    ghost matches_eq = { term_ties };
+
+    #[tactic(auto, using(crate::specs::OrderLaws::cmp_is))]
+    fn cmp(&self, other: &Term) -> Ordering {
+        term_cmp(self, other)
+    }
+}
+
+impl PartialOrd for Triple {
+    ghost use Rattle.std.specs.Ordering.{as_partial_cmp};
+    ghost use Rattle.rdf_terms.specs.Order.{triple_order};
+    ghost use Rattle.rdf_terms.specs.OrderLaws.{triple_partial};
+
+    ghost partial_cmp = { as_partial_cmp triple_order };
+
+    ghost laws = { triple_partial };
+
+    fn partial_cmp(&self, other: &Triple) -> Option<Ordering> {
+        Some(self.cmp(other))
+    }
+}
+
+/// By subject, then predicate, then object.
+impl Ord for Triple {
+    ghost use Rattle.std.proofs.Common.{refl};
+    ghost use Rattle.rdf_terms.specs.Order.{triple_order};
+    ghost use Rattle.rdf_terms.specs.OrderLaws.{triple_total, triple_ties};
+
+    ghost cmp = { triple_order };
+
+    ghost total = { triple_total };
+
+    ghost matches_partial_cmp = { λ _ _. refl };
+
+    ghost matches_eq = { triple_ties };
+
+    fn cmp(&self, other: &Triple) -> Ordering {
+        self.subject
+            .cmp(&other.subject)
+            .then(self.predicate.cmp(&other.predicate))
+            .then(self.object.cmp(&other.object))
+    }
+}
+
+/// The order of terms is total: antisymmetric, transitive, and terms that are equal in it stand alike to each other term.
+#[tactic(auto, using(crate::specs::OrderLaws::term_total))]
+pub fn order_is_total()
+    ensures { IsTotalOrder term_order }
+{}
+
+/// Terms are equal in the order exactly where they are the same term.
+#[tactic(auto, using(crate::specs::OrderLaws::term_equal))]
+pub fn order_tells_apart()
+    ensures { (a b : Term) → (term_order a b ≡ Ordering.Equal) ↔ (a ≡ b) }
+{}
+
+/// The order of triples is total.
+#[tactic(auto, using(crate::specs::OrderLaws::triple_total))]
+pub fn triple_order_is_total()
+    ensures { IsTotalOrder triple_order }
+{}
+
+/// Triples are equal in the order exactly where they are the same triple.
+#[tactic(auto, using(crate::specs::OrderLaws::triple_equal))]
+pub fn triple_order_tells_apart()
+    ensures { (a b : Triple) → (triple_order a b ≡ Ordering.Equal) ↔ (a ≡ b) }
+{}
