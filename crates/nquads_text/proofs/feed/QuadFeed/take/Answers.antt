@@ -1,0 +1,18 @@
+use Rattle.std.proofs.Common.{sym, ◌∙◌}
+use Rattle.nquads_text.proofs.PieceLaws.{some_kept}
+use Rattle.nquads_text.proofs.FedLaws.{unfinished_of, same_of, refused_of}
+use Rattle.nquads_text.proofs.feed.QuadFeed.take.Goals as goal
+
+pub returns-then-is_empty-clause-unfinished : goal.returns-then-is_empty-clause-unfinished
+returns-then-is_empty-clause-unfinished c =
+    unfinished_of c.args.self.now c.self.inside.longest c.self.inside.quads.items c.self.inside.number c.self.inside.after_cr c.self.inside.kept.items c.self.inside.fault (sym c.self.view_is) c.self.invariant.0 c.self.invariant.1
+
+pub returns-in-Ok-clause-same : goal.returns-in-Ok-clause-same
+returns-in-Ok-clause-same c =
+    same_of c.args.self.now c.self.inside.longest c.self.inside.quads.items c.read_ended.new.quads.items c.self.inside.number c.read_ended.new.number c.self.inside.after_cr c.in-Ok.cut c.self.inside.kept.items c.read_ended.new.kept.items c.self.inside.fault c.self.inside.fault
+    c.args.piece.now c.begun-bytes.result.now (sym c.self.view_is) c.self.invariant.1 (some_kept c.args.piece.now (sym c.is_empty.ensures ∙ c.if-is_empty.false)) c.begun-bytes.ensures c.in-Ok.ensures.ok
+
+pub returns-in-Err-clause-refused : goal.returns-in-Err-clause-refused
+returns-in-Err-clause-refused c =
+    refused_of (Unit {0}) (Unit {0}) c.in-Err.fault c.args.self.now c.self.inside.longest c.self.inside.quads.items c.self.inside.number c.self.inside.after_cr c.self.inside.kept.items c.self.inside.fault
+    c.args.piece.now c.begun-bytes.result.now (sym c.self.view_is) c.self.invariant.1 (some_kept c.args.piece.now (sym c.is_empty.ensures ∙ c.if-is_empty.false)) c.begun-bytes.ensures c.in-Err.ensures.refused

@@ -1,0 +1,5 @@
+use Rattle.nquads_text.proofs.RoundTrip.{read_again}
+use Rattle.nquads_text.proofs.write.canonical_text_reads_back.Goals as goal
+
+pub returns : goal.returns
+returns c = read_again

@@ -1,0 +1,15 @@
+pub mod Option
+pub mod Grammar
+pub mod Meaning
+pub mod Faults
+pub mod Quads
+pub mod Reads
+pub mod Scan
+pub mod Raw
+pub mod Views
+pub mod Escape
+pub mod Line
+pub mod Lines
+pub mod Begins
+pub mod Feed
+pub mod Pieces

@@ -1,0 +1,58 @@
+-- How far the parts of a line reach, read byte by byte from the left.
+use Rattle.std.specs.Prelude.{ℕ, ◌+◌, ◌-◌, Bool, true, ◌==◌, ◌&&◌, ◌||◌, nat_le, List, [], ◌∷◌, Option, Some, None, if◌then◌else◌}
+use Rattle.rdf_terms.specs.Iri.{is_letter, is_digit, is_iri_byte}
+use Rattle.nquads_text.specs.Option.{◌>>=◌, when}
+use Rattle.nquads_text.specs.Grammar.{is_blank, is_hex, is_form_byte, is_short_escape}
+
+-- the bytes after the blanks at the front
+abbrev pub skipped : List ℕ → List ℕ
+skipped [] = []
+skipped (b ∷ bs) = if is_blank b then skipped bs else b ∷ bs
+
+-- the bytes after an x at the front
+abbrev pub opened : ℕ → List ℕ → Option (List ℕ)
+opened x [] = None
+opened x (b ∷ bs) = if b == x then Some bs else None
+
+-- nothing is left but a comment
+abbrev pub is_over : List ℕ → Bool
+is_over [] = true
+is_over (b ∷ bs) = b == 35
+
+-- What the text between two marks awaits: 0 an item, 1 to 8 so many hexadecimal digits, 9 what follows a backslash.
+-- The state after the byte b in the state s, in an IRI and in a form.
+abbrev pub digits_after : ℕ → Option ℕ
+digits_after b = if b == 117 then Some 4 else (if b == 85 then Some 8 else None)
+
+abbrev pub iri_step : ℕ → ℕ → Option ℕ
+iri_step s b = if s == 0 then (if b == 92 then Some 9 else when (is_iri_byte b) 0)
+    else (if s == 9 then digits_after b else when (is_hex b) (s - 1))
+
+abbrev pub form_step : ℕ → ℕ → Option ℕ
+form_step s b = if s == 0 then (if b == 92 then Some 9 else when (is_form_byte b) 0)
+    else (if s == 9 then (if is_short_escape b then Some 0 else digits_after b) else when (is_hex b) (s - 1))
+
+-- the place of the mark that ends an IRI, and a form, read from the place i in the state s
+abbrev pub iri_end : ℕ → ℕ → List ℕ → Option ℕ
+iri_end s i [] = None
+iri_end s i (b ∷ bs) = if (s == 0) && (b == 62) then Some i else (iri_step s b >>= λ t. iri_end t (i + 1) bs)
+
+abbrev pub form_end : ℕ → ℕ → List ℕ → Option ℕ
+form_end s i [] = None
+form_end s i (b ∷ bs) = if (s == 0) && (b == 34) then Some i else (form_step s b >>= λ t. form_end t (i + 1) bs)
+
+-- a byte of a character that may stand in a label, if the character is ASCII
+abbrev pub is_label_byte : ℕ → Bool
+is_label_byte b = nat_le 128 b || is_letter b || is_digit b || (b == 95) || (b == 58) || (b == 45)
+
+-- the length of a run of such bytes and dots that does not end in a dot, read from the place i, where the run without the last dots ends at e
+abbrev pub label_len : ℕ → ℕ → List ℕ → ℕ
+label_len e i [] = e
+label_len e i (b ∷ bs) = if b == 46 then label_len e (i + 1) bs else (if is_label_byte b then label_len (i + 1) (i + 1) bs else e)
+
+abbrev pub is_tag_byte : ℕ → Bool
+is_tag_byte b = is_letter b || is_digit b || (b == 45)
+
+abbrev pub tag_len : ℕ → List ℕ → ℕ
+tag_len i [] = i
+tag_len i (b ∷ bs) = if is_tag_byte b then tag_len (i + 1) bs else i

@@ -1,0 +1,309 @@
+// A statement with its escapes resolved, before it is checked.
+ghost use Rattle.std.specs.Prelude.{ℕ, ◌≡◌, ◌+◌, ◌≤◌, ◌<◌, ◌^◌, length, nat_lt, false, true, not, List, IsTrue, Option, Some, None, Result, Ok, Err, MatchOption, IfOk, map};
+ghost use Rattle.std.specs.Option.{option_map};
+ghost use Rattle.rdf_terms.specs.Iri.{has_scheme};
+ghost use Rattle.rdf_terms.specs.Tag.{lower};
+ghost use Rattle.rdf_terms.specs.Datatype.{is_xsd_string, is_lang_string};
+ghost use Rattle.rdf_terms.specs.Kinds.{typed_kind};
+ghost use Rattle.rdf_terms.specs.Canon.{is_marked, marks, kind_len, canonical_term};
+ghost use Rattle.nquads_text.specs.Escape.{resolved};
+ghost use Rattle.nquads_text.specs.Faults.{is_relative_kind, is_relative, is_lang_kind, has_lang_string, has_long_label, is_too_long, graph_passes, some_term, fault_of};
+ghost use Rattle.nquads_text.specs.Line.{IsWrittenTag, IsWrittenKind, IsWrittenTerm, IsWrittenGraph, IsWritten, resolved_kind, resolved_literal, resolved_term, resolved_quad, resolved_graph, IsWrittenText};
+ghost use Rattle.nquads_text.specs.Grammar.{IsFormItem};
+ghost use Rattle.nquads_text.specs.Views.{kind_view, term_view, quad_view, loose_kind, loose_term, loose_quad};
+
+use crate::escape::{copied, resolved};
+use crate::fault::Why;
+use crate::raw::{RawKind, RawQuad, RawTerm};
+use rdf_terms::{has_scheme, is_lang_string, is_xsd_string, lowered};
+use std::alloc::Global;
+use std::str;
+use tpf_base::{OutOfMemory, Text};
+
+#[derive(Drop)]
+pub enum LooseKind {
+    Plain,
+    Typed(Text),
+    Tagged(Text),
+}
+
+#[derive(Drop)]
+pub enum LooseTerm {
+    Iri(Text),
+    Blank(Text),
+    Literal { form: Text, kind: LooseKind },
+}
+
+#[derive(Drop)]
+pub struct LooseQuad {
+    pub subject: LooseTerm,
+    pub predicate: LooseTerm,
+    pub object: LooseTerm,
+    pub graph: Option<LooseTerm>,
+}
+
+fn typed(text: Text) -> LooseKind
+    ensures { loose_kind result ≡ typed_kind text }
+{
+    if is_xsd_string(text.as_str()) {
+        LooseKind::Plain
+    } else {
+        LooseKind::Typed(text)
+    }
+}
+
+/// A tag in lower case.
+fn tag_of(alloc: Global, tag: &[u8]) -> Result<Text, OutOfMemory>
+    requires { IsWrittenTag tag.now }
+    ensures { IfOk result (λ t. t ≡ lower tag.now) }
+{
+    lowered(alloc, unsafe { str::from_utf8_unchecked(tag) })
+}
+
+fn kind_of(alloc: Global, kind: RawKind<'_>) -> Result<Option<LooseKind>, OutOfMemory>
+    requires { IsWrittenKind (kind_view kind) }
+    ensures { IfOk result (λ r. option_map loose_kind r ≡ resolved_kind (kind_view kind.entry)) }
+{
+    match kind {
+        RawKind::Plain => Ok(Some(LooseKind::Plain)),
+        RawKind::Typed(datatype) => match resolved(alloc, datatype, true)? {
+            None => Ok(None),
+            Some(text) => Ok(Some(typed(text))),
+        },
+        RawKind::Tagged(tag) => Ok(Some(LooseKind::Tagged(tag_of(alloc, tag)?))),
+    }
+}
+
+fn literal_of(
+    alloc: Global,
+    form: &[u8],
+    kind: RawKind<'_>,
+) -> Result<Option<LooseTerm>, OutOfMemory>
+    requires form { IsWrittenText IsFormItem form.now }
+    requires kind { IsWrittenKind (kind_view kind) }
+    ensures { IfOk result (λ r. option_map loose_term r ≡ resolved_literal form.now (kind_view kind.entry)) }
+{
+    match resolved(alloc, form, false)? {
+        None => Ok(None),
+        Some(form) => match kind_of(alloc, kind)? {
+            None => Ok(None),
+            Some(kind) => Ok(Some(LooseTerm::Literal { form, kind })),
+        },
+    }
+}
+
+#[tactic(auto, unfolding(crate::specs::Line::resolved_term))]
+fn term_of(alloc: Global, term: RawTerm<'_>) -> Result<Option<LooseTerm>, OutOfMemory>
+    requires { IsWrittenTerm (term_view term) }
+    ensures { IfOk result (λ r. option_map loose_term r ≡ resolved_term (term_view term.entry)) }
+{
+    match term {
+        RawTerm::Iri(text) => match resolved(alloc, text, true)? {
+            None => Ok(None),
+            Some(text) => Ok(Some(LooseTerm::Iri(text))),
+        },
+        RawTerm::Blank(label) => Ok(Some(LooseTerm::Blank(copied(alloc, label)?))),
+        RawTerm::Literal { form, kind } => literal_of(alloc, form, kind),
+    }
+}
+
+fn graph_of(
+    alloc: Global,
+    graph: Option<RawTerm<'_>>,
+) -> Result<Option<Option<LooseTerm>>, OutOfMemory>
+    requires { IsWrittenGraph (option_map term_view graph) }
+    ensures { IfOk result (λ r. option_map (option_map loose_term) r ≡ resolved_graph (option_map term_view graph.entry)) }
+{
+    match graph {
+        None => Ok(Some(None)),
+        Some(graph) => match term_of(alloc, graph)? {
+            None => Ok(None),
+            Some(term) => Ok(Some(Some(term))),
+        },
+    }
+}
+
+/// The statement with its escapes resolved, or nothing where one names what it may not.
+#[tactic(auto, unfolding(crate::specs::Line::resolved_quad))]
+pub fn loose_of(alloc: Global, raw: &RawQuad<'_>) -> Result<Option<LooseQuad>, OutOfMemory>
+    requires { IsWritten (quad_view raw.now) }
+    ensures { IfOk result (λ r. option_map loose_quad r ≡ resolved_quad (quad_view raw.now)) }
+{
+    let Some(subject) = term_of(alloc, raw.subject)? else {
+        return Ok(None);
+    };
+    let Some(predicate) = term_of(alloc, raw.predicate)? else {
+        return Ok(None);
+    };
+    let Some(object) = term_of(alloc, raw.object)? else {
+        return Ok(None);
+    };
+    let Some(graph) = graph_of(alloc, raw.graph)? else {
+        return Ok(None);
+    };
+    Ok(Some(LooseQuad {
+        subject,
+        predicate,
+        object,
+        graph,
+    }))
+}
+
+impl LooseKind {
+    fn is_relative(&self) -> bool
+        ensures { result ≡ is_relative_kind (loose_kind self.now) }
+    {
+        match self {
+            LooseKind::Plain => false,
+            LooseKind::Typed(datatype) => !has_scheme(datatype.as_str().as_bytes()),
+            LooseKind::Tagged(_) => false,
+        }
+    }
+
+    fn is_lang(&self) -> bool
+        ensures { result ≡ is_lang_kind (loose_kind self.now) }
+    {
+        match self {
+            LooseKind::Plain => false,
+            LooseKind::Typed(datatype) => is_lang_string(datatype.as_str()),
+            LooseKind::Tagged(_) => false,
+        }
+    }
+
+    fn len(&self) -> u128
+        ensures value { result ≡ kind_len (loose_kind self.now) }
+        ensures small { result ≤ 2 ^ 64 + 4 }
+    {
+        match self {
+            LooseKind::Plain => 0,
+            LooseKind::Typed(datatype) => datatype.as_str().len() as u128 + 4,
+            LooseKind::Tagged(tag) => tag.as_str().len() as u128 + 1,
+        }
+    }
+}
+
+fn is_marked(b: u8) -> bool
+    ensures { result ≡ is_marked b }
+{
+    matches!(b, b'"' | b'\\' | b'\n' | b'\r')
+}
+
+fn marks(bytes: &[u8]) -> usize
+    ensures value { result ≡ marks bytes.now }
+    ensures small { result ≤ length bytes.now }
+{
+    let mut n: usize = 0;
+    for b in bytes {
+        if is_marked(*b) {
+            n += 1;
+        }
+    }
+    n
+}
+
+fn literal_len(form: &str, kind: &LooseKind) -> u128
+    ensures { result ≡ length form.now + marks form.now + 2 + kind_len (loose_kind kind.now) }
+{
+    form.len() as u128 + marks(form.as_bytes()) as u128 + 2 + kind.len()
+}
+
+impl LooseTerm {
+    fn is_relative(&self) -> bool
+        ensures { result ≡ is_relative (loose_term self.now) }
+    {
+        match self {
+            LooseTerm::Iri(text) => !has_scheme(text.as_str().as_bytes()),
+            LooseTerm::Blank(_) => false,
+            LooseTerm::Literal { form: _, kind } => kind.is_relative(),
+        }
+    }
+
+    fn has_lang_string(&self) -> bool
+        ensures { result ≡ has_lang_string (loose_term self.now) }
+    {
+        match self {
+            LooseTerm::Iri(_) => false,
+            LooseTerm::Blank(_) => false,
+            LooseTerm::Literal { form: _, kind } => kind.is_lang(),
+        }
+    }
+
+    #[tactic(auto, using(crate::proofs::Lengths::literal_len_is, crate::proofs::Lengths::iri_len_is))]
+    fn len(&self) -> u128
+        ensures { result ≡ length (canonical_term (loose_term self.now)) }
+    {
+        match self {
+            LooseTerm::Iri(text) => text.as_str().len() as u128 + 2,
+            LooseTerm::Blank(label) => label.as_str().len() as u128 + 2,
+            LooseTerm::Literal { form, kind } => literal_len(form.as_str(), kind),
+        }
+    }
+
+    fn has_long_label(&self) -> bool
+        ensures { result ≡ has_long_label (loose_term self.now) }
+    {
+        match self {
+            LooseTerm::Blank(label) => label.as_str().len() > 1024,
+            _ => false,
+        }
+    }
+
+    fn is_too_long(&self, longest: usize) -> bool
+        ensures { result ≡ is_too_long longest (loose_term self.now) }
+    {
+        self.len() > longest as u128 || self.has_long_label()
+    }
+}
+
+impl LooseQuad {
+    fn is_relative(&self) -> bool
+        ensures { result ≡ some_term is_relative (loose_quad self.now) }
+    {
+        self.subject.is_relative()
+            || self.predicate.is_relative()
+            || self.object.is_relative()
+            || match &self.graph {
+                None => false,
+                Some(graph) => graph.is_relative(),
+            }
+    }
+
+    fn has_lang_string(&self) -> bool
+        ensures { result ≡ some_term has_lang_string (loose_quad self.now) }
+    {
+        self.subject.has_lang_string()
+            || self.predicate.has_lang_string()
+            || self.object.has_lang_string()
+            || match &self.graph {
+                None => false,
+                Some(graph) => graph.has_lang_string(),
+            }
+    }
+
+    fn is_too_long(&self, longest: usize) -> bool
+        ensures { result ≡ some_term (is_too_long longest) (loose_quad self.now) }
+    {
+        self.subject.is_too_long(longest)
+            || self.predicate.is_too_long(longest)
+            || self.object.is_too_long(longest)
+            || match &self.graph {
+                None => false,
+                Some(graph) => graph.is_too_long(longest),
+            }
+    }
+
+    /// The first fault of the statement.
+    pub fn fault(&self, longest: usize) -> Option<Why>
+        ensures { result ≡ fault_of longest (loose_quad self.now) }
+    {
+        if self.is_relative() {
+            Some(Why::RelativeIri)
+        } else if self.has_lang_string() {
+            Some(Why::LangString)
+        } else if self.is_too_long(longest) {
+            Some(Why::TermTooLong)
+        } else {
+            None
+        }
+    }
+}

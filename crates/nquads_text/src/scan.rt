@@ -1,0 +1,234 @@
+// How far the parts of a line reach.
+ghost use Rattle.std.specs.Prelude.{ℕ, ◌≡◌, ◌+◌, ◌<◌, ◌≤◌, length, false, true, Option, Some, None, MatchOption, IfSome};
+ghost use Rattle.std.specs.Str.{is_utf8};
+ghost use Rattle.rdf_terms.specs.Iri.{is_iri_byte, is_letter, is_digit};
+ghost use Rattle.rdf_terms.specs.Label.{is_label};
+ghost use Rattle.rdf_terms.specs.Tag.{is_tag};
+ghost use Rattle.nquads_text.specs.Grammar.{is_blank, is_hex, is_form_byte, is_short_escape};
+ghost use Rattle.nquads_text.specs.Scan.{skipped, opened, is_over, digits_after, iri_step, form_step, iri_end, form_end, is_label_byte, label_len, is_tag_byte, tag_len};
+
+use std::str;
+
+fn is_blank(b: u8) -> bool
+    ensures { result ≡ is_blank b }
+{
+    b == b' ' || b == b'\t'
+}
+
+/// The bytes after the blanks at the front.
+pub fn skipped(bytes: &[u8]) -> &[u8]
+    ensures { result.now ≡ skipped bytes.now }
+{
+    for (i, b) in bytes.iter().enumerate() {
+        if !is_blank(*b) {
+            return &bytes[i..];
+        }
+    }
+    &[]
+}
+
+/// The bytes after an x at the front.
+pub fn opened(bytes: &[u8], x: u8) -> Option<&[u8]>
+    ensures { MatchOption result (opened x bytes.now ≡ None) (λ rest. opened x bytes.now ≡ Some rest.now) }
+{
+    match bytes {
+        [b, rest @ ..] if *b == x => Some(rest),
+        _ => None,
+    }
+}
+
+/// Whether nothing is left but a comment.
+pub fn is_over(bytes: &[u8]) -> bool
+    ensures { result ≡ is_over bytes.now }
+{
+    match bytes {
+        [] => true,
+        [b, ..] => *b == b'#',
+    }
+}
+
+fn is_hex(b: u8) -> bool
+    ensures { result ≡ is_hex b }
+{
+    b.is_ascii_hexdigit()
+}
+
+fn is_iri_byte(b: u8) -> bool
+    ensures { result ≡ is_iri_byte b }
+{
+    (b >= b'a' && b <= b'z')
+        || b > b' '
+            && !matches!(
+                b,
+                b'<' | b'>' | b'"' | b'{' | b'}' | b'|' | b'^' | b'`' | b'\\'
+            )
+}
+
+fn is_form_byte(b: u8) -> bool
+    ensures { result ≡ is_form_byte b }
+{
+    !matches!(b, b'"' | b'\\' | b'\n' | b'\r')
+}
+
+fn is_short_escape(b: u8) -> bool
+    ensures { result ≡ is_short_escape b }
+{
+    matches!(b, b't' | b'b' | b'n' | b'r' | b'f' | b'"' | b'\'' | b'\\')
+}
+
+fn digits_after(b: u8) -> Option<u8>
+    ensures { result ≡ digits_after b }
+{
+    match b {
+        b'u' => Some(4),
+        b'U' => Some(8),
+        _ => None,
+    }
+}
+
+fn iri_step(state: u8, b: u8) -> Option<u8>
+    ensures { result ≡ iri_step state b }
+{
+    match state {
+        0 => {
+            if b == b'\\' {
+                Some(9)
+            } else if is_iri_byte(b) {
+                Some(0)
+            } else {
+                None
+            }
+        }
+        9 => digits_after(b),
+        _ => { if is_hex(b) { Some(state - 1) } else { None } }
+    }
+}
+
+fn form_step(state: u8, b: u8) -> Option<u8>
+    ensures { result ≡ form_step state b }
+{
+    match state {
+        0 => {
+            if b == b'\\' {
+                Some(9)
+            } else if is_form_byte(b) {
+                Some(0)
+            } else {
+                None
+            }
+        }
+        9 => {
+            if is_short_escape(b) {
+                Some(0)
+            } else {
+                digits_after(b)
+            }
+        }
+        _ => { if is_hex(b) { Some(state - 1) } else { None } }
+    }
+}
+
+/// The place of the mark that ends an IRI.
+pub fn iri_end(bytes: &[u8]) -> Option<usize>
+    ensures place { result ≡ iri_end 0 0 bytes.now }
+    ensures within { IfSome result (λ n. n < length bytes.now) }
+{
+    let mut state: u8 = 0;
+    for (i, b) in bytes.iter().enumerate() {
+        if state == 0 && *b == b'>' {
+            return Some(i);
+        }
+        state = iri_step(state, *b)?;
+    }
+    None
+}
+
+/// The place of the quote that ends a form.
+pub fn form_end(bytes: &[u8]) -> Option<usize>
+    ensures place { result ≡ form_end 0 0 bytes.now }
+    ensures within { IfSome result (λ n. n < length bytes.now) }
+{
+    let mut state: u8 = 0;
+    for (i, b) in bytes.iter().enumerate() {
+        if state == 0 && *b == b'"' {
+            return Some(i);
+        }
+        state = form_step(state, *b)?;
+    }
+    None
+}
+
+fn is_label_byte(b: u8) -> bool
+    ensures { result ≡ is_label_byte b }
+{
+    b >= 128 || b.is_ascii_alphabetic() || b.is_ascii_digit() || b == b'_' || b == b':' || b == b'-'
+}
+
+/// The length of the label at the front.
+pub fn label_len(bytes: &[u8]) -> usize
+    ensures place { result ≡ label_len 0 0 bytes.now }
+    ensures within { result ≤ length bytes.now }
+{
+    let mut end: usize = 0;
+    for (i, b) in bytes.iter().enumerate() {
+        if *b == b'.' {
+            continue;
+        }
+        if !is_label_byte(*b) {
+            return end;
+        }
+        end = i + 1;
+    }
+    end
+}
+
+fn is_tag_byte(b: u8) -> bool
+    ensures { result ≡ is_tag_byte b }
+{
+    b.is_ascii_alphabetic() || b.is_ascii_digit() || b == b'-'
+}
+
+/// The length of the tag at the front.
+pub fn tag_len(bytes: &[u8]) -> usize
+    ensures place { result ≡ tag_len 0 bytes.now }
+    ensures within { result ≤ length bytes.now }
+{
+    for (i, b) in bytes.iter().enumerate() {
+        if !is_tag_byte(*b) {
+            return i;
+        }
+    }
+    bytes.len()
+}
+
+/// The text that these bytes are, if they are UTF-8.
+pub fn as_text(bytes: &[u8]) -> Option<&str>
+    ensures { MatchOption result (is_utf8 bytes.now ≡ false) (λ s. (s.now ≡ bytes.now) × (is_utf8 bytes.now ≡ true)) }
+{
+    match str::from_utf8(bytes) {
+        Ok(text) => Some(text),
+        Err(_) => None,
+    }
+}
+
+/// Whether bytes are a label.
+#[tactic(auto, unfolding(rdf_terms::specs::Label::is_label))]
+pub fn is_label(bytes: &[u8]) -> bool
+    ensures { result ≡ is_label bytes.now }
+{
+    match as_text(bytes) {
+        None => false,
+        Some(text) => rdf_terms::is_label(text),
+    }
+}
+
+/// Whether bytes are a language tag.
+#[tactic(auto, using(crate::proofs::TagTexts::only_text))]
+pub fn is_tag(bytes: &[u8]) -> bool
+    ensures { result ≡ is_tag bytes.now }
+{
+    match as_text(bytes) {
+        None => false,
+        Some(text) => rdf_terms::is_tag(text),
+    }
+}

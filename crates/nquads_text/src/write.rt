@@ -1,0 +1,241 @@
+// Canonical text (N-Triples, "A Canonical form of N-Triples").
+ghost use Rattle.std.specs.Prelude.{ℕ, ◌≡◌, ◌∷◌, ◌++◌, [], List, false, take, OnOk, OnErr};
+ghost use Rattle.std.specs.List.{list_any, AllByRecursion};
+ghost use Rattle.rdf_terms.specs.declared.term.Quad.{Quad};
+ghost use Rattle.rdf_terms.specs.Canon.{is_marked, after_mark, canonical_byte, canonical_form, canonical_kind, canonical_term, canonical_graph, canonical_line, canon};
+ghost use Rattle.nquads_text.specs.Reads.{Reads};
+ghost use Rattle.nquads_text.specs.Quads.{IsReadable};
+ghost use Rattle.nquads_text.specs.Begins.{Begins};
+
+use rdf_terms::{Kind, Quad, Term, Triple};
+use tpf_base::OutOfMemory;
+
+fn is_marked(b: u8) -> bool
+    ensures { result ≡ is_marked b }
+{
+    matches!(b, b'"' | b'\\' | b'\n' | b'\r')
+}
+
+fn after_mark(b: u8) -> u8
+    ensures { result ≡ after_mark b }
+{
+    match b {
+        b'\n' => b'n',
+        b'\r' => b'r',
+        _ => b,
+    }
+}
+
+#[tactic(auto, using(crate::proofs::Begins::same_begins, crate::proofs::Begins::more_begins))]
+fn push_all(bytes: &[u8], out: &mut Vec<u8>) -> Result<(), OutOfMemory>
+    ensures ok { OnOk result (out.new.items ≡ out.old.items ++ bytes.now) }
+    ensures front { Begins out.old.items out.new.items }
+{
+    out.extend_from_slice(bytes)?;
+    Ok(())
+}
+
+#[tactic(auto, using(crate::proofs::Begins::same_begins, crate::proofs::Begins::more_begins))]
+fn push_one(b: u8, out: &mut Vec<u8>) -> Result<(), OutOfMemory>
+    ensures ok { OnOk result (out.new.items ≡ out.old.items ++ b ∷ []) }
+    ensures front { Begins out.old.items out.new.items }
+{
+    out.push(b)?;
+    Ok(())
+}
+
+fn push_byte(b: u8, out: &mut Vec<u8>) -> Result<(), OutOfMemory>
+    ensures ok { OnOk result (out.new.items ≡ out.old.items ++ canonical_byte b) }
+    ensures front { Begins out.old.items out.new.items }
+{
+    if is_marked(b) {
+        push_all(&[b'\\', after_mark(b)], out)
+    } else {
+        push_one(b, out)
+    }
+}
+
+#[tactic(auto, using(crate::proofs::Begins::itself_begins, crate::proofs::Begins::begins_on))]
+fn push_bytes(form: &[u8], out: &mut Vec<u8>) -> Result<(), OutOfMemory>
+    ensures ok { OnOk result (out.new.items ≡ out.old.items ++ canonical_form form.now) }
+    ensures front { Begins out.old.items out.new.items }
+{
+    for b in form {
+        push_byte(*b, out)?;
+    }
+    Ok(())
+}
+
+fn has_mark(form: &[u8]) -> bool
+    ensures { result ≡ list_any is_marked form.now }
+{
+    form.iter().any(|b| is_marked(*b))
+}
+
+#[tactic(auto, using(crate::proofs::Begins::plain_form))]
+fn push_form(form: &[u8], out: &mut Vec<u8>) -> Result<(), OutOfMemory>
+    ensures ok { OnOk result (out.new.items ≡ out.old.items ++ canonical_form form.now) }
+    ensures front { Begins out.old.items out.new.items }
+{
+    if has_mark(form) {
+        push_bytes(form, out)
+    } else {
+        push_all(form, out)
+    }
+}
+
+#[tactic(auto, using(crate::proofs::Begins::begins_on))]
+fn push_iri(text: &str, out: &mut Vec<u8>) -> Result<(), OutOfMemory>
+    ensures ok { OnOk result (out.new.items ≡ out.old.items ++ 60 ∷ (text.now ++ 62 ∷ [])) }
+    ensures front { Begins out.old.items out.new.items }
+{
+    push_one(b'<', out)?;
+    push_all(text.as_bytes(), out)?;
+    push_one(b'>', out)
+}
+
+#[tactic(auto, using(crate::proofs::Begins::itself_begins, crate::proofs::Begins::begins_on))]
+fn push_kind(kind: &Kind, out: &mut Vec<u8>) -> Result<(), OutOfMemory>
+    ensures ok { OnOk result (out.new.items ≡ out.old.items ++ canonical_kind kind.now) }
+    ensures front { Begins out.old.items out.new.items }
+{
+    match kind {
+        Kind::Plain => Ok(()),
+        Kind::Typed(datatype) => {
+            push_all(b"^^", out)?;
+            push_iri(datatype.as_str(), out)
+        }
+        Kind::Tagged(tag) => {
+            push_one(b'@', out)?;
+            push_all(tag.as_str().as_bytes(), out)
+        }
+    }
+}
+
+#[tactic(auto, using(crate::proofs::Begins::begins_on, crate::proofs::Begins::quoted_is))]
+fn push_quoted(form: &str, out: &mut Vec<u8>) -> Result<(), OutOfMemory>
+    ensures ok { OnOk result (out.new.items ≡ out.old.items ++ 34 ∷ (canonical_form form.now ++ 34 ∷ [])) }
+    ensures front { Begins out.old.items out.new.items }
+{
+    push_one(b'"', out)?;
+    push_form(form.as_bytes(), out)?;
+    push_one(b'"', out)
+}
+
+#[tactic(auto, using(crate::proofs::Begins::begins_on, crate::proofs::Begins::literal_is))]
+fn push_literal(form: &str, kind: &Kind, out: &mut Vec<u8>) -> Result<(), OutOfMemory>
+    ensures ok { OnOk result (out.new.items ≡ out.old.items ++ 34 ∷ (canonical_form form.now ++ 34 ∷ canonical_kind kind.now)) }
+    ensures front { Begins out.old.items out.new.items }
+{
+    push_quoted(form, out)?;
+    push_kind(kind, out)
+}
+
+#[tactic(auto, using(crate::proofs::Begins::begins_on))]
+fn push_label(label: &str, out: &mut Vec<u8>) -> Result<(), OutOfMemory>
+    ensures ok { OnOk result (out.new.items ≡ out.old.items ++ 95 ∷ 58 ∷ label.now) }
+    ensures front { Begins out.old.items out.new.items }
+{
+    push_all(b"_:", out)?;
+    push_all(label.as_bytes(), out)
+}
+
+fn push_term(term: &Term, out: &mut Vec<u8>) -> Result<(), OutOfMemory>
+    ensures ok { OnOk result (out.new.items ≡ out.old.items ++ canonical_term term.now) }
+    ensures front { Begins out.old.items out.new.items }
+{
+    match term {
+        Term::Iri(text) => push_iri(text.as_str(), out),
+        Term::Blank(label) => push_label(label.as_str(), out),
+        Term::Literal { form, kind } => push_literal(form.as_str(), kind, out),
+    }
+}
+
+#[tactic(auto, using(crate::proofs::Begins::itself_begins, crate::proofs::Begins::begins_on))]
+fn push_graph(graph: &Option<Term>, out: &mut Vec<u8>) -> Result<(), OutOfMemory>
+    ensures ok { OnOk result (out.new.items ≡ out.old.items ++ canonical_graph graph.now) }
+    ensures front { Begins out.old.items out.new.items }
+{
+    match graph {
+        None => Ok(()),
+        Some(graph) => {
+            push_one(b' ', out)?;
+            push_term(graph, out)
+        }
+    }
+}
+
+/// A term and a space.
+#[tactic(auto, using(crate::proofs::Begins::begins_on))]
+fn push_spaced(term: &Term, out: &mut Vec<u8>) -> Result<(), OutOfMemory>
+    ensures ok { OnOk result (out.new.items ≡ out.old.items ++ (canonical_term term.now ++ 32 ∷ [])) }
+    ensures front { Begins out.old.items out.new.items }
+{
+    push_term(term, out)?;
+    push_one(b' ', out)
+}
+
+#[tactic(auto, using(crate::proofs::Begins::begins_on, crate::proofs::Begins::triple_is))]
+fn push_triple(triple: &Triple, out: &mut Vec<u8>) -> Result<(), OutOfMemory>
+    ensures ok { OnOk result (out.new.items ≡ out.old.items ++ (canonical_term triple.now.subject ++ 32 ∷ (canonical_term triple.now.predicate ++ 32 ∷ canonical_term triple.now.object))) }
+    ensures front { Begins out.old.items out.new.items }
+{
+    push_spaced(&triple.subject, out)?;
+    push_spaced(&triple.predicate, out)?;
+    push_term(&triple.object, out)
+}
+
+#[tactic(auto, using(crate::proofs::Begins::begins_on, crate::proofs::Begins::line_is))]
+fn push_quad(quad: &Quad, out: &mut Vec<u8>) -> Result<(), OutOfMemory>
+    ensures ok { OnOk result (out.new.items ≡ out.old.items ++ canonical_line quad.now) }
+    ensures front { Begins out.old.items out.new.items }
+{
+    push_triple(&quad.triple, out)?;
+    push_graph(&quad.graph, out)?;
+    push_all(b" .\n", out)
+}
+
+/// Takes back what was appended since `out` had this length, where the writing failed.
+#[tactic(auto, using(crate::proofs::Begins::cut_back))]
+fn taken_back(
+    written: Result<(), OutOfMemory>,
+    before: usize,
+    out: &mut Vec<u8>,
+) -> Result<(), OutOfMemory>
+    ensures same { result ≡ written }
+    ensures ok { OnOk result (out.new.items ≡ out.old.items) }
+    ensures err { OnErr result (out.new.items ≡ take before out.old.items) }
+{
+    if written.is_err() {
+        out.truncate(before);
+    }
+    written
+}
+
+/// Appends the canonical text of a term. After `OutOfMemory`, which comes for want of memory alone, `out` is as before.
+#[tactic(auto, using(crate::proofs::Begins::cut_back))]
+pub fn canonical(term: &Term, out: &mut Vec<u8>) -> Result<(), OutOfMemory>
+    ensures ok { OnOk result (out.new.items ≡ out.old.items ++ canonical_term term.now) }
+    ensures err { OnErr result (out.new.items ≡ out.old.items) }
+{
+    let before = out.len();
+    let written = push_term(term, out);
+    taken_back(written, before, out)
+}
+
+/// Appends the canonical line of a quad, its end LF with it. After `OutOfMemory`, which comes for want of memory alone,
+/// `out` is as before.
+#[tactic(auto, using(crate::proofs::Begins::cut_back))]
+pub fn write_quad(quad: &Quad, out: &mut Vec<u8>) -> Result<(), OutOfMemory>
+    ensures ok { OnOk result (out.new.items ≡ out.old.items ++ canonical_line quad.now) }
+    ensures err { OnErr result (out.new.items ≡ out.old.items) }
+{
+    let before = out.len();
+    let written = push_quad(quad, out);
+    taken_back(written, before, out)
+}
+
+/// The canonical text of quads that text can give is read as these quads.
+pub fn canonical_text_reads_back()
+    ensures { (longest : ℕ) (quads : List Quad) → AllByRecursion (IsReadable longest) quads → Reads (canon quads) longest quads }
+{}
