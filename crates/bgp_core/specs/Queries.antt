@@ -1,0 +1,28 @@
+-- Queries as contracts see them.
+use Rattle.std.specs.Prelude.{ℕ, ◌<◌, List, ⊤}
+use Rattle.rdf_terms.specs.declared.term.Term.{Term}
+use Rattle.rdf_terms.specs.declared.term.Term.TheVariants.{Iri, Blank, Literal}
+use Rattle.bgp_core.specs.declared.pattern.Part.{Part}
+use Rattle.bgp_core.specs.declared.pattern.Part.TheVariants.{Fixed, Name}
+use Rattle.bgp_core.specs.declared.pattern.Pattern.{Pattern}
+
+-- a query: its patterns, the text of each name, and the numbers of the selected names
+pub record QueryData : Type 0 where
+  pub patterns : List Pattern
+  pub names : List (List ℕ)
+  pub selected : List ℕ
+
+abbrev pub IsNotBlank : Term → Type 0
+IsNotBlank (Iri t) = ⊤
+IsNotBlank (Blank l) = ⊥
+IsNotBlank (Literal f k) = ⊤
+
+-- a name's number is below the count, and a fixed part is no blank node
+abbrev pub IsPartOf : ℕ → Part → Type 0
+IsPartOf count (Fixed t) = IsNotBlank t
+IsPartOf count (Name n) = n < count
+
+pub record IsPatternOf (count : ℕ) (p : Pattern) : Type 0 where
+  pub subject : IsPartOf count p.subject
+  pub predicate : IsPartOf count p.predicate
+  pub object : IsPartOf count p.object

@@ -1,0 +1,18 @@
+//! Basic graph patterns of SPARQL 1.1: what a pattern, a query and a row are, how a triple extends a
+//! row, and the solutions of a query over a plain list of triples. Every later evaluation is compared
+//! with these.
+#![tactic(auto)]
+
+mod laws;
+mod matching;
+mod pattern;
+mod row;
+mod solve;
+#[cfg(test)]
+mod tests;
+
+pub use laws::{extension_is_one, extensions_commute, pattern_order_is_free, triple_order_is_free};
+pub use matching::match_triple;
+pub use pattern::{Part, Pattern, Query};
+pub use row::Row;
+pub use solve::solutions;
