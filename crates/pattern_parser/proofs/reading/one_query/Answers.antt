@@ -1,0 +1,9 @@
+use Rattle.pattern_parser.proofs.OneQuery.{one_query, one_first, query_apart}
+use Rattle.pattern_parser.proofs.reading.one_query.Goals as goal
+
+pub returns : goal.returns
+returns c = record {
+  queries = λ text q r a b. one_query text q r a b;
+  faults = λ text v m w n a b. one_first text v m w n a b;
+  apart = λ text q w n a b. query_apart text q w n a b;
+}

@@ -1,0 +1,163 @@
+// A query from its tokens.
+ghost use Rattle.std.specs.Prelude.{if◌then◌else◌, ◌≡◌, ◌<◌, ◌≤◌, ◌+◌, ◌-◌, ◌^◌, ℕ, List, [], length, map, OnOk, IfOk, IsErrOf, Some, None};
+ghost use Rattle.std.specs.BTreeMap.{get_by_text};
+ghost use Rattle.std.specs.List.{AllByRecursion};
+ghost use Rattle.bgp_core.specs.Queries.{IsPatternOf};
+ghost use Rattle.pattern_parser.specs.declared.fault.QueryWhy.{QueryWhy};
+ghost use Rattle.pattern_parser.specs.declared.triple.Placed.{Placed};
+ghost use Rattle.pattern_parser.specs.Names.{variable_numbers};
+ghost use Rattle.pattern_parser.specs.Numbers.{AreNumbered};
+ghost use Rattle.pattern_parser.specs.Items.{items_after, names_after};
+ghost use Rattle.pattern_parser.specs.Triples.{triples_after};
+ghost use Rattle.pattern_parser.specs.Queries.{triples_of, query_of, excess, term_fault};
+
+use crate::fault::{QueryFault, QueryWhy};
+use crate::item::items_of;
+use crate::names::Names;
+use crate::prefixes::{Prefixes, first_lang, first_relative, first_unknown};
+use crate::select::{before_brace, has_star, variable_numbers};
+use crate::triple::{Placed, triples};
+use bgp_core::{Pattern, Query};
+use query_words::word::Word;
+use std::alloc::Global;
+use tpf_base::{OutOfMemory, Text};
+
+/// Finds the first fault of names and terms, in the tokens from SELECT on and in all.
+pub fn check_terms(
+    alloc: Global,
+    prefixes: &Prefixes,
+    words: &[Word],
+    body: &[Word],
+) -> Result<(), QueryFault>
+    ensures ok { OnOk result (term_fault (λ q. get_by_text prefixes.now q) words.now body.now ≡ None) }
+    ensures bad { (w : QueryWhy) (at : ℕ) → IsErrOf result (QueryFault.Bad at w) → term_fault (λ q. get_by_text prefixes.now q) words.now body.now ≡ Some (w, at) }
+{
+    if let Some(at) = first_unknown(prefixes, body) {
+        return Err(QueryFault::Bad {
+            at,
+            why: QueryWhy::UnknownPrefix,
+        });
+    }
+    if let Some(at) = first_relative(words) {
+        return Err(QueryFault::Bad {
+            at,
+            why: QueryWhy::RelativeIri,
+        });
+    }
+    match first_lang(alloc, prefixes, body)? {
+        Some(at) => Err(QueryFault::Bad {
+            at,
+            why: QueryWhy::LangString,
+        }),
+        None => Ok(()),
+    }
+}
+
+/// The numbers of the variables in some tokens, whose names join those given.
+fn listed(
+    alloc: Global,
+    prefixes: &Prefixes,
+    names: &mut Names,
+    words: &[Word],
+) -> Result<Vec<u32>, OutOfMemory>
+    requires numbered { AreNumbered names.old }
+    requires few { length names.old.texts.items + length words.now < 2 ^ 32 - 1 }
+    ensures numbers { IfOk result (λ v. v.items ≡ variable_numbers 0 names.new.texts.items) }
+    ensures names { OnOk result (names.new.texts.items ≡ names_after names.old.texts.items 0 words.now) }
+    ensures numbered { OnOk result (AreNumbered names.new) }
+    ensures few { OnOk result (length names.new.texts.items ≤ length names.old.texts.items + length words.now) }
+{
+    let _ = items_of(alloc, prefixes, names, words)?;
+    variable_numbers(alloc, names.texts.as_slice())
+}
+
+/// The triple patterns of some tokens, whose names join those given.
+fn triples_in(
+    alloc: Global,
+    prefixes: &Prefixes,
+    names: &mut Names,
+    words: &[Word],
+) -> Result<Vec<Placed>, OutOfMemory>
+    requires numbered { AreNumbered names.old }
+    requires few { length names.old.texts.items + length words.now < 2 ^ 32 - 1 }
+    ensures triples { IfOk result (λ v. v.items ≡ triples_after None None (items_after (λ q. get_by_text prefixes.now q) names.old.texts.items 0 words.now)) }
+    ensures names { OnOk result (names.new.texts.items ≡ names_after names.old.texts.items 0 words.now) }
+    ensures few { OnOk result (length names.new.texts.items ≤ length names.old.texts.items + length words.now) }
+{
+    let items = items_of(alloc, prefixes, names, words)?;
+    triples(alloc, items.as_slice())
+}
+
+/// The patterns, each without the place of its object.
+fn patterns(alloc: Global, triples: &[Placed]) -> Result<Vec<Pattern>, OutOfMemory>
+    ensures { IfOk result (λ v. v.items ≡ map (λ p. p.pattern) triples.now) }
+{
+    let mut patterns = Vec::new(alloc);
+    for triple in triples {
+        patterns.push(triple.pattern.copy(alloc)?)?;
+    }
+    Ok(patterns)
+}
+
+/// The place of the object that completes the 65th pattern, if there is one.
+fn excess(triples: &[Placed]) -> Option<usize>
+    ensures { result ≡ excess triples.now }
+{
+    match triples.get(64) {
+        Some(triple) => Some(triple.at),
+        None => None,
+    }
+}
+
+/// The selected numbers: those of all names where `*` stands, or else those listed.
+fn chosen(
+    alloc: Global,
+    star: bool,
+    listed: Vec<u32>,
+    names: &[Text],
+) -> Result<Vec<u32>, OutOfMemory>
+    requires { length names.now < 2 ^ 32 }
+    ensures { IfOk result (λ v. v.items ≡ (if star then variable_numbers 0 names.now else listed.items)) }
+{
+    if star {
+        variable_numbers(alloc, names)
+    } else {
+        Ok(listed)
+    }
+}
+
+/// The query of some patterns, names and selected numbers.
+fn finish(
+    alloc: Global,
+    triples: &[Placed],
+    texts: Vec<Text>,
+    selected: Vec<u32>,
+) -> Result<Query, OutOfMemory>
+    requires patterns { AllByRecursion (IsPatternOf (length texts.items)) (map (λ p. p.pattern) triples.now) }
+    requires selected { AllByRecursion (λ n. n < length texts.items) selected.items }
+    ensures { IfOk result (λ q. q ≡ record { patterns = map (λ p. p.pattern) triples.now; names = texts.items; selected = selected.items }) }
+{
+    let patterns = patterns(alloc, triples)?;
+    Ok(Query::new(patterns, texts, selected))
+}
+
+/// The query that the tokens from SELECT on are, or its excess of patterns.
+pub fn build(alloc: Global, prefixes: &Prefixes, body: &[Word]) -> Result<Query, QueryFault>
+    requires { length body.now ≤ 262144 }
+    ensures ok { IfOk result (λ q. (q ≡ query_of (λ n. get_by_text prefixes.now n) body.now) × (excess (triples_of (λ n. get_by_text prefixes.now n) body.now) ≡ None)) }
+    ensures bad { (w : QueryWhy) (at : ℕ) → IsErrOf result (QueryFault.Bad at w) → (w ≡ QueryWhy.TooManyPatterns) × (excess (triples_of (λ n. get_by_text prefixes.now n) body.now) ≡ Some at) }
+{
+    let (select, block) = body.split_at(before_brace(body));
+    let mut names = Names::new(alloc);
+    let numbers = listed(alloc, prefixes, &mut names, select)?;
+    let triples = triples_in(alloc, prefixes, &mut names, block)?;
+    if let Some(at) = excess(triples.as_slice()) {
+        return Err(QueryFault::Bad {
+            at,
+            why: QueryWhy::TooManyPatterns,
+        });
+    }
+    let Names { texts, places: _ } = names;
+    let selected = chosen(alloc, has_star(select), numbers, texts.as_slice())?;
+    Ok(finish(alloc, triples.as_slice(), texts, selected)?)
+}

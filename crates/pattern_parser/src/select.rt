@@ -1,0 +1,88 @@
+// Where the parts of a query begin, and which names are selected.
+ghost use Rattle.std.specs.Prelude.{◌≡◌, ◌<◌, ◌≤◌, ◌^◌, ℕ, length, IfOk};
+ghost use Rattle.pattern_parser.specs.Names.{is_blank_name, variable_numbers};
+ghost use Rattle.pattern_parser.specs.Prefixes.{before};
+ghost use Rattle.pattern_parser.specs.Queries.{is_select, is_brace, is_star, has_star};
+
+use query_words::word::{Value, Word};
+use std::alloc::Global;
+use tpf_base::{OutOfMemory, Text};
+
+fn is_select(value: &Value) -> bool
+    ensures { result ≡ is_select value.now }
+{
+    matches!(value, Value::SelectWord)
+}
+
+fn is_brace(value: &Value) -> bool
+    ensures { result ≡ is_brace value.now }
+{
+    matches!(value, Value::OpenBrace)
+}
+
+fn is_star(value: &Value) -> bool
+    ensures { result ≡ is_star value.now }
+{
+    matches!(value, Value::Star)
+}
+
+/// How many tokens stand before SELECT.
+pub fn before_select(words: &[Word]) -> usize
+    ensures value { result ≡ before is_select words.now }
+    ensures within { result ≤ length words.now }
+{
+    for (i, word) in words.iter().enumerate() {
+        if is_select(&word.value) {
+            return i;
+        }
+    }
+    words.len()
+}
+
+/// How many tokens stand before the first opening brace.
+pub fn before_brace(words: &[Word]) -> usize
+    ensures value { result ≡ before is_brace words.now }
+    ensures within { result ≤ length words.now }
+{
+    for (i, word) in words.iter().enumerate() {
+        if is_brace(&word.value) {
+            return i;
+        }
+    }
+    words.len()
+}
+
+/// Whether some token is `*`.
+pub fn has_star(words: &[Word]) -> bool
+    ensures { result ≡ has_star words.now }
+{
+    for word in words {
+        if is_star(&word.value) {
+            return true;
+        }
+    }
+    false
+}
+
+fn is_blank_name(text: &str) -> bool
+    ensures { result ≡ is_blank_name text.now }
+{
+    match text.as_bytes() {
+        [first, second, ..] => *first == b'_' && *second == b':',
+        _ => false,
+    }
+}
+
+/// The numbers of those names that are variables. `OutOfMemory` for want of memory alone.
+pub fn variable_numbers(alloc: Global, names: &[Text]) -> Result<Vec<u32>, OutOfMemory>
+    requires { length names.now < 2 ^ 32 }
+    ensures { IfOk result (λ v. v.items ≡ variable_numbers 0 names.now) }
+{
+    let mut numbers = Vec::new(alloc);
+    for (i, name) in names.iter().enumerate() {
+        if !is_blank_name(name.as_str()) {
+            numbers.push(i as u32)?;
+        }
+    }
+    Ok(numbers)
+}

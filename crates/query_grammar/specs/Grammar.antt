@@ -1,0 +1,113 @@
+-- The grammar of queries (SPARQL 1.1, section 19.8), as a regular expression over the kinds of tokens: without groups inside groups it is one.
+use Rattle.std.specs.Prelude.{[], ◌∷◌, ℕ, ◌≡◌, ◌+◌, ◌<◌, ◌≤◌, List, map, take, length}
+use Rattle.regular_expressions.specs.Regular.{Regular, nil, one_of, seq, alt, many, Matches, Begins}
+use Rattle.query_grammar.specs.declared.kind.Kind.{Kind}
+use Rattle.query_grammar.specs.declared.kind.Kind.TheVariants.{Iri, Prefix, Prefixed, Variable, Blank, Anonymous, Str, Tag, Number, PrefixWord, SelectWord, WhereWord, TrueWord, FalseWord, TypeWord, OtherWord, OpenBrace, CloseBrace, Dot, Semicolon, Comma, Star, Carets}
+
+-- the letter of a kind
+abbrev pub code : Kind → ℕ
+code Iri = 0
+code Prefix = 1
+code Prefixed = 2
+code Variable = 3
+code Blank = 4
+code Anonymous = 5
+code Str = 6
+code Tag = 7
+code Number = 8
+code PrefixWord = 9
+code SelectWord = 10
+code WhereWord = 11
+code TrueWord = 12
+code FalseWord = 13
+code TypeWord = 14
+code OtherWord = 15
+code OpenBrace = 16
+code CloseBrace = 17
+code Dot = 18
+code Semicolon = 19
+code Comma = 20
+code Star = 21
+code Carets = 22
+
+infixl 12 ◌·◌
+-- one after the other
+abbrev pub ◌·◌ : Regular → Regular → Regular
+r · s = seq r s
+
+infixl 11 ◌∣◌
+-- one or the other
+abbrev pub ◌∣◌ : Regular → Regular → Regular
+r ∣ s = alt r s
+
+-- one or nothing
+abbrev pub maybe : Regular → Regular
+maybe r = alt r nil
+
+-- one token of a kind
+abbrev pub a : Kind → Regular
+a k = one_of (code k ∷ [])
+
+-- iri: an IRI or a prefixed name
+abbrev pub iri : Regular
+iri = a Iri ∣ a Prefixed ∣ a Prefix
+
+-- RDFLiteral, NumericLiteral and BooleanLiteral
+abbrev pub literal : Regular
+literal = a Str · maybe (a Tag ∣ a Carets · iri) ∣ a Number ∣ a TrueWord ∣ a FalseWord
+
+-- VarOrTerm
+abbrev pub subject : Regular
+subject = a Variable ∣ iri ∣ literal ∣ a Blank ∣ a Anonymous
+
+-- Verb, without paths
+abbrev pub verb : Regular
+verb = a Variable ∣ iri ∣ a TypeWord
+
+-- Object, without collections
+abbrev pub object : Regular
+object = subject
+
+-- Verb ObjectList
+abbrev pub verb_objects : Regular
+verb_objects = verb · (object · many (a Comma · object))
+
+-- PropertyListNotEmpty
+abbrev pub list : Regular
+list = verb_objects · many (a Semicolon · maybe verb_objects)
+
+-- TriplesSameSubject
+abbrev pub same : Regular
+same = subject · list
+
+-- TriplesBlock
+abbrev pub block : Regular
+block = same · many (a Dot · same) · maybe (a Dot)
+
+-- the queries of the profile: Prologue without BASE, SelectClause without expressions, one basic graph pattern
+unfoldable pub query : Regular
+query = many (a PrefixWord · a Prefix · a Iri) · a SelectWord · (a Star ∣ a Variable · many (a Variable)) · maybe (a WhereWord) · a OpenBrace · maybe block · a CloseBrace
+
+-- the letters of some kinds
+abbrev pub codes : List Kind → List ℕ
+codes ks = map code ks
+
+-- these tokens are a query
+abbrev pub IsQuery : List Kind → Type 0
+IsQuery ks = Matches query (codes ks)
+
+-- these tokens are the front of a query
+abbrev pub BeginsQuery : List Kind → Type 0
+BeginsQuery ks = Begins query (codes ks)
+
+-- the token at n is the first with which the tokens so far begin no query, or n is past the last and the tokens end too early
+pub record IsGrammarFault (ks : List Kind) (n : ℕ) : Type 0 where
+  pub no_query : IsQuery ks → ⊥
+  pub within : n ≤ length ks
+  pub before : BeginsQuery (take n ks)
+  pub here : n < length ks → BeginsQuery (take (n + 1) ks) → ⊥
+
+-- some tokens have at most one place of fault, and none where they are a query
+pub record OneFault : Type 0 where
+  pub faults : (ks : List Kind) (m n : ℕ) → IsGrammarFault ks m → IsGrammarFault ks n → m ≡ n
+  pub apart : (ks : List Kind) (n : ℕ) → IsQuery ks → IsGrammarFault ks n → ⊥

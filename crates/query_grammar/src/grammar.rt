@@ -1,0 +1,31 @@
+// Which kinds of token are a query, and where they stop to be one.
+ghost use Rattle.std.specs.Prelude.{MatchOption};
+ghost use Rattle.query_grammar.specs.Grammar.{IsQuery, IsGrammarFault, OneFault};
+
+use crate::kind::Kind;
+use crate::machine::{State, is_end, next};
+
+/// The number of the first token with which the tokens so far begin no query, counted from 0, or
+/// the number of tokens where they only end too early; `None` exactly where they are a query.
+pub fn grammar_fault(kinds: &[Kind]) -> Option<usize>
+    ensures { MatchOption result (IsQuery kinds.now) (λ n. IsGrammarFault kinds.now n) }
+{
+    let mut state = State::Start;
+    for (i, kind) in kinds.iter().enumerate() {
+        match next(state, *kind) {
+            Some(after) => state = after,
+            None => return Some(i),
+        }
+    }
+    if is_end(state) {
+        None
+    } else {
+        Some(kinds.len())
+    }
+}
+
+/// Tokens are a query or have one place of fault. Whatever begins a query can be completed, so
+/// that the first token that cannot come is known at once.
+pub fn one_fault()
+    ensures { OneFault }
+{}

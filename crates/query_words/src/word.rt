@@ -1,0 +1,175 @@
+// The tokens of a query, each with what it says.
+ghost use Rattle.std.specs.Prelude.{◌≡◌, ◌≤◌, List, length, take, drop, IfOk, All};
+ghost use Rattle.query_tokens.specs.Pieces.{Fits};
+ghost use Rattle.query_words.specs.Words.{word_value, value_of, word_of, words_of, kind_of, kinds_of};
+
+use crate::text::{
+    is_a, local_text, prefix_text, resolved_text, same_word, text_after_first, text_of,
+};
+use query_grammar::kind::Kind;
+use query_tokens::kind::PieceKind;
+use query_tokens::piece::Piece;
+use std::alloc::Global;
+use tpf_base::{OutOfMemory, Text};
+
+/// What a token says: its text without its marks and with its escapes resolved.
+#[derive(Debug, Drop)]
+pub enum Value {
+    Iri(Text),
+    /// The name of a prefix.
+    Prefix(Text),
+    /// The name of a prefix, and a local part.
+    Prefixed(Text, Text),
+    /// A name of a variable, without its mark.
+    Variable(Text),
+    /// A label of a blank node, with its `_:`.
+    Label(Text),
+    Anonymous,
+    Str(Text),
+    Tag(Text),
+    Integer(Text),
+    Decimal(Text),
+    Double(Text),
+    PrefixWord,
+    SelectWord,
+    WhereWord,
+    True,
+    False,
+    /// The word `a`.
+    TypeWord,
+    OtherWord,
+    OpenBrace,
+    CloseBrace,
+    Dot,
+    Semicolon,
+    Comma,
+    Star,
+    Carets,
+}
+
+/// A token with the place of its first byte.
+#[derive(Debug, Drop)]
+pub struct Word {
+    pub at: usize,
+    pub value: Value,
+}
+
+#[tactic(auto, unfolding(crate::specs::Words::word_value))]
+fn word_value(chars: &[char]) -> Value
+    ensures { result ≡ word_value chars.now }
+{
+    if same_word(b"prefix".as_slice(), chars) {
+        Value::PrefixWord
+    } else if same_word(b"select".as_slice(), chars) {
+        Value::SelectWord
+    } else if same_word(b"where".as_slice(), chars) {
+        Value::WhereWord
+    } else if same_word(b"true".as_slice(), chars) {
+        Value::True
+    } else if same_word(b"false".as_slice(), chars) {
+        Value::False
+    } else if is_a(chars) {
+        Value::TypeWord
+    } else {
+        Value::OtherWord
+    }
+}
+
+#[tactic(auto, unfolding(crate::specs::Words::value_of))]
+fn value_of(alloc: Global, kind: PieceKind, chars: &[char]) -> Result<Value, OutOfMemory>
+    requires { length chars.now ≤ 262144 }
+    ensures { IfOk result (λ v. v ≡ value_of kind chars.now) }
+{
+    Ok(match kind {
+        PieceKind::White | PieceKind::Comment => Value::OtherWord,
+        PieceKind::Iri => Value::Iri(resolved_text(alloc, chars)?),
+        PieceKind::Prefix => Value::Prefix(prefix_text(alloc, chars)?),
+        PieceKind::Prefixed => Value::Prefixed(
+            prefix_text(alloc, chars)?,
+            local_text(alloc, chars)?,
+        ),
+        PieceKind::Variable => Value::Variable(text_after_first(alloc, chars)?),
+        PieceKind::Blank => Value::Label(text_of(alloc, chars)?),
+        PieceKind::Anonymous => Value::Anonymous,
+        PieceKind::Str => Value::Str(resolved_text(alloc, chars)?),
+        PieceKind::Tag => Value::Tag(text_after_first(alloc, chars)?),
+        PieceKind::Integer => Value::Integer(text_of(alloc, chars)?),
+        PieceKind::Decimal => Value::Decimal(text_of(alloc, chars)?),
+        PieceKind::Double => Value::Double(text_of(alloc, chars)?),
+        PieceKind::Word => word_value(chars),
+        PieceKind::OpenBrace => Value::OpenBrace,
+        PieceKind::CloseBrace => Value::CloseBrace,
+        PieceKind::Dot => Value::Dot,
+        PieceKind::Semicolon => Value::Semicolon,
+        PieceKind::Comma => Value::Comma,
+        PieceKind::Star => Value::Star,
+        PieceKind::Carets => Value::Carets,
+    })
+}
+
+fn word_of(alloc: Global, chars: &[char], piece: &Piece) -> Result<Word, OutOfMemory>
+    requires short { length chars.now ≤ 262144 }
+    requires fits { Fits chars.now piece.now }
+    ensures { IfOk result (λ w. w ≡ word_of chars.now piece.now) }
+{
+    let text = &chars[piece.place..piece.place + piece.len];
+    let value = value_of(alloc, piece.kind, text)?;
+    Ok(Word {
+        at: piece.at,
+        value,
+    })
+}
+
+/// What the tokens of a text say. `OutOfMemory` for want of memory alone.
+pub fn words_of(alloc: Global, chars: &[char], pieces: &[Piece]) -> Result<Vec<Word>, OutOfMemory>
+    requires short { length chars.now ≤ 262144 }
+    requires fits { All (Fits chars.now) pieces.now }
+    ensures { IfOk result (λ v. v.items ≡ words_of chars.now pieces.now) }
+{
+    let mut words = Vec::new(alloc);
+    for piece in pieces {
+        words.push(word_of(alloc, chars, piece)?)?;
+    }
+    Ok(words)
+}
+
+fn kind_of(value: &Value) -> Kind
+    ensures { result ≡ kind_of value.now }
+{
+    match value {
+        Value::Iri(_) => Kind::Iri,
+        Value::Prefix(_) => Kind::Prefix,
+        Value::Prefixed(_, _) => Kind::Prefixed,
+        Value::Variable(_) => Kind::Variable,
+        Value::Label(_) => Kind::Blank,
+        Value::Anonymous => Kind::Anonymous,
+        Value::Str(_) => Kind::Str,
+        Value::Tag(_) => Kind::Tag,
+        Value::Integer(_) | Value::Decimal(_) | Value::Double(_) => Kind::Number,
+        Value::PrefixWord => Kind::PrefixWord,
+        Value::SelectWord => Kind::SelectWord,
+        Value::WhereWord => Kind::WhereWord,
+        Value::True => Kind::TrueWord,
+        Value::False => Kind::FalseWord,
+        Value::TypeWord => Kind::TypeWord,
+        Value::OtherWord => Kind::OtherWord,
+        Value::OpenBrace => Kind::OpenBrace,
+        Value::CloseBrace => Kind::CloseBrace,
+        Value::Dot => Kind::Dot,
+        Value::Semicolon => Kind::Semicolon,
+        Value::Comma => Kind::Comma,
+        Value::Star => Kind::Star,
+        Value::Carets => Kind::Carets,
+    }
+}
+
+/// What the grammar sees of some tokens. `OutOfMemory` for want of memory alone.
+pub fn kinds_of(alloc: Global, words: &[Word]) -> Result<Vec<Kind>, OutOfMemory>
+    ensures { IfOk result (λ v. v.items ≡ kinds_of words.now) }
+{
+    let mut kinds = Vec::new(alloc);
+    for word in words {
+        kinds.push(kind_of(&word.value))?;
+    }
+    Ok(kinds)
+}
