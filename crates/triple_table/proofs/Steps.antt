@@ -1,0 +1,39 @@
+-- The chosen triples of one more quad.
+use Rattle.std.proofs.Common.{ℕ, ◌≡◌, ◌+◌, ◌<◌, List, [], ◌∷◌, ◌++◌, sym, ap, ◌∙◌, length, get_or, take, map}
+use Rattle.std.specs.Prelude.{Option}
+use Rattle.std.specs.List.{filter_map}
+use Rattle.std.proofs.lemmas.List.{take_more, map-append}
+use Rattle.std.proofs.lemmas.List.Concat.{flat_map-append}
+use Rattle.std.proofs.lemmas.List.Elements.{filter-append, filter_map-append}
+use Rattle.rdf_terms.specs.declared.term.Term.{Term}
+use Rattle.rdf_terms.specs.declared.term.Triple.{Triple}
+use Rattle.rdf_terms.specs.declared.term.Quad.{Quad}
+use Rattle.triple_table.specs.declared.choice.Choice.{Choice}
+use Rattle.triple_table.specs.Chosen.{is_chosen, chosen}
+use Rattle.triple_table.specs.Served.{terms_of, terms_in}
+
+chosen-append : (choice : Choice) (xs ys : List Quad) → chosen choice (xs ++ ys) ≡ chosen choice xs ++ chosen choice ys
+chosen-append choice xs ys =
+    ap (λ qs. map (λ (q : Quad). q.triple) qs) (filter-append (λ (q : Quad). is_chosen choice q.graph) xs ys) ∙ map-append _ _ _
+
+pub chosen_more : (choice : Choice) (quads : List Quad) (i : ℕ) (quad : Quad) → i < length quads → quad ≡ get_or quads i quad →
+    chosen choice (take (i + 1) quads) ≡ chosen choice (take i quads) ++ chosen choice (quad ∷ [])
+chosen_more choice quads i quad l e =
+    ap (chosen choice) (take_more quads i quad l)
+    ∙ chosen-append choice (take i quads) (get_or quads i quad ∷ [])
+    ∙ ap (λ q. chosen choice (take i quads) ++ chosen choice (q ∷ [])) (sym e)
+
+-- the triples, and then what each is turned to
+pub mapped_more : {X : Type 0} (f : Triple → X) (done : List X) (choice : Choice) (quads : List Quad) (i : ℕ) (quad : Quad) → i < length quads → quad ≡ get_or quads i quad →
+    done ≡ map f (chosen choice (take i quads)) → done ++ map f (chosen choice (quad ∷ [])) ≡ map f (chosen choice (take (i + 1) quads))
+mapped_more f done choice quads i quad l e h =
+    ap (λ xs. xs ++ map f (chosen choice (quad ∷ []))) h ∙ sym (ap (map f) (chosen_more choice quads i quad l e) ∙ map-append f _ _)
+
+pub terms_more : (choice : Choice) (quads : List Quad) (i : ℕ) (quad : Quad) → i < length quads → quad ≡ get_or quads i quad →
+    terms_of (chosen choice (take (i + 1) quads)) ≡ terms_of (chosen choice (take i quads)) ++ terms_of (chosen choice (quad ∷ []))
+terms_more choice quads i quad l e = ap terms_of (chosen_more choice quads i quad l e) ∙ flat_map-append terms_in _ _
+
+pub labels_more : {X : Type 0} (f : Term → Option X) (done : List X) (choice : Choice) (quads : List Quad) (i : ℕ) (quad : Quad) → i < length quads → quad ≡ get_or quads i quad →
+    done ≡ filter_map f (terms_of (chosen choice (take i quads))) → done ++ filter_map f (terms_of (chosen choice (quad ∷ []))) ≡ filter_map f (terms_of (chosen choice (take (i + 1) quads)))
+labels_more f done choice quads i quad l e h =
+    ap (λ xs. xs ++ filter_map f (terms_of (chosen choice (quad ∷ [])))) h ∙ sym (ap (filter_map f) (terms_more choice quads i quad l e) ∙ filter_map-append f _ _)

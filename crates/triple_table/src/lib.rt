@@ -1,0 +1,19 @@
+//! The triples that are served, and the table that lists those of a pattern.
+#![tactic(auto)]
+
+mod build;
+mod choice;
+mod data_set;
+mod genid;
+mod ids;
+mod labels;
+mod rows;
+mod table;
+mod term_list;
+#[cfg(test)]
+mod tests;
+
+pub use choice::Choice;
+pub use data_set::{BuildFault, served, served_is_one};
+pub use ids::{IdPattern, IdTriple, Order, Range};
+pub use table::Table;

@@ -1,0 +1,75 @@
+// The terms of a table in their order, which only one counting call compares.
+ghost use Rattle.std.specs.Prelude.{ℕ, ◌≡◌, ◌≢◌, ◌+◌, ◌<◌, ◌≤◌, ◌^◌, List, length, slice_index_or, MatchOption};
+ghost use Rattle.std.specs.List.{Contains};
+ghost use Rattle.std.specs.List.Sorted.{IsStrictlySortedBy};
+ghost use Rattle.rdf_terms.specs.declared.term.Term.{Term};
+ghost use Rattle.rdf_terms.specs.Order.{term_order};
+
+use rdf_terms::Term;
+use std::cmp::Ordering;
+use std::marker::Model;
+use std::sync::ledger::Ledger;
+use tpf_base::Steps;
+
+/// The terms of a table, which contracts see as a list.
+#[derive(Drop)]
+pub struct TermList {
+    terms: Vec<Term>,
+}
+
+impl Model for TermList {
+    ghost Value = { List Term };
+
+    ghost view = { λ t. t.terms.items };
+}
+
+impl TermList {
+    pub(crate) fn from_vec(terms: Vec<Term>) -> TermList
+        ensures { result ≡ terms.items }
+    {
+        TermList { terms }
+    }
+
+    pub(crate) fn len(&self) -> usize
+        ensures { result ≡ length self.now }
+    {
+        self.terms.len()
+    }
+
+    pub(crate) fn get(&self, i: usize) -> &Term
+        requires { i < length self.now }
+        ensures { (d : Term) → slice_index_or self.now i d ≡ result.now }
+    {
+        &self.terms[i]
+    }
+
+    /// One comparison, which is one step.
+    fn compare<L: Ledger>(&self, i: usize, term: &Term, steps: &mut Steps<L>) -> Ordering
+        requires { i < length self.now }
+        ensures value { (d : Term) → result ≡ term_order (slice_index_or self.now i d) term.now }
+        ensures cost { steps.new ≡ steps.old + 1 }
+    {
+        steps.tick();
+        self.terms[i].cmp(term)
+    }
+
+    /// The place of a term.
+    pub(crate) fn find<L: Ledger>(&self, term: &Term, steps: &mut Steps<L>) -> Option<usize>
+        requires { IsStrictlySortedBy term_order self.now }
+        ensures place { MatchOption result (Contains self.now term.now → ⊥) (λ i. (i < length self.now) × ((d : Term) → slice_index_or self.now i d ≡ term.now)) }
+        ensures counted { steps.old ≤ steps.new }
+        ensures cost { (digits : ℕ) → length self.now < 2 ^ digits → steps.new ≤ steps.old + digits }
+    {
+        let mut low = 0;
+        let mut high = self.len();
+        while low < high {
+            let middle = low + (high - low) / 2;
+            match self.compare(middle, term, steps) {
+                Ordering::Less => low = middle + 1,
+                Ordering::Equal => return Some(middle),
+                Ordering::Greater => high = middle,
+            }
+        }
+        None
+    }
+}
