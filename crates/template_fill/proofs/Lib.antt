@@ -1,0 +1,9 @@
+pub mod Addresses
+pub mod Passing
+pub mod Ports
+pub mod Reading
+pub mod Sections
+pub mod Values
+pub mod Faults
+pub mod Quotes
+pub mod PageTexts

@@ -1,0 +1,9 @@
+pub mod Explicit
+pub mod Forms
+pub mod ReadAddress
+pub mod Spelled
+pub mod Templates
+pub mod Values
+pub mod WebAddress
+pub mod Pages
+pub mod Metadata

@@ -1,0 +1,97 @@
+-- The metadata of a page (Triple Pattern Fragments, "Metadata" and "Controls"; Hydra core vocabulary; VoID): quads of one graph.
+use Rattle.std.specs.Prelude.{ℕ, ◌+◌, ◌-◌, Bool, ◌&&◌, nat_lt, nat_le, is_none, List, [], ◌∷◌, ◌++◌, codes, decimal, Some, if◌then◌else◌}
+use Rattle.rdf_terms.specs.Fragments.{last_page_of}
+use Rattle.rdf_terms.specs.Kinds.{typed_kind}
+use Rattle.rdf_terms.specs.declared.term.Term.{Term}
+use Rattle.rdf_terms.specs.declared.term.Term.TheVariants.{Iri, Blank, Literal}
+use Rattle.rdf_terms.specs.declared.term.Kind.TheVariants.{Plain}
+use Rattle.rdf_terms.specs.declared.term.Quad.{Quad}
+use Rattle.rdf_terms.specs.declared.slots.Slots.{Slots}
+use Rattle.tpf_base.specs.Addresses.{Address, address_text}
+use Rattle.template_fill.specs.Pages.{page_address, template_text}
+
+-- where the fragments of a server stand, and the triples of a page
+pub record Config : Type 0 where
+  pub base : Address
+  pub page_size : ℕ
+
+-- the base has no query part, and a page has 1 to 1000 triples
+abbrev pub is_config : Address → ℕ → Bool
+is_config base page_size = is_none base.query && (nat_le 1 page_size && nat_le page_size 1000)
+
+-- ---- terms
+
+abbrev pub foaf : List ℕ → Term
+foaf name = Iri (codes "http://xmlns.com/foaf/0.1/" ++ name)
+
+abbrev pub void : List ℕ → Term
+void name = Iri (codes "http://rdfs.org/ns/void#" ++ name)
+
+abbrev pub hydra : List ℕ → Term
+hydra name = Iri (codes "http://www.w3.org/ns/hydra/core#" ++ name)
+
+abbrev pub rdf : List ℕ → Term
+rdf name = Iri (codes "http://www.w3.org/1999/02/22-rdf-syntax-ns#" ++ name)
+
+abbrev pub plain : List ℕ → Term
+plain form = Literal form Plain
+
+-- a number as xsd:integer
+abbrev pub integer : ℕ → Term
+integer n = Literal (decimal n) (typed_kind (codes "http://www.w3.org/2001/XMLSchema#integer"))
+
+abbrev pub statement : List ℕ → Term → Term → Term → Quad
+statement graph subject predicate object = record { triple = record { subject = subject; predicate = predicate; object = object }; graph = Some (Iri graph) }
+
+-- ---- quads; graph, page, first, base are texts of addresses
+
+-- the page is what the graph is about; the data set has the fragment as a part, and a form
+abbrev pub topic_quads : List ℕ → List ℕ → List ℕ → List ℕ → List Quad
+topic_quads graph page first base =
+    statement graph (Iri graph) (foaf (codes "primaryTopic")) (Iri page)
+    ∷ statement graph (Iri (base ++ codes "#dataset")) (void (codes "subset")) (Iri first)
+    ∷ statement graph (Iri (base ++ codes "#dataset")) (hydra (codes "search")) (Blank (codes "form"))
+    ∷ []
+
+-- the form has a template of explicit forms
+abbrev pub form_quads : List ℕ → List ℕ → List Quad
+form_quads graph template =
+    statement graph (Blank (codes "form")) (hydra (codes "template")) (plain template)
+    ∷ statement graph (Blank (codes "form")) (hydra (codes "variableRepresentation")) (hydra (codes "ExplicitRepresentation"))
+    ∷ []
+
+-- a variable of the form stands for a place of a triple
+abbrev pub mapping_quads : List ℕ → List ℕ → List ℕ → List Quad
+mapping_quads graph label name =
+    statement graph (Blank (codes "form")) (hydra (codes "mapping")) (Blank label)
+    ∷ statement graph (Blank label) (hydra (codes "variable")) (plain name)
+    ∷ statement graph (Blank label) (hydra (codes "property")) (rdf name)
+    ∷ []
+
+-- the page is a part of the fragment, which has so many triples
+abbrev pub count_quads : List ℕ → List ℕ → List ℕ → ℕ → List Quad
+count_quads graph page first count =
+    statement graph (Iri first) (void (codes "subset")) (Iri page)
+    ∷ statement graph (Iri page) (hydra (codes "totalItems")) (integer count)
+    ∷ statement graph (Iri page) (void (codes "triples")) (integer count)
+    ∷ statement graph (Iri page) (hydra (codes "first")) (Iri first)
+    ∷ []
+
+abbrev pub link_quads : Bool → List ℕ → List ℕ → List ℕ → List ℕ → List Quad
+link_quads there graph page name target = if there then statement graph (Iri page) (hydra name) (Iri target) ∷ [] else []
+
+-- the metadata of page k of a fragment with so many triples; the version of the data is passed over
+unfoldable pub page_metadata : Config → Slots → ℕ → ℕ → ℕ → List Quad
+page_metadata config slots k count version =
+    let base = address_text config.base in
+    let page = page_address config.base slots k in
+    let first = page_address config.base slots 1 in
+    let graph = page ++ codes "#metadata" in
+    topic_quads graph page first base
+    ++ form_quads graph (template_text config.base)
+    ++ mapping_quads graph (codes "s") (codes "subject")
+    ++ mapping_quads graph (codes "p") (codes "predicate")
+    ++ mapping_quads graph (codes "o") (codes "object")
+    ++ count_quads graph page first count
+    ++ link_quads (nat_lt k (last_page_of count config.page_size)) graph page (codes "next") (page_address config.base slots (k + 1))
+    ++ link_quads (nat_lt 1 k) graph page (codes "previous") (page_address config.base slots (k - 1))

@@ -1,0 +1,47 @@
+-- The addresses of a fragment's pages (Triple Pattern Fragments, "Pages"; RFC 6570).
+use Rattle.std.specs.Prelude.{ℕ, ◌≡◌, ◌==◌, List, Option, Some, None, [], ◌∷◌, ◌++◌, codes, decimal, if◌then◌else◌}
+use Rattle.rdf_terms.specs.declared.slots.Slots.{Slots}
+use Rattle.rdf_terms.specs.declared.slots.Slot.{Slot}
+use Rattle.rdf_terms.specs.declared.slots.Slot.TheVariants.{Any, Fixed}
+use Rattle.template_fill.specs.Explicit.{explicit_form}
+use Rattle.tpf_base.specs.Addresses.{Address, address_text}
+use Rattle.template_fill.specs.Templates.{Template, pairs_text, expansion}
+use Rattle.template_fill.specs.declared.part.Operator.TheVariants.{Query}
+use Rattle.template_fill.specs.Forms.{filled}
+
+-- the names of the three places
+abbrev pub place_names : List (List ℕ)
+place_names = codes "subject" ∷ codes "predicate" ∷ codes "object" ∷ []
+
+-- the server's template: the base and {?subject,predicate,object}
+abbrev pub server_template : Address → Template
+server_template base = record { start = base; parts = record { operator = Query; names = place_names; literal = [] } ∷ [] }
+
+abbrev pub template_text : Address → List ℕ
+template_text base = address_text base ++ codes "{?subject,predicate,object}"
+
+-- the explicit form of a fixed place
+abbrev pub slot_text : Slot → Option (List ℕ)
+slot_text Any = None
+slot_text (Fixed term) = Some (explicit_form term)
+
+-- what the expansion writes of the fixed places
+unfoldable pub places_text : Slots → List ℕ
+places_text slots = pairs_text 63 place_names (filled (codes "subject") (codes "predicate") (codes "object") slots)
+
+-- & where something was written before, and ? else
+abbrev pub page_mark : List ℕ → ℕ
+page_mark [] = 63
+page_mark (b ∷ written) = 38
+
+-- the number of a page above 1
+abbrev pub page_pair : ℕ → ℕ → List ℕ
+page_pair mark k = if k == 1 then [] else mark ∷ (codes "page=" ++ decimal k)
+
+-- page k of the fragment of these slots: the template's expansion with the fixed places, and the page above 1
+unfoldable pub page_address : Address → Slots → ℕ → List ℕ
+page_address base slots k = address_text base ++ (places_text slots ++ page_pair (page_mark (places_text slots)) k)
+
+-- page 1 has the address that the server's template expands to
+abbrev pub FirstPageIsExpansion : Type 0
+FirstPageIsExpansion = (base : Address) (slots : Slots) → page_address base slots 1 ≡ expansion (server_template base) (filled (codes "subject") (codes "predicate") (codes "object") slots)

@@ -1,0 +1,113 @@
+// Why a text is refused.
+use std::alloc::{AllocError, AllocFailed};
+use tpf_base::OutOfMemory;
+
+/// Why a text is no explicit form, in the order in which the tests are made.
+#[derive(Clone, Copy, Debug, PartialEq, Eq)]
+pub enum ValueFault {
+    /// It begins with no quote, and is no IRI with a scheme.
+    Iri,
+    /// It begins with a quote, and has no other.
+    Quote,
+    /// What follows the last quote is no language tag and no datatype.
+    Suffix,
+    /// The datatype is `rdf:langString`, which only a tagged literal has.
+    LangString,
+    /// There was not enough memory.
+    OutOfMemory,
+}
+
+/// Why a text is no web address.
+#[derive(Clone, Copy, Debug, PartialEq, Eq)]
+pub enum AddressFault {
+    /// It is none.
+    BadAddress,
+    /// There was not enough memory.
+    OutOfMemory,
+}
+
+/// Why a text is no template.
+#[derive(Clone, Copy, Debug, PartialEq, Eq)]
+pub enum TemplateFault {
+    /// It is none.
+    BadTemplate,
+    /// There was not enough memory.
+    OutOfMemory,
+}
+
+impl From<OutOfMemory> for ValueFault {
+    ghost use Rattle.std.specs.Prelude.{◌≡◌};
+    ghost use Rattle.template_fill.specs.declared.fault.ValueFault.TheVariants as faults;
+
+    ghost from_gives = { λ _ e. e ≡ faults.OutOfMemory };
+
+    fn from(_: OutOfMemory) -> Self {
+        ValueFault::OutOfMemory
+    }
+}
+
+impl From<AllocError> for ValueFault {
+    ghost use Rattle.std.specs.Prelude.{◌≡◌};
+    ghost use Rattle.template_fill.specs.declared.fault.ValueFault.TheVariants as faults;
+
+    ghost from_gives = { λ _ e. e ≡ faults.OutOfMemory };
+
+    fn from(_: AllocError) -> Self {
+        ValueFault::OutOfMemory
+    }
+}
+
+impl From<AllocError> for AddressFault {
+    ghost use Rattle.std.specs.Prelude.{◌≡◌};
+    ghost use Rattle.template_fill.specs.declared.fault.AddressFault.TheVariants as faults;
+
+    ghost from_gives = { λ _ e. e ≡ faults.OutOfMemory };
+
+    fn from(_: AllocError) -> Self {
+        AddressFault::OutOfMemory
+    }
+}
+
+impl From<OutOfMemory> for AddressFault {
+    ghost use Rattle.std.specs.Prelude.{◌≡◌};
+    ghost use Rattle.template_fill.specs.declared.fault.AddressFault.TheVariants as faults;
+
+    ghost from_gives = { λ _ e. e ≡ faults.OutOfMemory };
+
+    fn from(_: OutOfMemory) -> Self {
+        AddressFault::OutOfMemory
+    }
+}
+
+impl From<AllocError> for TemplateFault {
+    ghost use Rattle.std.specs.Prelude.{◌≡◌};
+    ghost use Rattle.template_fill.specs.declared.fault.TemplateFault.TheVariants as faults;
+
+    ghost from_gives = { λ _ e. e ≡ faults.OutOfMemory };
+
+    fn from(_: AllocError) -> Self {
+        TemplateFault::OutOfMemory
+    }
+}
+
+impl<T: Drop> From<AllocFailed<T>> for TemplateFault {
+    ghost use Rattle.std.specs.Prelude.{◌≡◌};
+    ghost use Rattle.template_fill.specs.declared.fault.TemplateFault.TheVariants as faults;
+
+    ghost from_gives = { λ _ e. e ≡ faults.OutOfMemory };
+
+    fn from(_: AllocFailed<T>) -> Self {
+        TemplateFault::OutOfMemory
+    }
+}
+
+impl From<OutOfMemory> for TemplateFault {
+    ghost use Rattle.std.specs.Prelude.{◌≡◌};
+    ghost use Rattle.template_fill.specs.declared.fault.TemplateFault.TheVariants as faults;
+
+    ghost from_gives = { λ _ e. e ≡ faults.OutOfMemory };
+
+    fn from(_: OutOfMemory) -> Self {
+        TemplateFault::OutOfMemory
+    }
+}

@@ -1,0 +1,87 @@
+// The addresses of a fragment's pages.
+ghost use Rattle.std.specs.Prelude.{◌≡◌, ◌<◌, ◌++◌, IfOk, OnOk};
+ghost use Rattle.std.specs.String.{string_bytes};
+ghost use Rattle.tpf_base.specs.Addresses.{IsAddress};
+ghost use Rattle.template_fill.specs.Forms.{HasNoBlank, HasNoBlankSlot};
+ghost use Rattle.template_fill.specs.Templates.{next_mark, pair_text};
+ghost use Rattle.template_fill.specs.Pages.{FirstPageIsExpansion, page_address, page_mark, page_pair, places_text, slot_text};
+
+use crate::WebAddress;
+use crate::explicit_form::explicit;
+use crate::value::push_value;
+use rdf_terms::{Slot, Slots};
+use std::alloc::Global;
+use tpf_base::OutOfMemory;
+
+/// Appends a place after a mark, if it is fixed, and tells the next mark.
+fn push_slot(
+    alloc: Global,
+    out: &mut String,
+    mark: char,
+    name: &str,
+    slot: &Slot,
+) -> Result<char, OutOfMemory>
+    requires ascii { mark < 128 }
+    requires terms { HasNoBlankSlot slot.now }
+    ensures next { IfOk result (λ next. next ≡ next_mark mark (slot_text slot.now)) }
+    ensures text { OnOk result (string_bytes out.new ≡ string_bytes out.old ++ pair_text mark name.now (slot_text slot.now)) }
+{
+    let Slot::Fixed(term) = slot else {
+        return Ok(mark);
+    };
+    let value = explicit(alloc, term)?;
+    out.push(mark)?;
+    out.push_str(name)?;
+    out.push('=')?;
+    push_value(out, value.as_str())?;
+    Ok('&')
+}
+
+/// Appends the fixed places, and tells the mark that comes before a further pair.
+fn push_places(alloc: Global, out: &mut String, slots: &Slots) -> Result<char, OutOfMemory>
+    requires { HasNoBlank slots.now }
+    ensures next { IfOk result (λ next. next ≡ page_mark (places_text slots.now)) }
+    ensures text { OnOk result (string_bytes out.new ≡ string_bytes out.old ++ places_text slots.now) }
+{
+    let mark = push_slot(alloc, out, '?', "subject", &slots.subject)?;
+    let mark = push_slot(alloc, out, mark, "predicate", &slots.predicate)?;
+    let mark = push_slot(alloc, out, mark, "object", &slots.object)?;
+    Ok(mark)
+}
+
+/// Appends the number of a page above 1 after a mark.
+fn push_page(alloc: Global, out: &mut String, mark: char, page: u64) -> Result<(), OutOfMemory>
+    requires { mark < 128 }
+    ensures { OnOk result (string_bytes out.new ≡ string_bytes out.old ++ page_pair mark page) }
+{
+    if page != 1 {
+        let digits = page.to_string(alloc)?;
+        out.push(mark)?;
+        out.push_str("page=")?;
+        out.push_str(digits.as_str())?;
+    }
+    Ok(())
+}
+
+/// The address of a page of the fragment with these slots: the expansion of the template
+/// `{?subject,predicate,object}` after the base with the explicit forms of the fixed places,
+/// and above page 1 `page=` with the number.
+pub fn page_address(
+    alloc: Global,
+    base: &WebAddress,
+    slots: &Slots,
+    page: u64,
+) -> Result<WebAddress, OutOfMemory>
+    requires { HasNoBlank slots.now }
+    ensures { IfOk result (λ address. IsAddress (page_address base.now slots.now page) address) }
+{
+    let mut text = String::from_str(alloc, base.text())?;
+    let mark = push_places(alloc, &mut text, slots)?;
+    push_page(alloc, &mut text, mark, page)?;
+    Ok(base.extended(text))
+}
+
+/// Page 1 has the address that the server's template expands to.
+pub fn first_page_is_expansion()
+    ensures { FirstPageIsExpansion }
+{}

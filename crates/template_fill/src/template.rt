@@ -1,0 +1,109 @@
+// Templates of addresses.
+ghost use Rattle.std.specs.Prelude.{◌≡◌, true, Some, None, IfOk, IsErrOf, MatchOption, IfSome};
+ghost use Rattle.std.specs.List.{list_any};
+ghost use Rattle.std.specs.Option.{option_copied};
+ghost use Rattle.tpf_base.specs.Addresses.{IsAddress};
+ghost use Rattle.template_fill.specs.ReadAddress.{IsSpelled};
+ghost use Rattle.template_fill.specs.Spelled.{spelled_of};
+ghost use Rattle.template_fill.specs.Templates.{sections_after, parts_of, start_of, read_template, expansion, has_name};
+
+use crate::part::{Part, cut};
+use crate::spelled::{SpelledAddress, read_spelled};
+use crate::{TemplateFault, Value, WebAddress};
+use std::alloc::Global;
+use std::marker::Model;
+use tpf_base::OutOfMemory;
+
+/// A template of addresses (RFC 6570): an address whose path is written, and then
+/// expressions `{?names}` and `{&names}` with texts of an address between them.
+///
+/// Contracts see it by its parts.
+#[derive(Debug, Drop)]
+pub struct Template {
+    start: WebAddress,
+    parts: Vec<Part>,
+}
+
+impl Model for Template {
+    ghost use Rattle.template_fill.specs.Templates as templates;
+
+    ghost Value = { templates.Template };
+
+    ghost view = { λ t. record { start = t.start; parts = t.parts.items } };
+}
+
+/// The address before the first expression, if its path is written.
+#[tactic(auto, unfolding(crate::specs::Templates::start_of))]
+fn start_of(text: &[u8]) -> Option<SpelledAddress<'_>>
+    ensures parts { MatchOption result (start_of text.now ≡ None) (λ s. start_of text.now ≡ Some (spelled_of s)) }
+    ensures spelled { IfSome result (λ s. IsSpelled (spelled_of s)) }
+{
+    let spelled = read_spelled(text)?;
+    match spelled.rest {
+        [b'/', ..] => Some(spelled),
+        _ => None,
+    }
+}
+
+/// The parts of what follows the first `{`, if there is one.
+fn read_parts(alloc: Global, first: Option<&[u8]>) -> Result<Vec<Part>, TemplateFault>
+    ensures read { IfOk result (λ parts. parts_of (sections_after 123 (option_copied first.entry)) ≡ Some parts.items) }
+    ensures refused { IsErrOf result TemplateFault.BadTemplate → parts_of (sections_after 123 (option_copied first.entry)) ≡ None }
+{
+    let mut parts = Vec::new(alloc);
+    let mut rest = first;
+    while let Some(text) = rest {
+        let (section, more) = cut(text, b'{');
+        match Part::read(alloc, section) {
+            Ok(part) => parts.push(part)?,
+            Err(fault) => return Err(fault),
+        }
+        rest = more;
+    }
+    Ok(parts)
+}
+
+impl Template {
+    /// The template that a text is. `BadTemplate` exactly where it is none.
+    #[tactic(auto, unfolding(crate::specs::Templates::read_template))]
+    pub fn read(alloc: Global, text: &str) -> Result<Template, TemplateFault>
+        ensures read { IfOk result (λ template. read_template text.now ≡ Some template) }
+        ensures refused { IsErrOf result TemplateFault.BadTemplate → read_template text.now ≡ None }
+    {
+        let (start, rest) = cut(text.as_bytes(), b'{');
+        let Some(start) = start_of(start) else {
+            return Err(TemplateFault::BadTemplate);
+        };
+        let parts = match read_parts(alloc, rest) {
+            Ok(parts) => parts,
+            Err(fault) => return Err(fault),
+        };
+        let start = WebAddress::normal(alloc, &start)?;
+        Ok(Template { start, parts })
+    }
+
+    /// Whether an expression has this name.
+    pub fn names(&self, name: &str) -> bool
+        ensures { result ≡ has_name self.now name.now }
+    {
+        for part in &self.parts {
+            if part.has_name(name) {
+                return true;
+            }
+        }
+        false
+    }
+
+    /// The address that the template is with these values (RFC 6570, section 3.2.1). A name
+    /// without a value is left out; of several values with one name the first counts.
+    #[tactic(auto, unfolding(crate::specs::Templates::expansion))]
+    pub fn expand(&self, alloc: Global, values: &[Value]) -> Result<WebAddress, OutOfMemory>
+        ensures { IfOk result (λ address. IsAddress (expansion self.now values.now) address) }
+    {
+        let mut text = String::from_str(alloc, self.start.text())?;
+        for part in &self.parts {
+            part.push(&mut text, values)?;
+        }
+        Ok(self.start.extended(text))
+    }
+}
