@@ -1,0 +1,213 @@
+-- What is read does not depend on the cuts, and a reply wants only so many bytes.
+use Rattle.std.proofs.Common.{◌≡◌, ℕ, suc, ◌+◌, ◌*◌, ◌-◌, ◌<◌, ◌≤◌, ◌==◌, Bool, true, false, List, [], ◌∷◌, ◌++◌, length, Option, Some, None, refl, sym, ap, if◌then◌else◌, ◌∙◌, subst, arith, length-append}
+use Rattle.std.specs.Prelude.{nat_lt, nat_le}
+use Rattle.std.proofs.lemmas.Grind.{common_steps}
+use Rattle.httparse.specs.Grammar.{ResponseHead}
+use Rattle.tpf_base.specs.HttpReply.{Place, InHeads, InSized, InUnsized, InLine, InChunk, AtReturn, AtNewline, InTrailer, Finished, Failed, Gathered, Reading, More, Whole, Bad, one_more, is_open, after_byte, after_bytes, reading_from, at_the_end, begun, reply_of, HeadRead, Announces, IsRefused, Sized, Chunked, ToClose, with_byte, with_extra, is_over, is_padded, unless, after_head_byte, head_place, body_place, final_head, is_interim, response_head, line_place, after_line_byte, after_trailer_byte, chunk_size, gathering, TooLong, BadHead, BadFraming}
+use Rattle.tpf_base.specs.HttpHeads.{ends_empty, field_lines}
+use Rattle.http_wire.specs.Replies.{longer}
+use Rattle.http_wire.proofs.RunLemmas.{over_bytes, over_reading, open_reading, longer_none}
+
+-- ---- cuts
+
+pub bytes_append : (limit : ℕ) (place : Place) (xs ys : List ℕ) → after_bytes limit place (xs ++ ys) ≡ after_bytes limit (after_bytes limit place xs) ys
+unfolding after_bytes
+bytes_append limit place [] ys = refl
+bytes_append limit place (x ∷ xs) ys = bytes_append limit (after_byte limit place x) xs ys
+
+open_first : (limit : ℕ) (place : Place) (xs : List ℕ) → is_open (after_bytes limit place xs) ≡ true → is_open place ≡ true
+open_first limit place xs goes = open_case (is_open place) refl
+  where
+    open_case : (v : Bool) → is_open place ≡ v → v ≡ true
+    open_case true e = refl
+    open_case false e = let over : is_open (after_bytes limit place xs) ≡ false = ap is_open (over_bytes limit place xs e) ∙ e in sym over ∙ goes
+
+one_more_longer : (n : ℕ) (r : Reading) → one_more (longer n r) ≡ longer (suc n) r
+one_more_longer n More = refl
+one_more_longer n (Whole body k keeps) = ap (λ (m : ℕ). Whole body m keeps) (omega arith)
+one_more_longer n (Bad fault) = refl
+
+pub reading_append : (limit : ℕ) (place : Place) (xs ys : List ℕ) (at_end : Bool) → is_open (after_bytes limit place xs) ≡ true
+    → reading_from limit place (xs ++ ys) at_end ≡ longer (length xs) (reading_from limit (after_bytes limit place xs) ys at_end)
+unfolding after_bytes
+reading_append limit place [] ys at_end goes = sym (longer_none (reading_from limit place ys at_end))
+reading_append limit place (x ∷ xs) ys at_end goes =
+    open_reading limit place x (xs ++ ys) at_end (open_first limit place (x ∷ xs) goes)
+    ∙ ap one_more (reading_append limit (after_byte limit place x) xs ys at_end goes)
+    ∙ one_more_longer (length xs) _
+
+stays_case : (limit : ℕ) (place : Place) (x : ℕ) (xs ys : List ℕ) (at_end : Bool)
+    → reading_from limit (after_byte limit place x) (xs ++ ys) at_end ≡ reading_from limit (after_byte limit place x) xs at_end
+    → (v : Bool) → is_open place ≡ v → reading_from limit place (x ∷ (xs ++ ys)) at_end ≡ reading_from limit place (x ∷ xs) at_end
+stays_case limit place x xs ys at_end rest true e =
+    open_reading limit place x (xs ++ ys) at_end e ∙ ap one_more rest ∙ sym (open_reading limit place x xs at_end e)
+stays_case limit place x xs ys at_end rest false e =
+    over_reading limit place (x ∷ (xs ++ ys)) at_end e ∙ sym (over_reading limit place (x ∷ xs) at_end e)
+
+pub reading_stays : (limit : ℕ) (place : Place) (xs ys : List ℕ) (at_end : Bool) → is_open (after_bytes limit place xs) ≡ false
+    → reading_from limit place (xs ++ ys) at_end ≡ reading_from limit place xs at_end
+unfolding after_bytes
+reading_stays limit place [] ys at_end over = over_reading limit place ys at_end over ∙ sym (over_reading limit place [] at_end over)
+reading_stays limit place (x ∷ xs) ys at_end over =
+    stays_case limit place x xs ys at_end (reading_stays limit (after_byte limit place x) xs ys at_end over) (is_open place) refl
+
+-- ---- a bound
+
+-- of so many bytes that led to the place
+abbrev Holds : ℕ → ℕ → Place → Type 0
+Holds limit n (InHeads passed head) = (n ≡ passed + length head) × (n < 65536)
+Holds limit n (InSized wanted g) = n + wanted ≤ 65536 + limit
+Holds limit n (InUnsized g) = (n ≤ 65536 + length g.body) × (length g.body ≤ limit)
+Holds limit n (InLine line g) = (n ≤ 65536 + length g.body + g.extra) × (length g.body ≤ limit) × (g.extra ≤ 1048576 + 8 * length g.body)
+Holds limit n (InChunk wanted g) = (n ≤ 65536 + length g.body + g.extra) × (length g.body ≤ limit) × (g.extra ≤ 1048576 + 8 * length g.body)
+Holds limit n (AtReturn g) = (n ≤ 65536 + length g.body + g.extra) × (length g.body ≤ limit) × (g.extra ≤ 1048576 + 8 * length g.body)
+Holds limit n (AtNewline g) = (n ≤ 65536 + length g.body + g.extra) × (length g.body ≤ limit) × (g.extra ≤ 1048576 + 8 * length g.body)
+Holds limit n (InTrailer lines g) = (n ≤ 65536 + length g.body + g.extra + length lines) × (length g.body ≤ limit) × (g.extra ≤ 1048576 + 8 * length g.body) × (length lines ≤ 65536)
+Holds limit n (Finished g) = Unit {0}
+Holds limit n (Failed fault) = Unit {0}
+
+either : (limit n : ℕ) (v : Bool) (p q : Place) → (v ≡ true → Holds limit n p) → (v ≡ false → Holds limit n q) → Holds limit n (if v then p else q)
+either limit n true p q on off = on refl
+either limit n false p q on off = off refl
+
+le_false : (m n : ℕ) → nat_le m n ≡ false → n < m
+le_false m n h = grind (arith, common_steps)
+
+lt_false : (m n : ℕ) → nat_lt m n ≡ false → n ≤ m
+lt_false m n h = grind (arith, common_steps)
+
+begins : (limit n : ℕ) (read : HeadRead) → n ≤ 65536 → Holds limit n (body_place limit read)
+unfolding body_place
+begins limit n (IsRefused fault) h = tt
+begins limit n (Announces ToClose keeps) h = (omega arith, omega arith)
+begins limit n (Announces Chunked keeps) h = (omega arith, omega arith, omega arith)
+begins limit n (Announces (Sized m) keeps) h =
+    either limit n (nat_lt limit m) (Failed TooLong) (if m == 0 then Finished (gathering keeps) else InSized m (gathering keeps)) (λ e. tt)
+    (λ e. either limit n (m == 0) (Finished (gathering keeps)) (InSized m (gathering keeps)) (λ f. tt) (λ f. let within = lt_false limit m e in omega arith))
+
+heads : (limit n passed : ℕ) (o : Option ResponseHead) → n ≡ passed → n ≤ 65536 → Holds limit n (head_place limit passed o)
+unfolding head_place
+heads limit n passed None is h = tt
+heads limit n passed (Some r) is h =
+    either limit n (is_interim r) (if nat_le 65536 passed then Failed TooLong else InHeads passed []) (body_place limit (final_head r))
+    (λ e. either limit n (nat_le 65536 passed) (Failed TooLong) (InHeads passed []) (λ f. tt) (λ f. let below = le_false 65536 passed f in (omega arith, omega arith)))
+    (λ e. begins limit n (final_head r) h)
+
+head_step : (limit n passed : ℕ) (head : List ℕ) → n ≡ passed + length head → n ≤ 65536 → Holds limit n (after_head_byte limit passed head)
+unfolding after_head_byte
+head_step limit n passed head is h =
+    either limit n (ends_empty head (length head)) (if nat_lt 64 (field_lines head) then Failed BadHead else head_place limit (passed + length head) (response_head head)) (if nat_le 65536 (passed + length head) then Failed TooLong else InHeads passed head)
+    (λ e. either limit n (nat_lt 64 (field_lines head)) (Failed BadHead) (head_place limit (passed + length head) (response_head head)) (λ f. tt) (λ f. heads limit n (passed + length head) (response_head head) is h))
+    (λ e. either limit n (nat_le 65536 (passed + length head)) (Failed TooLong) (InHeads passed head) (λ f. tt) (λ f. let below = le_false 65536 (passed + length head) f in (is, omega arith)))
+
+unpadded : (g : Gathered) → is_padded g ≡ false → g.extra ≤ 1048576 + 8 * length g.body
+unfolding is_padded
+unpadded g e = lt_false (1048576 + 8 * length g.body) g.extra e
+
+not_over : (limit : ℕ) (g : Gathered) → is_over limit g ≡ false → length g.body ≤ limit
+unfolding is_over
+not_over limit g e = lt_false limit (length g.body) e
+
+-- with an unpadded count
+abbrev Counted : ℕ → ℕ → Gathered → Type 0
+Counted limit n g = (n ≤ 65536 + length g.body + g.extra) × (length g.body ≤ limit)
+
+line_ends : (limit n : ℕ) (g : Gathered) (o : Option ℕ) → Counted limit n g → Holds limit n (line_place g o)
+unfolding line_place
+line_ends limit n g None h = tt
+line_ends limit n g (Some size) h =
+    either limit n (is_padded g) (Failed TooLong) (if size == 0 then InTrailer [] g else InChunk size g) (λ p. tt)
+    (λ p. either limit n (size == 0) (InTrailer [] g) (InChunk size g) (λ z. (omega (arith, h.0), h.1, unpadded g p, omega arith)) (λ z. (h.0, h.1, unpadded g p)))
+
+line_step : (limit n : ℕ) (line : List ℕ) (b : ℕ) (g : Gathered) → Counted limit n g → Holds limit n (after_line_byte line b g)
+unfolding after_line_byte
+line_step limit n line b g h =
+    either limit n (nat_lt 1024 (length line)) (Failed BadFraming) (if b == 10 then line_place g (chunk_size line) else unless (is_padded g) (InLine line g)) (λ e. tt)
+    (λ e. either limit n (b == 10) (line_place g (chunk_size line)) (unless (is_padded g) (InLine line g)) (λ f. line_ends limit n g (chunk_size line) h)
+    (λ f. either limit n (is_padded g) (Failed TooLong) (InLine line g) (λ p. tt) (λ p. (h.0, h.1, unpadded g p))))
+
+trailer_step : (limit n : ℕ) (lines : List ℕ) (g : Gathered) → (n ≤ 65536 + length g.body + g.extra + length lines) × (length g.body ≤ limit) × (g.extra ≤ 1048576 + 8 * length g.body)
+    → Holds limit n (after_trailer_byte lines g)
+unfolding after_trailer_byte
+trailer_step limit n lines g h =
+    either limit n (nat_lt 65536 (length lines)) (Failed TooLong) (if ends_empty (10 ∷ lines) (length lines + 1) then Finished g else InTrailer lines g) (λ e. tt)
+    (λ e. either limit n (ends_empty (10 ∷ lines) (length lines + 1)) (Finished g) (InTrailer lines g) (λ f. tt) (λ f. (h.0, h.1, h.2, lt_false 65536 (length lines) e)))
+
+one_longer : (xs : List ℕ) (b : ℕ) → length (xs ++ b ∷ []) ≡ length xs + 1
+one_longer xs b = length-append xs (b ∷ [])
+
+step : (limit n : ℕ) (place : Place) (b : ℕ) → Holds limit n place → Holds limit (n + 1) (after_byte limit place b)
+step limit n (InHeads passed head) b h = let more = one_longer head b in head_step limit (n + 1) passed (head ++ b ∷ []) (omega (arith, h.0)) (omega (arith, h.1))
+step limit n (InSized wanted g) b h =
+    either limit (n + 1) (nat_le wanted 1) (Finished (with_byte g b)) (InSized (wanted - 1) (with_byte g b)) (λ e. tt) (λ e. let more = le_false wanted 1 e in omega arith)
+step limit n (InUnsized g) b h =
+    let more = one_longer g.body b in
+    either limit (n + 1) (is_over limit (with_byte g b)) (Failed TooLong) (InUnsized (with_byte g b)) (λ e. tt) (λ e. (omega (arith, h.0), not_over limit (with_byte g b) e))
+step limit n (InLine line g) b h = line_step limit (n + 1) (line ++ b ∷ []) b (with_extra g) (omega (arith, h.0), h.1)
+step limit n (InChunk wanted g) b h =
+    let more = one_longer g.body b in
+    either limit (n + 1) (is_over limit (with_byte g b)) (Failed TooLong) (if nat_le wanted 1 then AtReturn (with_byte g b) else InChunk (wanted - 1) (with_byte g b)) (λ e. tt)
+    (λ e. either limit (n + 1) (nat_le wanted 1) (AtReturn (with_byte g b)) (InChunk (wanted - 1) (with_byte g b)) (λ f. (omega (arith, h.0), not_over limit (with_byte g b) e, omega (arith, h.2))) (λ f. (omega (arith, h.0), not_over limit (with_byte g b) e, omega (arith, h.2))))
+step limit n (AtReturn g) b h =
+    either limit (n + 1) (b == 13) (unless (is_padded (with_extra g)) (AtNewline (with_extra g))) (Failed BadFraming)
+    (λ e. either limit (n + 1) (is_padded (with_extra g)) (Failed TooLong) (AtNewline (with_extra g)) (λ p. tt) (λ p. (omega (arith, h.0), h.1, unpadded (with_extra g) p))) (λ e. tt)
+step limit n (AtNewline g) b h =
+    either limit (n + 1) (b == 10) (unless (is_padded (with_extra g)) (InLine [] (with_extra g))) (Failed BadFraming)
+    (λ e. either limit (n + 1) (is_padded (with_extra g)) (Failed TooLong) (InLine [] (with_extra g)) (λ p. tt) (λ p. (omega (arith, h.0), h.1, unpadded (with_extra g) p))) (λ e. tt)
+step limit n (InTrailer lines g) b h = let more = one_longer lines b in trailer_step limit (n + 1) (lines ++ b ∷ []) g (omega (arith, h.0), h.1, h.2)
+step limit n (Finished g) b h = tt
+step limit n (Failed fault) b h = tt
+
+steps : (limit n : ℕ) (place : Place) (bytes : List ℕ) → Holds limit n place → Holds limit (n + length bytes) (after_bytes limit place bytes)
+unfolding after_bytes
+steps limit n place [] h = let same : n ≡ n + 0 = omega arith in subst (λ (m : ℕ). Holds limit m place) same h
+steps limit n place (b ∷ bs) h =
+    let same : n + 1 + length bs ≡ n + suc (length bs) = omega arith in
+    subst (λ (m : ℕ). Holds limit m (after_bytes limit (after_byte limit place b) bs)) same (steps limit (n + 1) (after_byte limit place b) bs (step limit n place b h))
+
+held_open : (limit n : ℕ) (place : Place) → Holds limit n place → is_open place ≡ true → n ≤ 9 * limit + 1179648
+held_open limit n (InHeads passed head) h goes = omega (arith, h.1)
+held_open limit n (InSized wanted g) h goes = omega arith
+held_open limit n (InUnsized g) h goes = omega (arith, h.0, h.1)
+held_open limit n (InLine line g) h goes = omega (arith, h.0, h.1, h.2)
+held_open limit n (InChunk wanted g) h goes = omega (arith, h.0, h.1, h.2)
+held_open limit n (AtReturn g) h goes = omega (arith, h.0, h.1, h.2)
+held_open limit n (AtNewline g) h goes = omega (arith, h.0, h.1, h.2)
+held_open limit n (InTrailer lines g) h goes = omega (arith, h.0, h.1, h.2, h.3)
+held_open limit n (Finished g) h goes = absurd cc
+held_open limit n (Failed fault) h goes = absurd cc
+
+one_more_more : (r : Reading) → one_more r ≡ More → r ≡ More
+one_more_more More e = refl
+one_more_more (Whole body k keeps) e = absurd cc
+one_more_more (Bad fault) e = absurd cc
+
+end_open : (at_end : Bool) (place : Place) → at_the_end at_end place ≡ More → is_open place ≡ true
+end_open at_end (InHeads passed head) e = refl
+end_open at_end (InSized wanted g) e = refl
+end_open at_end (InUnsized g) e = refl
+end_open at_end (InLine line g) e = refl
+end_open at_end (InChunk wanted g) e = refl
+end_open at_end (AtReturn g) e = refl
+end_open at_end (AtNewline g) e = refl
+end_open at_end (InTrailer lines g) e = refl
+end_open at_end (Finished g) e = absurd cc
+end_open at_end (Failed fault) e = absurd cc
+
+more_case : (limit : ℕ) (place : Place) (b : ℕ) (bs : List ℕ) (at_end : Bool)
+    → (reading_from limit (after_byte limit place b) bs at_end ≡ More → is_open (after_bytes limit (after_byte limit place b) bs) ≡ true)
+    → reading_from limit place (b ∷ bs) at_end ≡ More → (v : Bool) → is_open place ≡ v → is_open (after_bytes limit (after_byte limit place b) bs) ≡ true
+more_case limit place b bs at_end rest more true e = rest (one_more_more _ (sym (open_reading limit place b bs at_end e) ∙ more))
+more_case limit place b bs at_end rest more false e =
+    let goes : is_open place ≡ true = end_open at_end place (sym (over_reading limit place (b ∷ bs) at_end e) ∙ more) in absurd cc
+
+more_open : (limit : ℕ) (place : Place) (bytes : List ℕ) (at_end : Bool) → reading_from limit place bytes at_end ≡ More → is_open (after_bytes limit place bytes) ≡ true
+unfolding after_bytes reading_from
+more_open limit place [] at_end more = end_open at_end place more
+more_open limit place (b ∷ bs) at_end more = more_case limit place b bs at_end (more_open limit (after_byte limit place b) bs at_end) more (is_open place) refl
+
+pub reply_bounded : (limit : ℕ) (bytes : List ℕ) (at_end : Bool) → reply_of bytes at_end limit ≡ More → length bytes ≤ 9 * limit + 1179648
+reply_bounded limit bytes at_end more =
+    let all = steps limit 0 begun bytes (omega arith, omega arith) in
+    let most = held_open limit (0 + length bytes) (after_bytes limit begun bytes) all (more_open limit begun bytes at_end more) in
+    omega arith

@@ -1,0 +1,11 @@
+pub mod HeadLemmas
+pub mod FieldLemmas
+pub mod JudgeLemmas
+pub mod FeedLemmas
+pub mod WriteLemmas
+pub mod FramingLemmas
+pub mod ReplyLemmas
+pub mod ChunkLemmas
+pub mod RunLemmas
+pub mod LawLemmas
+pub mod StayLemmas

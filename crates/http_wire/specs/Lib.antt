@@ -1,0 +1,5 @@
+pub mod Requests
+pub mod Searches
+pub mod Fields
+pub mod Replies
+pub mod Places
