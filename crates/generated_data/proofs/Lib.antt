@@ -1,0 +1,3 @@
+pub mod Texts
+pub mod Classes
+pub mod Pieces
