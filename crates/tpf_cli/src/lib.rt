@@ -1,0 +1,11 @@
+//! The command line of `tpf`: the words, the files, the query, the text of the result, and the exit status.
+#![tactic(auto)]
+
+mod command;
+mod ending;
+mod listing;
+mod results;
+mod top;
+mod words;
+
+pub use top::{Inside, run};
