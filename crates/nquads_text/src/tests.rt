@@ -39,6 +39,18 @@ fn fed_by_bytes(alloc: Global, text: &[u8]) -> Result<Vec<Quad>, TextFault> {
     feed.finish()
 }
 
+/// The first place of which a cut changes what a text reads as.
+fn changing_cut(alloc: Global, text: &[u8], wanted: &str) -> Result<Option<usize>, Fail> {
+    for n in 0..text.len() {
+        let (front, back) = text.split_at(n);
+        let cut = outcome(alloc, fed(alloc, front, back))?;
+        if cut.as_str() != wanted {
+            return Ok(Some(n));
+        }
+    }
+    Ok(None)
+}
+
 /// What a text of many bytes in a label or an IRI reads as.
 fn is_read(alloc: Global, text: &str, longest: usize) -> bool {
     read_all(alloc, text.as_bytes(), longest).is_ok()
@@ -106,6 +118,8 @@ fn lines_are_read(rt: HostRuntime) -> Result<(), Fail> {
         assert_eq!(rt; again.as_str(), lines);
         let bytes = outcome(alloc, fed_by_bytes(alloc, text.as_bytes()))?;
         assert_eq!(rt; bytes.as_str(), lines);
+        let cut = changing_cut(alloc, text.as_bytes(), lines)?;
+        assert_eq!(rt; cut, None, "{text}");
     }
     Ok(())
 }
@@ -181,6 +195,8 @@ fn faults_are_told(rt: HostRuntime) -> Result<(), Fail> {
         assert_eq!(rt; whole.as_str(), wanted.as_str(), "{text}");
         let bytes = outcome(alloc, fed_by_bytes(alloc, text.as_bytes()))?;
         assert_eq!(rt; bytes.as_str(), wanted.as_str(), "{text}");
+        let cut = changing_cut(alloc, text.as_bytes(), wanted.as_str())?;
+        assert_eq!(rt; cut, None, "{text}");
     }
     Ok(())
 }
@@ -214,16 +230,8 @@ fn cut_at_every_place(rt: HostRuntime) -> Result<(), Fail> {
     assert_eq!(rt; wanted.as_str(), "Bad { line: 5, why: RelativeIri }");
     let good = &text[..60];
     let lines = read_whole(alloc, good)?;
-    for n in 0..text.len() {
-        let (front, back) = text.split_at(n);
-        let cut = outcome(alloc, fed(alloc, front, back))?;
-        assert_eq!(rt; cut.as_str(), wanted.as_str(), "{n}");
-    }
-    for n in 0..good.len() {
-        let (front, back) = good.split_at(n);
-        let cut = outcome(alloc, fed(alloc, front, back))?;
-        assert_eq!(rt; cut.as_str(), lines.as_str(), "{n}");
-    }
+    assert_eq!(rt; changing_cut(alloc, text, wanted.as_str())?, None);
+    assert_eq!(rt; changing_cut(alloc, good, lines.as_str())?, None);
     Ok(())
 }
 

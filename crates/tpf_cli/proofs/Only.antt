@@ -85,6 +85,11 @@ clash_served files name choice label triples h s =
     let quads = held_same files name h.0 s.0 h.1 s.1 in
     s.2 label (subst (λ (qs : List Quad). Clashes authority (chosen choice qs) label) quads h.2.clashes)
 
+clash_many : (files : Files) (name : List ℕ) (choice : Choice) (label : List ℕ) → HasClash files name choice label → HasTooMany files name choice → ⊥
+clash_many files name choice label h m =
+    let quads = held_same files name h.0 m.0 h.1 m.1 in
+    m.2.unclashed label (subst (λ (qs : List Quad). Clashes authority (chosen choice qs) label) quads h.2.clashes)
+
 -- what passes the most is not served
 many_few : (quads : List Triple) (triples : List Triple) → IsServed authority quads triples → AreFew triples → PassesMost 16777215 authority quads → ⊥
 many_few quads triples s few m =
@@ -117,8 +122,8 @@ done_only : (files : Files) (name query : List ℕ) (choice : Choice) (triples :
 done_only files name query choice triples q s h = record {
   too_long = λ l. absurd (long_held files name s.0 l s.1);
   fault = λ line why f. absurd (held_fault files name s.0 line why s.1 f);
-  too_many = λ m _. absurd (many_served files name choice triples m s);
-  clash = λ label c _. absurd (clash_served files name choice label triples c s);
+  too_many = λ m. absurd (many_served files name choice triples m s);
+  clash = λ label c. absurd (clash_served files name choice label triples c s);
   no_query = λ at why _ f. absurd (fault_held files query q at why f h);
   answered = λ _ _ _. inl refl;
 }
@@ -127,8 +132,8 @@ long_only : (files : Files) (name query : List ℕ) (choice : Choice) → IsTooL
 long_only files name query choice l = record {
   too_long = λ _. inl refl;
   fault = λ line why f. absurd (long_fault files name line why l f);
-  too_many = λ m _. absurd (long_held files name m.0 l m.1);
-  clash = λ label c _. absurd (long_held files name c.0 l c.1);
+  too_many = λ m. absurd (long_held files name m.0 l m.1);
+  clash = λ label c. absurd (long_held files name c.0 l c.1);
   no_query = λ _ _ d _. absurd (long_held files name d.1.0 l d.1.1);
   answered = λ d _ _. absurd (long_held files name d.1.0 l d.1.1);
 }
@@ -137,8 +142,8 @@ fault_only : (files : Files) (name query : List ℕ) (choice : Choice) (line : �
 fault_only files name query choice line why f = record {
   too_long = λ l. absurd (long_fault files name line why l f);
   fault = λ m w g. inl (fault_same files name line m why w f g);
-  too_many = λ m _. absurd (held_fault files name m.0 line why m.1 f);
-  clash = λ label c _. absurd (held_fault files name c.0 line why c.1 f);
+  too_many = λ m. absurd (held_fault files name m.0 line why m.1 f);
+  clash = λ label c. absurd (held_fault files name c.0 line why c.1 f);
   no_query = λ _ _ d _. absurd (held_fault files name d.1.0 line why d.1.1 f);
   answered = λ d _ _. absurd (held_fault files name d.1.0 line why d.1.1 f);
 }
@@ -147,8 +152,8 @@ clash_only : (files : Files) (name query : List ℕ) (choice : Choice) (label : 
 clash_only files name query choice label c = record {
   too_long = λ l. absurd (long_held files name c.0 l c.1);
   fault = λ line why f. absurd (held_fault files name c.0 line why c.1 f);
-  too_many = λ _ free. absurd (free label c);
-  clash = λ other k _. inl (ap genid_clash (clash_same files name choice label other c k));
+  too_many = λ m. absurd (clash_many files name choice label c m);
+  clash = λ other k. inl (ap genid_clash (clash_same files name choice label other c k));
   no_query = λ _ _ d _. absurd (clash_served files name choice label d.0 c d.1);
   answered = λ d _ _. absurd (clash_served files name choice label d.0 c d.1);
 }
@@ -157,8 +162,8 @@ query_only : (files : Files) (name query : List ℕ) (choice : Choice) (at : ℕ
 query_only files name query choice at why d f = record {
   too_long = λ l. absurd (long_held files name d.1.0 l d.1.1);
   fault = λ line kind g. absurd (held_fault files name d.1.0 line kind d.1.1 g);
-  too_many = λ m _. absurd (many_served files name choice d.0 m d.1);
-  clash = λ label c _. absurd (clash_served files name choice label d.0 c d.1);
+  too_many = λ m. absurd (many_served files name choice d.0 m d.1);
+  clash = λ label c. absurd (clash_served files name choice label d.0 c d.1);
   no_query = λ other kind _ g. inl (query_fault_same files query at other why kind f g);
   answered = λ _ q h. absurd (fault_held files query q at why f h);
 }
@@ -167,8 +172,8 @@ many_only : (files : Files) (name query : List ℕ) (choice : Choice) → HasToo
 many_only files name query choice m = record {
   too_long = λ l. absurd (long_held files name m.0 l m.1);
   fault = λ line why f. absurd (held_fault files name m.0 line why m.1 f);
-  too_many = λ _ _. inl refl;
-  clash = λ _ _ few. absurd (few m);
+  too_many = λ _. inl refl;
+  clash = λ label c. absurd (clash_many files name choice label c m);
   no_query = λ _ _ d _. absurd (many_served files name choice d.0 m d.1);
   answered = λ d _ _. absurd (many_served files name choice d.0 m d.1);
 }
@@ -177,8 +182,8 @@ memory_only : (files : Files) (name query : List ℕ) (choice : Choice) → IsOn
 memory_only files name query choice = record {
   too_long = λ _. inr refl;
   fault = λ _ _ _. inr refl;
-  too_many = λ _ _. inr refl;
-  clash = λ _ _ _. inr refl;
+  too_many = λ _. inr refl;
+  clash = λ _ _. inr refl;
   no_query = λ _ _ _ _. inr refl;
   answered = λ _ _ _. inr refl;
 }

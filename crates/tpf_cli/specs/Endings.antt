@@ -115,7 +115,7 @@ HasDataFault files name line why = (bytes : List ℕ) × (content_of files name 
 abbrev pub HasClash : Files → List ℕ → Choice → List ℕ → Type 0
 HasClash files name choice label = (quads : List Quad) × HoldsData files name quads × IsLeastClash authority (chosen choice quads) label
 
--- the distinct triples of the chosen graphs, or their distinct terms, are more than 16777215
+-- no label clashes, and the distinct triples of the chosen graphs, or their distinct terms, are more than 16777215
 abbrev pub HasTooMany : Files → List ℕ → Choice → Type 0
 HasTooMany files name choice = (quads : List Quad) × HoldsData files name quads × PassesMost 16777215 authority (chosen choice quads)
 
@@ -279,8 +279,8 @@ TakesOf told None old new end = new ≡ old
 pub record IsOnlyEnd (files : Files) (name query : List ℕ) (choice : Choice) (end : EndOfRun) : Type 0 where
   pub too_long : IsTooLong files name 1073741824 → (end ≡ data_too_long) ⊎ (end ≡ memory)
   pub fault : (line : ℕ) (why : Why) → HasDataFault files name line why → (end ≡ data_fault line why) ⊎ (end ≡ memory)
-  pub too_many : HasTooMany files name choice → ((label : List ℕ) → ¬ (HasClash files name choice label)) → (end ≡ data_too_many) ⊎ (end ≡ memory)
-  pub clash : (label : List ℕ) → HasClash files name choice label → ¬ (HasTooMany files name choice) → (end ≡ genid_clash label) ⊎ (end ≡ memory)
+  pub too_many : HasTooMany files name choice → (end ≡ data_too_many) ⊎ (end ≡ memory)
+  pub clash : (label : List ℕ) → HasClash files name choice label → (end ≡ genid_clash label) ⊎ (end ≡ memory)
   pub no_query : (at : ℕ) (why : QueryWhy) → IsDataRead files name choice → HasQueryFault files query at why → (end ≡ query_fault at why) ⊎ (end ≡ memory)
   pub answered : IsDataRead files name choice → (q : QueryData) → HoldsQuery files query q → (end ≡ done) ⊎ (end ≡ memory)
 

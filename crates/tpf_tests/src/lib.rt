@@ -377,21 +377,28 @@ mod tests {
         Ok(())
     }
 
-    /// How many calls of the shelf a run over the one triple makes.
-    const SHELF_CALLS: u64 = 6;
+    /// A run over the one triple whose n-th call of the shelf fails.
+    fn shelf_failing<R: Wait>(rt: &R, alloc: Global, n: u64) -> Result<Outcome, Fail> {
+        let calls = vec![in alloc; n]?;
+        run_with(
+            rt,
+            alloc,
+            "tpf|local|d|q",
+            files(alloc, ONE, ONE_QUERY)?,
+            Failing::At(calls),
+            Failing::Never,
+        )
+    }
 
     #[test]
     fn a_shelf_that_fails_at_each_call(rt: HostRuntime) -> Result<(), Fail> {
-        for n in 1..=SHELF_CALLS {
-            let calls = vec![in rt.alloc(); n]?;
-            let got = run_with(
-                &rt,
-                rt.alloc(),
-                "tpf|local|d|q",
-                files(rt.alloc(), ONE, ONE_QUERY)?,
-                Failing::At(calls),
-                Failing::Never,
-            )?;
+        for n in 1..100 {
+            let got = shelf_failing(&rt, rt.alloc(), n)?;
+            if got.status == 0 {
+                assert_eq!(rt; n, 7);
+                assert_eq!(rt; got.out.taken(), ONE_TEXT.as_bytes());
+                return Ok(());
+            }
             let line = if n <= 3 {
                 b"file: d\n".as_slice()
             } else {
@@ -401,16 +408,60 @@ mod tests {
             assert_eq!(rt; got.out.taken(), b"".as_slice(), "{n}");
             assert_eq!(rt; got.err.taken(), line, "{n}");
         }
+        Err(Fail::new("each run met a failure"))
+    }
+
+    /// A run of these words whose n-th write fails.
+    fn output_failing<R: Wait>(rt: &R, alloc: Global, line: &str, n: u64) -> Result<Outcome, Fail> {
+        let calls = vec![in alloc; n]?;
+        run_with(
+            rt,
+            alloc,
+            line,
+            files(alloc, ONE, ONE_QUERY)?,
+            Failing::Never,
+            Failing::At(calls),
+        )
+    }
+
+    /// How many writes a run makes: each of them that fails ends it with status 9 and a front of the output.
+    fn writes<R: Wait>(rt: &R, alloc: Global, line: &str, whole: &[u8]) -> Result<u64, Fail> {
+        for n in 1..100 {
+            let got = output_failing(rt, alloc, line, n)?;
+            let taken = got.out.taken();
+            if got.status == 0 && taken == whole {
+                return Ok(n - 1);
+            }
+            let front = taken.len() < whole.len() && whole.starts_with(taken);
+            if !front || got.status != 9 || got.err.taken() != b"sink\n".as_slice() {
+                return Err(Fail::new("another ending"));
+            }
+        }
+        Err(Fail::new("each run met a failure"))
+    }
+
+    #[test]
+    fn an_output_that_fails_at_each_call(rt: HostRuntime) -> Result<(), Fail> {
+        let one = writes(&rt, rt.alloc(), "tpf|local|d|q", ONE_TEXT.as_bytes())?;
+        assert_eq!(rt; one, 1);
+        let data = made(&rt, rt.alloc(), "tpf|make|1000")?;
+        let many = writes(&rt, rt.alloc(), "tpf|make|1000", data.as_bytes())?;
+        assert!(rt; many > 1);
         Ok(())
     }
 
     const THREE: &str =
         "<http://example.org/person/0> <http://example.org/knows> <http://example.org/person/1> .\n<http://example.org/person/0> <http://example.org/name> \"Person 0\" .\n<http://example.org/person/0> <http://example.org/city> <http://example.org/city/0> .\n<http://example.org/person/1> <http://example.org/knows> <http://example.org/person/2> .\n<http://example.org/person/2> <http://example.org/knows> <http://example.org/person/0> .\n";
 
-    static MADE: [(&str, u8, &str, &str); 9] = [
+    const SINGLE: &str =
+        "<http://example.org/person/0> <http://example.org/knows> <http://example.org/person/0> .\n<http://example.org/person/0> <http://example.org/name> \"Person 0\" .\n<http://example.org/person/0> <http://example.org/city> <http://example.org/city/0> .\n";
+
+    static MADE: [(&str, u8, &str, &str); 11] = [
         ("tpf|make|3", 0, THREE, ""),
         ("tpf|make|--|3", 0, THREE, ""),
         ("tpf|make|003", 0, THREE, ""),
+        ("tpf|make|1", 0, SINGLE, ""),
+        ("tpf|make|01", 0, SINGLE, ""),
         ("tpf|make", 2, "", USAGE),
         ("tpf|make|0", 2, "", USAGE),
         ("tpf|make|1000001", 2, "", USAGE),

@@ -18,7 +18,7 @@ use Rattle.triple_table.specs.declared.ids.Order.{Order}
 use Rattle.triple_table.specs.declared.ids.Order.TheVariants.{Spo, Pos, Osp}
 use Rattle.triple_table.specs.declared.ids.Range.{Range}
 use Rattle.triple_table.specs.Rows.{row_order, row_of, id_triple_of}
-use Rattle.triple_table.specs.Served.{terms_of, IsServed}
+use Rattle.triple_table.specs.Served.{terms_of, Clashes, IsServed}
 
 -- the terms by their ids, and the rows of each order
 pub record Stored : Type 0 where
@@ -105,8 +105,9 @@ pub record IsStored (s : Stored) : Type 0 where
   pub small : length s.terms < 2 ^ 32
   pub rows : (order : Order) → IsOrdered s order (rows_in s order)
 
--- more than this many triples or terms
+-- no label clashes, and the data that are served have more than this many triples or terms
 pub record PassesMost (most : ℕ) (authority : List ℕ) (chosen : List Triple) : Type 0 where
+  pub unclashed : (label : List ℕ) → ¬ (Clashes authority chosen label)
   pub triples : List Triple
   pub terms : List Term
   pub served : IsServed authority chosen triples

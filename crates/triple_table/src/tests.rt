@@ -1,12 +1,15 @@
-ghost use Rattle.std.specs.Prelude.{◌≡◌, ℕ, List, All, IfOk, OnOk, codes};
+ghost use Rattle.std.specs.Prelude.{◌≡◌, ℕ, ◌+◌, ◌<◌, ◌≤◌, ◌^◌, List, All, IfOk, OnOk, codes, length};
 ghost use Rattle.rdf_terms.specs.Triples.{IsRdfQuad, IsIriOrBlank};
 ghost use Rattle.tpf_base.specs.Addresses.{IsAuthority};
+ghost use Rattle.triple_table.specs.Stored.{IsIdPattern, IsRange, triples_in};
 
-use crate::{BuildFault, Choice, Table, served};
+use crate::{BuildFault, Choice, IdPattern, Range, Table, served};
 use rdf_terms::{Quad, Term, TermFault, Triple};
 use std::alloc::Global;
+use std::marker::Brand;
+use std::sync::ledger::{Blank, Ledger};
 use std::test::Fail;
-use tpf_base::{OutOfMemory, Text};
+use tpf_base::{OutOfMemory, Steps, Text};
 
 fn host() -> &'static str
     ensures { IsAuthority result.now }
@@ -129,5 +132,80 @@ fn a_label_whose_iri_stands_in_the_data_is_refused(rt: HostRuntime) -> Result<()
         Err(fault) => fault == clash,
     };
     assert!(rt; refused);
+    Ok(())
+}
+
+#[test]
+fn a_clash_is_told_before_too_many_triples(rt: HostRuntime) -> Result<(), Fail> {
+    let quads = blank_node(rt.alloc(), true)?;
+    let clash = BuildFault::GenidClash(Text::copy(rt.alloc(), "b1")?);
+    let refused = match Table::build(rt.alloc(), quads.as_slice(), &Choice::Union, host(), 1) {
+        Ok(_) => false,
+        Err(fault) => fault == clash,
+    };
+    assert!(rt; refused);
+    Ok(())
+}
+
+/// A triple about each of so many numbers.
+fn numbered(alloc: Global, count: u32) -> Result<Vec<Quad>, Fail>
+    ensures { IfOk result (λ v. All IsRdfQuad v.items) }
+{
+    let mut quads = Vec::new(alloc);
+    for n in 0..count {
+        let subject = format!(in alloc; "http://e/{n}")?;
+        add_iri(
+            alloc,
+            &mut quads,
+            subject.as_str(),
+            "http://e/p",
+            "http://e/o",
+        )?;
+    }
+    Ok(quads)
+}
+
+/// The range of a pattern over fewer than 4096 triples compares at most 28 times.
+fn few_comparisons<L: Ledger>(table: &Table, p: &IdPattern, steps: &mut Steps<L>) -> Range
+    requires pattern { IsIdPattern table.now p.now }
+    requires few { length (triples_in table.now) < 2 ^ 12 }
+    ensures range { IsRange table.now result }
+    ensures cost { steps.new ≤ steps.old + 28 }
+{
+    table.range(p, steps)
+}
+
+/// How many triples have a predicate, of a table of fewer than 4096.
+fn with_predicate<L: Ledger>(table: &Table, term: &Term, blank: Blank) -> Option<usize>
+    requires name { blank.name ≡ L.name }
+    requires parts { blank.parts ≡ L.parts }
+    requires some { 0 < blank.parts }
+{
+    if table.len() >= 4096 {
+        return None;
+    }
+    let mut steps: Steps<L> = Steps::new(blank);
+    let predicate = table.id(term, &mut steps)?;
+    let pattern = IdPattern {
+        subject: None,
+        predicate: Some(predicate),
+        object: None,
+    };
+    let range = few_comparisons(table, &pattern, &mut steps);
+    Some(table.count(&range))
+}
+
+fn count_of(table: &Table, term: &Term) -> Option<usize> {
+    with_predicate::<Brand>(table, term, Blank::new(1))
+}
+
+#[test]
+fn a_range_over_some_thousand_triples_compares_seldom(rt: HostRuntime) -> Result<(), Fail> {
+    let quads = numbered(rt.alloc(), 3000)?;
+    let table = Table::build(rt.alloc(), quads.as_slice(), &Choice::Union, host(), 10000)?;
+    let p = Term::iri(rt.alloc(), "http://e/p")?;
+    let o = Term::iri(rt.alloc(), "http://e/o")?;
+    assert_eq!(rt; count_of(&table, &p), Some(3000));
+    assert_eq!(rt; count_of(&table, &o), Some(0));
     Ok(())
 }
