@@ -7,3 +7,6 @@ pub mod Values
 pub mod Faults
 pub mod Quotes
 pub mod PageTexts
+pub mod Written
+pub mod Questions
+pub mod WorkedAnswers

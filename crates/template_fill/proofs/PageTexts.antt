@@ -65,10 +65,10 @@ places-address slots = pairs-address 63 place_names (filled (codes "subject") (c
 digit-address : (b : ℕ) → is_ascii_digit b ≡ true → is_address_byte b ≡ true
 digit-address b h = unreserved-address b (digit-unreserved b h)
 
-page-address : (mark k : ℕ) → is_address_byte mark ≡ true → k < 2 ^ 64 → list_all is_address_byte (page_pair mark k) ≡ true
-page-address mark k own small = elim (k == 1) as (λ v. list_all is_address_byte (cond v [] (mark ∷ (codes "page=" ++ decimal k))) ≡ true) [
+page-address : (mark k : ℕ) → is_address_byte mark ≡ true → list_all is_ascii_digit (decimal k) ≡ true → list_all is_address_byte (page_pair mark k) ≡ true
+page-address mark k own digits = elim (k == 1) as (λ v. list_all is_address_byte (cond v [] (mark ∷ (codes "page=" ++ decimal k))) ≡ true) [
   | true ↦ refl
-  | false ↦ and_both (is_address_byte mark) _ own (list_all-wider is_ascii_digit is_address_byte digit-address (decimal k) (all_digits-decimal k small))
+  | false ↦ and_both (is_address_byte mark) _ own (list_all-wider is_ascii_digit is_address_byte digit-address (decimal k) digits)
 ]
 
 page_mark-address : (written : List ℕ) → is_address_byte (page_mark written) ≡ true
@@ -79,11 +79,16 @@ pub page_mark-ascii : (written : List ℕ) → page_mark written < 128
 page_mark-ascii [] = lit< tt
 page_mark-ascii (b ∷ written) = lit< tt
 
+-- what a page's address writes after the base
+pub more-address : (slots : Slots) (k : ℕ) → list_all is_ascii_digit (decimal k) ≡ true → list_all is_address_byte (places_text slots ++ page_pair (page_mark (places_text slots)) k) ≡ true
+more-address slots k digits =
+    rw (list_all-append is_address_byte (places_text slots) (page_pair (page_mark (places_text slots)) k), places-address slots) (page-address (page_mark (places_text slots)) k (page_mark-address (places_text slots)) digits)
+
 -- the text of a page's address is that of the base and more
 pub page_extends : (base : Address) (slots : Slots) (k mark : ℕ) (a b c : List ℕ) → k < 2 ^ 64 → a ≡ address_text base → mark ≡ page_mark (places_text slots) → b ≡ a ++ places_text slots → c ≡ b ++ page_pair mark k → Extends base c × (c ≡ page_address base slots k)
 unfolding page_address
 page_extends base slots k mark a b c small ea em eb ec =
     let more = places_text slots ++ page_pair (page_mark (places_text slots)) k in
     let text : c ≡ address_text base ++ more = rw (ec, eb, ea, em) (append_assoc (address_text base) (places_text slots) (page_pair (page_mark (places_text slots)) k)) in
-    let bytes : list_all is_address_byte more ≡ true = rw (list_all-append is_address_byte (places_text slots) (page_pair (page_mark (places_text slots)) k), places-address slots) (page-address (page_mark (places_text slots)) k (page_mark-address (places_text slots)) small) in
+    let bytes : list_all is_address_byte more ≡ true = more-address slots k (all_digits-decimal k small) in
     (record { more = more; is_text = text; bytes = bytes }, text)

@@ -7,3 +7,6 @@ pub mod Values
 pub mod WebAddress
 pub mod Pages
 pub mod Metadata
+pub mod Bodies
+pub mod Answers
+pub mod Responses

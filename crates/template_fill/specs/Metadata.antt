@@ -21,23 +21,23 @@ is_config base page_size = is_none base.query && (nat_le 1 page_size && nat_le p
 
 -- ---- terms
 
-abbrev pub foaf : List ℕ → Term
+unfoldable pub foaf : List ℕ → Term
 foaf name = Iri (codes "http://xmlns.com/foaf/0.1/" ++ name)
 
-abbrev pub void : List ℕ → Term
+unfoldable pub void : List ℕ → Term
 void name = Iri (codes "http://rdfs.org/ns/void#" ++ name)
 
-abbrev pub hydra : List ℕ → Term
+unfoldable pub hydra : List ℕ → Term
 hydra name = Iri (codes "http://www.w3.org/ns/hydra/core#" ++ name)
 
-abbrev pub rdf : List ℕ → Term
+unfoldable pub rdf : List ℕ → Term
 rdf name = Iri (codes "http://www.w3.org/1999/02/22-rdf-syntax-ns#" ++ name)
 
 abbrev pub plain : List ℕ → Term
 plain form = Literal form Plain
 
 -- a number as xsd:integer
-abbrev pub integer : ℕ → Term
+unfoldable pub integer : ℕ → Term
 integer n = Literal (decimal n) (typed_kind (codes "http://www.w3.org/2001/XMLSchema#integer"))
 
 abbrev pub statement : List ℕ → Term → Term → Term → Quad
@@ -46,7 +46,7 @@ statement graph subject predicate object = record { triple = record { subject = 
 -- ---- quads; graph, page, first, base are texts of addresses
 
 -- the page is what the graph is about; the data set has the fragment as a part, and a form
-abbrev pub topic_quads : List ℕ → List ℕ → List ℕ → List ℕ → List Quad
+unfoldable pub topic_quads : List ℕ → List ℕ → List ℕ → List ℕ → List Quad
 topic_quads graph page first base =
     statement graph (Iri graph) (foaf (codes "primaryTopic")) (Iri page)
     ∷ statement graph (Iri (base ++ codes "#dataset")) (void (codes "subset")) (Iri first)
@@ -54,14 +54,14 @@ topic_quads graph page first base =
     ∷ []
 
 -- the form has a template of explicit forms
-abbrev pub form_quads : List ℕ → List ℕ → List Quad
+unfoldable pub form_quads : List ℕ → List ℕ → List Quad
 form_quads graph template =
     statement graph (Blank (codes "form")) (hydra (codes "template")) (plain template)
     ∷ statement graph (Blank (codes "form")) (hydra (codes "variableRepresentation")) (hydra (codes "ExplicitRepresentation"))
     ∷ []
 
 -- a variable of the form stands for a place of a triple
-abbrev pub mapping_quads : List ℕ → List ℕ → List ℕ → List Quad
+unfoldable pub mapping_quads : List ℕ → List ℕ → List ℕ → List Quad
 mapping_quads graph label name =
     statement graph (Blank (codes "form")) (hydra (codes "mapping")) (Blank label)
     ∷ statement graph (Blank label) (hydra (codes "variable")) (plain name)
@@ -69,7 +69,7 @@ mapping_quads graph label name =
     ∷ []
 
 -- the page is a part of the fragment, which has so many triples
-abbrev pub count_quads : List ℕ → List ℕ → List ℕ → ℕ → List Quad
+unfoldable pub count_quads : List ℕ → List ℕ → List ℕ → ℕ → List Quad
 count_quads graph page first count =
     statement graph (Iri first) (void (codes "subset")) (Iri page)
     ∷ statement graph (Iri page) (hydra (codes "totalItems")) (integer count)
@@ -77,7 +77,7 @@ count_quads graph page first count =
     ∷ statement graph (Iri page) (hydra (codes "first")) (Iri first)
     ∷ []
 
-abbrev pub link_quads : Bool → List ℕ → List ℕ → List ℕ → List ℕ → List Quad
+unfoldable pub link_quads : Bool → List ℕ → List ℕ → List ℕ → List ℕ → List Quad
 link_quads there graph page name target = if there then statement graph (Iri page) (hydra name) (Iri target) ∷ [] else []
 
 -- the metadata of page k of a fragment with so many triples; the version of the data is passed over

@@ -15,7 +15,7 @@ pub use address::{WebAddress, an_address_is_one};
 pub use explicit_form::{explicit, explicit_forms_read_back, read_explicit};
 pub use fault::{AddressFault, TemplateFault, ValueFault};
 pub use form::Form;
-pub use page::{first_page_is_expansion, page_address};
+pub use page::{address_reads_back, first_page_is_expansion, page_address};
 pub use template::Template;
 pub use value::{VALUE, Value};
 

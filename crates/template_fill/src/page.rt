@@ -4,6 +4,7 @@ ghost use Rattle.std.specs.String.{string_bytes};
 ghost use Rattle.tpf_base.specs.Addresses.{IsAddress};
 ghost use Rattle.template_fill.specs.Forms.{HasNoBlank, HasNoBlankSlot};
 ghost use Rattle.template_fill.specs.Templates.{next_mark, pair_text};
+ghost use Rattle.template_fill.specs.Answers.{ReadsAddress};
 ghost use Rattle.template_fill.specs.Pages.{FirstPageIsExpansion, page_address, page_mark, page_pair, places_text, slot_text};
 
 use crate::WebAddress;
@@ -84,4 +85,10 @@ pub fn page_address(
 /// Page 1 has the address that the server's template expands to.
 pub fn first_page_is_expansion()
     ensures { FirstPageIsExpansion }
+{}
+
+/// The target of the address of a page is on the path of the base and asks for the slots and the
+/// number of that page, where no slot has a blank node.
+pub fn address_reads_back()
+    ensures { ReadsAddress }
 {}

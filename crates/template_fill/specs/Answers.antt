@@ -1,0 +1,184 @@
+-- The answer to a request head (Triple Pattern Fragments, "Controls" and "Paging"; RFC 9110, 9.3, 15.3 and 15.5).
+use Rattle.std.specs.Prelude.{ℕ, ◌≡◌, ◌≤◌, ◌<◌, ◌^◌, Bool, true, ◌==◌, ◌&&◌, not, nat_le, List, [], ◌∷◌, ◌++◌, map, filter, length, codes, decimal, bytes_eq, Option, Some, None, unwrap_or, Result, Ok, Err, if◌then◌else◌}
+use Rattle.std.specs.List.{list_all}
+use Rattle.std.specs.Char.{is_ascii_digit}
+use Rattle.std.specs.Str.{IsUtf8}
+use Rattle.std.specs.Str.Parse.{digits_value}
+use Rattle.std.specs.Str.Lossy.{utf8_lossy}
+use Rattle.form_urlencoded.specs.Form.{raw_pairs, decode}
+use Rattle.tpf_base.specs.Addresses.{Address, IsAddress, target_of}
+use Rattle.tpf_base.specs.HttpHeads.{Request}
+use Rattle.tpf_base.specs.HttpText.{answer_head}
+use Rattle.rdf_terms.specs.declared.term.Triple.{Triple}
+use Rattle.rdf_terms.specs.declared.slots.Slot.{Slot}
+use Rattle.rdf_terms.specs.declared.slots.Slot.TheVariants.{Any, Fixed}
+use Rattle.rdf_terms.specs.declared.slots.Slots.{Slots}
+use Rattle.rdf_terms.specs.Fragments.{last_page}
+use Rattle.template_fill.specs.ReadAddress.{path_of, query_of, when, ◌>>=◌}
+use Rattle.template_fill.specs.Explicit.{IsNoBlank, IsValid, explicit_form, slot_of}
+use Rattle.template_fill.specs.Metadata.{Config}
+use Rattle.template_fill.specs.Pages.{page_address}
+use Rattle.template_fill.specs.Bodies.{version_of, page_body}
+use Rattle.template_fill.specs.declared.fault.ValueFault.{ValueFault}
+
+-- ---- what is asked for
+
+-- the fragment of these slots, and a page of it
+pub record Question : Type 0 where
+  pub slots : Slots
+  pub page : ℕ
+
+-- a name or a value as it is read: `+` is a space, a bad escape stays, what is not UTF-8 becomes U+FFFD
+abbrev pub form_text : List ℕ → List ℕ
+form_text bytes = utf8_lossy (decode bytes)
+
+-- the names and values of a target's query part (URL Standard, 5.1)
+unfoldable pub parameters : List ℕ → List (List ℕ × List ℕ)
+parameters target = map (λ p. (form_text p.0, form_text p.1)) (raw_pairs (unwrap_or (query_of target) []))
+
+-- the values given under a name
+abbrev pub values_under : List ℕ → List (List ℕ × List ℕ) → List (List ℕ)
+values_under name pairs = map (λ p. p.1) (filter (λ p. bytes_eq p.0 name) pairs)
+
+-- the one value, which is empty where none is given; None for more than one
+abbrev pub one_value : List (List ℕ) → Option (List ℕ)
+one_value [] = Some []
+one_value (value ∷ []) = Some value
+one_value (value ∷ other ∷ more) = None
+
+abbrev pub accepted : Result Slot ValueFault → Option Slot
+accepted (Ok slot) = Some slot
+accepted (Err fault) = None
+
+-- the slot of the one value under a name
+abbrev pub slot_under : List ℕ → List (List ℕ × List ℕ) → Option Slot
+slot_under name pairs = one_value (values_under name pairs) >>= (λ value. accepted (slot_of value))
+
+-- digits of a number above 0; page 1 where there are none
+abbrev pub page_number : List ℕ → Option ℕ
+page_number [] = Some 1
+page_number (b ∷ digits) =
+    when (list_all is_ascii_digit (b ∷ digits) && nat_le 1 (digits_value 10 (b ∷ digits))) (digits_value 10 (b ∷ digits))
+
+-- what parameters ask for; None where they give a name twice, a value that is no slot, or no number of a page
+abbrev pub asked_by : List (List ℕ × List ℕ) → Option Question
+asked_by pairs = do
+  subject ← slot_under (codes "subject") pairs
+  predicate ← slot_under (codes "predicate") pairs
+  object ← slot_under (codes "object") pairs
+  page ← one_value (values_under (codes "page") pairs) >>= page_number
+  Some (record { slots = record { subject = subject; predicate = predicate; object = object }; page = page })
+
+-- what a target asks for
+unfoldable pub question_of : List ℕ → Option Question
+question_of target = asked_by (parameters target)
+
+-- ---- answers
+
+-- a status and a body
+pub record Answer : Type 0 where
+  pub status : ℕ
+  pub body : List ℕ
+
+-- the phrase of each status that is answered (RFC 9110, 15; RFC 6585, 5)
+unfoldable pub phrase : ℕ → List ℕ
+phrase status =
+    if status == 200 then codes "OK"
+    else (if status == 400 then codes "Bad Request"
+    else (if status == 404 then codes "Not Found"
+    else (if status == 405 then codes "Method Not Allowed"
+    else (if status == 431 then codes "Request Header Fields Too Large"
+    else []))))
+
+-- the status, its phrase and LF as body
+abbrev pub refusal : ℕ → Answer
+refusal status = record { status = status; body = decimal status ++ 32 ∷ (phrase status ++ 10 ∷ []) }
+
+-- how an answer stands: over the data of a version; a reload that failed, or that met want of memory
+pub data Mark : Type 0 where
+  Served : ℕ → Mark
+  Failed : ℕ → Mark
+  Starved : ℕ → Mark
+
+-- the version of a mark
+abbrev pub version_at : Mark → ℕ
+version_at (Served version) = version
+version_at (Failed version) = version
+version_at (Starved version) = version
+
+-- the page that is asked for, or that it is past the last
+abbrev pub page_answer : List (List Triple) → ℕ → Config → Question → Answer
+page_answer history version config question =
+    if nat_le question.page (last_page (version_of history version) question.slots config.page_size)
+    then record { status = 200; body = page_body history version config question.slots question.page }
+    else refusal 404
+
+abbrev pub answer_if : List (List Triple) → ℕ → Config → Option Question → Answer
+answer_if history version config None = refusal 400
+answer_if history version config (Some question) = page_answer history version config question
+
+-- GET and HEAD
+abbrev pub is_read : List ℕ → Bool
+is_read method = if bytes_eq method (codes "GET") then true else bytes_eq method (codes "HEAD")
+
+-- the first that applies: another method than GET and HEAD; another path than the base's; parameters that ask for nothing; a page past the last; the page
+unfoldable pub answer_to : List (List Triple) → Mark → Config → Request → Answer
+answer_to history mark config request =
+    if not (is_read request.method) then refusal 405
+    else (if not (bytes_eq (path_of request.target) config.base.path) then refusal 404
+    else answer_if history (version_at mark) config (question_of request.target))
+
+-- ---- the bytes of an answer
+
+-- N-Quads for a page, text for all else
+abbrev pub media_type : ℕ → List ℕ
+media_type status = if status == 200 then codes "application/n-quads" else codes "text/plain"
+
+abbrev pub field_if : Bool → List ℕ → List ℕ → List (List ℕ × List ℕ)
+field_if there name value = if there then (name, value) ∷ [] else []
+
+-- the fields of an answer in their order (RFC 9110, 8.3, 8.6 and 10.2.1; RFC 9112, 9.6)
+unfoldable pub answer_fields : ℕ → ℕ → Bool → List (List ℕ × List ℕ)
+answer_fields status body_length closes =
+    (codes "Content-Type", media_type status)
+    ∷ (codes "Content-Length", decimal body_length)
+    ∷ field_if (status == 405) (codes "Allow") (codes "GET, HEAD")
+    ++ field_if closes (codes "Connection") (codes "close")
+
+-- the head of an answer whose body has this length
+unfoldable pub head_text : ℕ → ℕ → Bool → List ℕ
+head_text status body_length closes = answer_head (decimal status) (phrase status) (answer_fields status body_length closes)
+
+-- the head, and the body unless it was asked for without one
+unfoldable pub answer_text : Answer → Bool → Bool → List ℕ
+answer_text answer without_body closes =
+    head_text answer.status (length answer.body) closes ++ (if without_body then [] else answer.body)
+
+-- ---- the law
+
+-- the base of a server: an address without a query
+pub record IsBase (base : Address) : Type 0 where
+  pub text : List ℕ
+  pub address : IsAddress text base
+  pub no_query : base.query ≡ None
+
+-- a slot that is free, or fixed to an IRI or a literal as it is kept, whose explicit form is UTF-8
+abbrev pub IsKeptSlot : Slot → Type 0
+IsKeptSlot Any = Unit {0}
+IsKeptSlot (Fixed term) = IsNoBlank term × IsValid term × IsUtf8 (explicit_form term)
+
+pub record AreKept (slots : Slots) : Type 0 where
+  pub subject : IsKeptSlot slots.subject
+  pub predicate : IsKeptSlot slots.predicate
+  pub object : IsKeptSlot slots.object
+
+-- the target asks for this page of the fragment of these slots, on the path of the base
+pub record AsksFor (base : Address) (slots : Slots) (k : ℕ) (target : List ℕ) : Type 0 where
+  pub path : path_of target ≡ base.path
+  pub question : question_of target ≡ Some (record { slots = slots; page = k })
+
+-- the address of a page asks for that page; `decimal` writes the numbers below 10 ^ 64
+abbrev pub ReadsAddress : Type 0
+ReadsAddress =
+    (base : Address) (slots : Slots) (k : ℕ) (address : Address) → IsBase base → AreKept slots → 1 ≤ k → k < 10 ^ 64
+    → IsAddress (page_address base slots k) address → AsksFor base slots k (target_of address)
