@@ -1,0 +1,5 @@
+pub mod Iris
+pub mod Labels
+pub mod Lists
+pub mod PageAddresses
+pub mod Classes

@@ -1,0 +1,10 @@
+-- A law of the metadata: their quads are RDF.
+use Rattle.std.specs.Prelude.{ℕ}
+use Rattle.std.specs.List.{AllByRecursion}
+use Rattle.rdf_terms.specs.Triples.{IsRdfQuad}
+use Rattle.rdf_terms.specs.declared.slots.Slots.{Slots}
+use Rattle.template_fill.specs.Metadata.{Config, page_metadata}
+
+-- subjects are IRIs or blank nodes, predicates are IRIs
+abbrev pub MetadataIsRdf : Type 0
+MetadataIsRdf = (config : Config) (slots : Slots) (k count version : ℕ) → AllByRecursion IsRdfQuad (page_metadata config slots k count version)

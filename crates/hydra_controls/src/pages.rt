@@ -1,0 +1,137 @@
+// The addresses and the metadata of pages.
+ghost use Rattle.std.specs.Prelude.{ℕ, ◌≡◌, ◌≤◌, ◌++◌, IfOk, OnOk};
+ghost use Rattle.rdf_terms.specs.Fragments.{last_page_of};
+ghost use Rattle.tpf_base.specs.Addresses.{IsAddress, address_text};
+ghost use Rattle.template_fill.specs.Forms.{HasNoBlank};
+ghost use Rattle.template_fill.specs.Pages.{page_address};
+ghost use Rattle.template_fill.specs.Metadata.{page_metadata};
+ghost use Rattle.hydra_controls.specs.Controls.{controls, next_link, previous_link};
+
+use crate::Config;
+use crate::statements::{add_count, add_form, add_link, add_mapping, add_topic};
+use rdf_terms::{Quad, Slots};
+use std::alloc::Global;
+use template_fill::{WebAddress, page_address};
+use tpf_base::OutOfMemory;
+
+/// The address of a page of the fragment with these slots (Triple Pattern Fragments, "Paging"):
+/// the base with the fixed places in a query part, and above page 1 with `page=` and the number.
+/// No fixed place is a blank node, and the page is 1 or more.
+///
+/// `OutOfMemory` comes for want of memory alone.
+pub fn address(
+    alloc: Global,
+    config: &Config,
+    slots: &Slots,
+    page: u64,
+) -> Result<WebAddress, OutOfMemory>
+    requires slots { HasNoBlank slots.now }
+    requires page { 1 ≤ page }
+    ensures text { IfOk result (λ address. address_text address ≡ page_address config.now.base slots.now page) }
+    ensures address { IfOk result (λ address. IsAddress (page_address config.now.base slots.now page) address) }
+{
+    let base = config.base();
+    // It shows that the base is an address in its normal form, and so is what goes on from it.
+    let _text = base.text();
+    page_address(alloc, base, slots, page)
+}
+
+/// What each page of a fragment says, apart from its links.
+fn controls(
+    alloc: Global,
+    base: &WebAddress,
+    page: &WebAddress,
+    first: &WebAddress,
+    count: u64,
+) -> Result<Vec<Quad>, OutOfMemory>
+    ensures { IfOk result (λ quads. quads.items ≡ controls base.now page.now first.now count) }
+{
+    let mut quads = Vec::with_capacity(alloc, 20)?;
+    add_topic(alloc, &mut quads, base, page, first)?;
+    add_form(alloc, &mut quads, base, page)?;
+    add_mapping(alloc, &mut quads, page, "s", "subject")?;
+    add_mapping(alloc, &mut quads, page, "p", "predicate")?;
+    add_mapping(alloc, &mut quads, page, "o", "object")?;
+    add_count(alloc, &mut quads, page, first, count)?;
+    Ok(quads)
+}
+
+/// The last page of so many triples, of which a page has at most `size`.
+fn last_page(count: u64, size: u64) -> u64
+    requires { 1 ≤ size }
+    ensures { result ≡ last_page_of count size }
+{
+    count.div_ceil(size).max(1)
+}
+
+/// Adds the link to the next page, unless this is the last.
+fn add_next(
+    alloc: Global,
+    quads: &mut Vec<Quad>,
+    config: &Config,
+    slots: &Slots,
+    this: &WebAddress,
+    page: u64,
+    count: u64,
+) -> Result<(), OutOfMemory>
+    requires slots { HasNoBlank slots.now }
+    requires page { 1 ≤ page }
+    ensures { OnOk result (quads.new.items ≡ quads.old.items ++ next_link config.now slots.now this.now page count) }
+{
+    let last = last_page(count, config.page_size());
+    if page >= last {
+        return Ok(());
+    }
+    let next = address(alloc, config, slots, page + 1)?;
+    add_link(alloc, quads, this, "next", &next)?;
+    Ok(())
+}
+
+/// Adds the link to the previous page, unless this is the first.
+fn add_previous(
+    alloc: Global,
+    quads: &mut Vec<Quad>,
+    config: &Config,
+    slots: &Slots,
+    this: &WebAddress,
+    page: u64,
+) -> Result<(), OutOfMemory>
+    requires slots { HasNoBlank slots.now }
+    requires page { 1 ≤ page }
+    ensures { OnOk result (quads.new.items ≡ quads.old.items ++ previous_link config.now slots.now this.now page) }
+{
+    if page == 1 {
+        return Ok(());
+    }
+    let previous = address(alloc, config, slots, page - 1)?;
+    add_link(alloc, quads, this, "previous", &previous)?;
+    Ok(())
+}
+
+/// The metadata of a page of the fragment with these slots, which has so many triples: 18 to 20
+/// quads of the graph that is named by the page's address and `#metadata` (Triple Pattern
+/// Fragments, "Metadata" and "Controls"; Hydra Core Vocabulary). They say what the page is about,
+/// how many triples its fragment has, where the first, next and previous pages are, and by which
+/// form the other fragments are asked for. The version of the data does not show in them.
+///
+/// No fixed place is a blank node, and the page is one of 1 to the fragment's last.
+/// `OutOfMemory` comes for want of memory alone.
+pub fn metadata(
+    alloc: Global,
+    config: &Config,
+    slots: &Slots,
+    page: u64,
+    count: u64,
+) -> Result<Vec<Quad>, OutOfMemory>
+    requires slots { HasNoBlank slots.now }
+    requires page { 1 ≤ page }
+    requires last { page ≤ last_page_of count config.now.page_size }
+    ensures { IfOk result (λ quads. (version : ℕ) → quads.items ≡ page_metadata config.now slots.now page count version) }
+{
+    let this = address(alloc, config, slots, page)?;
+    let first = address(alloc, config, slots, 1)?;
+    let mut quads = controls(alloc, config.base(), &this, &first, count)?;
+    add_next(alloc, &mut quads, config, slots, &this, page, count)?;
+    add_previous(alloc, &mut quads, config, slots, &this, page)?;
+    Ok(quads)
+}
