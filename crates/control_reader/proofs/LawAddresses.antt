@@ -1,0 +1,190 @@
+-- The base of a server, and the texts of addresses that begin with its text.
+use Rattle.std.proofs.Common.{◌≡◌, ℕ, ◌<◌, List, [], ◌∷◌, ◌++◌, Bool, true, false, ◌==◌, ◌&&◌, ◌||◌, cond, if◌then◌else◌, nat_le, Some, Option, length, refl, sym, ◌∙◌, ap, subst, arith, inl, inr, append_assoc}
+use Rattle.std.specs.Prelude.{codes, decimal}
+use Rattle.std.specs.List.{list_all, prefix_len}
+use Rattle.std.specs.Char.{is_ascii, is_ascii_digit}
+use Rattle.std.proofs.lemmas.List.Folds.{list_all-append}
+use Rattle.std.proofs.lemmas.Bool.Decides.{nat_tests}
+use Rattle.std.proofs.Math.Seq.{drop-append_seam, take-append_seam}
+use Rattle.rdf_terms.specs.Iri.{is_iri, is_iri_byte, is_letter, is_scheme_byte, has_colon, has_scheme}
+use Rattle.rdf_terms.specs.declared.slots.Slots.{Slots}
+use Rattle.tpf_base.specs.Addresses.{Address, IsAddress, IsPortTyped, is_host_byte, is_host, is_address_byte, is_path_byte, is_path, is_query_part, query_text, authority_text, authority_of, target_of, address_text}
+use Rattle.template_fill.specs.ReadAddress.{read_spelled, with_target}
+use Rattle.template_fill.specs.WebAddress.{IsNormal, Extends, port_text, is_lower}
+use Rattle.template_fill.specs.Forms.{filled}
+use Rattle.template_fill.specs.Pages.{page_address, place_names, places_text, page_mark, page_pair}
+use Rattle.template_fill.proofs.Addresses.{and_left, and_right, and_both, all_host, is_host-lower, is_lower-lower, not_empty, authority-port, is_port_typed, normal_is_address, keeps, kept_iri, is_ascii-address, iri_byte-address}
+use Rattle.template_fill.proofs.Reading.{prefix_len-front, after_scheme-of, IsTail, is_tail, port_part-of, one_address}
+use Rattle.template_fill.proofs.Passing.{list_all-wider}
+use Rattle.template_fill.proofs.Values.{pairs-address, unreserved-address, digit-unreserved}
+use Rattle.control_reader.proofs.LawNumbers.{all_digits}
+
+-- ---- the base in its normal form
+
+pub record RootedPath (path : List ℕ) : Type 0 where
+  pub after : List ℕ
+  pub is_path : path ≡ 47 ∷ after
+  pub bytes : list_all is_path_byte after ≡ true
+
+rooted_path : (typed : List ℕ) → is_path typed ≡ true → RootedPath (if length typed == 0 then codes "/" else typed)
+rooted_path [] h = record { after = []; is_path = refl; bytes = refl }
+rooted_path (b ∷ rest) h =
+    let slash : b ≡ 47 = grind (arith, nat_tests, and_left (b == 47) _ h) in
+    record { after = rest; is_path = rw (not_empty b rest) (ap (λ x. x ∷ rest) slash); bytes = and_right (b == 47) _ h }
+
+pub port_bounds : (typed : List ℕ) (port : ℕ) → IsPortTyped typed port → (0 < port) × (port < 65536)
+port_bounds typed port (inl h) = (omega (arith, h.1), omega (arith, h.1))
+port_bounds typed port (inr h) = (grind (arith, nat_tests, and_left (nat_le 1 port) _ h.1), grind (arith, nat_tests, and_right (nat_le 1 port) _ h.1))
+
+target_normal : (host path : List ℕ) (port : ℕ) (query : Option (List ℕ)) → is_host host ≡ true → is_lower host ≡ true → 0 < port → port < 65536 → RootedPath path → is_query_part query ≡ true → IsNormal host port (path ++ query_text query)
+target_normal host path port query own lower low high root asked =
+    let tail = is_tail (47 ∷ root.after) query root.bytes asked in
+    record {
+      is_host = own;
+      lower = lower;
+      low = low;
+      high = high;
+      after_slash = root.after ++ query_text query;
+      slash = ap (λ front. front ++ query_text query) root.is_path;
+      bytes = tail.rest;
+    }
+
+-- an address that is read from its own text has the parts of the normal form
+pub base_normal : (base : Address) → IsAddress (address_text base) base → IsNormal base.host base.port (target_of base)
+base_normal base r =
+    let bounds = port_bounds r.typed_port base.port r.port in
+    let root : RootedPath base.path = subst RootedPath (sym r.path_kept) (rooted_path r.typed_path r.path) in
+    target_normal base.host base.path base.port base.query (rw r.host_kept (is_host-lower r.typed_host r.host)) (rw r.host_kept (is_lower-lower r.typed_host)) bounds.0 bounds.1 root r.query
+
+pub text_is : (base : Address) → address_text base ≡ codes "http://" ++ (authority_text base.host base.port ++ target_of base)
+text_is base = refl
+
+-- ---- texts that are IRIs of ASCII
+
+pub record IsWeb (text : List ℕ) : Type 0 where
+  pub iri : is_iri text ≡ true
+  pub ascii : list_all is_ascii text ≡ true
+
+normal_web : (host target : List ℕ) (port : ℕ) → IsNormal host port target → IsWeb (codes "http://" ++ (authority_text host port ++ target))
+normal_web host target port n =
+    let text = codes "http://" ++ (authority_text host port ++ target) in
+    let kept = (keeps text host target (length host) (length (authority_text host port)) port n refl refl refl).0 in
+    record { iri = kept_iri text (length host) (length (authority_text host port)) port kept; ascii = kept.ascii }
+
+pub base_web : (base : Address) → IsAddress (address_text base) base → IsWeb (address_text base)
+base_web base h = normal_web base.host (target_of base) base.port (base_normal base h)
+
+has_colon-more : (text more : List ℕ) → has_colon text ≡ true → has_colon (text ++ more) ≡ true
+has_colon-more [] more h = absurd (cc)
+has_colon-more (b ∷ text) more h =
+    let go : (c d : Bool) → c || (d && has_colon text) ≡ true → c || (d && has_colon (text ++ more)) ≡ true =
+    λ c d. elim c as (λ v. v || (d && has_colon text) ≡ true → v || (d && has_colon (text ++ more)) ≡ true) [
+      | true ↦ λ _. refl
+      | false ↦ λ both. and_both d _ (and_left d _ both) (has_colon-more text more (and_right d _ both))
+    ] in
+    go (b == 58) (is_scheme_byte b) h
+
+has_scheme-more : (text more : List ℕ) → has_scheme text ≡ true → has_scheme (text ++ more) ≡ true
+has_scheme-more [] more h = absurd (cc)
+has_scheme-more (b ∷ text) more h = and_both (is_letter b) _ (and_left (is_letter b) _ h) (has_colon-more text more (and_right (is_letter b) _ h))
+
+-- more bytes of an IRI
+pub web_more : (text more : List ℕ) → IsWeb text → list_all is_iri_byte more ≡ true → list_all is_ascii more ≡ true → IsWeb (text ++ more)
+web_more text more h iri ascii =
+    let bytes = and_left (list_all is_iri_byte text) (has_scheme text) h.iri in
+    let scheme = and_right (list_all is_iri_byte text) (has_scheme text) h.iri in
+    record {
+      iri = and_both (list_all is_iri_byte (text ++ more)) _ (rw (list_all-append is_iri_byte text more, bytes) iri) (has_scheme-more text more scheme);
+      ascii = rw (list_all-append is_ascii text more, h.ascii) ascii;
+    }
+
+pub extends_web : (base : Address) (text : List ℕ) → IsAddress (address_text base) base → Extends base text → IsWeb text
+extends_web base text h e =
+    rw e.is_text (web_more (address_text base) e.more (base_web base h) (list_all-wider is_address_byte is_iri_byte iri_byte-address e.more e.bytes) (list_all-wider is_address_byte is_ascii is_ascii-address e.more e.bytes))
+
+-- ---- addresses that go on
+
+longer_normal : (base : Address) (more : List ℕ) → IsNormal base.host base.port (target_of base) → list_all is_address_byte more ≡ true → IsNormal base.host base.port (target_of base ++ more)
+longer_normal base more n bytes = record {
+  is_host = n.is_host;
+  lower = n.lower;
+  low = n.low;
+  high = n.high;
+  after_slash = n.after_slash ++ more;
+  slash = ap (λ front. front ++ more) n.slash;
+  bytes = rw (list_all-append is_address_byte n.after_slash more, n.bytes) bytes;
+}
+
+-- the address of such a text
+pub longer : (base : Address) (text : List ℕ) → Extends base text → Address
+longer base text e = with_target base.host base.port (target_of base ++ e.more)
+
+pub longer_is : (base : Address) (text : List ℕ) → IsAddress (address_text base) base → (e : Extends base text) → IsAddress text (longer base text e)
+unfolding longer
+longer_is base text h e =
+    let own = normal_is_address base.host (target_of base ++ e.more) base.port (longer_normal base e.more (base_normal base h) e.bytes) in
+    let is : codes "http://" ++ (authority_text base.host base.port ++ (target_of base ++ e.more)) ≡ text =
+    ap (λ rest. codes "http://" ++ rest) (sym (append_assoc (authority_text base.host base.port) (target_of base) e.more)) ∙ sym e.is_text in
+    subst (λ (x : List ℕ). IsAddress x (with_target base.host base.port (target_of base ++ e.more))) is own
+
+longer_authority : (base : Address) (text : List ℕ) (e : Extends base text) → authority_of (longer base text e) ≡ authority_of base
+unfolding longer
+longer_authority base text e = refl
+
+-- an address whose text goes on from that of the base has its authority
+pub same_authority : (base next : Address) (text : List ℕ) → IsAddress (address_text base) base → Extends base text → IsAddress text next → authority_of next ≡ authority_of base
+same_authority base next text h e is = ap authority_of (one_address text next (longer base text e) is (longer_is base text h e)) ∙ longer_authority base text e
+
+-- ---- the texts of pages
+
+digit_address : (b : ℕ) → is_ascii_digit b ≡ true → is_address_byte b ≡ true
+digit_address b h = unreserved-address b (digit-unreserved b h)
+
+pair_bytes : (mark k : ℕ) → is_address_byte mark ≡ true → list_all is_address_byte (page_pair mark k) ≡ true
+pair_bytes mark k own = elim (k == 1) as (λ v. list_all is_address_byte (cond v [] (mark ∷ (codes "page=" ++ decimal k))) ≡ true) [
+  | true ↦ refl
+  | false ↦ and_both (is_address_byte mark) _ own (list_all-wider is_ascii_digit is_address_byte digit_address (decimal k) (all_digits k))
+]
+
+mark_byte : (written : List ℕ) → is_address_byte (page_mark written) ≡ true
+mark_byte [] = refl
+mark_byte (b ∷ written) = refl
+
+places_bytes : (slots : Slots) → list_all is_address_byte (places_text slots) ≡ true
+unfolding places_text
+places_bytes slots = pairs-address 63 place_names (filled (codes "subject") (codes "predicate") (codes "object") slots) refl refl
+
+-- they go on from that of the base
+pub page_longer : (base : Address) (slots : Slots) (k : ℕ) → Extends base (page_address base slots k)
+unfolding page_address
+page_longer base slots k =
+    let pair = page_pair (page_mark (places_text slots)) k in
+    record {
+      more = places_text slots ++ pair;
+      is_text = refl;
+      bytes = rw (list_all-append is_address_byte (places_text slots) pair, places_bytes slots) (pair_bytes (page_mark (places_text slots)) k (mark_byte (places_text slots)));
+    }
+
+-- ---- reading the base
+
+no_host_front : (typed tail : List ℕ) (port : ℕ) → IsPortTyped typed port → IsTail tail → prefix_len is_host_byte (typed ++ tail) ≡ 0
+no_host_front typed tail port (inl h) t = rw h.0 t.host
+no_host_front typed tail port (inr h) t = rw h.0 refl
+
+spelled_of : (host typed tail : List ℕ) (port : ℕ) → is_host host ≡ true → IsPortTyped typed port → IsTail tail → read_spelled (codes "http://" ++ (host ++ (typed ++ tail))) ≡ Some (record { host = host; port = port; rest = tail })
+unfolding read_spelled
+spelled_of host typed tail port h p t =
+    let len = prefix_len-front is_host_byte host (typed ++ tail) (all_host host h) (no_host_front typed tail port p t) in
+    rw (after_scheme-of (host ++ (typed ++ tail)), len, take-append_seam host (typed ++ tail), h, drop-append_seam host (typed ++ tail), port_part-of typed tail port p t, t.rest) refl
+
+slash_tail : (after : List ℕ) → list_all is_address_byte after ≡ true → IsTail (47 ∷ after)
+slash_tail after all = record { rest = all; host = refl; digit = refl }
+
+pub normal_spelled : (host target : List ℕ) (port : ℕ) → IsNormal host port target → read_spelled (codes "http://" ++ (authority_text host port ++ target)) ≡ Some (record { host = host; port = port; rest = target })
+normal_spelled host target port n =
+    let tail : IsTail target = rw n.slash (slash_tail n.after_slash n.bytes) in
+    rw (authority-port host port, append_assoc host (port_text port) target) (spelled_of host (port_text port) target port n.is_host (is_port_typed port n.low n.high) tail)
+
+-- the parts of the base make the base again
+pub base_parts : (base : Address) → IsAddress (address_text base) base → with_target base.host base.port (target_of base) ≡ base
+base_parts base h = one_address (address_text base) (with_target base.host base.port (target_of base)) base (normal_is_address base.host (target_of base) base.port (base_normal base h)) h

@@ -1,0 +1,49 @@
+-- One item more of a list that is gone through.
+use Rattle.std.proofs.Common.{ℕ, ◌≡◌, ◌+◌, ◌<◌, List, [], ◌∷◌, ◌++◌, length, take, get_or, map, refl, ap, sym, ◌∙◌, append-nil, add-one, Option, Some, None}
+use Rattle.std.proofs.Math.Seq.{take-suc}
+use Rattle.std.specs.List.{filter_map}
+
+pub map-append : {X Y : Type 0} (f : X → Y) (xs ys : List X) → map f (xs ++ ys) ≡ map f xs ++ map f ys
+map-append f [] ys = refl
+map-append f (x ∷ xs) ys = ap (λ l. f x ∷ l) (map-append f xs ys)
+
+filter_map-append : {X Y : Type 0} (f : X → Option Y) (xs ys : List X) → filter_map f (xs ++ ys) ≡ filter_map f xs ++ filter_map f ys
+filter_map-append {X} {Y} f [] ys = refl
+filter_map-append {X} {Y} f (x ∷ xs) ys = by (f x) refl (filter_map-append f xs ys)
+  where
+    by : (o : Option Y) → f x ≡ o → filter_map f (xs ++ ys) ≡ filter_map f xs ++ filter_map f ys → filter_map f ((x ∷ xs) ++ ys) ≡ filter_map f (x ∷ xs) ++ filter_map f ys
+    by None e ih = rw e ih
+    by (Some y) e ih = rw e (ap (λ l. y ∷ l) ih)
+
+-- one item more
+pub taken_more : {X : Type 0} (all : List X) (i : ℕ) (x : X) → i < length all → x ≡ get_or all i x → take (i + 1) all ≡ take i all ++ x ∷ []
+taken_more all i x below at = rw add-one (take-suc all i x below ∙ ap (λ y. take i all ++ y ∷ []) (sym at))
+
+module _ {X Y Z : Type 0} (v : Z → Y) (f : X → Option Y) (all : List X) (i : ℕ) (x : X) (old new : List Z) (below : i < length all) (at : x ≡ get_or all i x) (so_far : map v old ≡ filter_map f (take i all)) where
+  more : filter_map f (take (i + 1) all) ≡ filter_map f (take i all) ++ filter_map f (x ∷ [])
+  more = ap (filter_map f) (taken_more all i x below at) ∙ filter_map-append f (take i all) (x ∷ [])
+
+  pub listed_some : (z : Z) → f x ≡ Some (v z) → new ≡ old ++ z ∷ [] → map v new ≡ filter_map f (take (i + 1) all)
+  listed_some z e added =
+      let last : filter_map f (x ∷ []) ≡ v z ∷ [] = rw e refl in
+      ap (map v) added ∙ map-append v old (z ∷ []) ∙ ap (λ (l : List Y). l ++ v z ∷ []) so_far ∙ sym (more ∙ ap (λ (l : List Y). filter_map f (take i all) ++ l) last)
+
+  pub listed_none : f x ≡ None → new ≡ old → map v new ≡ filter_map f (take (i + 1) all)
+  listed_none e same =
+      let last : filter_map f (x ∷ []) ≡ [] = rw e refl in
+      ap (map v) same ∙ so_far ∙ sym (append-nil (filter_map f (take i all))) ∙ sym (more ∙ ap (λ (l : List Y). filter_map f (take i all) ++ l) last)
+
+pub filter_map-map : {W X Y : Type 0} (f : X → Option Y) (g : W → X) (xs : List W) → filter_map f (map g xs) ≡ filter_map (λ w. f (g w)) xs
+filter_map-map f g [] = refl
+filter_map-map {W} {X} {Y} f g (x ∷ xs) = by (f (g x)) refl (filter_map-map f g xs)
+  where
+    by : (o : Option Y) → f (g x) ≡ o → filter_map f (map g xs) ≡ filter_map (λ w. f (g w)) xs → filter_map f (map g (x ∷ xs)) ≡ filter_map (λ w. f (g w)) (x ∷ xs)
+    by None e ih = rw e ih
+    by (Some y) e ih = rw e (ap (λ l. y ∷ l) ih)
+
+module _ {W X Y Z : Type 0} (v : Z → Y) (f : X → Option Y) (g : W → X) (all : List W) (i : ℕ) (x : W) (old new : List Z) (below : i < length all) (at : x ≡ get_or all i x) (so_far : map v old ≡ filter_map f (map g (take i all))) where
+  pub mapped_some : (z : Z) → f (g x) ≡ Some (v z) → new ≡ old ++ z ∷ [] → map v new ≡ filter_map f (map g (take (i + 1) all))
+  mapped_some z e added = listed_some v (λ w. f (g w)) all i x old new below at (so_far ∙ filter_map-map f g (take i all)) z e added ∙ sym (filter_map-map f g (take (i + 1) all))
+
+  pub mapped_none : f (g x) ≡ None → new ≡ old → map v new ≡ filter_map f (map g (take (i + 1) all))
+  mapped_none e same = listed_none v (λ w. f (g w)) all i x old new below at (so_far ∙ filter_map-map f g (take i all)) e same ∙ sym (filter_map-map f g (take (i + 1) all))

@@ -1,0 +1,14 @@
+pub mod Vocabulary
+pub mod Controls
+pub mod Contents
+pub mod Takes
+pub mod Parts
+pub mod Ranges
+pub mod Variables
+pub mod Places
+pub mod Outcomes
+pub mod Seen
+pub mod Counts
+pub mod Stages
+pub mod Laws
+pub mod Law

@@ -1,0 +1,33 @@
+-- Places in the list of control triples.
+use Rattle.std.specs.Prelude.{Bool, true, false}
+use Rattle.std.specs.List.{list_any}
+use Rattle.std.specs.BTreeSet.{BTreeSet}
+use Rattle.std.specs.Borrow.{Bor}
+use Rattle.std.specs.declared.cmp.Ordering.{Ordering}
+use Rattle.std.specs.declared.cmp.Ordering.TheVariants.{Less, Equal, Greater}
+use Rattle.std.specs.Ordering.{is_eq, ordering_then}
+use Rattle.rdf_terms.specs.declared.term.Term.{Term}
+use Rattle.rdf_terms.specs.declared.term.Triple.{Triple}
+use Rattle.rdf_terms.specs.Order.{term_order}
+
+-- a term of the set is this one
+abbrev pub holds_term : BTreeSet (Bor Term) → Term → Bool
+holds_term terms t = list_any (λ key. is_eq (term_order t key.now)) terms.keys
+
+-- subject, then predicate
+abbrev pub pair_order : Triple → Triple → Ordering
+pair_order a b = ordering_then (term_order a.subject b.subject) (term_order a.predicate b.predicate)
+
+-- whether an answer puts a triple before what is sought
+abbrev pub is_before : Bool → Ordering → Bool
+is_before with_equal Less = true
+is_before with_equal Equal = with_equal
+is_before with_equal Greater = false
+
+-- the triple stands before those with this subject and predicate, or with them where that is asked
+abbrev pub goes_before : Bool → Term → Term → Triple → Bool
+goes_before with_equal subject predicate t = is_before with_equal (ordering_then (term_order t.subject subject) (term_order t.predicate predicate))
+
+-- the object stands before this one
+abbrev pub is_object_before : Term → Triple → Bool
+is_object_before object t = is_before false (term_order t.object object)

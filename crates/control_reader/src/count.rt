@@ -1,0 +1,92 @@
+// The number of triples that the controls give.
+ghost use Rattle.std.specs.Prelude.{ℕ, ◌≡◌, ◌↔◌, true, MatchOption};
+ghost use Rattle.std.specs.List.{Contains, list_all};
+ghost use Rattle.std.specs.List.Sorted.{IsStrictlySortedBy};
+ghost use Rattle.std.specs.Char.{is_ascii_digit};
+ghost use Rattle.std.specs.Str.Parse.{digits_value};
+ghost use Rattle.rdf_terms.specs.declared.term.Term.{Term};
+ghost use Rattle.rdf_terms.specs.Order.{term_order};
+ghost use Rattle.control_reader.specs.Vocabulary.{total_items, void_triples};
+ghost use Rattle.control_reader.specs.Controls.{IsCountObject, is_count_text, IsNumber, IsCount, HasNoCount, HasBadCount};
+ghost use Rattle.control_reader.specs.Outcomes.{Answers};
+ghost use Rattle.control_reader.specs.Parts.{objects_in};
+ghost use Rattle.control_reader.specs.Counts.{WhyNoCount};
+
+use crate::PageFault;
+use crate::controls::Controls;
+use crate::vocabulary::{total_items, void_triples};
+use rdf_terms::{Term, Triple};
+use std::alloc::Global;
+
+fn are_digits(bytes: &[u8]) -> bool
+    ensures { result ≡ list_all is_ascii_digit bytes.now }
+{
+    bytes.iter().all(|b| b.is_ascii_digit())
+}
+
+fn is_count_text(digits: &[u8]) -> bool
+    ensures { result ≡ is_count_text digits.now }
+{
+    digits.len() >= 1 && (digits.len() <= 19 && are_digits(digits))
+}
+
+/// The number that up to 19 digits write.
+fn value_of(digits: &[u8]) -> u64
+    requires { is_count_text digits.now ≡ true }
+    ensures { result ≡ digits_value 10 digits.now }
+{
+    let mut n: u64 = 0;
+    for b in digits {
+        n = n * 10 + u64::from(b.saturating_sub(b'0'));
+    }
+    n
+}
+
+/// The number that a literal of 1 to 19 digits is.
+fn number(term: &Term) -> Option<u64>
+    ensures { MatchOption result ((n : ℕ) → IsNumber term.now n → ⊥) (λ n. IsNumber term.now n) }
+{
+    let Term::Literal { form, .. } = term else {
+        return None;
+    };
+    let digits = form.as_str().as_bytes();
+    if is_count_text(digits) {
+        Some(value_of(digits))
+    } else {
+        None
+    }
+}
+
+/// What hydra:totalItems gives of the topic, and only where that is nothing what void:triples gives.
+fn count_objects<'b, 'a>(
+    controls: &'b Controls<'a>,
+    total: &Term,
+    triples: &Term,
+) -> &'b [&'a Triple]
+    requires total { total.now ≡ total_items }
+    requires triples { triples.now ≡ void_triples }
+    ensures ascending { IsStrictlySortedBy term_order (objects_in result.now) }
+    ensures members { (object : Term) → Contains (objects_in result.now) object ↔ IsCountObject controls.entry.now.quads controls.entry.now.topic object }
+{
+    let objects = controls.objects(controls.topic(), total);
+    if !objects.is_empty() {
+        return objects;
+    }
+    controls.objects(controls.topic(), triples)
+}
+
+/// The number of triples of the fragment.
+pub(crate) fn read_count(alloc: Global, controls: &Controls) -> Result<u64, PageFault>
+    ensures { Answers (IsCount controls.now.quads controls.now.topic) (WhyNoCount controls.now.quads controls.now.topic) result }
+{
+    let total = total_items(alloc)?;
+    let triples = void_triples(alloc)?;
+    match count_objects(controls, &total, &triples) {
+        [] => Err(PageFault::NoCount),
+        [only] => match number(&only.object) {
+            Some(n) => Ok(n),
+            None => Err(PageFault::CountText),
+        },
+        _ => Err(PageFault::CountText),
+    }
+}

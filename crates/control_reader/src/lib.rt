@@ -1,0 +1,22 @@
+//! Reading the page of a fragment: its triples, and the controls that tell how to go on.
+#![tactic(auto)]
+
+mod contents;
+mod controls;
+mod count;
+mod form;
+mod law;
+mod laws;
+mod link;
+mod page;
+mod read;
+#[cfg(test)]
+mod tests;
+mod topic;
+mod variable;
+mod vocabulary;
+
+pub use law::controls_read_back;
+pub use laws::a_body_is_one_page;
+pub use page::{Page, PageFault, TripleList};
+pub use read::read_page;
