@@ -1,0 +1,136 @@
+-- What a request asks for, and its answer.
+use Rattle.std.proofs.Common.{◌≡◌, ℕ, zero, suc, ◌+◌, ◌-◌, ◌*◌, ◌/◌, ◌^◌, ◌<◌, ◌≤◌, max, Bool, true, false, List, [], ◌∷◌, map, length, take, drop, Option, Some, None, refl, ap, ap₂, sym, subst, ◌∙◌, arith, if◌then◌else◌, le-leb}
+use Rattle.std.specs.Prelude.{codes, bytes_eq, not, nat_le, unwrap_or, is_some, IfSome}
+use Rattle.std.specs.List.{filter}
+use Rattle.std.proofs.Math.Nat.{div-le_of_le-mul, le-mul_of_pos_right}
+use Rattle.std.specs.declared.cmp.Ordering.{Ordering}
+use Rattle.std.specs.declared.cmp.Ordering.TheVariants.{Less, Equal, Greater}
+use Rattle.form_urlencoded.specs.Form.{raw_pairs}
+use Rattle.tpf_base.specs.HttpHeads.{Request}
+use Rattle.http_wire.specs.declared.message.Asked.{Asked}
+use Rattle.http_wire.specs.declared.message.Asked.TheVariants.{Get, Head, Other}
+use Rattle.http_wire.specs.Requests.{asked_of}
+use Rattle.rdf_terms.specs.declared.term.Triple.{Triple}
+use Rattle.rdf_terms.specs.declared.slots.Slots.{Slots}
+use Rattle.rdf_terms.specs.Slots.{matches, order_of}
+use Rattle.rdf_terms.specs.Fragments.{fragment, last_page, last_page_of, put, put_by, sorted}
+use Rattle.template_fill.specs.ReadAddress.{path_of, query_of, ◌>>=◌}
+use Rattle.template_fill.specs.Forms.{HasNoBlank}
+use Rattle.template_fill.specs.Bodies.{page_body}
+use Rattle.template_fill.specs.Answers.{Answer, Question, Served, answer_if, answer_to, asked_by, is_read, page_answer, parameters, question_of, refusal}
+use Rattle.tpf_server.specs.declared.parameters.Parameters.{Parameters}
+use Rattle.tpf_server.specs.declared.status.Status.TheVariants.{BadRequest, NotFound, NotAllowed}
+use Rattle.tpf_server.specs.declared.asked.Asking.{Asking}
+use Rattle.tpf_server.specs.declared.asked.Asking.TheVariants.{Refused, Page}
+use Rattle.tpf_server.specs.Statuses.{code}
+use Rattle.tpf_server.specs.Serving.{Serving, data_of}
+use Rattle.tpf_server.specs.Parameters.{decoded, found_in, page_in, question_in, slots_in}
+use Rattle.tpf_server.specs.Asked.{IsAsked, answer_at, answer_for, answer_for_target, answer_of, is_head}
+use Rattle.tpf_server.proofs.Questions.{question_is, slots_fit}
+use Rattle.tpf_server.proofs.RestLaws.{true_false}
+
+-- ---- what the parameters ask for
+
+abbrev with_page : Option Slots → Option ℕ → Option Question
+with_page slots k = do
+  s ← slots
+  page ← k
+  Some (record { slots = s; page = page })
+
+no_page : (slots : Option Slots) → with_page slots None ≡ None
+no_page None = refl
+no_page (Some s) = refl
+
+question_parts : (p : Parameters) (slots : Option Slots) (k : Option ℕ) → slots_in p ≡ slots → page_in p.page ≡ k → question_in p ≡ with_page slots k
+question_parts p slots k a b = ap₂ with_page a b
+
+pub no_page_answer : (server : Serving) (p : Parameters) → page_in p.page ≡ None → answer_of server (Refused BadRequest) ≡ answer_at server (question_in p)
+unfolding answer_of answer_at
+no_page_answer server p none = ap (answer_if (data_of server ∷ []) 1 server.config) (sym (question_parts p (slots_in p) None refl none ∙ no_page (slots_in p)))
+
+pub no_slots_answer : (server : Serving) (p : Parameters) → None ≡ slots_in p → answer_of server (Refused BadRequest) ≡ answer_at server (question_in p)
+unfolding answer_of answer_at
+no_slots_answer server p none = ap (answer_if (data_of server ∷ []) 1 server.config) (sym (question_parts p None (page_in p.page) (sym none) refl))
+
+pub numbered_answer : (server : Serving) (p : Parameters) (slots : Slots) (k : ℕ) → Some slots ≡ slots_in p → page_in p.page ≡ Some k → answer_of server (Page slots k) ≡ answer_at server (question_in p)
+unfolding answer_of answer_at
+numbered_answer server p slots k some page = ap (answer_if (data_of server ∷ []) 1 server.config) (sym (question_parts p (Some slots) (Some k) (sym some) page))
+
+-- ---- no fragment has more triples than the data
+
+put_few : (o : Ordering) (x y : Triple) (ys more : List Triple) → length more ≤ suc (length ys) → length (put_by o x y ys more) ≤ suc (suc (length ys))
+put_few Less x y ys more h = omega arith
+put_few Equal x y ys more h = omega arith
+put_few Greater x y ys more h = omega (arith, h)
+
+one_more : (order : Triple → Triple → Ordering) (x : Triple) (ys : List Triple) → length (put order x ys) ≤ suc (length ys)
+one_more order x [] = omega arith
+one_more order x (y ∷ ys) = put_few (order x y) x y ys (put order x ys) (one_more order x ys)
+
+sorted_few : (order : Triple → Triple → Ordering) (xs : List Triple) → length (sorted order xs) ≤ length xs
+sorted_few order [] = omega arith
+sorted_few order (x ∷ xs) = omega (arith, one_more order x (sorted order xs), sorted_few order xs)
+
+kept_if : (b : Bool) (x : Triple) (xs : List Triple) (n : ℕ) → length xs ≤ n → length (if b then x ∷ xs else xs) ≤ suc n
+kept_if true x xs n h = omega (arith, h)
+kept_if false x xs n h = omega (arith, h)
+
+filter_few : (p : Triple → Bool) (xs : List Triple) → length (filter p xs) ≤ length xs
+filter_few p [] = omega arith
+filter_few p (x ∷ xs) = kept_if (p x) x (filter p xs) (length xs) (filter_few p xs)
+
+fragment_few : (triples : List Triple) (slots : Slots) → length (fragment triples slots) ≤ length triples
+unfolding fragment
+fragment_few triples slots = omega (arith, sorted_few (order_of slots) (filter (matches slots) triples), filter_few (matches slots) triples)
+
+bounded : (count size k : ℕ) → 1 ≤ size → 1 ≤ k → count ≤ k → count + (size - 1) ≤ size * k
+bounded count zero k h some within = absurd (omega (arith, h))
+bounded count (suc m) k h some within = omega (arith, within, le-mul_of_pos_right {m = k} m some)
+
+count_bound : (count size : ℕ) → 1 ≤ size → last_page_of count size ≤ max 1 count
+count_bound count size some =
+    let whole : count + (size - 1) ≤ size * max 1 count = bounded count size (max 1 count) some (omega arith) (omega arith) in
+    let q : (count + (size - 1)) / size ≤ max 1 count = div-le_of_le-mul size whole in
+    omega (arith, q)
+
+past_all : (triples : List Triple) (slots : Slots) (size n : ℕ) → 1 ≤ size → length triples < 2 ^ 64 → 2 ^ 64 ≤ n → nat_le n (last_page triples slots size) ≡ false
+past_all triples slots size n some fits big = not_within n (last_page triples slots size) (omega (arith, count_bound (length (fragment triples slots)) size some, fragment_few triples slots, fits, big))
+  where
+    not_within : (m n : ℕ) → n < m → nat_le m n ≡ false
+    not_within m n h = grind (arith, h)
+
+pub past_answer : (server : Serving) (p : Parameters) (slots : Slots) (n : ℕ) → slots_in p ≡ Some slots → page_in p.page ≡ Some n
+    → 1 ≤ server.config.page_size → length (data_of server) < 2 ^ 64 → 2 ^ 64 ≤ n → answer_of server (Refused NotFound) ≡ answer_at server (question_in p)
+unfolding answer_of answer_at
+past_answer server p slots n some page size fits big =
+    sym (ap (answer_if (data_of server ∷ []) 1 server.config) (question_parts p (Some slots) (Some n) some page)
+    ∙ ap (λ (b : Bool). if b then record { status = 200; body = page_body (data_of server ∷ []) 1 server.config slots n } else refusal 404) (past_all (data_of server) slots server.config.page_size n size fits big))
+
+pub given_answer : (server : Serving) (p : Parameters) (slots : Option Slots) (n : ℕ) → slots ≡ slots_in p → is_some slots ≡ true → page_in p.page ≡ Some n
+    → 1 ≤ server.config.page_size → length (data_of server) < 2 ^ 64 → 2 ^ 64 ≤ n → answer_of server (Refused NotFound) ≡ answer_at server (question_in p)
+given_answer server p None n is some page size fits big = absurd (true_false (sym some))
+given_answer server p (Some slots) n is some page size fits big = past_answer server p slots n (sym is) page size fits big
+
+pub none_answer : (server : Serving) (p : Parameters) (slots : Option Slots) → slots ≡ slots_in p → is_some slots ≡ false → answer_of server (Refused BadRequest) ≡ answer_at server (question_in p)
+none_answer server p None is none = no_slots_answer server p is
+none_answer server p (Some slots) is none = absurd (true_false none)
+
+pub some_fit : (p : Parameters) (slots : Slots) → Some slots ≡ slots_in p → HasNoBlank slots
+some_fit p slots is = subst (λ (o : Option Slots). IfSome o HasNoBlank) (sym is) (slots_fit p)
+
+-- ---- targets
+
+pub other_path : (server : Serving) (target path : List ℕ) → path ≡ path_of target → bytes_eq path server.config.base.path ≡ false → answer_of server (Refused NotFound) ≡ answer_for_target server target
+unfolding answer_of answer_for_target
+other_path server target path is other =
+    sym (ap (λ (b : Bool). if not b then refusal 404 else answer_at server (question_of target)) (ap (λ (l : List ℕ). bytes_eq l server.config.base.path) (sym is) ∙ other))
+
+pub base_path : (server : Serving) (target path query : List ℕ) (found : Parameters) (asking : Asking) → path ≡ path_of target → bytes_eq path server.config.base.path ≡ true → query ≡ unwrap_or (query_of target) []
+    → found ≡ found_in (decoded (raw_pairs query)) → answer_of server asking ≡ answer_at server (question_in found) → answer_of server asking ≡ answer_for_target server target
+unfolding answer_for_target question_of parameters
+base_path server target path query found asking is same of_query of_pairs answer =
+    answer
+    ∙ ap (λ (p : Parameters). answer_at server (question_in p)) of_pairs
+    ∙ ap (answer_at server) (question_is (decoded (raw_pairs query)))
+    ∙ ap (λ (l : List ℕ). answer_at server (asked_by (decoded (raw_pairs l)))) of_query
+    ∙ sym (ap (λ (b : Bool). if not b then refusal 404 else answer_at server (question_of target)) (ap (λ (l : List ℕ). bytes_eq l server.config.base.path) (sym is) ∙ same))

@@ -1,0 +1,132 @@
+-- What is owed, and how it becomes less piece by piece.
+use Rattle.std.proofs.Common.{◌≡◌, ℕ, zero, suc, ◌+◌, ◌-◌, ◌<◌, ◌≤◌, ◌⊎◌, Bool, true, false, List, [], ◌∷◌, ◌++◌, length, Option, Some, None, Result, Ok, Err, refl, ap, ap₂, sym, subst, ◌∙◌, inl, inr, arith, append_assoc, append-nil, length-append, if◌then◌else◌}
+use Rattle.std.specs.Prelude.{nat_lt, ◌||◌, OnOk}
+use Rattle.std.specs.List.{AllByRecursion, concat, flat_map}
+use Rattle.template_fill.specs.Answers.{head_text}
+use Rattle.triple_table.specs.Stored.{Stored}
+use Rattle.tpf_server.specs.declared.asked.Queued.{Queued}
+use Rattle.tpf_server.specs.declared.pages.Opened.{Opened}
+use Rattle.tpf_server.specs.declared.rest.Rest.{Rest}
+use Rattle.tpf_server.specs.declared.rest.Rest.TheVariants.{Nothing, Line, Page}
+use Rattle.tpf_server.specs.Statuses.{code}
+use Rattle.tpf_server.specs.Serving.{Serving}
+use Rattle.tpf_server.specs.Asked.{IsAsked, answer_of}
+use Rattle.tpf_server.specs.Given.{IsGiven, IsSmall}
+use Rattle.tpf_server.specs.Rests.{IsWithin, is_left, rest_pieces}
+use Rattle.tpf_server.specs.Opened.{Opens, body_pieces}
+use Rattle.tpf_server.specs.Owed.{Fits, Fills, answer_pieces, debt_left, debt_pieces, queue_pieces}
+use Rattle.tpf_server.proofs.RestLaws.{rest_done, neither_left, no_length, true_false}
+use Rattle.tpf_server.proofs.PageLaws.{concat_more}
+
+pub on_ok : {T E P Q : Type 0} (r : Result T E) → (P → Q) → OnOk r P → OnOk r Q
+on_ok (Ok x) f p = f p
+on_ok (Err e) f p = p
+
+-- ---- an answer is begun
+
+wanted_pieces : (table : Stored) (without : Bool) (body : Rest) → rest_pieces table (if without then Nothing else body) ≡ (if without then [] else rest_pieces table body)
+unfolding rest_pieces
+wanted_pieces table true body = refl
+wanted_pieces table false body = refl
+
+wanted_within : (table : Stored) (without : Bool) (body : Rest) → IsWithin table body → IsWithin table (if without then Nothing else body)
+wanted_within table true body h = tt
+wanted_within table false body h = h
+
+pub begun : (server : Serving) (queued : Queued) (o : Opened) (rest : Rest) (before after : List ℕ) → Opens server queued.asking o → after ≡ before ++ head_text (code o.status) o.length queued.closes
+    → rest ≡ (if queued.without_body then Nothing else o.body) → IsGiven (answer_pieces server queued) (rest_pieces server.table rest) before after
+unfolding answer_pieces
+begun server queued o rest before after opens appended is = record {
+  piece = head_text (code o.status) o.length queued.closes;
+  pieces =
+      ap₂ (λ (s n : ℕ). head_text s n queued.closes ∷ (if queued.without_body then [] else body_pieces server queued.asking)) (sym opens.status) (sym opens.length)
+      ∙ ap (λ (l : List (List ℕ)). head_text (code o.status) o.length queued.closes ∷ (if queued.without_body then [] else l)) (sym opens.body)
+      ∙ ap (λ (l : List (List ℕ)). head_text (code o.status) o.length queued.closes ∷ l) (sym (ap (rest_pieces server.table) is ∙ wanted_pieces server.table queued.without_body o.body));
+  appended = appended;
+}
+
+pub begun_within : (server : Serving) (queued : Queued) (o : Opened) (rest : Rest) → Opens server queued.asking o → rest ≡ (if queued.without_body then Nothing else o.body) → IsWithin server.table rest
+begun_within server queued o rest opens is = subst (IsWithin server.table) (sym is) (wanted_within server.table queued.without_body o.body opens.range)
+
+-- ---- the next piece
+
+pub rest_given : (server : Serving) (table : Stored) (rest new : Rest) (waiting : List Queued) (before after : List ℕ) → table ≡ server.table → IsGiven (rest_pieces table rest) (rest_pieces table new) before after
+    → IsGiven (debt_pieces server rest waiting) (debt_pieces server new waiting) before after
+unfolding debt_pieces
+rest_given server table rest new waiting before after is given = record {
+  piece = given.piece;
+  pieces = ap (λ (l : List (List ℕ)). l ++ queue_pieces server waiting) (subst (λ (t : Stored). rest_pieces t rest ≡ given.piece ∷ rest_pieces t new) is given.pieces);
+  appended = given.appended;
+}
+
+none_left : (server : Serving) (rest : Rest) → is_left rest ≡ false → rest_pieces server.table rest ≡ []
+unfolding rest_pieces
+none_left server rest none = rest_done server.table rest none
+
+pub answer_given : (server : Serving) (rest new : Rest) (waiting later : List Queued) (queued : Queued) (before after : List ℕ) → is_left rest ≡ false → waiting ≡ queued ∷ later
+    → IsGiven (answer_pieces server queued) (rest_pieces server.table new) before after → IsGiven (debt_pieces server rest waiting) (debt_pieces server new later) before after
+unfolding debt_pieces
+answer_given server rest new waiting later queued before after none is given = record {
+  piece = given.piece;
+  pieces =
+      ap₂ (λ (l : List (List ℕ)) (q : List Queued). l ++ queue_pieces server q) (none_left server rest none) is
+      ∙ ap (λ (l : List (List ℕ)). l ++ queue_pieces server later) given.pieces;
+  appended = given.appended;
+}
+
+pub rest_fits : (server : Serving) (table : Stored) (rest new : Rest) (waiting : List Queued) → table ≡ server.table → Fits server rest waiting → IsWithin table new → Fits server new waiting
+rest_fits server table rest new waiting is fits within = record { range = subst (λ (t : Stored). IsWithin t new) is within; asked = fits.asked }
+
+abbrev AllAsked : List Queued → Type 0
+AllAsked waiting = AllByRecursion (λ (queued : Queued). IsAsked queued.asking) waiting
+
+pub first_asked : (server : Serving) (rest : Rest) (waiting later : List Queued) (queued : Queued) → waiting ≡ queued ∷ later → Fits server rest waiting → IsAsked queued.asking
+first_asked server rest waiting later queued is fits = (subst AllAsked is fits.asked).0
+
+pub answer_fits : (server : Serving) (rest new : Rest) (waiting later : List Queued) (queued : Queued) → waiting ≡ queued ∷ later → Fits server rest waiting → IsWithin server.table new → Fits server new later
+answer_fits server rest new waiting later queued is fits within = record { range = within; asked = (subst AllAsked is fits.asked).1 }
+
+pub nothing_waits : (rest : Rest) (waiting : List Queued) → is_left rest ≡ false → debt_left rest waiting ≡ true → waiting ≡ [] → ⊥
+nothing_waits rest waiting none left empty = true_false (sym left ∙ ap₂ (λ (b : Bool) (q : List Queued). b || nat_lt 0 (length q)) none empty)
+
+-- ---- many pieces
+
+small_more : (n : ℕ) (pieces : List (List ℕ)) (piece : List ℕ) → IsSmall n pieces → n + length (concat pieces) < 65536 → IsSmall n (pieces ++ piece ∷ [])
+small_more n [] piece small few = (omega (arith, few), tt)
+small_more n (p ∷ pieces) piece small few = (small.0, small_more (n + length p) pieces piece small.1 (omega (arith, few, length-append p (concat pieces))))
+
+pub fills_none : (owed : List (List ℕ)) (taken : ℕ) (before : List ℕ) → Fills owed owed taken before before
+fills_none owed taken before = record { pieces = []; owed = refl; made = sym (append-nil before); small = tt }
+
+pub fills_more : (owed left new : List (List ℕ)) (taken : ℕ) (before made after : List ℕ) → taken ≤ length before → length made - taken < 65536 → Fills owed left taken before made → IsGiven left new made after → Fills owed new taken before after
+fills_more owed left new taken before made after within few fills given = record {
+  pieces = fills.pieces ++ given.piece ∷ [];
+  owed = fills.owed ∙ ap (λ (l : List (List ℕ)). fills.pieces ++ l) given.pieces ∙ sym (append_assoc fills.pieces (given.piece ∷ []) new);
+  made =
+      given.appended ∙ ap (λ (l : List ℕ). l ++ given.piece) fills.made ∙ append_assoc before (concat fills.pieces) given.piece
+      ∙ ap (λ (l : List ℕ). before ++ l) (ap (λ (l : List ℕ). concat fills.pieces ++ l) (sym (append-nil given.piece)) ∙ sym (concat_more fills.pieces (given.piece ∷ [])));
+  small = small_more (length before - taken) fills.pieces given.piece fills.small (omega (arith, within, few, ap (λ (l : List ℕ). length l) fills.made, length-append before (concat fills.pieces)));
+}
+
+pub made_within : (owed left : List (List ℕ)) (taken : ℕ) (before made : List ℕ) → taken ≤ length before → Fills owed left taken before made → taken ≤ length made
+made_within owed left taken before made within fills = omega (arith, within, ap (λ (l : List ℕ). length l) fills.made, length-append before (concat fills.pieces))
+
+pub fewer_pieces : (old new : List (List ℕ)) (before after : List ℕ) → IsGiven old new before after → length new < length old
+fewer_pieces old new before after given = omega (arith, ap (λ (l : List (List ℕ)). length l) given.pieces)
+
+no_queue : (waiting : List Queued) → nat_lt 0 (length waiting) ≡ false → waiting ≡ []
+no_queue [] h = refl
+no_queue (q ∷ waiting) h = absurd (no_length (length waiting) h)
+
+pub debt_done : (server : Serving) (rest : Rest) (waiting : List Queued) → debt_left rest waiting ≡ false → debt_pieces server rest waiting ≡ []
+unfolding debt_pieces
+debt_done server rest waiting none =
+    let p = neither_left (is_left rest) (nat_lt 0 (length waiting)) none in
+    ap₂ (λ (l : List (List ℕ)) (q : List Queued). l ++ queue_pieces server q) (none_left server rest p.0) (no_queue waiting p.1)
+
+pub debt_settled : (server : Serving) (rest new : Rest) (waiting : List Queued) → rest_pieces server.table new ≡ rest_pieces server.table rest → debt_pieces server new waiting ≡ debt_pieces server rest waiting
+unfolding debt_pieces
+debt_settled server rest new waiting same = ap (λ (l : List (List ℕ)). l ++ queue_pieces server waiting) same
+
+pub fills_settled : (debt left new : List (List ℕ)) (taken : ℕ) (before after : List ℕ) → new ≡ left → Fills debt left taken before after → Fills debt new taken before after
+fills_settled debt left new taken before after same fills = subst (λ (l : List (List ℕ)). Fills debt l taken before after) (sym same) fills

@@ -1,0 +1,16 @@
+pub mod Gathered
+pub mod Questions
+pub mod Targets
+pub mod Numbers
+pub mod LineLengths
+pub mod Appends
+pub mod RestLaws
+pub mod StatusLaws
+pub mod HeadLaws
+pub mod PageLaws
+pub mod OpenLaws
+pub mod AskedLaws
+pub mod HeadAnswers
+pub mod Readings
+pub mod DebtLaws
+pub mod ConversationLaws

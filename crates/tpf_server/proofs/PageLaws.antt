@@ -1,0 +1,150 @@
+-- A page as lines: of the triples that it shows, and of its metadata.
+use Rattle.std.proofs.Common.{◌≡◌, ℕ, zero, suc, ◌+◌, ◌-◌, ◌*◌, ◌<◌, ◌≤◌, Bool, true, false, List, [], ◌∷◌, ◌++◌, map, length, take, drop, refl, ap, ap₂, sym, subst, ◌∙◌, arith, length-append, length-take, length-drop, append_assoc, if◌then◌else◌, le-leb}
+use Rattle.std.specs.Prelude.{nat_le}
+use Rattle.std.specs.List.{concat}
+use Rattle.std.proofs.lemmas.List.{map-append, length-map}
+use Rattle.rdf_terms.specs.declared.term.Triple.{Triple}
+use Rattle.rdf_terms.specs.declared.term.Quad.{Quad}
+use Rattle.rdf_terms.specs.declared.slots.Slots.{Slots}
+use Rattle.rdf_terms.specs.Canon.{canon, canonical_line}
+use Rattle.rdf_terms.specs.Fragments.{fragment, last_page, page_of}
+use Rattle.triple_table.specs.declared.ids.Row.{Row}
+use Rattle.triple_table.specs.declared.ids.Range.{Range}
+use Rattle.triple_table.specs.Rows.{id_triple_of}
+use Rattle.triple_table.specs.Stored.{Stored, IsRange, listed, rows_in, triple_at, triples_in}
+use Rattle.fragment_pages.specs.declared.view.PageView.{PageView}
+use Rattle.fragment_pages.specs.Pages.{IsPage, IsPageNumber, shown}
+use Rattle.template_fill.specs.Metadata.{Config, page_metadata, topic_quads, form_quads, mapping_quads, count_quads, link_quads}
+use Rattle.template_fill.specs.Bodies.{in_default_graph, page_body, page_quads}
+use Rattle.template_fill.specs.Answers.{Answer, page_answer, refusal}
+use Rattle.tpf_server.specs.Lines.{quad_lines, triple_lines}
+use Rattle.tpf_server.specs.PageRests.{IsPart, page_pieces}
+use Rattle.tpf_server.specs.Serving.{Serving, data_of}
+use Rattle.tpf_server.specs.Opened.{page_lines}
+
+-- ---- a part of a range
+
+taken_none : {A B : Type 0} (f : A → B) (n : ℕ) → take n (map f []) ≡ map f (take n [])
+taken_none f zero = refl
+taken_none f (suc n) = refl
+
+taken_front : {A B : Type 0} (f : A → B) (rows : List A) (n m : ℕ) → n ≤ m → take n (map f (take m rows)) ≡ map f (take n rows)
+taken_front f rows zero m h = refl
+taken_front f rows (suc n) zero h = absurd (omega arith)
+taken_front f [] (suc n) (suc m) h = refl
+taken_front {B = B} f (x ∷ rows) (suc n) (suc m) h = ap (λ (l : List B). f x ∷ l) (taken_front f rows n m (omega arith))
+
+taken_part : {A B : Type 0} (f : A → B) (rows : List A) (k n m : ℕ) → k + n ≤ m → take n (drop k (map f (take m rows))) ≡ map f (take n (drop k rows))
+taken_part f rows zero n m h = taken_front f rows n m (omega arith)
+taken_part f rows (suc k) n zero h = absurd (omega arith)
+taken_part f [] (suc k) n (suc m) h = taken_none f n
+taken_part f (x ∷ rows) (suc k) n (suc m) h = taken_part f rows k n m (omega arith)
+
+dropped : {A : Type 0} (xs : List A) (a b : ℕ) → drop (a + b) xs ≡ drop b (drop a xs)
+dropped xs zero b = let e : 0 + b ≡ b = omega arith in ap (λ (n : ℕ). drop n xs) e
+dropped [] (suc a) zero = let e : suc a + 0 ≡ suc a = omega arith in ap (λ (n : ℕ). drop n []) e
+dropped [] (suc a) (suc b) = let e : suc a + suc b ≡ suc (a + suc b) = omega arith in ap (λ (n : ℕ). drop n []) e
+dropped (x ∷ xs) (suc a) b = let e : suc a + b ≡ suc (a + b) = omega arith in ap (λ (n : ℕ). drop n (x ∷ xs)) e ∙ dropped xs a b
+
+-- the range of what a view shows
+abbrev pub part_of : PageView → Range
+part_of view = record { order = view.range.order; from = view.range.from + view.from; to = view.range.from + view.to }
+
+pub part_listed : (s : Stored) (view : PageView) → view.from ≤ view.to → view.to ≤ length (listed s view.range) → length (listed s view.range) ≡ view.range.to - view.range.from
+    → listed s (part_of view) ≡ shown s view
+part_listed s view order within count =
+    let f : Row → Triple = λ (row : Row). triple_at s.terms (id_triple_of view.range.order row) in
+    let rows = rows_in s view.range.order in
+    let e : (view.range.from + view.to) - (view.range.from + view.from) ≡ view.to - view.from = omega arith in
+    ap₂ (λ (n : ℕ) (l : List Row). map f (take n l)) e (dropped rows view.range.from view.from)
+    ∙ sym (taken_part f (drop view.range.from rows) view.from (view.to - view.from) (view.range.to - view.range.from) (omega (arith, order, within, count)))
+
+pub part_is_range : (s : Stored) (view : PageView) → IsRange s view.range → view.from ≤ view.to → view.to ≤ length (listed s view.range) → length (listed s view.range) ≡ view.range.to - view.range.from
+    → IsRange s (part_of view)
+part_is_range s view range order within count = record { order = omega (arith, order); within = omega (arith, range.order, range.within, within, count) }
+
+pub part_is_part : (s : Stored) (view : PageView) → IsRange s view.range → view.from ≤ view.to → view.to ≤ length (listed s view.range) → length (listed s view.range) ≡ view.range.to - view.range.from
+    → IsPart s (part_of view)
+part_is_part s view range order within count = record {
+  range = part_is_range s view range order within count;
+  lists = omega (arith, ap (λ (l : List Triple). length l) (part_listed s view order within count), length-take (view.to - view.from) (drop view.from (listed s view.range)), length-drop view.from (listed s view.range), order, within);
+}
+
+pub part_is_few : (s : Stored) (slots : Slots) (k size : ℕ) (view : PageView) → IsPage s slots k size view → (view.range.from + view.to) - (view.range.from + view.from) ≤ size
+part_is_few s slots k size view page =
+    let whole = listed s view.range in
+    let items = fragment (triples_in s) slots in
+    omega (arith, ap (λ (l : List Triple). length l) page.triples, length-take (view.to - view.from) (drop view.from whole), length-drop view.from whole, length-take size (drop ((k - 1) * size) items), page.order, page.within)
+
+-- ---- the lines of a page
+
+canon_is : (quads : List Quad) → canon quads ≡ concat (quad_lines quads)
+canon_is [] = refl
+canon_is (q ∷ quads) = ap (λ (l : List ℕ). canonical_line q ++ l) (canon_is quads)
+
+pub concat_more : (xs ys : List (List ℕ)) → concat (xs ++ ys) ≡ concat xs ++ concat ys
+concat_more [] ys = refl
+concat_more (x ∷ xs) ys = ap (λ (l : List ℕ). x ++ l) (concat_more xs ys) ∙ sym (append_assoc x (concat xs) (concat ys))
+
+default_lines : (triples : List Triple) → quad_lines (map in_default_graph triples) ≡ triple_lines triples
+default_lines [] = refl
+default_lines (t ∷ triples) = ap (λ (l : List (List ℕ)). canonical_line (in_default_graph t) ∷ l) (default_lines triples)
+
+lines_join : (triples : List Triple) (quads : List Quad) → quad_lines (map in_default_graph triples ++ quads) ≡ triple_lines triples ++ quad_lines quads
+lines_join triples quads = map-append canonical_line (map in_default_graph triples) quads ∙ ap (λ (l : List (List ℕ)). l ++ quad_lines quads) (default_lines triples)
+
+module _ (server : Serving) (slots : Slots) (page : ℕ) where
+  pub page_lines_are : (range : Range) (quads : List Quad) → listed server.table range ≡ page_of (data_of server) slots page server.config.page_size
+      → quads ≡ page_metadata server.config slots page (length (fragment (data_of server) slots)) 1
+      → page_pieces server.table (record { triples = range; quads = quads }) ≡ page_lines server slots page
+  unfolding page_pieces page_lines
+  page_lines_are range quads same meta =
+      ap₂ (λ (l : List Triple) (qs : List Quad). triple_lines l ++ quad_lines qs) same meta
+      ∙ sym (lines_join (page_of (data_of server) slots page server.config.page_size) (page_metadata server.config slots page (length (fragment (data_of server) slots)) 1))
+
+  pub body_is_lines : page_body (data_of server ∷ []) 1 server.config slots page ≡ concat (page_lines server slots page)
+  unfolding page_body page_lines
+  body_is_lines = canon_is (page_quads (data_of server ∷ []) 1 server.config slots page)
+
+  pub page_length : (range : Range) (quads : List Quad) (a b : ℕ) → listed server.table range ≡ page_of (data_of server) slots page server.config.page_size
+      → quads ≡ page_metadata server.config slots page (length (fragment (data_of server) slots)) 1
+      → a ≡ length (concat (triple_lines (listed server.table range))) → b ≡ length (concat (quad_lines quads))
+      → a + b ≡ length (page_body (data_of server ∷ []) 1 server.config slots page)
+  unfolding page_pieces
+  page_length range quads a b same meta of_triples of_quads =
+      let whole : concat (triple_lines (listed server.table range)) ++ concat (quad_lines quads) ≡ page_body (data_of server ∷ []) 1 server.config slots page =
+      sym (concat_more (triple_lines (listed server.table range)) (quad_lines quads)) ∙ ap concat (page_lines_are range quads same meta) ∙ sym body_is_lines in
+      omega (arith, of_triples, of_quads, length-append (concat (triple_lines (listed server.table range))) (concat (quad_lines quads)), ap (λ (l : List ℕ). length l) whole)
+
+-- ---- the metadata are few
+
+link_few : (there : Bool) (graph page name target : List ℕ) → length (link_quads there graph page name target) ≤ 1
+unfolding link_quads
+link_few true graph page name target = omega arith
+link_few false graph page name target = omega arith
+
+topic_few : (graph page first base : List ℕ) → length (topic_quads graph page first base) ≡ 3
+unfolding topic_quads
+topic_few graph page first base = refl
+
+form_few : (graph template : List ℕ) → length (form_quads graph template) ≡ 2
+unfolding form_quads
+form_few graph template = refl
+
+mapping_few : (graph label name : List ℕ) → length (mapping_quads graph label name) ≡ 3
+unfolding mapping_quads
+mapping_few graph label name = refl
+
+count_few : (graph page first : List ℕ) (count : ℕ) → length (count_quads graph page first count) ≡ 4
+unfolding count_quads
+count_few graph page first count = refl
+
+joined_few : (a b c d e f g h : List Quad) → length a ≡ 3 → length b ≡ 2 → length c ≡ 3 → length d ≡ 3 → length e ≡ 3 → length f ≡ 4 → length g ≤ 1 → length h ≤ 1
+    → length (a ++ b ++ c ++ d ++ e ++ f ++ g ++ h) ≤ 20
+joined_few a b c d e f g h ha hb hc hd he hf hg hh =
+    omega (arith, ha, hb, hc, hd, he, hf, hg, hh, length-append a b, length-append (a ++ b) c, length-append (a ++ b ++ c) d, length-append (a ++ b ++ c ++ d) e, length-append (a ++ b ++ c ++ d ++ e) f, length-append (a ++ b ++ c ++ d ++ e ++ f) g, length-append (a ++ b ++ c ++ d ++ e ++ f ++ g) h)
+
+pub metadata_few : (config : Config) (slots : Slots) (k count version : ℕ) → length (page_metadata config slots k count version) ≤ 20
+unfolding page_metadata
+metadata_few config slots k count version =
+    joined_few _ _ _ _ _ _ _ _ (topic_few _ _ _ _) (form_few _ _) (mapping_few _ _ _) (mapping_few _ _ _) (mapping_few _ _ _) (count_few _ _ _ _) (link_few _ _ _ _ _) (link_few _ _ _ _ _)

@@ -1,0 +1,8 @@
+use Rattle.std.proofs.Common.{◌≡◌, ◌∙◌, ap, List, ℕ, ◌++◌}
+use Rattle.tpf_server.proofs.RestLaws.{given_line}
+use Rattle.tpf_server.proofs.StatusLaws.{body_is}
+use Rattle.tpf_server.proofs.rest.Rest.give.Goals as goal
+
+pub returns-in_ok-extend_from_slice-in-Line-clause-ok : goal.returns-in_ok-extend_from_slice-in-Line-clause-ok
+returns-in_ok-extend_from_slice-in-Line-clause-ok c =
+    given_line c.args.table.now c.args.self.now _ c.args.out.now.items c.extend_from_slice.new.self.items c.in-Line.is (c.in_ok-extend_from_slice-in-Line.ensures.items ∙ ap (λ (l : List ℕ). c.args.out.now.items ++ l) (c.as_bytes.ensures.value ∙ c.body.ensures ∙ body_is _))

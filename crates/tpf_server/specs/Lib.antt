@@ -1,0 +1,11 @@
+pub mod Asked
+pub mod Conversation
+pub mod Given
+pub mod Lines
+pub mod Opened
+pub mod Owed
+pub mod PageRests
+pub mod Parameters
+pub mod Rests
+pub mod Serving
+pub mod Statuses

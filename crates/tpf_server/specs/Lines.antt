@@ -1,0 +1,16 @@
+-- The lines of a body, one by one.
+use Rattle.std.specs.Prelude.{ℕ, List, map}
+use Rattle.rdf_terms.specs.declared.term.Triple.{Triple}
+use Rattle.rdf_terms.specs.declared.term.Quad.{Quad}
+use Rattle.rdf_terms.specs.Canon.{canonical_line}
+use Rattle.template_fill.specs.Bodies.{in_default_graph}
+
+abbrev pub quad_lines : List Quad → List (List ℕ)
+quad_lines quads = map canonical_line quads
+
+abbrev pub triple_line : Triple → List ℕ
+triple_line triple = canonical_line (in_default_graph triple)
+
+-- lines of the default graph
+abbrev pub triple_lines : List Triple → List (List ℕ)
+triple_lines triples = map triple_line triples

@@ -1,0 +1,170 @@
+// What a request asks for.
+ghost use Rattle.std.specs.Prelude.{◌≡◌, ◌≤◌, ◌+◌, ◌^◌, ℕ, Some, None, bytes_eq, drop, length, is_some, IfOk, [], true, false};
+ghost use Rattle.tpf_server.specs.Parameters.{page_in, question_in};
+ghost use Rattle.tpf_server.specs.Asked.{IsAsked, answer_at, answer_for, answer_for_target, answer_of, is_head, refused_with};
+
+use crate::Server;
+use crate::parameters::{PageNumber, Parameters, found_in, page, path_length, slots};
+use crate::status::Status;
+use http_wire::{Asked, RequestHead};
+use rdf_terms::Slots;
+use std::alloc::Global;
+use tpf_base::OutOfMemory;
+
+/// What is to be answered: a status without a page, or a page, which may be past the last.
+#[derive(Debug, Drop)]
+pub enum Asking {
+    Refused(Status),
+    Page { slots: Slots, page: u64 },
+}
+
+/// An answer that is not yet begun.
+#[derive(Debug, Drop)]
+pub struct Queued {
+    pub asking: Asking,
+    /// The head alone is asked for.
+    pub without_body: bool,
+    /// The connection ends with this answer.
+    pub closes: bool,
+}
+
+/// What parameters ask for whose page has this number.
+#[tactic(auto, using(crate::proofs::AskedLaws::numbered_answer, crate::proofs::AskedLaws::no_slots_answer, crate::proofs::AskedLaws::some_fit))]
+fn numbered(
+    alloc: Global,
+    server: &Server,
+    found: &Parameters,
+    page: u64,
+) -> Result<Asking, OutOfMemory>
+    requires number { page_in found.now.page ≡ Some page }
+    requires some { 1 ≤ page }
+    ensures asked { IfOk result IsAsked }
+    ensures answer { IfOk result (λ asking. answer_of server.now asking ≡ answer_at server.now (question_in found.now)) }
+{
+    match slots(alloc, found)? {
+        Some(slots) => Ok(Asking::Page { slots, page }),
+        None => Ok(Asking::Refused(Status::BadRequest)),
+    }
+}
+
+fn are_some(slots: Option<Slots>) -> bool
+    ensures { result ≡ is_some slots }
+{
+    slots.is_some()
+}
+
+/// What parameters ask for whose page has a number that 64 bits do not hold: a page has at least one
+/// triple, and a table fewer triples than that.
+fn beyond(alloc: Global, server: &Server, found: &Parameters) -> Result<Asking, OutOfMemory>
+    requires { (n : ℕ) × ((page_in found.now.page ≡ Some n) × (2 ^ 64 ≤ n)) }
+    ensures asked { IfOk result IsAsked }
+    ensures answer { IfOk result (λ asking. answer_of server.now asking ≡ answer_at server.now (question_in found.now)) }
+{
+    let _triples = server.table().len();
+    let _size = server.config().page_size();
+    let slots = slots(alloc, found)?;
+    if are_some(slots) {
+        Ok(Asking::Refused(Status::NotFound))
+    } else {
+        Ok(Asking::Refused(Status::BadRequest))
+    }
+}
+
+/// What these parameters ask for.
+#[tactic(auto, using(crate::proofs::AskedLaws::no_page_answer))]
+fn asked_by_parameters(
+    alloc: Global,
+    server: &Server,
+    found: &Parameters,
+) -> Result<Asking, OutOfMemory>
+    ensures asked { IfOk result IsAsked }
+    ensures answer { IfOk result (λ asking. answer_of server.now asking ≡ answer_at server.now (question_in found.now)) }
+{
+    match page(&found.page) {
+        PageNumber::Number(page) => numbered(alloc, server, found, page),
+        PageNumber::Beyond => beyond(alloc, server, found),
+        PageNumber::Refused => Ok(Asking::Refused(Status::BadRequest)),
+    }
+}
+
+/// Whether a path is that of the base.
+fn is_base(server: &Server, path: &[u8]) -> bool
+    ensures { result ≡ bytes_eq path.now server.now.config.base.path }
+{
+    path == server.config().base().target().as_bytes()
+}
+
+/// What stands behind the mark at the end of a path.
+fn query_after(target: &[u8], path: usize) -> &[u8]
+    requires { path ≤ length target.now }
+    ensures { result.now ≡ drop (path + 1) target.now }
+{
+    if path < target.len() {
+        &target[path + 1..]
+    } else {
+        &[]
+    }
+}
+
+/// What a GET or HEAD for a target asks for.
+#[tactic(auto, using(crate::proofs::AskedLaws::other_path, crate::proofs::AskedLaws::base_path))]
+fn asked_by_target(alloc: Global, server: &Server, target: &[u8]) -> Result<Asking, OutOfMemory>
+    ensures asked { IfOk result IsAsked }
+    ensures answer { IfOk result (λ asking. answer_of server.now asking ≡ answer_for_target server.now target.now) }
+{
+    let path = path_length(target);
+    if !is_base(server, &target[..path]) {
+        return Ok(Asking::Refused(Status::NotFound));
+    }
+    let found = found_in(alloc, query_after(target, path))?;
+    asked_by_parameters(alloc, server, &found)
+}
+
+/// What a request for a target asks for.
+#[tactic(auto, unfolding(crate::specs::Asked::answer_for, crate::specs::Asked::answer_of))]
+fn asked_for(
+    alloc: Global,
+    server: &Server,
+    method: Asked,
+    target: &[u8],
+) -> Result<Asking, OutOfMemory>
+    ensures asked { IfOk result IsAsked }
+    ensures answer { IfOk result (λ asking. answer_of server.now asking ≡ answer_for server.now method target.now) }
+{
+    match method {
+        Asked::Other => Ok(Asking::Refused(Status::NotAllowed)),
+        Asked::Get => asked_by_target(alloc, server, target),
+        Asked::Head => asked_by_target(alloc, server, target),
+    }
+}
+
+/// What a request asks for.
+pub fn asked_by(alloc: Global, server: &Server, head: &RequestHead) -> Result<Queued, OutOfMemory>
+    ensures asked { IfOk result (λ queued. IsAsked queued.asking) }
+    ensures answer { IfOk result (λ queued. answer_of server.now queued.asking ≡ answer_for server.now head.now.method head.now.target) }
+    ensures body { IfOk result (λ queued. queued.without_body ≡ is_head head.now.method) }
+    ensures closes { IfOk result (λ queued. queued.closes ≡ head.now.closes) }
+{
+    let asking = asked_for(alloc, server, head.method, head.target.as_str().as_bytes())?;
+    Ok(Queued {
+        asking,
+        without_body: matches!(head.method, Asked::Head),
+        closes: head.closes,
+    })
+}
+
+/// The answer to a head that is refused, with which the connection ends.
+pub fn refused(status: u16) -> Queued
+    ensures { result ≡ record { asking = Asking.Refused (refused_with status); without_body = false; closes = true } }
+{
+    let status = if status == 431 {
+        Status::TooLarge
+    } else {
+        Status::BadRequest
+    };
+    Queued {
+        asking: Asking::Refused(status),
+        without_body: false,
+        closes: true,
+    }
+}

@@ -1,0 +1,95 @@
+// The head of an answer.
+ghost use Rattle.std.specs.Prelude.{ℕ, ◌≡◌, ◌==◌, ◌++◌, codes, decimal, OnOk, IfOk};
+ghost use Rattle.http_wire.specs.Fields.{pair_of, pairs_of};
+ghost use Rattle.nquads_text.specs.Begins.{Begins};
+ghost use Rattle.template_fill.specs.Answers.{answer_fields, field_if, head_text, media_type};
+ghost use Rattle.tpf_server.specs.Statuses.{code};
+
+use crate::status::Status;
+use http_wire::{Field, write_head};
+use std::alloc::Global;
+use tpf_base::{OutOfMemory, Text};
+
+fn media_type(status: Status) -> &'static str
+    ensures { result.now ≡ media_type (code status) }
+{
+    match status {
+        Status::Found => "application/n-quads",
+        _ => "text/plain",
+    }
+}
+
+fn field(alloc: Global, name: &str, value: &str) -> Result<Field, OutOfMemory>
+    ensures { IfOk result (λ field. pair_of field ≡ (name.now, value.now)) }
+{
+    Ok(Field {
+        name: Text::copy(alloc, name)?,
+        value: Text::copy(alloc, value)?,
+    })
+}
+
+/// The field that tells the length of a body (RFC 9110, section 8.6).
+fn length_field(alloc: Global, length: u128) -> Result<Field, OutOfMemory>
+    ensures { IfOk result (λ field. pair_of field ≡ (codes "Content-Length", decimal length)) }
+{
+    Ok(Field {
+        name: Text::copy(alloc, "Content-Length")?,
+        value: Text::from_string(length.to_string(alloc)?),
+    })
+}
+
+/// Adds a field, where it is wanted.
+fn push_if(
+    fields: &mut Vec<Field>,
+    alloc: Global,
+    wanted: bool,
+    name: &str,
+    value: &str,
+) -> Result<(), OutOfMemory>
+    ensures { OnOk result (pairs_of fields.new.items ≡ pairs_of fields.old.items ++ field_if wanted name.now value.now) }
+{
+    if wanted {
+        fields.push(field(alloc, name, value)?)?;
+    }
+    Ok(())
+}
+
+/// The fields of an answer whose body has this length.
+#[tactic(auto, unfolding(template_fill::specs::Answers::answer_fields))]
+fn fields(
+    alloc: Global,
+    status: Status,
+    length: u128,
+    closes: bool,
+) -> Result<Vec<Field>, OutOfMemory>
+    ensures { IfOk result (λ fields. pairs_of fields.items ≡ answer_fields (code status) length closes) }
+{
+    let mut fields = Vec::with_capacity(alloc, 4)?;
+    fields.push(field(alloc, "Content-Type", media_type(status))?)?;
+    fields.push(length_field(alloc, length)?)?;
+    push_if(
+        &mut fields,
+        alloc,
+        status == Status::NotAllowed,
+        "Allow",
+        "GET, HEAD",
+    )?;
+    push_if(&mut fields, alloc, closes, "Connection", "close")?;
+    Ok(fields)
+}
+
+/// Appends the head of an answer whose body has this length.
+#[tactic(auto, using(nquads_text::proofs::Begins::same_begins, nquads_text::proofs::Begins::more_begins))]
+pub fn write_answer_head(
+    alloc: Global,
+    status: Status,
+    length: u128,
+    closes: bool,
+    out: &mut Vec<u8>,
+) -> Result<(), OutOfMemory>
+    ensures ok { OnOk result (out.new.items ≡ out.old.items ++ head_text (code status) length closes) }
+    ensures front { Begins out.old.items out.new.items }
+{
+    let fields = fields(alloc, status, length, closes)?;
+    write_head(status.code(), fields.as_slice(), out)
+}

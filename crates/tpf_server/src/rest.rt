@@ -1,0 +1,147 @@
+// What is left of the body of an answer that was begun.
+ghost use Rattle.std.specs.Prelude.{ℕ, ◌≡◌, ◌++◌, ◌∷◌, [], ◌<◌, ◌≤◌, length, drop, false, true, IsTrue, OnOk, ◌↔◌};
+ghost use Rattle.nquads_text.specs.Begins.{Begins};
+ghost use Rattle.triple_table.specs.Stored.{Stored};
+ghost use Rattle.tpf_server.specs.Lines.{quad_lines, triple_lines};
+ghost use Rattle.tpf_server.specs.Given.{IsGiven};
+ghost use Rattle.tpf_server.specs.PageRests.{IsPart, page_left, page_pieces};
+ghost use Rattle.tpf_server.specs.Rests.{IsWithin, is_left, rest_pieces};
+
+use crate::lines::write_triple;
+use crate::status::Status;
+use nquads_text::write_quad;
+use rdf_terms::Quad;
+use std::marker::Model;
+use tpf_base::OutOfMemory;
+use triple_table::{Range, Table};
+
+/// The lines of a page that are left: a range of the table, and then the metadata from a place on.
+#[derive(Debug, Drop)]
+pub struct PageRest {
+    triples: Range,
+    metadata: Vec<Quad>,
+    next: usize,
+}
+
+impl Model for PageRest {
+    ghost use Rattle.std.specs.Prelude.{drop};
+    ghost use Rattle.tpf_server.specs.PageRests as rests;
+
+    ghost Value = { rests.PageLines };
+
+    ghost view = { λ p. record { triples = p.triples; quads = drop p.next p.metadata.items } };
+}
+
+impl PageRest {
+    pub fn new(triples: Range, metadata: Vec<Quad>) -> PageRest
+        ensures { result ≡ record { triples = triples; quads = metadata.items } }
+    {
+        PageRest {
+            triples,
+            metadata,
+            next: 0,
+        }
+    }
+
+    #[tactic(auto, using(crate::proofs::RestLaws::left_else, crate::proofs::RestLaws::left_then))]
+    fn is_left(&self) -> bool
+        ensures { result ≡ page_left self.now }
+    {
+        self.triples.from < self.triples.to || self.next < self.metadata.len()
+    }
+
+    /// Appends the next line of a triple.
+    #[tactic(auto, using(crate::proofs::RestLaws::page_passed, nquads_text::proofs::Begins::same_begins))]
+    fn give_triple(&mut self, table: &Table, out: &mut Vec<u8>) -> Result<(), OutOfMemory>
+        requires part { IsPart table.now self.old.triples }
+        requires some { self.old.triples.from < self.old.triples.to }
+        ensures ok { OnOk result (IsGiven (page_pieces table.now self.old) (page_pieces table.now self.new) out.old.items out.new.items) }
+        ensures part { IsPart table.now self.new.triples }
+        ensures front { Begins out.old.items out.new.items }
+    {
+        let _end = self.triples.to;
+        write_triple(table, table.at(&self.triples, 0), out)?;
+        self.triples.from += 1;
+        Ok(())
+    }
+
+    /// Appends the next line of the metadata.
+    fn give_quad(&mut self, table: &Table, out: &mut Vec<u8>) -> Result<(), OutOfMemory>
+        requires none { self.old.triples.to ≤ self.old.triples.from }
+        requires some { 0 < length self.old.quads }
+        ensures ok { OnOk result (IsGiven (page_pieces table.now self.old) (page_pieces table.now self.new) out.old.items out.new.items) }
+        ensures range { self.new.triples ≡ self.old.triples }
+        ensures front { Begins out.old.items out.new.items }
+    {
+        write_quad(&self.metadata[self.next], out)?;
+        self.next += 1;
+        Ok(())
+    }
+
+    /// Appends the next line.
+    fn give(&mut self, table: &Table, out: &mut Vec<u8>) -> Result<(), OutOfMemory>
+        requires part { IsPart table.now self.old.triples }
+        requires some { page_left self.old ≡ true }
+        ensures ok { OnOk result (IsGiven (page_pieces table.now self.old) (page_pieces table.now self.new) out.old.items out.new.items) }
+        ensures part { IsPart table.now self.new.triples }
+        ensures front { Begins out.old.items out.new.items }
+    {
+        if self.triples.from < self.triples.to {
+            self.give_triple(table, out)
+        } else {
+            self.give_quad(table, out)
+        }
+    }
+}
+
+/// What is left of a body.
+#[derive(Debug, Drop)]
+pub enum Rest {
+    Nothing,
+    /// The body of an answer without a page.
+    Line(Status),
+    Page(PageRest),
+}
+
+impl Rest {
+    pub fn is_left(&self) -> bool
+        ensures { result ≡ is_left self.now }
+    {
+        match self {
+            Rest::Nothing => false,
+            Rest::Line(_) => true,
+            Rest::Page(page) => page.is_left(),
+        }
+    }
+
+    /// Appends the next line.
+    #[tactic(auto, using(crate::proofs::RestLaws::given_page))]
+    pub fn give(&mut self, table: &Table, out: &mut Vec<u8>) -> Result<(), OutOfMemory>
+        requires range { IsWithin table.now self.old }
+        requires some { is_left self.old ≡ true }
+        ensures ok { OnOk result (IsGiven (rest_pieces table.now self.old) (rest_pieces table.now self.new) out.old.items out.new.items) }
+        ensures range { IsWithin table.now self.new }
+        ensures front { Begins out.old.items out.new.items }
+    {
+        match self {
+            Rest::Nothing => Ok(()),
+            Rest::Line(status) => {
+                out.extend_from_slice(status.body().as_bytes())?;
+                *self = Rest::Nothing;
+                Ok(())
+            }
+            Rest::Page(page) => page.give(table, out),
+        }
+    }
+
+    /// Gives the memory of a body back of which nothing is left.
+    #[tactic(auto, using(crate::proofs::RestLaws::rest_done))]
+    pub fn settle(&mut self)
+        ensures pieces { (table : Stored) → rest_pieces table self.new ≡ rest_pieces table self.old }
+        ensures range { (table : Stored) → IsWithin table self.old → IsWithin table self.new }
+    {
+        if !self.is_left() {
+            *self = Rest::Nothing;
+        }
+    }
+}

@@ -1,0 +1,48 @@
+// The statuses of answers.
+ghost use Rattle.std.specs.Prelude.{◌≡◌};
+ghost use Rattle.tpf_server.specs.Statuses.{body_text, code};
+
+use http::StatusCode;
+
+/// The status of an answer (RFC 9110, section 15; RFC 6585, section 5).
+#[derive(Clone, Copy, PartialEq, Eq, Debug)]
+pub enum Status {
+    /// 200
+    Found,
+    /// 400
+    BadRequest,
+    /// 404
+    NotFound,
+    /// 405
+    NotAllowed,
+    /// 431
+    TooLarge,
+}
+
+impl Status {
+    pub fn code(self) -> StatusCode
+        ensures { result ≡ code self }
+    {
+        match self {
+            Status::Found => StatusCode::OK,
+            Status::BadRequest => StatusCode::BAD_REQUEST,
+            Status::NotFound => StatusCode::NOT_FOUND,
+            Status::NotAllowed => StatusCode::METHOD_NOT_ALLOWED,
+            Status::TooLarge => StatusCode::REQUEST_HEADER_FIELDS_TOO_LARGE,
+        }
+    }
+
+    /// The body of an answer that has no page: the code, the phrase and LF.
+    #[tactic(auto, unfolding(crate::specs::Statuses::body_text))]
+    pub fn body(self) -> &'static str
+        ensures { result.now ≡ body_text self }
+    {
+        match self {
+            Status::Found => "200 OK\n",
+            Status::BadRequest => "400 Bad Request\n",
+            Status::NotFound => "404 Not Found\n",
+            Status::NotAllowed => "405 Method Not Allowed\n",
+            Status::TooLarge => "431 Request Header Fields Too Large\n",
+        }
+    }
+}
