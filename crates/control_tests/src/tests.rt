@@ -1,0 +1,125 @@
+// The lines of worked metadata and of their links, and a page that is read back.
+ghost use Rattle.std.specs.Prelude.{◌≡◌, IfOk};
+ghost use Rattle.template_fill.specs.Forms.{HasNoBlank};
+
+use control_reader::read_page;
+use hydra_controls::{Config, metadata};
+use nquads_text::write_quad;
+use rdf_terms::{Quad, Slot, Slots};
+use std::alloc::Global;
+use std::process::Abort;
+use std::test::Fail;
+use template_fill::WebAddress;
+use tpf_base::OutOfMemory;
+
+const LENGTHS: [usize; 18] = [
+    133, 124, 115, 136, 156, 88, 92, 135, 88, 94, 137, 88, 91, 134, 116, 152, 141, 123,
+];
+
+const FIRST: &[u8] =
+    b"<http://localhost/data#metadata> <http://xmlns.com/foaf/0.1/primaryTopic> <http://localhost/data> <http://localhost/data#metadata> .\n";
+
+const SIXTEENTH: &[u8] =
+    b"<http://localhost/data> <http://www.w3.org/ns/hydra/core#totalItems> \"0\"^^<http://www.w3.org/2001/XMLSchema#integer> <http://localhost/data#metadata> .\n";
+
+fn config(rt: &impl Abort, alloc: Global, base: &str, page_size: u64) -> Result<Config, Fail>
+    ensures { IfOk result (λ config. config.page_size ≡ page_size) }
+{
+    let base = WebAddress::read(alloc, base)?;
+    Ok(Config::new(base, page_size).expect(rt, "a config"))
+}
+
+fn free() -> Slots
+    ensures { HasNoBlank result }
+{
+    Slots {
+        subject: Slot::Any,
+        predicate: Slot::Any,
+        object: Slot::Any,
+    }
+}
+
+fn line(alloc: Global, quad: &Quad) -> Result<Vec<u8>, OutOfMemory> {
+    let mut text = Vec::new(alloc);
+    write_quad(quad, &mut text)?;
+    Ok(text)
+}
+
+#[test]
+fn the_first_page_of_no_triples_has_18_lines(rt: HostRuntime) -> Result<(), Fail> {
+    let config = config(&rt, rt.alloc(), "http://localhost/data", 100)?;
+    let quads = metadata(rt.alloc(), &config, &free(), 1, 0)?;
+    assert_eq!(rt; quads.len(), LENGTHS.len());
+    for (i, (quad, wanted)) in quads.iter().zip(LENGTHS).enumerate() {
+        let text = line(rt.alloc(), quad)?;
+        assert_eq!(rt; text.len(), wanted, "line {i}");
+        if i == 0 {
+            assert_eq!(rt; text.as_slice(), FIRST);
+        }
+        if i == 15 {
+            assert_eq!(rt; text.as_slice(), SIXTEENTH);
+        }
+    }
+    Ok(())
+}
+
+/// The lines after the first 18: links to other pages.
+fn links(alloc: Global, quads: &[Quad]) -> Result<Vec<u8>, OutOfMemory> {
+    let mut text = Vec::new(alloc);
+    for quad in quads.iter().skip(18) {
+        write_quad(quad, &mut text)?;
+    }
+    Ok(text)
+}
+
+const LINKS_OF_1: &[u8] =
+    b"<http://localhost/data> <http://www.w3.org/ns/hydra/core#next> <http://localhost/data?page=2> <http://localhost/data#metadata> .\n";
+
+const LINKS_OF_2: &[u8] =
+    b"<http://localhost/data?page=2> <http://www.w3.org/ns/hydra/core#next> <http://localhost/data?page=3> <http://localhost/data?page=2#metadata> .\n\
+<http://localhost/data?page=2> <http://www.w3.org/ns/hydra/core#previous> <http://localhost/data> <http://localhost/data?page=2#metadata> .\n";
+
+const LINKS_OF_3: &[u8] =
+    b"<http://localhost/data?page=3> <http://www.w3.org/ns/hydra/core#previous> <http://localhost/data?page=2> <http://localhost/data?page=3#metadata> .\n";
+
+#[test]
+fn seven_triples_by_three_have_links_among_three_pages(rt: HostRuntime) -> Result<(), Fail> {
+    let config = config(&rt, rt.alloc(), "http://localhost/data", 3)?;
+    for (page, wanted) in [(1u64, LINKS_OF_1), (2, LINKS_OF_2), (3, LINKS_OF_3)] {
+        let quads = metadata(rt.alloc(), &config, &free(), page, 7)?;
+        let text = links(rt.alloc(), quads.as_slice())?;
+        assert_eq!(rt; text.as_slice(), wanted, "page {page}");
+    }
+    Ok(())
+}
+
+/// The text of quads.
+fn text_of(alloc: Global, quads: &[Quad]) -> Result<Vec<u8>, OutOfMemory> {
+    let mut text = Vec::new(alloc);
+    for quad in quads {
+        write_quad(quad, &mut text)?;
+    }
+    Ok(text)
+}
+
+#[test]
+fn controls_are_read_back(rt: HostRuntime) -> Result<(), Fail> {
+    let config = config(&rt, rt.alloc(), "http://localhost/data", 3)?;
+    let address = WebAddress::read(rt.alloc(), "http://localhost/data?page=2")?;
+    let quads = metadata(rt.alloc(), &config, &free(), 2, 7)?;
+    let body = text_of(rt.alloc(), quads.as_slice())?;
+    let page = match read_page(rt.alloc(), body.as_slice(), &address) {
+        Ok(page) => page,
+        Err(_) => return Err(Fail::new("no page")),
+    };
+    assert_eq!(rt; page.count, 7);
+    assert_eq!(rt; page.triples.as_slice().len(), 0);
+    let next = page.next.as_ref().map(|next| next.text());
+    assert_eq!(rt; next, Some("http://localhost/data?page=3"));
+    let all = page.form.address(rt.alloc(), &free())?;
+    assert_eq!(rt; all.text(), "http://localhost/data");
+    assert_eq!(rt; page.form.subject.as_str(), "subject");
+    assert_eq!(rt; page.form.predicate.as_str(), "predicate");
+    assert_eq!(rt; page.form.object.as_str(), "object");
+    Ok(())
+}
