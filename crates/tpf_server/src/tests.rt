@@ -109,7 +109,7 @@ fn response(
 
 /// The response to these bytes fed whole, where it is the same byte by byte.
 fn whole_response(alloc: Global, server: &Server, bytes: &[u8]) -> Result<(Vec<u8>, bool), Fail> {
-    let (whole, ended) = response(alloc, server, bytes, 1000000)?;
+    let (whole, ended) = response(alloc, server, bytes, 6000000)?;
     let (cut, cut_ended) = response(alloc, server, bytes, 1)?;
     if whole.as_slice() != cut.as_slice() || ended != cut_ended {
         return Err(Fail::new("the cuts matter"));
@@ -279,7 +279,7 @@ fn a_refused_head_ends_the_connection(rt: HostRuntime) -> Result<(), Fail> {
     for _ in 0..5242880 {
         long.push(b'a')?;
     }
-    let (refused, refused_ended) = response(rt.alloc(), &server, &long, 6000000)?;
+    let (refused, refused_ended) = whole_response(rt.alloc(), &server, &long)?;
     assert!(rt; refused_ended);
     assert_eq!(rt; refused.as_slice(), LONG_ANSWER.as_bytes());
     Ok(())
