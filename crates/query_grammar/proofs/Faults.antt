@@ -4,12 +4,13 @@ use Rattle.std.proofs.lemmas.List.{take_more, map-append, take_all, take-append-
 use Rattle.std.proofs.lemmas.Bool.{cases_order}
 use Rattle.regular_expressions.specs.Regular.{Regular, Matches, left, lefts, nullable}
 use Rattle.regular_expressions.proofs.Left.{lefts-append, alive-begins, nothing-begins, ends-matches, matches-ends}
+use Rattle.regular_expressions.proofs.Decide.{decide_matches, decide_begins, IsGreatest, greatest_or_none}
 use Rattle.query_grammar.specs.declared.kind.Kind.{Kind}
 use Rattle.query_grammar.specs.declared.machine.State.{State}
-use Rattle.query_grammar.specs.declared.machine.State.TheVariants.{AtEnd}
+use Rattle.query_grammar.specs.declared.machine.State.TheVariants.{Start, AtEnd}
 use Rattle.query_grammar.specs.Steps.{next, is_end}
 use Rattle.query_grammar.specs.Grammar.{code, codes, query, IsQuery, BeginsQuery, IsGrammarFault}
-use Rattle.query_grammar.proofs.Follows.{rest_of, rest_after, follows, alive, ends}
+use Rattle.query_grammar.proofs.Follows.{rest_of, rest_after, follows, alive, ends, starts}
 
 -- these tokens lead to what is left in this state, or to nothing
 pub record At (ks : List Kind) (i : ℕ) (o : Option State) : Type 0 where
@@ -80,3 +81,27 @@ one_place ks m n a b = pick (cases_order m n)
     pick (inl e) = e
     pick (inr (inl h)) = absurd (not_less ks m n a b h)
     pick (inr (inr h)) = absurd (not_less ks n m b a h)
+
+-- ---- a query or a fault
+
+pub some_reading : (ks : List Kind) → IsQuery ks ⊎ ((n : ℕ) × IsGrammarFault ks n)
+some_reading ks = pick (decide_matches query (codes ks)) (greatest_or_none front (λ n. decide_begins query (codes (take n ks))) (length ks))
+  where
+    front : ℕ → Type 0
+    front n = BeginsQuery (take n ks)
+
+    none_begun : ((n : ℕ) → n ≤ length ks → front n → ⊥) → ⊥
+    none_begun none = none 0 (omega arith) (alive-begins query (rest_of Start) [] (sym starts) (alive Start))
+
+    stopped : (IsQuery ks → ⊥) → (n : ℕ) → IsGreatest front (length ks) n → IsGrammarFault ks n
+    stopped no_reading n g = record {
+      no_query = no_reading;
+      within = g.within;
+      before = g.is;
+      here = λ h b. let m = g.greatest (n + 1) (omega arith) b in absurd (omega arith);
+    }
+
+    pick : IsQuery ks ⊎ (IsQuery ks → ⊥) → ((n : ℕ) × IsGreatest front (length ks) n) ⊎ ((n : ℕ) → n ≤ length ks → front n → ⊥) → IsQuery ks ⊎ ((n : ℕ) × IsGrammarFault ks n)
+    pick (inl q) g = inl q
+    pick (inr no_reading) (inl g) = inr (g.0, stopped no_reading g.0 g.1)
+    pick (inr no_reading) (inr none) = absurd (none_begun none)

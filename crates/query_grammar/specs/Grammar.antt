@@ -1,6 +1,7 @@
 -- The grammar of queries (SPARQL 1.1, section 19.8), as a regular expression over the kinds of tokens: without groups inside groups it is one.
-use Rattle.std.specs.Prelude.{[], ◌∷◌, ℕ, ◌≡◌, ◌+◌, ◌<◌, ◌≤◌, List, map, take, length}
-use Rattle.regular_expressions.specs.Regular.{Regular, nil, one_of, seq, alt, many, Matches, Begins}
+use Rattle.std.specs.Prelude.{[], ◌∷◌, ℕ, ◌≡◌, ◌⊎◌, ◌+◌, ◌<◌, ◌≤◌, List, map, take, length}
+use Rattle.regular_expressions.specs.Regular.{Regular, one_of, many, Matches, Begins}
+use Rattle.regular_expressions.specs.Combinators.{◌·◌, ◌∣◌, maybe}
 use Rattle.query_grammar.specs.declared.kind.Kind.{Kind}
 use Rattle.query_grammar.specs.declared.kind.Kind.TheVariants.{Iri, Prefix, Prefixed, Variable, Blank, Anonymous, Str, Tag, Number, PrefixWord, SelectWord, WhereWord, TrueWord, FalseWord, TypeWord, OtherWord, OpenBrace, CloseBrace, Dot, Semicolon, Comma, Star, Carets}
 
@@ -29,20 +30,6 @@ code Semicolon = 19
 code Comma = 20
 code Star = 21
 code Carets = 22
-
-infixl 12 ◌·◌
--- one after the other
-abbrev pub ◌·◌ : Regular → Regular → Regular
-r · s = seq r s
-
-infixl 11 ◌∣◌
--- one or the other
-abbrev pub ◌∣◌ : Regular → Regular → Regular
-r ∣ s = alt r s
-
--- one or nothing
-abbrev pub maybe : Regular → Regular
-maybe r = alt r nil
 
 -- one token of a kind
 abbrev pub a : Kind → Regular
@@ -107,7 +94,8 @@ pub record IsGrammarFault (ks : List Kind) (n : ℕ) : Type 0 where
   pub before : BeginsQuery (take n ks)
   pub here : n < length ks → BeginsQuery (take (n + 1) ks) → ⊥
 
--- some tokens have at most one place of fault, and none where they are a query
+-- tokens are exactly one of the two: a query, or a list with one place of fault
 pub record OneFault : Type 0 where
+  pub some : (ks : List Kind) → IsQuery ks ⊎ ((n : ℕ) × IsGrammarFault ks n)
   pub faults : (ks : List Kind) (m n : ℕ) → IsGrammarFault ks m → IsGrammarFault ks n → m ≡ n
   pub apart : (ks : List Kind) (n : ℕ) → IsQuery ks → IsGrammarFault ks n → ⊥

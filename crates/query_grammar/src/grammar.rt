@@ -24,8 +24,8 @@ pub fn grammar_fault(kinds: &[Kind]) -> Option<usize>
     }
 }
 
-/// Tokens are a query or have one place of fault. Whatever begins a query can be completed, so
-/// that the first token that cannot come is known at once.
+/// Tokens are exactly one of the two: a query, or a list with one place of fault. Whatever begins
+/// a query can be completed, so that the first token that cannot come is known at once.
 pub fn one_fault()
     ensures { OneFault }
 {}

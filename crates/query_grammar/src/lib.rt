@@ -5,3 +5,5 @@
 pub mod grammar;
 pub mod kind;
 mod machine;
+#[cfg(test)]
+mod tests;

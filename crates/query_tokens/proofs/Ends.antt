@@ -41,7 +41,7 @@ last_same (b ∷ u) (c ∷ v) x y e =
 one_mark : (j k : PieceKind) → mark j ≡ mark k → j ≡ k
 one_mark j k e = let p : place j ≡ place k = omega (arith, e) in one_place j k p
 
-abbrev IsIn : PieceKind → List PieceKind → Type 0
+abbrev pub IsIn : PieceKind → List PieceKind → Type 0
 IsIn k [] = ⊥
 IsIn k (j ∷ js) = (k ≡ j) ⊎ IsIn k js
 
@@ -50,7 +50,7 @@ nth_in k [] i h e = absurd (omega arith)
 nth_in k (j ∷ js) zero h e = inl (sym e)
 nth_in k (j ∷ js) (suc i) h e = inr (nth_in k js i (omega arith) e)
 
-in_all : (k : PieceKind) → IsIn k all_kinds
+pub in_all : (k : PieceKind) → IsIn k all_kinds
 in_all k = nth_in k all_kinds (place k) (place_below k) (at_place k)
 
 mark_letter : (j k : PieceKind) → k ≡ j → Matches (one_of (mark j ∷ [])) (mark k ∷ [])

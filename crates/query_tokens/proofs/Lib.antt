@@ -5,3 +5,4 @@ pub mod Ends
 pub mod Follows
 pub mod OneKind
 pub mod Pieces
+pub mod Readings

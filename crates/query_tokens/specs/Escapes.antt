@@ -1,18 +1,15 @@
 -- The escapes of IRIs and strings: which ones may stand there, what each stands for, and a text with its escapes resolved.
-use Rattle.std.specs.Prelude.{ℕ, ◌≡◌, ◌+◌, ◌-◌, ◌*◌, min, Bool, true, false, not, ◌==◌, ◌&&◌, ◌||◌, nat_le, nat_lt, List, [], ◌∷◌, take, length, if◌then◌else◌, zero, suc}
+use Rattle.std.specs.Prelude.{ℕ, ◌≡◌, ◌+◌, ◌*◌, min, Bool, true, false, not, ◌==◌, ◌&&◌, ◌||◌, nat_le, nat_lt, List, [], ◌∷◌, take, length, if◌then◌else◌, zero, suc}
+use Rattle.std.specs.Char.{is_ascii_hexdigit, digit_value}
 use Rattle.std.specs.List.{list_all}
 use Rattle.query_tokens.specs.declared.kind.PieceKind.{PieceKind}
 use Rattle.query_tokens.specs.declared.kind.PieceKind.TheVariants.{Iri, Str}
 use Rattle.query_tokens.specs.Classes.{is_between}
 use Rattle.query_tokens.specs.Forms.{IsLongest}
 
--- 0 to 9, a to f, A to F
-abbrev pub is_hex_digit : ℕ → Bool
-is_hex_digit c = is_between 48 c 57 || (is_between 65 c 70 || is_between 97 c 102)
-
--- the value of a hexadecimal digit
+-- the value of a hexadecimal digit, and 0 for any other character
 abbrev pub hex_digit : ℕ → ℕ
-hex_digit c = if nat_lt c 58 then c - 48 else (if nat_lt c 71 then c - 55 else c - 87)
+hex_digit c = if nat_lt (digit_value c) 16 then digit_value c else 0
 
 -- the number that these digits spell after n; past the last character it counts as the next number
 abbrev pub hex_after : ℕ → List ℕ → ℕ
@@ -33,7 +30,7 @@ may_stand in_iri n = if in_iri then is_iri_char n else is_scalar n
 
 -- what follows 'u' or 'U' begins with so many hexadecimal digits, and their number may stand there
 abbrev pub is_numeric : Bool → ℕ → List ℕ → Bool
-is_numeric in_iri count cs = (length (take count cs) == count) && (list_all is_hex_digit (take count cs) && may_stand in_iri (hex_after 0 (take count cs)))
+is_numeric in_iri count cs = (length (take count cs) == count) && (list_all is_ascii_hexdigit (take count cs) && may_stand in_iri (hex_after 0 (take count cs)))
 
 -- the character that ECHAR stands for, or 0
 abbrev pub character_of : ℕ → ℕ

@@ -1,30 +1,13 @@
 -- The tokens of SPARQL 1.1, section 19.8, as regular expressions over the classes of characters.
 use Rattle.std.specs.Prelude.{ℕ, ◌≤◌, List, [], ◌∷◌, map, take, length}
-use Rattle.regular_expressions.specs.Regular.{Regular, nil, one_of, seq, alt, many, Matches}
+use Rattle.regular_expressions.specs.Regular.{Regular, one_of, many, Matches}
+use Rattle.regular_expressions.specs.Combinators.{◌·◌, ◌∣◌, maybe, some}
 use Rattle.query_tokens.specs.Classes.{class_of}
 use Rattle.query_tokens.specs.Sets.{code, white, letter, letter_or_digit, base, name_start, variable_char, name_char, name_char_or_dot, local_start, local_char, local_char_or_dot, hex, plus_or_minus, escaped, iri_char, line_char, quoted_char, apostrophed_char}
 use Rattle.query_tokens.specs.declared.class.Class.{Class}
 use Rattle.query_tokens.specs.declared.class.Class.TheVariants as classes
 use Rattle.query_tokens.specs.declared.kind.PieceKind.{PieceKind}
 use Rattle.query_tokens.specs.declared.kind.PieceKind.TheVariants as kinds
-
-infixl 12 ◌·◌
--- one after the other
-abbrev pub ◌·◌ : Regular → Regular → Regular
-r · s = seq r s
-
-infixl 11 ◌∣◌
--- one or the other
-abbrev pub ◌∣◌ : Regular → Regular → Regular
-r ∣ s = alt r s
-
--- one or nothing
-abbrev pub maybe : Regular → Regular
-maybe r = r ∣ nil
-
--- one or more
-abbrev pub some : Regular → Regular
-some r = r · many r
 
 -- a character of a set of classes
 abbrev pub any : List Class → Regular

@@ -1,5 +1,5 @@
 -- The machine that stands inside a token: where it goes with a class of characters, and which token it has read.
-use Rattle.std.specs.Prelude.{ℕ, List, [], ◌∷◌, Option, Some, None, if◌then◌else◌}
+use Rattle.std.specs.Prelude.{ℕ, Bool, true, false, List, [], ◌∷◌, Option, Some, None, if◌then◌else◌}
 use Rattle.query_tokens.specs.declared.class.Class.{Class}
 use Rattle.query_tokens.specs.declared.class.Class.TheVariants as classes
 use Rattle.query_tokens.specs.declared.kind.PieceKind.{PieceKind}
@@ -70,6 +70,18 @@ taken (e ∷ es) k = if is_in e.0 k then Some e.1 else taken es k
 -- the state after one more character of a class, where there is one
 abbrev pub next : State → Class → Option State
 next s k = taken (edges s) k
+
+-- inside a number, past its first character
+abbrev pub is_in_number : State → Bool
+is_in_number Sign = true
+is_in_number Digits = true
+is_in_number SignDot = true
+is_in_number DigitsDot = true
+is_in_number Fraction = true
+is_in_number Exponent = true
+is_in_number ExponentSign = true
+is_in_number ExponentDigits = true
+is_in_number _ = false
 
 -- the token that has just been read, where the state ends one
 abbrev pub kind_at : State → Option PieceKind

@@ -1,5 +1,5 @@
 -- The pieces of a text: at each place the longest token, white space or comment.
-use Rattle.std.specs.Prelude.{ℕ, ◌≡◌, ◌+◌, ◌<◌, ◌≤◌, Bool, true, false, List, [], ◌∷◌, ◌++◌, take, drop, length, if◌then◌else◌}
+use Rattle.std.specs.Prelude.{ℕ, ◌≡◌, ◌⊎◌, ◌+◌, ◌<◌, ◌≤◌, Bool, true, false, List, [], ◌∷◌, ◌++◌, take, drop, length, if◌then◌else◌}
 use Rattle.std.specs.Str.{encode_utf8_all}
 use Rattle.query_tokens.specs.declared.kind.PieceKind.{PieceKind}
 use Rattle.query_tokens.specs.declared.kind.PieceKind.TheVariants.{White, Comment}
@@ -49,8 +49,9 @@ pub record Fits (cs : List ℕ) (t : Piece) : Type 0 where
   pub at : t.at ≡ byte_place cs t.place
   pub to : t.to ≡ byte_place cs (t.place + t.len)
 
--- a text has one list of tokens or one first fault, and not both
+-- a text has exactly one of the two: one list of tokens, or one first fault
 pub record OneReading : Type 0 where
+  pub some : (cs : List ℕ) → ((ts : List Piece) × AreTokens cs ts) ⊎ ((n : ℕ) × IsTokenFault cs n)
   pub tokens : (cs : List ℕ) (a b : List Piece) → AreTokens cs a → AreTokens cs b → a ≡ b
   pub faults : (cs : List ℕ) (m n : ℕ) → IsTokenFault cs m → IsTokenFault cs n → m ≡ n
   pub apart : (cs : List ℕ) (ts : List Piece) (n : ℕ) → AreTokens cs ts → IsTokenFault cs n → ⊥

@@ -1,14 +1,15 @@
 // Escapes in IRIs and strings.
 ghost use Rattle.std.specs.Prelude.{◌≡◌, ◌≤◌, ◌<◌, ℕ, List, length, take, MatchOption};
+ghost use Rattle.std.specs.Char.{is_ascii_hexdigit};
 ghost use Rattle.std.specs.List.{list_all};
-ghost use Rattle.query_tokens.specs.Escapes.{is_hex_digit, hex_digit, hex_after, is_scalar, is_iri_char, may_stand, is_numeric, character_of, is_escape, good_escapes, has_good_escapes};
+ghost use Rattle.query_tokens.specs.Escapes.{hex_digit, hex_after, is_scalar, is_iri_char, may_stand, is_numeric, character_of, is_escape, good_escapes, has_good_escapes};
 
 use crate::kind::PieceKind;
 
 fn is_scalar(n: u32) -> bool
     ensures { result ≡ is_scalar n }
 {
-    n < 0xD800 || (n >= 0xE000 && n <= 0x10FFFF)
+    char::from_u32(n).is_some()
 }
 
 fn is_iri_char(n: u32) -> bool
@@ -33,24 +34,12 @@ fn may_stand(in_iri: bool, n: u32) -> bool
     if in_iri { is_iri_char(n) } else { is_scalar(n) }
 }
 
-fn is_hex_digit(c: char) -> bool
-    ensures { result ≡ is_hex_digit c }
-{
-    matches!(c, '0'..='9' | 'A'..='F' | 'a'..='f')
-}
-
+/// The value of a hexadecimal digit, and 0 for any other character.
 fn hex_digit(c: char) -> u32
     ensures value { result ≡ hex_digit c }
-    ensures small { result ≤ 0x110000 }
+    ensures small { result < 16 }
 {
-    let code = u32::from(c);
-    if code < 58 {
-        code.saturating_sub(48)
-    } else if code < 71 {
-        code - 55
-    } else {
-        code.saturating_sub(87)
-    }
+    c.to_digit(16).unwrap_or(0)
 }
 
 /// The number that hexadecimal digits spell, at most 0x110000.
@@ -73,9 +62,9 @@ pub fn first_chars(chars: &[char], n: usize) -> &[char]
 }
 
 fn are_hex_digits(chars: &[char]) -> bool
-    ensures { result ≡ list_all is_hex_digit chars.now }
+    ensures { result ≡ list_all is_ascii_hexdigit chars.now }
 {
-    chars.iter().all(|c| is_hex_digit(*c))
+    chars.iter().all(|c| c.is_ascii_hexdigit())
 }
 
 fn is_numeric(in_iri: bool, count: usize, chars: &[char]) -> bool

@@ -8,3 +8,5 @@ pub mod kind;
 mod longest;
 mod machine;
 pub mod piece;
+#[cfg(test)]
+mod tests;

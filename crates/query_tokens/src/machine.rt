@@ -1,7 +1,7 @@
 // The machine that reads one token: where it stands inside the token, and where it goes with a
 // character. Its states are named by what they have read of the token.
-ghost use Rattle.std.specs.Prelude.{◌≡◌};
-ghost use Rattle.query_tokens.specs.Machine.{next, kind_at};
+ghost use Rattle.std.specs.Prelude.{◌≡◌, None, if◌then◌else◌};
+ghost use Rattle.query_tokens.specs.Machine.{next, kind_at, is_in_number};
 
 use crate::class::Class;
 use crate::kind::PieceKind;
@@ -474,7 +474,7 @@ fn after_local_percent(class: Class) -> Option<State>
     }
 }
 
-fn after_local_first_percent_hex(class: Class) -> Option<State>
+fn after_percent_hex(class: Class) -> Option<State>
     ensures { result ≡ next State.LocalFirstPercentHex class }
 {
     if class.is_hex() {
@@ -516,6 +516,20 @@ fn after_tag_more(class: Class) -> Option<State>
     }
 }
 
+fn step_in_number(state: State, class: Class) -> Option<State>
+    ensures { result ≡ (if is_in_number state then next state class else None) }
+{
+    match state {
+        State::Sign => after_sign(class),
+        State::Digits => after_digits(class),
+        State::SignDot => after_dot(class),
+        State::Fraction | State::DigitsDot => after_fraction(class),
+        State::Exponent => after_exponent(class),
+        State::ExponentSign | State::ExponentDigits => after_exponent_sign(class),
+        _ => None,
+    }
+}
+
 /// The state after one more character of a class, where there is one.
 pub fn step(state: State, class: Class) -> Option<State>
     ensures { result ≡ next state class }
@@ -531,11 +545,9 @@ pub fn step(state: State, class: Class) -> Option<State>
         State::VariableMark => after_variable_mark(class),
         State::Underscore => after_underscore(class),
         State::Prefix => after_prefix(class),
-        State::Dot | State::SignDot => after_dot(class),
+        State::Dot => after_dot(class),
         State::OpenBracket => after_open_bracket(class),
         State::At => after_at(class),
-        State::Sign => after_sign(class),
-        State::Digits => after_digits(class),
         State::Word => after_word(class),
         State::Name => after_name(class),
         State::IriEscape => after_iri_escape(class),
@@ -546,18 +558,13 @@ pub fn step(state: State, class: Class) -> Option<State>
         State::LocalFirstEscape | State::LocalEscape => after_local_first_escape(class),
         State::Local | State::LocalDots => after_local(class),
         State::LocalFirstPercent => after_local_first_percent(class),
-        State::Fraction | State::DigitsDot => after_fraction(class),
         State::Tag => after_tag(class),
-        State::Exponent => after_exponent(class),
         State::NameDots => after_name_dots(class),
         State::Label | State::LabelDots => after_label(class),
         State::LocalPercent => after_local_percent(class),
-        State::LocalFirstPercentHex | State::LocalPercentHex => after_local_first_percent_hex(
-            class,
-        ),
+        State::LocalFirstPercentHex | State::LocalPercentHex => after_percent_hex(class),
         State::TagMinus => after_tag_minus(class),
-        State::ExponentSign | State::ExponentDigits => after_exponent_sign(class),
         State::TagMore => after_tag_more(class),
-        _ => None,
+        _ => step_in_number(state, class),
     }
 }

@@ -27,6 +27,7 @@ pub struct Piece {
 pub enum PieceFault {
     /// The place of the byte that begins no token, white space or comment.
     At(usize),
+    /// Want of memory.
     OutOfMemory,
 }
 
@@ -91,7 +92,8 @@ fn add(pieces: &mut Vec<Piece>, piece: Piece) -> Result<(), PieceFault>
 }
 
 /// The tokens of a text of at most 262144 characters. `At` exactly where some place begins no
-/// token, no white space and no comment: its first such place, in bytes.
+/// token, no white space and no comment: its first such place, in bytes. `OutOfMemory` for want
+/// of memory alone.
 pub fn pieces(alloc: Global, chars: &[char]) -> Result<Vec<Piece>, PieceFault>
     requires { length chars.now ≤ 262144 }
     ensures ok { IfOk result (λ v. AreTokens chars.now v.items) }
@@ -129,7 +131,7 @@ pub fn pieces(alloc: Global, chars: &[char]) -> Result<Vec<Piece>, PieceFault>
     Ok(pieces)
 }
 
-/// A text has one list of tokens, or one fault.
+/// A text has exactly one of the two: one list of tokens, or one first fault.
 pub fn one_reading()
     ensures { OneReading }
 {}

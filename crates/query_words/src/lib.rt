@@ -2,5 +2,7 @@
 //! the words of the grammar.
 #![tactic(auto)]
 
+#[cfg(test)]
+mod tests;
 pub mod text;
 pub mod word;

@@ -5,14 +5,14 @@ ghost use Rattle.query_tokens.specs.Escapes.{resolved, resolved_after, escape_va
 ghost use Rattle.query_words.specs.Texts.{same_word, inside, colon, unescaped, resolved_text, prefix_text, local_text};
 
 use query_tokens::escape::{character_of, first_chars, hex_value};
-use std::alloc::{AllocError, Global};
+use std::alloc::Global;
 use tpf_base::{OutOfMemory, Text};
 
-/// The characters of a text.
-pub fn decode(alloc: Global, text: &str) -> Result<Vec<char>, AllocError>
+/// The characters of a text. `OutOfMemory` for want of memory alone, as of the calls below.
+pub fn decode(alloc: Global, text: &str) -> Result<Vec<char>, OutOfMemory>
     ensures { IfOk result (λ v. v.items ≡ chars text.now) }
 {
-    text.chars().collect(alloc)
+    Ok(text.chars().collect(alloc)?)
 }
 
 /// Whether characters are a word, in any case. The word is in lower case.
@@ -69,7 +69,7 @@ fn colon(chars: &[char]) -> usize
     chars.len()
 }
 
-/// The text of some characters. `OutOfMemory` for want of memory alone, as of the calls below.
+/// The text of some characters.
 pub fn text_of(alloc: Global, chars: &[char]) -> Result<Text, OutOfMemory>
     ensures { IfOk result (λ t. t ≡ encode_utf8_all chars.now) }
 {

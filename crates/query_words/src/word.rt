@@ -126,7 +126,7 @@ pub fn words_of(alloc: Global, chars: &[char], pieces: &[Piece]) -> Result<Vec<W
     requires fits { All (Fits chars.now) pieces.now }
     ensures { IfOk result (λ v. v.items ≡ words_of chars.now pieces.now) }
 {
-    let mut words = Vec::new(alloc);
+    let mut words = Vec::with_capacity(alloc, pieces.len())?;
     for piece in pieces {
         words.push(word_of(alloc, chars, piece)?)?;
     }
@@ -167,7 +167,7 @@ fn kind_of(value: &Value) -> Kind
 pub fn kinds_of(alloc: Global, words: &[Word]) -> Result<Vec<Kind>, OutOfMemory>
     ensures { IfOk result (λ v. v.items ≡ kinds_of words.now) }
 {
-    let mut kinds = Vec::new(alloc);
+    let mut kinds = Vec::with_capacity(alloc, words.len())?;
     for word in words {
         kinds.push(kind_of(&word.value))?;
     }

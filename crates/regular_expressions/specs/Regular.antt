@@ -94,3 +94,11 @@ NullableIsExact = (r : Regular) → (nullable r ≡ true → Matches r []) × (M
 -- what is alive is matched by some text
 abbrev pub AliveBegins : Type 0
 AliveBegins = (r : Regular) → is_alive r ≡ true → Begins r []
+
+-- a text matches an expression or does not
+abbrev pub MatchingIsDecided : Type 0
+MatchingIsDecided = (r : Regular) (w : List ℕ) → Matches r w ⊎ (Matches r w → ⊥)
+
+-- some text that begins so matches, or none does
+abbrev pub BeginningIsDecided : Type 0
+BeginningIsDecided = (r : Regular) (w : List ℕ) → Begins r w ⊎ (Begins r w → ⊥)
