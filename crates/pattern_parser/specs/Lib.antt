@@ -1,4 +1,5 @@
 pub mod Items
+pub mod Limits
 pub mod Names
 pub mod Numbers
 pub mod Prefixes
@@ -6,3 +7,5 @@ pub mod Queries
 pub mod Tokens
 pub mod Triples
 pub mod Productions
+pub mod Read
+pub mod Written

@@ -67,7 +67,7 @@ gives_lang_string iri [] = false
 gives_lang_string iri (c ∷ []) = false
 gives_lang_string iri (c ∷ d ∷ ws) = is_carets c.value && is_lang_string (iri_text iri d.value)
 
--- a string, before which stands what gives it the datatype rdf:langString
+-- a string, behind which stands what gives it the datatype rdf:langString
 abbrev pub is_lang : (List ℕ → Option (List ℕ)) → Value → List Word → Bool
 is_lang iri (Str s) ws = gives_lang_string iri ws
 is_lang iri _ ws = false

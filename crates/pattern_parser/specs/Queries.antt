@@ -1,5 +1,5 @@
 -- What a text is as a query, and its first fault.
-use Rattle.std.specs.Prelude.{ℕ, ◌≡◌, ◌<◌, ◌≤◌, Bool, true, false, ◌||◌, List, [], ◌∷◌, map, take, drop, length, Option, Some, None, if◌then◌else◌, slice_get, option_map}
+use Rattle.std.specs.Prelude.{ℕ, ◌≡◌, ◌⊎◌, ◌<◌, ◌≤◌, Bool, true, false, ◌||◌, List, [], ◌∷◌, map, take, drop, length, Option, Some, None, if◌then◌else◌, slice_get, option_map}
 use Rattle.std.specs.Str.{chars, IsUtf8, IsValidUpTo}
 use Rattle.bgp_core.specs.Queries.{QueryData}
 use Rattle.query_tokens.specs.declared.piece.Piece.{Piece}
@@ -175,8 +175,9 @@ pub record ReadsTokens (text : List ℕ) (ws : List Word) : Type 0 where
   pub are : AreTokens (chars text) tokens
   pub words : ws ≡ words_of (chars text) tokens
 
--- a text is one query or has one first fault, and never both
+-- a text is exactly one of the two: one query, or a text with one first fault
 pub record OneQuery : Type 0 where
+  pub some : (text : List ℕ) → ((q : QueryData) × ReadsQuery text q) ⊎ ((w : QueryWhy) × (n : ℕ) × FaultAt text w n)
   pub queries : (text : List ℕ) (q r : QueryData) → ReadsQuery text q → ReadsQuery text r → q ≡ r
   pub faults : (text : List ℕ) (v : QueryWhy) (m : ℕ) (w : QueryWhy) (n : ℕ) → FaultAt text v m → FaultAt text w n → (v ≡ w) × (m ≡ n)
   pub apart : (text : List ℕ) (q : QueryData) (w : QueryWhy) (n : ℕ) → ReadsQuery text q → FaultAt text w n → ⊥

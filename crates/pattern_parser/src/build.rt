@@ -12,7 +12,8 @@ ghost use Rattle.pattern_parser.specs.Triples.{triples_after};
 ghost use Rattle.pattern_parser.specs.Queries.{triples_of, query_of, excess, term_fault};
 
 use crate::fault::{QueryFault, QueryWhy};
-use crate::item::items_of;
+use crate::item::{items_of, names_of};
+use crate::limit::excess_in;
 use crate::names::Names;
 use crate::prefixes::{Prefixes, first_lang, first_relative, first_unknown};
 use crate::select::{before_brace, has_star, variable_numbers};
@@ -23,12 +24,7 @@ use std::alloc::Global;
 use tpf_base::{OutOfMemory, Text};
 
 /// Finds the first fault of names and terms, in the tokens from SELECT on and in all.
-pub fn check_terms(
-    alloc: Global,
-    prefixes: &Prefixes,
-    words: &[Word],
-    body: &[Word],
-) -> Result<(), QueryFault>
+pub fn check_terms(prefixes: &Prefixes, words: &[Word], body: &[Word]) -> Result<(), QueryFault>
     ensures ok { OnOk result (term_fault (λ q. get_by_text prefixes.now q) words.now body.now ≡ None) }
     ensures bad { (w : QueryWhy) (at : ℕ) → IsErrOf result (QueryFault.Bad at w) → term_fault (λ q. get_by_text prefixes.now q) words.now body.now ≡ Some (w, at) }
 {
@@ -44,22 +40,17 @@ pub fn check_terms(
             why: QueryWhy::RelativeIri,
         });
     }
-    match first_lang(alloc, prefixes, body)? {
-        Some(at) => Err(QueryFault::Bad {
+    if let Some(at) = first_lang(prefixes, body) {
+        return Err(QueryFault::Bad {
             at,
             why: QueryWhy::LangString,
-        }),
-        None => Ok(()),
+        });
     }
+    Ok(())
 }
 
 /// The numbers of the variables in some tokens, whose names join those given.
-fn listed(
-    alloc: Global,
-    prefixes: &Prefixes,
-    names: &mut Names,
-    words: &[Word],
-) -> Result<Vec<u32>, OutOfMemory>
+fn listed(alloc: Global, names: &mut Names, words: &[Word]) -> Result<Vec<u32>, OutOfMemory>
     requires numbered { AreNumbered names.old }
     requires few { length names.old.texts.items + length words.now < 2 ^ 32 - 1 }
     ensures numbers { IfOk result (λ v. v.items ≡ variable_numbers 0 names.new.texts.items) }
@@ -67,7 +58,7 @@ fn listed(
     ensures numbered { OnOk result (AreNumbered names.new) }
     ensures few { OnOk result (length names.new.texts.items ≤ length names.old.texts.items + length words.now) }
 {
-    let _ = items_of(alloc, prefixes, names, words)?;
+    names_of(alloc, names, words)?;
     variable_numbers(alloc, names.texts.as_slice())
 }
 
@@ -85,28 +76,18 @@ fn triples_in(
     ensures few { OnOk result (length names.new.texts.items ≤ length names.old.texts.items + length words.now) }
 {
     let items = items_of(alloc, prefixes, names, words)?;
-    triples(alloc, items.as_slice())
+    triples(alloc, items)
 }
 
 /// The patterns, each without the place of its object.
-fn patterns(alloc: Global, triples: &[Placed]) -> Result<Vec<Pattern>, OutOfMemory>
-    ensures { IfOk result (λ v. v.items ≡ map (λ p. p.pattern) triples.now) }
+fn patterns(alloc: Global, triples: Vec<Placed>) -> Result<Vec<Pattern>, OutOfMemory>
+    ensures { IfOk result (λ v. v.items ≡ map (λ p. p.pattern) triples.items) }
 {
     let mut patterns = Vec::new(alloc);
     for triple in triples {
-        patterns.push(triple.pattern.copy(alloc)?)?;
+        patterns.push(triple.pattern)?;
     }
     Ok(patterns)
-}
-
-/// The place of the object that completes the 65th pattern, if there is one.
-fn excess(triples: &[Placed]) -> Option<usize>
-    ensures { result ≡ excess triples.now }
-{
-    match triples.get(64) {
-        Some(triple) => Some(triple.at),
-        None => None,
-    }
 }
 
 /// The selected numbers: those of all names where `*` stands, or else those listed.
@@ -129,13 +110,13 @@ fn chosen(
 /// The query of some patterns, names and selected numbers.
 fn finish(
     alloc: Global,
-    triples: &[Placed],
+    triples: Vec<Placed>,
     texts: Vec<Text>,
     selected: Vec<u32>,
 ) -> Result<Query, OutOfMemory>
-    requires patterns { AllByRecursion (IsPatternOf (length texts.items)) (map (λ p. p.pattern) triples.now) }
+    requires patterns { AllByRecursion (IsPatternOf (length texts.items)) (map (λ p. p.pattern) triples.items) }
     requires selected { AllByRecursion (λ n. n < length texts.items) selected.items }
-    ensures { IfOk result (λ q. q ≡ record { patterns = map (λ p. p.pattern) triples.now; names = texts.items; selected = selected.items }) }
+    ensures { IfOk result (λ q. q ≡ record { patterns = map (λ p. p.pattern) triples.items; names = texts.items; selected = selected.items }) }
 {
     let patterns = patterns(alloc, triples)?;
     Ok(Query::new(patterns, texts, selected))
@@ -148,16 +129,16 @@ pub fn build(alloc: Global, prefixes: &Prefixes, body: &[Word]) -> Result<Query,
     ensures bad { (w : QueryWhy) (at : ℕ) → IsErrOf result (QueryFault.Bad at w) → (w ≡ QueryWhy.TooManyPatterns) × (excess (triples_of (λ n. get_by_text prefixes.now n) body.now) ≡ Some at) }
 {
     let (select, block) = body.split_at(before_brace(body));
-    let mut names = Names::new(alloc);
-    let numbers = listed(alloc, prefixes, &mut names, select)?;
-    let triples = triples_in(alloc, prefixes, &mut names, block)?;
-    if let Some(at) = excess(triples.as_slice()) {
+    if let Some(at) = excess_in(block) {
         return Err(QueryFault::Bad {
             at,
             why: QueryWhy::TooManyPatterns,
         });
     }
+    let mut names = Names::new(alloc);
+    let numbers = listed(alloc, &mut names, select)?;
+    let triples = triples_in(alloc, prefixes, &mut names, block)?;
     let Names { texts, places: _ } = names;
     let selected = chosen(alloc, has_star(select), numbers, texts.as_slice())?;
-    Ok(finish(alloc, triples.as_slice(), texts, selected)?)
+    Ok(finish(alloc, triples, texts, selected)?)
 }

@@ -10,9 +10,9 @@ use crate::names::Names;
 use crate::prefixes::{Prefixes, iri_text};
 use bgp_core::Part;
 use query_words::word::{Value, Word};
-use rdf_terms::{Term, is_iri, is_lang_string, is_tag};
+use rdf_terms::{IriText, Kind, Term, is_iri, is_lang_string, is_tag};
 use std::alloc::Global;
-use tpf_base::OutOfMemory;
+use tpf_base::{OutOfMemory, Text};
 
 /// A term or name with the place of its first token, or a mark.
 #[derive(Debug, Drop)]
@@ -23,15 +23,17 @@ pub enum Item {
     Comma,
 }
 
-fn iri_term(alloc: Global, text: &str) -> Result<Term, OutOfMemory>
-    ensures { IfOk result (λ t. t ≡ iri_term text.now) }
+/// Takes the text as it is, and no memory.
+fn iri_term(text: Text) -> Term
+    ensures { result ≡ iri_term text }
 {
-    if !is_iri(text) {
-        return Term::plain(alloc, text);
-    }
-    match Term::iri(alloc, text) {
-        Ok(term) => Ok(term),
-        Err(_) => Err(OutOfMemory),
+    if is_iri(text.as_str()) {
+        Term::Iri(IriText::from_text(text))
+    } else {
+        Term::Literal {
+            form: text,
+            kind: Kind::Plain,
+        }
     }
 }
 
@@ -63,7 +65,8 @@ fn tagged_term(alloc: Global, form: &str, tag: &str) -> Result<Term, OutOfMemory
 fn type_term(alloc: Global) -> Result<Term, OutOfMemory>
     ensures { IfOk result (λ t. t ≡ iri_term rdf_type) }
 {
-    iri_term(alloc, "http://www.w3.org/1999/02/22-rdf-syntax-ns#type")
+    let text = Text::copy(alloc, "http://www.w3.org/1999/02/22-rdf-syntax-ns#type")?;
+    Ok(iri_term(text))
 }
 
 #[tactic(auto, unfolding(crate::specs::Items::xsd_integer))]
@@ -157,8 +160,7 @@ fn string_term(
 fn iri_part(alloc: Global, prefixes: &Prefixes, value: &Value) -> Result<Term, OutOfMemory>
     ensures { IfOk result (λ t. t ≡ iri_term (iri_text (λ q. get_by_text prefixes.now q) value.now)) }
 {
-    let text = iri_text(alloc, prefixes, value)?;
-    iri_term(alloc, text.as_str())
+    Ok(iri_term(iri_text(alloc, prefixes, value)?))
 }
 
 /// The term of a token that is no name, with those after it.
@@ -170,23 +172,19 @@ fn term_of(
 ) -> Result<Option<Term>, OutOfMemory>
     ensures { IfOk result (λ o. o ≡ term_of (λ q. get_by_text prefixes.now q) value.now rest.now) }
 {
-    let term = match value {
+    Ok(Some(match value {
         Value::Iri(_) | Value::Prefix(_) | Value::Prefixed(_, _) => {
-            iri_part(alloc, prefixes, value)
+            iri_part(alloc, prefixes, value)?
         }
-        Value::Str(form) => string_term(alloc, prefixes, form.as_str(), rest),
-        Value::Integer(form) => integer(alloc, form.as_str()),
-        Value::Decimal(form) => decimal(alloc, form.as_str()),
-        Value::Double(form) => double(alloc, form.as_str()),
-        Value::True => boolean(alloc, "true"),
-        Value::False => boolean(alloc, "false"),
-        Value::TypeWord => type_term(alloc),
+        Value::Str(form) => string_term(alloc, prefixes, form.as_str(), rest)?,
+        Value::Integer(form) => integer(alloc, form.as_str())?,
+        Value::Decimal(form) => decimal(alloc, form.as_str())?,
+        Value::Double(form) => double(alloc, form.as_str())?,
+        Value::True => boolean(alloc, "true")?,
+        Value::False => boolean(alloc, "false")?,
+        Value::TypeWord => type_term(alloc)?,
         _ => return Ok(None),
-    };
-    match term {
-        Ok(term) => Ok(Some(term)),
-        Err(OutOfMemory) => Err(OutOfMemory),
-    }
+    }))
 }
 
 /// The text of a token that is a name.
@@ -239,7 +237,7 @@ fn more_after(rest: &[Word]) -> usize
 }
 
 /// How many tokens after a token belong to it.
-fn more(value: &Value, rest: &[Word]) -> usize
+pub fn more(value: &Value, rest: &[Word]) -> usize
     ensures { result ≡ more value.now rest.now }
 {
     match value {
@@ -343,4 +341,57 @@ pub fn items_of(
         skip = take_or_skip(alloc, prefixes, names, &mut items, word, rest, skip)?;
     }
     Ok(items)
+}
+
+/// Takes the name that a token is, if it is one.
+fn take_name(alloc: Global, names: &mut Names, value: &Value) -> Result<(), OutOfMemory>
+    requires numbered { AreNumbered names.old }
+    requires few { length names.old.texts.items < 2 ^ 32 - 1 }
+    ensures names { OnOk result (names.new.texts.items ≡ with_name names.old.texts.items (name_text value.now)) }
+    ensures numbered { OnOk result (AreNumbered names.new) }
+{
+    match name_text(value) {
+        Some(text) => {
+            let _ = names.number(alloc, text)?;
+            Ok(())
+        }
+        None => Ok(()),
+    }
+}
+
+/// Takes the name of a token, where so many from it on belong to one before it, and says how many
+/// of those after it belong to one before them.
+fn name_or_skip(
+    alloc: Global,
+    names: &mut Names,
+    word: &Word,
+    rest: &[Word],
+    skip: usize,
+) -> Result<usize, OutOfMemory>
+    requires numbered { AreNumbered names.old }
+    requires few { length names.old.texts.items < 2 ^ 32 - 1 }
+    ensures names { IfOk result (λ n. names_after names.new.texts.items n rest.now ≡ names_after names.old.texts.items skip (word.now ∷ rest.now)) }
+    ensures numbered { OnOk result (AreNumbered names.new) }
+    ensures few { OnOk result (length names.new.texts.items ≤ length names.old.texts.items + 1) }
+{
+    if skip > 0 {
+        return Ok(skip - 1);
+    }
+    take_name(alloc, names, &word.value)?;
+    Ok(more(&word.value, rest))
+}
+
+/// The names of some tokens join those given. `OutOfMemory` for want of memory alone.
+pub fn names_of(alloc: Global, names: &mut Names, words: &[Word]) -> Result<(), OutOfMemory>
+    requires numbered { AreNumbered names.old }
+    requires few { length names.old.texts.items + length words.now < 2 ^ 32 - 1 }
+    ensures names { OnOk result (names.new.texts.items ≡ names_after names.old.texts.items 0 words.now) }
+    ensures numbered { OnOk result (AreNumbered names.new) }
+    ensures few { OnOk result (length names.new.texts.items ≤ length names.old.texts.items + length words.now) }
+{
+    let mut skip = 0;
+    for (i, word) in words.iter().enumerate() {
+        skip = name_or_skip(alloc, names, word, &words[i + 1..], skip)?;
+    }
+    Ok(())
 }

@@ -4,6 +4,7 @@
 mod build;
 mod fault;
 mod item;
+mod limit;
 mod names;
 mod prefixes;
 mod reading;
@@ -12,7 +13,7 @@ mod token;
 mod triple;
 
 pub use fault::{QueryFault, QueryWhy};
-pub use reading::{one_query, parse};
+pub use reading::{one_query, parse, read_as_produced, terms_as_written};
 pub use token::{Token, TokenKind, tokens};
 pub use triple::as_produced;
 

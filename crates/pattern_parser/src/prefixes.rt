@@ -3,6 +3,7 @@ ghost use Rattle.std.specs.Prelude.{◌≡◌, ◌++◌, ℕ, List, [], IfOk, On
 ghost use Rattle.std.specs.Option.{is_some};
 ghost use Rattle.std.specs.BTreeMap.{get_by_text};
 ghost use Rattle.std.specs.Str.{bytes_eq};
+ghost use Rattle.rdf_terms.specs.Datatype.{is_lang_string, lang_string};
 ghost use Rattle.pattern_parser.specs.Prefixes.{or_else, declares, first_iri, iri_of, iri_text, is_unknown, is_relative, first_at, is_carets, gives_lang_string, is_lang, lang_at};
 
 use query_words::word::{Value, Word};
@@ -65,14 +66,21 @@ pub fn prefixes_of(alloc: Global, words: &[Word]) -> Result<Prefixes, OutOfMemor
     Ok(prefixes)
 }
 
+/// The IRI that a prefix stands for, or nothing where it is not declared.
+fn declared<'a>(prefixes: &'a Prefixes, name: &str) -> &'a str
+    ensures { result.now ≡ unwrap_or (get_by_text prefixes.now name.now) [] }
+{
+    match prefixes.get(name) {
+        Some(iri) => iri.as_str(),
+        None => "",
+    }
+}
+
 /// The IRI of a prefix with a local part behind it.
 fn joined(alloc: Global, prefixes: &Prefixes, name: &str, local: &str) -> Result<Text, OutOfMemory>
     ensures { IfOk result (λ t. t ≡ unwrap_or (get_by_text prefixes.now name.now) [] ++ local.now) }
 {
-    let mut text = String::new(alloc);
-    if let Some(iri) = prefixes.get(name) {
-        text.push_str(iri.as_str())?;
-    }
+    let mut text = String::from_str(alloc, declared(prefixes, name))?;
     text.push_str(local)?;
     Ok(Text::from_string(text))
 }
@@ -109,12 +117,8 @@ fn is_unknown(prefixes: &Prefixes, value: &Value) -> bool
 pub fn first_unknown(prefixes: &Prefixes, words: &[Word]) -> Option<usize>
     ensures { result ≡ first_at (is_unknown (λ q. get_by_text prefixes.now q)) words.now }
 {
-    for word in words {
-        if is_unknown(prefixes, &word.value) {
-            return Some(word.at);
-        }
-    }
-    None
+    let word = words.iter().find(|word| is_unknown(prefixes, &word.value))?;
+    Some(word.at)
 }
 
 fn is_relative(value: &Value) -> bool
@@ -130,12 +134,8 @@ fn is_relative(value: &Value) -> bool
 pub fn first_relative(words: &[Word]) -> Option<usize>
     ensures { result ≡ first_at is_relative words.now }
 {
-    for word in words {
-        if is_relative(&word.value) {
-            return Some(word.at);
-        }
-    }
-    None
+    let word = words.iter().find(|word| is_relative(&word.value))?;
+    Some(word.at)
 }
 
 fn is_carets(value: &Value) -> bool
@@ -144,53 +144,66 @@ fn is_carets(value: &Value) -> bool
     matches!(value, Value::Carets)
 }
 
-fn gives_lang_string(
-    alloc: Global,
-    prefixes: &Prefixes,
-    words: &[Word],
-) -> Result<bool, OutOfMemory>
-    ensures { IfOk result (λ b. b ≡ gives_lang_string (λ q. get_by_text prefixes.now q) words.now) }
+#[tactic(auto, unfolding(rdf_terms::specs::Datatype::lang_string))]
+fn lang_string() -> &'static str
+    ensures { result.now ≡ lang_string }
+{
+    "http://www.w3.org/1999/02/22-rdf-syntax-ns#langString"
+}
+
+/// Whether two texts are rdf:langString together. No text is made of them: a long IRI of a prefix
+/// may stand for many names.
+fn joins_lang_string(front: &str, local: &str) -> bool
+    ensures { result ≡ is_lang_string (front.now ++ local.now) }
+{
+    match lang_string().as_bytes().strip_prefix(front.as_bytes()) {
+        Some(rest) => rest == local.as_bytes(),
+        None => false,
+    }
+}
+
+/// Whether the IRI that a token stands for is rdf:langString.
+fn stands_for_lang_string(prefixes: &Prefixes, value: &Value) -> bool
+    ensures { result ≡ is_lang_string (iri_text (λ q. get_by_text prefixes.now q) value.now) }
+{
+    match value {
+        Value::Iri(text) => is_lang_string(text.as_str()),
+        Value::Prefix(name) => joins_lang_string(declared(prefixes, name.as_str()), ""),
+        Value::Prefixed(name, local) => {
+            joins_lang_string(declared(prefixes, name.as_str()), local.as_str())
+        }
+        _ => is_lang_string(""),
+    }
+}
+
+fn gives_lang_string(prefixes: &Prefixes, words: &[Word]) -> bool
+    ensures { result ≡ gives_lang_string (λ q. get_by_text prefixes.now q) words.now }
 {
     match words {
         [carets, datatype, ..] => {
-            if is_carets(&carets.value) {
-                let text = iri_text(alloc, prefixes, &datatype.value)?;
-                Ok(is_lang_string(text.as_str()))
-            } else {
-                Ok(false)
-            }
+            is_carets(&carets.value) && stands_for_lang_string(prefixes, &datatype.value)
         }
-        _ => Ok(false),
+        _ => false,
     }
 }
 
-fn is_lang(
-    alloc: Global,
-    prefixes: &Prefixes,
-    value: &Value,
-    rest: &[Word],
-) -> Result<bool, OutOfMemory>
-    ensures { IfOk result (λ b. b ≡ is_lang (λ q. get_by_text prefixes.now q) value.now rest.now) }
+fn is_lang(prefixes: &Prefixes, value: &Value, rest: &[Word]) -> bool
+    ensures { result ≡ is_lang (λ q. get_by_text prefixes.now q) value.now rest.now }
 {
     match value {
-        Value::Str(_) => gives_lang_string(alloc, prefixes, rest),
-        _ => Ok(false),
+        Value::Str(_) => gives_lang_string(prefixes, rest),
+        _ => false,
     }
 }
 
-/// The place of the first string with the datatype rdf:langString. `OutOfMemory` for want of
-/// memory alone.
-pub fn first_lang(
-    alloc: Global,
-    prefixes: &Prefixes,
-    words: &[Word],
-) -> Result<Option<usize>, OutOfMemory>
-    ensures { IfOk result (λ o. o ≡ lang_at (λ q. get_by_text prefixes.now q) words.now) }
+/// The place of the first string with the datatype rdf:langString.
+pub fn first_lang(prefixes: &Prefixes, words: &[Word]) -> Option<usize>
+    ensures { result ≡ lang_at (λ q. get_by_text prefixes.now q) words.now }
 {
     for (i, word) in words.iter().enumerate() {
-        if is_lang(alloc, prefixes, &word.value, &words[i + 1..])? {
-            return Ok(Some(word.at));
+        if is_lang(prefixes, &word.value, &words[i + 1..]) {
+            return Some(word.at);
         }
     }
-    Ok(None)
+    None
 }

@@ -4,6 +4,8 @@ ghost use Rattle.std.specs.BTreeMap.{get_by_text};
 ghost use Rattle.query_words.specs.Words.{kinds_of};
 ghost use Rattle.query_grammar.specs.Grammar.{IsQuery, IsGrammarFault};
 ghost use Rattle.pattern_parser.specs.declared.fault.QueryWhy.{QueryWhy};
+ghost use Rattle.pattern_parser.specs.Read.{ReadAsProduced};
+ghost use Rattle.pattern_parser.specs.Written.{TermsAsWritten};
 ghost use Rattle.pattern_parser.specs.Queries.{place_or, fault_with, later_fault, query_of, prefixes, body, ReadsTokens, ReadsQuery, OneQuery, FaultAt, IsTokenFaultAt};
 
 use crate::build::{build, check_terms};
@@ -25,18 +27,6 @@ fn token_words(alloc: Global, text: &[u8]) -> Result<Vec<Word>, QueryFault>
     let chars = characters(alloc, text_of(text)?)?;
     let pieces = pieces_of(alloc, chars.as_slice())?;
     Ok(words_of(alloc, chars.as_slice(), pieces.as_slice())?)
-}
-
-/// What the tokens of a text say, where the text has a fault at all, its first one.
-fn words_in(alloc: Global, text: &[u8]) -> Result<Vec<Word>, QueryFault>
-    ensures words { IfOk result (λ v. ReadsTokens text.now v.items) }
-    ensures few { IfOk result (λ v. length v.items ≤ 262144) }
-    ensures bad { (w : QueryWhy) (at : ℕ) → IsErrOf result (QueryFault.Bad at w) → FaultAt text.now w at }
-{
-    match token_words(alloc, text) {
-        Ok(words) => Ok(words),
-        Err(fault) => Err(fault),
-    }
 }
 
 /// The place of the token with this number, or the end.
@@ -64,7 +54,8 @@ fn check_grammar(alloc: Global, words: &[Word], end: usize) -> Result<(), QueryF
     }
 }
 
-/// The same, with the prefixes and the tokens from SELECT on.
+/// The query of tokens that the grammar reads, of which those from SELECT on are given too, with
+/// these prefixes, or the first fault of what they say.
 fn query_with(
     alloc: Global,
     prefixes: &Prefixes,
@@ -76,13 +67,8 @@ fn query_with(
     ensures query { IfOk result (λ q. q ≡ query_of (λ n. get_by_text prefixes.now n) body.now) }
     ensures bad { (w : QueryWhy) (at : ℕ) → IsErrOf result (QueryFault.Bad at w) → fault_with (λ n. get_by_text prefixes.now n) words.now body.now ≡ Some (w, at) }
 {
-    match check_terms(alloc, prefixes, words, body) {
-        Ok(()) => match build(alloc, prefixes, body) {
-            Ok(query) => Ok(query),
-            Err(fault) => Err(fault),
-        },
-        Err(fault) => Err(fault),
-    }
+    check_terms(prefixes, words, body)?;
+    build(alloc, prefixes, body)
 }
 
 /// The query of tokens that the grammar reads, or the first fault of what they say.
@@ -94,10 +80,7 @@ fn query_of(alloc: Global, words: &[Word]) -> Result<Query, QueryFault>
 {
     let (prologue, body) = words.split_at(before_select(words));
     let prefixes = prefixes_of(alloc, prologue)?;
-    match query_with(alloc, &prefixes, words, body) {
-        Ok(query) => Ok(query),
-        Err(fault) => Err(fault),
-    }
+    query_with(alloc, &prefixes, words, body)
 }
 
 /// The query that a text is (SPARQL 1.1, sections 4 and 19.8). `Bad` exactly where it is none, with
@@ -106,12 +89,25 @@ pub fn parse(alloc: Global, text: &[u8]) -> Result<Query, QueryFault>
     ensures query { IfOk result (λ q. ReadsQuery text.now q) }
     ensures bad { (w : QueryWhy) (at : ℕ) → IsErrOf result (QueryFault.Bad at w) → FaultAt text.now w at }
 {
-    let words = words_in(alloc, text)?;
+    let words = token_words(alloc, text)?;
     check_grammar(alloc, words.as_slice(), text.len())?;
     query_of(alloc, words.as_slice())
 }
 
-/// A text is one query or has one first fault, and never both.
+/// A text is exactly one of the two: one query, or a text with one first fault, which has a kind
+/// and a place.
 pub fn one_query()
     ensures { OneQuery }
+{}
+
+/// Between the braces of each text that is read stands a block of SPARQL's productions, or nothing,
+/// and the query's patterns are those that the productions give (SPARQL 1.1, section 19.8).
+pub fn read_as_produced()
+    ensures { ReadAsProduced }
+{}
+
+/// In each query every token that is a term stands for it as it is written: no IRI, datatype or
+/// language tag is dropped (SPARQL 1.1, section 4.1).
+pub fn terms_as_written()
+    ensures { TermsAsWritten }
 {}

@@ -31,12 +31,10 @@ pub fn before_select(words: &[Word]) -> usize
     ensures value { result ≡ before is_select words.now }
     ensures within { result ≤ length words.now }
 {
-    for (i, word) in words.iter().enumerate() {
-        if is_select(&word.value) {
-            return i;
-        }
-    }
-    words.len()
+    words
+        .iter()
+        .position(|word| is_select(&word.value))
+        .unwrap_or(words.len())
 }
 
 /// How many tokens stand before the first opening brace.
@@ -44,24 +42,17 @@ pub fn before_brace(words: &[Word]) -> usize
     ensures value { result ≡ before is_brace words.now }
     ensures within { result ≤ length words.now }
 {
-    for (i, word) in words.iter().enumerate() {
-        if is_brace(&word.value) {
-            return i;
-        }
-    }
-    words.len()
+    words
+        .iter()
+        .position(|word| is_brace(&word.value))
+        .unwrap_or(words.len())
 }
 
 /// Whether some token is `*`.
 pub fn has_star(words: &[Word]) -> bool
     ensures { result ≡ has_star words.now }
 {
-    for word in words {
-        if is_star(&word.value) {
-            return true;
-        }
-    }
-    false
+    words.iter().any(|word| is_star(&word.value))
 }
 
 fn is_blank_name(text: &str) -> bool

@@ -24,35 +24,36 @@ struct Reading {
     triples: Vec<Placed>,
 }
 
+/// A pattern. Its subject and verb are copied, since others may share them.
 fn pattern_at(
     alloc: Global,
     subject: &Part,
     verb: &Part,
-    object: &Part,
+    object: Part,
     at: usize,
 ) -> Result<Placed, OutOfMemory>
-    ensures { IfOk result (λ p. p ≡ placed subject.now verb.now object.now at) }
+    ensures { IfOk result (λ p. p ≡ placed subject.now verb.now object at) }
 {
     let pattern = Pattern {
         subject: subject.copy(alloc)?,
         predicate: verb.copy(alloc)?,
-        object: object.copy(alloc)?,
+        object,
     };
     Ok(Placed { pattern, at })
 }
 
 impl Reading {
     /// Takes a term or name.
-    fn take_part(&mut self, alloc: Global, part: &Part, at: usize) -> Result<(), OutOfMemory>
-        ensures { OnOk result ((rest : List Item) → self.new.triples.items ++ triples_after self.new.subject self.new.verb rest ≡ self.old.triples.items ++ triples_after self.old.subject self.old.verb (Item.Part part.now at ∷ rest)) }
+    fn take_part(&mut self, alloc: Global, part: Part, at: usize) -> Result<(), OutOfMemory>
+        ensures { OnOk result ((rest : List Item) → self.new.triples.items ++ triples_after self.new.subject self.new.verb rest ≡ self.old.triples.items ++ triples_after self.old.subject self.old.verb (Item.Part part at ∷ rest)) }
     {
         match &self.subject {
             None => {
-                self.subject = Some(part.copy(alloc)?);
+                self.subject = Some(part);
                 self.verb = None;
             }
             Some(subject) => match &self.verb {
-                None => self.verb = Some(part.copy(alloc)?),
+                None => self.verb = Some(part),
                 Some(verb) => {
                     let triple = pattern_at(alloc, subject, verb, part, at)?;
                     self.triples.push(triple)?;
@@ -63,11 +64,11 @@ impl Reading {
     }
 
     /// Takes one more item.
-    fn take(&mut self, alloc: Global, item: &Item) -> Result<(), OutOfMemory>
-        ensures { OnOk result ((rest : List Item) → self.new.triples.items ++ triples_after self.new.subject self.new.verb rest ≡ self.old.triples.items ++ triples_after self.old.subject self.old.verb (item.now ∷ rest)) }
+    fn take(&mut self, alloc: Global, item: Item) -> Result<(), OutOfMemory>
+        ensures { OnOk result ((rest : List Item) → self.new.triples.items ++ triples_after self.new.subject self.new.verb rest ≡ self.old.triples.items ++ triples_after self.old.subject self.old.verb (item ∷ rest)) }
     {
         match item {
-            Item::Part(part, at) => self.take_part(alloc, part, *at)?,
+            Item::Part(part, at) => self.take_part(alloc, part, at)?,
             Item::Dot => {
                 self.subject = None;
                 self.verb = None;
@@ -80,8 +81,8 @@ impl Reading {
 }
 
 /// The triple patterns of some items. `OutOfMemory` for want of memory alone.
-pub fn triples(alloc: Global, items: &[Item]) -> Result<Vec<Placed>, OutOfMemory>
-    ensures { IfOk result (λ v. v.items ≡ triples_after None None items.now) }
+pub fn triples(alloc: Global, items: Vec<Item>) -> Result<Vec<Placed>, OutOfMemory>
+    ensures { IfOk result (λ v. v.items ≡ triples_after None None items.items) }
 {
     let mut reading = Reading {
         subject: None,

@@ -1,7 +1,0 @@
-use Rattle.std.proofs.Common.{◌≡◌, ◌+◌, drop}
-use Rattle.pattern_parser.specs.Prefixes.{before}
-use Rattle.pattern_parser.specs.Queries.{is_brace}
-use Rattle.pattern_parser.proofs.select.before_brace.Given as goal
-
-abbrev pub invariant-loop-i : goal.invariant-loop-i
-invariant-loop-i l = l.i + before is_brace (drop l.i l.words) ≡ before is_brace l.words

@@ -1,0 +1,49 @@
+-- Where a block has one triple pattern too many, by its tokens alone.
+use Rattle.std.specs.Prelude.{ℕ, ◌-◌, ◌==◌, Bool, true, false, ◌&&◌, List, [], ◌∷◌, Option, Some, None, if◌then◌else◌, zero, suc}
+use Rattle.query_words.specs.declared.word.Value.{Value}
+use Rattle.query_words.specs.declared.word.Value.TheVariants as values
+use Rattle.query_words.specs.declared.word.Word.{Word}
+use Rattle.pattern_parser.specs.declared.limit.Next.{Next}
+use Rattle.pattern_parser.specs.declared.limit.Next.TheVariants.{Subject, Verb, Object}
+use Rattle.pattern_parser.specs.declared.limit.Role.{Role}
+use Rattle.pattern_parser.specs.declared.limit.Role.TheVariants.{Part, Dot, Semicolon, Other}
+use Rattle.pattern_parser.specs.Items.{more}
+
+-- what a token is in a block
+abbrev pub role_of : Value → Role
+role_of (values.Iri t) = Part
+role_of (values.Prefix n) = Part
+role_of (values.Prefixed n l) = Part
+role_of (values.Variable t) = Part
+role_of (values.Label t) = Part
+role_of values.Anonymous = Part
+role_of (values.Str t) = Part
+role_of (values.Integer t) = Part
+role_of (values.Decimal t) = Part
+role_of (values.Double t) = Part
+role_of values.True = Part
+role_of values.False = Part
+role_of values.TypeWord = Part
+role_of values.Dot = Dot
+role_of values.Semicolon = Semicolon
+role_of _ = Other
+
+-- which part of a pattern comes next, after a token
+abbrev pub next_after : Next → Role → Next
+next_after Subject Part = Verb
+next_after n Part = Object
+next_after n Dot = Subject
+next_after Subject Semicolon = Subject
+next_after n Semicolon = Verb
+next_after n Other = n
+
+-- the token is an object
+abbrev pub is_object : Next → Role → Bool
+is_object Object Part = true
+is_object n r = false
+
+-- the place of the object that completes one pattern too many, where so many more may come, and so many tokens belong to one before
+abbrev pub excess_after : Next → ℕ → ℕ → List Word → Option ℕ
+excess_after next left skip [] = None
+excess_after next left (suc n) (w ∷ ws) = excess_after next left n ws
+excess_after next left zero (w ∷ ws) = if is_object next (role_of w.value) && (left == 0) then Some w.at else excess_after (next_after next (role_of w.value)) (if is_object next (role_of w.value) then left - 1 else left) (more w.value ws) ws

@@ -1,0 +1,130 @@
+// Where a block has one triple pattern too many. It is found from the tokens alone, before a term
+// is made: a long subject is copied once for each of its objects, so that making all patterns first
+// would take memory that grows with the square of the text.
+ghost use Rattle.std.specs.Prelude.{◌≡◌, ◌∷◌, ℕ, List, Option, None, IsTrue, IsFalse, Some};
+ghost use Rattle.pattern_parser.specs.Items.{items_after};
+ghost use Rattle.pattern_parser.specs.Limits.{role_of, next_after, is_object, excess_after};
+ghost use Rattle.pattern_parser.specs.Queries.{excess};
+ghost use Rattle.pattern_parser.specs.Triples.{triples_after};
+
+use crate::item::more;
+use query_words::word::{Value, Word};
+
+/// What a token is in a block.
+#[derive(Clone, Copy, Debug, PartialEq, Eq)]
+pub enum Role {
+    /// A term or name.
+    Part,
+    Dot,
+    Semicolon,
+    Other,
+}
+
+/// Which part of a triple pattern the next term or name is.
+#[derive(Clone, Copy, Debug, PartialEq, Eq)]
+pub enum Next {
+    Subject,
+    Verb,
+    Object,
+}
+
+/// A walk over the tokens of a block.
+#[derive(Debug, Drop)]
+struct Walk {
+    next: Next,
+    /// How many more patterns there may be.
+    left: usize,
+    /// How many of the next tokens belong to one before them.
+    skip: usize,
+}
+
+fn role_of(value: &Value) -> Role
+    ensures { result ≡ role_of value.now }
+{
+    match value {
+        Value::Iri(_)
+        | Value::Prefix(_)
+        | Value::Prefixed(_, _)
+        | Value::Variable(_)
+        | Value::Label(_)
+        | Value::Anonymous
+        | Value::Str(_)
+        | Value::Integer(_)
+        | Value::Decimal(_)
+        | Value::Double(_)
+        | Value::True
+        | Value::False
+        | Value::TypeWord => Role::Part,
+        Value::Dot => Role::Dot,
+        Value::Semicolon => Role::Semicolon,
+        _ => Role::Other,
+    }
+}
+
+fn next_after(next: Next, role: Role) -> Next
+    ensures { result ≡ next_after next role }
+{
+    match (next, role) {
+        (Next::Subject, Role::Part) => Next::Verb,
+        (_, Role::Part) => Next::Object,
+        (_, Role::Dot) => Next::Subject,
+        (Next::Subject, Role::Semicolon) => Next::Subject,
+        (_, Role::Semicolon) => Next::Verb,
+        (_, Role::Other) => next,
+    }
+}
+
+fn is_object(next: Next, role: Role) -> bool
+    ensures { result ≡ is_object next role }
+{
+    matches!((next, role), (Next::Object, Role::Part))
+}
+
+impl Walk {
+    /// Takes one more token with those after it, and says whether it is the object that completes
+    /// one pattern too many.
+    fn take(&mut self, word: &Word, rest: &[Word]) -> bool
+        ensures over { IsTrue result → excess_after self.old.next self.old.left self.old.skip (word.now ∷ rest.now) ≡ Some word.now.at }
+        ensures within { IsFalse result → excess_after self.new.next self.new.left self.new.skip rest.now ≡ excess_after self.old.next self.old.left self.old.skip (word.now ∷ rest.now) }
+    {
+        if self.skip > 0 {
+            self.skip -= 1;
+            return false;
+        }
+        let role = role_of(&word.value);
+        if is_object(self.next, role) {
+            if self.left == 0 {
+                return true;
+            }
+            self.left -= 1;
+        }
+        self.next = next_after(self.next, role);
+        self.skip = more(&word.value, rest);
+        false
+    }
+}
+
+/// The place at which a walk over a block's tokens ends, if it ends before them.
+fn walked(words: &[Word]) -> Option<usize>
+    ensures { result ≡ excess_after Next.Subject 64 0 words.now }
+{
+    let mut walk = Walk {
+        next: Next::Subject,
+        left: 64,
+        skip: 0,
+    };
+    for (i, word) in words.iter().enumerate() {
+        if walk.take(word, &words[i + 1..]) {
+            return Some(word.at);
+        }
+    }
+    None
+}
+
+/// The place of the object that completes the 65th pattern of a block, if there is one, whatever
+/// its prefixes stand for.
+pub fn excess_in(words: &[Word]) -> Option<usize>
+    ensures { (iri : List ℕ → Option (List ℕ)) (names : List (List ℕ)) → result ≡ excess (triples_after None None (items_after iri names 0 words.now)) }
+{
+    walked(words)
+}
