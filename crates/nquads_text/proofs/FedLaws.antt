@@ -10,7 +10,7 @@ use Rattle.nquads_text.specs.Reads.{lines_from, RefusedFor, IsOkOrMemory, IsBadO
 use Rattle.nquads_text.specs.Lines.{with_quad, after_line, read_lines, without_lf, Gives}
 use Rattle.nquads_text.specs.Feed.{Fed, last_number, is_inside, ReadsWith, FaultWith, TakesPiece, IsUnfinished}
 use Rattle.nquads_text.specs.Pieces.{capped, reading, fed_reading}
-use Rattle.nquads_text.proofs.ReadLaws.{reads, read_on, faults}
+use Rattle.nquads_text.proofs.ReadLaws.{err_same, reads, read_on, faults}
 use Rattle.nquads_text.proofs.LineLaws.{line_faults, faults_line}
 use Rattle.nquads_text.proofs.Lines.{after_cr}
 use Rattle.nquads_text.proofs.PieceLaws.{lf_more}
@@ -27,9 +27,6 @@ capped_err (Ok y) n why e = cc
 capped_err (Err bad) n why e =
     let same : ◌≡◌ {A = ℕ × Why} (min bad.0 last_number, bad.1) (n, why) = err_same _ _ e in
     (bad, refl, ap (λ (p : ℕ × Why). p.0) same, ap (λ (p : ℕ × Why). p.1) same)
-  where
-    err_same : (x y : ℕ × Why) → ◌≡◌ {A = Found} (Err x) (Err y) → x ≡ y
-    err_same x y e = cc
 
 pub reads_with : (fed : Fed) (more : List ℕ) (quads : List Quad) → fed_reading fed more ≡ Ok quads → ReadsWith fed more quads
 unfolding reading
@@ -76,7 +73,7 @@ takes_piece old piece new same = record {
 }
 
 -- the LF that may stand at the front of a piece
-cr_front : (piece more : List ℕ) → 0 < length piece → lines_from true (piece ++ more) ≡ lines_from false (without_lf piece ++ more)
+pub cr_front : (piece more : List ℕ) → 0 < length piece → lines_from true (piece ++ more) ≡ lines_from false (without_lf piece ++ more)
 cr_front [] more l = absurd (omega arith)
 cr_front (b ∷ piece) more l = after_cr (b ∷ (piece ++ more)) ∙ ap (λ (x : List ℕ). lines_from false x) (lf_more (nat_eq b 10) b piece more)
 
@@ -133,22 +130,3 @@ pub last_refused : {X : Type 0} (view : X → List Quad) (r : Result X TextFault
 last_refused view (Ok x) fed g = tt
 last_refused view (Err OutOfMemory) fed g = tt
 last_refused view (Err (Bad n why)) fed g = fault_with fed [] n why g
-
-ok_same : (x y : List Quad) → ◌≡◌ {A = Found} (Ok x) (Ok y) → x ≡ y
-ok_same x y e = cc
-
-err_same : (x y : ℕ × Why) → ◌≡◌ {A = Found} (Err x) (Err y) → x ≡ y
-err_same x y e = cc
-
-apart : (x : List Quad) (y : ℕ × Why) → ◌≡◌ {A = Found} (Ok x) (Err y) → ⊥
-apart x y e = cc
-
-pub ok_of : {X : Type 0} (view : X → List Quad) (quads : List Quad) (r : Result X TextFault) → Gives view r (Ok quads) → IsOkOrMemory (λ v. view v ≡ quads) r
-ok_of view quads (Ok x) g = sym (ok_same quads (view x) g)
-ok_of view quads (Err OutOfMemory) g = tt
-ok_of view quads (Err (Bad n why)) g = apart quads (n, why) g
-
-pub bad_of : {X : Type 0} (view : X → List Quad) (n : ℕ) (why : Why) (r : Result X TextFault) → Gives view r (Err (n, why)) → IsBadOrMemory n why r
-bad_of view n why (Ok x) g = apart (view x) (n, why) (sym g)
-bad_of view n why (Err OutOfMemory) g = tt
-bad_of view n why (Err (Bad m kind)) g = let same : ◌≡◌ {A = ℕ × Why} (n, why) (m, kind) = err_same (n, why) (m, kind) g in (ap (λ (p : ℕ × Why). p.0) (sym same), ap (λ (p : ℕ × Why). p.1) (sym same))

@@ -1,25 +1,23 @@
--- The length of canonical text.
-use Rattle.std.proofs.Common.{ℕ, ◌≡◌, ◌+◌, Bool, true, false, if◌then◌else◌, List, [], ◌∷◌, length, refl, arith, length-append}
-use Rattle.rdf_terms.specs.Canon.{is_marked, after_mark, canonical_byte, canonical_form, canonical_kind, canonical_term, marks, kind_len}
+-- The length of canonical text, by the law of terms.
+use Rattle.std.proofs.Common.{ℕ, ◌≡◌, ◌+◌, ◌*◌, ◌≤◌, Bool, true, false, if◌then◌else◌, List, [], ◌∷◌, length, arith}
+use Rattle.rdf_terms.specs.Canon.{is_marked, canonical_term, marks, kind_len}
 use Rattle.rdf_terms.specs.declared.term.Term.TheVariants.{Iri, Literal}
 use Rattle.rdf_terms.specs.declared.term.Kind.{Kind}
-use Rattle.rdf_terms.specs.declared.term.Kind.TheVariants.{Plain, Typed, Tagged}
-
-byte_len : (k : Bool) (x b : ℕ) → length (if k then 92 ∷ x ∷ [] else b ∷ []) ≡ (if k then 1 else 0) + 1
-byte_len true x b = refl
-byte_len false x b = refl
-
-pub form_len : (form : List ℕ) → length (canonical_form form) ≡ length form + marks form
-form_len [] = refl
-form_len (b ∷ bs) = omega (arith, length-append (canonical_byte b) (canonical_form bs), byte_len (is_marked b) (after_mark b) b, form_len bs)
-
-pub kind_len_is : (kind : Kind) → length (canonical_kind kind) ≡ kind_len kind
-kind_len_is Plain = refl
-kind_len_is (Typed datatype) = omega (arith, length-append datatype (62 ∷ []))
-kind_len_is (Tagged tag) = omega arith
+use Rattle.rdf_terms.proofs.Lengths.{canonical_len_is}
 
 pub literal_len_is : (form : List ℕ) (kind : Kind) → length (canonical_term (Literal form kind)) ≡ length form + marks form + 2 + kind_len kind
-literal_len_is form kind = omega (arith, length-append (canonical_form form) (34 ∷ canonical_kind kind), form_len form, kind_len_is kind)
+literal_len_is form kind = canonical_len_is (Literal form kind)
 
 pub iri_len_is : (text : List ℕ) → length (canonical_term (Iri text)) ≡ length text + 2
-iri_len_is text = omega (arith, length-append text (62 ∷ []))
+iri_len_is text = canonical_len_is (Iri text)
+
+one_mark : (k : Bool) → (if k then 1 else 0) ≤ 1
+one_mark true = omega arith
+one_mark false = omega arith
+
+marks_within : (form : List ℕ) → marks form ≤ length form
+marks_within [] = omega arith
+marks_within (b ∷ form) = omega (arith, one_mark (is_marked b), marks_within form)
+
+pub len_bound : (form : List ℕ) (kind : Kind) → length (canonical_term (Literal form kind)) ≤ length form * 2 + 2 + kind_len kind
+len_bound form kind = omega (arith, literal_len_is form kind, marks_within form)

@@ -2,6 +2,7 @@ pub mod Bodies
 pub mod Forms
 pub mod Lengths
 pub mod Lines
+pub mod Places
 pub mod Steps
 pub mod Resolve
 pub mod Texts
@@ -19,3 +20,4 @@ pub mod PieceLaws
 pub mod FedLaws
 pub mod Utf8
 pub mod Written
+pub mod EndedLaws

@@ -2,6 +2,7 @@
 use Rattle.std.proofs.Common.{ℕ, suc, ◌≡◌, ◌+◌, ◌<◌, ◌⊎◌, inl, inr, Bool, if◌then◌else◌, true, false, ◌||◌, List, [], ◌∷◌, length, take, drop, Option, Some, None, nat_eq, refl, ap, subst, ◌∙◌, arith}
 use Rattle.nquads_text.specs.Reads.{onto_first, lines_from, lines_of}
 use Rattle.nquads_text.specs.Lines.{line_end, without_lf, after_end}
+use Rattle.nquads_text.proofs.Steps.{neither}
 
 -- the lines after a line end at the front
 abbrev lines_after : List ℕ → List (List ℕ)
@@ -15,10 +16,6 @@ chosen false x y z e = inr (refl, e)
 either : (a b : Bool) → (a || b) ≡ true → (a ≡ true) ⊎ ((a ≡ false) × (b ≡ true))
 either true b e = inl refl
 either false b e = inr (refl, e)
-
-neither : (a b : Bool) → (a || b) ≡ false → (a ≡ false) × (b ≡ false)
-neither true b e = cc
-neither false b e = (refl, e)
 
 begins_here : (b : ℕ) (bs : List ℕ) → (nat_eq b 10 ≡ true) ⊎ ((nat_eq b 10 ≡ false) × (nat_eq b 13 ≡ true)) → lines_from false (b ∷ bs) ≡ [] ∷ lines_after (b ∷ bs)
 begins_here b bs (inl lf) = rw lf refl

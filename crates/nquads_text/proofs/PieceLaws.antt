@@ -68,11 +68,11 @@ at_step i b bs m ih (inr later) =
     let good : is_inside b ≡ true = ap not later.0 in
     record { n = suc e.n; place = omega (arith, e.place); inside = rw (good, e.inside) refl; whole = ap (λ (l : List ℕ). b ∷ l) e.whole; byte = e.byte; tail = e.tail; end = e.end; ends = e.ends }
 
-end_at : (i : ℕ) (bs : List ℕ) (m : ℕ) → line_end i bs ≡ Some m → EndAt i bs m
+pub end_at : (i : ℕ) (bs : List ℕ) (m : ℕ) → line_end i bs ≡ Some m → EndAt i bs m
 end_at i [] m e = cc
 end_at i (b ∷ bs) m e = at_step i b bs m (end_at (i + 1) bs m) (chosen (nat_eq b 10 || nat_eq b 13) (Some i) (line_end (i + 1) bs) (Some m) e)
 
-inside_append : (xs ys : List ℕ) → list_all is_inside xs ≡ true → list_all is_inside ys ≡ true → list_all is_inside (xs ++ ys) ≡ true
+pub inside_append : (xs ys : List ℕ) → list_all is_inside xs ≡ true → list_all is_inside ys ≡ true → list_all is_inside (xs ++ ys) ≡ true
 inside_append [] ys h k = k
 inside_append (x ∷ xs) ys h k = let p = both (is_inside x) (list_all is_inside xs) h in rw (p.0, inside_append xs ys p.1 k) refl
 
@@ -141,12 +141,9 @@ no_end_inside i (b ∷ bs) e = by (chosen (nat_eq b 10 || nat_eq b 13) (Some i) 
     by (inl here) ih = cc
     by (inr later) ih = let good : is_inside b ≡ true = ap not later.0 in rw (good, ih later.1) refl
 
-pub inside_both : (xs ys : List ℕ) → list_all is_inside xs ≡ true → list_all is_inside ys ≡ true → list_all is_inside (xs ++ ys) ≡ true
-inside_both xs ys h k = inside_append xs ys h k
-
 -- ---- the last line
 
-one_line : (bs : List ℕ) → 0 < length bs → list_all is_inside bs ≡ true → lines_from false bs ≡ bs ∷ []
+pub one_line : (bs : List ℕ) → 0 < length bs → list_all is_inside bs ≡ true → lines_from false bs ≡ bs ∷ []
 one_line [] l h = absurd (omega arith)
 one_line (b ∷ []) l h =
     let q = neither (nat_eq b 10) (nat_eq b 13) (not_true (nat_eq b 10 || nat_eq b 13) (both (is_inside b) true h).0) in

@@ -6,19 +6,35 @@ use Rattle.nquads_text.specs.declared.fault.Why.{Why}
 use Rattle.std.specs.Option.{option_to_list}
 use Rattle.std.specs.List.{AllByRecursion}
 use Rattle.nquads_text.specs.Line.{line_read}
-use Rattle.nquads_text.specs.Lines.{with_quad, after_line, read_lines, text_read}
+use Rattle.nquads_text.specs.declared.fault.TextFault.{TextFault}
+use Rattle.nquads_text.specs.declared.fault.TextFault.TheVariants.{Bad, OutOfMemory}
+use Rattle.nquads_text.specs.Lines.{with_quad, after_line, read_lines, text_read, Gives}
 use Rattle.nquads_text.specs.Quads.{IsReadable}
-use Rattle.nquads_text.specs.Reads.{lines_of, ReadsLine, ReadsLines, Reads, FirstFault}
+use Rattle.nquads_text.specs.Reads.{lines_of, ReadsLine, ReadsLines, Reads, FirstFault, IsOkOrMemory, IsBadOrMemory}
 use Rattle.nquads_text.proofs.LineLaws.{line_reads, line_faults, reads_line, faults_line, line_readable}
 
 abbrev Found : Type 0
 Found = Result (List Quad) (ℕ × Why)
 
-ok_same : (x y : List Quad) → ◌≡◌ {A = Found} (Ok x) (Ok y) → x ≡ y
+pub ok_same : (x y : List Quad) → ◌≡◌ {A = Found} (Ok x) (Ok y) → x ≡ y
 ok_same x y e = cc
 
-err_same : (x y : ℕ × Why) → ◌≡◌ {A = Found} (Err x) (Err y) → x ≡ y
+pub err_same : (x y : ℕ × Why) → ◌≡◌ {A = Found} (Err x) (Err y) → x ≡ y
 err_same x y e = cc
+
+pub apart : (x : List Quad) (y : ℕ × Why) → ◌≡◌ {A = Found} (Ok x) (Err y) → ⊥
+apart x y e = cc
+
+-- the answer of a reader that gives quads, and of one that gives a fault
+pub ok_of : {X : Type 0} (view : X → List Quad) (quads : List Quad) (r : Result X TextFault) → Gives view r (Ok quads) → IsOkOrMemory (λ v. view v ≡ quads) r
+ok_of view quads (Ok x) g = sym (ok_same quads (view x) g)
+ok_of view quads (Err OutOfMemory) g = tt
+ok_of view quads (Err (Bad n why)) g = apart quads (n, why) g
+
+pub bad_of : {X : Type 0} (view : X → List Quad) (n : ℕ) (why : Why) (r : Result X TextFault) → Gives view r (Err (n, why)) → IsBadOrMemory n why r
+bad_of view n why (Ok x) g = apart (view x) (n, why) (sym g)
+bad_of view n why (Err OutOfMemory) g = tt
+bad_of view n why (Err (Bad m kind)) g = let same : ◌≡◌ {A = ℕ × Why} (n, why) (m, kind) = err_same (n, why) (m, kind) g in (ap (λ (p : ℕ × Why). p.0) (sym same), ap (λ (p : ℕ × Why). p.1) (sym same))
 
 added : (quads more : List Quad) (q : Option Quad) → with_quad quads q ++ more ≡ quads ++ (option_to_list q ++ more)
 added quads more None = refl
@@ -113,9 +129,6 @@ one_of_two longest bytes = either longest bytes (text_read longest bytes) refl
 
 pub not_both : (longest : ℕ) (bytes : List ℕ) (quads : List Quad) (n : ℕ) (why : Why) → Reads bytes longest quads → FirstFault bytes longest n why → ⊥
 not_both longest bytes quads n why r f = let e : ◌≡◌ {A = Found} (Ok quads) (Err (n, why)) = sym (reads_text longest bytes quads r) ∙ faults_text longest bytes n why f in apart quads (n, why) e
-  where
-    apart : (x : List Quad) (y : ℕ × Why) → ◌≡◌ {A = Found} (Ok x) (Err y) → ⊥
-    apart x y e = cc
 
 line_all : (longest : ℕ) (line : List ℕ) (q : Option Quad) (rest : List Quad) → ReadsLine longest line q → AllByRecursion (IsReadable longest) rest → AllByRecursion (IsReadable longest) (option_to_list q ++ rest)
 line_all longest line None rest h r = r

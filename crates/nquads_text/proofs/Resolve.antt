@@ -2,10 +2,14 @@
 use Rattle.std.proofs.Common.{ℕ, ◌≡◌, ◌+◌, ◌*◌, ◌-◌, ◌<◌, ◌≤◌, ◌⊎◌, inl, inr, min, Bool, if◌then◌else◌, true, false, List, [], ◌∷◌, ◌++◌, length, Option, Some, None, nat_eq, refl, ap, sym, subst, ◌∙◌, arith, append_assoc, append-nil}
 use Rattle.std.specs.Char.{encode_utf8, digit_value}
 use Rattle.rdf_terms.specs.Iri.{is_iri_byte}
+use Rattle.nquads_text.specs.declared.scan.Awaits.{Awaits}
+use Rattle.nquads_text.specs.declared.scan.Awaits.TheVariants.{Item, Escape, Digits}
 use Rattle.nquads_text.specs.Option.{◌>>=◌, when}
+use Rattle.nquads_text.specs.Scan.{digits_left}
 use Rattle.nquads_text.specs.Grammar.{is_form_byte, is_short_escape, AreDigits, IsNumeric, all_of, Each, AreItems}
 use Rattle.nquads_text.specs.Meaning.{hex_value, is_scalar, is_nameable, named, item_value, items_value, IsItem, MeansText, HasBadEscape}
-use Rattle.nquads_text.specs.Escape.{more_digits, with_named, resolve_from, resolved}
+use Rattle.nquads_text.specs.Escape.{Resolving, more_digits, with_named, resolve_from, resolved}
+use Rattle.nquads_text.proofs.Bodies.{some_left}
 
 -- ---- digits
 
@@ -27,35 +31,29 @@ Found = Option (List ℕ)
 abbrev then_on : Bool → List ℕ → List ℕ → ℕ → Found
 then_on iri bs out c = with_named iri out c >>= λ t. resolve_from iri t.0 t.1 t.2 bs
 
-one_digit : (one : Bool) (iri : Bool) (out bs : List ℕ) (n w : ℕ) → one ≡ true → ((if one then with_named iri out w else Some (out, n - 1, w)) >>= λ t. resolve_from iri t.0 t.1 t.2 bs) ≡ then_on iri bs out w
-one_digit true iri out bs n w e = refl
-one_digit false iri out bs n w e = cc
+one_digit : (one : Bool) (iri : Bool) (out bs : List ℕ) (more w : ℕ) → one ≡ true → ((if one then with_named iri out w else (let r : Option Resolving = Some (out, Digits (more - 1), w) in r)) >>= λ t. resolve_from iri t.0 t.1 t.2 bs) ≡ then_on iri bs out w
+one_digit true iri out bs more w e = refl
+one_digit false iri out bs more w e = cc
 
-next_digit : (one : Bool) (iri : Bool) (out bs : List ℕ) (n w : ℕ) → one ≡ false → ((if one then with_named iri out w else Some (out, n - 1, w)) >>= λ t. resolve_from iri t.0 t.1 t.2 bs) ≡ resolve_from iri out (n - 1) w bs
-next_digit true iri out bs n w e = cc
-next_digit false iri out bs n w e = refl
+next_digit : (one : Bool) (iri : Bool) (out bs : List ℕ) (more w : ℕ) → one ≡ false → ((if one then with_named iri out w else (let r : Option Resolving = Some (out, Digits (more - 1), w) in r)) >>= λ t. resolve_from iri t.0 t.1 t.2 bs) ≡ resolve_from iri out (Digits (more - 1)) w bs
+next_digit true iri out bs more w e = cc
+next_digit false iri out bs more w e = refl
 
-digit_step : (iri : Bool) (out bs : List ℕ) (n v d : ℕ) → 0 < n → n < 9 → resolve_from iri out n v (d ∷ bs) ≡ ((if nat_eq n 1 then with_named iri out (more_digits v d) else Some (out, n - 1, more_digits v d)) >>= λ t. resolve_from iri t.0 t.1 t.2 bs)
-digit_step iri out bs n v d l h =
-    let zero_not : nat_eq n 0 ≡ false = grind arith in
-    let nine_not : nat_eq n 9 ≡ false = grind arith in
-    rw (zero_not, nine_not) refl
-
-digits_step : (digits : List ℕ) (iri : Bool) (out bs : List ℕ) (n v : ℕ) → 0 < n → n < 9 → length digits ≡ n → resolve_from iri out n v (digits ++ bs) ≡ then_on iri bs out (capped_value v digits)
-digits_step [] iri out bs n v l h e = absurd (omega arith)
-digits_step (d ∷ []) iri out bs n v l h e =
-    let one : nat_eq n 1 ≡ true = grind arith in
-    digit_step iri out bs n v d l h ∙ one_digit (nat_eq n 1) iri out bs n (more_digits v d) one
-digits_step (d ∷ c ∷ digits) iri out bs n v l h e =
-    let more : nat_eq n 1 ≡ false = grind arith in
-    digit_step iri out (c ∷ (digits ++ bs)) n v d l h ∙ next_digit (nat_eq n 1) iri out (c ∷ (digits ++ bs)) n (more_digits v d) more ∙ digits_step (c ∷ digits) iri out bs (n - 1) (more_digits v d) (omega arith) (omega arith) (omega arith)
+digits_step : (digits : List ℕ) (iri : Bool) (out bs : List ℕ) (more v : ℕ) → length digits ≡ more + 1 → resolve_from iri out (Digits more) v (digits ++ bs) ≡ then_on iri bs out (capped_value v digits)
+digits_step [] iri out bs more v e = absurd (omega (arith, e))
+digits_step (d ∷ []) iri out bs more v e =
+    let one : nat_eq more 0 ≡ true = grind (arith, e) in
+    one_digit (nat_eq more 0) iri out bs more (more_digits v d) one
+digits_step (d ∷ c ∷ digits) iri out bs more v e =
+    let some : nat_eq more 0 ≡ false = grind (arith, e) in
+    next_digit (nat_eq more 0) iri out (c ∷ (digits ++ bs)) more (more_digits v d) some ∙ digits_step (c ∷ digits) iri out bs (more - 1) (more_digits v d) (omega (arith, e))
 
 -- ---- names
 
 abbrev goes_on : Bool → List ℕ → List ℕ → Found → Found
-goes_on iri out bs o = o >>= λ t. resolve_from iri (out ++ t) 0 0 bs
+goes_on iri out bs o = o >>= λ t. resolve_from iri (out ++ t) Item 0 bs
 
-same_name : (k : Bool) (iri : Bool) (out bs text : List ℕ) → (when k (let r : List ℕ × ℕ × ℕ = (out ++ text, 0, 0) in r) >>= λ t. resolve_from iri t.0 t.1 t.2 bs) ≡ goes_on iri out bs (when k text)
+same_name : (k : Bool) (iri : Bool) (out bs text : List ℕ) → (when k (let r : Resolving = (out ++ text, Item, 0) in r) >>= λ t. resolve_from iri t.0 t.1 t.2 bs) ≡ goes_on iri out bs (when k text)
 same_name true iri out bs text = refl
 same_name false iri out bs text = refl
 
@@ -74,15 +72,15 @@ name_by iri out bs c (inr h) =
     let none : is_nameable iri c ≡ false = no_name iri c h in
     let none_there : is_nameable iri 0x110000 ≡ false = no_name iri 0x110000 (omega arith) in
     ap (λ (x : ℕ). then_on iri bs out x) same
-    ∙ ap (λ (k : Bool). when k (let r : List ℕ × ℕ × ℕ = (out ++ encode_utf8 0x110000, 0, 0) in r) >>= λ t. resolve_from iri t.0 t.1 t.2 bs) none_there
+    ∙ ap (λ (k : Bool). when k (let r : Resolving = (out ++ encode_utf8 0x110000, Item, 0) in r) >>= λ t. resolve_from iri t.0 t.1 t.2 bs) none_there
     ∙ ap (λ (k : Bool). goes_on iri out bs (when k (encode_utf8 c))) (sym none)
 
 -- ---- items
 
 abbrev Steps : Bool → List ℕ → Type 0
-Steps iri item = (out bs : List ℕ) → resolve_from iri out 0 0 (item ++ bs) ≡ goes_on iri out bs (item_value iri item)
+Steps iri item = (out bs : List ℕ) → resolve_from iri out Item 0 (item ++ bs) ≡ goes_on iri out bs (item_value iri item)
 
-plain_by : (k : Bool) (iri : Bool) (out bs : List ℕ) (b : ℕ) → k ≡ false → ((if k then Some (let r : List ℕ × ℕ × ℕ = (out, 9, 0) in r) else Some (out ++ b ∷ [], 0, 0)) >>= λ t. resolve_from iri t.0 t.1 t.2 bs) ≡ resolve_from iri (out ++ b ∷ []) 0 0 bs
+plain_by : (k : Bool) (iri : Bool) (out bs : List ℕ) (b : ℕ) → k ≡ false → ((if k then Some (let r : Resolving = (out, Escape, 0) in r) else Some (out ++ b ∷ [], Item, 0)) >>= λ t. resolve_from iri t.0 t.1 t.2 bs) ≡ resolve_from iri (out ++ b ∷ []) Item 0 bs
 plain_by true iri out bs b e = cc
 plain_by false iri out bs b e = refl
 
@@ -93,11 +91,11 @@ plain_step iri b h out bs = plain_by (nat_eq b 92) iri out bs b h
 abbrev Which : ℕ → ℕ → Type 0
 Which c n = ((nat_eq c 117 ≡ true) × (n ≡ 4)) ⊎ ((nat_eq c 117 ≡ false) × (nat_eq c 85 ≡ true) × (n ≡ 8))
 
-which_bounds : (c n : ℕ) → Which c n → (0 < n) × (n < 9)
-which_bounds c n (inl four) = (omega (arith, four.1), omega (arith, four.1))
-which_bounds c n (inr eight) = (omega (arith, eight.2), omega (arith, eight.2))
+which_some : (c n : ℕ) → Which c n → 0 < n
+which_some c n (inl four) = omega (arith, four.1)
+which_some c n (inr eight) = omega (arith, eight.2)
 
-begun : (iri : Bool) (out bs : List ℕ) (c n : ℕ) → Which c n → resolve_from iri out 0 0 (92 ∷ c ∷ bs) ≡ resolve_from iri out n 0 bs
+begun : (iri : Bool) (out bs : List ℕ) (c n : ℕ) → Which c n → resolve_from iri out Item 0 (92 ∷ c ∷ bs) ≡ resolve_from iri out (digits_left n) 0 bs
 begun iri out bs c n (inl four) = rw (four.0, four.1) refl
 begun iri out bs c n (inr eight) = rw (eight.0, eight.1, eight.2) refl
 
@@ -107,9 +105,10 @@ named_is iri digits c n (inr eight) = rw (eight.0, eight.1) refl
 
 digits_item : (iri : Bool) (c n : ℕ) (digits : List ℕ) → Which c n → AreDigits n digits → Steps iri (92 ∷ c ∷ digits)
 digits_item iri c n digits which d out bs =
-    let b = which_bounds c n which in
+    let some : 0 < n = which_some c n which in
     begun iri out (digits ++ bs) c n which
-    ∙ digits_step digits iri out bs n 0 b.0 b.1 d.count
+    ∙ ap (λ (s : Awaits). resolve_from iri out s 0 (digits ++ bs)) (some_left n some)
+    ∙ digits_step digits iri out bs (n - 1) 0 (omega (arith, d.count, some))
     ∙ ap (λ (x : ℕ). then_on iri bs out x) (capped digits 0)
     ∙ name_by iri out bs (hex_value 0 digits) (below_or_not (hex_value 0 digits))
     ∙ ap (λ (o : Found). goes_on iri out bs o) (named_is iri digits c n which)
@@ -148,11 +147,11 @@ glue None p r out h = refl
 glue (Some t) None r out h = h t
 glue (Some t) (Some m) r out h = h t ∙ ap (λ (l : List ℕ). Some l) (append_assoc out t m)
 
-items_step : (iri : Bool) (items : List (List ℕ)) (out : List ℕ) → Each (IsItem iri) items → resolve_from iri out 0 0 (all_of items) ≡ (items_value iri items >>= λ t. Some (out ++ t))
+items_step : (iri : Bool) (items : List (List ℕ)) (out : List ℕ) → Each (IsItem iri) items → resolve_from iri out Item 0 (all_of items) ≡ (items_value iri items >>= λ t. Some (out ++ t))
 items_step iri [] out h = ap (λ (l : List ℕ). Some l) (sym (append-nil out))
 items_step iri (item ∷ items) out h =
     item_step iri item h.0 out (all_of items)
-    ∙ glue (item_value iri item) (items_value iri items) (λ t. resolve_from iri (out ++ t) 0 0 (all_of items)) out (λ t. items_step iri items (out ++ t) h.1)
+    ∙ glue (item_value iri item) (items_value iri items) (λ t. resolve_from iri (out ++ t) Item 0 (all_of items)) out (λ t. items_step iri items (out ++ t) h.1)
 
 as_it_is : (o : Found) → (o >>= λ t. Some ([] ++ t)) ≡ o
 as_it_is None = refl
@@ -160,7 +159,7 @@ as_it_is (Some t) = refl
 
 pub resolved_items : (iri : Bool) (bytes : List ℕ) (items : List (List ℕ)) → Each (IsItem iri) items → bytes ≡ all_of items → resolved iri bytes ≡ items_value iri items
 unfolding resolved
-resolved_items iri bytes items h e = ap (λ (l : List ℕ). resolve_from iri [] 0 0 l) e ∙ items_step iri items [] h ∙ as_it_is (items_value iri items)
+resolved_items iri bytes items h e = ap (λ (l : List ℕ). resolve_from iri [] Item 0 l) e ∙ items_step iri items [] h ∙ as_it_is (items_value iri items)
 
 pub means_resolved : (iri : Bool) (bytes text : List ℕ) → MeansText iri bytes text → resolved iri bytes ≡ Some text
 means_resolved iri bytes text m = resolved_items iri bytes m.0 m.1 m.2 ∙ m.3

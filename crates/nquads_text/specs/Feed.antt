@@ -52,3 +52,20 @@ is_inside b = not ((b == 10) || (b == 13))
 pub record IsUnfinished (fed : Fed) : Type 0 where
   pub line : list_all is_inside fed.kept ≡ true
   pub after_cr : fed.after_cr ≡ true → fed.kept ≡ []
+
+-- nothing, or bytes of which the last is an LF or a CR
+abbrev pub ends_lines : List ℕ → Bool
+ends_lines [] = true
+ends_lines (b ∷ []) = (b == 10) || (b == 13)
+ends_lines (b ∷ c ∷ bytes) = ends_lines (c ∷ bytes)
+
+-- each line that has ended is read and counted, and what follows the last line end is kept
+pub record TakesLines (old : Fed) (piece : List ℕ) (new : Fed) : Type 0 where
+  pub ended : List ℕ
+  pub whole : old.kept ++ piece ≡ ended ++ new.kept
+  pub at_end : ends_lines ended ≡ true
+  pub read : List Quad
+  pub lines : ReadsLines old.longest (lines_from old.after_cr ended) read
+  pub quads : new.quads ≡ old.quads ++ read
+  pub number : new.number ≡ min (old.number + length (lines_from old.after_cr ended)) last_number
+  pub longest : new.longest ≡ old.longest

@@ -13,3 +13,4 @@ pub mod Lines
 pub mod Begins
 pub mod Feed
 pub mod Pieces
+pub mod Laws

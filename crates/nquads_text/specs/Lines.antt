@@ -6,6 +6,7 @@ use Rattle.nquads_text.specs.declared.fault.TextFault.{TextFault}
 use Rattle.nquads_text.specs.declared.fault.TextFault.TheVariants.{Bad, OutOfMemory}
 use Rattle.nquads_text.specs.declared.line.LineFault.{LineFault}
 use Rattle.nquads_text.specs.declared.line.LineFault.TheVariants as line
+use Rattle.nquads_text.specs.Scan.{first_place}
 use Rattle.nquads_text.specs.Line.{line_read}
 use Rattle.nquads_text.specs.Reads.{lines_of}
 
@@ -53,8 +54,7 @@ AddsLine (Err e) read old new = LineFails e read
 
 -- the place of the first LF or CR, read from the place i
 abbrev pub line_end : ℕ → List ℕ → Option ℕ
-line_end i [] = None
-line_end i (b ∷ bs) = if (b == 10) || (b == 13) then Some i else line_end (i + 1) bs
+line_end i bytes = first_place (λ b. (b == 10) || (b == 13)) i bytes
 
 -- the bytes after an LF at the front, if one stands there
 abbrev pub without_lf : List ℕ → List ℕ

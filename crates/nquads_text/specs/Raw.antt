@@ -8,19 +8,20 @@ use Rattle.rdf_terms.specs.declared.term.Kind.{Kind}
 use Rattle.rdf_terms.specs.declared.term.Kind.TheVariants.{Plain, Typed, Tagged}
 use Rattle.rdf_terms.specs.Label.{is_label}
 use Rattle.rdf_terms.specs.Tag.{is_tag}
+use Rattle.nquads_text.specs.declared.scan.Awaits.TheVariants.{Item}
 use Rattle.nquads_text.specs.Option.{◌>>=◌, when, first_of}
 use Rattle.nquads_text.specs.Scan.{skipped, opened, is_over, iri_end, form_end, label_len, tag_len}
 
 unfoldable pub iri_part : List ℕ → Option (List ℕ × List ℕ)
 iri_part bytes = do
   inside ← opened 60 bytes
-  n ← iri_end 0 0 inside
+  n ← iri_end Item 0 inside
   Some (take n inside, drop (n + 1) inside)
 
 unfoldable pub form_part : List ℕ → Option (List ℕ × List ℕ)
 form_part bytes = do
   inside ← opened 34 bytes
-  n ← form_end 0 0 inside
+  n ← form_end Item 0 inside
   Some (take n inside, drop (n + 1) inside)
 
 unfoldable pub label_part : List ℕ → Option (List ℕ × List ℕ)

@@ -1,13 +1,16 @@
 // The text that stands between two marks, its escapes resolved.
-ghost use Rattle.std.specs.Prelude.{ℕ, ◌≡◌, ◌≤◌, ◌++◌, ◌∷◌, [], not, ◌||◌, ◌==◌, Option, Some, None, MatchOption, IfOk, OnOk, IsTrue, false};
+ghost use Rattle.std.specs.Prelude.{ℕ, ◌≡◌, ◌<◌, ◌≤◌, ◌++◌, ◌∷◌, [], length, not, ◌||◌, ◌==◌, Option, Some, None, MatchOption, IfOk, IfSome, OnOk, IsTrue, false};
 ghost use Rattle.std.specs.Char.{encode_utf8, digit_value};
 ghost use Rattle.rdf_terms.specs.Iri.{is_iri_byte};
-ghost use Rattle.std.specs.List.{list_any};
 ghost use Rattle.std.specs.Str.{IsUtf8};
 ghost use Rattle.nquads_text.specs.Meaning.{short_value, is_scalar, is_nameable, IsItem};
-ghost use Rattle.nquads_text.specs.Escape.{more_digits, with_named, resolve_step, resolve_from, resolved};
+ghost use Rattle.nquads_text.specs.declared.scan.Awaits.TheVariants.{Item};
+ghost use Rattle.nquads_text.specs.Scan.{first_place};
+ghost use Rattle.nquads_text.specs.Escape.{more_digits, with_named, after_digit, resolve_step, resolve_from, resolved};
 ghost use Rattle.nquads_text.specs.Line.{IsWrittenText};
 
+use crate::scan::{Awaits, digits_left, is_item};
+use memchr::memchr;
 use rdf_terms::is_iri_byte;
 use std::alloc::Global;
 use std::{char, str};
@@ -18,10 +21,10 @@ fn short_value(b: u8) -> u8
 {
     match b {
         b't' => b'\t',
-        b'b' => 8,
+        b'b' => b'\x08',
         b'n' => b'\n',
         b'r' => b'\r',
-        b'f' => 12,
+        b'f' => b'\x0C',
         _ => b,
     }
 }
@@ -32,8 +35,8 @@ fn digit_value(b: u8) -> u32
 {
     match b {
         b'0'..=b'9' => (b - b'0') as u32,
-        b'A'..=b'Z' => (b - 55) as u32,
-        b'a'..=b'z' => (b - 87) as u32,
+        b'A'..=b'Z' => (b - b'A' + 10) as u32,
+        b'a'..=b'z' => (b - b'a' + 10) as u32,
         _ => 36,
     }
 }
@@ -79,28 +82,52 @@ fn push_char(out: &mut Vec<u8>, code: u32) -> Result<(), OutOfMemory>
     }
 }
 
-/// Where a reading of escapes stands.
+/// Where a reading of escapes stands: what it awaits, and the value of the digits so far.
 #[derive(Clone, Copy)]
 struct Place {
-    state: u8,
+    awaits: Awaits,
     value: u32,
 }
 
+/// The place before an item.
+fn before_item() -> Place
+    ensures { result ≡ record { awaits = Item; value = 0 } }
+{
+    Place {
+        awaits: Awaits::Item,
+        value: 0,
+    }
+}
+
 fn name(out: &mut Vec<u8>, iri: bool, code: u32) -> Result<Option<Place>, OutOfMemory>
-    ensures { IfOk result (λ r. MatchOption r (with_named iri out.old.items code ≡ None) (λ p. (with_named iri out.old.items code ≡ Some (out.new.items, p.state, p.value)) × (p.value ≡ 0))) }
+    ensures { IfOk result (λ r. MatchOption r (with_named iri out.old.items code ≡ None) (λ p. (with_named iri out.old.items code ≡ Some (out.new.items, p.awaits, p.value)) × (p.value ≡ 0))) }
 {
     if !is_nameable(iri, code) {
         return Ok(None);
     }
     push_char(out, code)?;
-    Ok(Some(Place { state: 0, value: 0 }))
+    Ok(Some(before_item()))
 }
 
 fn push(out: &mut Vec<u8>, b: u8) -> Result<Option<Place>, OutOfMemory>
-    ensures { IfOk result (λ r. (r ≡ Some (record { state = 0; value = 0 })) × (out.new.items ≡ out.old.items ++ b ∷ [])) }
+    ensures { IfOk result (λ r. (r ≡ Some (record { awaits = Item; value = 0 })) × (out.new.items ≡ out.old.items ++ b ∷ [])) }
 {
     out.push(b)?;
-    Ok(Some(Place { state: 0, value: 0 }))
+    Ok(Some(before_item()))
+}
+
+fn digit(out: &mut Vec<u8>, iri: bool, more: u8, value: u32) -> Result<Option<Place>, OutOfMemory>
+    requires { value ≤ 0x110000 }
+    ensures { IfOk result (λ r. MatchOption r (after_digit iri out.old.items more value ≡ None) (λ p. (after_digit iri out.old.items more value ≡ Some (out.new.items, p.awaits, p.value)) × (p.value ≤ 0x110000))) }
+{
+    if more == 0 {
+        name(out, iri, value)
+    } else {
+        Ok(Some(Place {
+            awaits: Awaits::Digits(more - 1),
+            value,
+        }))
+    }
 }
 
 fn resolve_step(
@@ -110,47 +137,79 @@ fn resolve_step(
     b: u8,
 ) -> Result<Option<Place>, OutOfMemory>
     requires { place.value ≤ 0x110000 }
-    ensures { IfOk result (λ r. MatchOption r (resolve_step iri out.old.items place.state place.value b ≡ None) (λ p. (resolve_step iri out.old.items place.state place.value b ≡ Some (out.new.items, p.state, p.value)) × (p.value ≤ 0x110000))) }
+    ensures { IfOk result (λ r. MatchOption r (resolve_step iri out.old.items place.awaits place.value b ≡ None) (λ p. (resolve_step iri out.old.items place.awaits place.value b ≡ Some (out.new.items, p.awaits, p.value)) × (p.value ≤ 0x110000))) }
 {
-    match place.state {
-        0 => {
+    match place.awaits {
+        Awaits::Item => {
             if b == b'\\' {
-                Ok(Some(Place { state: 9, value: 0 }))
+                Ok(Some(Place {
+                    awaits: Awaits::Escape,
+                    value: 0,
+                }))
             } else {
                 push(out, b)
             }
         }
-        9 => match b {
-            b'u' => Ok(Some(Place { state: 4, value: 0 })),
-            b'U' => Ok(Some(Place { state: 8, value: 0 })),
+        Awaits::Escape => match b {
+            b'u' => Ok(Some(Place {
+                awaits: digits_left(4),
+                value: 0,
+            })),
+            b'U' => Ok(Some(Place {
+                awaits: digits_left(8),
+                value: 0,
+            })),
             _ => push(out, short_value(b)),
         },
-        1 => name(out, iri, more_digits(place.value, b)),
-        _ => Ok(Some(Place {
-            state: place.state - 1,
-            value: more_digits(place.value, b),
-        })),
+        Awaits::Digits(more) => digit(out, iri, more, more_digits(place.value, b)),
     }
 }
 
-fn resolve_all(alloc: Global, bytes: &[u8], iri: bool) -> Result<Option<Vec<u8>>, OutOfMemory>
-    ensures { IfOk result (λ r. MatchOption r (resolve_from iri [] 0 0 bytes.now ≡ None) (λ v. resolve_from iri [] 0 0 bytes.now ≡ Some v.items)) }
+/// Appends what the item at the front stands for, and answers the bytes after it, or nothing where it names what it may not.
+fn resolve_item<'a>(
+    out: &mut Vec<u8>,
+    iri: bool,
+    bytes: &'a [u8],
+) -> Result<Option<&'a [u8]>, OutOfMemory>
+    ensures value { IfOk result (λ r. MatchOption r (resolve_from iri out.old.items Item 0 bytes.now ≡ None) (λ rest. resolve_from iri out.old.items Item 0 bytes.now ≡ resolve_from iri out.new.items Item 0 rest.now)) }
+    ensures shorter { IfOk result (λ r. IfSome r (λ rest. 0 < length bytes.now → length rest.now < length bytes.now)) }
 {
-    let mut out = Vec::new(alloc);
-    let mut place = Place { state: 0, value: 0 };
-    for b in bytes {
-        match resolve_step(&mut out, iri, place, *b)? {
+    let mut place = before_item();
+    for (i, b) in bytes.iter().enumerate() {
+        match resolve_step(out, iri, place, *b)? {
             None => return Ok(None),
             Some(next) => place = next,
         }
+        if is_item(place.awaits) {
+            return Ok(Some(&bytes[i + 1..]));
+        }
     }
-    Ok(Some(out))
+    Ok(Some(&[]))
 }
 
-fn has_backslash(bytes: &[u8]) -> bool
-    ensures { result ≡ list_any (λ b. b == 92) bytes.now }
+/// The place of the first backslash.
+fn backslash(bytes: &[u8]) -> Option<usize>
+    ensures place { result ≡ first_place (λ b. b == 92) 0 bytes.now }
+    ensures within { IfSome result (λ n. n < length bytes.now) }
 {
-    bytes.iter().any(|b| *b == b'\\')
+    memchr(b'\\', bytes)
+}
+
+fn resolve_all(alloc: Global, bytes: &[u8], iri: bool) -> Result<Option<Vec<u8>>, OutOfMemory>
+    ensures { IfOk result (λ r. MatchOption r (resolve_from iri [] Item 0 bytes.now ≡ None) (λ v. resolve_from iri [] Item 0 bytes.now ≡ Some v.items)) }
+{
+    let mut out = Vec::with_capacity(alloc, bytes.len())?;
+    let mut rest = bytes;
+    while let Some(n) = backslash(rest) {
+        let (run, escape) = rest.split_at(n);
+        out.extend_from_slice(run)?;
+        match resolve_item(&mut out, iri, escape)? {
+            None => return Ok(None),
+            Some(after) => rest = after,
+        }
+    }
+    out.extend_from_slice(rest)?;
+    Ok(Some(out))
 }
 
 /// The text that these bytes of UTF-8 are.
@@ -180,9 +239,8 @@ pub fn resolved(alloc: Global, bytes: &[u8], iri: bool) -> Result<Option<Text>, 
     requires { IsWrittenText (IsItem iri) bytes.now }
     ensures { IfOk result (λ r. r ≡ resolved iri bytes.now) }
 {
-    if has_backslash(bytes) {
-        resolved_slowly(alloc, bytes, iri)
-    } else {
-        Ok(Some(copied(alloc, bytes)?))
+    match backslash(bytes) {
+        None => Ok(Some(copied(alloc, bytes)?)),
+        Some(_) => resolved_slowly(alloc, bytes, iri),
     }
 }

@@ -1,10 +1,11 @@
 // A text in pieces.
-ghost use Rattle.std.specs.Prelude.{ℕ, ◌≡◌, ◌<◌, min, length, ◌++◌, [], List, Bool, true, false, Option, Some, None, Result, Ok, Err, IfOk, OnOk, IfErr, IfSome, if◌then◌else◌};
+ghost use Rattle.std.specs.Prelude.{ℕ, ◌≡◌, ◌<◌, ◌^◌, min, length, ◌++◌, [], List, Bool, true, false, Option, Some, None, Result, Ok, Err, IfOk, OnOk, IfErr, IfSome, if◌then◌else◌};
 ghost use Rattle.std.specs.List.{list_all};
 ghost use Rattle.rdf_terms.specs.declared.term.Quad.{Quad};
 ghost use Rattle.nquads_text.specs.declared.fault.Why.{Why};
 ghost use Rattle.nquads_text.specs.Feed.{is_inside, last_number, nothing_fed, ReadsWith, FaultWith};
-ghost use Rattle.nquads_text.specs.Pieces.{is_cut_end, reading, fed_reading};
+ghost use Rattle.nquads_text.specs.Laws.{BeginsWithText};
+ghost use Rattle.nquads_text.specs.Pieces.{is_cut_end, reading, fed_reading, ReadsEnded};
 ghost use Rattle.nquads_text.specs.Lines.{AddsLine, Gives, line_end, without_lf};
 ghost use Rattle.nquads_text.specs.Line.{line_read};
 ghost use Rattle.nquads_text.specs.Reads.{Reads, FirstFault, RefusedFor, IsOkOrMemory, IsBadOrMemory};
@@ -62,6 +63,7 @@ fn read_next<'a>(
     requires within { n < length bytes.now }
     requires inside { list_all is_inside kept.old.items ≡ true }
     ensures ok { IfOk result (λ p. (more : List ℕ) → reading longest quads.old.items number.old false (kept.old.items ++ (bytes.now ++ more)) ≡ reading longest quads.new.items number.new p.0 (p.1.now ++ more)) }
+    ensures ended { IfOk result (λ p. ReadsEnded longest quads.old.items number.old (kept.old.items ++ bytes.now) quads.new.items number.new p.0 p.1.now) }
     ensures kept { OnOk result (kept.new.items ≡ []) }
     ensures cr { IfOk result (λ p. p.0 ≡ true → p.1.now ≡ []) }
     ensures shorter { IfOk result (λ p. length p.1.now < length bytes.now) }
@@ -88,8 +90,10 @@ fn read_ended(
     kept: &mut Vec<u8>,
     bytes: &[u8],
 ) -> Result<bool, TextFault>
-    requires { list_all is_inside kept.old.items ≡ true }
+    requires inside { list_all is_inside kept.old.items ≡ true }
+    requires number { number.old < 2 ^ 64 }
     ensures ok { IfOk result (λ cr. (more : List ℕ) → reading longest quads.old.items number.old false (kept.old.items ++ (bytes.now ++ more)) ≡ reading longest quads.new.items number.new cr (kept.new.items ++ more)) }
+    ensures ended { IfOk result (λ cr. ReadsEnded longest quads.old.items number.old (kept.old.items ++ bytes.now) quads.new.items number.new cr kept.new.items) }
     ensures inside { OnOk result (list_all is_inside kept.new.items ≡ true) }
     ensures cr { IfOk result (λ cr. cr ≡ true → kept.new.items ≡ []) }
     ensures refused { RefusedFor (λ m why. (more : List ℕ) → reading longest quads.old.items number.old false (kept.old.items ++ (bytes.now ++ more)) ≡ Err (m, why)) result }
@@ -135,7 +139,8 @@ fn begun(after_cr: bool, piece: &[u8]) -> &[u8]
 }
 
 /// Reads a text that comes in pieces, cut at any places (RDF 1.1 N-Quads). It keeps the quads so far and the line that has
-/// no end yet, and never the whole text. Contracts see it as `Fed`.
+/// no end yet, and never the whole text. Contracts see what is known of the text so far, `Fed`: the quads of the lines that
+/// have ended, the number of the next line, whether a CR stands just before it, its bytes so far, and a refusal.
 #[derive(Drop)]
 pub struct QuadFeed {
     longest: usize,
@@ -159,7 +164,7 @@ impl Model for QuadFeed {
 }
 
 impl QuadFeed {
-    ghost use Rattle.nquads_text.specs.Feed.{TakesPiece, IsUnfinished};
+    ghost use Rattle.nquads_text.specs.Feed.{TakesPiece, IsUnfinished, TakesLines};
 
     /// Before the first piece. Terms are read whose canonical text has at most `longest` bytes.
     #[tactic(auto, unfolding(crate::specs::Feed::nothing_fed))]
@@ -183,6 +188,7 @@ impl QuadFeed {
         ensures refused { RefusedFor (λ n why. (more : List ℕ) → fed_reading self.old (piece.now ++ more) ≡ Err (n, why)) result }
         ensures not_refused { self.new.fault ≡ None }
         ensures unfinished { IsUnfinished self.new }
+        ensures ended { OnOk result (TakesLines self.old piece.now self.new) }
     {
         let after_cr = self.after_cr;
         if piece.is_empty() {
@@ -210,8 +216,9 @@ impl QuadFeed {
         }
     }
 
-    /// Takes the next piece of the text. `Bad` comes as soon as a line with a fault has ended, and stands however the text
-    /// goes on. After a refusal, `OutOfMemory` for want of memory among them, each later call answers the same.
+    /// Takes the next piece of the text. Each line that has ended is read, and the line that has no end yet is kept. So `Bad`
+    /// comes at the latest with the piece in which the first line with a fault ends, and it stands however the text goes on.
+    /// After a refusal, `OutOfMemory` for want of memory among them, each later call answers the same.
     pub fn feed(&mut self, piece: &[u8]) -> Result<(), TextFault>
         // After a refusal.
         ensures again { IfSome self.old.fault (λ e. (result ≡ Err e) × (self.new ≡ self.old)) }
@@ -219,6 +226,8 @@ impl QuadFeed {
         ensures in_order { OnOk result ((self.old.fault ≡ None) × (self.new.fault ≡ None)) }
         ensures taken { OnOk result (TakesPiece self.old piece.now self.new) }
         ensures unfinished { OnOk result (IsUnfinished self.new) }
+        // Each line that has ended is read, and only what follows the last line end is kept.
+        ensures ended { OnOk result (TakesLines self.old piece.now self.new) }
         // The piece is refused.
         ensures refused { self.old.fault ≡ None → RefusedFor (λ n why. (more : List ℕ) → FaultWith self.old (piece.now ++ more) n why) result }
         ensures remembered { IfErr result (λ e. self.new.fault ≡ Some e) }
@@ -260,8 +269,5 @@ impl QuadFeed {
 
 /// A feed before its first piece reads what comes as the whole text is read.
 pub fn a_feed_begins_with_the_text()
-    ensures reads { (longest : ℕ) (bytes : List ℕ) (quads : List Quad) → ReadsWith (nothing_fed longest) bytes quads → Reads bytes longest quads }
-    ensures only_reads { (longest : ℕ) (bytes : List ℕ) (quads : List Quad) → Reads bytes longest quads → ReadsWith (nothing_fed longest) bytes quads }
-    ensures faults { (longest : ℕ) (bytes : List ℕ) (number : ℕ) (why : Why) → FirstFault bytes longest number why → FaultWith (nothing_fed longest) bytes (min number last_number) why }
-    ensures only_faults { (longest : ℕ) (bytes : List ℕ) (number : ℕ) (why : Why) → FaultWith (nothing_fed longest) bytes number why → (n : ℕ) × FirstFault bytes longest n why × (number ≡ min n last_number) }
+    ensures { BeginsWithText }
 {}

@@ -6,6 +6,7 @@ mod fault;
 mod feed;
 mod line;
 mod loose;
+mod mark;
 mod raw;
 mod scan;
 #[cfg(test)]

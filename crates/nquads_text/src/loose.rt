@@ -14,12 +14,15 @@ ghost use Rattle.nquads_text.specs.Views.{kind_view, term_view, quad_view, loose
 
 use crate::escape::{copied, resolved};
 use crate::fault::Why;
+use crate::mark::is_marked;
 use crate::raw::{RawKind, RawQuad, RawTerm};
 use rdf_terms::{has_scheme, is_lang_string, is_xsd_string, lowered};
 use std::alloc::Global;
 use std::str;
 use tpf_base::{OutOfMemory, Text};
 
+/// What follows a form. xsd:string is left out and a tag is in lower case; a datatype may be no IRI with a scheme yet, or
+/// rdf:langString.
 #[derive(Drop)]
 pub enum LooseKind {
     Plain,
@@ -27,6 +30,7 @@ pub enum LooseKind {
     Tagged(Text),
 }
 
+/// A term with its escapes resolved. An IRI may lack its scheme, and a label may be too long.
 #[derive(Drop)]
 pub enum LooseTerm {
     Iri(Text),
@@ -34,6 +38,7 @@ pub enum LooseTerm {
     Literal { form: Text, kind: LooseKind },
 }
 
+/// A statement of such terms; `fault` says whether it is a quad.
 #[derive(Drop)]
 pub struct LooseQuad {
     pub subject: LooseTerm,
@@ -182,12 +187,6 @@ impl LooseKind {
     }
 }
 
-fn is_marked(b: u8) -> bool
-    ensures { result ≡ is_marked b }
-{
-    matches!(b, b'"' | b'\\' | b'\n' | b'\r')
-}
-
 fn marks(bytes: &[u8]) -> usize
     ensures value { result ≡ marks bytes.now }
     ensures small { result ≤ length bytes.now }
@@ -248,10 +247,24 @@ impl LooseTerm {
         }
     }
 
+    /// A bound of the length that is found without counting the bytes that are written with a backslash.
+    #[tactic(auto, using(crate::proofs::Lengths::len_bound))]
+    fn most(&self) -> u128
+        ensures { length (canonical_term (loose_term self.now)) ≤ result }
+    {
+        match self {
+            LooseTerm::Iri(text) => text.as_str().len() as u128 + 2,
+            LooseTerm::Blank(label) => label.as_str().len() as u128 + 2,
+            LooseTerm::Literal { form, kind } => {
+                form.as_str().len() as u128 * 2 + 2 + kind.len()
+            }
+        }
+    }
+
     fn is_too_long(&self, longest: usize) -> bool
         ensures { result ≡ is_too_long longest (loose_term self.now) }
     {
-        self.len() > longest as u128 || self.has_long_label()
+        (self.most() > longest as u128 && self.len() > longest as u128) || self.has_long_label()
     }
 }
 

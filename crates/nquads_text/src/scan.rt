@@ -5,7 +5,8 @@ ghost use Rattle.rdf_terms.specs.Iri.{is_iri_byte, is_letter, is_digit};
 ghost use Rattle.rdf_terms.specs.Label.{is_label};
 ghost use Rattle.rdf_terms.specs.Tag.{is_tag};
 ghost use Rattle.nquads_text.specs.Grammar.{is_blank, is_hex, is_form_byte, is_short_escape};
-ghost use Rattle.nquads_text.specs.Scan.{skipped, opened, is_over, digits_after, iri_step, form_step, iri_end, form_end, is_label_byte, label_len, is_tag_byte, tag_len};
+ghost use Rattle.nquads_text.specs.declared.scan.Awaits.TheVariants.{Item};
+ghost use Rattle.nquads_text.specs.Scan.{skipped, opened, is_over, is_item, digits_left, digits_after, iri_step, form_step, iri_end, form_end, is_label_byte, label_len, is_tag_byte, tag_len};
 
 use std::str;
 
@@ -53,6 +54,7 @@ fn is_hex(b: u8) -> bool
     b.is_ascii_hexdigit()
 }
 
+/// The test of `rdf_terms::is_iri_byte`, small letters first: it is made of nearly each byte of the data.
 fn is_iri_byte(b: u8) -> bool
     ensures { result ≡ is_iri_byte b }
 {
@@ -76,84 +78,124 @@ fn is_short_escape(b: u8) -> bool
     matches!(b, b't' | b'b' | b'n' | b'r' | b'f' | b'"' | b'\'' | b'\\')
 }
 
-fn digits_after(b: u8) -> Option<u8>
+/// What the text between two marks awaits.
+#[derive(Clone, Copy)]
+pub enum Awaits {
+    /// An item.
+    Item,
+    /// What follows a backslash.
+    Escape,
+    /// A hexadecimal digit, and so many more behind it.
+    Digits(u8),
+}
+
+pub fn is_item(awaits: Awaits) -> bool
+    ensures { result ≡ is_item awaits }
+{
+    matches!(awaits, Awaits::Item)
+}
+
+/// What is awaited where so many hexadecimal digits are still to come.
+pub fn digits_left(n: u8) -> Awaits
+    ensures { result ≡ digits_left n }
+{
+    if n == 0 {
+        Awaits::Item
+    } else {
+        Awaits::Digits(n - 1)
+    }
+}
+
+fn digits_after(b: u8) -> Option<Awaits>
     ensures { result ≡ digits_after b }
 {
     match b {
-        b'u' => Some(4),
-        b'U' => Some(8),
+        b'u' => Some(digits_left(4)),
+        b'U' => Some(digits_left(8)),
         _ => None,
     }
 }
 
-fn iri_step(state: u8, b: u8) -> Option<u8>
-    ensures { result ≡ iri_step state b }
+fn iri_step(awaits: Awaits, b: u8) -> Option<Awaits>
+    ensures { result ≡ iri_step awaits b }
 {
-    match state {
-        0 => {
+    match awaits {
+        Awaits::Item => {
             if b == b'\\' {
-                Some(9)
+                Some(Awaits::Escape)
             } else if is_iri_byte(b) {
-                Some(0)
+                Some(Awaits::Item)
             } else {
                 None
             }
         }
-        9 => digits_after(b),
-        _ => { if is_hex(b) { Some(state - 1) } else { None } }
+        Awaits::Escape => digits_after(b),
+        Awaits::Digits(more) => {
+            if is_hex(b) {
+                Some(digits_left(more))
+            } else {
+                None
+            }
+        }
     }
 }
 
-fn form_step(state: u8, b: u8) -> Option<u8>
-    ensures { result ≡ form_step state b }
+fn form_step(awaits: Awaits, b: u8) -> Option<Awaits>
+    ensures { result ≡ form_step awaits b }
 {
-    match state {
-        0 => {
+    match awaits {
+        Awaits::Item => {
             if b == b'\\' {
-                Some(9)
+                Some(Awaits::Escape)
             } else if is_form_byte(b) {
-                Some(0)
+                Some(Awaits::Item)
             } else {
                 None
             }
         }
-        9 => {
+        Awaits::Escape => {
             if is_short_escape(b) {
-                Some(0)
+                Some(Awaits::Item)
             } else {
                 digits_after(b)
             }
         }
-        _ => { if is_hex(b) { Some(state - 1) } else { None } }
+        Awaits::Digits(more) => {
+            if is_hex(b) {
+                Some(digits_left(more))
+            } else {
+                None
+            }
+        }
     }
 }
 
 /// The place of the mark that ends an IRI.
 pub fn iri_end(bytes: &[u8]) -> Option<usize>
-    ensures place { result ≡ iri_end 0 0 bytes.now }
+    ensures place { result ≡ iri_end Item 0 bytes.now }
     ensures within { IfSome result (λ n. n < length bytes.now) }
 {
-    let mut state: u8 = 0;
+    let mut awaits = Awaits::Item;
     for (i, b) in bytes.iter().enumerate() {
-        if state == 0 && *b == b'>' {
+        if is_item(awaits) && *b == b'>' {
             return Some(i);
         }
-        state = iri_step(state, *b)?;
+        awaits = iri_step(awaits, *b)?;
     }
     None
 }
 
 /// The place of the quote that ends a form.
 pub fn form_end(bytes: &[u8]) -> Option<usize>
-    ensures place { result ≡ form_end 0 0 bytes.now }
+    ensures place { result ≡ form_end Item 0 bytes.now }
     ensures within { IfSome result (λ n. n < length bytes.now) }
 {
-    let mut state: u8 = 0;
+    let mut awaits = Awaits::Item;
     for (i, b) in bytes.iter().enumerate() {
-        if state == 0 && *b == b'"' {
+        if is_item(awaits) && *b == b'"' {
             return Some(i);
         }
-        state = form_step(state, *b)?;
+        awaits = form_step(awaits, *b)?;
     }
     None
 }

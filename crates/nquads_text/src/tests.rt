@@ -51,9 +51,9 @@ fn changing_cut(alloc: Global, text: &[u8], wanted: &str) -> Result<Option<usize
     Ok(None)
 }
 
-/// What a text of many bytes in a label or an IRI reads as.
-fn is_read(alloc: Global, text: &str, longest: usize) -> bool {
-    read_all(alloc, text.as_bytes(), longest).is_ok()
+/// Why a text is not read, if it is not.
+fn fault(alloc: Global, text: &str, longest: usize) -> Option<TextFault> {
+    read_all(alloc, text.as_bytes(), longest).err()
 }
 
 #[test]
@@ -228,11 +228,32 @@ fn cut_at_every_place(rt: HostRuntime) -> Result<(), Fail> {
         "# c\r\n<http://e/é> <http://e/p> \"\\u00E9\"@EN .\r\n\r_:a <http://e/p> _:b .\n<s> <http://e/p> _:c .\r\n<".as_bytes();
     let wanted = read_whole(alloc, text)?;
     assert_eq!(rt; wanted.as_str(), "Bad { line: 5, why: RelativeIri }");
-    let good = &text[..60];
-    let lines = read_whole(alloc, good)?;
     assert_eq!(rt; changing_cut(alloc, text, wanted.as_str())?, None);
-    assert_eq!(rt; changing_cut(alloc, good, lines.as_str())?, None);
+    let good = &text[..70];
+    let lines = "<http://e/é> <http://e/p> \"é\"@en .\n_:a <http://e/p> _:b .\n";
+    assert_eq!(rt; read_whole(alloc, good)?.as_str(), lines);
+    assert_eq!(rt; changing_cut(alloc, good, lines)?, None);
     Ok(())
+}
+
+#[test]
+fn a_fault_comes_when_its_line_ends(rt: HostRuntime) {
+    let rows = [
+        (b"\xFF".as_slice(), b"\r".as_slice(), 1, Why::Utf8),
+        (b"\xFF".as_slice(), b"\n# c".as_slice(), 1, Why::Utf8),
+        (b"# c\r".as_slice(), b"\n<\n".as_slice(), 2, Why::Statement),
+        (
+            b"# c\n<s> <http://e/p> _:a".as_slice(),
+            b" .\n".as_slice(),
+            2,
+            Why::RelativeIri,
+        ),
+    ];
+    for (front, back, line, why) in rows {
+        let mut feed = QuadFeed::new(rt.alloc(), LONGEST);
+        assert_eq!(rt; feed.feed(front), Ok(()));
+        assert_eq!(rt; feed.feed(back), Err(TextFault::Bad { line, why }));
+    }
 }
 
 #[test]
@@ -245,7 +266,7 @@ fn a_refusal_is_remembered(rt: HostRuntime) -> Result<(), Fail> {
     assert_eq!(rt; feed.feed(b"<"), Ok(()));
     assert_eq!(rt; feed.feed(b"\n"), Err(bad));
     assert_eq!(rt; feed.feed(b"<http://e/s> <http://e/p> _:a .\n"), Err(bad));
-    assert!(rt; feed.finish().is_err());
+    assert_eq!(rt; feed.finish().err(), Some(bad));
     Ok(())
 }
 
@@ -262,23 +283,33 @@ fn labelled(alloc: Global, length: usize) -> Result<String, Fail> {
 #[test]
 fn limits_of_texts(rt: HostRuntime) -> Result<(), Fail> {
     let alloc = rt.alloc();
-    assert!(rt; is_read(alloc, labelled(alloc, 1024)?.as_str(), LONGEST));
-    assert!(rt; !is_read(alloc, labelled(alloc, 1025)?.as_str(), LONGEST));
-    assert!(rt; is_read(alloc, "<http://e/s> <http://e/p> \"12345678\" .", 12));
-    assert!(rt; is_read(alloc, "<http://e/s> <http://e/p> \"\\n345678\" .", 12));
-    assert!(rt; !is_read(alloc, "<http://e/s> <http://e/p> \"12345678\" .", 11));
-    assert!(rt;
-        !is_read(
-            alloc,
-            "<http://e/s> <http://e/p> \"1234567890\u{e9}\" .",
-            12
-        )
+    let long = Some(TextFault::Bad {
+        line: 1,
+        why: Why::TermTooLong,
+    });
+    assert_eq!(rt;
+        fault(alloc, labelled(alloc, 1024)?.as_str(), LONGEST),
+        None
     );
-    let long = outcome(
-        alloc,
-        read_all(alloc, b"<http://e/s> <http://e/p> \"12345678\" .", 11),
-    )?;
-    assert_eq!(rt; long.as_str(), "Bad { line: 1, why: TermTooLong }");
+    assert_eq!(rt;
+        fault(alloc, labelled(alloc, 1025)?.as_str(), LONGEST),
+        long
+    );
+    // the canonical texts of the subject and the predicate have 12 bytes; in an object's each backslash counts
+    for (object, wanted) in [
+        ("\"1234567890\"", None),
+        ("\"\\n34567890\"", None),
+        ("\"\\n234567890\"", long),
+        ("\"12345678901\"", long),
+        ("\"123456789\u{e9}\"", long),
+        ("\"1234567\"@en", None),
+        ("\"12345678\"@en", long),
+    ] {
+        let text = format!(in alloc; "<http://e/s> <http://e/p> {object} .")?;
+        assert_eq!(rt; fault(alloc, text.as_str(), 12), wanted, "{object}");
+    }
+    let short = fault(alloc, "<http://e/s> <http://e/p> \"\" .", 11);
+    assert_eq!(rt; short, long);
     Ok(())
 }
 
@@ -288,5 +319,8 @@ fn canonical_texts(rt: HostRuntime) -> Result<(), Fail> {
     let mut out = Vec::new(alloc);
     canonical(&Term::plain(alloc, "a\n\"\\\r\t'")?, &mut out)?;
     assert_eq!(rt; out.as_slice(), b"\"a\\n\\\"\\\\\\r\t'\"".as_slice());
+    out.clear();
+    canonical(&Term::plain(alloc, "\nab\"cd\\ef")?, &mut out)?;
+    assert_eq!(rt; out.as_slice(), b"\"\\nab\\\"cd\\\\ef\"".as_slice());
     Ok(())
 }

@@ -8,9 +8,11 @@ ghost use Rattle.nquads_text.specs.declared.fault.Why.{Why};
 ghost use Rattle.nquads_text.specs.Reads.{lines_of, Reads, FirstFault, RefusedFor, IsOkOrMemory, IsBadOrMemory};
 ghost use Rattle.nquads_text.specs.Lines.{read_lines, text_read, Gives, AddsLine, line_end, without_lf, after_end};
 ghost use Rattle.nquads_text.specs.Line.{line_read};
+ghost use Rattle.nquads_text.specs.Laws.{IsReadOrFaulty, IsNotBoth, ReadIsReadable};
 
 use crate::fault::TextFault;
 use crate::line::{LineFault, line_read};
+use memchr::memchr2;
 use rdf_terms::Quad;
 use std::alloc::Global;
 
@@ -19,12 +21,7 @@ pub fn line_end(bytes: &[u8]) -> Option<usize>
     ensures place { result ≡ line_end 0 bytes.now }
     ensures within { IfSome result (λ n. n < length bytes.now) }
 {
-    for (i, b) in bytes.iter().enumerate() {
-        if *b == b'\n' || *b == b'\r' {
-            return Some(i);
-        }
-    }
-    None
+    memchr2(b'\n', b'\r', bytes)
 }
 
 /// The bytes after an LF at the front, if one stands there.
@@ -137,11 +134,11 @@ pub fn read_all(alloc: Global, bytes: &[u8], longest: usize) -> Result<Vec<Quad>
 
 /// A text has a reading or a first fault, and not both.
 pub fn one_of_two()
-    ensures one { (longest : ℕ) (bytes : List ℕ) → ((quads : List Quad) × Reads bytes longest quads) ⊎ ((n : ℕ) × (why : Why) × FirstFault bytes longest n why) }
-    ensures not_both { (longest : ℕ) (bytes : List ℕ) (quads : List Quad) (n : ℕ) (why : Why) → Reads bytes longest quads → FirstFault bytes longest n why → ⊥ }
+    ensures one { IsReadOrFaulty }
+    ensures not_both { IsNotBoth }
 {}
 
 /// The quads of a text that is read have RDF's classes, terms that keep the rules of their parts, and texts within the limits.
 pub fn what_is_read_is_readable()
-    ensures { (bytes : List ℕ) (longest : ℕ) (quads : List Quad) → Reads bytes longest quads → AllByRecursion (IsReadable longest) quads }
+    ensures { ReadIsReadable }
 {}

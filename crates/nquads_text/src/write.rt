@@ -1,20 +1,13 @@
 // Canonical text (N-Triples, "A Canonical form of N-Triples").
-ghost use Rattle.std.specs.Prelude.{ℕ, ◌≡◌, ◌∷◌, ◌++◌, [], List, false, take, OnOk, OnErr};
-ghost use Rattle.std.specs.List.{list_any, AllByRecursion};
-ghost use Rattle.rdf_terms.specs.declared.term.Quad.{Quad};
-ghost use Rattle.rdf_terms.specs.Canon.{is_marked, after_mark, canonical_byte, canonical_form, canonical_kind, canonical_term, canonical_graph, canonical_line, canon};
-ghost use Rattle.nquads_text.specs.Reads.{Reads};
-ghost use Rattle.nquads_text.specs.Quads.{IsReadable};
+ghost use Rattle.std.specs.Prelude.{ℕ, ◌≡◌, ◌<◌, ◌∷◌, ◌++◌, [], List, length, take, Option, Some, None, IfOk, IfSome, OnOk, OnErr};
+ghost use Rattle.rdf_terms.specs.Canon.{is_marked, after_mark, canonical_byte, canonical_form, canonical_kind, canonical_term, canonical_graph, canonical_line};
+ghost use Rattle.nquads_text.specs.Scan.{first_place};
 ghost use Rattle.nquads_text.specs.Begins.{Begins};
+ghost use Rattle.nquads_text.specs.Laws.{CanonReadsBack};
 
+use crate::mark::is_marked;
 use rdf_terms::{Kind, Quad, Term, Triple};
 use tpf_base::OutOfMemory;
-
-fn is_marked(b: u8) -> bool
-    ensures { result ≡ is_marked b }
-{
-    matches!(b, b'"' | b'\\' | b'\n' | b'\r')
-}
 
 fn after_mark(b: u8) -> u8
     ensures { result ≡ after_mark b }
@@ -55,33 +48,44 @@ fn push_byte(b: u8, out: &mut Vec<u8>) -> Result<(), OutOfMemory>
     }
 }
 
-#[tactic(auto, using(crate::proofs::Begins::itself_begins, crate::proofs::Begins::begins_on))]
-fn push_bytes(form: &[u8], out: &mut Vec<u8>) -> Result<(), OutOfMemory>
-    ensures ok { OnOk result (out.new.items ≡ out.old.items ++ canonical_form form.now) }
+/// The place of the first byte that is written with a backslash.
+fn mark_place(form: &[u8]) -> Option<usize>
+    ensures place { result ≡ first_place is_marked 0 form.now }
+    ensures within { IfSome result (λ n. n < length form.now) }
+{
+    for (i, b) in form.iter().enumerate() {
+        if is_marked(*b) {
+            return Some(i);
+        }
+    }
+    None
+}
+
+/// Appends the bytes up to the one in place n, which is written with a backslash, and that one. Answers those after it.
+#[tactic(auto, using(crate::proofs::Begins::begins_on))]
+fn push_run<'a>(form: &'a [u8], n: usize, out: &mut Vec<u8>) -> Result<&'a [u8], OutOfMemory>
+    requires place { first_place is_marked 0 form.now ≡ Some n }
+    requires within { n < length form.now }
+    ensures ok { IfOk result (λ rest. out.new.items ++ canonical_form rest.now ≡ out.old.items ++ canonical_form form.now) }
+    ensures shorter { IfOk result (λ rest. length rest.now < length form.now) }
     ensures front { Begins out.old.items out.new.items }
 {
-    for b in form {
-        push_byte(*b, out)?;
-    }
-    Ok(())
+    push_all(&form[..n], out)?;
+    push_byte(form[n], out)?;
+    Ok(&form[n + 1..])
 }
 
-fn has_mark(form: &[u8]) -> bool
-    ensures { result ≡ list_any is_marked form.now }
-{
-    form.iter().any(|b| is_marked(*b))
-}
-
-#[tactic(auto, using(crate::proofs::Begins::plain_form))]
+#[tactic(auto, using(crate::proofs::Begins::begins_on))]
 fn push_form(form: &[u8], out: &mut Vec<u8>) -> Result<(), OutOfMemory>
     ensures ok { OnOk result (out.new.items ≡ out.old.items ++ canonical_form form.now) }
     ensures front { Begins out.old.items out.new.items }
 {
-    if has_mark(form) {
-        push_bytes(form, out)
-    } else {
-        push_all(form, out)
+    let mut rest = form;
+    while let Some(n) = mark_place(rest) {
+        rest = push_run(rest, n, out)?;
     }
+    push_all(rest, out)?;
+    Ok(())
 }
 
 #[tactic(auto, using(crate::proofs::Begins::begins_on))]
@@ -237,5 +241,5 @@ pub fn write_quad(quad: &Quad, out: &mut Vec<u8>) -> Result<(), OutOfMemory>
 
 /// The canonical text of quads that text can give is read as these quads.
 pub fn canonical_text_reads_back()
-    ensures { (longest : ℕ) (quads : List Quad) → AllByRecursion (IsReadable longest) quads → Reads (canon quads) longest quads }
+    ensures { CanonReadsBack }
 {}

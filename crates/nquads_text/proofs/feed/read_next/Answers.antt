@@ -3,8 +3,9 @@ use Rattle.rdf_terms.specs.declared.term.Quad.{Quad}
 use Rattle.nquads_text.specs.declared.fault.Why.{Why}
 use Rattle.nquads_text.specs.Line.{line_read}
 use Rattle.nquads_text.specs.Lines.{after_end}
-use Rattle.nquads_text.specs.Pieces.{is_cut_end, reading}
+use Rattle.nquads_text.specs.Pieces.{is_cut_end, reading, ReadsEnded}
 use Rattle.nquads_text.proofs.PieceLaws.{line_ok, line_bad}
+use Rattle.nquads_text.proofs.EndedLaws.{one_ended}
 use Rattle.nquads_text.proofs.feed.read_next.Goals as goal
 
 abbrev Found : Type 0
@@ -28,3 +29,13 @@ returns-in-Ok-clause-ok c = λ more.
     ∙ ap (λ (k : ℕ). reading c.args.longest c.read_kept.new.quads.items k (is_cut_end (drop c.args.n c.args.bytes.now)) (after_end (drop c.args.n c.args.bytes.now) ++ more)) (sym c.saturating_add.ensures)
     ∙ ap (λ (k : Bool). reading c.args.longest c.read_kept.new.quads.items c.saturating_add.result k (after_end (drop c.args.n c.args.bytes.now) ++ more)) cut
     ∙ ap (λ (l : List ℕ). reading c.args.longest c.read_kept.new.quads.items c.saturating_add.result c.is_cut_end.result (l ++ more)) rest
+
+pub returns-in-Ok-clause-ended : goal.returns-in-Ok-clause-ended
+returns-in-Ok-clause-ended c =
+    let q = c.in-Ok.ensures.line in
+    let here : line_read c.args.longest (c.args.kept.now.items ++ take c.args.n c.args.bytes.now) ≡ Ok q.0 = subst (λ (l : List ℕ). line_read c.args.longest (c.args.kept.now.items ++ l) ≡ Ok q.0) c.split_at.ensures.front q.1 in
+    let cut : is_cut_end (drop c.args.n c.args.bytes.now) ≡ c.is_cut_end.result = ap is_cut_end (sym c.split_at.ensures.back) ∙ sym c.is_cut_end.ensures in
+    let rest : after_end (drop c.args.n c.args.bytes.now) ≡ c.after_end.result.now = ap after_end (sym c.split_at.ensures.back) ∙ sym c.after_end.ensures.rest in
+    subst (λ (k : Bool). ReadsEnded c.args.longest c.args.quads.now.items c.args.number.now (c.args.kept.now.items ++ c.args.bytes.now) c.read_kept.new.quads.items c.saturating_add.result k c.after_end.result.now) cut
+    (subst (λ (l : List ℕ). ReadsEnded c.args.longest c.args.quads.now.items c.args.number.now (c.args.kept.now.items ++ c.args.bytes.now) c.read_kept.new.quads.items c.saturating_add.result (is_cut_end (drop c.args.n c.args.bytes.now)) l) rest
+    (one_ended c.args.longest c.args.number.now c.saturating_add.result c.args.quads.now.items c.read_kept.new.quads.items c.args.kept.now.items c.args.bytes.now c.args.n q.0 c.requires.place c.requires.inside here q.2 c.saturating_add.ensures))

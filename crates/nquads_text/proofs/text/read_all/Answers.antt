@@ -9,7 +9,7 @@ use Rattle.nquads_text.specs.declared.fault.TextFault.TheVariants.{Bad, OutOfMem
 use Rattle.nquads_text.specs.Quads.{IsReadable}
 use Rattle.nquads_text.specs.Lines.{text_read, Gives}
 use Rattle.nquads_text.specs.Reads.{Reads, FirstFault, RefusedFor, IsOkOrMemory, IsBadOrMemory}
-use Rattle.nquads_text.proofs.ReadLaws.{text_reads, text_faults, reads_text, faults_text, all_readable, at_each}
+use Rattle.nquads_text.proofs.ReadLaws.{ok_of, bad_of, text_reads, text_faults, reads_text, faults_text, all_readable, at_each}
 use Rattle.nquads_text.proofs.text.read_all.Goals as goal
 
 abbrev Found : Type 0
@@ -31,25 +31,6 @@ refused_of : {X : Type 0} (view : X → List Quad) (longest : ℕ) (bytes : List
 refused_of view longest bytes (Ok x) g = tt
 refused_of view longest bytes (Err OutOfMemory) g = tt
 refused_of view longest bytes (Err (Bad n why)) g = text_faults longest bytes n why g
-
-ok_same : (x y : List Quad) → ◌≡◌ {A = Found} (Ok x) (Ok y) → x ≡ y
-ok_same x y e = cc
-
-err_same : (x y : ℕ × Why) → ◌≡◌ {A = Found} (Err x) (Err y) → x ≡ y
-err_same x y e = cc
-
-apart : (x : List Quad) (y : ℕ × Why) → ◌≡◌ {A = Found} (Ok x) (Err y) → ⊥
-apart x y e = cc
-
-ok_of : {X : Type 0} (view : X → List Quad) (quads : List Quad) (r : Result X TextFault) → Gives view r (Ok quads) → IsOkOrMemory (λ v. view v ≡ quads) r
-ok_of view quads (Ok x) g = sym (ok_same quads (view x) g)
-ok_of view quads (Err OutOfMemory) g = tt
-ok_of view quads (Err (Bad n why)) g = apart quads (n, why) g
-
-bad_of : {X : Type 0} (view : X → List Quad) (n : ℕ) (why : Why) (r : Result X TextFault) → Gives view r (Err (n, why)) → IsBadOrMemory n why r
-bad_of view n why (Ok x) g = apart (view x) (n, why) (sym g)
-bad_of view n why (Err OutOfMemory) g = tt
-bad_of view n why (Err (Bad m kind)) g = let same : ◌≡◌ {A = ℕ × Why} (n, why) (m, kind) = err_same (n, why) (m, kind) g in (ap (λ (p : ℕ × Why). p.0) (sym same), ap (λ (p : ℕ × Why). p.1) (sym same))
 
 pub returns-clause-read : goal.returns-clause-read
 returns-clause-read c = read_of (λ v. v.items) c.args.longest c.args.bytes.now c.read_exactly.result c.read_exactly.ensures

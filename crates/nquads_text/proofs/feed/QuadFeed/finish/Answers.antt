@@ -3,7 +3,8 @@ use Rattle.rdf_terms.specs.declared.term.Quad.{Quad}
 use Rattle.nquads_text.specs.declared.fault.Why.{Why}
 use Rattle.nquads_text.specs.Lines.{Gives}
 use Rattle.nquads_text.specs.Pieces.{fed_reading}
-use Rattle.nquads_text.proofs.FedLaws.{at_last, last_read, last_refused, with_reads, with_fault, ok_of, bad_of}
+use Rattle.nquads_text.proofs.FedLaws.{at_last, last_read, last_refused, with_reads, with_fault}
+use Rattle.nquads_text.proofs.ReadLaws.{ok_of, bad_of}
 use Rattle.nquads_text.proofs.feed.QuadFeed.finish.Goals as goal
 
 abbrev Found : Type 0
