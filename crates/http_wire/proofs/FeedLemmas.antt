@@ -1,7 +1,7 @@
 -- What stays known of a feed's bytes when more come or some are given.
 use Rattle.std.proofs.Common.{◌≡◌, ℕ, suc, zero, ◌+◌, ◌-◌, ◌<◌, ◌≤◌, ◌==◌, Bool, true, false, List, [], ◌∷◌, ◌++◌, length, take, drop, Option, Some, None, refl, sym, ap, if◌then◌else◌, ◌∙◌, subst, arith, length-append, length-drop}
 use Rattle.std.specs.Prelude.{nat_lt, nat_le, ◌&&◌}
-use Rattle.std.proofs.lemmas.List.{take-append-drop}
+use Rattle.std.proofs.lemmas.List.{drop-append-le, length-take-le, take-append-drop, take-append-le}
 use Rattle.std.proofs.lemmas.Grind.{common_steps}
 use Rattle.tpf_base.specs.HttpHeads.{blank_length, ends_empty, least_below, head_length, NextRequest, Incomplete, Refused, next_at, next_request, with_length, judged}
 use Rattle.http_wire.specs.Searches.{IsSearched}
@@ -10,15 +10,6 @@ use Rattle.http_wire.proofs.HeadLemmas.{ends_empty_front, least_same}
 pub least_of_none : (test : ℕ → Bool) → least_below 0 test ≡ None
 unfolding least_below
 least_of_none test = refl
-
-pub drop_append : (n : ℕ) (xs ys : List ℕ) → n ≤ length xs → drop n (xs ++ ys) ≡ drop n xs ++ ys
-drop_append n xs ys h = grind (arith, common_steps)
-
-pub take_append : (n : ℕ) (xs ys : List ℕ) → n ≤ length xs → take n (xs ++ ys) ≡ take n xs
-take_append n xs ys h = grind (arith, common_steps)
-
-pub drop_more : (n : ℕ) (xs ys : List ℕ) → n ≤ length xs → drop n (xs ++ ys) ≡ drop n xs ++ ys
-drop_more n xs ys h = drop_append n xs ys h
 
 -- ---- empty lines
 
@@ -41,12 +32,9 @@ blank_within (b ∷ c ∷ bs) = grind (arith, common_steps, blank_within (c ∷ 
 
 pub blank_resumes : (held : List ℕ) (k : ℕ) → k ≤ length held → blank_length (take k held) ≡ k → blank_length held ≡ k + blank_length (drop k held)
 blank_resumes held k within empty =
-    let count : length (take k held) ≡ k = length_take k held within in
+    let count : length (take k held) ≡ k = length-take-le k held within in
     let whole : take k held ++ drop k held ≡ held = take-append-drop k held in
     ap blank_length (sym whole) ∙ blank_append (take k held) (drop k held) (empty ∙ sym count) ∙ ap (λ (n : ℕ). n + blank_length (drop k held)) count
-  where
-    length_take : (k : ℕ) (held : List ℕ) → k ≤ length held → length (take k held) ≡ k
-    length_take k held within = grind (arith, common_steps)
 
 -- the empty lines at the front are empty lines
 pub blank_taken : (xs : List ℕ) → blank_length (take (blank_length xs) xs) ≡ blank_length xs
@@ -97,13 +85,13 @@ unsearched held = record { within = omega arith; empty = refl; none = least_of_n
 
 pub searched_more : (held piece : List ℕ) (blank searched : ℕ) → IsSearched held blank searched → IsSearched (held ++ piece) blank searched
 searched_more held piece blank searched s =
-    let behind : drop blank (held ++ piece) ≡ drop blank held ++ piece = drop_append blank held piece s.within in
+    let behind : drop blank (held ++ piece) ≡ drop blank held ++ piece = drop-append-le blank held piece s.within in
     let count : length (drop blank held ++ piece) ≡ length (drop blank held) + length piece = length-append (drop blank held) piece in
     let same : (k : ℕ) → k < searched → ends_empty (drop blank held ++ piece) k ≡ ends_empty (drop blank held) k =
     λ k h. let far = s.searched_within in ends_empty_front (drop blank held) piece k (omega arith) in
     record {
       within = let w = s.within in let whole : length (held ++ piece) ≡ length held + length piece = length-append held piece in omega arith;
-      empty = ap blank_length (take_append blank held piece s.within) ∙ s.empty;
+      empty = ap blank_length (take-append-le blank held piece s.within) ∙ s.empty;
       none = ap (λ (x : List ℕ). least_below searched (ends_empty x)) behind ∙ least_same searched _ _ same ∙ s.none;
       searched_within = let far = s.searched_within in let whole = ap (λ (x : List ℕ). length x) behind in omega arith;
     }
@@ -112,7 +100,7 @@ pub kept_searched : (items piece after : List ℕ) (given blank searched : ℕ) 
     → after ≡ items ++ piece → (given ≤ length after) × IsSearched (drop given after) blank searched
 kept_searched items piece after given blank searched within s is =
     let count : length after ≡ length items + length piece = ap (λ (x : List ℕ). length x) is ∙ length-append items piece in
-    let held : drop given after ≡ drop given items ++ piece = ap (λ (x : List ℕ). drop given x) is ∙ drop_append given items piece within in
+    let held : drop given after ≡ drop given items ++ piece = ap (λ (x : List ℕ). drop given x) is ∙ drop-append-le given items piece within in
     (omega arith, subst (λ (x : List ℕ). IsSearched x blank searched) (sym held) (searched_more (drop given items) piece blank searched s))
 
 -- a search that found nothing

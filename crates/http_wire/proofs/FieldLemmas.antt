@@ -1,10 +1,11 @@
--- Values that are lists with commas.
+-- Places in values, and targets that are text.
 use Rattle.std.proofs.Common.{◌≡◌, ℕ, ◌+◌, ◌<◌, ◌≤◌, ◌==◌, Bool, true, false, List, [], ◌∷◌, length, take, drop, refl, sym, ap, ap₂, ◌-◌, ◌∙◌, arith}
-use Rattle.std.specs.Str.{IsAscii, IsUtf8}
+use Rattle.std.specs.Str.{IsAscii}
 use Rattle.std.proofs.lemmas.Str.{IsUtf8-from_ascii}
 use Rattle.std.specs.Prelude.{◌||◌}
 use Rattle.std.specs.List.{All, list_any, before_first, after_first, position_or_len}
 use Rattle.std.proofs.Common.{length-drop}
+use Rattle.std.proofs.Math.Seq.{take-length}
 use Rattle.std.proofs.lemmas.List.{drop-drop}
 use Rattle.std.proofs.lemmas.Grind.{common_steps}
 use Rattle.std.proofs.lemmas.List.Splits.{slice_split_first, slice_split_none}
@@ -13,50 +14,12 @@ use Rattle.tpf_base.specs.HttpHeads.{has_word, is_word, are_visible, from_path, 
 use Rattle.std.specs.Prelude.{◌&&◌, nat_le, not, if◌then◌else◌}
 use Rattle.std.proofs.Common.{suc, zero}
 
-abbrev comma : ℕ → Bool
-comma b = b == 44
+pub place_within : (test : ℕ → Bool) (xs : List ℕ) → position_or_len test xs ≤ length xs
+place_within test [] = omega arith
+place_within test (x ∷ xs) = grind (arith, common_steps, place_within test xs)
 
-has_word_cut : (word value : List ℕ) → position_or_len (λ b. b == 44) value < length value
-    → has_word word value ≡ (is_word word (before_first (λ b. b == 44) value) || has_word word (after_first (λ b. b == 44) value))
-unfolding has_word is_word
-has_word_cut word value within = ap (list_any (is_word word)) (slice_split_first (λ b. b == 44) value 0 within)
-
-rest_all : (xs : List ℕ) (n : ℕ) → take (length xs - n) (drop n xs) ≡ drop n xs
-rest_all xs n = grind (arith, common_steps)
-
-pub has_word_more : (word value part after : List ℕ) (at : ℕ) → at ≡ position_or_len (λ b. b == 44) value → at ≤ length value
-    → part ≡ take at value → after ≡ drop at value → 1 ≤ length after
-    → (length (take (length after - 1) (drop 1 after)) < length value) × (has_word word value ≡ (is_word word part || has_word word (take (length after - 1) (drop 1 after))))
-has_word_more word value part after at is within front back some =
-    let count : length after ≡ length value - at = ap (λ (x : List ℕ). length x) back ∙ length-drop at value in
-    let below : position_or_len (λ b. b == 44) value < length value = omega arith in
-    let next : take (length after - 1) (drop 1 after) ≡ drop (at + 1) value = rest_all after 1 ∙ ap (λ (x : List ℕ). drop 1 x) back ∙ drop-drop 1 at value in
-    let count_next : length (take (length after - 1) (drop 1 after)) ≡ length value - (at + 1) = ap (λ (x : List ℕ). length x) next ∙ length-drop (at + 1) value in
-    let first : before_first (λ b. b == 44) value ≡ part = ap (λ (n : ℕ). take n value) (sym is) ∙ sym front in
-    let second : after_first (λ b. b == 44) value ≡ take (length after - 1) (drop 1 after) = ap (λ (n : ℕ). drop (n + 1) value) (sym is) ∙ sym next in
-    (omega arith, has_word_cut word value below ∙ ap₂ (λ (x y : List ℕ). is_word word x || has_word word y) first second)
-
-or_false : (b : Bool) → (b || false) ≡ b
-or_false true = refl
-or_false false = refl
-
-none_before : (value : List ℕ) → position_or_len (λ b. b == 44) value ≡ length value → All (λ b. (b == 44) ≡ false) value
-none_before value none k d below = fails_before_first (λ b. b == 44) value k d (omega arith)
-
-whole_of : (xs : List ℕ) → take (length xs) xs ≡ xs
-whole_of xs = grind (arith, common_steps)
-
-pub has_word_last : (word value part after : List ℕ) (at : ℕ) → at ≡ position_or_len (λ b. b == 44) value → at ≤ length value
-    → part ≡ take at value → after ≡ drop at value → length after < 1 → has_word word value ≡ is_word word part
-unfolding has_word is_word
-has_word_last word value part after at is within front back none =
-    let count : length after ≡ length value - at = ap (λ (x : List ℕ). length x) back ∙ length-drop at value in
-    let end : at ≡ length value = omega arith in
-    let whole : take at value ≡ value = ap (λ (n : ℕ). take n value) end ∙ whole_of value in
-    ap (list_any (is_word word)) (slice_split_none (λ b. b == 44) value (none_before value (sym is ∙ end))) ∙ or_false (is_word word value) ∙ ap (is_word word) (sym (front ∙ whole))
-
-pub ascii_is_text : (bs : List ℕ) → IsAscii bs → IsUtf8 bs
-ascii_is_text bs ascii = IsUtf8-from_ascii bs ascii
+-- ASCII bytes are text
+pub ruleset ascii_text = (IsUtf8-from_ascii)
 
 and_left : (a b : Bool) → (a && b) ≡ true → a ≡ true
 and_left true b h = refl

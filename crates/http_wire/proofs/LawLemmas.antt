@@ -1,55 +1,12 @@
--- What is read does not depend on the cuts, and a reply wants only so many bytes.
+-- A reply wants only so many bytes.
 use Rattle.std.proofs.Common.{◌≡◌, ℕ, suc, ◌+◌, ◌*◌, ◌-◌, ◌<◌, ◌≤◌, ◌==◌, Bool, true, false, List, [], ◌∷◌, ◌++◌, length, Option, Some, None, refl, sym, ap, if◌then◌else◌, ◌∙◌, subst, arith, length-append}
 use Rattle.std.specs.Prelude.{nat_lt, nat_le}
 use Rattle.std.proofs.lemmas.Grind.{common_steps}
 use Rattle.httparse.specs.Grammar.{ResponseHead}
 use Rattle.tpf_base.specs.HttpReply.{Place, InHeads, InSized, InUnsized, InLine, InChunk, AtReturn, AtNewline, InTrailer, Finished, Failed, Gathered, Reading, More, Whole, Bad, one_more, is_open, after_byte, after_bytes, reading_from, at_the_end, begun, reply_of, HeadRead, Announces, IsRefused, Sized, Chunked, ToClose, with_byte, with_extra, is_over, is_padded, unless, after_head_byte, head_place, body_place, final_head, is_interim, response_head, line_place, after_line_byte, after_trailer_byte, chunk_size, gathering, TooLong, BadHead, BadFraming}
 use Rattle.tpf_base.specs.HttpHeads.{ends_empty, field_lines}
-use Rattle.http_wire.specs.Replies.{longer}
-use Rattle.http_wire.proofs.RunLemmas.{over_bytes, over_reading, open_reading, longer_none}
-
--- ---- cuts
-
-pub bytes_append : (limit : ℕ) (place : Place) (xs ys : List ℕ) → after_bytes limit place (xs ++ ys) ≡ after_bytes limit (after_bytes limit place xs) ys
-unfolding after_bytes
-bytes_append limit place [] ys = refl
-bytes_append limit place (x ∷ xs) ys = bytes_append limit (after_byte limit place x) xs ys
-
-open_first : (limit : ℕ) (place : Place) (xs : List ℕ) → is_open (after_bytes limit place xs) ≡ true → is_open place ≡ true
-open_first limit place xs goes = open_case (is_open place) refl
-  where
-    open_case : (v : Bool) → is_open place ≡ v → v ≡ true
-    open_case true e = refl
-    open_case false e = let over : is_open (after_bytes limit place xs) ≡ false = ap is_open (over_bytes limit place xs e) ∙ e in sym over ∙ goes
-
-one_more_longer : (n : ℕ) (r : Reading) → one_more (longer n r) ≡ longer (suc n) r
-one_more_longer n More = refl
-one_more_longer n (Whole body k keeps) = ap (λ (m : ℕ). Whole body m keeps) (omega arith)
-one_more_longer n (Bad fault) = refl
-
-pub reading_append : (limit : ℕ) (place : Place) (xs ys : List ℕ) (at_end : Bool) → is_open (after_bytes limit place xs) ≡ true
-    → reading_from limit place (xs ++ ys) at_end ≡ longer (length xs) (reading_from limit (after_bytes limit place xs) ys at_end)
-unfolding after_bytes
-reading_append limit place [] ys at_end goes = sym (longer_none (reading_from limit place ys at_end))
-reading_append limit place (x ∷ xs) ys at_end goes =
-    open_reading limit place x (xs ++ ys) at_end (open_first limit place (x ∷ xs) goes)
-    ∙ ap one_more (reading_append limit (after_byte limit place x) xs ys at_end goes)
-    ∙ one_more_longer (length xs) _
-
-stays_case : (limit : ℕ) (place : Place) (x : ℕ) (xs ys : List ℕ) (at_end : Bool)
-    → reading_from limit (after_byte limit place x) (xs ++ ys) at_end ≡ reading_from limit (after_byte limit place x) xs at_end
-    → (v : Bool) → is_open place ≡ v → reading_from limit place (x ∷ (xs ++ ys)) at_end ≡ reading_from limit place (x ∷ xs) at_end
-stays_case limit place x xs ys at_end rest true e =
-    open_reading limit place x (xs ++ ys) at_end e ∙ ap one_more rest ∙ sym (open_reading limit place x xs at_end e)
-stays_case limit place x xs ys at_end rest false e =
-    over_reading limit place (x ∷ (xs ++ ys)) at_end e ∙ sym (over_reading limit place (x ∷ xs) at_end e)
-
-pub reading_stays : (limit : ℕ) (place : Place) (xs ys : List ℕ) (at_end : Bool) → is_open (after_bytes limit place xs) ≡ false
-    → reading_from limit place (xs ++ ys) at_end ≡ reading_from limit place xs at_end
-unfolding after_bytes
-reading_stays limit place [] ys at_end over = over_reading limit place ys at_end over ∙ sym (over_reading limit place [] at_end over)
-reading_stays limit place (x ∷ xs) ys at_end over =
-    stays_case limit place x xs ys at_end (reading_stays limit (after_byte limit place x) xs ys at_end over) (is_open place) refl
+use Rattle.http_wire.specs.Laws.{WantsFewBytes}
+use Rattle.http_wire.proofs.RunLemmas.{over_bytes, over_reading, open_reading}
 
 -- ---- a bound
 
@@ -206,8 +163,113 @@ unfolding after_bytes reading_from
 more_open limit place [] at_end more = end_open at_end place more
 more_open limit place (b ∷ bs) at_end more = more_case limit place b bs at_end (more_open limit (after_byte limit place b) bs at_end) more (is_open place) refl
 
+-- ---- a bound that the lines of chunks give
+
+-- each chunk has a byte of the body, and at most 1026 beside it
+abbrev Pads : Place → Type 0
+Pads (InHeads passed head) = Unit {0}
+Pads (InSized wanted g) = Unit {0}
+Pads (InUnsized g) = Unit {0}
+Pads (InLine line g) = (g.extra ≤ 1026 * length g.body + length line) × (length line ≤ 1024)
+Pads (InChunk wanted g) = g.extra ≤ 1026 * length g.body + 1024
+Pads (AtReturn g) = g.extra + 2 ≤ 1026 * length g.body
+Pads (AtNewline g) = g.extra + 1 ≤ 1026 * length g.body
+Pads (InTrailer lines g) = g.extra ≤ 1026 * length g.body + 1024
+Pads (Finished g) = Unit {0}
+Pads (Failed fault) = Unit {0}
+
+pads_either : (v : Bool) (p q : Place) → (v ≡ true → Pads p) → (v ≡ false → Pads q) → Pads (if v then p else q)
+pads_either true p q on off = on refl
+pads_either false p q on off = off refl
+
+pads_begin : (limit : ℕ) (read : HeadRead) → Pads (body_place limit read)
+unfolding body_place
+pads_begin limit (IsRefused fault) = tt
+pads_begin limit (Announces ToClose keeps) = tt
+pads_begin limit (Announces Chunked keeps) = (omega arith, omega arith)
+pads_begin limit (Announces (Sized m) keeps) =
+    pads_either (nat_lt limit m) (Failed TooLong) (if m == 0 then Finished (gathering keeps) else InSized m (gathering keeps)) (λ e. tt)
+    (λ e. pads_either (m == 0) (Finished (gathering keeps)) (InSized m (gathering keeps)) (λ f. tt) (λ f. tt))
+
+pads_head : (limit passed : ℕ) (o : Option ResponseHead) → Pads (head_place limit passed o)
+unfolding head_place
+pads_head limit passed None = tt
+pads_head limit passed (Some r) =
+    pads_either (is_interim r) (if nat_le 65536 passed then Failed TooLong else InHeads passed []) (body_place limit (final_head r))
+    (λ e. pads_either (nat_le 65536 passed) (Failed TooLong) (InHeads passed []) (λ f. tt) (λ f. tt)) (λ e. pads_begin limit (final_head r))
+
+pads_head_step : (limit passed : ℕ) (head : List ℕ) → Pads (after_head_byte limit passed head)
+unfolding after_head_byte
+pads_head_step limit passed head =
+    pads_either (ends_empty head (length head)) (if nat_lt 64 (field_lines head) then Failed BadHead else head_place limit (passed + length head) (response_head head)) (if nat_le 65536 (passed + length head) then Failed TooLong else InHeads passed head)
+    (λ e. pads_either (nat_lt 64 (field_lines head)) (Failed BadHead) (head_place limit (passed + length head) (response_head head)) (λ f. tt) (λ f. pads_head limit (passed + length head) (response_head head)))
+    (λ e. pads_either (nat_le 65536 (passed + length head)) (Failed TooLong) (InHeads passed head) (λ f. tt) (λ f. tt))
+
+pads_line_end : (g : Gathered) (o : Option ℕ) → g.extra ≤ 1026 * length g.body + 1024 → Pads (line_place g o)
+unfolding line_place
+pads_line_end g None h = tt
+pads_line_end g (Some size) h =
+    pads_either (is_padded g) (Failed TooLong) (if size == 0 then InTrailer [] g else InChunk size g) (λ p. tt)
+    (λ p. pads_either (size == 0) (InTrailer [] g) (InChunk size g) (λ z. h) (λ z. h))
+
+pads_line_step : (line : List ℕ) (b : ℕ) (g : Gathered) → g.extra ≤ 1026 * length g.body + length line → Pads (after_line_byte line b g)
+unfolding after_line_byte
+pads_line_step line b g h =
+    pads_either (nat_lt 1024 (length line)) (Failed BadFraming) (if b == 10 then line_place g (chunk_size line) else unless (is_padded g) (InLine line g)) (λ e. tt)
+    (λ e. let short : length line ≤ 1024 = lt_false 1024 (length line) e in
+    pads_either (b == 10) (line_place g (chunk_size line)) (unless (is_padded g) (InLine line g)) (λ f. pads_line_end g (chunk_size line) (omega arith))
+    (λ f. pads_either (is_padded g) (Failed TooLong) (InLine line g) (λ p. tt) (λ p. (h, short))))
+
+pads_trailer_step : (lines : List ℕ) (g : Gathered) → g.extra ≤ 1026 * length g.body + 1024 → Pads (after_trailer_byte lines g)
+unfolding after_trailer_byte
+pads_trailer_step lines g h =
+    pads_either (nat_lt 65536 (length lines)) (Failed TooLong) (if ends_empty (10 ∷ lines) (length lines + 1) then Finished g else InTrailer lines g) (λ e. tt)
+    (λ e. pads_either (ends_empty (10 ∷ lines) (length lines + 1)) (Finished g) (InTrailer lines g) (λ f. tt) (λ f. h))
+
+pads_step : (limit : ℕ) (place : Place) (b : ℕ) → Pads place → Pads (after_byte limit place b)
+pads_step limit (InHeads passed head) b h = pads_head_step limit passed (head ++ b ∷ [])
+pads_step limit (InSized wanted g) b h = pads_either (nat_le wanted 1) (Finished (with_byte g b)) (InSized (wanted - 1) (with_byte g b)) (λ e. tt) (λ e. tt)
+pads_step limit (InUnsized g) b h = pads_either (is_over limit (with_byte g b)) (Failed TooLong) (InUnsized (with_byte g b)) (λ e. tt) (λ e. tt)
+pads_step limit (InLine line g) b h = let more = one_longer line b in pads_line_step (line ++ b ∷ []) b (with_extra g) (omega (arith, h.0))
+pads_step limit (InChunk wanted g) b h =
+    let more = one_longer g.body b in
+    pads_either (is_over limit (with_byte g b)) (Failed TooLong) (if nat_le wanted 1 then AtReturn (with_byte g b) else InChunk (wanted - 1) (with_byte g b)) (λ e. tt)
+    (λ e. pads_either (nat_le wanted 1) (AtReturn (with_byte g b)) (InChunk (wanted - 1) (with_byte g b)) (λ f. omega arith) (λ f. omega arith))
+pads_step limit (AtReturn g) b h =
+    pads_either (b == 13) (unless (is_padded (with_extra g)) (AtNewline (with_extra g))) (Failed BadFraming)
+    (λ e. pads_either (is_padded (with_extra g)) (Failed TooLong) (AtNewline (with_extra g)) (λ p. tt) (λ p. omega arith)) (λ e. tt)
+pads_step limit (AtNewline g) b h =
+    pads_either (b == 10) (unless (is_padded (with_extra g)) (InLine [] (with_extra g))) (Failed BadFraming)
+    (λ e. pads_either (is_padded (with_extra g)) (Failed TooLong) (InLine [] (with_extra g)) (λ p. tt) (λ p. (omega arith, omega arith))) (λ e. tt)
+pads_step limit (InTrailer lines g) b h = pads_trailer_step (lines ++ b ∷ []) g h
+pads_step limit (Finished g) b h = tt
+pads_step limit (Failed fault) b h = tt
+
+pads_steps : (limit : ℕ) (place : Place) (bytes : List ℕ) → Pads place → Pads (after_bytes limit place bytes)
+unfolding after_bytes
+pads_steps limit place [] h = h
+pads_steps limit place (b ∷ bs) h = pads_steps limit (after_byte limit place b) bs (pads_step limit place b h)
+
+padded_few : (limit n : ℕ) (place : Place) → Holds limit n place → Pads place → is_open place ≡ true → n < 2048 * limit + 262144
+padded_few limit n (InHeads passed head) h p goes = omega (arith, h.1)
+padded_few limit n (InSized wanted g) h p goes = omega arith
+padded_few limit n (InUnsized g) h p goes = omega (arith, h.0, h.1)
+padded_few limit n (InLine line g) h p goes = omega (arith, h.0, h.1, p.0, p.1)
+padded_few limit n (InChunk wanted g) h p goes = omega (arith, h.0, h.1, p)
+padded_few limit n (AtReturn g) h p goes = omega (arith, h.0, h.1, p)
+padded_few limit n (AtNewline g) h p goes = omega (arith, h.0, h.1, p)
+padded_few limit n (InTrailer lines g) h p goes = omega (arith, h.0, h.1, h.3, p)
+padded_few limit n (Finished g) h p goes = absurd cc
+padded_few limit n (Failed fault) h p goes = absurd cc
+
 pub reply_bounded : (limit : ℕ) (bytes : List ℕ) (at_end : Bool) → reply_of bytes at_end limit ≡ More → length bytes ≤ 9 * limit + 1179648
 reply_bounded limit bytes at_end more =
     let all = steps limit 0 begun bytes (omega arith, omega arith) in
     let most = held_open limit (0 + length bytes) (after_bytes limit begun bytes) all (more_open limit begun bytes at_end more) in
+    omega arith
+
+pub reply_few : WantsFewBytes
+reply_few limit bytes at_end more =
+    let all = steps limit 0 begun bytes (omega arith, omega arith) in
+    let few = padded_few limit (0 + length bytes) (after_bytes limit begun bytes) all (pads_steps limit begun bytes tt) (more_open limit begun bytes at_end more) in
     omega arith

@@ -7,5 +7,7 @@ pub mod FramingLemmas
 pub mod ReplyLemmas
 pub mod ChunkLemmas
 pub mod RunLemmas
+pub mod BodyLemmas
 pub mod LawLemmas
+pub mod GivenLemmas
 pub mod StayLemmas

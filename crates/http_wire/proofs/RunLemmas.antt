@@ -1,11 +1,12 @@
--- Reading byte after byte.
-use Rattle.std.proofs.Common.{◌≡◌, ℕ, ◌+◌, ◌<◌, Bool, true, false, List, [], ◌∷◌, length, drop, get_or, refl, sym, ap, ◌∙◌, arith}
-use Rattle.std.proofs.lemmas.Grind.{common_steps}
+-- Reading byte after byte, and what is read of bytes that are cut.
+use Rattle.std.proofs.Common.{◌≡◌, ℕ, suc, ◌+◌, ◌<◌, ◌≤◌, Bool, true, false, List, [], ◌∷◌, ◌++◌, length, take, drop, get_or, refl, sym, ap, ◌∙◌, arith}
+use Rattle.std.proofs.lemmas.List.{drop-drop, take-append-drop, length-take-le}
+use Rattle.std.proofs.Math.Seq.{drop-length}
 use Rattle.std.proofs.Common.{if◌then◌else◌}
 use Rattle.tpf_base.specs.HttpReply.{Place, InHeads, InSized, InUnsized, InLine, InChunk, AtReturn, AtNewline, InTrailer, Finished, Failed, Reading, More, Whole, Bad, one_more, is_open, after_byte, after_bytes, reading_from, at_the_end}
 use Rattle.http_wire.specs.declared.message.ReplyFault.{ReplyFault}
 use Rattle.http_wire.specs.declared.message.ReplyFault.TheVariants as code
-use Rattle.http_wire.specs.Replies.{shown_fault, fault_of, longer}
+use Rattle.http_wire.specs.Replies.{shown_fault, fault_of, longer, Runs}
 
 pub fault_back : (fault : ReplyFault) → shown_fault (fault_of fault) ≡ fault
 fault_back code.Head = refl
@@ -45,26 +46,55 @@ pub open_reading : (limit : ℕ) (place : Place) (b : ℕ) (bs : List ℕ) (at_e
 unfolding reading_from
 open_reading limit place b bs at_end goes = ap (λ (v : Bool). if v then one_more (reading_from limit (after_byte limit place b) bs at_end) else at_the_end at_end place) goes
 
-longer_more : (n : ℕ) (r : Reading) → longer n (one_more r) ≡ longer (n + 1) r
-longer_more n More = refl
-longer_more n (Whole body k keeps) = ap (λ (m : ℕ). Whole body m keeps) (omega arith)
-longer_more n (Bad fault) = refl
-
 pub longer_none : (r : Reading) → longer 0 r ≡ r
 longer_none More = refl
 longer_none (Whole body k keeps) = ap (λ (m : ℕ). Whole body m keeps) (omega arith)
 longer_none (Bad fault) = refl
 
-split_at : (bytes : List ℕ) (i : ℕ) → i < length bytes → drop i bytes ≡ get_or bytes i 0 ∷ drop (i + 1) bytes
-split_at bytes i h = grind (arith, common_steps)
+-- ---- cuts
 
-nothing_left : (bytes : List ℕ) → drop (length bytes) bytes ≡ []
-nothing_left bytes = grind (arith, common_steps)
+pub bytes_append : (limit : ℕ) (place : Place) (xs ys : List ℕ) → after_bytes limit place (xs ++ ys) ≡ after_bytes limit (after_bytes limit place xs) ys
+unfolding after_bytes
+bytes_append limit place [] ys = refl
+bytes_append limit place (x ∷ xs) ys = bytes_append limit (after_byte limit place x) xs ys
 
--- what is kept while the bytes are read: so many were read, and this is the place now
-pub record Runs (limit : ℕ) (place : Place) (bytes : List ℕ) (i : ℕ) (now : Place) : Type 0 where
-  pub bytes_left : after_bytes limit place bytes ≡ after_bytes limit now (drop i bytes)
-  pub reading : reading_from limit place bytes false ≡ longer i (reading_from limit now (drop i bytes) false)
+open_first : (limit : ℕ) (place : Place) (xs : List ℕ) → is_open (after_bytes limit place xs) ≡ true → is_open place ≡ true
+open_first limit place xs goes = open_case (is_open place) refl
+  where
+    open_case : (v : Bool) → is_open place ≡ v → v ≡ true
+    open_case true e = refl
+    open_case false e = let over : is_open (after_bytes limit place xs) ≡ false = ap is_open (over_bytes limit place xs e) ∙ e in sym over ∙ goes
+
+one_more_longer : (n : ℕ) (r : Reading) → one_more (longer n r) ≡ longer (suc n) r
+one_more_longer n More = refl
+one_more_longer n (Whole body k keeps) = ap (λ (m : ℕ). Whole body m keeps) (omega arith)
+one_more_longer n (Bad fault) = refl
+
+pub reading_append : (limit : ℕ) (place : Place) (xs ys : List ℕ) (at_end : Bool) → is_open (after_bytes limit place xs) ≡ true
+    → reading_from limit place (xs ++ ys) at_end ≡ longer (length xs) (reading_from limit (after_bytes limit place xs) ys at_end)
+unfolding after_bytes
+reading_append limit place [] ys at_end goes = sym (longer_none (reading_from limit place ys at_end))
+reading_append limit place (x ∷ xs) ys at_end goes =
+    open_reading limit place x (xs ++ ys) at_end (open_first limit place (x ∷ xs) goes)
+    ∙ ap one_more (reading_append limit (after_byte limit place x) xs ys at_end goes)
+    ∙ one_more_longer (length xs) _
+
+stays_case : (limit : ℕ) (place : Place) (x : ℕ) (xs ys : List ℕ) (at_end : Bool)
+    → reading_from limit (after_byte limit place x) (xs ++ ys) at_end ≡ reading_from limit (after_byte limit place x) xs at_end
+    → (v : Bool) → is_open place ≡ v → reading_from limit place (x ∷ (xs ++ ys)) at_end ≡ reading_from limit place (x ∷ xs) at_end
+stays_case limit place x xs ys at_end rest true e =
+    open_reading limit place x (xs ++ ys) at_end e ∙ ap one_more rest ∙ sym (open_reading limit place x xs at_end e)
+stays_case limit place x xs ys at_end rest false e =
+    over_reading limit place (x ∷ (xs ++ ys)) at_end e ∙ sym (over_reading limit place (x ∷ xs) at_end e)
+
+pub reading_stays : (limit : ℕ) (place : Place) (xs ys : List ℕ) (at_end : Bool) → is_open (after_bytes limit place xs) ≡ false
+    → reading_from limit place (xs ++ ys) at_end ≡ reading_from limit place xs at_end
+unfolding after_bytes
+reading_stays limit place [] ys at_end over = over_reading limit place ys at_end over ∙ sym (over_reading limit place [] at_end over)
+reading_stays limit place (x ∷ xs) ys at_end over =
+    stays_case limit place x xs ys at_end (reading_stays limit (after_byte limit place x) xs ys at_end over) (is_open place) refl
+
+-- ---- runs
 
 pub runs_first : (limit : ℕ) (place : Place) (bytes : List ℕ) → Runs limit place bytes 0 place
 runs_first limit place bytes = record { bytes_left = refl; reading = sym (longer_none (reading_from limit place bytes false)) }
@@ -81,15 +111,47 @@ reading_none : (limit : ℕ) (place : Place) (at_end : Bool) → reading_from li
 unfolding reading_from
 reading_none limit place at_end = refl
 
-pub runs_more : (limit : ℕ) (place : Place) (bytes : List ℕ) (i : ℕ) (now next : Place) → Runs limit place bytes i now → i < length bytes → is_open now ≡ true
-    → next ≡ after_byte limit now (get_or bytes i 0) → Runs limit place bytes (i + 1) next
-runs_more limit place bytes i now next runs within goes is =
-    let split = split_at bytes i within in
+longer_longer : (n k : ℕ) (r : Reading) → longer n (longer k r) ≡ longer (n + k) r
+longer_longer n k More = refl
+longer_longer n k (Whole body m keeps) = ap (λ (j : ℕ). Whole body j keeps) (omega arith)
+longer_longer n k (Bad fault) = refl
+
+-- some bytes, and then some more
+pub runs_on : (limit : ℕ) (place : Place) (bytes : List ℕ) (i : ℕ) (now : Place) (k : ℕ) (next : Place) → Runs limit place bytes i now → Runs limit now (drop i bytes) k next → Runs limit place bytes (i + k) next
+runs_on limit place bytes i now k next first second =
+    let rest : drop k (drop i bytes) ≡ drop (i + k) bytes = drop-drop k i bytes in
     record {
-      bytes_left = runs.bytes_left ∙ ap (after_bytes limit now) split ∙ after_one limit now (get_or bytes i 0) (drop (i + 1) bytes) ∙ ap (λ (p : Place). after_bytes limit p (drop (i + 1) bytes)) (sym is);
-      reading = runs.reading ∙ ap (λ (x : List ℕ). longer i (reading_from limit now x false)) split
-          ∙ ap (longer i) (open_reading limit now (get_or bytes i 0) (drop (i + 1) bytes) false goes)
-          ∙ longer_more i _ ∙ ap (λ (p : Place). longer (i + 1) (reading_from limit p (drop (i + 1) bytes) false)) (sym is);
+      bytes_left = first.bytes_left ∙ second.bytes_left ∙ ap (after_bytes limit next) rest;
+      reading = first.reading ∙ ap (longer i) second.reading ∙ longer_longer i k _ ∙ ap (λ (x : List ℕ). longer (i + k) (reading_from limit next x false)) rest;
+    }
+
+one_is : (r : Reading) → one_more r ≡ longer 1 r
+one_is More = refl
+one_is (Whole body k keeps) = ap (λ (j : ℕ). Whole body j keeps) (omega arith)
+one_is (Bad fault) = refl
+
+-- one byte
+pub runs_one : (limit : ℕ) (place : Place) (bytes : List ℕ) (next : Place) → 0 < length bytes → is_open place ≡ true
+    → next ≡ after_byte limit place (get_or bytes 0 0) → Runs limit place bytes 1 next
+runs_one limit place [] next some goes is = absurd (omega arith)
+runs_one limit place (b ∷ bs) next some goes is =
+    record {
+      bytes_left = after_one limit place b bs ∙ ap (λ (p : Place). after_bytes limit p bs) (sym is);
+      reading = open_reading limit place b bs false goes ∙ one_is _ ∙ ap (λ (p : Place). longer 1 (reading_from limit p bs false)) (sym is);
+    }
+
+-- bytes behind which the reply goes on
+pub runs_run : (limit : ℕ) (place : Place) (bytes : List ℕ) (n : ℕ) (next : Place) → n ≤ length bytes
+    → next ≡ after_bytes limit place (take n bytes) → is_open next ≡ true → Runs limit place bytes n next
+runs_run limit place bytes n next within is goes =
+    let whole : take n bytes ++ drop n bytes ≡ bytes = take-append-drop n bytes in
+    let count : length (take n bytes) ≡ n = length-take-le n bytes within in
+    record {
+      bytes_left = ap (after_bytes limit place) (sym whole) ∙ bytes_append limit place (take n bytes) (drop n bytes) ∙ ap (λ (p : Place). after_bytes limit p (drop n bytes)) (sym is);
+      reading = ap (λ (x : List ℕ). reading_from limit place x false) (sym whole)
+          ∙ reading_append limit place (take n bytes) (drop n bytes) false (ap is_open (sym is) ∙ goes)
+          ∙ ap (λ (k : ℕ). longer k (reading_from limit (after_bytes limit place (take n bytes)) (drop n bytes) false)) count
+          ∙ ap (λ (p : Place). longer n (reading_from limit p (drop n bytes) false)) (sym is);
     }
 
 pub runs_over : (limit : ℕ) (place : Place) (bytes : List ℕ) (i : ℕ) (now : Place) → Runs limit place bytes i now → is_open now ≡ false
@@ -100,7 +162,7 @@ runs_over limit place bytes i now runs over =
 pub runs_out : (limit : ℕ) (place : Place) (bytes : List ℕ) (i : ℕ) (now : Place) → Runs limit place bytes i now → i ≡ length bytes
     → (now ≡ after_bytes limit place bytes) × (reading_from limit place bytes false ≡ longer i (at_the_end false now))
 runs_out limit place bytes i now runs all =
-    let left : drop i bytes ≡ [] = ap (λ (n : ℕ). drop n bytes) all ∙ nothing_left bytes in (
+    let left : drop i bytes ≡ [] = ap (λ (n : ℕ). drop n bytes) all ∙ drop-length bytes in (
       sym (runs.bytes_left ∙ ap (after_bytes limit now) left ∙ after_none limit now),
       runs.reading ∙ ap (λ (x : List ℕ). longer i (reading_from limit now x false)) left ∙ ap (longer i) (reading_none limit now false),
     )

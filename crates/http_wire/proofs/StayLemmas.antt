@@ -2,10 +2,10 @@
 use Rattle.std.proofs.Common.{◌≡◌, ℕ, suc, zero, ◌+◌, ◌-◌, ◌<◌, ◌≤◌, Bool, true, false, List, [], ◌∷◌, ◌++◌, length, take, drop, Option, Some, None, refl, sym, ap, if◌then◌else◌, ◌∙◌, subst, arith, length-append, length-drop, append_assoc}
 use Rattle.std.specs.Prelude.{nat_lt, nat_le, ◌&&◌}
 use Rattle.std.proofs.lemmas.Grind.{common_steps}
-use Rattle.std.proofs.lemmas.List.{take-append-drop}
+use Rattle.std.proofs.lemmas.List.{drop-append-le, length-take-le, take-append-drop, take-append-le}
 use Rattle.tpf_base.specs.HttpHeads.{Request, Verdict, Accepted, Rejected, NextRequest, Incomplete, Taken, Refused, next_request, next_at, with_length, judged, blank_length, head_length, least_below, ends_empty, or_this}
 use Rattle.http_wire.proofs.HeadLemmas.{least_same, ends_empty_front, head_within}
-use Rattle.http_wire.proofs.FeedLemmas.{blank_append, blank_taken, blank_behind, blank_within, drop_append, take_append}
+use Rattle.http_wire.proofs.FeedLemmas.{blank_append, blank_taken, blank_behind, blank_within}
 
 -- ---- the least number that passes
 
@@ -72,12 +72,9 @@ blank_long (b ∷ c ∷ bs) ys none h = grind (arith, common_steps)
 blank_split : (xs ys : List ℕ) → blank_length (xs ++ ys) ≡ blank_length xs + blank_length (drop (blank_length xs) xs ++ ys)
 blank_split xs ys =
     let k = blank_length xs in
-    let count : length (take k xs) ≡ k = length_take k xs (blank_within xs) in
+    let count : length (take k xs) ≡ k = length-take-le k xs (blank_within xs) in
     let parts : take k xs ++ (drop k xs ++ ys) ≡ xs ++ ys = sym (append_assoc (take k xs) (drop k xs) ys) ∙ ap (λ (x : List ℕ). x ++ ys) (take-append-drop k xs) in
     ap blank_length (sym parts) ∙ blank_append (take k xs) (drop k xs ++ ys) (blank_taken xs ∙ sym count) ∙ ap (λ (n : ℕ). n + blank_length (drop k xs ++ ys)) count
-  where
-    length_take : (k : ℕ) (held : List ℕ) → k ≤ length held → length (take k held) ≡ k
-    length_take k held within = grind (arith, common_steps)
 
 found_stays : (zs ys : List ℕ) (m : ℕ) → head_length zs ≡ Some m → head_length (zs ++ ys) ≡ Some m
 found_stays zs ys m is =
@@ -94,8 +91,8 @@ same_where_found xs ys m is =
     let two : 2 ≤ m = ends_two zs m (least_passes (length zs + 1) (ends_empty zs) m is) in
     let behind : blank_length (zs ++ ys) ≡ 0 = blank_long zs ys (blank_behind xs) (omega arith) in
     let blank : blank_length (xs ++ ys) ≡ blank_length xs = blank_split xs ys ∙ ap (λ (n : ℕ). blank_length xs + n) behind ∙ plus_none (blank_length xs) in
-    let rest : drop (blank_length xs) (xs ++ ys) ≡ zs ++ ys = drop_append (blank_length xs) xs ys (blank_within xs) in
-    let front : take m (drop (blank_length xs) (xs ++ ys)) ≡ take m zs = ap (take m) rest ∙ take_append m zs ys within in
+    let rest : drop (blank_length xs) (xs ++ ys) ≡ zs ++ ys = drop-append-le (blank_length xs) xs ys (blank_within xs) in
+    let front : take m (drop (blank_length xs) (xs ++ ys)) ≡ take m zs = ap (take m) rest ∙ take-append-le m zs ys within in
     ap (λ (n : ℕ). next_at (xs ++ ys) n (head_length (drop n (xs ++ ys)))) blank
     ∙ ap (λ (z : List ℕ). next_at (xs ++ ys) (blank_length xs) (head_length z)) rest
     ∙ ap (next_at (xs ++ ys) (blank_length xs)) (found_stays zs ys m is)
@@ -169,7 +166,7 @@ later xs ys m none found = apart (nat_le (blank_length (xs ++ ys) + m) (length x
         let count : length (drop (blank_length xs) xs) ≡ length xs - blank_length xs = length-drop (blank_length xs) xs in
         let behind : blank_length (drop (blank_length xs) xs ++ ys) ≡ 0 = blank_long (drop (blank_length xs) xs) ys (blank_behind xs) (omega arith) in
         let blank : blank_length (xs ++ ys) ≡ blank_length xs = omega arith in
-        let rest : drop (blank_length (xs ++ ys)) (xs ++ ys) ≡ drop (blank_length xs) xs ++ ys = ap (λ (n : ℕ). drop n (xs ++ ys)) blank ∙ drop_append (blank_length xs) xs ys (blank_within xs) in
+        let rest : drop (blank_length (xs ++ ys)) (xs ++ ys) ≡ drop (blank_length xs) xs ++ ys = ap (λ (n : ℕ). drop n (xs ++ ys)) blank ∙ drop-append-le (blank_length xs) xs ys (blank_within xs) in
         let inside : ends_empty (drop (blank_length xs) xs) m ≡ true = sym (ends_empty_front (drop (blank_length xs) xs) ys m (omega arith)) ∙ sym (ap (λ (z : List ℕ). ends_empty z m) rest) ∙ passes in
         let outside : ends_empty (drop (blank_length xs) xs) m ≡ false = least_none (length (drop (blank_length xs) xs) + 1) (ends_empty (drop (blank_length xs) xs)) m none (omega arith) in
         absurd cc

@@ -2,23 +2,14 @@
 use Rattle.std.proofs.Common.{◌≡◌, ℕ, List, [], ◌∷◌, ◌++◌, length, take, arith, ap, ◌∙◌, refl, append_assoc}
 use Rattle.std.specs.Prelude.{codes}
 use Rattle.std.specs.List.{flat_map}
-use Rattle.std.proofs.lemmas.Grind.{common_steps}
+use Rattle.std.proofs.Math.Seq.{take-append_seam}
 use Rattle.tpf_base.specs.HttpText.{request_text, status_line, field_line, answer_head}
 
-pub front_stays : (xs ys : List ℕ) → take (length xs) (xs ++ ys) ≡ xs
-front_stays xs ys = grind (arith, common_steps)
-
-pub parts_joined : (old n0 n1 n2 n3 n4 n5 a b c d e : List ℕ) → n0 ≡ old → n1 ≡ n0 ++ a → n2 ≡ n1 ++ b → n3 ≡ n2 ++ c → n4 ≡ n3 ++ d → n5 ≡ n4 ++ e
-    → n5 ≡ old ++ (a ++ (b ++ (c ++ (d ++ e))))
-parts_joined old n0 n1 n2 n3 n4 n5 a b c d e h0 h1 h2 h3 h4 h5 =
-    let whole : n5 ≡ ((((old ++ a) ++ b) ++ c) ++ d) ++ e = cc in
-    whole ∙ regroup
-  where
-    regroup : ((((old ++ a) ++ b) ++ c) ++ d) ++ e ≡ old ++ (a ++ (b ++ (c ++ (d ++ e))))
-    regroup = simp append_assoc refl
+-- what stood before stays at the front
+pub ruleset fronts = (take-append_seam)
 
 pub request_is : (authority target : List ℕ) → request_text authority target
-    ≡ codes "GET " ++ (target ++ ((codes " HTTP/1.1" ++ (13 ∷ 10 ∷ []) ++ codes "Host: ") ++ (authority ++ ((13 ∷ 10 ∷ []) ++ codes "Accept: application/n-quads" ++ (13 ∷ 10 ∷ 13 ∷ 10 ∷ [])))))
+    ≡ codes "GET " ++ (target ++ ((codes " HTTP/1.1" ++ (13 ∷ 10 ∷ []) ++ codes "Host: ") ++ (authority ++ (((13 ∷ 10 ∷ []) ++ codes "Accept: application/n-quads" ++ (13 ∷ 10 ∷ 13 ∷ 10 ∷ [])) ++ []))))
 request_is authority target = simp append_assoc refl
 
 pub status_is : (digits phrase : List ℕ) → status_line digits phrase ≡ codes "HTTP/1.1 " ++ (digits ++ (codes " " ++ (phrase ++ (13 ∷ 10 ∷ []))))

@@ -1,13 +1,13 @@
 -- The code's stages as places in a reply.
-use Rattle.std.specs.Prelude.{ℕ, ◌≡◌, ◌≤◌, ◌+◌, ◌==◌, Bool, false, not, ◌&&◌, nat_lt, nat_le, List, [], codes, Option, Some, None, if◌then◌else◌}
+use Rattle.std.specs.Prelude.{ℕ, ◌≡◌, ◌-◌, ◌==◌, ◌++◌, Bool, false, not, ◌&&◌, nat_lt, nat_le, min, List, [], length, take, codes, Option, Some, None, if◌then◌else◌}
 use Rattle.std.specs.List.{list_any}
 use Rattle.tpf_base.specs.HttpHeads.{values_of, says_close, field_lines}
 use Rattle.tpf_base.specs.HttpReply.{Place, InHeads, InSized, InUnsized, InLine, InChunk, AtReturn, AtNewline, InTrailer, Finished, Failed, Gathered, gathering, TooLong, BadFraming, BadHead, BadStatus, BadMediaType, BadCoding, HeadRead, Announces, IsRefused, Framing, is_to_close, is_nquads, is_coding, framing_of, heads_limit, head_place, response_head}
 use Rattle.http_wire.specs.Replies.{fault_of}
-use Rattle.std.specs.Vec.{vec_len, vec_capacity}
 use Rattle.http_wire.specs.declared.state.Stage.{Stage}
 use Rattle.http_wire.specs.declared.state.Stage.TheVariants as stage
 use Rattle.http_wire.specs.declared.state.State.{State}
+use Rattle.http_wire.specs.declared.state.Mark.{Mark}
 use Rattle.http_wire.specs.declared.framing.Next.{Next}
 use Rattle.http_wire.specs.declared.framing.Next.TheVariants as code
 
@@ -59,25 +59,59 @@ gathered_of s = record { keeps = s.keeps; body = s.body.items; extra = s.extra }
 
 -- the place of a state
 abbrev pub place_of : State → Place
-place_of s = place_for s.stage s.passed s.held.items (gathered_of s)
+place_of s = place_for s.stage s.passed s.held.line (gathered_of s)
 
--- the state took one byte at most into its vectors
-pub record Grows (old new : State) : Type 0 where
-  pub limit : new.limit ≡ old.limit
-  pub held : vec_len new.held ≤ vec_len old.held + 1
-  pub held_room : vec_capacity new.held ≡ vec_capacity old.held
-  pub body : vec_len new.body ≤ vec_len old.body + 1
-  pub body_room : vec_capacity new.body ≡ vec_capacity old.body
+-- ---- runs of a body
 
--- the vectors have room for so many more bytes
-pub record HasRoom (s : State) (n : ℕ) : Type 0 where
-  pub held : vec_len s.held + n ≤ vec_capacity s.held
-  pub body : vec_len s.body + n ≤ vec_capacity s.body
+-- how many bytes a body takes at this place before its last one, or the one that passes the limit
+abbrev pub room_at : ℕ → Place → ℕ
+room_at limit (InSized wanted g) = wanted - 1
+room_at limit (InUnsized g) = limit - length g.body
+room_at limit (InChunk wanted g) = min (wanted - 1) (limit - length g.body)
+room_at limit (InHeads passed head) = 0
+room_at limit (InLine line g) = 0
+room_at limit (AtReturn g) = 0
+room_at limit (AtNewline g) = 0
+room_at limit (InTrailer lines g) = 0
+room_at limit (Finished g) = 0
+room_at limit (Failed fault) = 0
 
--- the state took no byte into its vectors
+-- with more bytes of the body
+abbrev pub with_bytes : Gathered → List ℕ → Gathered
+with_bytes g run = record g { body = g.body ++ run }
+
+-- the place behind so many bytes of a body
+abbrev pub with_run : Place → List ℕ → Place
+with_run (InSized wanted g) run = InSized (wanted - length run) (with_bytes g run)
+with_run (InUnsized g) run = InUnsized (with_bytes g run)
+with_run (InChunk wanted g) run = InChunk (wanted - length run) (with_bytes g run)
+with_run (InHeads passed head) run = InHeads passed head
+with_run (InLine line g) run = InLine line g
+with_run (AtReturn g) run = AtReturn g
+with_run (AtNewline g) run = AtNewline g
+with_run (InTrailer lines g) run = InTrailer lines g
+with_run (Finished g) run = Finished g
+with_run (Failed fault) run = Failed fault
+
+-- ---- what a call leaves
+
+-- the body stays, and the line that a piece began with
 pub record Keeps (old new : State) : Type 0 where
   pub limit : new.limit ≡ old.limit
-  pub held : vec_len new.held ≤ vec_len old.held
-  pub held_room : vec_capacity new.held ≡ vec_capacity old.held
-  pub body : vec_len new.body ≤ vec_len old.body
-  pub body_room : vec_capacity new.body ≡ vec_capacity old.body
+  pub kept : new.held.kept ≡ old.held.kept
+  pub body : new.body.items ≡ old.body.items
+
+-- the body is longer at most, and the line stays that a piece began with
+pub record GoesOn (old new : State) : Type 0 where
+  pub limit : new.limit ≡ old.limit
+  pub kept : new.held.kept ≡ old.held.kept
+  pub body : take (length old.body.items) new.body.items ≡ old.body.items
+
+-- the mark says where the state stands, and its line is kept
+pub record IsMarkOf (mark : Mark) (s : State) : Type 0 where
+  pub stage : mark.stage ≡ s.stage
+  pub passed : mark.passed ≡ s.passed
+  pub line : s.held.kept ≡ s.held.line
+  pub keeps : mark.keeps ≡ s.keeps
+  pub body : mark.body ≡ length s.body.items
+  pub extra : mark.extra ≡ s.extra

@@ -1,5 +1,5 @@
 -- What a reply feed holds, and what it answers.
-use Rattle.std.specs.Prelude.{◌+◌, ℕ, List, Option, Some, None}
+use Rattle.std.specs.Prelude.{◌≡◌, ◌+◌, ℕ, List, drop, false, Option, Some, None}
 use Rattle.tpf_base.specs.HttpReply as reply
 use Rattle.tpf_base.specs.HttpReply.{Place, InHeads, InSized, InUnsized, InLine, InChunk, AtReturn, AtNewline, InTrailer, Finished, Failed, Gathered, gathering, Reading, begun, after_bytes, reading_from, at_the_end}
 use Rattle.http_wire.specs.declared.message.ReplyFault.{ReplyFault}
@@ -78,3 +78,8 @@ abbrev pub longer : ℕ → Reading → Reading
 longer n reply.More = reply.More
 longer n (reply.Whole body k keeps) = reply.Whole body (n + k) keeps
 longer n (reply.Bad fault) = reply.Bad fault
+
+-- of these bytes so many were read, and this is the place now: what the bytes lead to, and what is read of them, is what the rest leads to from there
+pub record Runs (limit : ℕ) (place : Place) (bytes : List ℕ) (i : ℕ) (now : Place) : Type 0 where
+  pub bytes_left : after_bytes limit place bytes ≡ after_bytes limit now (drop i bytes)
+  pub reading : reading_from limit place bytes false ≡ longer i (reading_from limit now (drop i bytes) false)

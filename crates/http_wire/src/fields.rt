@@ -55,42 +55,15 @@ pub fn first_place(bytes: &[u8], byte: u8) -> usize
     ensures is { result ≡ position_or_len (λ b. b == byte) bytes.now }
     ensures within { result ≤ length bytes.now }
 {
-    for (i, b) in bytes.iter().enumerate() {
-        if *b == byte {
-            return i;
-        }
-    }
-    bytes.len()
-}
-
-/// The part before the first comma, and what follows the comma, if there is one.
-fn first_part(value: &[u8]) -> (&[u8], Option<&[u8]>)
-    ensures last { IsNone result.1 → (word : List ℕ) → has_word word value.now ≡ is_word word result.0.now }
-    ensures more { IfSome result.1 (λ next. (length next.now < length value.now) × ((word : List ℕ) → has_word word value.now ≡ (is_word word result.0.now || has_word word next.now))) }
-{
-    let at = first_place(value, b',');
-    let (part, after) = value.split_at(at);
-    match after {
-        [] => (part, None),
-        [_, next @ ..] => (part, Some(next)),
-    }
+    bytes.iter().position(|b| *b == byte).unwrap_or(bytes.len())
 }
 
 /// Whether the list with commas holds this word.
+#[tactic(auto, unfolding(tpf_base::specs::HttpHeads::has_word))]
 pub fn has_word(word: &[u8], value: &[u8]) -> bool
     ensures { result ≡ has_word word.now value.now }
 {
-    let mut rest = value;
-    loop {
-        let (part, after) = first_part(rest);
-        if is_word(word, part) {
-            return true;
-        }
-        match after {
-            None => return false,
-            Some(next) => rest = next,
-        }
-    }
+    value.split(|b| *b == b',').any(|part| is_word(word, part))
 }
 
 /// Whether the name is this one, in any case.

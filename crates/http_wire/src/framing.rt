@@ -223,8 +223,8 @@ fn final_head(head: &[u8], headers: &[HeaderSpan], version: u8, code: u16, limit
     )
 }
 
-#[tactic(auto, using(crate::proofs::ReplyLemmas::response_none))]
 /// Where the parts of a reply head are that is all of the text.
+#[tactic(auto, using(crate::proofs::ReplyLemmas::response_none))]
 fn whole_response(head: &[u8], headers: &mut [HeaderSpan]) -> Option<ResponseSpans>
     requires room { (h : ResponseHead) → ReadsResponse head.now h [] → length h.fields ≤ length headers.old }
     ensures some { IfSome result (λ r. (h : ResponseHead) × (response_head head.now ≡ Some (record h { blank = [] })) × IsResponseAt head.now headers.new r h) }

@@ -1,8 +1,9 @@
-// Laws of the definitions: what is read does not depend on the cuts, and a reply wants only so many bytes.
+// Laws of the definitions: what is read does not depend on the cuts, is what a feed gives, and wants only so many bytes.
 ghost use Rattle.std.specs.Prelude.{ℕ, List, Bool, ◌≡◌, ◌+◌, ◌*◌, ◌<◌, ◌≤◌, ◌++◌, length, true, false};
 ghost use Rattle.tpf_base.specs.HttpHeads.{Request, Taken, Refused, next_request};
 ghost use Rattle.tpf_base.specs.HttpReply.{Place, More, is_open, after_bytes, reading_from, reply_of};
 ghost use Rattle.http_wire.specs.Replies.{longer};
+ghost use Rattle.http_wire.specs.Laws.{WhatIsReadIsGiven, WantsFewBytes};
 
 /// What is read of a reply does not depend on how its bytes are cut.
 pub fn cuts_do_not_matter()
@@ -11,9 +12,18 @@ pub fn cuts_do_not_matter()
     ensures stays { (limit : ℕ) (place : Place) (xs ys : List ℕ) (at_end : Bool) → is_open (after_bytes limit place xs) ≡ false → reading_from limit place (xs ++ ys) at_end ≡ reading_from limit place xs at_end }
 {}
 
-/// A reply wants more only of a bounded number of bytes.
+/// What is read of all bytes of a reply is what a feed gives that took them, over any cuts: where a
+/// whole reply is read, its length is at most that of the bytes, and `take` gives exactly its body;
+/// where a fault is read, the feed is refused with it; else the reply goes on.
+pub fn what_is_read_is_given()
+    ensures { WhatIsReadIsGiven }
+{}
+
+/// A reply wants more only of a bounded number of bytes: for small limits `few` says less of them,
+/// for large ones `most`.
 pub fn a_reply_is_bounded()
-    ensures { (limit : ℕ) (bytes : List ℕ) (at_end : Bool) → reply_of bytes at_end limit ≡ More → length bytes ≤ 9 * limit + 1179648 }
+    ensures few { WantsFewBytes }
+    ensures most { (limit : ℕ) (bytes : List ℕ) (at_end : Bool) → reply_of bytes at_end limit ≡ More → length bytes ≤ 9 * limit + 1179648 }
 {}
 
 /// The bytes that follow a whole request, or a refusal, do not change it.

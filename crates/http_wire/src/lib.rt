@@ -7,6 +7,7 @@ mod framing;
 mod heads;
 mod judge;
 mod laws;
+mod line_buffer;
 mod message;
 mod reply;
 mod request;
@@ -14,7 +15,7 @@ mod state;
 mod target;
 mod write;
 
-pub use laws::{a_reply_is_bounded, a_request_stays, cuts_do_not_matter};
+pub use laws::{a_reply_is_bounded, a_request_stays, cuts_do_not_matter, what_is_read_is_given};
 pub use message::{Asked, Fed, Field, NextHead, Reply, ReplyFault, RequestHead};
 pub use reply::ReplyFeed;
 pub use request::RequestFeed;

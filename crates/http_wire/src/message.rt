@@ -1,10 +1,12 @@
 // What is read from a request, and what stands in the head of an answer.
 use tpf_base::{Bytes, Text};
 
-/// The method of a request.
+/// The method of a request (RFC 9110, section 9.3).
 #[derive(Clone, Copy, Debug, PartialEq, Eq)]
 pub enum Asked {
+    /// The method `GET`.
     Get,
+    /// The method `HEAD`: the answer has no body.
     Head,
     /// Any other method.
     Other,
@@ -13,10 +15,11 @@ pub enum Asked {
 /// What a server takes from the head of a request.
 #[derive(Debug, Drop)]
 pub struct RequestHead {
+    /// What is asked for the target.
     pub method: Asked,
     /// The path and the query, in the origin form of RFC 9112, section 3.2.1.
     pub target: Text,
-    /// Whether the connection ends with the answer to this request.
+    /// Whether the connection ends with the answer to this request (RFC 9112, sections 6.3 and 9.6).
     pub closes: bool,
 }
 
@@ -27,22 +30,28 @@ pub enum NextHead {
     More,
     /// The next request.
     Head(RequestHead),
-    /// The status with which the connection ends: 400 or 431.
+    /// The status with which the connection ends: 431 for a head with more than 64 field lines, and
+    /// for one that together with the empty lines before it has more than 4194304 bytes; 400 for
+    /// what is no head of HTTP/1.0 or 1.1, a head of 1.1 without exactly one Host field, and a
+    /// target that is not answered (RFC 9110, section 15.5.1; RFC 6585, section 5).
     Bad(u16),
 }
 
 /// A field of the head of an answer.
 #[derive(Debug, Drop)]
 pub struct Field {
+    /// The name, as it is written.
     pub name: Text,
+    /// The value, with no blanks around it.
     pub value: Text,
 }
 
 /// A reply with status 200 whose body is N-Quads text.
 #[derive(Debug, Drop)]
 pub struct Reply {
+    /// The body, without what frames it in chunks; at most as many bytes as the limit of the feed.
     pub body: Bytes,
-    /// Whether the connection can be used for a further request.
+    /// Whether the connection can be used for a further request (RFC 9112, section 9.3).
     pub keeps: bool,
 }
 
@@ -68,8 +77,13 @@ pub enum ReplyFault {
     MediaType,
     /// A content coding other than `identity`.
     Coding,
-    /// A length or chunks that RFC 9112, sections 6 and 7, does not have.
+    /// What is not taken as a length or as chunks: a Transfer-Encoding other than one `chunked`,
+    /// Content-Lengths other than the same digits, a chunk line other than one to fifteen
+    /// hexadecimal digits, blanks, and nothing or an extension, one of more than 1024 bytes, and a
+    /// chunk without CR LF behind it (RFC 9112, sections 6 and 7).
     Framing,
-    /// Heads, a body, chunk lines or trailers that pass their limit.
+    /// Heads together of more than 65536 bytes, a body longer than the limit, more than 65536 bytes
+    /// of lines behind the last chunk, or chunk lines and line ends behind chunks that are more
+    /// than 1048576 bytes and eight for each byte of the body so far.
     TooLong,
 }

@@ -2,8 +2,10 @@
 ghost use Rattle.std.specs.Prelude.{ℕ, List, ◌≡◌, ◌≤◌, length, take, drop, false, true, IfOk, OnOk, OnErr};
 ghost use Rattle.tpf_base.specs.HttpReply.{Gathered, is_open, after_bytes, reading_from, at_the_end};
 ghost use Rattle.http_wire.specs.Replies.{Feeding, starting, fed, ended, shown, longer, reply_at};
-ghost use Rattle.http_wire.specs.Places.{place_of, place_for, HasRoom};
+ghost use Rattle.http_wire.specs.Places.{place_of, place_for, GoesOn};
 
+use crate::heads::behind;
+use crate::line_buffer::LineBuffer;
 use crate::message::{Fed, Reply};
 use crate::state::{Stage, State};
 use std::alloc::Global;
@@ -47,22 +49,21 @@ fn answer(stage: Stage, used: usize) -> Fed
 }
 
 /// Reads the bytes up to the end of the reply, or a fault, and answers how many it read.
-fn run(state: &mut State, piece: &[u8]) -> usize
-    requires room { HasRoom state.old (length piece.now) }
-    ensures place { place_of state.new ≡ after_bytes state.old.limit (place_of state.old) piece.now }
-    ensures reading { reading_from state.old.limit (place_of state.old) piece.now false ≡ longer result (at_the_end false (place_of state.new)) }
-    ensures limit { state.new.limit ≡ state.old.limit }
+fn run(state: &mut State, piece: &[u8]) -> Result<usize, OutOfMemory>
+    ensures place { OnOk result (place_of state.new ≡ after_bytes state.old.limit (place_of state.old) piece.now) }
+    ensures reading { IfOk result (λ n. reading_from state.old.limit (place_of state.old) piece.now false ≡ longer n (at_the_end false (place_of state.new))) }
+    ensures goes_on { GoesOn state.old state.new }
 {
-    for (i, b) in piece.iter().enumerate() {
-        if !is_open(state.stage) {
-            return i;
-        }
-        state.byte(*b);
+    let mut used = 0usize;
+    while used < piece.len() && is_open(state.stage) {
+        used += state.read(behind(piece, used))?;
     }
-    piece.len()
+    Ok(used)
 }
 
-/// Reads a reply whose bytes come in pieces.
+/// Reads the reply to one request, whose bytes come in pieces, cut at any places (RFC 9112, sections
+/// 4, 6 and 7). Heads with a status of 100 to 199 are passed over. Contracts see the limit of the
+/// body and the place in the reply.
 #[derive(Drop)]
 pub struct ReplyFeed {
     state: State,
@@ -75,7 +76,7 @@ impl Model for ReplyFeed {
 }
 
 impl ReplyFeed {
-    /// A feed for a reply whose body has at most so many bytes.
+    /// A feed for a reply whose body has at most so many bytes. It takes no memory.
     pub fn new(alloc: Global, limit: u64) -> ReplyFeed
         ensures { result ≡ starting limit }
     {
@@ -84,7 +85,7 @@ impl ReplyFeed {
                 limit,
                 stage: Stage::Heads,
                 passed: 0,
-                held: Vec::new(alloc),
+                held: LineBuffer::new(alloc),
                 keeps: false,
                 body: Vec::new(alloc),
                 extra: 0,
@@ -92,20 +93,31 @@ impl ReplyFeed {
         }
     }
 
-    /// Reads the next bytes. After `Done` or `Bad` each later call answers the same, with `used`
-    /// 0; after want of memory the feed is as it was.
+    /// Reads the next bytes: `Done` where the reply is whole with them, `Bad` as soon as a byte leads
+    /// to a fault, and else `More`. After `Done` or `Bad` each later call answers the same, with
+    /// `used` 0, and takes no memory. It fails for want of memory alone, and the feed is then as it
+    /// was.
     pub fn feed(&mut self, piece: &[u8]) -> Result<Fed, OutOfMemory>
         ensures ok { IfOk result (λ a. a ≡ shown (reading_from self.old.limit self.old.place piece.now false)) }
         ensures after { OnOk result (self.new ≡ fed self.old piece.now) }
         ensures err { OnErr result (self.new ≡ self.old) }
     {
-        self.state.held.reserve(piece.len())?;
-        self.state.body.reserve(piece.len())?;
-        let used = run(&mut self.state, piece);
-        Ok(answer(self.state.stage, used))
+        if !is_open(self.state.stage) {
+            return Ok(answer(self.state.stage, 0));
+        }
+        let mark = self.state.mark();
+        match run(&mut self.state, piece) {
+            Ok(used) => Ok(answer(self.state.stage, used)),
+            Err(err) => {
+                self.state.go_back(mark);
+                Err(err)
+            }
+        }
     }
 
-    /// Says that no further byte comes: a reply that runs to the close is then whole.
+    /// Says that no further byte comes: a reply that runs to the close is then whole (RFC 9112,
+    /// section 6.3), and one that wants more is cut off, which `More` says. After `Done` or `Bad` the
+    /// answer is the same, with `used` 0.
     #[tactic(auto, using(crate::proofs::RunLemmas::fault_back))]
     pub fn end(&mut self) -> Fed
         ensures answer { result ≡ shown (at_the_end true self.old.place) }
@@ -128,7 +140,7 @@ impl ReplyFeed {
         }
     }
 
-    /// The reply, where `Done` was answered.
+    /// The reply, where `Done` was answered, and else nothing.
     pub fn take(self) -> Option<Reply>
         ensures { result ≡ reply_at self.place }
     {

@@ -9,8 +9,9 @@ fn told(alloc: Global, feed: ReplyFeed, answer: Fed, read: usize) -> Result<Stri
     let text = match answer {
         Fed::More => "more",
         Fed::Bad(ReplyFault::Head) => "head",
+        Fed::Bad(ReplyFault::Status(304)) => "304",
         Fed::Bad(ReplyFault::Status(404)) => "404",
-        Fed::Bad(ReplyFault::Status(_)) => "status",
+        Fed::Bad(ReplyFault::Status(_)) => "another status",
         Fed::Bad(ReplyFault::MediaType) => "type",
         Fed::Bad(ReplyFault::Coding) => "coding",
         Fed::Bad(ReplyFault::Framing) => "framing",
@@ -51,7 +52,7 @@ fn by_bytes(alloc: Global, limit: u64, bytes: &[u8], closes: bool) -> Result<Str
 const OK: &str = "HTTP/1.1 200 OK\r\nContent-Type: application/n-quads\r\n";
 
 /// What follows the status line and the media type, the limit, and the answer.
-const BODIES: [(&str, u64, &str); 38] = [
+const BODIES: [(&str, u64, &str); 41] = [
     ("Content-Length: 2\r\n\r\nab", 2, "75 ab keeps"),
     ("Content-Length: 2\r\n\r\nabc", 9, "75 ab keeps"),
     ("Content-Length: 2\r\n\r\na", 9, "more"),
@@ -158,7 +159,18 @@ const BODIES: [(&str, u64, &str); 38] = [
         9,
         "coding",
     ),
+    (
+        "Content-Encoding: identity\r\nContent-Encoding: gzip\r\nContent-Length: 1\r\n\r\nx",
+        9,
+        "coding",
+    ),
+    (
+        "Content-Encoding: identity\r\nContent-Encoding: identity\r\nContent-Length: 1\r\n\r\nx",
+        9,
+        "130 x keeps",
+    ),
     ("Content-Type: application/n-quads\r\n\r\n", 9, "type"),
+    ("Content-Type: text/html\r\n\r\n", 9, "type"),
     ("A : b\r\n\r\n", 9, "head"),
     ("A: b\r\n c\r\n\r\n", 9, "head"),
     ("\r\nabc", 2, "long"),
@@ -167,7 +179,7 @@ const BODIES: [(&str, u64, &str); 38] = [
 /// Whole replies, and the answer.
 const HEADS: [(&str, &str); 12] = [
     ("HTTP/1.1 404 Not Found\r\n\r\n", "404"),
-    ("HTTP/1.1 304\r\n\r\n", "status"),
+    ("HTTP/1.1 304\r\n\r\n", "304"),
     ("HTTP/1.1 200\r\n\r\n", "type"),
     ("HTTP/1.1 200 OK\r\nContent-Type: text/html\r\n\r\n", "type"),
     (
@@ -322,7 +334,7 @@ fn lines_and_heads_at_their_limits(rt: HostRuntime) -> Result<(), Fail> {
     );
     let more = with_run(alloc, end.as_str(), 'x', 65533, "\r\n\r\n")?;
     assert_eq!(rt; fed(alloc, 9, &[more.as_bytes()], false)?.as_str(), "long");
-    // heads of 65535, of 65536 and of 65537 bytes
+    // heads of 65536 and of 65537 bytes
     let head = "HTTP/1.1 404 x\r\na: ";
     let most = with_run(alloc, head, 'x', 65536 - 23, "\r\n\r\n")?;
     assert_eq!(rt; fed(alloc, 9, &[most.as_bytes()], false)?.as_str(), "404");
@@ -342,19 +354,92 @@ fn padded(alloc: Global, chunks: usize, extension: usize) -> Result<String, Fail
 }
 
 #[test]
+fn heads_that_end_at_the_limit(rt: HostRuntime) -> Result<(), Fail> {
+    let alloc = rt.alloc();
+    // what is no head, of 65536 bytes
+    let bad = with_run(alloc, "", 'x', 65534, "\n\n")?;
+    assert_eq!(rt; fed(alloc, 9, &[bad.as_bytes()], false)?.as_str(), "head");
+    // two heads that are passed over, together of 65536 and of 65535 bytes
+    let interim = "HTTP/1.1 100 x\r\na: ";
+    let half = with_run(alloc, interim, 'x', 32768 - 23, "\r\n\r\n")?;
+    let less = with_run(alloc, interim, 'x', 32767 - 23, "\r\n\r\n")?;
+    let both = &[half.as_bytes(), half.as_bytes()];
+    assert_eq!(rt; fed(alloc, 9, both, false)?.as_str(), "long");
+    let fewer = &[half.as_bytes(), less.as_bytes()];
+    assert_eq!(rt; fed(alloc, 9, fewer, false)?.as_str(), "more");
+    Ok(())
+}
+
+/// The answer to so many chunks of one byte, with so many bytes beside the digit in each line, and a
+/// piece behind them.
+fn answer_to(alloc: Global, chunks: usize, extension: usize, piece: &str) -> Result<String, Fail> {
+    let text = padded(alloc, chunks, extension)?;
+    fed(alloc, 9999, &[text.as_bytes(), piece.as_bytes()], false)
+}
+
+#[test]
 fn chunk_lines_are_no_longer_than_the_body_allows(rt: HostRuntime) -> Result<(), Fail> {
     let alloc = rt.alloc();
     // each chunk has 1024 bytes beside the one of the body: 1048576 + 8 * n bytes allow 1032
-    let most = padded(alloc, 1032, 1018)?;
+    assert_eq!(rt; answer_to(alloc, 1032, 1018, "")?.as_str(), "more");
+    assert_eq!(rt; answer_to(alloc, 1033, 1018, "")?.as_str(), "long");
+    // lines of 1000 bytes: 1054 chunks have 1056108 bytes beside the body, where 1057008 are allowed
+    assert_eq!(rt; answer_to(alloc, 1054, 996, "")?.as_str(), "more");
+    assert_eq!(rt; answer_to(alloc, 1055, 996, "")?.as_str(), "long");
+    Ok(())
+}
+
+#[test]
+fn a_fault_of_a_line_comes_before_its_length(rt: HostRuntime) -> Result<(), Fail> {
+    let alloc = rt.alloc();
+    // 900 more bytes are allowed behind 1054 such chunks
+    let most = with_run(alloc, "1;", 'x', 896, "\r\n")?;
     assert_eq!(rt;
-        fed(alloc, 9999, &[most.as_bytes()], false)?.as_str(),
+        answer_to(alloc, 1054, 996, most.as_str())?.as_str(),
         "more"
     );
-    let more = padded(alloc, 1034, 1018)?;
+    let more = with_run(alloc, "1;", 'x', 897, "\r\n")?;
     assert_eq!(rt;
-        fed(alloc, 9999, &[more.as_bytes()], false)?.as_str(),
+        answer_to(alloc, 1054, 996, more.as_str())?.as_str(),
         "long"
     );
+    let bad = with_run(alloc, "g;", 'x', 897, "\r\n")?;
+    assert_eq!(rt;
+        answer_to(alloc, 1054, 996, bad.as_str())?.as_str(),
+        "framing"
+    );
+    Ok(())
+}
+
+/// Feeds the text in pieces of 1000 bytes, says the end, and tells whether the reply has the body.
+fn has_body(alloc: Global, head: &str, body: &[u8], end: &str) -> Result<bool, Fail> {
+    let mut text = Vec::new(alloc);
+    text.extend_from_slice(head.as_bytes())?;
+    text.extend_from_slice(body)?;
+    text.extend_from_slice(end.as_bytes())?;
+    let mut feed = ReplyFeed::new(alloc, 100000);
+    for piece in text.as_slice().chunks(1000) {
+        feed.feed(piece)?;
+    }
+    feed.end();
+    let reply = feed.take().ok_or("no whole reply")?;
+    Ok(reply.body.as_slice() == body)
+}
+
+#[test]
+fn long_bodies_in_pieces(rt: HostRuntime) -> Result<(), Fail> {
+    let alloc = rt.alloc();
+    let mut body = Vec::new(alloc);
+    for i in 0..100000u32 {
+        body.push((i % 251) as u8)?;
+    }
+    let body = body.as_slice();
+    let sized = with_ok(alloc, "Content-Length: 100000\r\n\r\n")?;
+    assert!(rt; has_body(alloc, sized.as_str(), body, "")?);
+    let chunked = with_ok(alloc, "Transfer-Encoding: chunked\r\n\r\n186a0\r\n")?;
+    assert!(rt; has_body(alloc, chunked.as_str(), body, "\r\n0\r\n\r\n")?);
+    let unsized_ = with_ok(alloc, "\r\n")?;
+    assert!(rt; has_body(alloc, unsized_.as_str(), body, "")?);
     Ok(())
 }
 

@@ -30,7 +30,9 @@ fn search(held: &[u8], blank: usize, searched: usize) -> (usize, Option<usize>)
     (all, head_length(behind(held, all), from))
 }
 
-/// Gives the heads of the requests of a connection, whose bytes come in pieces.
+/// Gives the heads of the requests of a connection, whose bytes come in pieces, cut at any places
+/// (RFC 9112, sections 2.2 and 3). Contracts see the bytes that are not yet given as heads, and the
+/// status of a refusal.
 #[derive(Drop)]
 pub struct RequestFeed {
     alloc: Global,
@@ -68,6 +70,17 @@ impl RequestFeed {
         }
     }
 
+    /// Drops all bytes, and gives their memory back.
+    #[tactic(auto, using(crate::proofs::FeedLemmas::unsearched))]
+    fn clear(&mut self)
+        ensures { self.new ≡ record { bytes = []; refused = self.old.refused } }
+    {
+        self.bytes = Vec::new(self.alloc);
+        self.given = 0;
+        self.blank = 0;
+        self.searched = 0;
+    }
+
     /// Drops the bytes that were given, where they are as many as the others.
     fn compact(&mut self)
         ensures { self.new ≡ self.old }
@@ -78,7 +91,7 @@ impl RequestFeed {
         }
     }
 
-    #[tactic(auto, using(crate::proofs::FeedLemmas::searched_more, crate::proofs::FeedLemmas::drop_more))]
+    #[tactic(auto, using(crate::proofs::FeedLemmas::searched_more))]
     fn append(&mut self, piece: &[u8]) -> Result<(), OutOfMemory>
         requires { self.old.refused ≡ None }
         ensures ok { OnOk result (self.new ≡ holding (self.old.bytes ++ piece.now)) }
@@ -88,7 +101,8 @@ impl RequestFeed {
         Ok(())
     }
 
-    /// Takes the next bytes of the connection. Behind a refusal they are passed over.
+    /// Takes the next bytes of the connection. Behind a refusal they are passed over. It fails for
+    /// want of memory alone, and the feed is then as it was.
     pub fn feed(&mut self, piece: &[u8]) -> Result<(), OutOfMemory>
         ensures ok { OnOk result (self.new ≡ fed self.old piece.now) }
         ensures err { OnErr result (self.new ≡ self.old) }
@@ -129,6 +143,10 @@ impl RequestFeed {
         requires within { n ≤ length self.old.bytes }
         ensures { self.new ≡ holding (drop n self.old.bytes) }
     {
+        if n == self.held() {
+            self.clear();
+            return;
+        }
         self.given += n;
         self.blank = 0;
         self.searched = 0;
@@ -140,10 +158,7 @@ impl RequestFeed {
         ensures state { self.new ≡ refusing status }
         ensures answer { result ≡ NextHead.Bad status }
     {
-        self.bytes.clear();
-        self.given = 0;
-        self.blank = 0;
-        self.searched = 0;
+        self.clear();
         self.refused = Some(status);
         NextHead::Bad(status)
     }
@@ -205,8 +220,11 @@ impl RequestFeed {
         }
     }
 
-    /// What stands next. After `Bad` each later call answers the same; after want of memory the
-    /// feed is as it was.
+    /// What stands next: the first whole head, behind empty lines that are passed over; `More` where
+    /// none stands whole and fewer than 4194304 bytes are held; `Bad(431)` where a head passes its
+    /// limits, and `Bad(400)` where what ends like a head is none (RFC 9112, sections 2.2, 3 and
+    /// 3.2). A head that is given is held no more. After `Bad` each later call answers the same. It
+    /// fails for want of memory alone, and the feed is then as it was.
     pub fn next(&mut self) -> Result<NextHead, OutOfMemory>
         ensures ok { IfOk result (λ a. a ≡ shown (next_of self.old)) }
         ensures after { OnOk result (self.new ≡ after_next self.old) }

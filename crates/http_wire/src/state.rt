@@ -1,12 +1,15 @@
 // What was read of a reply so far, and one byte further.
-ghost use Rattle.std.specs.Prelude.{ℕ, ◌≡◌, ◌+◌, ◌*◌, ◌^◌, ◌≤◌, ◌<◌, ◌∷◌, ◌++◌, [], length, false};
+ghost use Rattle.std.specs.Prelude.{ℕ, ◌≡◌, ◌+◌, ◌*◌, ◌^◌, ◌≤◌, ◌<◌, ◌∷◌, ◌++◌, [], length, false, true, IfOk, OnOk};
 ghost use Rattle.tpf_base.specs.HttpHeads.{ends_empty};
-ghost use Rattle.tpf_base.specs.HttpReply.{Gathered, Failed, InSized, InUnsized, InChunk, AtReturn, AtNewline, after_byte, is_over, is_padded, line_place, after_head_byte, after_line_byte, after_trailer_byte, with_extra, chunk_size};
+ghost use Rattle.tpf_base.specs.HttpReply.{Gathered, Failed, InSized, InUnsized, InChunk, AtReturn, AtNewline, after_byte, is_over, is_open, is_padded, line_place, after_head_byte, after_line_byte, after_trailer_byte, with_extra, chunk_size};
+ghost use Rattle.http_wire.specs.declared.state.Stage.{Stage};
 
 use crate::chunk::chunk_size;
 use crate::framing::{Next, judge_reply};
-use crate::heads::ends_empty;
+use crate::heads::{ends_empty, front};
+use crate::line_buffer::LineBuffer;
 use crate::message::ReplyFault;
+use tpf_base::OutOfMemory;
 
 /// The most bytes of heads, and of trailing lines.
 const HEADS_LIMIT: u128 = 65536;
@@ -44,12 +47,26 @@ pub struct State {
     pub stage: Stage,
     /// The bytes of the heads that were passed over.
     pub passed: u64,
-    pub held: Vec<u8>,
+    pub held: LineBuffer,
     pub keeps: bool,
     pub body: Vec<u8>,
     /// The bytes of chunk lines and of line ends behind chunks.
     pub extra: u128,
     ghost padded: { extra ≤ 1048576 + 8 * length body.items },
+    ghost fresh: { stage ≡ Stage.Heads → body.items ≡ [] },
+}
+
+/// Where a state stood before a piece.
+#[derive(Clone, Copy)]
+pub struct Mark {
+    stage: Stage,
+    passed: u64,
+    keeps: bool,
+    /// The length of the body.
+    body: usize,
+    extra: u128,
+    ghost padded: { extra ≤ 1048576 + 8 * body },
+    ghost fresh: { stage ≡ Stage.Heads → body ≡ 0 },
 }
 
 /// Whether these lines end in an empty one, the first line counted.
@@ -66,8 +83,8 @@ fn ends_trailer(lines: &[u8]) -> bool
 }
 
 impl State {
-    ghost use Rattle.http_wire.specs.Places.{place_of, gathered_of, start_place, judged_place, Grows, Keeps, HasRoom};
-    ghost use Rattle.http_wire.specs.Replies.{fault_of};
+    ghost use Rattle.http_wire.specs.Places.{place_of, gathered_of, start_place, judged_place, room_at, with_run, Keeps, GoesOn, IsMarkOf};
+    ghost use Rattle.http_wire.specs.Replies.{Runs, fault_of};
 
     fn fail(&mut self, fault: ReplyFault)
         ensures place { place_of self.new ≡ Failed (fault_of fault) }
@@ -78,12 +95,12 @@ impl State {
 
     /// Begins the body.
     fn start(&mut self, next: Next)
+        requires { self.old.stage ≡ Stage.Heads }
         ensures place { place_of self.new ≡ start_place next }
         ensures keeps { Keeps self.old self.new }
     {
         self.held.clear();
         self.extra = 0;
-        self.body.clear();
         match next {
             Next::Refused(fault) => self.stage = Stage::Failed(fault),
             Next::Empty(keeps) => {
@@ -107,7 +124,7 @@ impl State {
 
     /// The bytes of the heads so far.
     fn head_bytes(&self) -> u128
-        ensures is { result ≡ self.now.passed + length self.now.held.items }
+        ensures is { result ≡ self.now.passed + length self.now.held.line }
         ensures fits { result < 2 ^ 65 }
     {
         u128::from(self.passed) + self.held.len() as u128
@@ -115,11 +132,12 @@ impl State {
 
     /// What becomes of a whole head.
     fn head_end(&mut self)
-        ensures place { place_of self.new ≡ judged_place self.old.limit (self.old.passed + length self.old.held.items) self.old.held.items }
+        requires { self.old.stage ≡ Stage.Heads }
+        ensures place { place_of self.new ≡ judged_place self.old.limit (self.old.passed + length self.old.held.line) self.old.held.line }
         ensures keeps { Keeps self.old self.new }
     {
         let total = self.head_bytes();
-        match judge_reply(&self.held, self.limit) {
+        match judge_reply(self.held.line(), self.limit) {
             Some(next) => self.start(next),
             None => {
                 if total >= HEADS_LIMIT {
@@ -127,38 +145,39 @@ impl State {
                 } else {
                     self.passed = total as u64;
                     self.held.clear();
-                    self.stage = Stage::Heads;
                 }
             }
         }
     }
 
     #[tactic(auto, unfolding(tpf_base::specs::HttpReply::after_head_byte, crate::specs::Places::judged_place))]
-    fn head_byte(&mut self, b: u8)
-        requires stage { self.old.stage ≡ Stage.Heads }
-        requires room { HasRoom self.old 1 }
-        ensures place { place_of self.new ≡ after_head_byte self.old.limit self.old.passed (self.old.held.items ++ b ∷ []) }
-        ensures grows { Grows self.old self.new }
+    fn head_byte(&mut self, b: u8) -> Result<(), OutOfMemory>
+        requires { self.old.stage ≡ Stage.Heads }
+        ensures ok { OnOk result (place_of self.new ≡ after_head_byte self.old.limit self.old.passed (self.old.held.line ++ b ∷ [])) }
+        ensures keeps { Keeps self.old self.new }
     {
-        self.held.push_reserved(b);
-        if ends_empty(&self.held, self.held.len()) {
+        self.held.push(b)?;
+        if ends_empty(self.held.line(), self.held.len()) {
             self.head_end();
         } else if self.head_bytes() >= HEADS_LIMIT {
             self.fail(ReplyFault::TooLong);
         }
+        Ok(())
     }
 
-    fn sized_byte(&mut self, wanted: u64, b: u8)
-        requires room { HasRoom self.old 1 }
-        ensures place { place_of self.new ≡ after_byte self.old.limit (InSized wanted (gathered_of self.old)) b }
-        ensures grows { Grows self.old self.new }
+    #[tactic(auto, using(crate::proofs::BodyLemmas::fronts))]
+    fn sized_byte(&mut self, wanted: u64, b: u8) -> Result<(), OutOfMemory>
+        requires { self.old.stage ≡ Stage.Sized wanted }
+        ensures ok { OnOk result (place_of self.new ≡ after_byte self.old.limit (InSized wanted (gathered_of self.old)) b) }
+        ensures goes_on { GoesOn self.old self.new }
     {
-        self.body.push_reserved(b);
+        self.body.push(b)?;
         self.stage = if wanted <= 1 {
             Stage::Finished
         } else {
             Stage::Sized(wanted - 1)
         };
+        Ok(())
     }
 
     /// Whether the body passes the limit.
@@ -169,24 +188,26 @@ impl State {
         self.body.len() as u64 > self.limit
     }
 
-    fn unsized_byte(&mut self, b: u8)
-        requires stage { self.old.stage ≡ Stage.Unsized }
-        requires room { HasRoom self.old 1 }
-        ensures place { place_of self.new ≡ after_byte self.old.limit (InUnsized (gathered_of self.old)) b }
-        ensures grows { Grows self.old self.new }
+    #[tactic(auto, using(crate::proofs::BodyLemmas::fronts))]
+    fn unsized_byte(&mut self, b: u8) -> Result<(), OutOfMemory>
+        requires { self.old.stage ≡ Stage.Unsized }
+        ensures ok { OnOk result (place_of self.new ≡ after_byte self.old.limit (InUnsized (gathered_of self.old)) b) }
+        ensures goes_on { GoesOn self.old self.new }
     {
-        self.body.push_reserved(b);
+        self.body.push(b)?;
         if self.is_over() {
             self.fail(ReplyFault::TooLong);
         }
+        Ok(())
     }
 
-    fn chunk_byte(&mut self, wanted: u64, b: u8)
-        requires room { HasRoom self.old 1 }
-        ensures place { place_of self.new ≡ after_byte self.old.limit (InChunk wanted (gathered_of self.old)) b }
-        ensures grows { Grows self.old self.new }
+    #[tactic(auto, using(crate::proofs::BodyLemmas::fronts))]
+    fn chunk_byte(&mut self, wanted: u64, b: u8) -> Result<(), OutOfMemory>
+        requires { self.old.stage ≡ Stage.Chunk wanted }
+        ensures ok { OnOk result (place_of self.new ≡ after_byte self.old.limit (InChunk wanted (gathered_of self.old)) b) }
+        ensures goes_on { GoesOn self.old self.new }
     {
-        self.body.push_reserved(b);
+        self.body.push(b)?;
         if self.is_over() {
             self.fail(ReplyFault::TooLong);
         } else if wanted <= 1 {
@@ -194,6 +215,7 @@ impl State {
         } else {
             self.stage = Stage::Chunk(wanted - 1);
         }
+        Ok(())
     }
 
     /// Counts one more byte that is none of the body. Whether those are now too many; then the
@@ -216,10 +238,10 @@ impl State {
     /// What becomes of a whole chunk line.
     #[tactic(auto, unfolding(tpf_base::specs::HttpReply::line_place))]
     fn line_end(&mut self, padded: bool)
-        ensures place { (g : Gathered) → is_padded g ≡ padded → (padded ≡ false → gathered_of self.old ≡ g) → place_of self.new ≡ line_place g (chunk_size self.old.held.items) }
+        ensures place { (g : Gathered) → is_padded g ≡ padded → (padded ≡ false → gathered_of self.old ≡ g) → place_of self.new ≡ line_place g (chunk_size self.old.held.line) }
         ensures keeps { Keeps self.old self.new }
     {
-        match chunk_size(&self.held) {
+        match chunk_size(self.held.line()) {
             None => self.fail(ReplyFault::Framing),
             Some(size) => {
                 if padded {
@@ -237,14 +259,13 @@ impl State {
     }
 
     #[tactic(auto, unfolding(tpf_base::specs::HttpReply::after_line_byte))]
-    fn line_byte(&mut self, b: u8)
-        requires stage { self.old.stage ≡ Stage.Line }
-        requires room { HasRoom self.old 1 }
-        ensures place { place_of self.new ≡ after_line_byte (self.old.held.items ++ b ∷ []) b (with_extra (gathered_of self.old)) }
-        ensures grows { Grows self.old self.new }
+    fn line_byte(&mut self, b: u8) -> Result<(), OutOfMemory>
+        requires { self.old.stage ≡ Stage.Line }
+        ensures ok { OnOk result (place_of self.new ≡ after_line_byte (self.old.held.line ++ b ∷ []) b (with_extra (gathered_of self.old))) }
+        ensures keeps { Keeps self.old self.new }
     {
+        self.held.push(b)?;
         let padded = self.count_extra();
-        self.held.push_reserved(b);
         if self.held.len() > LINE_LIMIT {
             self.fail(ReplyFault::Framing);
         } else if b == b'\n' {
@@ -252,11 +273,12 @@ impl State {
         } else if padded {
             self.fail(ReplyFault::TooLong);
         }
+        Ok(())
     }
 
     fn return_byte(&mut self, b: u8)
         ensures place { place_of self.new ≡ after_byte self.old.limit (AtReturn (gathered_of self.old)) b }
-        ensures grows { Grows self.old self.new }
+        ensures keeps { Keeps self.old self.new }
     {
         if b != b'\r' {
             self.fail(ReplyFault::Framing);
@@ -269,7 +291,7 @@ impl State {
 
     fn newline_byte(&mut self, b: u8)
         ensures place { place_of self.new ≡ after_byte self.old.limit (AtNewline (gathered_of self.old)) b }
-        ensures grows { Grows self.old self.new }
+        ensures keeps { Keeps self.old self.new }
     {
         if b != b'\n' {
             self.fail(ReplyFault::Framing);
@@ -282,25 +304,25 @@ impl State {
     }
 
     #[tactic(auto, unfolding(tpf_base::specs::HttpReply::after_trailer_byte))]
-    fn trailer_byte(&mut self, b: u8)
-        requires stage { self.old.stage ≡ Stage.Trailer }
-        requires room { HasRoom self.old 1 }
-        ensures place { place_of self.new ≡ after_trailer_byte (self.old.held.items ++ b ∷ []) (gathered_of self.old) }
-        ensures grows { Grows self.old self.new }
+    fn trailer_byte(&mut self, b: u8) -> Result<(), OutOfMemory>
+        requires { self.old.stage ≡ Stage.Trailer }
+        ensures ok { OnOk result (place_of self.new ≡ after_trailer_byte (self.old.held.line ++ b ∷ []) (gathered_of self.old)) }
+        ensures keeps { Keeps self.old self.new }
     {
-        self.held.push_reserved(b);
+        self.held.push(b)?;
         if self.held.len() as u128 > HEADS_LIMIT {
             self.fail(ReplyFault::TooLong);
-        } else if ends_trailer(&self.held) {
+        } else if ends_trailer(self.held.line()) {
             self.stage = Stage::Finished;
         }
+        Ok(())
     }
 
-    /// Reads one more byte, for which there is room.
-    pub fn byte(&mut self, b: u8)
-        requires room { HasRoom self.old 1 }
-        ensures place { place_of self.new ≡ after_byte self.old.limit (place_of self.old) b }
-        ensures grows { Grows self.old self.new }
+    /// Reads one more byte.
+    #[tactic(auto, using(crate::proofs::BodyLemmas::keeps_go_on))]
+    fn byte(&mut self, b: u8) -> Result<(), OutOfMemory>
+        ensures ok { OnOk result (place_of self.new ≡ after_byte self.old.limit (place_of self.old) b) }
+        ensures goes_on { GoesOn self.old self.new }
     {
         match self.stage {
             Stage::Heads => self.head_byte(b),
@@ -308,10 +330,112 @@ impl State {
             Stage::Unsized => self.unsized_byte(b),
             Stage::Line => self.line_byte(b),
             Stage::Chunk(wanted) => self.chunk_byte(wanted, b),
-            Stage::Return => self.return_byte(b),
-            Stage::Newline => self.newline_byte(b),
+            Stage::Return => {
+                self.return_byte(b);
+                Ok(())
+            }
+            Stage::Newline => {
+                self.newline_byte(b);
+                Ok(())
+            }
             Stage::Trailer => self.trailer_byte(b),
-            Stage::Finished | Stage::Failed(_) => {}
+            Stage::Finished | Stage::Failed(_) => Ok(()),
         }
+    }
+
+    /// How many bytes the body takes before its last one, or the one that passes the limit.
+    fn body_room(&self) -> u64
+        ensures { result ≡ room_at self.now.limit (place_of self.now) }
+    {
+        let left = self.limit.saturating_sub(self.body.len() as u64);
+        match self.stage {
+            Stage::Sized(wanted) => wanted.saturating_sub(1),
+            Stage::Unsized => left,
+            Stage::Chunk(wanted) => wanted.saturating_sub(1).min(left),
+            Stage::Heads
+            | Stage::Line
+            | Stage::Return
+            | Stage::Newline
+            | Stage::Trailer
+            | Stage::Finished
+            | Stage::Failed(_) => 0,
+        }
+    }
+
+    /// Takes bytes of the body at once.
+    #[tactic(auto, using(crate::proofs::BodyLemmas::fronts))]
+    fn body_run(&mut self, run: &[u8]) -> Result<(), OutOfMemory>
+        requires some { 0 < length run.now }
+        requires room { length run.now ≤ room_at self.old.limit (place_of self.old) }
+        ensures ok { OnOk result (place_of self.new ≡ with_run (place_of self.old) run.now) }
+        ensures goes_on { GoesOn self.old self.new }
+    {
+        match self.stage {
+            Stage::Sized(wanted) => {
+                self.body.extend_from_slice(run)?;
+                self.stage = Stage::Sized(wanted - run.len() as u64);
+            }
+            Stage::Unsized => self.body.extend_from_slice(run)?,
+            Stage::Chunk(wanted) => {
+                self.body.extend_from_slice(run)?;
+                self.stage = Stage::Chunk(wanted - run.len() as u64);
+            }
+            Stage::Heads
+            | Stage::Line
+            | Stage::Return
+            | Stage::Newline
+            | Stage::Trailer
+            | Stage::Finished
+            | Stage::Failed(_) => {}
+        }
+        Ok(())
+    }
+
+    /// Reads the bytes of the body at the front, or one byte, and answers how many it read.
+    pub fn read(&mut self, bytes: &[u8]) -> Result<usize, OutOfMemory>
+        requires some { 0 < length bytes.now }
+        requires goes { is_open (place_of self.old) ≡ true }
+        ensures some { IfOk result (λ n. 0 < n) }
+        ensures within { IfOk result (λ n. n ≤ length bytes.now) }
+        ensures runs { IfOk result (λ n. Runs self.old.limit (place_of self.old) bytes.now n (place_of self.new)) }
+        ensures goes_on { GoesOn self.old self.new }
+    {
+        let n = self.body_room().min(bytes.len() as u64) as usize;
+        if n == 0 {
+            self.byte(bytes[0])?;
+            return Ok(1);
+        }
+        self.body_run(front(bytes, n))?;
+        Ok(n)
+    }
+
+    /// Notes where the state stands.
+    pub fn mark(&mut self) -> Mark
+        ensures place { place_of self.new ≡ place_of self.old }
+        ensures limit { self.new.limit ≡ self.old.limit }
+        ensures mark { IsMarkOf result self.new }
+    {
+        self.held.keep();
+        Mark {
+            stage: self.stage,
+            passed: self.passed,
+            keeps: self.keeps,
+            body: self.body.len(),
+            extra: self.extra,
+        }
+    }
+
+    /// Goes back to the mark.
+    pub fn go_back(&mut self, mark: Mark)
+        requires { mark.body ≤ length self.old.body.items }
+        ensures place { (s : State) → IsMarkOf mark s → GoesOn s self.old → place_of self.new ≡ place_of s }
+        ensures limit { self.new.limit ≡ self.old.limit }
+    {
+        self.stage = mark.stage;
+        self.passed = mark.passed;
+        self.held.go_back();
+        self.keeps = mark.keeps;
+        self.extra = mark.extra;
+        self.body.truncate(mark.body);
     }
 }

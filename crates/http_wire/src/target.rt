@@ -49,7 +49,7 @@ fn from_path(bytes: &[u8]) -> &[u8]
 }
 
 /// The same bytes as text.
-#[tactic(auto, using(crate::proofs::FieldLemmas::ascii_is_text))]
+#[tactic(auto, using(crate::proofs::FieldLemmas::ascii_text))]
 fn ascii_text(bytes: &[u8]) -> &str
     requires { IsAscii bytes.now }
     ensures { result.now ≡ bytes.now }

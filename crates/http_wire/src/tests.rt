@@ -11,7 +11,11 @@ fn told(feed: &mut RequestFeed, out: &mut String) -> Result<bool, Fail> {
     match feed.next()? {
         NextHead::More => Ok(false),
         NextHead::Bad(status) => {
-            out.push_str(if status == 431 { "431" } else { "400" })?;
+            out.push_str(match status {
+                400 => "400",
+                431 => "431",
+                _ => "another status",
+            })?;
             Ok(false)
         }
         NextHead::Head(head) => {

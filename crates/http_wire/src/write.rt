@@ -9,31 +9,39 @@ use crate::message::Field;
 use http::StatusCode;
 use tpf_base::OutOfMemory;
 
+/// How many bytes the parts have, or the most that can be counted.
+fn total_length(parts: &[&[u8]]) -> usize {
+    let mut total = 0usize;
+    for part in parts {
+        total = total.saturating_add(part.len());
+    }
+    total
+}
+
+/// Appends the parts, or as many of them as there is memory for.
+#[tactic(auto, using(crate::proofs::WriteLemmas::fronts))]
+fn append_parts(out: &mut Vec<u8>, parts: &[&[u8]]) -> Result<(), OutOfMemory>
+    ensures ok { OnOk result (out.new.items ≡ out.old.items ++ flat_map (λ p. p.now) parts.now) }
+    ensures kept { take (length out.old.items) out.new.items ≡ out.old.items }
+{
+    for part in parts {
+        out.extend_from_slice(part)?;
+    }
+    Ok(())
+}
+
 /// Appends these parts, or nothing where memory is wanting.
-fn append_all(
-    out: &mut Vec<u8>,
-    first: &[u8],
-    second: &[u8],
-    third: &[u8],
-    fourth: &[u8],
-    last: &[u8],
-) -> Result<(), OutOfMemory>
-    ensures ok { OnOk result (out.new.items ≡ out.old.items ++ (first.now ++ (second.now ++ (third.now ++ (fourth.now ++ last.now))))) }
+fn append_all(out: &mut Vec<u8>, parts: &[&[u8]]) -> Result<(), OutOfMemory>
+    ensures ok { OnOk result (out.new.items ≡ out.old.items ++ flat_map (λ p. p.now) parts.now) }
     ensures err { OnErr result (out.new.items ≡ out.old.items) }
 {
-    let room = first
-        .len()
-        .saturating_add(second.len())
-        .saturating_add(third.len())
-        .saturating_add(fourth.len())
-        .saturating_add(last.len());
-    out.reserve(room)?;
-    out.extend_from_slice(first)?;
-    out.extend_from_slice(second)?;
-    out.extend_from_slice(third)?;
-    out.extend_from_slice(fourth)?;
-    out.extend_from_slice(last)?;
-    Ok(())
+    out.reserve(total_length(parts))?;
+    let length = out.len();
+    let done = append_parts(out, parts);
+    if done.is_err() {
+        out.truncate(length);
+    }
+    done
 }
 
 /// Appends the request for a target of an authority (RFC 9112, section 3). Nothing is appended
@@ -45,11 +53,13 @@ pub fn write_request(authority: &str, target: &str, out: &mut Vec<u8>) -> Result
 {
     append_all(
         out,
-        b"GET ",
-        target.as_bytes(),
-        b" HTTP/1.1\r\nHost: ",
-        authority.as_bytes(),
-        b"\r\nAccept: application/n-quads\r\n\r\n",
+        &[
+            b"GET ",
+            target.as_bytes(),
+            b" HTTP/1.1\r\nHost: ",
+            authority.as_bytes(),
+            b"\r\nAccept: application/n-quads\r\n\r\n",
+        ],
     )
 }
 
@@ -59,7 +69,7 @@ fn append_line(out: &mut Vec<u8>, digits: &[u8], phrase: &[u8]) -> Result<(), Ou
     ensures ok { OnOk result (out.new.items ≡ out.old.items ++ status_line digits.now phrase.now) }
     ensures err { OnErr result (out.new.items ≡ out.old.items) }
 {
-    append_all(out, b"HTTP/1.1 ", digits, b" ", phrase, b"\r\n")
+    append_all(out, &[b"HTTP/1.1 ", digits, b" ", phrase, b"\r\n"])
 }
 
 /// The phrase of a status.
@@ -77,16 +87,17 @@ fn append_field(field: &Field, out: &mut Vec<u8>) -> Result<(), OutOfMemory>
 {
     append_all(
         out,
-        field.name.as_str().as_bytes(),
-        b": ",
-        field.value.as_str().as_bytes(),
-        b"\r\n",
-        b"",
+        &[
+            field.name.as_str().as_bytes(),
+            b": ",
+            field.value.as_str().as_bytes(),
+            b"\r\n",
+        ],
     )
 }
 
 /// Appends the head of an answer, or a part of it.
-#[tactic(auto, using(crate::proofs::WriteLemmas::front_stays, crate::proofs::WriteLemmas::head_more))]
+#[tactic(auto, using(crate::proofs::WriteLemmas::fronts, crate::proofs::WriteLemmas::head_more))]
 fn append_head(
     digits: &[u8],
     phrase: &[u8],

@@ -1,9 +1,8 @@
 -- The heads at the front of bytes, and the response to them: more bytes only go on.
 use Rattle.std.proofs.Common.{◌≡◌, ℕ, suc, zero, ◌<◌, ◌≤◌, Bool, true, false, List, [], ◌∷◌, ◌++◌, map, length, take, drop, refl, sym, ap, subst, ◌∙◌, if◌then◌else◌, arith, length-append, length-drop, length-take, append_assoc, append-nil}
 use Rattle.std.specs.List.{AllByRecursion}
-use Rattle.std.proofs.lemmas.List.{take-append-drop, map-append, length-map}
+use Rattle.std.proofs.lemmas.List.{drop-append-le, take-append-drop, map-append, length-map}
 use Rattle.tpf_base.specs.HttpHeads.{Verdict, Accepted, NextRequest, Incomplete, Taken, Refused, next_request, blank_length, least_below, ends_empty}
-use Rattle.http_wire.proofs.FeedLemmas.{drop_append}
 use Rattle.http_wire.proofs.StayLemmas.{taken_stays, taken_within, refused_stays}
 use Rattle.rdf_terms.specs.declared.term.Triple.{Triple}
 use Rattle.template_fill.specs.Metadata.{Config}
@@ -114,7 +113,7 @@ more_from bytes more most fits again (Refused status) is = heads_at (bytes ++ mo
 more_from bytes more most fits again (Taken r n) is =
     let within = taken_within bytes r n is in
     let later : heads_of (drop n (bytes ++ more)) ≡ joined (heads_of (drop n bytes)) more =
-    ap heads_of (drop_append n bytes more within.1) ∙ again (drop n bytes) (fewer bytes n most within.0 within.1 fits) in
+    ap heads_of (drop-append-le n bytes more within.1) ∙ again (drop n bytes) (fewer bytes n most within.0 within.1 fits) in
     heads_at (bytes ++ more) (Taken r n) (taken_stays bytes more r n is)
     ∙ ap (λ (h : Heads). if r.closes then last_head (Accepted r) else with_head (Accepted r) h) later
     ∙ joined_head r.closes (Accepted r) (heads_of (drop n bytes)) more

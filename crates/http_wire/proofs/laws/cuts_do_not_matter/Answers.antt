@@ -1,4 +1,4 @@
-use Rattle.http_wire.proofs.LawLemmas.{bytes_append, reading_append, reading_stays}
+use Rattle.http_wire.proofs.RunLemmas.{bytes_append, reading_append, reading_stays}
 use Rattle.http_wire.proofs.laws.cuts_do_not_matter.Goals as goal
 
 pub returns-clause-place : goal.returns-clause-place

@@ -1,0 +1,15 @@
+use Rattle.std.proofs.Common.{◌≡◌, ◌≤◌, ◌==◌, ◌∙◌, ℕ, Some, None, ap, arith, length, rules, tests, ltb, cond}
+use Rattle.std.specs.Prelude.{Option, unwrap_or}
+use Rattle.std.proofs.lemmas.Grind.{common_steps}
+use Rattle.std.proofs.lemmas.Iterator.{YieldsList-from_slice}
+use Rattle.std.proofs.lemmas.Iterator.Search.{position_from_yields_List}
+use Rattle.http_wire.proofs.FieldLemmas.{place_within}
+use Rattle.http_wire.proofs.fields.first_place.Goals as goal
+
+place_or_length : (place n : ℕ) → place ≤ n → unwrap_or (cond (ltb place n) (Some place) None) n ≡ place
+place_or_length place n within = grind (arith, common_steps)
+
+pub returns-clause-is : goal.returns-clause-is
+returns-clause-is c =
+    let found = position_from_yields_List (λ b. b == c.args.byte) _ _ _ c.position.ensures.ran (YieldsList-from_slice c.args.bytes.now c.iter.ensures.rest) (λ x b q k. search (rules, tests)) in
+    c.unwrap_or.ensures ∙ ap (λ (o : Option ℕ). unwrap_or o (length c.args.bytes.now)) found ∙ place_or_length _ (length c.args.bytes.now) (place_within (λ b. b == c.args.byte) c.args.bytes.now)

@@ -1,6 +1,0 @@
-use Rattle.std.proofs.Common.{◌≡◌, ◌+◌, ◌==◌, drop}
-use Rattle.std.specs.List.{position_or_len}
-use Rattle.http_wire.proofs.fields.first_place.Given as goal
-
-abbrev pub invariant-loop-i : goal.invariant-loop-i
-invariant-loop-i l = position_or_len (λ b. b == l.byte) l.bytes ≡ l.i + position_or_len (λ b. b == l.byte) (drop l.i l.bytes)

@@ -1,0 +1,29 @@
+-- Laws of replies: what is read of their bytes is what a feed gives, and they want only so many bytes.
+use Rattle.std.specs.Prelude.{ℕ, ◌≡◌, ◌+◌, ◌*◌, ◌<◌, ◌≤◌, Bool, true, List, length, take, Some, if◌then◌else◌}
+use Rattle.tpf_base.specs.HttpReply.{Place, Failed, Reading, More, Whole, Bad, is_open, after_bytes, reading_from, reply_of}
+use Rattle.tpf_base.specs.HttpReply as reply
+use Rattle.http_wire.specs.Replies.{closed_at, reply_at}
+
+-- the place behind bytes, where no further byte comes or where more may come
+abbrev pub place_behind : Bool → Place → Place
+place_behind at_end place = if at_end then closed_at place else place
+
+-- what is read of these bytes from a place is what a feed gives that stood there and took them
+pub record IsGiven (limit : ℕ) (place : Place) (bytes : List ℕ) (at_end : Bool) : Type 0 where
+  -- a whole reply takes so many of the bytes, and the feed gives exactly its body and whether the connection may be kept
+  pub whole : (body : List ℕ) (n : ℕ) (keeps : Bool) → reading_from limit place bytes at_end ≡ Whole body n keeps
+      → (n ≤ length bytes) × (reply_at (place_behind at_end (after_bytes limit place bytes)) ≡ Some (record { body = body; keeps = keeps }))
+  -- the bytes that belong to it are read as the same reply
+  pub alone : (body : List ℕ) (n : ℕ) (keeps : Bool) → reading_from limit place bytes at_end ≡ Whole body n keeps → reading_from limit place (take n bytes) at_end ≡ Whole body n keeps
+  -- a fault stays
+  pub bad : (fault : reply.ReplyFault) → reading_from limit place bytes at_end ≡ Bad fault → place_behind at_end (after_bytes limit place bytes) ≡ Failed fault
+  -- else the reply goes on
+  pub more : reading_from limit place bytes at_end ≡ More → is_open (place_behind at_end (after_bytes limit place bytes)) ≡ true
+
+-- from every place, of all bytes
+abbrev pub WhatIsReadIsGiven : Type 0
+WhatIsReadIsGiven = (limit : ℕ) (place : Place) (bytes : List ℕ) (at_end : Bool) → IsGiven limit place bytes at_end
+
+-- a reply that wants more has fewer bytes than that
+abbrev pub WantsFewBytes : Type 0
+WantsFewBytes = (limit : ℕ) (bytes : List ℕ) (at_end : Bool) → reply_of bytes at_end limit ≡ More → length bytes < 2048 * limit + 262144
