@@ -201,6 +201,7 @@ impl WebAddress {
         self.authority() == other.authority()
     }
 
+    /// The same address again. It fails for want of memory alone.
     pub fn copy(&self, alloc: Global) -> Result<WebAddress, OutOfMemory>
         ensures { IfOk result (λ a. a ≡ self.now) }
     {

@@ -9,7 +9,9 @@ use std::alloc::{AllocError, Global};
 use tpf_base::{OutOfMemory, Text};
 
 /// The explicit form of an IRI or a literal: an IRI as it is; a literal as its form between
-/// quotes, without escapes, and then nothing, `@` and its tag, or `^^` and its datatype.
+/// quotes, without escapes, and then nothing, `@` and its tag, or `^^` and its datatype
+/// (Triple Pattern Fragments, controls: hydra:ExplicitRepresentation). Condition: it is no blank
+/// node, which has none. It fails for want of memory alone.
 pub fn explicit(alloc: Global, term: &Term) -> Result<Text, OutOfMemory>
     requires { IsNoBlank term.now }
     ensures { IfOk result (λ text. text ≡ explicit_form term.now) }

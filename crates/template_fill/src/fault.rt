@@ -2,7 +2,7 @@
 use std::alloc::{AllocError, AllocFailed};
 use tpf_base::OutOfMemory;
 
-/// Why a text is no explicit form, in the order in which the tests are made.
+/// Why a text is no explicit form. At most one of the causes holds of a text.
 #[derive(Clone, Copy, Debug, PartialEq, Eq)]
 pub enum ValueFault {
     /// It begins with no quote, and is no IRI with a scheme.

@@ -14,8 +14,11 @@ use tpf_base::{OutOfMemory, Text};
 #[derive(Debug, Drop)]
 pub struct Form {
     pub template: Template,
+    /// The name of the variable for the subject.
     pub subject: Text,
+    /// The name of the variable for the predicate.
     pub predicate: Text,
+    /// The name of the variable for the object.
     pub object: Text,
 }
 
@@ -43,6 +46,7 @@ fn push_place(
 impl Form {
     /// The address of the first page of the fragment with these slots: the template with the
     /// explicit forms of the fixed places. A place whose name the template has not is left out.
+    /// Condition: no fixed place is a blank node. It fails for want of memory alone.
     pub fn address(&self, alloc: Global, slots: &Slots) -> Result<WebAddress, OutOfMemory>
         requires { HasNoBlank slots.now }
         ensures { IfOk result (λ address. IsAddress (form_text self.now slots.now) address) }

@@ -17,7 +17,7 @@ pub use fault::{AddressFault, TemplateFault, ValueFault};
 pub use form::Form;
 pub use page::{address_reads_back, first_page_is_expansion, page_address};
 pub use template::Template;
-pub use value::{VALUE, Value};
+pub use value::Value;
 
 #[cfg(test)]
 mod tests;

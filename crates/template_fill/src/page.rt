@@ -50,7 +50,7 @@ fn push_places(alloc: Global, out: &mut String, slots: &Slots) -> Result<char, O
     Ok(mark)
 }
 
-/// Appends the number of a page above 1 after a mark.
+/// Appends the number of a page other than 1 after a mark.
 fn push_page(alloc: Global, out: &mut String, mark: char, page: u64) -> Result<(), OutOfMemory>
     requires { mark < 128 }
     ensures { OnOk result (string_bytes out.new ≡ string_bytes out.old ++ page_pair mark page) }
@@ -64,9 +64,10 @@ fn push_page(alloc: Global, out: &mut String, mark: char, page: u64) -> Result<(
     Ok(())
 }
 
-/// The address of a page of the fragment with these slots: the expansion of the template
-/// `{?subject,predicate,object}` after the base with the explicit forms of the fixed places,
-/// and above page 1 `page=` with the number.
+/// The address of a page of the fragment with these slots (Triple Pattern Fragments, paging): the
+/// expansion of the template `{?subject,predicate,object}` after the base with the explicit forms of
+/// the fixed places, and for every page but 1 `page=` with the number. Pages count from 1. Condition:
+/// no fixed place is a blank node. It fails for want of memory alone.
 pub fn page_address(
     alloc: Global,
     base: &WebAddress,

@@ -64,7 +64,8 @@ fn read_parts(alloc: Global, first: Option<&[u8]>) -> Result<Vec<Part>, Template
 }
 
 impl Template {
-    /// The template that a text is. `BadTemplate` exactly where it is none.
+    /// The template that a text is (RFC 6570, section 2, of it the operators `?` and `&`). `BadTemplate`
+    /// only where it is none; a text whose fault stands late may get `OutOfMemory` instead.
     #[tactic(auto, unfolding(crate::specs::Templates::read_template))]
     pub fn read(alloc: Global, text: &str) -> Result<Template, TemplateFault>
         ensures read { IfOk result (λ template. read_template text.now ≡ Some template) }
@@ -95,7 +96,8 @@ impl Template {
     }
 
     /// The address that the template is with these values (RFC 6570, section 3.2.1). A name
-    /// without a value is left out; of several values with one name the first counts.
+    /// without a value is left out; of several values with one name the first counts. It fails for
+    /// want of memory alone.
     #[tactic(auto, unfolding(crate::specs::Templates::expansion))]
     pub fn expand(&self, alloc: Global, values: &[Value]) -> Result<WebAddress, OutOfMemory>
         ensures { IfOk result (λ address. IsAddress (expansion self.now values.now) address) }

@@ -353,3 +353,34 @@ fn a_form_gives_the_address_of_a_fragment(rt: HostRuntime) -> Result<(), Fail> {
     assert_eq!(rt; form.address(alloc, &two)?.text(), wanted);
     Ok(())
 }
+
+#[test]
+fn a_form_writes_two_fixed_places_side_by_side(rt: HostRuntime) -> Result<(), Fail> {
+    let alloc = rt.alloc();
+    let form = server_form(alloc)?;
+    let key = Term::iri(alloc, "http://e/k")?;
+    let value = Term::iri(alloc, "http://e/c")?;
+    let two = Slots {
+        subject: Slot::Any,
+        predicate: Slot::Fixed(key),
+        object: Slot::Fixed(value),
+    };
+    let wanted = "http://localhost/data?predicate=http%3A%2F%2Fe%2Fk&object=http%3A%2F%2Fe%2Fc";
+    assert_eq!(rt; form.address(alloc, &two)?.text(), wanted);
+    Ok(())
+}
+
+#[test]
+fn a_page_of_a_fixed_place_comes_after_it(rt: HostRuntime) -> Result<(), Fail> {
+    let alloc = rt.alloc();
+    let base = WebAddress::read(alloc, "http://localhost/data")?;
+    let key = Term::iri(alloc, "http://e/k")?;
+    let slots = Slots {
+        subject: Slot::Any,
+        predicate: Slot::Fixed(key),
+        object: Slot::Any,
+    };
+    let wanted = "http://localhost/data?predicate=http%3A%2F%2Fe%2Fk&page=3";
+    assert_eq!(rt; page_address(alloc, &base, &slots, 3)?.text(), wanted);
+    Ok(())
+}

@@ -10,12 +10,14 @@ use tpf_base::Text;
 /// A value of a template, by the name of its variable.
 #[derive(Debug, Drop)]
 pub struct Value {
+    /// The name of the variable.
     pub name: Text,
+    /// The value, not yet encoded.
     pub text: Text,
 }
 
 /// All characters but the unreserved ones (RFC 3986, section 2.3).
-pub const VALUE: AsciiSet = ascii_set!(
+pub(crate) const VALUE: AsciiSet = ascii_set!(
     NON_ALPHANUMERIC
         .remove(b'-')
         .remove(b'.')
