@@ -13,8 +13,13 @@ use triple_table::{IdPattern, Order, Range, Table};
 /// A page of a fragment: the triples at the places from `from` up to, and without, `to` of `range`.
 #[derive(Clone, Copy, PartialEq, Eq, Debug)]
 pub struct PageView {
+    /// The whole fragment, as a range of the table.
     pub range: Range,
+    /// The place of the page's first triple among those of `range`, counted from 0, as `Table::at`
+    /// takes it.
     pub from: usize,
+    /// The place behind its last triple, at most the count; the same as `from` where the fragment is
+    /// empty.
     pub to: usize,
     /// How many triples the fragment has.
     pub count: u64,
@@ -104,7 +109,8 @@ fn end_of(from: u64, size: u64, count: u64) -> u64
     }
 }
 
-/// Page `k` of the triples that match the slots, with at most `size` triples a page.
+/// Page `k`, counted from 1, of the triples that match the slots, with at most `size` triples a page
+/// (Triple Pattern Fragments, "Paging"); `size` is to be at least 1.
 ///
 /// `None` exactly where `k` is 0 or past the last page. Where the table does not hold a fixed term
 /// the fragment is empty and has one empty page. With d the number of binary digits of the table's

@@ -67,7 +67,7 @@ then_both Less p e = absurd (less_not_equal e)
 then_both Equal p e = (refl, e)
 then_both Greater p e = absurd (greater_not_equal e)
 
-same_row : (r q : Row) → row_order r q ≡ Equal → r ≡ q
+pub same_row : (r q : Row) → row_order r q ≡ Equal → r ≡ q
 same_row r q h =
     let first = then_both _ _ h in let second = then_both _ _ first.1 in
     let e : r.first ≡ q.first = number_same _ _ first.0 in
@@ -75,10 +75,10 @@ same_row r q h =
     let g : r.third ≡ q.third = number_same _ _ second.1 in
     λ i. record { first = e i; second = f i; third = g i }
 
-same_triple : (o : Order) (x y : IdTriple) → row_of o x ≡ row_of o y → x ≡ y
+pub same_triple : (o : Order) (x y : IdTriple) → row_of o x ≡ row_of o y → x ≡ y
 same_triple o x y e = sym (back_there o x) ∙ ap (id_triple_of o) e ∙ back_there o y
 
-is_equal : (o : Ordering) → is_eq o ≡ true → o ≡ Equal
+pub is_equal : (o : Ordering) → is_eq o ≡ true → o ≡ Equal
 is_equal Less e = absurd (true≢false (sym e))
 is_equal Equal e = refl
 is_equal Greater e = absurd (true≢false (sym e))
@@ -133,9 +133,6 @@ pub more_ids : (terms : List Term) (ids : List IdTriple) (x : IdTriple) (triples
     map (triple_at terms) (ids ++ x ∷ []) ≡ take (i + 1) triples
 more_ids terms ids x triples i t e f l is =
     map-append (triple_at terms) ids (x ∷ []) ∙ ap (λ ys. ys ++ triple_at terms x ∷ []) e ∙ ap (λ y. take i triples ++ y ∷ []) (f ∙ is) ∙ sym (take_more triples i t l)
-
-pub moved_from : (o : Order) (xs ys : List IdTriple) (rows : List Row) → xs ≡ ys → IsPermutation (map (row_of o) xs) rows → IsPermutation (map (row_of o) ys) rows
-moved_from o xs ys rows e h = subst (λ zs. IsPermutation (map (row_of o) zs) rows) e h
 
 -- ---- the stored table
 

@@ -18,3 +18,5 @@ pub mod Ranks
 pub mod Ranges
 pub mod Built
 pub mod TermMembers
+pub mod Gathered
+pub mod Distinct

@@ -45,18 +45,18 @@ triple_served authority t h = record {
   object = object_served authority t.object;
 }
 
+-- the served triples are ground
+pub served_ground : (authority : List ℕ) (choice : Choice) (quads : List Quad) → All IsRdfQuad quads → (t : Triple) → Contains (map (skolem_triple authority) (chosen choice quads)) t → IsGroundTriple t
+served_ground authority choice quads classes t h =
+    let before = from_map (skolem_triple authority) (chosen choice quads) t h in
+    let quad = from_map (λ (q : Quad). q.triple) (filter (λ (q : Quad). is_chosen choice q.graph) quads) before.0 before.1 in
+    let rdf = All-contains IsRdfQuad _ quad.0 (All-filter (λ (q : Quad). is_chosen choice q.graph) IsRdfQuad quads classes) quad.1 in
+    subst IsGroundTriple before.2 (triple_served authority before.0 (subst IsRdfTriple quad.2 rdf.triple))
+
 module _ (authority : List ℕ) (choice : Choice) (quads : List Quad) (classes : All IsRdfQuad quads) (ys zs : List Triple)
     (moved : IsPermutation (map (skolem_triple authority) (chosen choice quads)) ys) (kept : IsFiltered (DiffersFromLast triple_eq) [] ys zs) where
   all : List Triple
   all = map (skolem_triple authority) (chosen choice quads)
-
-  ground : (t : Triple) → Contains all t → IsGroundTriple t
-  unfolding all
-  ground t h =
-      let before = from_map (skolem_triple authority) (chosen choice quads) t h in
-      let quad = from_map (λ (q : Quad). q.triple) (filter (λ (q : Quad). is_chosen choice q.graph) quads) before.0 before.1 in
-      let rdf = All-contains IsRdfQuad _ quad.0 (All-filter (λ (q : Quad). is_chosen choice q.graph) IsRdfQuad quads classes) quad.1 in
-      subst IsGroundTriple before.2 (triple_served authority before.0 (subst IsRdfTriple quad.2 rdf.triple))
 
   there : (t : Triple) → Contains zs t → Contains all t
   unfolding all
@@ -73,17 +73,10 @@ module _ (authority : List ℕ) (choice : Choice) (quads : List Quad) (classes :
   is_served s = record {
     data_set = record {
       ascending = deduped_ascends triple_total triple_ties all ys zs moved kept s;
-      classes = recursion_from_All IsGroundTriple zs (λ k d l. ground (get_or zs k d) (there (get_or zs k d) (Contains-get_or zs k d l)));
+      classes = recursion_from_All IsGroundTriple zs (λ k d l. served_ground authority choice quads classes (get_or zs k d) (there (get_or zs k d) (Contains-get_or zs k d l)));
     };
     members = λ t. (there t, back t);
   }
-
--- triples that hold the same are served too
-pub served_same : (authority : List ℕ) (chosen xs ys : List Triple) → IsServed authority chosen xs → IsDataSet ys → ((t : Triple) → Contains ys t ↔ Contains xs t) → IsServed authority chosen ys
-served_same authority chosen xs ys h d same = record {
-  data_set = d;
-  members = λ t. (λ k. (h.members t).0 ((same t).0 k), λ k. (same t).1 ((h.members t).1 k));
-}
 
 -- the served data are one list
 any_slots : Slots

@@ -14,16 +14,12 @@ use Rattle.rdf_terms.specs.Same.{term_eq}
 use Rattle.rdf_terms.specs.Order.{term_order}
 use Rattle.rdf_terms.specs.EqualityLaws.{term_decides}
 use Rattle.rdf_terms.specs.OrderLaws.{term_total, term_ties}
-use Rattle.triple_table.specs.Ranking.{borrowed_terms}
+use Rattle.triple_table.specs.Ranking.{borrowed_terms, SameMembers}
 use Rattle.triple_table.specs.Served.{terms_in, terms_of}
 use Rattle.triple_table.specs.Stored.{IsRanking}
 use Rattle.triple_table.proofs.Members.{Contains-map, from_map, ascending_map, deduped_ascends, from_deduped, in_deduped}
 
-terms_len : (triples : List Triple) → length (terms_of triples) ≡ 3 * length triples
-terms_len [] = refl
-terms_len (t ∷ ts) = let e = terms_len ts in omega (arith, e)
-
-module _ (triples : List Triple) (xs ys zs : List (Bor Term)) (terms : borrowed_terms xs ≡ terms_of triples) (moved : IsPermutation xs ys)
+module _ (triples : List Triple) (xs ys zs : List (Bor Term)) (terms : SameMembers (borrowed_terms xs) (terms_of triples)) (moved : IsPermutation xs ys)
     (kept : IsFiltered (DiffersFromLast (λ x y. term_eq x.now y.now)) [] ys zs) where
   total : IsTotalOrder (λ (x y : Bor Term). term_order x.now y.now)
   total = on_total (λ (t : Bor Term). t.now) term_total
@@ -32,23 +28,17 @@ module _ (triples : List Triple) (xs ys zs : List (Bor Term)) (terms : borrowed_
   there term h =
       let found = from_map (λ (t : Bor Term). t.now) zs term h in
       let first = from_deduped total (λ x y. term_ties x.now y.now) xs ys zs moved kept found.0 found.1 in
-      subst (λ l. Contains l term) terms (subst (λ t. Contains (borrowed_terms xs) t) found.2 (Contains-map (λ (t : Bor Term). t.now) xs found.0 first))
+      (terms term).0 (subst (λ t. Contains (borrowed_terms xs) t) found.2 (Contains-map (λ (t : Bor Term). t.now) xs found.0 first))
 
   back : (term : Term) → Contains (terms_of triples) term → Contains (borrowed_terms zs) term
   back term h =
-      let found = from_map (λ (t : Bor Term). t.now) xs term (subst (λ l. Contains l term) (sym terms) h) in
+      let found = from_map (λ (t : Bor Term). t.now) xs term ((terms term).1 h) in
       let left = in_deduped total (λ x y. term_ties x.now y.now) xs ys zs moved kept found.0 found.1 in
       let same : (left.1).now ≡ term = sym ((term_decides (found.0).now (left.1).now).0 left.4) ∙ found.2 in
       subst (λ t. Contains (borrowed_terms zs) t) same (Contains-map (λ (t : Bor Term). t.now) zs left.1 (left.0, left.2, left.3))
 
-  pub terms_ranked : (copies : List Term) → copies ≡ borrowed_terms zs → IsSorted (λ (x y : Bor Term). term_order x.now y.now) ys → IsRanking triples copies
-  terms_ranked copies e s = subst (IsRanking triples) (sym e) record {
+  pub terms_ranked : IsSorted (λ (x y : Bor Term). term_order x.now y.now) ys → IsRanking triples (borrowed_terms zs)
+  terms_ranked s = record {
     ascending = ascending_map (λ (t : Bor Term). t.now) term_order zs (deduped_ascends total (λ x y. term_ties x.now y.now) xs ys zs moved kept s);
     members = λ term. (there term, back term);
   }
-
-  pub terms_few : (copies : List Term) → copies ≡ borrowed_terms zs → length ys ≡ length xs → length zs ≤ length ys → length copies ≤ 3 * length triples
-  terms_few copies e same fewer =
-      let a : length copies ≡ length zs = ap length e ∙ length-map zs (λ (t : Bor Term). t.now) in
-      let b : length xs ≡ 3 * length triples = sym (length-map xs (λ (t : Bor Term). t.now)) ∙ ap length terms ∙ terms_len triples in
-      omega (arith, a, b, same, fewer)

@@ -58,7 +58,7 @@ fn push_served(
 }
 
 /// The chosen triples in the order of the quads, with repeats, each as it is served.
-fn all_served(
+pub(crate) fn all_served(
     alloc: Global,
     quads: &[Quad],
     choice: &Choice,
@@ -67,7 +67,7 @@ fn all_served(
     requires { IsAuthority authority.now }
     ensures { IfOk result (λ v. v.items ≡ map (skolem_triple authority.now) (chosen choice.now quads.now)) }
 {
-    let mut triples = Vec::new(alloc);
+    let mut triples = Vec::with_capacity(alloc, quads.len())?;
     for quad in quads {
         push_served(alloc, &mut triples, quad, choice, authority)?;
     }
@@ -96,7 +96,7 @@ fn refuse_first(
 }
 
 /// Refuses the least label whose IRI stands in a chosen triple.
-fn refuse_clash(
+pub(crate) fn refuse_clash(
     alloc: Global,
     quads: &[Quad],
     choice: &Choice,
@@ -114,7 +114,10 @@ fn refuse_clash(
 /// `http://AUTHORITY/.well-known/genid/L` (RDF 1.1 Concepts 3.5): distinct, in the order of triples.
 ///
 /// `GenidClash` comes exactly where such an IRI of a label in the chosen triples stands in one of them as
-/// subject, predicate or object; it carries the least such label, by bytes. `TooMany` never comes.
+/// subject, predicate or object; it carries the least such label, by bytes. `TooMany` never comes;
+/// `OutOfMemory` comes at want of memory, at any point. The authority is to be a host with or without
+/// a port, and each quad is to have RDF's classes: subject and graph an IRI or a blank node, predicate
+/// an IRI (RDF 1.1 Concepts 3.1).
 pub fn served(
     alloc: Global,
     quads: &[Quad],

@@ -4,15 +4,17 @@ ghost use Rattle.triple_table.specs.Rows.{row_of, id_triple_of, order_for, bound
 
 use std::cmp::Ordering;
 
-/// A triple by the ids of its terms.
-#[derive(Clone, Copy, PartialEq, Eq, Debug)]
+/// A triple by the ids of its terms, which are places in the order of terms; so it is ordered as its
+/// triple is.
+#[derive(Clone, Copy, PartialEq, Eq, PartialOrd, Ord, Debug)]
 pub struct IdTriple {
     pub subject: u32,
     pub predicate: u32,
     pub object: u32,
 }
 
-/// A pattern by the ids of its fixed terms; a place without an id matches every term.
+/// A pattern by the ids of its fixed terms, as `Table::id` gives them; a place without an id matches
+/// every term. The ids are those of one table, and mean nothing at another.
 #[derive(Clone, Copy, PartialEq, Eq, Debug)]
 pub struct IdPattern {
     pub subject: Option<u32>,
@@ -31,7 +33,9 @@ pub enum Order {
     Osp,
 }
 
-/// The rows of an order from a place up to, and without, another.
+/// The rows of an order from a place up to, and without, another: the triples that match a pattern,
+/// as `Table::range` gives them. Places count from 0, over all triples of that table in this order;
+/// the range is empty where `from` and `to` are the same.
 #[derive(Clone, Copy, PartialEq, Eq, Debug)]
 pub struct Range {
     pub order: Order,

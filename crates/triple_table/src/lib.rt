@@ -7,6 +7,7 @@ mod data_set;
 mod genid;
 mod ids;
 mod labels;
+mod recent;
 mod rows;
 mod table;
 mod term_list;

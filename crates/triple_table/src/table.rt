@@ -52,20 +52,20 @@ impl Table {
         }
     }
 
-    /// The id of a term: `None` exactly where no triple of the table holds it. Of d binary digits of
-    /// the number of triples it compares at most d + 2 times.
+    /// The id of a term: its place, from 0, among all terms of the table in the order of terms. `None`
+    /// exactly where no triple of the table holds it. With d the number of binary digits of the
+    /// number of triples it compares at most d + 2 times, each a step. It takes no memory.
     pub fn id<L: Ledger>(&self, term: &Term, steps: &mut Steps<L>) -> Option<u32>
         ensures id { MatchOption result (Contains (terms_of (triples_in self.now)) term.now → ⊥) (λ id. (id < length (held_terms self.now)) × (term_at (held_terms self.now) id ≡ term.now)) }
         ensures counted { steps.old ≤ steps.new }
         ensures cost { (digits : ℕ) → length (triples_in self.now) < 2 ^ digits → steps.new ≤ steps.old + (digits + 2) }
     {
-        match self.terms.find(term, steps) {
-            Some(place) => Some(place as u32),
-            None => None,
-        }
+        let place = self.terms.find(term, steps)?;
+        Some(place as u32)
     }
 
-    /// The term with an id.
+    /// The term with an id, which is to be an id of this table: below the number of its terms, as `id`
+    /// and `at` give it.
     pub fn term(&self, id: u32) -> &Term
         requires { id < length (held_terms self.now) }
         ensures { result.now ≡ term_at (held_terms self.now) id }
@@ -73,7 +73,7 @@ impl Table {
         self.terms.get(id as usize)
     }
 
-    /// How many triples there are.
+    /// How many triples there are, each counted once.
     pub fn len(&self) -> usize
         ensures len { result ≡ length (triples_in self.now) }
         ensures data_set { IsDataSet (triples_in self.now) }
@@ -83,7 +83,9 @@ impl Table {
     }
 
     /// The triples that match a pattern of ids, as a range of the order in which they stand side by
-    /// side. Of d binary digits of the number of triples it compares at most 2 d times.
+    /// side. The pattern is to have ids of this table alone; where no triple matches the range is
+    /// empty. With d the number of binary digits of the number of triples it compares at most 2 d
+    /// times, each a step. It takes no memory.
     pub fn range<L: Ledger>(&self, p: &IdPattern, steps: &mut Steps<L>) -> Range
         requires { IsIdPattern self.now p.now }
         ensures order { result.order ≡ order_for p.now }
@@ -92,6 +94,7 @@ impl Table {
         ensures counted { steps.old ≤ steps.new }
         ensures cost { (digits : ℕ) → length (triples_in self.now) < 2 ^ digits → steps.new ≤ steps.old + 2 * digits }
     {
+        // a field is read, so that the table's invariant is at hand in the proof
         let _rows = &self.spo;
         let order = p.order();
         let rows = self.rows(order);
@@ -100,17 +103,20 @@ impl Table {
         Range { order, from, to }
     }
 
-    /// How many triples a range has.
+    /// How many triples a range has, which is to be a range of this table, as `range` gives it. It
+    /// takes no time that grows with the range.
     pub fn count(&self, r: &Range) -> usize
         requires { IsRange self.now r.now }
         ensures size { result ≡ r.now.to - r.now.from }
         ensures count { result ≡ length (listed self.now r.now) }
     {
+        // a field is read, so that the table's invariant is at hand in the proof
         let _rows = &self.spo;
         r.to - r.from
     }
 
-    /// The triple at a place of a range, by ids of the table.
+    /// The triple at place `i`, from 0, of a range, by ids of the table. The range is to be one of this
+    /// table, and the place below its count.
     pub fn at(&self, r: &Range, i: usize) -> IdTriple
         requires range { IsRange self.now r.now }
         requires within { i < r.now.to - r.now.from }

@@ -147,41 +147,99 @@ fn a_clash_is_told_before_too_many_triples(rt: HostRuntime) -> Result<(), Fail> 
     Ok(())
 }
 
-/// A triple about each of so many numbers.
-fn numbered(alloc: Global, count: u32) -> Result<Vec<Quad>, Fail>
+const PERSON: &str = "http://e/person/";
+
+const KNOWS: &str = "http://e/knows";
+
+const NAME: &str = "http://e/name";
+
+const CITY: &str = "http://e/city";
+
+/// Adds the quad whose object ends in a number.
+fn add_about(
+    alloc: Global,
+    quads: &mut Vec<Quad>,
+    person: u32,
+    predicate: &str,
+    front: &str,
+    number: u32,
+) -> Result<(), Fail>
+    requires { All IsRdfQuad quads.old.items }
+    ensures { OnOk result (All IsRdfQuad quads.new.items) }
+{
+    let subject = format!(in alloc; "{PERSON}{person}")?;
+    let object = format!(in alloc; "{front}{number}")?;
+    add_iri(alloc, quads, subject.as_str(), predicate, object.as_str())?;
+    Ok(())
+}
+
+/// Each of the 1000 persons knows one other.
+fn add_knows(alloc: Global, quads: &mut Vec<Quad>, person: u32) -> Result<(), Fail>
+    requires { All IsRdfQuad quads.old.items }
+    ensures { OnOk result (All IsRdfQuad quads.new.items) }
+{
+    let known = person.wrapping_mul(7).wrapping_add(1) % 1000;
+    add_about(alloc, quads, person, KNOWS, PERSON, known)
+}
+
+/// Every third has a name.
+fn add_name(alloc: Global, quads: &mut Vec<Quad>, person: u32) -> Result<(), Fail>
+    requires { All IsRdfQuad quads.old.items }
+    ensures { OnOk result (All IsRdfQuad quads.new.items) }
+{
+    if person % 3 != 0 {
+        return Ok(());
+    }
+    add_about(alloc, quads, person, NAME, "http://e/name/", person)
+}
+
+/// Every tenth has a city.
+fn add_city(alloc: Global, quads: &mut Vec<Quad>, person: u32) -> Result<(), Fail>
+    requires { All IsRdfQuad quads.old.items }
+    ensures { OnOk result (All IsRdfQuad quads.new.items) }
+{
+    if person % 10 != 0 {
+        return Ok(());
+    }
+    add_about(alloc, quads, person, CITY, "http://e/city/", person % 7)
+}
+
+fn add_person(alloc: Global, quads: &mut Vec<Quad>, person: u32) -> Result<(), Fail>
+    requires { All IsRdfQuad quads.old.items }
+    ensures { OnOk result (All IsRdfQuad quads.new.items) }
+{
+    add_knows(alloc, quads, person)?;
+    add_name(alloc, quads, person)?;
+    add_city(alloc, quads, person)
+}
+
+fn persons(alloc: Global, count: u32) -> Result<Vec<Quad>, Fail>
     ensures { IfOk result (λ v. All IsRdfQuad v.items) }
 {
     let mut quads = Vec::new(alloc);
-    for n in 0..count {
-        let subject = format!(in alloc; "http://e/{n}")?;
-        add_iri(
-            alloc,
-            &mut quads,
-            subject.as_str(),
-            "http://e/p",
-            "http://e/o",
-        )?;
+    for person in 0..count {
+        add_person(alloc, &mut quads, person)?;
     }
     Ok(quads)
 }
 
-/// The range of a pattern over fewer than 4096 triples compares at most 28 times.
+/// The range of a pattern over fewer than 2048 triples compares at most 26 times.
 fn few_comparisons<L: Ledger>(table: &Table, p: &IdPattern, steps: &mut Steps<L>) -> Range
     requires pattern { IsIdPattern table.now p.now }
-    requires few { length (triples_in table.now) < 2 ^ 12 }
+    requires few { length (triples_in table.now) < 2 ^ 11 }
     ensures range { IsRange table.now result }
-    ensures cost { steps.new ≤ steps.old + 28 }
+    ensures cost { steps.new ≤ steps.old + 26 }
 {
     table.range(p, steps)
 }
 
-/// How many triples have a predicate, of a table of fewer than 4096.
+/// How many triples have a predicate, of a table of fewer than 2048.
 fn with_predicate<L: Ledger>(table: &Table, term: &Term, blank: Blank) -> Option<usize>
     requires name { blank.name ≡ L.name }
     requires parts { blank.parts ≡ L.parts }
     requires some { 0 < blank.parts }
 {
-    if table.len() >= 4096 {
+    if table.len() >= 2048 {
         return None;
     }
     let mut steps: Steps<L> = Steps::new(blank);
@@ -199,13 +257,84 @@ fn count_of(table: &Table, term: &Term) -> Option<usize> {
     with_predicate::<Brand>(table, term, Blank::new(1))
 }
 
+fn count_with(alloc: Global, table: &Table, predicate: &str) -> Result<Option<usize>, TermFault> {
+    let predicate = Term::iri(alloc, predicate)?;
+    Ok(count_of(table, &predicate))
+}
+
 #[test]
-fn a_range_over_some_thousand_triples_compares_seldom(rt: HostRuntime) -> Result<(), Fail> {
-    let quads = numbered(rt.alloc(), 3000)?;
+fn a_range_over_1434_triples_compares_at_most_26_times(rt: HostRuntime) -> Result<(), Fail> {
+    let quads = persons(rt.alloc(), 1000)?;
     let table = Table::build(rt.alloc(), quads.as_slice(), &Choice::Union, host(), 10000)?;
-    let p = Term::iri(rt.alloc(), "http://e/p")?;
-    let o = Term::iri(rt.alloc(), "http://e/o")?;
-    assert_eq!(rt; count_of(&table, &p), Some(3000));
-    assert_eq!(rt; count_of(&table, &o), Some(0));
+    assert_eq!(rt; table.len(), 1434);
+    for (predicate, count) in [(KNOWS, 1000), (NAME, 334), (CITY, 100)] {
+        assert_eq!(rt; count_with(rt.alloc(), &table, predicate)?, Some(count));
+    }
+    assert_eq!(rt; count_with(rt.alloc(), &table, "http://e/city/0")?, Some(0));
+    Ok(())
+}
+
+/// The id of a term, and whether the term with that id is this one.
+fn read_back<L: Ledger>(table: &Table, term: &Term, blank: Blank) -> Option<(u32, bool)>
+    requires name { blank.name ≡ L.name }
+    requires parts { blank.parts ≡ L.parts }
+    requires some { 0 < blank.parts }
+{
+    let mut steps: Steps<L> = Steps::new(blank);
+    let id = table.id(term, &mut steps)?;
+    Some((id, *table.term(id) == *term))
+}
+
+fn id_of(table: &Table, term: &Term) -> Option<(u32, bool)> {
+    read_back::<Brand>(table, term, Blank::new(1))
+}
+
+fn id_of_iri(alloc: Global, table: &Table, text: &str) -> Result<Option<(u32, bool)>, TermFault> {
+    let term = Term::iri(alloc, text)?;
+    Ok(id_of(table, &term))
+}
+
+#[test]
+fn four_triples_have_six_terms_with_ids_in_order(rt: HostRuntime) -> Result<(), Fail> {
+    let quads = letters(rt.alloc())?;
+    let table = Table::build(rt.alloc(), quads.as_slice(), &Choice::Union, host(), 6)?;
+    for (text, id) in [
+        ("http://e/a", Some((0, true))),
+        ("http://e/b", Some((1, true))),
+        ("http://e/c", Some((2, true))),
+        ("http://e/d", None),
+        ("http://e/k", Some((3, true))),
+        ("http://e/n", Some((4, true))),
+    ] {
+        assert_eq!(rt; id_of_iri(rt.alloc(), &table, text)?, id);
+    }
+    let form = Term::plain(rt.alloc(), "C")?;
+    assert_eq!(rt; id_of(&table, &form), Some((5, true)));
+    Ok(())
+}
+
+/// Two blank nodes and the two IRIs that stand for them, the greater label first.
+fn two_clashes(alloc: Global) -> Result<Vec<Quad>, TermFault>
+    ensures { IfOk result (λ v. All IsRdfQuad v.items) }
+{
+    let mut quads = Vec::new(alloc);
+    let second = Term::blank(alloc, "b2")?;
+    let second_iri = Term::iri(alloc, "http://localhost/.well-known/genid/b2")?;
+    add(alloc, &mut quads, second, "http://e/p", second_iri)?;
+    let first = Term::blank(alloc, "b1")?;
+    let first_iri = Term::iri(alloc, "http://localhost/.well-known/genid/b1")?;
+    add(alloc, &mut quads, first, "http://e/p", first_iri)?;
+    Ok(quads)
+}
+
+#[test]
+fn the_least_of_two_clashing_labels_is_told(rt: HostRuntime) -> Result<(), Fail> {
+    let quads = two_clashes(rt.alloc())?;
+    let clash = BuildFault::GenidClash(Text::copy(rt.alloc(), "b1")?);
+    let refused = match served(rt.alloc(), quads.as_slice(), &Choice::Union, host()) {
+        Ok(_) => false,
+        Err(fault) => fault == clash,
+    };
+    assert!(rt; refused);
     Ok(())
 }

@@ -10,12 +10,12 @@ cost_of : (s t : Stored) (start now : ℕ) → s ≡ t → IsStored s → ((digi
 cost_of s t start now e h f digits l =
     f (digits + 2) (digits_of_terms (length s.terms) (length s.spo) digits h.few (subst (λ n. n < 2 ^ digits) (sym (stored_len s Spo s.spo (h.rows Spo))) (subst (λ x. length (triples_in x) < 2 ^ digits) (sym e) l)))
 
-pub returns-in-Some-clause-cost : goal.returns-in-Some-clause-cost
-returns-in-Some-clause-cost g c = cost_of _ _ c.args.steps.now c.find.new.steps c.self.view_is c.self.invariant c.in-Some.ensures.cost
+pub returns-in_err-place-clause-id : goal.returns-in_err-place-clause-id
+returns-in_err-place-clause-id g c = rw c.from_residual.ensures (λ h.
+    c.in_err-place.ensures.place ((c.self.invariant.ranking.members c.args.term.now).1 (subst (λ x. Contains (terms_of (triples_in x)) c.args.term.now) (sym c.self.view_is) h)))
 
-pub returns-in-None-clause-id : goal.returns-in-None-clause-id
-returns-in-None-clause-id g c = λ h.
-    c.in-None.ensures.place ((c.self.invariant.ranking.members c.args.term.now).1 (subst (λ x. Contains (terms_of (triples_in x)) c.args.term.now) (sym c.self.view_is) h))
+pub returns-in_err-place-clause-cost : goal.returns-in_err-place-clause-cost
+returns-in_err-place-clause-cost g c = cost_of _ _ c.args.steps.now c.find.new.steps c.self.view_is c.self.invariant c.in_err-place.ensures.cost
 
-pub returns-in-None-clause-cost : goal.returns-in-None-clause-cost
-returns-in-None-clause-cost g c = cost_of _ _ c.args.steps.now c.find.new.steps c.self.view_is c.self.invariant c.in-None.ensures.cost
+pub returns-clause-cost : goal.returns-clause-cost
+returns-clause-cost g c = cost_of _ _ c.args.steps.now c.find.new.steps c.self.view_is c.self.invariant c.in_ok-place.ensures.cost
