@@ -11,7 +11,10 @@ mod solve;
 #[cfg(test)]
 mod tests;
 
-pub use laws::{extension_is_one, extensions_commute, pattern_order_is_free, triple_order_is_free};
+pub use laws::{
+    data_sets_are_distinct, extension_is_one, extensions_commute, pattern_order_is_free,
+    triple_order_is_free,
+};
 pub use matching::match_triple;
 pub use pattern::{Part, Pattern, Query};
 pub use row::Row;

@@ -40,24 +40,24 @@ fn distinct<'a>(alloc: Global, triples: &'a [Triple]) -> Result<Vec<&'a Triple>,
     Ok(once)
 }
 
-/// Adds the solutions of the patterns that extend a row.
+/// Adds the solutions of the patterns that extend a row. Where no pattern is left, this is the row itself.
 fn extend_all(
     alloc: Global,
     triples: &[&Triple],
     patterns: &[Pattern],
-    row: &Row,
+    row: Row,
     out: &mut Vec<Row>,
 ) -> Result<(), OutOfMemory>
-    requires { AllByRecursion (IsPatternOf (length row.now)) patterns.now }
-    ensures { OnOk result (out.new.items ≡ out.old.items ++ solutions (map (λ t. t.now) triples.now) patterns.now row.now) }
+    requires { AllByRecursion (IsPatternOf (length row)) patterns.now }
+    ensures { OnOk result (out.new.items ≡ out.old.items ++ solutions (map (λ t. t.now) triples.now) patterns.now row) }
 {
     let [pattern, others @ ..] = patterns else {
-        out.push(row.copy(alloc)?)?;
+        out.push(row)?;
         return Ok(());
     };
     for triple in triples {
-        if let Some(next) = match_triple(alloc, pattern, row, triple)? {
-            extend_all(alloc, triples, others, &next, out)?;
+        if let Some(next) = match_triple(alloc, pattern, &row, triple)? {
+            extend_all(alloc, triples, others, next, out)?;
         }
     }
     Ok(())
@@ -69,11 +69,13 @@ fn rows_of(alloc: Global, triples: &[Triple], query: &Query) -> Result<Vec<Row>,
     let once = distinct(alloc, triples)?;
     let empty = Row::empty(alloc, query.names().len())?;
     let mut rows = Vec::new(alloc);
-    extend_all(alloc, &once, query.patterns(), &empty, &mut rows)?;
+    extend_all(alloc, &once, query.patterns(), empty, &mut rows)?;
     Ok(rows)
 }
 
-/// The solutions of a query over the distinct triples of a list.
+/// The solutions of a query over the distinct triples of a list (SPARQL 1.1, 18.3.1), each as often as SPARQL counts it, in
+/// the order of nested matching: by the triples of the first pattern, then by those of the second. Each row has a place for
+/// every name of the query. It fails for want of memory alone.
 pub fn solutions(alloc: Global, triples: &[Triple], query: &Query) -> Result<Vec<Row>, OutOfMemory>
     ensures fit { IfOk result (λ v. AllByRecursion (λ r. length query.now.names ≡ length r) v.items) }
     ensures rows { IfOk result (λ v. v.items ≡ solutions (distinct triples.now) query.now.patterns (replicate (length query.now.names) None)) }
