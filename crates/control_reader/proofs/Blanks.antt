@@ -7,7 +7,8 @@ use Rattle.rdf_terms.specs.declared.term.Triple.{Triple}
 use Rattle.rdf_terms.specs.declared.term.Quad.{Quad}
 use Rattle.control_reader.specs.Contents.{page_triples, IsBlank, HoldsBlank, HasBlankData}
 use Rattle.control_reader.specs.Seen.{is_blank, holds_blank, TakesTriples}
-use Rattle.control_reader.proofs.Bools.{either, any_of, some_of, not_both_ways}
+use Rattle.nquads_text.proofs.Steps.{either}
+use Rattle.control_reader.proofs.Bools.{any_of, some_of, not_both_ways}
 
 blank_is : (t : Term) → is_blank t ≡ true → IsBlank t
 blank_is (Iri text) h = absurd (cc)

@@ -5,34 +5,15 @@ use Rattle.std.specs.List.{Contains, list_any}
 use Rattle.rdf_terms.specs.declared.term.Term.{Term}
 use Rattle.rdf_terms.specs.Same.{term_eq}
 use Rattle.rdf_terms.specs.EqualityLaws.{term_decides}
+use Rattle.nquads_text.proofs.Steps.{either}
 use Rattle.control_reader.proofs.Members.{at_head, in_tail, head_or_tail, none_in}
-
-pub both : (a b : Bool) → a && b ≡ true → (a ≡ true) × (b ≡ true)
-both true b h = (refl, h)
-both false b h = absurd (cc)
 
 pub and : (a b : Bool) → a ≡ true → b ≡ true → a && b ≡ true
 and true b h k = k
 and false b h k = h
 
-pub either : (a b : Bool) → a || b ≡ true → (a ≡ true) ⊎ (b ≡ true)
-either true b h = inl refl
-either false b h = inr h
-
 pub not_both_ways : (b : Bool) → b ≡ true → b ≡ false → ⊥
 not_both_ways b h k = let e : true ≡ false = sym h ∙ k in cc
-
-pub true_or_false : (b : Bool) → (b ≡ true) ⊎ (b ≡ false)
-true_or_false true = inl refl
-true_or_false false = inr refl
-
-pub is_not : (b : Bool) → not b ≡ true → b ≡ false
-is_not true h = sym h
-is_not false h = refl
-
-pub not_false : (b : Bool) → not b ≡ false → b ≡ true
-not_false true h = refl
-not_false false h = sym h
 
 -- ---- lists
 

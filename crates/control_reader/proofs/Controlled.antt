@@ -1,8 +1,8 @@
 -- The control triples.
-use Rattle.std.proofs.Common.{ℕ, ◌≡◌, Bool, true, false, cond, ◌&&◌, ◌||◌, List, [], refl, sym, ap, subst, ◌∙◌, Option, Some, None}
+use Rattle.std.proofs.Common.{ℕ, ◌≡◌, Bool, true, false, cond, ◌&&◌, ◌||◌, List, [], ◌∷◌, map, refl, sym, ap, subst, ◌∙◌, Option, Some, None}
 use Rattle.std.specs.Prelude.{◌↔◌}
 use Rattle.std.specs.Borrow.{Bor}
-use Rattle.std.specs.List.{Contains, filter_map}
+use Rattle.std.specs.List.{Contains, filter_map, list_any}
 use Rattle.std.specs.List.Retain.{IsFiltered, DiffersFromLast}
 use Rattle.std.specs.List.Sorted.{IsSorted, IsPermutation}
 use Rattle.rdf_terms.specs.declared.term.Term.{Term}
@@ -14,31 +14,26 @@ use Rattle.std.specs.Ordering.{is_eq}
 use Rattle.rdf_terms.specs.Order.{term_order, triple_order}
 use Rattle.rdf_terms.specs.EqualityLaws.{triple_decides}
 use Rattle.rdf_terms.specs.OrderLaws.{triple_total, triple_ties, term_ties}
-use Rattle.control_reader.specs.Vocabulary.{primary_topic}
+use Rattle.control_reader.specs.declared.topic.GraphTopic.{GraphTopic}
 use Rattle.control_reader.specs.Controls.{IsAbout, Says}
-use Rattle.control_reader.specs.Parts.{Source, borrowed_triples, is_graph, is_about, has_about, is_control, control_of, AreControls, triple}
+use Rattle.control_reader.specs.Parts.{Source, About, about, abouts, abouts_of, borrowed_triples, is_about, is_about_in, has_about, is_control, control_of, AreControls, triple}
 use Rattle.control_reader.proofs.Members.{Contains-filter_map, from_filter_map}
 use Rattle.control_reader.proofs.Sorted.{from_sorted, in_sorted, sorted_ascends}
-use Rattle.control_reader.proofs.Bools.{both, and, any_of, some_of, term_same, term_itself}
-use Rattle.control_reader.proofs.Topics.{same_quad}
-
-graph_same : (graph : Term) (o : Option Term) → is_graph graph o ≡ true → o ≡ Some graph
-graph_same graph None h = absurd (cc)
-graph_same graph (Some other) h = ap (λ (t : Term). Some t) (term_same other graph h)
+use Rattle.nquads_text.proofs.Steps.{both}
+use Rattle.control_reader.proofs.Bools.{and, any_of, some_of, term_same, term_itself}
+use Rattle.control_reader.proofs.Topics.{iri_same, listed_about, about_listed}
 
 pub about_has : (quads : List Quad) (topic : List ℕ) (graph : Term) → IsAbout quads graph topic → has_about quads (Iri topic) graph ≡ true
 about_has quads topic graph h =
-    any_of (is_about (Iri topic) graph) quads (record { triple = record { subject = h.0; predicate = primary_topic; object = Iri topic }; graph = Some graph }) h.1
-    (and _ _ (term_itself graph) (and _ _ (term_itself primary_topic) (term_itself (Iri topic))))
+    any_of (is_about (Iri topic) graph) (abouts_of quads) (record { graph = graph; topic = Iri topic }) (about_listed quads graph topic h) (and _ _ (term_itself graph) (term_itself (Iri topic)))
 
 pub has_is_about : (quads : List Quad) (topic : List ℕ) (graph : Term) → has_about quads (Iri topic) graph ≡ true → IsAbout quads graph topic
 has_is_about quads topic graph h =
-    let r = some_of (is_about (Iri topic) graph) quads h in
-    let q = r.0 in
-    let first = both (is_graph graph q.graph) (term_eq q.triple.predicate primary_topic && term_eq q.triple.object (Iri topic)) r.2 in
-    let rest = both (term_eq q.triple.predicate primary_topic) (term_eq q.triple.object (Iri topic)) first.1 in
-    let same = same_quad q graph primary_topic (Iri topic) (graph_same graph q.graph first.0) (term_same _ _ rest.0) (term_same _ _ rest.1) in
-    (q.triple.subject, subst (λ (x : Quad). Contains quads x) same r.1)
+    let r = some_of (is_about (Iri topic) graph) (abouts_of quads) h in
+    let both_are = both (term_eq r.0.graph graph) (term_eq r.0.topic (Iri topic)) r.2 in
+    let l = listed_about quads r.0 r.1 in
+    let same = iri_same l.0 topic (sym l.1 ∙ term_same _ _ both_are.1) in
+    subst (λ (g : Term). IsAbout quads g topic) (term_same _ _ both_are.0) (subst (λ (t : List ℕ). IsAbout quads r.0.graph t) same l.2)
 
 some_same : (a b : Triple) → ◌≡◌ {A = Option Triple} (Some a) (Some b) → a ≡ b
 some_same a b e = cc
@@ -85,12 +80,25 @@ are_controls quads topic t xs ys zs e triples moved kept s =
 -- ---- graphs
 
 -- a set with one graph more
-pub graph_added : (new old tells : Bool) (o : Option Term) (g graph : Term) → o ≡ Some g → tells ≡ true → new ≡ cond (is_eq (term_order g graph)) true old → new ≡ ((is_graph graph o && tells) || old)
-graph_added new old tells o g graph e t h = rw (e, t) (h ∙ ap (λ (b : Bool). cond b true old) (sym (term_ties g graph)) ∙ by (term_eq g graph) old)
+pub graph_added : (new old tells : Bool) (g graph : Term) → tells ≡ true → new ≡ cond (is_eq (term_order g graph)) true old → new ≡ ((term_eq g graph && tells) || old)
+graph_added new old tells g graph t h = rw t (h ∙ ap (λ (b : Bool). cond b true old) (sym (term_ties g graph)) ∙ by (term_eq g graph) old)
   where
     by : (a b : Bool) → cond a true b ≡ ((a && true) || b)
     by true b = refl
     by false b = refl
+
+-- and one without
+pub no_graph : (old same tells : Bool) → tells ≡ false → old ≡ ((same && tells) || old)
+no_graph old true tells t = rw t refl
+no_graph old false tells t = refl
+
+any_map : {X Y : Type 0} (f : X → Y) (p : Y → Bool) (xs : List X) → list_any (λ x. p (f x)) xs ≡ list_any p (map f xs)
+any_map f p [] = refl
+any_map f p (x ∷ xs) = ap (λ (b : Bool). p (f x) || b) (any_map f p xs)
+
+-- the graphs about a topic, by the list and by the quads
+pub graphs_are : (quads : List Quad) (gs : List GraphTopic) (topic graph : Term) → abouts gs ≡ abouts_of quads → list_any (is_about_in topic graph) gs ≡ has_about quads topic graph
+graphs_are quads gs topic graph e = any_map about (is_about topic graph) gs ∙ ap (λ (l : List About). list_any (is_about topic graph) l) e
 
 -- what the list of control triples says of a range
 pub objects_say : (source : Source) (quads : List Quad) (topic : List ℕ) (xs ys : List (Bor Triple)) (part : List Term) (s p o : Term) → ◌≡◌ {A = Source} (record { quads = quads; topic = topic }) source →

@@ -25,7 +25,8 @@ use Rattle.control_reader.specs.Places.{searched_of, IsSearched, Names, NamesOth
 use Rattle.control_reader.specs.Variables.{named_all, AreVariables, HasVariable}
 use Rattle.control_reader.specs.declared.variable.Variable.{Variable}
 use Rattle.control_reader.proofs.Members.{Contains-map, from_map, Contains-filter_map, from_filter_map}
-use Rattle.control_reader.proofs.Bools.{both, and, any_of, some_of, not_both_ways, is_not, true_or_false, term_same, term_itself, term_is}
+use Rattle.nquads_text.proofs.Steps.{both, not_true, true_or_false}
+use Rattle.control_reader.proofs.Bools.{and, any_of, some_of, not_both_ways, term_same, term_itself, term_is}
 use Rattle.control_reader.proofs.Sorted.{from_sorted, in_sorted, sorted_ascends}
 use Rattle.control_reader.proofs.Variabled.{literal_form, form_literal}
 use Rattle.control_reader.proofs.Ascending.{pair_less, less_not_equal, ascending_unmap}
@@ -54,7 +55,7 @@ module _ (P : Term → Type 0) (xs : List Term) (m : (o : Term) → Contains xs 
       let p = both (is_some (form_of r.0)) (not (term_eq r.0 literal)) r.2 in
       let first = only.1 literal ((m literal).0 h, is_literal literal l) in
       let second = only.1 r.0 ((m r.0).0 r.1, is_literal r.0 p.0) in
-      not_both_ways _ (term_is r.0 literal (second ∙ sym first)) (is_not _ p.1)
+      not_both_ways _ (term_is r.0 literal (second ∙ sym first)) (not_true _ p.1)
 
   pub one_literal : (literal : Term) → Contains xs literal → is_some (form_of literal) ≡ true → list_any (λ o. is_some (form_of o) && not (term_eq o literal)) xs ≡ false →
       IsOnly (λ o. P o × ((text : List ℕ) × IsLiteral o text)) literal
@@ -75,7 +76,7 @@ module _ (P : Term → Type 0) (xs : List Term) (m : (o : Term) → Contains xs 
   pub other_object : (object : Term) → list_any (λ o. not (term_eq o object)) xs ≡ true → ((o : Term) → P o → o ≡ object) → ⊥
   other_object object more all =
       let r = some_of (λ o. not (term_eq o object)) xs more in
-      not_both_ways _ (term_is r.0 object (all r.0 ((m r.0).0 r.1))) (is_not _ r.2)
+      not_both_ways _ (term_is r.0 object (all r.0 ((m r.0).0 r.1))) (not_true _ r.2)
 
 pub template_is : (r : Option (Bor (List ℕ))) (literal : Term) (Q : Term → Type 0) → option_copied r ≡ form_of literal → is_some (form_of literal) ≡ true → IsOnly Q literal →
     MatchOption r ((l : Term) → IsOnly Q l → ⊥) (λ text. (l : Term) × IsOnly Q l × IsLiteral l text.now)
@@ -99,7 +100,7 @@ module _ (P : List ℕ → Type 0) (xs : List (List ℕ)) (m : (t : List ℕ) �
   pub other_text : list_any (λ t. not (bytes_eq t text)) xs ≡ true → (other : List ℕ) × P other × (other ≢ text)
   other_text more =
       let r = some_of (λ t. not (bytes_eq t text)) xs more in
-      (r.0, (m r.0).0 r.1, λ e. not_both_ways _ ((bytes_eq-Decides r.0 text).1 e) (is_not _ r.2))
+      (r.0, (m r.0).0 r.1, λ e. not_both_ways _ ((bytes_eq-Decides r.0 text).1 e) (not_true _ r.2))
 
   pub text_other : (other : List ℕ) → P other → other ≢ text → list_any (λ t. not (bytes_eq t text)) xs ≡ true
   text_other other p differs = by (bytes_eq other text) refl

@@ -2,6 +2,7 @@
 use Rattle.std.proofs.Common.{ℕ, ◌≡◌, ◌+◌, ◌<◌, List, [], ◌∷◌, ◌++◌, length, take, get_or, map, refl, ap, sym, ◌∙◌, append-nil, add-one, Option, Some, None}
 use Rattle.std.proofs.Math.Seq.{take-suc}
 use Rattle.std.specs.List.{filter_map}
+use Rattle.std.specs.Option.{option_to_list}
 
 pub map-append : {X Y : Type 0} (f : X → Y) (xs ys : List X) → map f (xs ++ ys) ≡ map f xs ++ map f ys
 map-append f [] ys = refl
@@ -32,6 +33,17 @@ module _ {X Y Z : Type 0} (v : Z → Y) (f : X → Option Y) (all : List X) (i :
   listed_none e same =
       let last : filter_map f (x ∷ []) ≡ [] = rw e refl in
       ap (map v) same ∙ so_far ∙ sym (append-nil (filter_map f (take i all))) ∙ sym (more ∙ ap (λ (l : List Y). filter_map f (take i all) ++ l) last)
+
+-- one item more, which is there or not
+pub listed_or_not : {X Y : Type 0} (f : X → Option Y) (all : List X) (i : ℕ) (x : X) (old new : List Y) → i < length all → x ≡ get_or all i x → old ≡ filter_map f (take i all) →
+    new ≡ old ++ option_to_list (f x) → new ≡ filter_map f (take (i + 1) all)
+listed_or_not {X} {Y} f all i x old new below at so_far added =
+    added ∙ ap (λ (l : List Y). l ++ option_to_list (f x)) so_far ∙ ap (λ (l : List Y). filter_map f (take i all) ++ l) (sym (by (f x) refl))
+    ∙ sym (ap (filter_map f) (taken_more all i x below at) ∙ filter_map-append f (take i all) (x ∷ []))
+  where
+    by : (o : Option Y) → f x ≡ o → filter_map f (x ∷ []) ≡ option_to_list (f x)
+    by None e = rw e refl
+    by (Some y) e = rw e refl
 
 pub filter_map-map : {W X Y : Type 0} (f : X → Option Y) (g : W → X) (xs : List W) → filter_map f (map g xs) ≡ filter_map (λ w. f (g w)) xs
 filter_map-map f g [] = refl

@@ -26,7 +26,8 @@ use Rattle.control_reader.specs.Parts.{form_of, AreControls, triple}
 use Rattle.control_reader.specs.Variables.{Named, named, named_all, texts_in, named_by, named_of, name_order, goes_before, HasVariable, AreVariables}
 use Rattle.control_reader.proofs.Members.{Contains-map, from_map, Contains-filter_map, from_filter_map}
 use Rattle.control_reader.proofs.Sorted.{from_sorted, in_sorted, sorted_ascends}
-use Rattle.control_reader.proofs.Bools.{both, term_same, term_itself}
+use Rattle.nquads_text.proofs.Steps.{both}
+use Rattle.control_reader.proofs.Bools.{term_same, term_itself}
 use Rattle.control_reader.proofs.Ascending.{pair_less, less_not_greater, ascending_unmap}
 use Rattle.control_reader.proofs.Ranged.{partitioned, in_part, part_in, in_order}
 

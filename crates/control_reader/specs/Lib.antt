@@ -12,3 +12,4 @@ pub mod Counts
 pub mod Stages
 pub mod Laws
 pub mod Law
+pub mod Marks

@@ -1,6 +1,6 @@
 -- What each quad, and each list of control triples, tells.
-use Rattle.std.specs.Prelude.{ℕ, ◌↔◌, Bool, false, not, ◌&&◌, List, [], map, Option, Some, None, is_some, if◌then◌else◌}
-use Rattle.std.specs.List.{Contains, list_any}
+use Rattle.std.specs.Prelude.{ℕ, ◌↔◌, Bool, false, not, ◌&&◌, List, [], map, Option, Some, None, if◌then◌else◌}
+use Rattle.std.specs.List.{Contains, list_any, filter_map}
 use Rattle.std.specs.List.Sorted.{IsStrictlySortedBy}
 use Rattle.std.specs.Borrow.{Bor}
 use Rattle.rdf_terms.specs.declared.term.Term.{Term}
@@ -10,6 +10,7 @@ use Rattle.rdf_terms.specs.declared.term.Quad.{Quad}
 use Rattle.rdf_terms.specs.Same.{term_eq}
 use Rattle.rdf_terms.specs.Order.{triple_order}
 use Rattle.control_reader.specs.Vocabulary.{primary_topic}
+use Rattle.control_reader.specs.declared.topic.GraphTopic.{GraphTopic}
 use Rattle.control_reader.specs.Controls.{Says}
 
 -- ---- borrowed values
@@ -36,35 +37,51 @@ iri_text (Iri text) = text
 iri_text (Blank label) = []
 iri_text (Literal form kind) = []
 
--- a quad of a named graph with this predicate
-abbrev pub is_named_with : Term → Quad → Bool
-is_named_with predicate q = is_some q.graph && term_eq q.triple.predicate predicate
+-- a named graph, and what it is said to be about
+pub record About : Type 0 where
+  pub graph : Term
+  pub topic : Term
 
--- the topic that a quad gives its graph
-abbrev pub topic_of : Quad → Option Term
-topic_of q = if is_named_with primary_topic q then iri_of q.triple.object else None
+abbrev pub about_by : Option Term → Option Term → Option About
+about_by None topic = None
+about_by (Some graph) None = None
+about_by (Some graph) (Some topic) = Some (record { graph = graph; topic = topic })
 
-abbrev pub is_some_other : Term → Option Term → Bool
-is_some_other topic None = false
-is_some_other topic (Some other) = not (term_eq other topic)
+-- what a quad says of its graph
+abbrev pub about_of : Quad → Option About
+about_of q = if term_eq q.triple.predicate primary_topic then about_by q.graph (iri_of q.triple.object) else None
 
-abbrev pub is_some_same : Term → Option Term → Bool
-is_some_same topic None = false
-is_some_same topic (Some other) = term_eq other topic
+-- what all quads say of their graphs
+abbrev pub abouts_of : List Quad → List About
+abouts_of quads = filter_map about_of quads
+
+abbrev pub about : GraphTopic → About
+about g = record { graph = g.graph.now; topic = g.topic.now }
+
+abbrev pub abouts : List GraphTopic → List About
+abouts topics = map about topics
+
+abbrev pub topics_in : List GraphTopic → List Term
+topics_in topics = map (λ (g : GraphTopic). g.topic.now) topics
+
+abbrev pub has_same_topic : Term → GraphTopic → Bool
+has_same_topic topic g = term_eq g.topic.now topic
+
+abbrev pub has_other_topic : Term → GraphTopic → Bool
+has_other_topic topic g = not (term_eq g.topic.now topic)
 
 -- ---- control quads
 
-abbrev pub is_graph : Term → Option Term → Bool
-is_graph graph None = false
-is_graph graph (Some other) = term_eq other graph
+-- the graph is the one that is about the topic
+abbrev pub is_about : Term → Term → About → Bool
+is_about topic graph a = term_eq a.graph graph && term_eq a.topic topic
 
--- the quad says that the graph is about the topic
-abbrev pub is_about : Term → Term → Quad → Bool
-is_about topic graph q = is_graph graph q.graph && (term_eq q.triple.predicate primary_topic && term_eq q.triple.object topic)
+abbrev pub is_about_in : Term → Term → GraphTopic → Bool
+is_about_in topic graph g = is_about topic graph (about g)
 
 -- the graph is about the topic
 abbrev pub has_about : List Quad → Term → Term → Bool
-has_about quads topic graph = list_any (is_about topic graph) quads
+has_about quads topic graph = list_any (is_about topic graph) (abouts_of quads)
 
 abbrev pub is_control : List Quad → Term → Option Term → Bool
 is_control quads topic None = false

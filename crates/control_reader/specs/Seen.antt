@@ -1,20 +1,12 @@
--- The triples that a set of borrowed triples holds.
+-- Triples that are new, and those that hold a blank node.
 use Rattle.std.specs.Prelude.{◌≡◌, Bool, true, false, not, ◌||◌, List, [], ◌∷◌, if◌then◌else◌}
 use Rattle.std.specs.List.{list_any}
-use Rattle.std.specs.Ordering.{is_eq}
-use Rattle.std.specs.BTreeSet.{BTreeSet}
-use Rattle.std.specs.Borrow.{Bor}
-use Rattle.rdf_terms.specs.Order.{triple_order}
 use Rattle.rdf_terms.specs.Same.{triple_eq}
 use Rattle.rdf_terms.specs.declared.term.Triple.{Triple}
 use Rattle.rdf_terms.specs.declared.term.Quad.{Quad}
 use Rattle.rdf_terms.specs.declared.term.Term.{Term}
 use Rattle.rdf_terms.specs.declared.term.Term.TheVariants.{Iri, Blank, Literal}
 use Rattle.control_reader.specs.Contents.{page_triples, HasBlankData}
-
--- a triple of the set is this one
-abbrev pub is_seen : BTreeSet (Bor Triple) → Triple → Bool
-is_seen seen t = list_any (λ key. is_eq (triple_order t key.now)) seen.keys
 
 -- the triple, unless it stands already
 abbrev pub once_more : Bool → Triple → List Triple

@@ -1,12 +1,11 @@
 // The triples of a page.
-ghost use Rattle.std.specs.Prelude.{◌≡◌, ◌++◌, ◌||◌, ◌&&◌, Bool, IfOk, OnOk, map, IsTrue, ◌↔◌};
+ghost use Rattle.std.specs.Prelude.{◌≡◌, ◌++◌, ◌∷◌, [], ◌||◌, IfOk, OnOk};
 ghost use Rattle.std.specs.List.{list_any};
 ghost use Rattle.rdf_terms.specs.declared.term.Triple.{Triple};
-ghost use Rattle.rdf_terms.specs.Same.{triple_eq};
-ghost use Rattle.control_reader.specs.Contents.{firsts, default_triples, page_triples, HasBlankData};
+ghost use Rattle.control_reader.specs.Contents.{page_triples, HasBlankData};
 ghost use Rattle.control_reader.specs.Outcomes.{Answers};
-ghost use Rattle.control_reader.specs.Parts.{borrowed_triples};
-ghost use Rattle.control_reader.specs.Seen.{is_seen, once_more, is_blank, holds_blank, TakesTriples};
+ghost use Rattle.control_reader.specs.Marks.{is_seen, is_data, is_first, marked};
+ghost use Rattle.control_reader.specs.Seen.{is_blank, holds_blank, TakesTriples};
 
 use crate::PageFault;
 use rdf_terms::{Quad, Term, Triple};
@@ -14,44 +13,29 @@ use std::alloc::Global;
 use std::collections::BTreeSet;
 use tpf_base::OutOfMemory;
 
-/// The triples of the default graph, in the order of the quads.
-fn default_triples<'a>(alloc: Global, quads: &'a [Quad]) -> Result<Vec<&'a Triple>, OutOfMemory>
-    ensures { IfOk result (λ v. borrowed_triples v.items ≡ default_triples quads.entry.now) }
+/// Whether the quad stands in the default graph and its triple was not seen before.
+fn is_first<'a>(seen: &mut BTreeSet<&'a Triple>, quad: &'a Quad) -> Result<bool, OutOfMemory>
+    ensures first { IfOk result (λ first. first ≡ is_first (is_seen seen.old quad.entry.now.triple) quad.entry.now) }
+    ensures seen { OnOk result ((t : Triple) → is_seen seen.new t ≡ (is_data t quad.entry.now || is_seen seen.old t)) }
 {
-    let mut triples = Vec::new(alloc);
-    for quad in quads {
-        if quad.graph.is_none() {
-            triples.push(&quad.triple)?;
-        }
+    if quad.graph.is_some() {
+        return Ok(false);
     }
-    Ok(triples)
+    Ok(seen.insert(&quad.triple)?)
 }
 
-/// Adds a triple at the end, unless it was seen before.
-fn add_new<'a>(
+/// Adds at the end whether the quad is the first with its triple in the default graph.
+pub(crate) fn add_mark<'a>(
+    marks: &mut Vec<bool>,
     seen: &mut BTreeSet<&'a Triple>,
-    once: &mut Vec<&'a Triple>,
-    triple: &'a Triple,
+    quad: &'a Quad,
 ) -> Result<(), OutOfMemory>
-    ensures once { OnOk result (borrowed_triples once.new.items ≡ borrowed_triples once.old.items ++ once_more (is_seen seen.old triple.entry.now) triple.entry.now) }
-    ensures seen { OnOk result ((q : Triple) → is_seen seen.new q ≡ (triple_eq triple.entry.now q || is_seen seen.old q)) }
+    ensures marks { OnOk result (marks.new.items ≡ marks.old.items ++ is_first (is_seen seen.old quad.entry.now.triple) quad.entry.now ∷ []) }
+    ensures seen { OnOk result ((t : Triple) → is_seen seen.new t ≡ (is_data t quad.entry.now || is_seen seen.old t)) }
 {
-    if seen.insert(triple)? {
-        once.push(triple)?;
-    }
+    let first = is_first(seen, quad)?;
+    marks.push(first)?;
     Ok(())
-}
-
-/// The distinct triples, in the order of their first places.
-fn firsts<'a>(alloc: Global, triples: &[&'a Triple]) -> Result<Vec<&'a Triple>, OutOfMemory>
-    ensures { IfOk result (λ once. borrowed_triples once.items ≡ firsts (borrowed_triples triples.entry.now)) }
-{
-    let mut seen = BTreeSet::new(alloc);
-    let mut once = Vec::new(alloc);
-    for triple in triples {
-        add_new(&mut seen, &mut once, triple)?;
-    }
-    Ok(once)
 }
 
 fn is_blank(term: &Term) -> bool
@@ -66,35 +50,38 @@ fn holds_blank(triple: &Triple) -> bool
     is_blank(&triple.subject) || (is_blank(&triple.predicate) || is_blank(&triple.object))
 }
 
-fn have_blank(triples: &[&Triple]) -> bool
-    ensures { result ≡ list_any holds_blank (borrowed_triples triples.now) }
+fn have_blank(triples: &[Triple]) -> bool
+    ensures { result ≡ list_any holds_blank triples.now }
 {
-    for triple in triples {
-        if holds_blank(triple) {
-            return true;
-        }
-    }
-    false
+    triples.iter().any(|triple| holds_blank(triple))
 }
 
-fn copied(alloc: Global, triples: &[&Triple]) -> Result<Vec<Triple>, OutOfMemory>
-    ensures { IfOk result (λ v. v.items ≡ borrowed_triples triples.now) }
+/// The triples of the marked quads.
+fn marked(alloc: Global, quads: Vec<Quad>, marks: Vec<bool>) -> Result<Vec<Triple>, OutOfMemory>
+    ensures { IfOk result (λ v. v.items ≡ marked quads.items marks.items) }
 {
-    let mut copies = Vec::new(alloc);
-    for triple in triples {
-        copies.push(triple.copy(alloc)?)?;
-    }
-    Ok(copies)
+    let triples = quads
+        .into_iter()
+        .zip(marks)
+        .filter(|(_, mark)| *mark)
+        .map(|(quad, _)| quad.triple)
+        .collect(alloc)?;
+    Ok(triples)
 }
 
-/// The distinct triples of the default graph, in the order of their first lines.
-pub(crate) fn read_triples(alloc: Global, quads: &[Quad]) -> Result<Vec<Triple>, PageFault>
-    ensures { Answers (λ v. TakesTriples quads.now v.items) (λ fault. (fault ≡ PageFault.BlankData) × HasBlankData quads.now) result }
+/// The distinct triples of the default graph, in the order of their first lines, where the first quads with them are
+/// marked.
+pub(crate) fn take_triples(
+    alloc: Global,
+    quads: Vec<Quad>,
+    marks: Vec<bool>,
+) -> Result<Vec<Triple>, PageFault>
+    requires { marked quads.items marks.items ≡ page_triples quads.items }
+    ensures { Answers (λ v. TakesTriples quads.items v.items) (λ fault. (fault ≡ PageFault.BlankData) × HasBlankData quads.items) result }
 {
-    let all = default_triples(alloc, quads)?;
-    let once = firsts(alloc, all.as_slice())?;
-    if have_blank(once.as_slice()) {
+    let triples = marked(alloc, quads, marks)?;
+    if have_blank(triples.as_slice()) {
         return Err(PageFault::BlankData);
     }
-    Ok(copied(alloc, once.as_slice())?)
+    Ok(triples)
 }

@@ -8,12 +8,14 @@ ghost use Rattle.rdf_terms.specs.declared.term.Term.{Term};
 ghost use Rattle.rdf_terms.specs.declared.term.Term.TheVariants as terms;
 ghost use Rattle.rdf_terms.specs.declared.term.Triple.{Triple};
 ghost use Rattle.rdf_terms.specs.Order.{term_order, triple_order};
-ghost use Rattle.rdf_terms.specs.Same.{term_eq};
-ghost use Rattle.control_reader.specs.Vocabulary.{primary_topic};
 ghost use Rattle.control_reader.specs.Controls.{Says};
-ghost use Rattle.control_reader.specs.Parts.{borrowed_triples, objects_in, is_about, has_about, control_of, AreControls, triple};
+ghost use Rattle.control_reader.specs.Parts.{borrowed_triples, objects_in, is_about_in, has_about, abouts, abouts_of, control_of, AreControls, triple};
+ghost use Rattle.control_reader.specs.Contents.{page_triples};
+ghost use Rattle.control_reader.specs.Marks.{marked};
 ghost use Rattle.control_reader.specs.Ranges.{holds_term, goes_before, is_object_before};
 
+use crate::contents::add_mark;
+use crate::topic::GraphTopic;
 use rdf_terms::{Quad, Term, Triple};
 use std::alloc::Global;
 use std::cmp::Ordering;
@@ -42,27 +44,15 @@ impl<'a> Model for Controls<'a> {
     ghost invariant = { λ c. (c.topic.now ≡ terms.Iri (iri_text c.topic.now)) × AreControls c.quads.now (iri_text c.topic.now) (borrowed_triples c.triples.items) };
 }
 
-/// Whether the quad says that its named graph is about the topic.
-fn tells_topic(quad: &Quad, primary: &Term, topic: &Term) -> bool
-    requires { primary.now ≡ primary_topic }
-    ensures { result ≡ (term_eq quad.now.triple.predicate primary_topic && term_eq quad.now.triple.object topic.now) }
-{
-    quad.triple.predicate.same(primary) && quad.triple.object.same(topic)
-}
-
 fn add_graph<'a>(
     graphs: &mut BTreeSet<&'a Term>,
-    quad: &'a Quad,
-    primary: &Term,
+    found: &GraphTopic<'a>,
     topic: &Term,
 ) -> Result<(), OutOfMemory>
-    requires { primary.now ≡ primary_topic }
-    ensures { OnOk result ((graph : Term) → holds_term graphs.new graph ≡ (is_about topic.now graph quad.entry.now || holds_term graphs.old graph)) }
+    ensures { OnOk result ((graph : Term) → holds_term graphs.new graph ≡ (is_about_in topic.now graph found.entry.now || holds_term graphs.old graph)) }
 {
-    if let Some(graph) = &quad.graph
-        && tells_topic(quad, primary, topic)
-    {
-        graphs.insert(graph)?;
+    if found.topic.same(topic) {
+        graphs.insert(found.graph)?;
     }
     Ok(())
 }
@@ -70,16 +60,14 @@ fn add_graph<'a>(
 /// The named graphs that are about the topic.
 fn graphs_about<'a>(
     alloc: Global,
-    quads: &'a [Quad],
-    primary: &Term,
+    topics: &[GraphTopic<'a>],
     topic: &Term,
 ) -> Result<BTreeSet<&'a Term>, OutOfMemory>
-    requires { primary.now ≡ primary_topic }
-    ensures { IfOk result (λ graphs. (graph : Term) → holds_term graphs graph ≡ has_about quads.entry.now topic.now graph) }
+    ensures { IfOk result (λ graphs. (graph : Term) → holds_term graphs graph ≡ list_any (is_about_in topic.now graph) topics.entry.now) }
 {
     let mut graphs = BTreeSet::new(alloc);
-    for quad in quads {
-        add_graph(&mut graphs, quad, primary, topic)?;
+    for found in topics {
+        add_graph(&mut graphs, found, topic)?;
     }
     Ok(graphs)
 }
@@ -101,40 +89,57 @@ fn control_of<'a>(quad: &'a Quad, graphs: &BTreeSet<&'a Term>) -> Option<&'a Tri
     }
 }
 
-/// The triples of the control quads, in the order of the quads.
-fn all_controls<'a>(
-    alloc: Global,
-    quads: &'a [Quad],
-    primary: &Term,
-    topic: &Term,
-) -> Result<Vec<&'a Triple>, OutOfMemory>
-    requires { primary.now ≡ primary_topic }
-    ensures { IfOk result (λ v. borrowed_triples v.items ≡ filter_map (control_of quads.entry.now topic.now) quads.entry.now) }
+fn add_control<'a>(
+    controls: &mut Vec<&'a Triple>,
+    quad: &'a Quad,
+    graphs: &BTreeSet<&'a Term>,
+) -> Result<(), OutOfMemory>
+    ensures { OnOk result ((all : List Quad) (topic : Term) → ((graph : Term) → holds_term graphs.now graph ≡ has_about all topic graph) →
+        borrowed_triples controls.new.items ≡ borrowed_triples controls.old.items ++ option_to_list (control_of all topic quad.entry.now)) }
 {
-    let graphs = graphs_about(alloc, quads, primary, topic)?;
-    let mut triples = Vec::new(alloc);
-    for quad in quads {
-        if let Some(triple) = control_of(quad, &graphs) {
-            triples.push(triple)?;
-        }
+    if let Some(triple) = control_of(quad, graphs) {
+        controls.push(triple)?;
     }
-    Ok(triples)
+    Ok(())
 }
 
-/// The same, each once, in the order of triples.
-fn sorted_controls<'a>(
+/// The quads of a body, told apart: the triples of its control quads, in their order, and for each quad whether it is the
+/// first with its triple in the default graph.
+#[derive(Drop)]
+pub(crate) struct Split<'a> {
+    pub(crate) controls: Vec<&'a Triple>,
+    pub(crate) marks: Vec<bool>,
+}
+
+/// Goes through the quads of a body once.
+pub(crate) fn split_quads<'a>(
     alloc: Global,
     quads: &'a [Quad],
-    primary: &Term,
+    topics: &[GraphTopic<'a>],
     topic: &Term,
-) -> Result<Vec<&'a Triple>, OutOfMemory>
-    requires { primary.now ≡ primary_topic }
-    ensures { (text : List ℕ) → topic.now ≡ terms.Iri text → IfOk result (λ v. AreControls quads.entry.now text (borrowed_triples v.items)) }
+) -> Result<Split<'a>, OutOfMemory>
+    requires { abouts topics.now ≡ abouts_of quads.now }
+    ensures controls { IfOk result (λ s. borrowed_triples s.controls.items ≡ filter_map (control_of quads.entry.now topic.now) quads.entry.now) }
+    ensures marks { IfOk result (λ s. marked quads.entry.now s.marks.items ≡ page_triples quads.entry.now) }
 {
-    let mut triples = all_controls(alloc, quads, primary, topic)?;
-    triples.sort_unstable();
-    triples.dedup();
-    Ok(triples)
+    let graphs = graphs_about(alloc, topics, topic)?;
+    let mut controls = Vec::new(alloc);
+    let mut seen = BTreeSet::new(alloc);
+    let mut marks = Vec::with_capacity(alloc, quads.len())?;
+    for quad in quads {
+        add_control(&mut controls, quad, &graphs)?;
+        add_mark(&mut marks, &mut seen, quad)?;
+    }
+    Ok(Split { controls, marks })
+}
+
+/// The control triples, each once, in their order.
+fn sorted_controls<'a>(mut controls: Vec<&'a Triple>) -> Vec<&'a Triple>
+    ensures { (quads : List Quad) (topic : Term) (text : List ℕ) → borrowed_triples controls.entry.items ≡ filter_map (control_of quads topic) quads → topic ≡ terms.Iri text → AreControls quads text (borrowed_triples result.items) }
+{
+    controls.sort_unstable();
+    controls.dedup();
+    controls
 }
 
 /// Whether the triple stands before those with this subject and predicate, or with them where that is asked.
@@ -189,24 +194,19 @@ pub(crate) fn has_object(triples: &[&Triple], object: &Term) -> bool
 }
 
 impl<'a> Controls<'a> {
-    /// The control triples under a topic.
-    pub(crate) fn read(
-        alloc: Global,
-        quads: &'a [Quad],
-        primary: &Term,
-        topic: &'a Term,
-    ) -> Result<Controls<'a>, OutOfMemory>
-        requires primary { primary.now ≡ primary_topic }
+    /// The control triples of a body under its topic, from those of its control quads.
+    pub(crate) fn new(quads: &'a [Quad], topic: &'a Term, triples: Vec<&'a Triple>) -> Controls<'a>
         requires topic { (text : List ℕ) × (topic.now ≡ terms.Iri text) }
-        ensures quads { IfOk result (λ c. c.quads ≡ quads.entry.now) }
-        ensures topic { IfOk result (λ c. topic.entry.now ≡ terms.Iri c.topic) }
+        requires triples { borrowed_triples triples.items ≡ filter_map (control_of quads.now topic.now) quads.now }
+        ensures quads { result.quads ≡ quads.entry.now }
+        ensures topic { topic.entry.now ≡ terms.Iri result.topic }
     {
-        let triples = sorted_controls(alloc, quads, primary, topic)?;
-        Ok(Controls {
+        let triples = sorted_controls(triples);
+        Controls {
             quads,
             topic,
             triples,
-        })
+        }
     }
 
     /// The topic.

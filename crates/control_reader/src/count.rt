@@ -1,5 +1,5 @@
 // The number of triples that the controls give.
-ghost use Rattle.std.specs.Prelude.{ℕ, ◌≡◌, ◌↔◌, true, MatchOption};
+ghost use Rattle.std.specs.Prelude.{ℕ, ◌≡◌, ◌↔◌, true, Some, MatchOption};
 ghost use Rattle.std.specs.List.{Contains, list_all};
 ghost use Rattle.std.specs.List.Sorted.{IsStrictlySortedBy};
 ghost use Rattle.std.specs.Char.{is_ascii_digit};
@@ -31,15 +31,11 @@ fn is_count_text(digits: &[u8]) -> bool
 }
 
 /// The number that up to 19 digits write.
-fn value_of(digits: &[u8]) -> u64
+fn value_of(digits: &str) -> Option<u64>
     requires { is_count_text digits.now ≡ true }
-    ensures { result ≡ digits_value 10 digits.now }
+    ensures { result ≡ Some (digits_value 10 digits.now) }
 {
-    let mut n: u64 = 0;
-    for b in digits {
-        n = n * 10 + u64::from(b.saturating_sub(b'0'));
-    }
-    n
+    digits.parse::<u64>().ok()
 }
 
 /// The number that a literal of 1 to 19 digits is.
@@ -49,9 +45,9 @@ fn number(term: &Term) -> Option<u64>
     let Term::Literal { form, .. } = term else {
         return None;
     };
-    let digits = form.as_str().as_bytes();
-    if is_count_text(digits) {
-        Some(value_of(digits))
+    let digits = form.as_str();
+    if is_count_text(digits.as_bytes()) {
+        value_of(digits)
     } else {
         None
     }

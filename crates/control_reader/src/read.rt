@@ -1,18 +1,20 @@
 // Reading a page.
-ghost use Rattle.std.specs.Prelude.{IfOk, IfErr};
+ghost use Rattle.std.specs.Prelude.{◌≡◌, IfOk, IfErr};
 ghost use Rattle.tpf_base.specs.Addresses.{authority_of};
 ghost use Rattle.control_reader.specs.declared.page.Page.{Page};
 ghost use Rattle.control_reader.specs.declared.page.PageFault.{PageFault};
+ghost use Rattle.control_reader.specs.Contents.{page_triples};
+ghost use Rattle.control_reader.specs.Marks.{marked};
 ghost use Rattle.control_reader.specs.Takes.{Takes, Faults, IsBody};
 ghost use Rattle.control_reader.specs.Outcomes.{Answers, IsFaultOf, IsPageOrMemory, IsFaultOrMemory};
 ghost use Rattle.control_reader.specs.Stages.{TakesControls, FirstAmiss, TakesPage, WhyNoPage, WhyNoBody};
 
-use crate::contents::read_triples;
-use crate::controls::Controls;
+use crate::contents::take_triples;
+use crate::controls::{Controls, Split, split_quads};
 use crate::count::read_count;
 use crate::form::find_form;
 use crate::link::{check_home, read_next};
-use crate::topic::find_topic;
+use crate::topic::{find_topic, read_topics};
 use crate::vocabulary::{iri, primary_topic};
 use crate::{Page, PageFault, TripleList};
 use nquads_text::{TextFault, read_all};
@@ -29,6 +31,13 @@ struct Told {
     count: u64,
     form: Form,
     next: Option<WebAddress>,
+}
+
+/// What the quads of a body tell, and for each quad whether it is the first with its triple in the default graph.
+#[derive(Drop)]
+struct Parts {
+    told: Told,
+    marks: Vec<bool>,
 }
 
 /// The quads of a body.
@@ -65,16 +74,21 @@ fn read_told(alloc: Global, controls: &Controls, address: &WebAddress) -> Result
 }
 
 /// What the quads of a body tell of its topic.
-fn read_controls(alloc: Global, quads: &[Quad], address: &WebAddress) -> Result<Told, PageFault>
-    ensures { Answers (TakesPage quads.now address.now) (WhyNoPage quads.now address.now) result }
+fn read_parts(alloc: Global, quads: &[Quad], address: &WebAddress) -> Result<Parts, PageFault>
+    ensures { Answers (λ p. TakesPage quads.now address.now p.told × (marked quads.now p.marks.items ≡ page_triples quads.now)) (WhyNoPage quads.now address.now) result }
 {
     let primary = primary_topic(alloc)?;
     let own = iri(alloc, address.text())?;
-    let Some(topic) = find_topic(quads, &primary, &own) else {
+    let topics = read_topics(alloc, quads, &primary)?;
+    let Some(topic) = find_topic(topics.as_slice(), &own) else {
         return Err(PageFault::NoTopic);
     };
-    let controls = Controls::read(alloc, quads, &primary, topic)?;
-    read_told(alloc, &controls, address)
+    let Split { controls, marks } = split_quads(alloc, quads, topics.as_slice(), topic)?;
+    let controls = Controls::new(quads, topic, controls);
+    match read_told(alloc, &controls, address) {
+        Ok(told) => Ok(Parts { told, marks }),
+        Err(fault) => Err(fault),
+    }
 }
 
 fn read_exactly(alloc: Global, body: &[u8], address: &WebAddress) -> Result<Page, PageFault>
@@ -84,11 +98,12 @@ fn read_exactly(alloc: Global, body: &[u8], address: &WebAddress) -> Result<Page
         Ok(quads) => quads,
         Err(fault) => return Err(fault),
     };
-    let told = match read_controls(alloc, quads.as_slice(), address) {
-        Ok(told) => told,
+    let parts = match read_parts(alloc, quads.as_slice(), address) {
+        Ok(parts) => parts,
         Err(fault) => return Err(fault),
     };
-    let triples = match read_triples(alloc, quads.as_slice()) {
+    let Parts { told, marks } = parts;
+    let triples = match take_triples(alloc, quads, marks) {
         Ok(triples) => TripleList::from_vec(triples),
         Err(fault) => return Err(fault),
     };

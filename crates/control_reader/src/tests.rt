@@ -11,28 +11,46 @@ const PREFIXES: &str =
 const FORM: &str =
     "<d:s> hydra:search _:f <g:1>;_:f hydra:mapping _:s <g:1>;_:s hydra:variable \"s\" <g:1>;_:s hydra:property rdf:subject <g:1>;_:f hydra:mapping _:p <g:1>;_:p hydra:variable \"p\" <g:1>;_:p hydra:property rdf:predicate <g:1>;_:f hydra:mapping _:o <g:1>;_:o hydra:property rdf:object <g:1>;_:o hydra:variable \"o\" <g:1>";
 
+/// The same, but subject and object have one text.
+const SAME_TEXTS: &str =
+    "<d:s> hydra:search _:f <g:1>;_:f hydra:mapping _:s <g:1>;_:s hydra:variable \"s\" <g:1>;_:s hydra:property rdf:subject <g:1>;_:s hydra:property rdf:object <g:1>;_:f hydra:mapping _:p <g:1>;_:p hydra:variable \"p\" <g:1>;_:p hydra:property rdf:predicate <g:1>";
+
 /// The lines that a letter stands for.
 fn lines_of(letter: char) -> &'static str {
     match letter {
+        // The topic: the page itself, others, and two that are none.
         't' => "<g:1> foaf:primaryTopic <http://h/d> <g:1>",
         'v' => "<g:1> foaf:primaryTopic <http://h/v> <g:1>",
         'w' => "<g:1> foaf:primaryTopic <http://h/w> <g:1>",
+        'D' => "<g:1> foaf:primaryTopic <http://h/d>",
+        'B' => "<g:1> foaf:primaryTopic \"http://h/d\" <g:1>",
+        // The count: 1, another, by VoID, and what is no number.
         'c' => "<http://h/d> hydra:totalItems \"1\" <g:1>",
         'C' => "<http://h/d> hydra:totalItems \"2\" <g:1>",
         'k' => "<http://h/d> void:triples \"7\" <g:1>",
         'l' => "<http://h/d> hydra:totalItems \"10000000000000000000\" <g:1>",
         'i' => "<http://h/d> hydra:totalItems <u:one> <g:1>",
+        'z' => "<http://h/d> hydra:totalItems \"\" <g:1>",
+        'Z' => "<http://h/d> hydra:totalItems \"1e3\" <g:1>",
         '9' => "<http://h/d> hydra:totalItems \"99\"",
+        // The form: with its mappings, without any, and with one text twice.
         'f' => FORM,
-        'm' => "_:f hydra:template \"http://h/d{?s,p,o}\" <g:1>",
-        'M' => "_:f hydra:template \"http://h/d{?s,p}\" <g:1>",
-        'F' => "_:f hydra:template \"http://e/d{?s,p,o}\" <g:1>",
+        'S' => SAME_TEXTS,
+        'g' => "<d:s> hydra:search _:f <g:1>",
         'r' => "_:f hydra:variableRepresentation hydra:ExplicitRepresentation <g:1>",
         'R' => "_:f hydra:variableRepresentation hydra:BasicRepresentation <g:1>",
         'V' => "_:o hydra:variable \"object\" <g:1>",
+        // Its template: whole, without a name, of another authority, and none.
+        'm' => "_:f hydra:template \"http://h/d{?s,p,o}\" <g:1>",
+        'M' => "_:f hydra:template \"http://h/d{?s,p}\" <g:1>",
+        'F' => "_:f hydra:template \"http://e/d{?s,p,o}\" <g:1>",
+        'T' => "_:f hydra:template \"http://h/d{?s,p,o\" <g:1>",
+        // The next page, another, one of another authority, and a literal.
         'n' => "<http://h/d> hydra:next <http://h/d?page=2> <g:1>",
         'N' => "<http://h/d> hydra:next <http://h/d?page=3> <g:1>",
         'e' => "<http://h/d> hydra:next <http://e/d?page=2> <g:1>",
+        'L' => "<http://h/d> hydra:next \"http://h/d?page=2\" <g:1>",
+        // Data, data that hold a blank node, and what is no line.
         'd' => "<u:b> <u:p> \"x\";<u:a> <u:p> <u:o>;<u:b> <u:p> \"x\"",
         'b' => "<u:b> <u:p> _:b",
         _ => "<u:a>",
@@ -105,22 +123,37 @@ fn name_of(page: &Result<Page, PageFault>) -> &'static str {
     }
 }
 
-/// Bodies by the letters of their lines, and what comes of them: each fault alone, and each with a later one.
-const BODIES: &str = "tcfmd page;tcfmrnd page;tkfm page;tvwcfm page;tckfm page;
-x Text;tcfmdx Text;bx Text;cfm NoTopic;cfmb NoTopic;vwcfm NoTopic;tfm NoCount;t NoCount;tnNfm NoCount;tfm9 NoCount;
-tcCfm CountText;tlfm CountText;tifm CountText;tkifm CountText;tcC CountText;tCcnN CountText;
-tc NoForm;tcf NoForm;tcm NoForm;tcfmM NoForm;tcfmR NoForm;tcfmV NoForm;tcnN NoForm;
-tcfM BadTemplate;tcfMnN BadTemplate;tcfMe BadTemplate;tcfmnN TwoNext;tcfmneb TwoNext;tcfFnN TwoNext;
-tcfme ForeignLink;tcfF ForeignLink;tcfFn ForeignLink;tcfmeb ForeignLink;tcfmb BlankData;tcfmdnb BlankData";
+/// Bodies by the letters of their lines: pages, and each fault alone.
+const ALONE: &str = "tcfmd page;tcfmrnd page;tkfm page;tvwcfm page;tckfm page;
+x Text;tcfmdx Text;bx Text;cfm NoTopic;vwcfm NoTopic;Dcfm NoTopic;Bcfm NoTopic;tfm NoCount;tfm9 NoCount;vcfm NoCount;
+tcCfm CountText;tlfm CountText;tifm CountText;tkifm CountText;tzfm CountText;tZfm CountText;
+tc NoForm;tcf NoForm;tcm NoForm;tcgm NoForm;tcSm NoForm;tcfmM NoForm;tcfmR NoForm;tcfmV NoForm;
+tcfM BadTemplate;tcfT BadTemplate;tcfmnN TwoNext;tcfme ForeignLink;tcfmL ForeignLink;tcfF ForeignLink;tcfFn ForeignLink;
+tcfmb BlankData";
+
+/// Each pair of faults that can stand together, and a body that has these two and no other. The first is told.
+const PAIRS: &str = "cfmb NoTopic BlankData;
+t NoCount NoForm;tfM NoCount BadTemplate;tfmnN NoCount TwoNext;tfme NoCount ForeignLink;tfF NoCount ForeignLink;tfmb NoCount BlankData;
+tcC CountText NoForm;tcCfM CountText BadTemplate;tcCfmnN CountText TwoNext;tcCfme CountText ForeignLink;tcCfF CountText ForeignLink;tcCfmb CountText BlankData;
+tcnN NoForm TwoNext;tce NoForm ForeignLink;tcb NoForm BlankData;
+tcfMnN BadTemplate TwoNext;tcfMe BadTemplate ForeignLink;tcfMb BadTemplate BlankData;
+tcfFnN TwoNext ForeignLink;tcfmne TwoNext ForeignLink;tcfmnNb TwoNext BlankData;tcfmeb ForeignLink BlankData;tcfFb ForeignLink BlankData";
+
+/// Bodies that have three faults or more.
+const MORE: &str = "tcCcnN CountText;tcfmneb TwoNext;tnNb NoCount";
 
 #[test]
 fn the_first_fault_is_told(rt: HostRuntime) -> Result<(), Fail> {
     let alloc = rt.alloc();
-    for row in BODIES.split(';') {
-        let (letters, wanted) = row.trim().split_once(' ').ok_or("a row has two words")?;
-        let text = body_of(alloc, letters)?;
-        let page = page_of(alloc, text.as_str())?;
-        assert_eq!(rt; name_of(&page), wanted, "{row}");
+    for table in [ALONE, PAIRS, MORE] {
+        for row in table.split(';') {
+            let mut words = row.trim().split(' ');
+            let letters = words.next().ok_or("a row has letters")?;
+            let wanted = words.next().ok_or("a row has a fault")?;
+            let text = body_of(alloc, letters)?;
+            let page = page_of(alloc, text.as_str())?;
+            assert_eq!(rt; name_of(&page), wanted, "{row}");
+        }
     }
     Ok(())
 }

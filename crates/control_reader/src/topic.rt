@@ -1,96 +1,106 @@
 // What a page is about.
-ghost use Rattle.std.specs.Prelude.{ℕ, ◌≡◌, List, [], MatchOption};
-ghost use Rattle.std.specs.List.{Contains, list_any, filter_map};
-ghost use Rattle.std.specs.Option.{option_copied};
+ghost use Rattle.std.specs.Prelude.{ℕ, ◌≡◌, true, false, List, [], MatchOption, IfOk, option_map};
+ghost use Rattle.std.specs.List.{Contains, list_any};
 ghost use Rattle.rdf_terms.specs.declared.term.Term.TheVariants as terms;
+ghost use Rattle.rdf_terms.specs.declared.term.Quad.{Quad};
 ghost use Rattle.control_reader.specs.Vocabulary.{primary_topic};
 ghost use Rattle.control_reader.specs.Controls.{IsTopic, HasNoTopic};
-ghost use Rattle.control_reader.specs.Parts.{topic_of, is_some_other, is_some_same};
+ghost use Rattle.control_reader.specs.Parts.{about, abouts, about_of, abouts_of, topics_in, has_same_topic, has_other_topic};
 
 use rdf_terms::{Quad, Term};
+use std::alloc::Global;
+use tpf_base::OutOfMemory;
 
-/// The IRI that a quad says its named graph is about, if it says so.
-fn topic_of<'a>(quad: &'a Quad, primary: &Term) -> Option<&'a Term>
+/// A named graph, and the IRI that it says it is about.
+#[derive(Clone, Copy)]
+pub(crate) struct GraphTopic<'a> {
+    pub(crate) graph: &'a Term,
+    pub(crate) topic: &'a Term,
+}
+
+/// What a quad says its named graph is about, if it says so.
+fn topic_in<'a>(quad: &'a Quad, primary: &Term) -> Option<GraphTopic<'a>>
     requires { primary.now ≡ primary_topic }
-    ensures { option_copied result ≡ topic_of quad.entry.now }
+    ensures { option_map about result ≡ about_of quad.entry.now }
 {
-    if quad.graph.is_none() || !quad.triple.predicate.same(primary) {
+    if !quad.triple.predicate.same(primary) {
         return None;
     }
-    match &quad.triple.object {
-        Term::Iri(_) => Some(&quad.triple.object),
+    match (&quad.graph, &quad.triple.object) {
+        (Some(graph), Term::Iri(_)) => Some(GraphTopic {
+            graph,
+            topic: &quad.triple.object,
+        }),
         _ => None,
     }
 }
 
-fn is_other_topic(quad: &Quad, primary: &Term, topic: &Term) -> bool
+/// What the quads say their named graphs are about, in the order of the quads.
+pub(crate) fn read_topics<'a>(
+    alloc: Global,
+    quads: &'a [Quad],
+    primary: &Term,
+) -> Result<Vec<GraphTopic<'a>>, OutOfMemory>
     requires { primary.now ≡ primary_topic }
-    ensures { result ≡ is_some_other topic.now (topic_of quad.now) }
+    ensures { IfOk result (λ v. abouts v.items ≡ abouts_of quads.entry.now) }
 {
-    match topic_of(quad, primary) {
-        None => false,
-        Some(other) => !other.same(topic),
-    }
-}
-
-fn is_this_topic(quad: &Quad, primary: &Term, topic: &Term) -> bool
-    requires { primary.now ≡ primary_topic }
-    ensures { result ≡ is_some_same topic.now (topic_of quad.now) }
-{
-    match topic_of(quad, primary) {
-        None => false,
-        Some(other) => other.same(topic),
-    }
-}
-
-fn has_topic(quads: &[Quad], primary: &Term, topic: &Term) -> bool
-    requires { primary.now ≡ primary_topic }
-    ensures { result ≡ list_any (λ q. is_some_same topic.now (topic_of q)) quads.now }
-{
+    let mut topics = Vec::new(alloc);
     for quad in quads {
-        if is_this_topic(quad, primary, topic) {
-            return true;
+        if let Some(found) = topic_in(quad, primary) {
+            topics.push(found)?;
         }
     }
-    false
+    Ok(topics)
 }
 
-fn has_other_topic(quads: &[Quad], primary: &Term, topic: &Term) -> bool
-    requires { primary.now ≡ primary_topic }
-    ensures { result ≡ list_any (λ q. is_some_other topic.now (topic_of q)) quads.now }
+/// The topic that is this term, if a named graph is about it.
+fn same_topic<'a>(topics: &[GraphTopic<'a>], own: &Term) -> Option<&'a Term>
+    ensures { MatchOption result (list_any (has_same_topic own.now) topics.entry.now ≡ false)
+        (λ t. (t.now ≡ own.now) × (list_any (has_same_topic own.now) topics.entry.now ≡ true)) }
 {
-    for quad in quads {
-        if is_other_topic(quad, primary, topic) {
-            return true;
-        }
-    }
-    false
-}
-
-fn first_topic<'a>(quads: &'a [Quad], primary: &Term) -> Option<&'a Term>
-    requires { primary.now ≡ primary_topic }
-    ensures { MatchOption result (filter_map topic_of quads.entry.now ≡ []) (λ t. Contains (filter_map topic_of quads.entry.now) t.now) }
-{
-    for quad in quads {
-        if let Some(topic) = topic_of(quad, primary) {
-            return Some(topic);
+    for found in topics {
+        if found.topic.same(own) {
+            return Some(found.topic);
         }
     }
     None
 }
 
-/// The topic of a page under its own address, if there is one.
-pub(crate) fn find_topic<'a>(quads: &'a [Quad], primary: &Term, own: &'a Term) -> Option<&'a Term>
-    requires { primary.now ≡ primary_topic }
-    ensures { (text : List ℕ) → own.entry.now ≡ terms.Iri text →
-        MatchOption result (HasNoTopic quads.entry.now text) (λ t. (topic : List ℕ) × (t.now ≡ terms.Iri topic) × IsTopic quads.entry.now text topic) }
+fn has_other_topic(topics: &[GraphTopic], topic: &Term) -> bool
+    ensures { result ≡ list_any (has_other_topic topic.now) topics.now }
 {
-    if has_topic(quads, primary, own) {
-        return Some(own);
+    topics.iter().any(|found| !found.topic.same(topic))
+}
+
+/// What the first named graph is about.
+fn first_topic<'a>(topics: &[GraphTopic<'a>]) -> Option<&'a Term>
+    ensures { MatchOption result (topics_in topics.entry.now ≡ []) (λ t. Contains (topics_in topics.entry.now) t.now) }
+{
+    match topics {
+        [] => None,
+        [first, ..] => Some(first.topic),
     }
-    let first = first_topic(quads, primary)?;
-    if has_other_topic(quads, primary, first) {
+}
+
+/// The only topic, if there is one.
+fn only_topic<'a>(topics: &[GraphTopic<'a>]) -> Option<&'a Term>
+    ensures { (quads : List Quad) (text : List ℕ) → abouts topics.entry.now ≡ abouts_of quads → list_any (has_same_topic (terms.Iri text)) topics.entry.now ≡ false →
+        MatchOption result (HasNoTopic quads text) (λ t. (topic : List ℕ) × (t.now ≡ terms.Iri topic) × IsTopic quads text topic) }
+{
+    let first = first_topic(topics)?;
+    if has_other_topic(topics, first) {
         return None;
     }
     Some(first)
+}
+
+/// The topic of a page under its own address, if there is one.
+pub(crate) fn find_topic<'a>(topics: &[GraphTopic<'a>], own: &Term) -> Option<&'a Term>
+    ensures { (quads : List Quad) (text : List ℕ) → abouts topics.entry.now ≡ abouts_of quads → own.now ≡ terms.Iri text →
+        MatchOption result (HasNoTopic quads text) (λ t. (topic : List ℕ) × (t.now ≡ terms.Iri topic) × IsTopic quads text topic) }
+{
+    match same_topic(topics, own) {
+        Some(topic) => Some(topic),
+        None => only_topic(topics),
+    }
 }

@@ -2,9 +2,9 @@
 ghost use Rattle.std.specs.Prelude.{◌≡◌, IfOk};
 ghost use Rattle.template_fill.specs.Forms.{HasNoBlank};
 
-use control_reader::read_page;
+use control_reader::{PageFault, read_page};
 use hydra_controls::{Config, metadata};
-use nquads_text::write_quad;
+use nquads_text::{read_all, write_quad};
 use rdf_terms::{Quad, Slot, Slots};
 use std::alloc::Global;
 use std::process::Abort;
@@ -121,5 +121,106 @@ fn controls_are_read_back(rt: HostRuntime) -> Result<(), Fail> {
     assert_eq!(rt; page.form.subject.as_str(), "subject");
     assert_eq!(rt; page.form.predicate.as_str(), "predicate");
     assert_eq!(rt; page.form.object.as_str(), "object");
+    Ok(())
+}
+
+/// Data that say of a page's address how many triples there are.
+const CLAIM: &[u8] =
+    b"<http://localhost/data> <http://www.w3.org/ns/hydra/core#totalItems> \"99\"^^<http://www.w3.org/2001/XMLSchema#integer> .\n";
+
+#[test]
+fn a_triple_of_the_data_gives_no_count(rt: HostRuntime) -> Result<(), Fail> {
+    let config = config(&rt, rt.alloc(), "http://localhost/data", 100)?;
+    let address = WebAddress::read(rt.alloc(), "http://localhost/data")?;
+    let data = read_all(rt.alloc(), CLAIM, 4194304)?;
+    let controls = metadata(rt.alloc(), &config, &free(), 1, 1)?;
+    let mut body = text_of(rt.alloc(), data.as_slice())?;
+    assert_eq!(rt; body.as_slice(), CLAIM);
+    body.extend_from_slice(text_of(rt.alloc(), controls.as_slice())?.as_slice())?;
+    let page = match read_page(rt.alloc(), body.as_slice(), &address) {
+        Ok(page) => page,
+        Err(_) => return Err(Fail::new("no page")),
+    };
+    assert_eq!(rt; page.count, 1);
+    assert!(rt; page.next.is_none());
+    let ([triple], [claim]) = (page.triples.as_slice(), data.as_slice()) else {
+        return Err(Fail::new("no single triple"));
+    };
+    assert!(rt; triple.same(&claim.triple));
+    Ok(())
+}
+
+/// How many nodes of hydra:search stand beside the form of a large page: each has four quads.
+const NODES: u32 = 25000;
+
+fn push_line(out: &mut String, subject: &str, word: &str, object: &str) -> Result<(), OutOfMemory> {
+    out.push_str(subject)?;
+    out.push_str(" <http://www.w3.org/ns/hydra/core#")?;
+    out.push_str(word)?;
+    out.push_str("> ")?;
+    out.push_str(object)?;
+    out.push_str(" <http://localhost/data#metadata> .\n")?;
+    Ok(())
+}
+
+/// A node with a template and a mapping that all nodes share, which is no form: its mapping says one
+/// place of three.
+fn push_node(alloc: Global, out: &mut String, number: u32) -> Result<(), Fail> {
+    let node = format!(in alloc; "<u:{number}>")?;
+    let text = format!(in alloc; "\"z\"@a-{number}")?;
+    push_line(
+        out,
+        "<http://localhost/data#dataset>",
+        "search",
+        node.as_str(),
+    )?;
+    push_line(
+        out,
+        node.as_str(),
+        "template",
+        "\"http://localhost/data{?z}\"",
+    )?;
+    push_line(out, node.as_str(), "mapping", "_:z")?;
+    push_line(out, "_:z", "variable", text.as_str())?;
+    Ok(())
+}
+
+/// The lines of so many nodes.
+fn nodes_text(alloc: Global, nodes: u32) -> Result<String, Fail> {
+    let mut out = String::new(alloc);
+    let subject = "<http://www.w3.org/1999/02/22-rdf-syntax-ns#subject>";
+    push_line(&mut out, "_:z", "property", subject)?;
+    for number in 0..nodes {
+        push_node(alloc, &mut out, number)?;
+    }
+    Ok(out)
+}
+
+#[test]
+fn a_hundred_thousand_controls_without_a_form_are_refused(rt: HostRuntime) -> Result<(), Fail> {
+    let nodes = nodes_text(rt.alloc(), NODES)?;
+    let address = WebAddress::read(rt.alloc(), "http://localhost/data")?;
+    let mut body = Vec::new(rt.alloc());
+    body.extend_from_slice(FIRST)?;
+    body.extend_from_slice(SIXTEENTH)?;
+    body.extend_from_slice(nodes.as_bytes())?;
+    let refused = read_page(rt.alloc(), body.as_slice(), &address).err();
+    assert_eq!(rt; refused, Some(PageFault::NoForm));
+    Ok(())
+}
+
+#[test]
+fn a_form_among_a_hundred_thousand_controls_is_read(rt: HostRuntime) -> Result<(), Fail> {
+    let config = config(&rt, rt.alloc(), "http://localhost/data", 100)?;
+    let address = WebAddress::read(rt.alloc(), "http://localhost/data")?;
+    let controls = metadata(rt.alloc(), &config, &free(), 1, 0)?;
+    let mut body = text_of(rt.alloc(), controls.as_slice())?;
+    body.extend_from_slice(nodes_text(rt.alloc(), NODES)?.as_bytes())?;
+    let page = match read_page(rt.alloc(), body.as_slice(), &address) {
+        Ok(page) => page,
+        Err(_) => return Err(Fail::new("no page")),
+    };
+    assert_eq!(rt; page.count, 0);
+    assert_eq!(rt; page.form.subject.as_str(), "subject");
     Ok(())
 }
