@@ -19,7 +19,7 @@ use Rattle.template_fill.specs.Forms.{HasNoBlank}
 use Rattle.template_fill.specs.Bodies.{page_body}
 use Rattle.template_fill.specs.Answers.{Answer, Question, Served, answer_if, answer_to, asked_by, is_read, page_answer, parameters, question_of, refusal}
 use Rattle.tpf_server.specs.declared.parameters.Parameters.{Parameters}
-use Rattle.tpf_server.specs.declared.status.Status.TheVariants.{BadRequest, NotFound, NotAllowed}
+use Rattle.tpf_server.specs.declared.status.Status.TheVariants.{BadRequest, NotFound, MethodNotAllowed}
 use Rattle.tpf_server.specs.declared.asked.Asking.{Asking}
 use Rattle.tpf_server.specs.declared.asked.Asking.TheVariants.{Refused, Page}
 use Rattle.tpf_server.specs.Statuses.{code}

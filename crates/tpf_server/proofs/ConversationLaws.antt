@@ -1,6 +1,6 @@
 -- What each call does to a conversation.
 use Rattle.std.proofs.Common.{◌≡◌, ℕ, zero, suc, ◌+◌, ◌-◌, ◌<◌, ◌≤◌, ◌⊎◌, Bool, true, false, List, [], ◌∷◌, ◌++◌, length, take, drop, Option, Some, None, refl, ap, ap₂, sym, subst, ◌∙◌, inl, inr, arith, append_assoc, append-nil, length-append, length-drop, if◌then◌else◌}
-use Rattle.std.specs.List.{concat, flat_map}
+use Rattle.std.specs.List.{AllByRecursion, concat, flat_map}
 use Rattle.std.proofs.lemmas.List.{take-append-drop}
 use Rattle.tpf_base.specs.HttpHeads.{Incomplete, next_request, blank_length, least_below, ends_empty}
 use Rattle.http_wire.specs.Requests.{Held, fed, fed_to, holding}
@@ -216,6 +216,21 @@ makes_answer server old new makes fed taken answers = record {
   unread = makes.unread ∙ answers.unread;
   closing = makes.closing ∙ answers.closing;
 }
+
+-- pieces that are at most so long, each made where fewer than 65536 bytes were pending, leave at most 65535 bytes and one piece
+bounded_pieces : (longest pending : ℕ) (pieces later : List (List ℕ)) → AllByRecursion (λ (piece : List ℕ). length piece ≤ longest) (pieces ++ later) → IsSmall pending pieces → pending ≤ 65535 + longest → pending + length (concat pieces) ≤ 65535 + longest
+bounded_pieces longest pending [] later short small few = omega (arith, few)
+bounded_pieces longest pending (piece ∷ pieces) later short small few =
+    omega (arith, bounded_pieces longest (pending + length piece) pieces later short.1 small.1 (omega (arith, small.0, short.0)), length-append piece (concat pieces))
+
+pub makes_bounded : (server : Serving) (old new : Conversation) → Makes server old new → (longest : ℕ) → AllByRecursion (λ (piece : List ℕ). length piece ≤ longest) (owed_pieces server old) → length old.pending ≤ 65535 + longest → length new.pending ≤ 65535 + longest
+makes_bounded server old new makes longest short few =
+    omega (
+      arith,
+      ap (λ (l : List ℕ). length l) makes.pending,
+      length-append old.pending (concat makes.pieces),
+      bounded_pieces longest (length old.pending) makes.pieces (owed_pieces server new) (subst (AllByRecursion (λ (piece : List ℕ). length piece ≤ longest)) makes.owed short) makes.small few,
+    )
 
 -- ---- bytes are taken
 

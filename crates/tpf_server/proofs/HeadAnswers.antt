@@ -17,7 +17,7 @@ use Rattle.tpf_server.specs.declared.asked.Asking.{Asking}
 use Rattle.tpf_server.specs.declared.asked.Asking.TheVariants as asks
 use Rattle.tpf_server.specs.declared.asked.Queued.{Queued}
 use Rattle.tpf_server.specs.declared.status.Status.{Status}
-use Rattle.tpf_server.specs.declared.status.Status.TheVariants.{BadRequest, TooLarge}
+use Rattle.tpf_server.specs.declared.status.Status.TheVariants.{BadRequest, HeaderFieldsTooLarge}
 use Rattle.tpf_server.specs.Statuses.{code}
 use Rattle.tpf_server.specs.Serving.{Serving, data_of}
 use Rattle.tpf_server.specs.Asked.{IsAsked, answer_at, answer_for, answer_for_target, answer_of, is_head, refused_with}

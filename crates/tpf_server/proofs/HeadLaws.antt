@@ -6,24 +6,24 @@ use Rattle.http.specs.StatusCode.{code_digits, reason_phrase}
 use Rattle.tpf_base.specs.HttpText.{answer_head}
 use Rattle.template_fill.specs.Answers.{answer_fields, head_text, phrase}
 use Rattle.tpf_server.specs.declared.status.Status.{Status}
-use Rattle.tpf_server.specs.declared.status.Status.TheVariants.{Found, BadRequest, NotFound, NotAllowed, TooLarge}
+use Rattle.tpf_server.specs.declared.status.Status.TheVariants.{Success, BadRequest, NotFound, MethodNotAllowed, HeaderFieldsTooLarge}
 use Rattle.tpf_server.specs.Statuses.{code}
 
 pub digits_are : (status : Status) → code_digits (code status) ≡ decimal (code status)
 unfolding digits
-digits_are Found = refl
+digits_are Success = refl
 digits_are BadRequest = refl
 digits_are NotFound = refl
-digits_are NotAllowed = refl
-digits_are TooLarge = refl
+digits_are MethodNotAllowed = refl
+digits_are HeaderFieldsTooLarge = refl
 
 pub phrase_is : (status : Status) → unwrap_or (reason_phrase (code status)) [] ≡ phrase (code status)
 unfolding phrase
-phrase_is Found = refl
+phrase_is Success = refl
 phrase_is BadRequest = refl
 phrase_is NotFound = refl
-phrase_is NotAllowed = refl
-phrase_is TooLarge = refl
+phrase_is MethodNotAllowed = refl
+phrase_is HeaderFieldsTooLarge = refl
 
 pub head_is : (status : Status) (n body_length : ℕ) (closes : Bool) (fields : List (List ℕ × List ℕ)) → n ≡ code status → fields ≡ answer_fields (code status) body_length closes
     → answer_head (code_digits n) (unwrap_or (reason_phrase n) []) fields ≡ head_text (code status) body_length closes

@@ -13,7 +13,7 @@ use Rattle.template_fill.specs.Metadata.{Config, page_metadata}
 use Rattle.template_fill.specs.Bodies.{page_body}
 use Rattle.template_fill.specs.Answers.{Answer, page_answer, refusal}
 use Rattle.tpf_server.specs.declared.status.Status.{Status}
-use Rattle.tpf_server.specs.declared.status.Status.TheVariants.{Found, NotFound}
+use Rattle.tpf_server.specs.declared.status.Status.TheVariants.{Success, NotFound}
 use Rattle.tpf_server.specs.declared.asked.Asking.{Asking}
 use Rattle.tpf_server.specs.declared.asked.Asking.TheVariants.{Refused, Page}
 use Rattle.tpf_server.specs.declared.pages.Opened.{Opened}
@@ -35,7 +35,7 @@ pub opens_page : (server : Serving) (slots : Slots) (page : ℕ) (view : PageVie
     → quads ≡ page_metadata config slots page view.count 1 → slice ≡ quads
     → a ≡ length (concat (triple_lines (listed table range))) → b ≡ length (concat (quad_lines slice))
     → p ≡ record { triples = range; quads = quads }
-    → OpensPage server slots page (record { status = Found; length = a + b; body = rests.Page p })
+    → OpensPage server slots page (record { status = Success; length = a + b; body = rests.Page p })
 unfolding rest_pieces
 opens_page server slots page view table config range quads slice p a b of_table of_config is within lists meta whole of_triples of_quads parts =
     let same = subst (λ (t : Stored). listed t range ≡ shown t view) of_table lists ∙ is.triples in

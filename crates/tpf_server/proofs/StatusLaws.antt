@@ -3,13 +3,13 @@ use Rattle.std.proofs.Common.{◌≡◌, refl}
 use Rattle.std.specs.Fmt.{digits}
 use Rattle.template_fill.specs.Answers.{phrase, refusal}
 use Rattle.tpf_server.specs.declared.status.Status.{Status}
-use Rattle.tpf_server.specs.declared.status.Status.TheVariants.{Found, BadRequest, NotFound, NotAllowed, TooLarge}
+use Rattle.tpf_server.specs.declared.status.Status.TheVariants.{Success, BadRequest, NotFound, MethodNotAllowed, HeaderFieldsTooLarge}
 use Rattle.tpf_server.specs.Statuses.{body_text, code}
 
 pub body_is : (status : Status) → body_text status ≡ (refusal (code status)).body
 unfolding body_text phrase digits
-body_is Found = refl
+body_is Success = refl
 body_is BadRequest = refl
 body_is NotFound = refl
-body_is NotAllowed = refl
-body_is TooLarge = refl
+body_is MethodNotAllowed = refl
+body_is HeaderFieldsTooLarge = refl

@@ -6,7 +6,7 @@ use Rattle.template_fill.specs.Answers.{Answer, Question, answer_if, page_answer
 use Rattle.http_wire.specs.declared.message.Asked.{Asked}
 use Rattle.http_wire.specs.declared.message.Asked.TheVariants.{Get, Head, Other}
 use Rattle.tpf_server.specs.declared.status.Status.{Status}
-use Rattle.tpf_server.specs.declared.status.Status.TheVariants.{BadRequest, TooLarge}
+use Rattle.tpf_server.specs.declared.status.Status.TheVariants.{BadRequest, HeaderFieldsTooLarge}
 use Rattle.tpf_server.specs.declared.asked.Asking.{Asking}
 use Rattle.tpf_server.specs.declared.asked.Asking.TheVariants.{Refused, Page}
 use Rattle.tpf_server.specs.declared.asked.Queued.{Queued}
@@ -41,7 +41,7 @@ is_head Other = false
 
 -- the status with which a head is refused
 abbrev pub refused_with : ℕ → Status
-refused_with status = if status == 431 then TooLarge else BadRequest
+refused_with status = if status == 431 then HeaderFieldsTooLarge else BadRequest
 
 -- the page has a number above 0, and slots without a blank node
 abbrev pub IsAsked : Asking → Type 0

@@ -132,7 +132,7 @@ fn asked_for(
     ensures answer { IfOk result (λ asking. answer_of server.now asking ≡ answer_for server.now method target.now) }
 {
     match method {
-        Asked::Other => Ok(Asking::Refused(Status::NotAllowed)),
+        Asked::Other => Ok(Asking::Refused(Status::MethodNotAllowed)),
         Asked::Get => asked_by_target(alloc, server, target),
         Asked::Head => asked_by_target(alloc, server, target),
     }
@@ -158,7 +158,7 @@ pub fn refused(status: u16) -> Queued
     ensures { result ≡ record { asking = Asking.Refused (refused_with status); without_body = false; closes = true } }
 {
     let status = if status == 431 {
-        Status::TooLarge
+        Status::HeaderFieldsTooLarge
     } else {
         Status::BadRequest
     };

@@ -1,9 +1,10 @@
 // One connection: from the bytes that come to the bytes of the response.
-ghost use Rattle.std.specs.Prelude.{ℕ, ◌≡◌, ◌↔◌, ◌≤◌, ◌++◌, [], List, true, false, length, take, drop, IsTrue, IsErr, OnOk, OnErr};
+ghost use Rattle.std.specs.Prelude.{ℕ, ◌≡◌, ◌↔◌, ◌≤◌, ◌+◌, ◌++◌, [], List, true, false, length, take, drop, IsTrue, IsErr, OnOk, OnErr};
+ghost use Rattle.std.specs.List.{AllByRecursion};
 ghost use Rattle.nquads_text.specs.Begins.{Begins};
 ghost use Rattle.http_wire.specs.Requests.{holding};
 ghost use Rattle.tpf_server.specs.Serving.{Serving};
-ghost use Rattle.tpf_server.specs.Conversation.{Answers, Conversation, Feeds, Makes, Suits, opening, owed_text, starved_at};
+ghost use Rattle.tpf_server.specs.Conversation.{Answers, Conversation, Feeds, Makes, Suits, opening, owed_pieces, owed_text, starved_at};
 
 use crate::Server;
 use crate::owed::{Debt, FULL};
@@ -148,7 +149,9 @@ impl Connection {
         ensures closing { OnErr result (self.new.closing ≡ self.old.closing) }
     {
         self.debt
-            .fill(self.alloc, server, self.given, &mut self.bytes)
+            .fill(self.alloc, server, self.given, &mut self.bytes)?;
+        self.debt.give_back(self.alloc);
+        Ok(())
     }
 
     fn make(&mut self, server: &Server) -> Result<(), OutOfMemory>
@@ -171,7 +174,7 @@ impl Connection {
 
     /// Makes further bytes of the response, a head or a line of a body at a time, until at least 65536
     /// are pending or nothing is owed. Where as many are pending it changes nothing, so never more are
-    /// pending than 65535 and one head or line.
+    /// pending than 65535 and one head or line (`bounded`).
     ///
     /// `OutOfMemory` comes for want of memory alone. The pending bytes are then as before, all else is
     /// dropped, and each later `feed` and `fill` answers `OutOfMemory`.
@@ -180,6 +183,7 @@ impl Connection {
         ensures ok { OnOk result (Makes server.now self.old self.new) }
         ensures full { 65536 ≤ length self.old.pending → OnOk result (self.new ≡ self.old) }
         ensures answers { OnOk result ((fed taken : List ℕ) → Answers server.now fed taken self.old → Answers server.now fed taken self.new) }
+        ensures bounded { OnOk result ((longest : ℕ) → AllByRecursion (λ piece. length piece ≤ longest) (owed_pieces server.now self.old) → length self.old.pending ≤ 65535 + longest → length self.new.pending ≤ 65535 + longest) }
         ensures suits { Suits server.now self.new }
         ensures err { OnErr result (self.new ≡ starved_at self.old) }
         ensures starved { self.old.starved ≡ true → IsErr result }
@@ -193,7 +197,7 @@ impl Connection {
     }
 
     /// Whether bytes of the response are still to be made: false exactly where what was taken and what
-    /// is pending are the whole response to the bytes that were fed. Behind want of memory it is true.
+    /// is pending are the whole response to the bytes that were fed. After want of memory it is true.
     pub fn owes(&self) -> bool
         ensures owes { (server : Serving) → Suits server self.now → self.now.starved ≡ false → (IsTrue result ↔ (owed_text server self.now ≡ [] → ⊥)) }
         ensures starved { self.now.starved ≡ true → IsTrue result }

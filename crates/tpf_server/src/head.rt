@@ -14,7 +14,7 @@ fn media_type(status: Status) -> &'static str
     ensures { result.now ≡ media_type (code status) }
 {
     match status {
-        Status::Found => "application/n-quads",
+        Status::Success => "application/n-quads",
         _ => "text/plain",
     }
 }
@@ -70,7 +70,7 @@ fn fields(
     push_if(
         &mut fields,
         alloc,
-        status == Status::NotAllowed,
+        status == Status::MethodNotAllowed,
         "Allow",
         "GET, HEAD",
     )?;

@@ -19,7 +19,7 @@ use std::alloc::Global;
 use std::collections::VecDeque;
 use tpf_base::OutOfMemory;
 
-/// So many bytes are pending, or more, where something is owed behind `fill`.
+/// So many bytes are pending, or more, where something is still owed after `fill`.
 pub const FULL: usize = 65536;
 
 /// What is owed on a connection.
@@ -62,6 +62,16 @@ impl Debt {
         Debt {
             rest: Rest::Nothing,
             waiting: VecDeque::new(alloc),
+        }
+    }
+
+    /// Gives back the memory of the queue where no answer waits, so that many requests at once leave nothing behind.
+    pub fn give_back(&mut self, alloc: Global)
+        ensures rest { self.new.rest ≡ self.old.rest }
+        ensures waiting { self.new.waiting.items ≡ self.old.waiting.items }
+    {
+        if self.waiting.is_empty() {
+            self.waiting = VecDeque::new(alloc);
         }
     }
 

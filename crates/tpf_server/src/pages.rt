@@ -92,7 +92,7 @@ fn open_page(
     let metadata = metadata(alloc, config, slots, number, view.count)?;
     let length = triples_length(table, &triples) + quads_length(metadata.as_slice());
     Ok(Opened {
-        status: Status::Found,
+        status: Status::Success,
         length,
         body: Rest::Page(PageRest::new(triples, metadata)),
     })

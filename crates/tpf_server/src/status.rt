@@ -8,15 +8,15 @@ use http::StatusCode;
 #[derive(Clone, Copy, PartialEq, Eq, Debug)]
 pub enum Status {
     /// 200
-    Found,
+    Success,
     /// 400
     BadRequest,
     /// 404
     NotFound,
     /// 405
-    NotAllowed,
+    MethodNotAllowed,
     /// 431
-    TooLarge,
+    HeaderFieldsTooLarge,
 }
 
 impl Status {
@@ -24,11 +24,11 @@ impl Status {
         ensures { result ≡ code self }
     {
         match self {
-            Status::Found => StatusCode::OK,
+            Status::Success => StatusCode::OK,
             Status::BadRequest => StatusCode::BAD_REQUEST,
             Status::NotFound => StatusCode::NOT_FOUND,
-            Status::NotAllowed => StatusCode::METHOD_NOT_ALLOWED,
-            Status::TooLarge => StatusCode::REQUEST_HEADER_FIELDS_TOO_LARGE,
+            Status::MethodNotAllowed => StatusCode::METHOD_NOT_ALLOWED,
+            Status::HeaderFieldsTooLarge => StatusCode::REQUEST_HEADER_FIELDS_TOO_LARGE,
         }
     }
 
@@ -38,11 +38,11 @@ impl Status {
         ensures { result.now ≡ body_text self }
     {
         match self {
-            Status::Found => "200 OK\n",
+            Status::Success => "200 OK\n",
             Status::BadRequest => "400 Bad Request\n",
             Status::NotFound => "404 Not Found\n",
-            Status::NotAllowed => "405 Method Not Allowed\n",
-            Status::TooLarge => "431 Request Header Fields Too Large\n",
+            Status::MethodNotAllowed => "405 Method Not Allowed\n",
+            Status::HeaderFieldsTooLarge => "431 Request Header Fields Too Large\n",
         }
     }
 }
