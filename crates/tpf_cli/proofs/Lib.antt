@@ -1,3 +1,4 @@
+pub mod Columns
 pub mod Options
 pub mod Arguments
 pub mod Served

@@ -1,5 +1,5 @@
 -- Digits that follow make a number no smaller.
-use Rattle.std.proofs.Common.{ℕ, ◌+◌, ◌-◌, ◌*◌, ◌<◌, ◌≤◌, List, [], ◌∷◌, arith}
+use Rattle.std.proofs.Common.{ℕ, ◌+◌, ◌-◌, ◌*◌, ◌≤◌, List, [], ◌∷◌, arith}
 use Rattle.tpf_cli.specs.Words.{number_after}
 
 pub number_after_least : (n : ℕ) (digits : List ℕ) → n ≤ number_after n digits

@@ -1,16 +1,14 @@
 -- What the files hold decides how a run ends, where nothing fails.
-use Rattle.std.proofs.Common.{ℕ, ◌≡◌, ◌+◌, ◌<◌, ◌≤◌, ◌⊎◌, inl, inr, List, length, Option, Some, None, Result, Ok, Err, refl, sym, ◌∙◌, ap, subst, arith}
-use Rattle.std.specs.Ordering.{nat_cmp, ordering_reverse, is_eq}
+use Rattle.std.proofs.Common.{ℕ, ◌≡◌, ◌<◌, ◌≤◌, ◌⊎◌, inl, inr, List, length, Option, Some, None, Result, Ok, Err, refl, sym, ◌∙◌, ap, subst, arith}
+use Rattle.std.specs.Ordering.{ordering_reverse, is_eq}
 use Rattle.std.proofs.lemmas.Slice.Eq.{bytes_eq-Decides}
 use Rattle.std.proofs.lemmas.Map.Text.{is_eq-slice_cmp}
-use Rattle.std.specs.Cmp.{IsTotalOrder}
-use Rattle.std.specs.Cmp.Lexicographic.{slice_cmp, nat_list_cmp_total}
+use Rattle.std.specs.Cmp.Lexicographic.{nat_list_cmp_total}
 use Rattle.std.specs.declared.cmp.Ordering.{Ordering}
 use Rattle.std.specs.declared.cmp.Ordering.TheVariants.{Less, Equal, Greater}
 use Rattle.rdf_terms.specs.declared.term.Quad.{Quad}
 use Rattle.rdf_terms.specs.declared.term.Triple.{Triple}
 use Rattle.rdf_terms.specs.Order.{bytes_order}
-use Rattle.tpf_base.specs.Causes.{Rose}
 use Rattle.tpf_base.specs.Outside.{content_of}
 use Rattle.nquads_text.specs.Reads.{Reads, FirstFault}
 use Rattle.nquads_text.specs.declared.fault.Why.{Why}
@@ -26,7 +24,7 @@ use Rattle.pattern_parser.specs.Queries.{ReadsQuery, FaultAt}
 use Rattle.pattern_parser.specs.declared.fault.QueryWhy.{QueryWhy}
 use Rattle.pattern_parser.proofs.OneQuery.{query_apart, one_first}
 use Rattle.tpf_cli.specs.Words.{Command, local, make}
-use Rattle.tpf_cli.specs.Endings.{EndOfRun, done, usage, data_too_long, data_too_many, data_fault, genid_clash, query_fault, memory, sink, file, Files, IfTold, authority, HoldsData, IsTooLong, HasDataFault, HasClash, HasTooMany, AreFew, Serves, IsDataRead, HoldsQuery, HasQueryFault, Causes, Takes, CausesOf, TakesOf, IsOnlyEnd, OnlyEnds}
+use Rattle.tpf_cli.specs.Endings.{EndOfRun, done, usage, data_too_long, data_too_many, data_fault, genid_clash, query_fault, memory, sink, file, Files, authority, HoldsData, IsTooLong, HasDataFault, HasClash, HasTooMany, AreFew, Serves, IsDataRead, HoldsQuery, HasQueryFault, Causes, Takes, CausesOf, TakesOf, IsOnlyEnd, OnlyEnds}
 use Rattle.tpf_cli.proofs.Options.{some_same}
 
 same_bytes : (files : Files) (name a b : List ℕ) → content_of files name ≡ Some a → content_of files name ≡ Some b → a ≡ b

@@ -1,9 +1,8 @@
 -- All of a table is its triples.
-use Rattle.std.proofs.Common.{ℕ, zero, suc, ◌≡◌, ◌+◌, ◌-◌, ◌<◌, List, [], ◌∷◌, ◌++◌, length, map, take, drop, slice_index_or, refl, sym, ap, ◌∙◌, arith, add-one}
+use Rattle.std.proofs.Common.{ℕ, zero, suc, ◌≡◌, ◌+◌, ◌-◌, ◌<◌, List, [], ◌∷◌, ◌++◌, length, take, slice_index_or, ap, ◌∙◌, arith}
 use Rattle.std.proofs.lemmas.List.{length-map, take_all}
 use Rattle.rdf_terms.specs.declared.term.Triple.{Triple}
 use Rattle.triple_table.specs.Stored.{Stored, listed, triples_in, triples_by}
-use Rattle.triple_table.specs.Rows.{id_triple_of}
 use Rattle.triple_table.specs.declared.ids.Row.{Row}
 use Rattle.triple_table.specs.declared.ids.Order.TheVariants.{Spo}
 use Rattle.tpf_cli.specs.WholeTable.{all_of}

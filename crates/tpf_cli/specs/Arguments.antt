@@ -1,6 +1,6 @@
 -- What may stand after the name of each command.
 -- An option is --name and its value, as one word with = or as two; a flag is --name; the other words are the positionals, in their order. -- ends the options. No option is given twice, none is shortened, and there is none for help or the version.
-use Rattle.std.specs.Prelude.{ℕ, List, codes, Some, true}
+use Rattle.std.specs.Prelude.{codes, Some, true}
 use Rattle.clap.specs.Words.{App, Rule, Text, new_app, new_rule, with_rule}
 use Rattle.clap.specs.declared.builder.ArgAction.TheVariants.{Set, SetTrue}
 

@@ -1,10 +1,12 @@
 -- How a run ends: its cause, its exit status, the line on the standard error, and what the output took.
-use Rattle.std.specs.Prelude.{ℕ, ◌≡◌, ◌<◌, ◌≤◌, ◌⊎◌, ⊤, List, [], ◌∷◌, ◌++◌, length, replicate, Option, Some, None, codes, decimal}
+use Rattle.std.specs.Prelude.{ℕ, ◌≡◌, ◌<◌, ◌≤◌, ◌⊎◌, ⊤, List, [], ◌++◌, length, replicate, Option, Some, None, codes, decimal}
 use Rattle.std.specs.Io.KnownBytes.{Appends}
 use Rattle.std.specs.List.Sorted.{IsPermutation}
 use Rattle.tpf_base.specs.Causes.{Rose}
 use Rattle.tpf_base.specs.Outside.{content_of}
 use Rattle.tpf_base.specs.Wrote.{AppendsPrefix}
+use Rattle.tpf_base.specs.declared.shelf.FileFault.{FileFault}
+use Rattle.tpf_base.specs.declared.shelf.FileFault.TheVariants as unreadable
 use Rattle.rdf_terms.specs.declared.term.Term.{Term}
 use Rattle.rdf_terms.specs.declared.term.Triple.{Triple}
 use Rattle.rdf_terms.specs.declared.term.Quad.{Quad}
@@ -50,6 +52,12 @@ status_of (query_fault at why) = 4
 status_of memory = 8
 status_of sink = 9
 status_of (file name) = 10
+
+-- the ending where the file with this name is not read, of which one is that of too many bytes
+abbrev pub unread : FileFault → List ℕ → EndOfRun → EndOfRun
+unread unreadable.Failed name too_long = file name
+unread unreadable.TooLong name too_long = too_long
+unread unreadable.OutOfMemory name too_long = memory
 
 -- the name of a fault of data, in lower-case words
 abbrev pub why_text : Why → List ℕ

@@ -1,15 +1,13 @@
 -- The text of a result (SPARQL 1.1 Query Results JSON Format, section 3): the tokens of a JSON text, printed with no white space, and LF.
-use Rattle.std.specs.Prelude.{ℕ, Bool, true, false, ◌&&◌, List, [], ◌∷◌, ◌++◌, Option, Some, None, codes, slice_get, unwrap_or, flat_map, map, if◌then◌else◌}
-use Rattle.std.specs.List.{insert, prefix_len}
-use Rattle.std.specs.Str.{bytes_eq}
-use Rattle.std.specs.Ordering.{nat_cmp, match_ordering}
-use Rattle.std.specs.Cmp.Lexicographic.{slice_cmp}
+use Rattle.std.specs.Prelude.{ℕ, List, [], ◌∷◌, ◌++◌, Option, Some, None, codes, slice_get, unwrap_or, flat_map, map}
+use Rattle.std.specs.FinMap.{FinMap, from_entries, values}
 use Rattle.json.specs.Token.{Token, begin_object, end_object, begin_array, end_array, key, string}
 use Rattle.json.specs.Print.{print}
 use Rattle.rdf_terms.specs.declared.term.Term.{Term}
 use Rattle.rdf_terms.specs.declared.term.Term.TheVariants.{Iri, Blank, Literal}
 use Rattle.rdf_terms.specs.declared.term.Kind.{Kind}
 use Rattle.rdf_terms.specs.declared.term.Kind.TheVariants.{Plain, Typed, Tagged}
+use Rattle.rdf_terms.specs.Order.{bytes_order}
 use Rattle.bgp_core.specs.Queries.{QueryData}
 
 -- a member whose value is a string
@@ -42,32 +40,13 @@ array_of items = begin_array ∷ [] ++ items ++ end_array ∷ []
 abbrev pub name_at : List (List ℕ) → ℕ → List ℕ
 name_at names n = unwrap_or (slice_get names n) []
 
--- a text comes before another in the order of bytes
-abbrev pub is_before : List ℕ → List ℕ → Bool
-is_before a b = match_ordering (slice_cmp nat_cmp a b) true false false
+-- each selected name with the number by which it is selected first, as an ordered map: its entries ascend strictly by the bytes of the names
+abbrev pub first_numbers : List (List ℕ) → List ℕ → FinMap bytes_order ℕ
+first_numbers names selected = from_entries (map (λ n. (name_at names n, n)) selected)
 
--- where a name belongs among columns that are sorted by their names
-abbrev pub column_place : List (List ℕ) → List ℕ → List ℕ → ℕ
-column_place names name columns = prefix_len (λ m. is_before (name_at names m) name) columns
-
-abbrev pub has_name : List (List ℕ) → List ℕ → Option ℕ → Bool
-has_name names name None = false
-has_name names name (Some n) = bytes_eq (name_at names n) name
-
--- the columns with one more at its place, unless its name is there
-abbrev pub with_column : List (List ℕ) → List ℕ → ℕ → List ℕ
-with_column names columns n =
-    let place = column_place names (name_at names n) columns in
-    if has_name names (name_at names n) (slice_get columns place) then columns else insert columns place n
-
--- the columns and these: names by their numbers, in the order of their bytes, each name once
-abbrev pub columns_with : List (List ℕ) → List ℕ → List ℕ → List ℕ
-columns_with names columns [] = columns
-columns_with names columns (n ∷ ns) = columns_with names (with_column names columns n) ns
-
--- the columns of a query: its selected names
+-- the columns of a query: its selected names by their numbers, each name once, in the order of their bytes
 abbrev pub columns_of : QueryData → List ℕ
-columns_of q = columns_with q.names [] q.selected
+columns_of q = values (first_numbers q.names q.selected)
 
 -- a member for a name that is bound
 abbrev pub bound_member : List ℕ → Option (Option Term) → List Token

@@ -7,7 +7,7 @@ ghost use Rattle.triple_table.specs.declared.choice.Choice.{Choice};
 ghost use Rattle.triple_table.specs.Chosen.{chosen};
 ghost use Rattle.triple_table.specs.Served.{Clashes, IsServed};
 ghost use Rattle.tpf_cli.specs.Words.{local};
-ghost use Rattle.tpf_cli.specs.Endings.{IfTold, HoldsData, HoldsQuery, AreFew, Serves, IsTooLong, IsAnswer, Causes, Takes, IsDataEnding, IsServeEnding, IsQueryEnding, Wrote, authority, generated_text};
+ghost use Rattle.tpf_cli.specs.Endings.{IfTold, HoldsData, HoldsQuery, AreFew, Serves, IsTooLong, IsAnswer, Causes, Takes, IsDataEnding, IsServeEnding, IsQueryEnding, Wrote, authority, generated_text, unread};
 ghost use Rattle.tpf_cli.specs.EndingViews.{ending_view};
 
 use crate::ending::Ending;
@@ -37,6 +37,17 @@ const MOST_TRIPLES: u32 = 16777215;
 /// The authority of the IRIs that stand for blank nodes.
 const AUTHORITY: &str = "localhost";
 
+/// How a run ends whose file was not read: as is given where it has more bytes than are read.
+fn unread<'a>(fault: FileFault, name: &'a str, too_long: Ending<'a>) -> Ending<'a>
+    ensures { ending_view result ≡ unread fault name.entry.now (ending_view too_long.entry) }
+{
+    match fault {
+        FileFault::Failed => Ending::File(name),
+        FileFault::TooLong => too_long,
+        FileFault::OutOfMemory => Ending::Memory,
+    }
+}
+
 /// The quads of a file.
 fn read_data<'a, F: Shelf>(
     alloc: Global,
@@ -51,9 +62,7 @@ fn read_data<'a, F: Shelf>(
 {
     let bytes = match read_file(alloc, shelf, name, MOST_DATA) {
         Ok(bytes) => bytes,
-        Err(FileFault::Failed) => return Err(Ending::File(name)),
-        Err(FileFault::TooLong) => return Err(Ending::DataTooLong),
-        Err(FileFault::OutOfMemory) => return Err(Ending::Memory),
+        Err(fault) => return Err(unread(fault, name, Ending::DataTooLong)),
     };
     match read_all(alloc, &bytes, LONGEST_TERM) {
         Ok(quads) => Ok(quads),
@@ -75,14 +84,13 @@ fn read_query<'a, F: Shelf>(
 {
     let bytes = match read_file(alloc, shelf, name, MOST_QUERY) {
         Ok(bytes) => bytes,
-        Err(FileFault::Failed) => return Err(Ending::File(name)),
-        Err(FileFault::TooLong) => {
-            return Err(Ending::Query {
+        Err(fault) => {
+            let too_long = Ending::Query {
                 at: MOST_QUERY,
                 why: QueryWhy::TooLong,
-            });
+            };
+            return Err(unread(fault, name, too_long));
         }
-        Err(FileFault::OutOfMemory) => return Err(Ending::Memory),
     };
     match parse(alloc, &bytes) {
         Ok(query) => Ok(query),
@@ -149,7 +157,8 @@ fn answer_of(alloc: Global, triples: &[Triple], query: &Query) -> Result<Vec<u8>
 
 /// Writes a text to the output.
 fn write_text<K: Sink>(out: &mut K, text: &[u8]) -> Ending<'static>
-    ensures { Wrote (K.faults out.old) (K.faults out.new) (K.taken out.old) (K.taken out.new) text.now (ending_view result) }
+    ensures wrote { Wrote (K.faults out.old) (K.faults out.new) (K.taken out.old) (K.taken out.new) text.now (ending_view result) }
+    ensures later { K.faults out.old ≤ K.faults out.new }
 {
     match write_all(out, text) {
         Ok(()) => Ending::Done,
@@ -169,6 +178,9 @@ pub fn local<'a, F: Shelf, K: Sink>(
 ) -> Ending<'a>
     ensures cause { Causes (F.told shelf.old) (local name.entry.now query.entry.now choice.now) (F.faults shelf.old) (F.faults shelf.new) (K.faults out.old) (K.faults out.new) (ending_view result) }
     ensures takes { Takes (F.told shelf.old) (local name.entry.now query.entry.now choice.now) (K.taken out.old) (K.taken out.new) (ending_view result) }
+    ensures told { F.told shelf.new ≡ F.told shelf.old }
+    ensures shelf_later { F.faults shelf.old ≤ F.faults shelf.new }
+    ensures out_later { K.faults out.old ≤ K.faults out.new }
 {
     let triples = match serve_file(alloc, name, choice, shelf) {
         Ok(triples) => triples,
@@ -186,7 +198,8 @@ pub fn local<'a, F: Shelf, K: Sink>(
 
 /// Writes the data of so many persons.
 pub fn make<K: Sink>(alloc: Global, count: u32, out: &mut K) -> Ending<'static>
-    ensures { Wrote (K.faults out.old) (K.faults out.new) (K.taken out.old) (K.taken out.new) (generated_text count) (ending_view result) }
+    ensures wrote { Wrote (K.faults out.old) (K.faults out.new) (K.taken out.old) (K.taken out.new) (generated_text count) (ending_view result) }
+    ensures later { K.faults out.old ≤ K.faults out.new }
 {
     match write_generated(alloc, count, out) {
         Ok(()) => Ending::Done,

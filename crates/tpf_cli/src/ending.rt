@@ -1,5 +1,5 @@
 // How a run ends, and what it says then.
-ghost use Rattle.std.specs.Prelude.{ℕ, ◌≡◌, ◌++◌, [], codes, decimal, IfOk};
+ghost use Rattle.std.specs.Prelude.{ℕ, ◌≡◌, ◌≤◌, ◌++◌, [], codes, decimal, IfOk};
 ghost use Rattle.tpf_cli.specs.Endings.{why_text, query_why_text, Says, SaysLine};
 ghost use Rattle.tpf_cli.specs.EndingViews.{ending_view};
 
@@ -84,7 +84,8 @@ fn write_fault<E: Sink>(
     why: &[u8],
     status: u8,
 ) -> u8
-    ensures { SaysLine result status (front.now ++ decimal n ++ codes ": " ++ why.now ++ codes "\n") (E.faults err.old) (E.faults err.new) (E.taken err.old) (E.taken err.new) }
+    ensures says { SaysLine result status (front.now ++ decimal n ++ codes ": " ++ why.now ++ codes "\n") (E.faults err.old) (E.faults err.new) (E.taken err.old) (E.taken err.new) }
+    ensures later { E.faults err.old ≤ E.faults err.new }
 {
     match fault_line(alloc, front, n, why) {
         Ok(text) => write_line(err, &text, status),
@@ -104,7 +105,8 @@ fn named_line(alloc: Global, front: &[u8], name: &str) -> Result<Vec<u8>, OutOfM
 
 /// Writes a line, and gives the status where that did not run out of memory, and else 8. A failure is passed over.
 fn write_line<E: Sink>(err: &mut E, line: &[u8], status: u8) -> u8
-    ensures { SaysLine result status line.now (E.faults err.old) (E.faults err.new) (E.taken err.old) (E.taken err.new) }
+    ensures says { SaysLine result status line.now (E.faults err.old) (E.faults err.new) (E.taken err.old) (E.taken err.new) }
+    ensures later { E.faults err.old ≤ E.faults err.new }
 {
     match write_all(err, line) {
         Ok(()) | Err(Fault::Failed) => status,
@@ -114,7 +116,8 @@ fn write_line<E: Sink>(err: &mut E, line: &[u8], status: u8) -> u8
 
 /// Writes a line that is a front, a name and LF.
 fn write_named<E: Sink>(alloc: Global, err: &mut E, front: &[u8], name: &str, status: u8) -> u8
-    ensures { SaysLine result status (front.now ++ name.now ++ codes "\n") (E.faults err.old) (E.faults err.new) (E.taken err.old) (E.taken err.new) }
+    ensures says { SaysLine result status (front.now ++ name.now ++ codes "\n") (E.faults err.old) (E.faults err.new) (E.taken err.old) (E.taken err.new) }
+    ensures later { E.faults err.old ≤ E.faults err.new }
 {
     match named_line(alloc, front, name) {
         Ok(text) => write_line(err, &text, status),
@@ -124,14 +127,16 @@ fn write_named<E: Sink>(alloc: Global, err: &mut E, front: &[u8], name: &str, st
 
 /// Writes the line of a fault of the data.
 fn write_data<E: Sink>(alloc: Global, err: &mut E, line: u64, why: Why) -> u8
-    ensures { SaysLine result 3 (codes "data: line " ++ decimal line ++ codes ": " ++ why_text why ++ codes "\n") (E.faults err.old) (E.faults err.new) (E.taken err.old) (E.taken err.new) }
+    ensures says { SaysLine result 3 (codes "data: line " ++ decimal line ++ codes ": " ++ why_text why ++ codes "\n") (E.faults err.old) (E.faults err.new) (E.taken err.old) (E.taken err.new) }
+    ensures later { E.faults err.old ≤ E.faults err.new }
 {
     write_fault(alloc, err, b"data: line ", line, why_text(why), 3)
 }
 
 /// Writes the line of a fault of the query.
 fn write_query<E: Sink>(alloc: Global, err: &mut E, at: usize, why: QueryWhy) -> u8
-    ensures { SaysLine result 4 (codes "query: byte " ++ decimal at ++ codes ": " ++ query_why_text why ++ codes "\n") (E.faults err.old) (E.faults err.new) (E.taken err.old) (E.taken err.new) }
+    ensures says { SaysLine result 4 (codes "query: byte " ++ decimal at ++ codes ": " ++ query_why_text why ++ codes "\n") (E.faults err.old) (E.faults err.new) (E.taken err.old) (E.taken err.new) }
+    ensures later { E.faults err.old ≤ E.faults err.new }
 {
     write_fault(
         alloc,
@@ -145,7 +150,8 @@ fn write_query<E: Sink>(alloc: Global, err: &mut E, at: usize, why: QueryWhy) ->
 
 /// Says how a run ended, and gives the exit status.
 pub fn say<E: Sink>(alloc: Global, err: &mut E, ending: &Ending<'_>) -> u8
-    ensures { Says result (ending_view ending.now) (E.faults err.old) (E.faults err.new) (E.taken err.old) (E.taken err.new) }
+    ensures says { Says result (ending_view ending.now) (E.faults err.old) (E.faults err.new) (E.taken err.old) (E.taken err.new) }
+    ensures later { E.faults err.old ≤ E.faults err.new }
 {
     match ending {
         Ending::Done => 0,

@@ -29,7 +29,7 @@ fn list_range(alloc: Global, table: &Table, range: &Range) -> Result<Vec<Triple>
     requires all { range.now ≡ all_of table.now }
     ensures { IfOk result (λ v. v.items ≡ triples_in table.now) }
 {
-    let mut triples = Vec::new(alloc);
+    let mut triples = Vec::with_capacity(alloc, range.to)?;
     for i in 0..range.to {
         triples.push(triple_at(alloc, table, range, i)?)?;
     }

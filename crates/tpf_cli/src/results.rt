@@ -1,15 +1,15 @@
 // The text of a result: SPARQL 1.1 Query Results JSON Format.
 ghost use Rattle.std.specs.Prelude.{ℕ, ◌≡◌, ◌≤◌, List, [], ◌∷◌, ◌++◌, length, map, flat_map, slice_get, option_map, codes, IfOk, OnOk, Some};
-ghost use Rattle.std.specs.List.{insert};
+ghost use Rattle.std.specs.BTreeMap.{values};
 ghost use Rattle.json.specs.Token.{key, string};
 ghost use Rattle.json.specs.Print.{print};
-ghost use Rattle.tpf_cli.specs.Results.{text_member, datatype_member, tag_member, term_members, object_of, array_of, name_at, is_before, column_place, has_name, with_column, columns_with, columns_of, bound_member, row_object, names_array, rows_array, result_tokens, result_text};
+ghost use Rattle.tpf_cli.specs.Results.{text_member, datatype_member, tag_member, term_members, object_of, array_of, name_at, columns_of, bound_member, row_object, names_array, rows_array, result_tokens, result_text};
 
 use bgp_core::{Query, Row};
 use json::Writer;
 use rdf_terms::{Kind, Term};
 use std::alloc::{AllocError, Global};
-use std::cmp::Ordering;
+use std::collections::BTreeMap;
 use tpf_base::{OutOfMemory, Text};
 
 /// A member whose value is a string.
@@ -91,59 +91,26 @@ fn name_at(names: &[Text], n: u32) -> &str
     }
 }
 
-fn is_before(a: &str, b: &str) -> bool
-    ensures { result ≡ is_before a.now b.now }
+/// The numbers of a map of names, in the order of the names.
+fn numbers_of(alloc: Global, firsts: BTreeMap<&str, u32>) -> Result<Vec<u32>, OutOfMemory>
+    ensures { IfOk result (λ v. v.items ≡ values firsts.entry) }
 {
-    match a.cmp(b) {
-        Ordering::Less => true,
-        Ordering::Equal | Ordering::Greater => false,
-    }
+    Ok(firsts.into_values().collect(alloc)?)
 }
 
-/// Where a name belongs among columns that are sorted by their names.
-fn column_place(names: &[Text], name: &str, columns: &[u32]) -> usize
-    ensures place { result ≡ column_place names.now name.now columns.now }
-    ensures within { result ≤ length columns.now }
-{
-    for (i, m) in columns.iter().enumerate() {
-        if !is_before(name_at(names, *m), name) {
-            return i;
-        }
-    }
-    columns.len()
-}
-
-fn has_name(names: &[Text], name: &str, column: Option<&u32>) -> bool
-    ensures { result ≡ has_name names.now name.now (option_map (λ n. n.now) column.entry) }
-{
-    match column {
-        None => false,
-        Some(n) => name_at(names, *n) == name,
-    }
-}
-
-/// Adds a column at its place, unless its name is there.
-fn add_column(names: &[Text], columns: &mut Vec<u32>, n: u32) -> Result<(), OutOfMemory>
-    ensures { OnOk result (columns.new.items ≡ with_column names.now columns.old.items n) }
-{
-    let name = name_at(names, n);
-    let place = column_place(names, name, columns);
-    if !has_name(names, name, columns.get(place)) {
-        columns.insert(place, n)?;
-    }
-    Ok(())
-}
-
-/// The selected names by their numbers, in the order of their bytes, each name once.
+/// The selected names by their numbers, in the order of their bytes, each name once: by the number
+/// by which it is selected first.
 fn columns_of(alloc: Global, query: &Query) -> Result<Vec<u32>, OutOfMemory>
     ensures { IfOk result (λ v. v.items ≡ columns_of query.now) }
 {
-    let mut columns = Vec::new(alloc);
+    let names = query.names();
     let selected = query.selected();
-    for n in selected {
-        add_column(query.names(), &mut columns, *n)?;
+    let mut firsts = BTreeMap::new(alloc);
+    // From the back, so that the first number of a name is the one that stays.
+    for i in (0..selected.len()).rev() {
+        firsts.insert(name_at(names, selected[i]), selected[i])?;
     }
-    Ok(columns)
+    numbers_of(alloc, firsts)
 }
 
 /// A member for a column of a row, where the row binds it.

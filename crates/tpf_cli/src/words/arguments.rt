@@ -1,6 +1,6 @@
 // The arguments of each command, read by clap.
-ghost use Rattle.std.specs.Prelude.{◌≡◌, ◌≢◌, IfOk, map, string_bytes, codes, [], Err};
-ghost use Rattle.clap.specs.Words.{app_of, found_of, rows_of, matches_of, fault_of, with_rule};
+ghost use Rattle.std.specs.Prelude.{◌≡◌, ◌≢◌, IfOk, map, string_bytes, codes, [], Err, true};
+ghost use Rattle.clap.specs.Words.{app_of, found_of, rows_of, matches_of, fault_of, with_rule, is_simple, is_simple_and_free};
 ghost use Rattle.tpf_cli.specs.Arguments.{option_rule, flag_rule, positional_rule, bare_app, local_app, make_app};
 
 use clap::error::ErrorKind;
@@ -71,15 +71,14 @@ fn make_command<'a>(alloc: Global) -> Result<Command<'a>, AllocError>
     with_positional(command, alloc, "N")
 }
 
-/// The arguments in the words after `local`.
-pub fn local_matches<'a>(alloc: Global, words: &'a [String]) -> Result<ArgMatches<'a>, WordsFault>
-    ensures rows { IfOk result (λ m. rows_of (found_of m) ≡ matches_of local_app (map string_bytes words.entry.now)) }
-    ensures taken { IfOk result (λ m. fault_of local_app (map string_bytes words.entry.now) ≡ []) }
-    ensures refused { result ≡ Err WordsFault.Usage → fault_of local_app (map string_bytes words.entry.now) ≢ [] }
+/// The arguments that a command reads in words.
+fn matches_by<'a>(command: Command<'a>, words: &'a [String]) -> Result<ArgMatches<'a>, WordsFault>
+    requires simple { is_simple (app_of command) ≡ true }
+    requires free { is_simple_and_free (app_of command) ≡ true }
+    ensures rows { IfOk result (λ m. rows_of (found_of m) ≡ matches_of (app_of command.entry) (map string_bytes words.entry.now)) }
+    ensures taken { IfOk result (λ m. fault_of (app_of command.entry) (map string_bytes words.entry.now) ≡ []) }
+    ensures refused { result ≡ Err WordsFault.Usage → fault_of (app_of command.entry) (map string_bytes words.entry.now) ≢ [] }
 {
-    let Ok(command) = local_command(alloc) else {
-        return Err(WordsFault::OutOfMemory);
-    };
     match command.try_get_matches_from(words) {
         Ok(matches) => Ok(matches),
         Err(error) => match error.kind() {
@@ -89,20 +88,28 @@ pub fn local_matches<'a>(alloc: Global, words: &'a [String]) -> Result<ArgMatche
     }
 }
 
+/// The arguments in the words after `local`.
+#[tactic(auto, using(crate::proofs::Arguments::local_is_simple, crate::proofs::Arguments::local_is_free))]
+pub fn local_matches<'a>(alloc: Global, words: &'a [String]) -> Result<ArgMatches<'a>, WordsFault>
+    ensures rows { IfOk result (λ m. rows_of (found_of m) ≡ matches_of local_app (map string_bytes words.entry.now)) }
+    ensures taken { IfOk result (λ m. fault_of local_app (map string_bytes words.entry.now) ≡ []) }
+    ensures refused { result ≡ Err WordsFault.Usage → fault_of local_app (map string_bytes words.entry.now) ≢ [] }
+{
+    match local_command(alloc) {
+        Ok(command) => matches_by(command, words),
+        Err(_) => Err(WordsFault::OutOfMemory),
+    }
+}
+
 /// The arguments in the words after `make`.
+#[tactic(auto, using(crate::proofs::Arguments::make_is_simple, crate::proofs::Arguments::make_is_free))]
 pub fn make_matches<'a>(alloc: Global, words: &'a [String]) -> Result<ArgMatches<'a>, WordsFault>
     ensures rows { IfOk result (λ m. rows_of (found_of m) ≡ matches_of make_app (map string_bytes words.entry.now)) }
     ensures taken { IfOk result (λ m. fault_of make_app (map string_bytes words.entry.now) ≡ []) }
     ensures refused { result ≡ Err WordsFault.Usage → fault_of make_app (map string_bytes words.entry.now) ≢ [] }
 {
-    let Ok(command) = make_command(alloc) else {
-        return Err(WordsFault::OutOfMemory);
-    };
-    match command.try_get_matches_from(words) {
-        Ok(matches) => Ok(matches),
-        Err(error) => match error.kind() {
-            ErrorKind::OutOfMemory => Err(WordsFault::OutOfMemory),
-            _ => Err(WordsFault::Usage),
-        },
+    match make_command(alloc) {
+        Ok(command) => matches_by(command, words),
+        Err(_) => Err(WordsFault::OutOfMemory),
     }
 }

@@ -1,4 +1,4 @@
-use Rattle.std.proofs.Common.{ℕ, List, [], Option, None, ◌≡◌, ◌∙◌, ap, subst, length, replicate, rules}
+use Rattle.std.proofs.Common.{List, [], Option, None, ◌≡◌, ◌∙◌, ap, subst, length, replicate, rules}
 use Rattle.std.specs.List.Sorted.{IsPermutation}
 use Rattle.std.proofs.lemmas.Result.{IfOk-weaker}
 use Rattle.rdf_terms.specs.declared.term.Term.{Term}

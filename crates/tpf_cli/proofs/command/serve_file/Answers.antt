@@ -1,5 +1,3 @@
-use Rattle.tpf_cli.specs.EndingViews.{ending_view}
-use Rattle.tpf_cli.proofs.Served.{data_ending}
 use Rattle.tpf_cli.proofs.command.serve_file.Goals as goal
 
 pub returns-in-Err-clause-err : goal.returns-in-Err-clause-err

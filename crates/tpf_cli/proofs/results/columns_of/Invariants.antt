@@ -1,6 +1,8 @@
-use Rattle.std.proofs.Common.{◌≡◌, [], drop}
-use Rattle.tpf_cli.specs.Results.{columns_with}
+use Rattle.std.proofs.Common.{◌≡◌, drop}
+use Rattle.std.specs.FinMap.{entries}
+use Rattle.tpf_cli.specs.Results.{first_numbers}
+use Rattle.tpf_cli.proofs.Columns.{seen}
 use Rattle.tpf_cli.proofs.results.columns_of.Given as goal
 
-abbrev pub invariant-loop-n : goal.invariant-loop-n
-invariant-loop-n l = columns_with l.query.names [] l.selected ≡ columns_with l.query.names l.columns.items (drop l.n-index l.selected)
+abbrev pub invariant-loop-i : goal.invariant-loop-i
+invariant-loop-i l = seen (λ k. k.now) l.firsts.entries ≡ entries (first_numbers l.names (drop l.i l.selected))

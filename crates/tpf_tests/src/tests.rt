@@ -1,0 +1,547 @@
+// Runs of `local` and `make`, and what they write.
+use crate::runs::{ONE, ONE_QUERY, ONE_TEXT, Outcome, USAGE, files, local, made, run_with};
+use std::alloc::Global;
+use std::sync::Wait;
+use std::test::Fail;
+use tpf_base::{Bytes, Failing, Text};
+
+/// Data, query, status, output, line on the standard error.
+static RUNS: [(&str, &str, u8, &str, &str); 22] = [
+    (
+        "<http://e/s> <http://e/p> \"Hi\"@EN-us .\n<http://e/s> <http://e/p> \"Hi\"@en-US .",
+        ONE_QUERY,
+        0,
+        "{\"head\":{\"vars\":[\"s\",\"o\"]},\"results\":{\"bindings\":[{\"o\":{\"type\":\"literal\",\"value\":\"Hi\",\"xml:lang\":\"en-us\"},\"s\":{\"type\":\"uri\",\"value\":\"http://e/s\"}}]}}\n",
+        "",
+    ),
+    (
+        "_:b.é. <http://e/p> \"x\" .",
+        ONE_QUERY,
+        3,
+        "",
+        "data: line 1: statement\n",
+    ),
+    (
+        "_:b.é <http://e/p> \"x\" .\n<http://e/s> <http://e/p> \"y\" _:g .",
+        "SELECT ?s WHERE { ?s <http://e/p> ?o }",
+        0,
+        "{\"head\":{\"vars\":[\"s\"]},\"results\":{\"bindings\":[{\"s\":{\"type\":\"uri\",\"value\":\"http://localhost/.well-known/genid/b.é\"}}]}}\n",
+        "",
+    ),
+    (
+        "_:b1 <http://e/p> \"x\" .\n<http://localhost/.well-known/genid/b1> <http://e/p> \"y\" <http://e/g> .\n_:a <http://e/p> \"z\" <http://e/g> .\n<http://localhost/.well-known/genid/a> <http://e/p> \"y\" .",
+        "SELECT ?s WHERE { ?s <http://e/p> \"x\" }",
+        0,
+        "{\"head\":{\"vars\":[\"s\"]},\"results\":{\"bindings\":[{\"s\":{\"type\":\"uri\",\"value\":\"http://localhost/.well-known/genid/b1\"}}]}}\n",
+        "",
+    ),
+    (ONE, "", 4, "", "query: byte 0: grammar\n"),
+    (
+        "<http://e/s> <http://e/p> <http://e/a> .\n<http://e/s> <http://e/p> <http://e/b> .\n<http://e/s> <http://e/p> <http://e/c> .",
+        "SELECT ?s WHERE { ?s <http://e/p> _:b }",
+        0,
+        "{\"head\":{\"vars\":[\"s\"]},\"results\":{\"bindings\":[{\"s\":{\"type\":\"uri\",\"value\":\"http://e/s\"}},{\"s\":{\"type\":\"uri\",\"value\":\"http://e/s\"}},{\"s\":{\"type\":\"uri\",\"value\":\"http://e/s\"}}]}}\n",
+        "",
+    ),
+    (
+        "_:b1 <http://e/p> \"x\" .",
+        "SELECT * WHERE { ?s <http://e/p> \"x\" }",
+        0,
+        "{\"head\":{\"vars\":[\"s\"]},\"results\":{\"bindings\":[{\"s\":{\"type\":\"uri\",\"value\":\"http://localhost/.well-known/genid/b1\"}}]}}\n",
+        "",
+    ),
+    (
+        "_:b1 <http://e/p> \"x\" .",
+        "SELECT * WHERE { <http://localhost/.well-known/genid/b1> ?p ?o }",
+        0,
+        "{\"head\":{\"vars\":[\"p\",\"o\"]},\"results\":{\"bindings\":[{\"o\":{\"type\":\"literal\",\"value\":\"x\"},\"p\":{\"type\":\"uri\",\"value\":\"http://e/p\"}}]}}\n",
+        "",
+    ),
+    (
+        "_:b1 <http://e/p> \"x\" .\n<http://localhost/.well-known/genid/b1> <http://e/p> \"y\" .",
+        ONE_QUERY,
+        3,
+        "",
+        "data: genid b1\n",
+    ),
+    (
+        "# c\r\n<http://e/s><http://e/p><http://e/o>. # d\r\n\r\n",
+        ONE_QUERY,
+        0,
+        ONE_TEXT,
+        "",
+    ),
+    (ONE, ONE_QUERY, 0, ONE_TEXT, ""),
+    (
+        "",
+        "SELECT * WHERE { ?s ?p ?o }",
+        0,
+        "{\"head\":{\"vars\":[\"s\",\"p\",\"o\"]},\"results\":{\"bindings\":[]}}\n",
+        "",
+    ),
+    (
+        ONE,
+        "SELECT * WHERE {}",
+        0,
+        "{\"head\":{\"vars\":[]},\"results\":{\"bindings\":[{}]}}\n",
+        "",
+    ),
+    (
+        "<http://e/s> <http://e/p> <http://e/o> .\n<http://e/s> <http://e/p> <http://e/o> .",
+        "SELECT*WHERE{?s<http://e/p>?o.}",
+        0,
+        ONE_TEXT,
+        "",
+    ),
+    (
+        "<http://e/a> <http://e/p> <http://e/a> .\n<http://e/a> <http://e/p> <http://e/b> .",
+        "SELECT * WHERE { ?x <http://e/p> ?x }",
+        0,
+        "{\"head\":{\"vars\":[\"x\"]},\"results\":{\"bindings\":[{\"x\":{\"type\":\"uri\",\"value\":\"http://e/a\"}}]}}\n",
+        "",
+    ),
+    (
+        "<http://e/a> <http://e/p> \"l\" .\n<http://e/b> <http://e/q> <http://e/c> .",
+        "SELECT * WHERE { ?s <http://e/p> ?o . ?o <http://e/q> ?z }",
+        0,
+        "{\"head\":{\"vars\":[\"s\",\"o\",\"z\"]},\"results\":{\"bindings\":[]}}\n",
+        "",
+    ),
+    (
+        "<s> <http://e/p> <http://e/o> .",
+        ONE_QUERY,
+        3,
+        "",
+        "data: line 1: relative iri\n",
+    ),
+    (
+        "\n<http://e/s> <http://e/p> <http://e/o>",
+        ONE_QUERY,
+        3,
+        "",
+        "data: line 2: statement\n",
+    ),
+    (
+        "<http://e/s> <http://e/p> \"\\uD800\" .",
+        ONE_QUERY,
+        3,
+        "",
+        "data: line 1: escape\n",
+    ),
+    (
+        ONE,
+        "SELECT * WHERE { ?s ?p }",
+        4,
+        "",
+        "query: byte 23: grammar\n",
+    ),
+    (
+        ONE,
+        "select * where { ?s <http://e/p> ?o }",
+        0,
+        ONE_TEXT,
+        "",
+    ),
+    (
+        ONE,
+        "SELECT * WHERE { ?s x:p ?o }",
+        4,
+        "",
+        "query: byte 20: unknown prefix\n",
+    ),
+];
+
+#[test]
+fn statuses_and_texts_of_runs(rt: HostRuntime) -> Result<(), Fail> {
+    for (data, query, status, written, line) in RUNS {
+        let got = local(&rt, rt.alloc(), data.as_bytes(), query.as_bytes())?;
+        assert_eq!(rt; got.status, status, "{data}{query}");
+        assert_eq!(rt; got.out.taken(), written.as_bytes(), "{data}{query}");
+        assert_eq!(rt; got.err.taken(), line.as_bytes(), "{data}{query}");
+    }
+    Ok(())
+}
+
+/// Words that are no command.
+static REFUSED: [&str; 25] = [
+    "",
+    "tpf",
+    "tpf|",
+    "tpf|locals|d|q",
+    "tpf|Local|d|q",
+    "tpf|local",
+    "tpf|local|d",
+    "tpf|local|d|q|q",
+    "tpf|local|--union=x|d|q",
+    "tpf|local|--union=|d|q",
+    "tpf|local|--union|--union|d|q",
+    "tpf|local|--graph|d|q",
+    "tpf|local|d|q|--graph",
+    "tpf|local|--graph|http://e/g|--graph|http://e/g|d|q",
+    "tpf|local|--graph=http://e/g|--union|d|q",
+    "tpf|local|--grap|http://e/g|d|q",
+    "tpf|local|--graph|g|d|q",
+    "tpf|local|--graph|http://e/ g|d|q",
+    "tpf|local|--graph=|d|q",
+    "tpf|local|--graph|-|d|q",
+    "tpf|local|-u|d|q",
+    "tpf|local|--help",
+    "tpf|--help",
+    "tpf|--version",
+    "tpf|query|http://e/d|q",
+];
+
+#[test]
+fn words_that_are_no_command(rt: HostRuntime) -> Result<(), Fail> {
+    for line in REFUSED {
+        let got = run_with(
+            &rt,
+            rt.alloc(),
+            line,
+            files(rt.alloc(), ONE.as_bytes(), ONE_QUERY.as_bytes())?,
+            Failing::Never,
+            Failing::Never,
+        )?;
+        assert_eq!(rt; got.status, 2, "{line}");
+        assert_eq!(rt; got.out.taken(), b"".as_slice(), "{line}");
+        assert_eq!(rt; got.err.taken(), USAGE.as_bytes(), "{line}");
+    }
+    Ok(())
+}
+
+static ACCEPTED: [&str; 7] = [
+    "tpf|local|d|q",
+    "tpf|local|--union|d|q",
+    "tpf|local|d|--union|q",
+    "tpf|local|d|q|--union",
+    "tpf|local|--|d|q",
+    "tpf|local|--union|--|d|q",
+    "|local|d|--|q",
+];
+
+#[test]
+fn words_that_are_the_command(rt: HostRuntime) -> Result<(), Fail> {
+    for line in ACCEPTED {
+        let got = run_with(
+            &rt,
+            rt.alloc(),
+            line,
+            files(rt.alloc(), ONE.as_bytes(), ONE_QUERY.as_bytes())?,
+            Failing::Never,
+            Failing::Never,
+        )?;
+        assert_eq!(rt; got.status, 0, "{line}");
+        assert_eq!(rt; got.out.taken(), ONE_TEXT.as_bytes(), "{line}");
+        assert_eq!(rt; got.err.taken(), b"".as_slice(), "{line}");
+    }
+    Ok(())
+}
+
+const PEOPLE: &str =
+    "<http://ex.org/alice> <http://xmlns.com/foaf/0.1/name> \"Alice\"@en <http://ex.org/g> .\n<http://ex.org/alice> <http://xmlns.com/foaf/0.1/age> \"42\"^^<http://www.w3.org/2001/XMLSchema#integer> <http://ex.org/g> .\n<http://ex.org/alice> <http://xmlns.com/foaf/0.1/knows> _:bob <http://ex.org/g> .\n_:bob <http://xmlns.com/foaf/0.1/name> \"Bob\" <http://ex.org/g> .\n";
+
+const PEOPLE_QUERY: &str =
+    "PREFIX foaf: <http://xmlns.com/foaf/0.1/>\nSELECT ?name ?age ?friend WHERE {\n  ?p foaf:age ?age ; foaf:knows ?q ; foaf:name ?name .\n  ?q foaf:name ?friend }\n";
+
+const PEOPLE_TEXT: &str =
+    "{\"head\":{\"vars\":[\"name\",\"age\",\"friend\"]},\"results\":{\"bindings\":[{\"age\":{\"datatype\":\"http://www.w3.org/2001/XMLSchema#integer\",\"type\":\"literal\",\"value\":\"42\"},\"friend\":{\"type\":\"literal\",\"value\":\"Bob\"},\"name\":{\"type\":\"literal\",\"value\":\"Alice\",\"xml:lang\":\"en\"}}]}}\n";
+
+const NO_PEOPLE_TEXT: &str =
+    "{\"head\":{\"vars\":[\"name\",\"age\",\"friend\"]},\"results\":{\"bindings\":[]}}\n";
+
+static GRAPHS: [(&str, &str); 6] = [
+    ("tpf|local|--union|d|q", PEOPLE_TEXT),
+    ("tpf|local|--graph|http://ex.org/g|d|q", PEOPLE_TEXT),
+    ("tpf|local|--graph=http://ex.org/g|d|q", PEOPLE_TEXT),
+    ("tpf|local|d|q|--graph|http://ex.org/g", PEOPLE_TEXT),
+    ("tpf|local|d|q", NO_PEOPLE_TEXT),
+    ("tpf|local|--graph|http://ex.org/h|d|q", NO_PEOPLE_TEXT),
+];
+
+#[test]
+fn a_graph_is_chosen(rt: HostRuntime) -> Result<(), Fail> {
+    for (line, written) in GRAPHS {
+        let got = run_with(
+            &rt,
+            rt.alloc(),
+            line,
+            files(rt.alloc(), PEOPLE.as_bytes(), PEOPLE_QUERY.as_bytes())?,
+            Failing::Never,
+            Failing::Never,
+        )?;
+        assert_eq!(rt; got.status, 0, "{line}");
+        assert_eq!(rt; got.out.taken(), written.as_bytes(), "{line}");
+        assert_eq!(rt; got.err.taken(), b"".as_slice(), "{line}");
+    }
+    Ok(())
+}
+
+#[test]
+fn a_join_of_two_patterns(rt: HostRuntime) -> Result<(), Fail> {
+    let data =
+        "<http://e/a> <http://e/k> <http://e/b> .\n<http://e/a> <http://e/k> <http://e/c> .\n<http://e/b> <http://e/k> <http://e/c> .\n<http://e/c> <http://e/n> \"C\" .\n";
+    let query = "SELECT * WHERE { ?x <http://e/k> ?y . ?y <http://e/n> ?z }";
+    let a =
+        "{\"x\":{\"type\":\"uri\",\"value\":\"http://e/a\"},\"y\":{\"type\":\"uri\",\"value\":\"http://e/c\"},\"z\":{\"type\":\"literal\",\"value\":\"C\"}}";
+    let b =
+        "{\"x\":{\"type\":\"uri\",\"value\":\"http://e/b\"},\"y\":{\"type\":\"uri\",\"value\":\"http://e/c\"},\"z\":{\"type\":\"literal\",\"value\":\"C\"}}";
+    let head = "{\"head\":{\"vars\":[\"x\",\"y\",\"z\"]},\"results\":{\"bindings\":[";
+    let one = format!(in rt.alloc(); "{head}{a},{b}]}}}}\n")?;
+    let other = format!(in rt.alloc(); "{head}{b},{a}]}}}}\n")?;
+    let got = local(&rt, rt.alloc(), data.as_bytes(), query.as_bytes())?;
+    let written = got.out.taken();
+    assert_eq!(rt; got.status, 0);
+    assert!(rt; written == one.as_bytes() || written == other.as_bytes());
+    Ok(())
+}
+
+/// A run over the one triple whose n-th call of the shelf fails.
+fn shelf_failing<R: Wait>(rt: &R, alloc: Global, n: u64) -> Result<Outcome, Fail> {
+    let calls = vec![in alloc; n]?;
+    run_with(
+        rt,
+        alloc,
+        "tpf|local|d|q",
+        files(alloc, ONE.as_bytes(), ONE_QUERY.as_bytes())?,
+        Failing::At(calls),
+        Failing::Never,
+    )
+}
+
+#[test]
+fn a_shelf_that_fails_at_each_call(rt: HostRuntime) -> Result<(), Fail> {
+    for n in 1..100 {
+        let got = shelf_failing(&rt, rt.alloc(), n)?;
+        if got.status == 0 {
+            assert_eq!(rt; n, 7);
+            assert_eq!(rt; got.out.taken(), ONE_TEXT.as_bytes());
+            return Ok(());
+        }
+        let line = if n <= 3 {
+            b"file: d\n".as_slice()
+        } else {
+            b"file: q\n".as_slice()
+        };
+        assert_eq!(rt; got.status, 10, "{n}");
+        assert_eq!(rt; got.out.taken(), b"".as_slice(), "{n}");
+        assert_eq!(rt; got.err.taken(), line, "{n}");
+    }
+    Err(Fail::new("each run met a failure"))
+}
+
+/// A run of these words whose n-th write fails.
+fn output_failing<R: Wait>(rt: &R, alloc: Global, line: &str, n: u64) -> Result<Outcome, Fail> {
+    let calls = vec![in alloc; n]?;
+    run_with(
+        rt,
+        alloc,
+        line,
+        files(alloc, ONE.as_bytes(), ONE_QUERY.as_bytes())?,
+        Failing::Never,
+        Failing::At(calls),
+    )
+}
+
+/// How many writes a run makes: each of them that fails ends it with status 9 and a front of the output.
+fn writes<R: Wait>(rt: &R, alloc: Global, line: &str, whole: &[u8]) -> Result<u64, Fail> {
+    for n in 1..100 {
+        let got = output_failing(rt, alloc, line, n)?;
+        let taken = got.out.taken();
+        if got.status == 0 && taken == whole {
+            return Ok(n - 1);
+        }
+        let front = taken.len() < whole.len() && whole.starts_with(taken);
+        if !front || got.status != 9 || got.err.taken() != b"sink\n".as_slice() {
+            return Err(Fail::new("another ending"));
+        }
+    }
+    Err(Fail::new("each run met a failure"))
+}
+
+#[test]
+fn an_output_that_fails_at_each_call(rt: HostRuntime) -> Result<(), Fail> {
+    let one = writes(&rt, rt.alloc(), "tpf|local|d|q", ONE_TEXT.as_bytes())?;
+    assert_eq!(rt; one, 1);
+    let data = made(&rt, rt.alloc(), "tpf|make|1000")?;
+    let many = writes(&rt, rt.alloc(), "tpf|make|1000", data.as_bytes())?;
+    assert!(rt; many > 1);
+    Ok(())
+}
+
+const THREE: &str =
+    "<http://example.org/person/0> <http://example.org/knows> <http://example.org/person/1> .\n<http://example.org/person/0> <http://example.org/name> \"Person 0\" .\n<http://example.org/person/0> <http://example.org/city> <http://example.org/city/0> .\n<http://example.org/person/1> <http://example.org/knows> <http://example.org/person/2> .\n<http://example.org/person/2> <http://example.org/knows> <http://example.org/person/0> .\n";
+
+const SINGLE: &str =
+    "<http://example.org/person/0> <http://example.org/knows> <http://example.org/person/0> .\n<http://example.org/person/0> <http://example.org/name> \"Person 0\" .\n<http://example.org/person/0> <http://example.org/city> <http://example.org/city/0> .\n";
+
+static MADE: [(&str, u8, &str, &str); 11] = [
+    ("tpf|make|3", 0, THREE, ""),
+    ("tpf|make|--|3", 0, THREE, ""),
+    ("tpf|make|003", 0, THREE, ""),
+    ("tpf|make|1", 0, SINGLE, ""),
+    ("tpf|make|01", 0, SINGLE, ""),
+    ("tpf|make", 2, "", USAGE),
+    ("tpf|make|0", 2, "", USAGE),
+    ("tpf|make|1000001", 2, "", USAGE),
+    ("tpf|make|3|4", 2, "", USAGE),
+    ("tpf|make|+3", 2, "", USAGE),
+    ("tpf|make|00000000000000000003", 2, "", USAGE),
+];
+
+#[test]
+fn generated_data(rt: HostRuntime) -> Result<(), Fail> {
+    for (line, status, written, message) in MADE {
+        let got = run_with(
+            &rt,
+            rt.alloc(),
+            line,
+            Vec::new(rt.alloc()),
+            Failing::Never,
+            Failing::Never,
+        )?;
+        assert_eq!(rt; got.status, status, "{line}");
+        assert_eq!(rt; got.out.taken(), written.as_bytes(), "{line}");
+        assert_eq!(rt; got.err.taken(), message.as_bytes(), "{line}");
+    }
+    Ok(())
+}
+
+#[test]
+fn a_file_that_is_missing(rt: HostRuntime) -> Result<(), Fail> {
+    for (line, message) in [
+        ("tpf|local|none|q", "file: none\n"),
+        ("tpf|local|d|none", "file: none\n"),
+        ("tpf|local|-|q", "file: -\n"),
+    ] {
+        let got = run_with(
+            &rt,
+            rt.alloc(),
+            line,
+            files(rt.alloc(), ONE.as_bytes(), ONE_QUERY.as_bytes())?,
+            Failing::Never,
+            Failing::Never,
+        )?;
+        assert_eq!(rt; got.status, 10, "{line}");
+        assert_eq!(rt; got.out.taken(), b"".as_slice(), "{line}");
+        assert_eq!(rt; got.err.taken(), message.as_bytes(), "{line}");
+    }
+    Ok(())
+}
+
+#[test]
+fn an_output_that_fails_after_ten_bytes(rt: HostRuntime) -> Result<(), Fail> {
+    let got = run_with(
+        &rt,
+        rt.alloc(),
+        "tpf|local|d|q",
+        files(rt.alloc(), ONE.as_bytes(), ONE_QUERY.as_bytes())?,
+        Failing::Never,
+        Failing::AfterBytes(10),
+    )?;
+    assert_eq!(rt; got.status, 9);
+    assert_eq!(rt; got.out.taken(), b"{\"head\":{\"".as_slice());
+    assert_eq!(rt; got.err.taken(), b"sink\n".as_slice());
+    Ok(())
+}
+
+#[test]
+fn an_output_that_fails_at_every_place(rt: HostRuntime) -> Result<(), Fail> {
+    let whole = ONE_TEXT.as_bytes();
+    for most in 0..whole.len() {
+        let got = run_with(
+            &rt,
+            rt.alloc(),
+            "tpf|local|d|q",
+            files(rt.alloc(), ONE.as_bytes(), ONE_QUERY.as_bytes())?,
+            Failing::Never,
+            Failing::AfterBytes(most as u64),
+        )?;
+        assert_eq!(rt; got.status, 9, "{most}");
+        assert_eq!(rt; got.out.taken(), &whole[..most], "{most}");
+        assert_eq!(rt; got.err.taken(), b"sink\n".as_slice(), "{most}");
+    }
+    Ok(())
+}
+
+#[test]
+fn bytes_that_are_no_text(rt: HostRuntime) -> Result<(), Fail> {
+    let mut both = Vec::new(rt.alloc());
+    both.push((
+        Text::copy(rt.alloc(), "d")?,
+        Bytes::copy(rt.alloc(), b"\xff\n".as_slice())?,
+    ))?;
+    let got = run_with(
+        &rt,
+        rt.alloc(),
+        "tpf|local|d|q",
+        both,
+        Failing::Never,
+        Failing::Never,
+    )?;
+    assert_eq!(rt; got.status, 3);
+    assert_eq!(rt; got.err.taken(), b"data: line 1: utf8\n".as_slice());
+    Ok(())
+}
+
+/// How many pieces another text cuts a text into: one more than it stands in it.
+fn pieces_of(text: &str, part: &str) -> usize {
+    text.split(part).count()
+}
+
+#[test]
+fn generated_data_are_read_back(rt: HostRuntime) -> Result<(), Fail> {
+    let data = made(&rt, rt.alloc(), "tpf|make|1000")?;
+    let got = local(
+        &rt,
+        rt.alloc(),
+        data.as_bytes(),
+        b"SELECT * WHERE { ?s ?p ?o }".as_slice(),
+    )?;
+    assert_eq!(rt; got.status, 0);
+    let text = std::str::from_utf8(got.out.taken()).unwrap_or("");
+    assert_eq!(rt; pieces_of(text, "\"s\":{"), 1435);
+    Ok(())
+}
+
+#[test]
+fn a_dash_is_a_file_name(rt: HostRuntime) -> Result<(), Fail> {
+    let mut both = Vec::new(rt.alloc());
+    both.push((
+        Text::copy(rt.alloc(), "-")?,
+        Bytes::copy(rt.alloc(), ONE.as_bytes())?,
+    ))?;
+    both.push((
+        Text::copy(rt.alloc(), "q")?,
+        Bytes::copy(rt.alloc(), ONE_QUERY.as_bytes())?,
+    ))?;
+    let got = run_with(
+        &rt,
+        rt.alloc(),
+        "tpf|local|-|q",
+        both,
+        Failing::Never,
+        Failing::Never,
+    )?;
+    assert_eq!(rt; got.status, 0);
+    assert_eq!(rt; got.out.taken(), ONE_TEXT.as_bytes());
+    Ok(())
+}
+
+#[test]
+fn a_label_in_two_graphs_is_one_node(rt: HostRuntime) -> Result<(), Fail> {
+    let data = "_:b <http://e/p> \"x\" <http://e/g> .\n_:b <http://e/p> \"y\" <http://e/h> .\n";
+    let query = "SELECT ?o WHERE { <http://localhost/.well-known/genid/b> ?p ?o }";
+    let got = run_with(
+        &rt,
+        rt.alloc(),
+        "tpf|local|--union|d|q",
+        files(rt.alloc(), data.as_bytes(), query.as_bytes())?,
+        Failing::Never,
+        Failing::Never,
+    )?;
+    let written =
+        "{\"head\":{\"vars\":[\"o\"]},\"results\":{\"bindings\":[{\"o\":{\"type\":\"literal\",\"value\":\"x\"}},{\"o\":{\"type\":\"literal\",\"value\":\"y\"}}]}}\n";
+    assert_eq!(rt; got.status, 0);
+    assert_eq!(rt; got.out.taken(), written.as_bytes());
+    Ok(())
+}
