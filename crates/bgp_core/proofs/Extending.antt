@@ -13,7 +13,7 @@ use Rattle.bgp_core.specs.declared.pattern.Part.{Part}
 use Rattle.bgp_core.specs.declared.pattern.Part.TheVariants.{Fixed, Name}
 use Rattle.bgp_core.specs.declared.pattern.Pattern.{Pattern}
 use Rattle.bgp_core.specs.Solutions.{Places, put, bind, extended, extension}
-use Rattle.bgp_core.specs.Queries.{IsPartOf, IsPatternOf}
+use Rattle.bgp_core.specs.Queries.{HasPlaceFor, HasPlacesFor}
 use Rattle.bgp_core.specs.Extends.{Becomes, IsNameOf, Grows, Extends}
 
 both : (a b : Bool) → (a && b) ≡ true → (a ≡ true) × (b ≡ true)
@@ -163,7 +163,7 @@ put-at (Some (Some u)) n t row final at h b keeps =
     let passes : term_eq u t ≡ true = subst (λ (x : Term). term_eq u x ≡ true) same (term-self u) in
     (row, rw passes refl, keeps)
 
-pub bind-at : (p : Part) (t : Term) (row final : Places) → IsPartOf (length row) p → Becomes final p t → ((k : ℕ) (u : Term) → slice_get row k ≡ Some (Some u) → slice_get final k ≡ Some (Some u)) →
+pub bind-at : (p : Part) (t : Term) (row final : Places) → HasPlaceFor (length row) p → Becomes final p t → ((k : ℕ) (u : Term) → slice_get row k ≡ Some (Some u) → slice_get final k ≡ Some (Some u)) →
     (mid : Places) × (bind p t row ≡ Some mid) × ((k : ℕ) (u : Term) → slice_get mid k ≡ Some (Some u) → slice_get final k ≡ Some (Some u))
 bind-at (Fixed u) t row final h b keeps =
     let passes : term_eq u t ≡ true = subst (λ (x : Term). term_eq u x ≡ true) b (term-self u) in
@@ -214,13 +214,13 @@ at_place p row t mid final e f keeps k None at =
     let no = λ (h : IsNameOf k p.subject ⊎ (IsNameOf k p.predicate ⊎ IsNameOf k p.object)). none_of p t mid k e free h in
     e.grows.others k no ∙ sym (f.grows.others k no)
 
-pub extension-only : (p : Pattern) (row : Places) (t : Triple) (final : Places) → IsPatternOf (length row) p → Extends p row t final → extension p row t ≡ Some final
+pub extension-only : (p : Pattern) (row : Places) (t : Triple) (final : Places) → HasPlacesFor (length row) p → Extends p row t final → extension p row t ≡ Some final
 extension-only p row t final h f =
     let s = bind-at p.subject t.subject row final h.subject f.subject f.grows.keeps in
     let one : length s.0 ≡ length row = (bind-some p.subject t.subject row s.0 s.1).1.places in
-    let r = bind-at p.predicate t.predicate s.0 final (subst (λ n. IsPartOf n p.predicate) (sym one) h.predicate) f.predicate s.2 in
+    let r = bind-at p.predicate t.predicate s.0 final (subst (λ n. HasPlaceFor n p.predicate) (sym one) h.predicate) f.predicate s.2 in
     let two : length r.0 ≡ length row = (bind-some p.predicate t.predicate s.0 r.0 r.1).1.places ∙ one in
-    let b = bind-at p.object t.object r.0 final (subst (λ n. IsPartOf n p.object) (sym two) h.object) f.object r.2 in
+    let b = bind-at p.object t.object r.0 final (subst (λ n. HasPlaceFor n p.object) (sym two) h.object) f.object r.2 in
     let is : extension p row t ≡ Some b.0 = made p row t s.0 r.0 b.0 s.1 r.1 b.1 in
     let e : Extends p row t b.0 = extension-some p row t b.0 is in
     let same : b.0 ≡ final = same_places b.0 final (e.grows.places ∙ sym f.grows.places) (λ k. at_place p row t b.0 final e f b.2 k (slice_get b.0 k) refl) in

@@ -6,3 +6,6 @@ pub mod Orders
 pub mod Extending
 pub mod Swaps
 pub mod Patterns
+pub mod Places
+pub mod Fragments
+pub mod Kept

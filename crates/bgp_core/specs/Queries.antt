@@ -1,7 +1,7 @@
 -- Queries as contracts see them.
 use Rattle.std.specs.Prelude.{ℕ, ◌<◌, List, ⊤}
 use Rattle.rdf_terms.specs.declared.term.Term.{Term}
-use Rattle.rdf_terms.specs.declared.term.Term.TheVariants.{Iri, Blank, Literal}
+use Rattle.rdf_terms.specs.Valid.{IsValidTerm, IsNotBlank}
 use Rattle.bgp_core.specs.declared.pattern.Part.{Part}
 use Rattle.bgp_core.specs.declared.pattern.Part.TheVariants.{Fixed, Name}
 use Rattle.bgp_core.specs.declared.pattern.Pattern.{Pattern}
@@ -12,10 +12,26 @@ pub record QueryData : Type 0 where
   pub names : List (List ℕ)
   pub selected : List ℕ
 
-abbrev pub IsNotBlank : Term → Type 0
-IsNotBlank (Iri t) = ⊤
-IsNotBlank (Blank l) = ⊥
-IsNotBlank (Literal f k) = ⊤
+-- a name's number is below the count
+abbrev pub HasPlaceFor : ℕ → Part → Type 0
+HasPlaceFor count (Fixed t) = ⊤
+HasPlaceFor count (Name n) = n < count
+
+-- a row of so many places has one for each name of the pattern
+pub record HasPlacesFor (count : ℕ) (p : Pattern) : Type 0 where
+  pub subject : HasPlaceFor count p.subject
+  pub predicate : HasPlaceFor count p.predicate
+  pub object : HasPlaceFor count p.object
+
+-- a fixed part is a valid term
+abbrev pub IsValidPart : Part → Type 0
+IsValidPart (Fixed t) = IsValidTerm t
+IsValidPart (Name n) = ⊤
+
+pub record IsValidPattern (p : Pattern) : Type 0 where
+  pub subject : IsValidPart p.subject
+  pub predicate : IsValidPart p.predicate
+  pub object : IsValidPart p.object
 
 -- a name's number is below the count, and a fixed part is no blank node
 abbrev pub IsPartOf : ℕ → Part → Type 0

@@ -1,5 +1,5 @@
 -- Matching and solutions (SPARQL 1.1 Query, 18.3 and 18.5), over one list of triples.
-use Rattle.std.specs.Prelude.{ℕ, List, [], ◌∷◌, ◌++◌, Option, Some, None, if◌then◌else◌, slice_get, slice_set}
+use Rattle.std.specs.Prelude.{ℕ, List, [], ◌∷◌, ◌++◌, Option, Some, None, if◌then◌else◌, slice_get, slice_set, map}
 use Rattle.std.specs.List.{flat_map, list_any}
 use Rattle.rdf_terms.specs.Same.{term_eq, triple_eq}
 use Rattle.rdf_terms.specs.declared.term.Term.{Term}
@@ -10,6 +10,14 @@ use Rattle.bgp_core.specs.declared.pattern.Pattern.{Pattern}
 
 abbrev pub Places : Type 0
 Places = List (Option Term)
+
+abbrev pub joined : Option (Option Term) → Option Term
+joined None = None
+joined (Some o) = o
+
+-- the term of a name, if it has a place and is bound
+abbrev pub term_at : Places → ℕ → Option Term
+term_at row n = joined (slice_get row n)
 
 -- the row with a name bound to a term, where what stands at its place allows it
 abbrev pub put : Option (Option Term) → ℕ → Term → Places → Option Places
@@ -39,6 +47,10 @@ rows_from (Some row) f = f row
 abbrev pub solutions : List Triple → List Pattern → Places → List Places
 solutions triples [] row = row ∷ []
 solutions triples (p ∷ ps) row = flat_map (λ t. rows_from (extension p row t) (solutions triples ps)) triples
+
+-- a row cut to the selected names (SPARQL 1.1, 18.5, projection)
+abbrev pub projected : List ℕ → Places → Places
+projected selected row = map (term_at row) selected
 
 -- the triple, unless it stands before
 abbrev pub unless_before : List Triple → Triple → List Triple

@@ -5,9 +5,10 @@ ghost use Rattle.std.specs.List.Sorted.{IsPermutation};
 ghost use Rattle.rdf_terms.specs.declared.term.Term.{Term};
 ghost use Rattle.rdf_terms.specs.declared.term.Triple.{Triple};
 ghost use Rattle.bgp_core.specs.declared.pattern.Pattern.{Pattern};
-ghost use Rattle.bgp_core.specs.Queries.{IsPatternOf};
+ghost use Rattle.bgp_core.specs.Queries.{HasPlacesFor};
 ghost use Rattle.bgp_core.specs.Extends.{Extends};
 ghost use Rattle.rdf_terms.specs.Triples.{IsDataSet};
+ghost use Rattle.bgp_core.specs.Laws.{ExtensionsMatch, FragmentsSuffice};
 ghost use Rattle.bgp_core.specs.Solutions.{extension, extended, rows_from, solutions, distinct};
 
 /// The order of the triples changes the order of the solutions alone.
@@ -32,10 +33,17 @@ pub fn extensions_commute()
 /// bound stays bound, and no other place changes. There is at most one such row.
 pub fn extension_is_one()
     ensures is_one { (p : Pattern) (row : List (Option Term)) (t : Triple) (new : List (Option Term)) → extension p row t ≡ Some new → Extends p row t new }
-    ensures only { (p : Pattern) (row : List (Option Term)) (t : Triple) (new : List (Option Term)) → IsPatternOf (length row) p → Extends p row t new → extension p row t ≡ Some new }
+    ensures only { (p : Pattern) (row : List (Option Term)) (t : Triple) (new : List (Option Term)) → HasPlacesFor (length row) p → Extends p row t new → extension p row t ≡ Some new }
 {}
 
 /// The triples of a data set are distinct, so its solutions are those over the data set itself.
 pub fn data_sets_are_distinct()
     ensures { (triples : List Triple) → IsDataSet triples → distinct triples ≡ triples }
+{}
+
+/// A row has an extension only by a triple that the pattern's instance matches. So what extensions by the triples of a data
+/// set give, those by the triples of the instance's fragment give, in another order.
+pub fn fragments_suffice()
+    ensures matching { ExtensionsMatch }
+    ensures rows { FragmentsSuffice }
 {}

@@ -3,19 +3,19 @@
 //! with these.
 #![tactic(auto)]
 
+mod asking;
 mod laws;
 mod matching;
 mod pattern;
 mod row;
 mod solve;
-#[cfg(test)]
-mod tests;
 
+pub use asking::{askable, instance, instance_askable};
 pub use laws::{
-    data_sets_are_distinct, extension_is_one, extensions_commute, pattern_order_is_free,
-    triple_order_is_free,
+    data_sets_are_distinct, extension_is_one, extensions_commute, fragments_suffice,
+    pattern_order_is_free, triple_order_is_free,
 };
 pub use matching::match_triple;
-pub use pattern::{Part, Pattern, Query};
+pub use pattern::{Part, Pattern, Query, copy_patterns};
 pub use row::Row;
 pub use solve::solutions;

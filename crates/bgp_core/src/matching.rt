@@ -1,9 +1,9 @@
 // Matching one triple.
-ghost use Rattle.std.specs.Prelude.{ℕ, ◌≡◌, length, IfOk, Option, Some, None, IfSome, Bool, false, slice_get};
+ghost use Rattle.std.specs.Prelude.{ℕ, ◌≡◌, length, IfOk, IfSome, OnOk, Option, Some, None, true};
 ghost use Rattle.rdf_terms.specs.declared.term.Term.{Term};
 ghost use Rattle.rdf_terms.specs.declared.term.Triple.{Triple};
 ghost use Rattle.bgp_core.specs.declared.pattern.Pattern.{Pattern};
-ghost use Rattle.bgp_core.specs.Queries.{IsPartOf, IsPatternOf};
+ghost use Rattle.bgp_core.specs.Queries.{HasPlaceFor, HasPlacesFor};
 ghost use Rattle.bgp_core.specs.Solutions.{bind, extended, extension};
 ghost use Rattle.bgp_core.specs.Fits.{allows, agree, fits};
 
@@ -14,12 +14,11 @@ use tpf_base::OutOfMemory;
 
 /// Whether a row lets a part become a term.
 fn allows(part: &Part, term: &Term, row: &Row) -> bool
-    requires { IsPartOf (length row.now) part.now }
     ensures { result ≡ allows part.now term.now row.now }
 {
     match part {
         Part::Fixed(fixed) => fixed.same(term),
-        Part::Name(name) => match &row.places()[*name as usize] {
+        Part::Name(name) => match row.term(*name) {
             Some(bound) => bound.same(term),
             None => true,
         },
@@ -38,7 +37,6 @@ fn agree(part: &Part, term: &Term, other: &Part, other_term: &Term) -> bool
 
 /// Whether the row has an extension, found without a copy of it.
 fn fits(pattern: &Pattern, row: &Row, triple: &Triple) -> bool
-    requires { IsPatternOf (length row.now) pattern.now }
     ensures { result ≡ fits pattern.now row.now triple.now }
 {
     allows(&pattern.subject, &triple.subject, row)
@@ -64,18 +62,18 @@ fn fits(pattern: &Pattern, row: &Row, triple: &Triple) -> bool
         )
 }
 
-/// The row extended so that a part becomes a term, if there is one.
+/// The row extended so that a part becomes a term, if there is one. The term is copied where its name was not bound.
 fn bind(alloc: Global, part: &Part, term: &Term, mut row: Row) -> Result<Option<Row>, OutOfMemory>
-    requires { IsPartOf (length row) part.now }
+    requires { HasPlaceFor (length row) part.now }
     ensures value { IfOk result (λ o. o ≡ bind part.now term.now row) }
     ensures length { IfOk result (λ o. IfSome o (λ r. length r ≡ length row)) }
 {
     match part {
         Part::Fixed(fixed) => Ok(if fixed.same(term) { Some(row) } else { None }),
-        Part::Name(name) => match &row.places()[*name as usize] {
+        Part::Name(name) => match row.term(*name) {
             Some(bound) => Ok(if bound.same(term) { Some(row) } else { None }),
             None => {
-                row.set(*name as usize, term.copy(alloc)?);
+                row.bind(alloc, *name, term.copy(alloc)?)?;
                 Ok(Some(row))
             }
         },
@@ -90,7 +88,7 @@ fn bind_all(
     row: Row,
     triple: &Triple,
 ) -> Result<Option<Row>, OutOfMemory>
-    requires { IsPatternOf (length row) pattern.now }
+    requires { HasPlacesFor (length row) pattern.now }
     ensures value { IfOk result (λ o. o ≡ extension pattern.now row triple.now) }
     ensures length { IfOk result (λ o. IfSome o (λ r. length r ≡ length row)) }
 {
@@ -104,15 +102,16 @@ fn bind_all(
 }
 
 /// The row extended by the names of the pattern so that the pattern becomes the triple (SPARQL 1.1,
-/// 18.3): `None` exactly where there is no such row. The row is copied only where there is one.
-/// Condition: the row has a place for every name of the pattern.
+/// 18.3): `None` exactly where there is no such row. The row is copied only where there is one, and shares what was bound
+/// with it; the terms of the names that are bound anew are copied. Condition: the row has a place for every name of the
+/// pattern. It fails for want of memory alone.
 pub fn match_triple(
     alloc: Global,
     pattern: &Pattern,
     row: &Row,
     triple: &Triple,
 ) -> Result<Option<Row>, OutOfMemory>
-    requires { IsPatternOf (length row.now) pattern.now }
+    requires { HasPlacesFor (length row.now) pattern.now }
     ensures value { IfOk result (λ o. o ≡ extension pattern.now row.now triple.now) }
     ensures length { IfOk result (λ o. IfSome o (λ r. length r ≡ length row.now)) }
 {

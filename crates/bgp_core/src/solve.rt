@@ -1,7 +1,7 @@
 // The solutions of a query over a list of triples.
 ghost use Rattle.std.specs.Prelude.{ℕ, ◌≡◌, List, length, IfOk, Option, None, OnOk, replicate, map, ◌++◌, ◌||◌};
 ghost use Rattle.std.specs.List.{AllByRecursion};
-ghost use Rattle.bgp_core.specs.Queries.{IsPatternOf};
+ghost use Rattle.bgp_core.specs.Queries.{HasPlacesFor};
 ghost use Rattle.rdf_terms.specs.Same.{triple_eq};
 ghost use Rattle.rdf_terms.specs.declared.term.Triple.{Triple};
 ghost use Rattle.bgp_core.specs.Solutions.{solutions, distinct};
@@ -48,7 +48,7 @@ fn extend_all(
     row: Row,
     out: &mut Vec<Row>,
 ) -> Result<(), OutOfMemory>
-    requires { AllByRecursion (IsPatternOf (length row)) patterns.now }
+    requires { AllByRecursion (HasPlacesFor (length row)) patterns.now }
     ensures { OnOk result (out.new.items ≡ out.old.items ++ solutions (map (λ t. t.now) triples.now) patterns.now row) }
 {
     let [pattern, others @ ..] = patterns else {
@@ -67,7 +67,7 @@ fn rows_of(alloc: Global, triples: &[Triple], query: &Query) -> Result<Vec<Row>,
     ensures { IfOk result (λ v. v.items ≡ solutions (distinct triples.now) query.now.patterns (replicate (length query.now.names) None)) }
 {
     let once = distinct(alloc, triples)?;
-    let empty = Row::empty(alloc, query.names().len())?;
+    let empty = Row::empty(alloc, query.names().len());
     let mut rows = Vec::new(alloc);
     extend_all(alloc, &once, query.patterns(), empty, &mut rows)?;
     Ok(rows)

@@ -1,14 +1,15 @@
 -- Triples that hold a blank node.
 use Rattle.std.proofs.Common.{◌≡◌, Bool, true, false, ◌||◌, List, refl, sym, subst, ◌∙◌, inl, inr, ⊎_elim}
 use Rattle.std.specs.List.{Contains, list_any}
+use Rattle.std.proofs.lemmas.Bool.{or_right, or_cases}
+use Rattle.list_laws.proofs.Members.{any_of, some_of}
+use Rattle.list_laws.proofs.Tests.{not_both_ways}
 use Rattle.rdf_terms.specs.declared.term.Term.{Term}
 use Rattle.rdf_terms.specs.declared.term.Term.TheVariants.{Iri, Blank, Literal}
 use Rattle.rdf_terms.specs.declared.term.Triple.{Triple}
 use Rattle.rdf_terms.specs.declared.term.Quad.{Quad}
 use Rattle.control_reader.specs.Contents.{page_triples, IsBlank, HoldsBlank, HasBlankData}
 use Rattle.control_reader.specs.Seen.{is_blank, holds_blank, TakesTriples}
-use Rattle.nquads_text.proofs.Steps.{either}
-use Rattle.control_reader.proofs.Bools.{any_of, some_of, not_both_ways}
 
 blank_is : (t : Term) → is_blank t ≡ true → IsBlank t
 blank_is (Iri text) h = absurd (cc)
@@ -22,16 +23,12 @@ is_blank_of (Literal form kind) h = absurd h
 
 holds_is : (t : Triple) → holds_blank t ≡ true → HoldsBlank t
 holds_is t h =
-    ⊎_elim (λ a. inl (blank_is t.subject a)) (λ a. inr (⊎_elim (λ b. inl (blank_is t.predicate b)) (λ b. inr (blank_is t.object b)) (either (is_blank t.predicate) (is_blank t.object) a)))
-    (either (is_blank t.subject) (is_blank t.predicate || is_blank t.object) h)
+    ⊎_elim (λ a. inl (blank_is t.subject a)) (λ a. inr (⊎_elim (λ b. inl (blank_is t.predicate b)) (λ b. inr (blank_is t.object b)) (or_cases (is_blank t.predicate) (is_blank t.object) a)))
+    (or_cases (is_blank t.subject) (is_blank t.predicate || is_blank t.object) h)
 
 or_left : (a b : Bool) → a ≡ true → (a || b) ≡ true
 or_left true b h = refl
 or_left false b h = absurd (cc)
-
-or_right : (a b : Bool) → b ≡ true → (a || b) ≡ true
-or_right true b h = refl
-or_right false b h = h
 
 is_holds : (t : Triple) → HoldsBlank t → holds_blank t ≡ true
 is_holds t h =

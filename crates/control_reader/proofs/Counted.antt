@@ -6,6 +6,8 @@ use Rattle.std.specs.List.{Contains}
 use Rattle.std.specs.List.Sorted.{IsStrictlySortedBy}
 use Rattle.std.specs.declared.cmp.Ordering.TheVariants.{Equal}
 use Rattle.std.proofs.lemmas.Cmp.{tied_itself}
+use Rattle.list_laws.proofs.Ascending.{less_not_equal}
+use Rattle.list_laws.proofs.Members.{at_head, head_or_tail, in_tail, none_in}
 use Rattle.rdf_terms.specs.declared.term.Term.{Term}
 use Rattle.rdf_terms.specs.declared.term.Triple.{Triple}
 use Rattle.rdf_terms.specs.Order.{term_order}
@@ -22,8 +24,6 @@ use Rattle.control_reader.specs.Counts.{WhyNoNext, IsNoLink}
 use Rattle.control_reader.specs.Outcomes.{IsFaultOf}
 use Rattle.control_reader.proofs.Fine.{only_not_two}
 use Rattle.control_reader.specs.Parts.{objects_in}
-use Rattle.control_reader.proofs.Members.{at_head, in_tail, head_or_tail, none_in}
-use Rattle.control_reader.proofs.Ascending.{less_not_equal}
 
 module _ (P : Term → Type 0) where
   pub none_of : (xs : List (Bor Triple)) → length xs ≡ 0 → ((o : Term) → Contains (objects_in xs) o ↔ P o) → (o : Term) → P o → ⊥

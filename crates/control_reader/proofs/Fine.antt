@@ -4,6 +4,7 @@ use Rattle.std.specs.Prelude.{◌≢◌}
 use Rattle.std.specs.declared.cmp.Ordering.{Ordering}
 use Rattle.std.specs.declared.cmp.Ordering.TheVariants.{Less, Equal, Greater}
 use Rattle.std.specs.Ordering.{ordering_reverse}
+use Rattle.list_laws.proofs.Tests.{not_both_ways}
 use Rattle.rdf_terms.specs.declared.term.Term.{Term}
 use Rattle.rdf_terms.specs.declared.term.Term.TheVariants.{Iri, Blank, Literal}
 use Rattle.rdf_terms.specs.declared.term.Quad.{Quad}
@@ -21,7 +22,6 @@ use Rattle.control_reader.specs.Takes.{FindsForm, HasForeignForm, HasForeignLink
 use Rattle.control_reader.specs.Outcomes.{IsFaultOf}
 use Rattle.control_reader.specs.Counts.{WhyNoCount, WhyNoNext, TakesForm, WhyNoForm}
 use Rattle.control_reader.specs.Stages.{IsAmiss, FirstAmiss}
-use Rattle.control_reader.proofs.Bools.{not_both_ways}
 
 pub only_not_two : {X : Type 0} (P : X → Type 0) (x : X) → IsOnly P x → HasTwo P → ⊥
 only_not_two P x h two = two.4 (h.1 two.0 two.2 ∙ sym (h.1 two.1 two.3))

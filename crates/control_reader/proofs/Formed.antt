@@ -11,6 +11,11 @@ use Rattle.std.proofs.lemmas.Slice.Eq.{bytes_eq-Decides}
 use Rattle.std.specs.declared.cmp.Ordering.TheVariants.{Less, Equal, Greater}
 use Rattle.std.specs.Ordering.{ordering_reverse}
 use Rattle.std.proofs.lemmas.Cmp.{tied_itself}
+use Rattle.std.proofs.lemmas.Bool.{and_from, and_parts, cases_Bool, not-true}
+use Rattle.list_laws.proofs.Ascending.{ascending_unmap, less_not_equal, pair_less}
+use Rattle.list_laws.proofs.Members.{Contains-filter_map, Contains-map, any_of, from_filter_map, from_map, some_of}
+use Rattle.list_laws.proofs.Places.{any_default}
+use Rattle.list_laws.proofs.Tests.{not_both_ways}
 use Rattle.rdf_terms.specs.declared.term.Term.{Term}
 use Rattle.rdf_terms.specs.declared.term.Triple.{Triple}
 use Rattle.rdf_terms.specs.declared.term.Quad.{Quad}
@@ -24,13 +29,9 @@ use Rattle.control_reader.specs.Parts.{borrowed_terms, objects_in, form_of, AreC
 use Rattle.control_reader.specs.Places.{searched_of, IsSearched, Names, NamesOther, MapsToOther}
 use Rattle.control_reader.specs.Variables.{named_all, AreVariables, HasVariable}
 use Rattle.control_reader.specs.declared.variable.Variable.{Variable}
-use Rattle.control_reader.proofs.Members.{Contains-map, from_map, Contains-filter_map, from_filter_map}
-use Rattle.nquads_text.proofs.Steps.{both, not_true, true_or_false}
-use Rattle.control_reader.proofs.Bools.{and, any_of, some_of, not_both_ways, term_same, term_itself, term_is}
+use Rattle.control_reader.proofs.TermTests.{term_same, term_itself, term_is}
 use Rattle.control_reader.proofs.Sorted.{from_sorted, in_sorted, sorted_ascends}
 use Rattle.control_reader.proofs.Variabled.{literal_form, form_literal}
-use Rattle.control_reader.proofs.Ascending.{pair_less, less_not_equal, ascending_unmap}
-use Rattle.control_reader.proofs.Ranged.{any_default}
 
 -- ---- literals among objects
 
@@ -52,17 +53,17 @@ module _ (P : Term → Type 0) (xs : List Term) (m : (o : Term) → Contains xs 
       (other : Term) → IsOnly (λ o. P o × ((text : List ℕ) × IsLiteral o text)) other → ⊥
   two_literals literal h l more other only =
       let r = some_of (λ o. is_some (form_of o) && not (term_eq o literal)) xs more in
-      let p = both (is_some (form_of r.0)) (not (term_eq r.0 literal)) r.2 in
+      let p = and_parts (is_some (form_of r.0)) (not (term_eq r.0 literal)) r.2 in
       let first = only.1 literal ((m literal).0 h, is_literal literal l) in
       let second = only.1 r.0 ((m r.0).0 r.1, is_literal r.0 p.0) in
-      not_both_ways _ (term_is r.0 literal (second ∙ sym first)) (not_true _ p.1)
+      not_both_ways _ (term_is r.0 literal (second ∙ sym first)) (not-true _ p.1)
 
   pub one_literal : (literal : Term) → Contains xs literal → is_some (form_of literal) ≡ true → list_any (λ o. is_some (form_of o) && not (term_eq o literal)) xs ≡ false →
       IsOnly (λ o. P o × ((text : List ℕ) × IsLiteral o text)) literal
   one_literal literal h l lacking = (
     ((m literal).0 h, is_literal literal l),
     λ other q. ⊎_elim (λ e. term_same other literal e)
-        (λ e. absurd (not_both_ways _ (any_of (λ o. is_some (form_of o) && not (term_eq o literal)) xs other ((m other).1 q.0) (and _ _ (literal_is other q.1.0 q.1.1) (ap not e))) lacking)) (true_or_false (term_eq other literal)),
+        (λ e. absurd (not_both_ways _ (any_of (λ o. is_some (form_of o) && not (term_eq o literal)) xs other ((m other).1 q.0) (and_from _ _ (literal_is other q.1.0 q.1.1) (ap not e))) lacking)) (cases_Bool (term_eq other literal)),
   )
 
   -- lacking other object
@@ -76,7 +77,7 @@ module _ (P : Term → Type 0) (xs : List Term) (m : (o : Term) → Contains xs 
   pub other_object : (object : Term) → list_any (λ o. not (term_eq o object)) xs ≡ true → ((o : Term) → P o → o ≡ object) → ⊥
   other_object object more all =
       let r = some_of (λ o. not (term_eq o object)) xs more in
-      not_both_ways _ (term_is r.0 object (all r.0 ((m r.0).0 r.1))) (not_true _ r.2)
+      not_both_ways _ (term_is r.0 object (all r.0 ((m r.0).0 r.1))) (not-true _ r.2)
 
 pub template_is : (r : Option (Bor (List ℕ))) (literal : Term) (Q : Term → Type 0) → option_copied r ≡ form_of literal → is_some (form_of literal) ≡ true → IsOnly Q literal →
     MatchOption r ((l : Term) → IsOnly Q l → ⊥) (λ text. (l : Term) × IsOnly Q l × IsLiteral l text.now)
@@ -100,7 +101,7 @@ module _ (P : List ℕ → Type 0) (xs : List (List ℕ)) (m : (t : List ℕ) �
   pub other_text : list_any (λ t. not (bytes_eq t text)) xs ≡ true → (other : List ℕ) × P other × (other ≢ text)
   other_text more =
       let r = some_of (λ t. not (bytes_eq t text)) xs more in
-      (r.0, (m r.0).0 r.1, λ e. not_both_ways _ ((bytes_eq-Decides r.0 text).1 e) (not_true _ r.2))
+      (r.0, (m r.0).0 r.1, λ e. not_both_ways _ ((bytes_eq-Decides r.0 text).1 e) (not-true _ r.2))
 
   pub text_other : (other : List ℕ) → P other → other ≢ text → list_any (λ t. not (bytes_eq t text)) xs ≡ true
   text_other other p differs = by (bytes_eq other text) refl
@@ -113,7 +114,7 @@ module _ (P : List ℕ → Type 0) (xs : List (List ℕ)) (m : (t : List ℕ) �
 pub only_text : (P : List ℕ → Type 0) (text : List ℕ) → P text → (((other : List ℕ) × P other × (other ≢ text)) → ⊥) → IsOnly P text
 only_text P text h lacking = (
   h,
-  λ other p. ⊎_elim (λ e. (bytes_eq-Decides other text).0 e) (λ e. absurd (lacking (other, p, λ same. not_both_ways _ ((bytes_eq-Decides other text).1 same) e))) (true_or_false (bytes_eq other text)),
+  λ other p. ⊎_elim (λ e. (bytes_eq-Decides other text).0 e) (λ e. absurd (lacking (other, p, λ same. not_both_ways _ ((bytes_eq-Decides other text).1 same) e))) (cases_Bool (bytes_eq other text)),
 )
 
 pub two_texts : (P : List ℕ → Type 0) (text : List ℕ) → P text → ((other : List ℕ) × P other × (other ≢ text)) → (only : List ℕ) → IsOnly P only → ⊥

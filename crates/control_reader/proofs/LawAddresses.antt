@@ -1,11 +1,12 @@
 -- The base of a server, and the texts of addresses that begin with its text.
 use Rattle.std.proofs.Common.{◌≡◌, ℕ, ◌<◌, List, [], ◌∷◌, ◌++◌, Bool, true, false, ◌==◌, ◌&&◌, ◌||◌, cond, if◌then◌else◌, nat_le, Some, Option, length, refl, sym, ◌∙◌, ap, subst, arith, inl, inr, append_assoc}
-use Rattle.std.specs.Prelude.{codes, decimal}
+use Rattle.std.specs.Prelude.{codes}
 use Rattle.std.specs.List.{list_all, prefix_len}
 use Rattle.std.specs.Char.{is_ascii, is_ascii_digit}
 use Rattle.std.proofs.lemmas.List.Folds.{list_all-append}
 use Rattle.std.proofs.lemmas.Bool.Decides.{nat_tests}
 use Rattle.std.proofs.Math.Seq.{drop-append_seam, take-append_seam}
+use Rattle.std.proofs.lemmas.Bool.{and_from}
 use Rattle.rdf_terms.specs.Iri.{is_iri, is_iri_byte, is_letter, is_scheme_byte, has_colon, has_scheme}
 use Rattle.rdf_terms.specs.declared.slots.Slots.{Slots}
 use Rattle.tpf_base.specs.Addresses.{Address, IsAddress, IsPortTyped, is_host_byte, is_host, is_address_byte, is_path_byte, is_path, is_query_part, query_text, authority_text, authority_of, target_of, address_text}
@@ -13,11 +14,12 @@ use Rattle.template_fill.specs.ReadAddress.{read_spelled, with_target}
 use Rattle.template_fill.specs.WebAddress.{IsNormal, Extends, port_text, is_lower}
 use Rattle.template_fill.specs.Forms.{filled}
 use Rattle.template_fill.specs.Pages.{page_address, place_names, places_text, page_mark, page_pair}
-use Rattle.template_fill.proofs.Addresses.{and_left, and_right, and_both, all_host, is_host-lower, is_lower-lower, not_empty, authority-port, is_port_typed, normal_is_address, keeps, kept_iri, is_ascii-address, iri_byte-address}
+use Rattle.template_fill.proofs.Addresses.{and_left, and_right, all_host, is_host-lower, is_lower-lower, not_empty, authority-port, is_port_typed, normal_is_address, keeps, kept_iri, is_ascii-address, iri_byte-address}
 use Rattle.template_fill.proofs.Reading.{prefix_len-front, after_scheme-of, IsTail, is_tail, port_part-of, one_address}
 use Rattle.template_fill.proofs.Passing.{list_all-wider}
 use Rattle.template_fill.proofs.Values.{pairs-address, unreserved-address, digit-unreserved}
-use Rattle.control_reader.proofs.LawNumbers.{all_digits}
+use Rattle.tpf_base.specs.Decimals.{decimal_text}
+use Rattle.tpf_base.proofs.DecimalTexts.{decimal_text-digits}
 
 -- ---- the base in its normal form
 
@@ -80,13 +82,13 @@ has_colon-more (b ∷ text) more h =
     let go : (c d : Bool) → c || (d && has_colon text) ≡ true → c || (d && has_colon (text ++ more)) ≡ true =
     λ c d. elim c as (λ v. v || (d && has_colon text) ≡ true → v || (d && has_colon (text ++ more)) ≡ true) [
       | true ↦ λ _. refl
-      | false ↦ λ both. and_both d _ (and_left d _ both) (has_colon-more text more (and_right d _ both))
+      | false ↦ λ both. and_from d _ (and_left d _ both) (has_colon-more text more (and_right d _ both))
     ] in
     go (b == 58) (is_scheme_byte b) h
 
 has_scheme-more : (text more : List ℕ) → has_scheme text ≡ true → has_scheme (text ++ more) ≡ true
 has_scheme-more [] more h = absurd (cc)
-has_scheme-more (b ∷ text) more h = and_both (is_letter b) _ (and_left (is_letter b) _ h) (has_colon-more text more (and_right (is_letter b) _ h))
+has_scheme-more (b ∷ text) more h = and_from (is_letter b) _ (and_left (is_letter b) _ h) (has_colon-more text more (and_right (is_letter b) _ h))
 
 -- more bytes of an IRI
 pub web_more : (text more : List ℕ) → IsWeb text → list_all is_iri_byte more ≡ true → list_all is_ascii more ≡ true → IsWeb (text ++ more)
@@ -94,7 +96,7 @@ web_more text more h iri ascii =
     let bytes = and_left (list_all is_iri_byte text) (has_scheme text) h.iri in
     let scheme = and_right (list_all is_iri_byte text) (has_scheme text) h.iri in
     record {
-      iri = and_both (list_all is_iri_byte (text ++ more)) _ (rw (list_all-append is_iri_byte text more, bytes) iri) (has_scheme-more text more scheme);
+      iri = and_from (list_all is_iri_byte (text ++ more)) _ (rw (list_all-append is_iri_byte text more, bytes) iri) (has_scheme-more text more scheme);
       ascii = rw (list_all-append is_ascii text more, h.ascii) ascii;
     }
 
@@ -141,9 +143,9 @@ digit_address : (b : ℕ) → is_ascii_digit b ≡ true → is_address_byte b �
 digit_address b h = unreserved-address b (digit-unreserved b h)
 
 pair_bytes : (mark k : ℕ) → is_address_byte mark ≡ true → list_all is_address_byte (page_pair mark k) ≡ true
-pair_bytes mark k own = elim (k == 1) as (λ v. list_all is_address_byte (cond v [] (mark ∷ (codes "page=" ++ decimal k))) ≡ true) [
+pair_bytes mark k own = elim (k == 1) as (λ v. list_all is_address_byte (cond v [] (mark ∷ (codes "page=" ++ decimal_text k))) ≡ true) [
   | true ↦ refl
-  | false ↦ and_both (is_address_byte mark) _ own (list_all-wider is_ascii_digit is_address_byte digit_address (decimal k) (all_digits k))
+  | false ↦ and_from (is_address_byte mark) _ own (list_all-wider is_ascii_digit is_address_byte digit_address (decimal_text k) (decimal_text-digits k))
 ]
 
 mark_byte : (written : List ℕ) → is_address_byte (page_mark written) ≡ true

@@ -85,7 +85,7 @@ module _ (ts : List Triple) (there back : Bool) (m : Parts) where
 
   pub count_is : m.count ≤ 9999999999999999999 → IsCount (body ts there back m) m.page m.count
   unfolding integer
-  count_is fits = (integer m.count, (inl says_count, count_object), (count_text m.count fits, count_value m.count fits))
+  count_is fits = (integer m.count, (inl says_count, count_object), (count_text m.count fits, count_value m.count))
 
   -- ---- the next page
 

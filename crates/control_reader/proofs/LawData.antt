@@ -5,9 +5,10 @@ use Rattle.std.specs.List.{AllByRecursion, Contains, filter}
 use Rattle.std.specs.List.Sorted.{IsStrictlySortedBy}
 use Rattle.std.specs.Cmp.{IsTotalOrder}
 use Rattle.std.specs.declared.cmp.Ordering.{Ordering}
-use Rattle.std.specs.declared.cmp.Ordering.TheVariants.{Less, Equal}
+use Rattle.std.specs.declared.cmp.Ordering.TheVariants.{Less}
 use Rattle.std.proofs.lemmas.Cmp.{tied_itself}
 use Rattle.std.proofs.lemmas.List.Elements.{All-from_recursion, recursion_from_All, All-contains, All-contains_itself, All-weaker, All-take, All-drop}
+use Rattle.list_laws.proofs.Ascending.{less_not_equal}
 use Rattle.rdf_terms.specs.declared.term.Term.{Term}
 use Rattle.rdf_terms.specs.declared.term.Term.TheVariants.{Iri, Blank, Literal}
 use Rattle.rdf_terms.specs.declared.term.Triple.{Triple}
@@ -47,14 +48,11 @@ all_take P zero ts h = tt
 all_take P (suc n) [] h = tt
 all_take P (suc n) (t ∷ ts) h = (h.0, all_take P n ts h.1)
 
-less_equal : Less ≡ Equal → ⊥
-less_equal e = cc
-
 differs : (R : Triple → Triple → Ordering) → IsTotalOrder R → (t s : Triple) → R t s ≡ Less → not (triple_eq t s) ≡ true
 differs R o t s less =
     let go : (b : Bool) → triple_eq t s ≡ b → not b ≡ true =
     λ b. elim b as (λ v. triple_eq t s ≡ v → not v ≡ true) [
-      | true ↦ λ same. absurd (less_equal (sym less ∙ ap (λ (u : Triple). R t u) (sym ((triple_decides t s).0 same)) ∙ tied_itself o t))
+      | true ↦ λ same. absurd (less_not_equal (sym less ∙ ap (λ (u : Triple). R t u) (sym ((triple_decides t s).0 same)) ∙ tied_itself o t))
       | false ↦ λ _. refl
     ] in
     go (triple_eq t s) refl

@@ -1,7 +1,7 @@
 -- What is taken from the body of a page is that page.
 use Rattle.std.proofs.Common.{◌≡◌, ℕ, ◌+◌, ◌<◌, ◌≤◌, ◌⊎◌, inl, inr, Bool, true, false, nat_lt, List, [], Option, Some, None, sym, ◌∙◌, ap, subst}
 use Rattle.std.specs.Prelude.{codes}
-use Rattle.std.proofs.lemmas.Bool.{cases_lt}
+use Rattle.std.proofs.lemmas.Bool.{cases_lt, le-ltb, lt-ltb}
 use Rattle.rdf_terms.specs.declared.term.Term.{Term}
 use Rattle.rdf_terms.specs.declared.term.Term.TheVariants.{Iri}
 use Rattle.rdf_terms.specs.declared.term.Triple.{Triple}
@@ -17,7 +17,7 @@ use Rattle.control_reader.specs.Controls.{IsTopic, IsNumber, IsCount, FormTexts,
 use Rattle.control_reader.specs.Law.{IsNextOf, IsServerForm}
 use Rattle.control_reader.proofs.LawControls.{body, topic_only, count_object, next_only, says_next, no_next_is, template_only, place_only, node_only}
 use Rattle.control_reader.proofs.LawMetadata.{Parts, node, subject_said, predicate_said, object_said}
-use Rattle.control_reader.proofs.LawNumbers.{below_last, at_last, count_value, count_bound}
+use Rattle.control_reader.proofs.LawNumbers.{count_value, count_bound}
 use Rattle.control_reader.proofs.LawTemplates.{template_reads, home_is}
 
 -- the texts of the server's form
@@ -42,7 +42,7 @@ module _ (ts : List Triple) (there back : Bool) (m : Parts) where
 
   pub count_taken : (n : ℕ) → IsCount (body ts there back m) m.page n → n ≡ m.count
   unfolding integer
-  count_taken n h = (number_taken n h).1 ∙ sym (count_value m.count (count_fits n h))
+  count_taken n h = (number_taken n h).1 ∙ sym (count_value m.count)
 
   form_texts : (texts : FormTexts) → IsForm (body ts there back m) m.page node texts → AreServerTexts m texts
   form_texts texts h =
@@ -88,12 +88,12 @@ home_taken base template authority h is home =
     sym home.2 ∙ ap authority_of (one_address (address_text base) home.0 base own h)
 
 last_by : (ts : List Triple) (back : Bool) (m : Parts) (k last : ℕ) (authority : List ℕ) → (k < last) ⊎ (last ≤ k) → IsNext (body ts (nat_lt k last) back m) m.page authority None → last ≤ k
-last_by ts back m k last authority (inl below) h = absurd (has_next ts (nat_lt k last) back m authority (below_last k last below) h)
+last_by ts back m k last authority (inl below) h = absurd (has_next ts (nat_lt k last) back m authority (lt-ltb k last below) h)
 last_by ts back m k last authority (inr past) h = past
 
 below_by : (ts : List Triple) (back : Bool) (m : Parts) (k last : ℕ) (authority : List ℕ) (next : Address) → (k < last) ⊎ (last ≤ k) → IsNext (body ts (nat_lt k last) back m) m.page authority (Some next) → (k < last) × IsAddress m.next next
-below_by ts back m k last authority next (inl below) h = (below, next_link ts (nat_lt k last) back m authority next (below_last k last below) h)
-below_by ts back m k last authority next (inr past) h = absurd (no_next ts (nat_lt k last) back m authority next (at_last k last past) h)
+below_by ts back m k last authority next (inl below) h = (below, next_link ts (nat_lt k last) back m authority next (lt-ltb k last below) h)
+below_by ts back m k last authority next (inr past) h = absurd (no_next ts (nat_lt k last) back m authority next (le-ltb k last past) h)
 
 pub next_taken : (ts : List Triple) (back : Bool) (m : Parts) (config : Config) (slots : Slots) (k last : ℕ) (authority : List ℕ) (next : Option Address) → m.next ≡ page_address config.base slots (k + 1) → IsNext (body ts (nat_lt k last) back m) m.page authority next → IsNextOf config slots k last next
 next_taken ts back m config slots k last authority None is h = last_by ts back m k last authority (cases_lt k last) h

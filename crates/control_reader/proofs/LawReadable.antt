@@ -16,11 +16,13 @@ use Rattle.rdf_terms.specs.declared.term.Term.{Term}
 use Rattle.rdf_terms.specs.declared.term.Term.TheVariants.{Iri, Blank, Literal}
 use Rattle.rdf_terms.specs.declared.term.Triple.{Triple}
 use Rattle.rdf_terms.specs.declared.term.Quad.{Quad}
-use Rattle.nquads_text.specs.Quads.{IsValidKind, IsValidTerm, HasShortLabel, IsReadableTerm, IsReadableGraph, IsReadable}
+use Rattle.rdf_terms.specs.Valid.{IsValidKind, IsValidTerm, IsValidTriple}
+use Rattle.rdf_terms.specs.Sizes.{HasShortLabel}
+use Rattle.nquads_text.specs.Quads.{IsReadableTerm, IsReadableGraph, IsReadable}
 use Rattle.template_fill.specs.Metadata.{foaf, void, hydra, rdf, plain, integer, statement, topic_quads, form_quads, mapping_quads, count_quads, link_quads}
 use Rattle.template_fill.specs.Bodies.{in_default_graph}
 use Rattle.template_fill.proofs.Addresses.{and_left, and_right, utf8-ascii}
-use Rattle.control_reader.specs.Law.{HasValidTerms, IsShort, IsShortGraph, HasShortTerms}
+use Rattle.control_reader.specs.Law.{IsShort, IsShortGraph, HasShortTerms}
 use Rattle.control_reader.proofs.LawAddresses.{IsWeb, web_more}
 use Rattle.control_reader.proofs.LawNumbers.{number_utf8}
 use Rattle.control_reader.proofs.LawMetadata.{Parts, metadata}
@@ -135,7 +137,7 @@ iri_or_blank (Iri text) h = tt
 iri_or_blank (Blank label) h = tt
 iri_or_blank (Literal form kind) h = absurd h
 
-safe_triple : (t : Triple) → IsGroundTriple t → HasValidTerms t → IsSafeQuad (in_default_graph t)
+safe_triple : (t : Triple) → IsGroundTriple t → IsValidTriple t → IsSafeQuad (in_default_graph t)
 safe_triple t classes valid = record {
   classes = record { triple = record { subject = iri_or_blank t.subject classes.subject; predicate = classes.predicate }; graph = tt };
   subject = record { valid = valid.subject; label = iri_label t.subject classes.subject };
@@ -144,7 +146,7 @@ safe_triple t classes valid = record {
   graph = tt;
 }
 
-safe_data : (ts : List Triple) → AllByRecursion IsGroundTriple ts → AllByRecursion HasValidTerms ts → AllByRecursion IsSafeQuad (map in_default_graph ts)
+safe_data : (ts : List Triple) → AllByRecursion IsGroundTriple ts → AllByRecursion IsValidTriple ts → AllByRecursion IsSafeQuad (map in_default_graph ts)
 safe_data [] classes valid = tt
 safe_data (t ∷ ts) classes valid = (safe_triple t classes.0 valid.0, safe_data ts classes.1 valid.1)
 
@@ -223,5 +225,5 @@ safe_metadata there back m h =
     let with_next = joined with_count (safe_link there m.graph m.page (codes "next") m.next h.graph h.page h.next (safe_text _ refl refl)) in
     joined with_next (safe_link back m.graph m.page (codes "previous") m.previous h.graph h.page h.previous (safe_text _ refl refl))
 
-pub safe_body : (ts : List Triple) (there back : Bool) (m : Parts) → AllByRecursion IsGroundTriple ts → AllByRecursion HasValidTerms ts → HasSafeTexts m → AllByRecursion IsSafeQuad (map in_default_graph ts ++ metadata there back m)
+pub safe_body : (ts : List Triple) (there back : Bool) (m : Parts) → AllByRecursion IsGroundTriple ts → AllByRecursion IsValidTriple ts → HasSafeTexts m → AllByRecursion IsSafeQuad (map in_default_graph ts ++ metadata there back m)
 safe_body ts there back m classes valid h = all_append (map in_default_graph ts) (metadata there back m) (safe_data ts classes valid) (safe_metadata there back m h).each

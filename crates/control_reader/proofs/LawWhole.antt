@@ -4,12 +4,13 @@ use Rattle.std.specs.Prelude.{codes}
 use Rattle.std.specs.List.{AllByRecursion}
 use Rattle.std.specs.Char.{is_ascii}
 use Rattle.std.proofs.lemmas.List.Folds.{list_all-append}
-use Rattle.std.proofs.lemmas.Bool.{cases_lt}
+use Rattle.std.proofs.lemmas.Bool.{cases_lt, le-ltb, lt-ltb}
 use Rattle.rdf_terms.specs.declared.term.Triple.{Triple}
 use Rattle.rdf_terms.specs.declared.term.Quad.{Quad}
 use Rattle.rdf_terms.specs.declared.slots.Slots.{Slots}
 use Rattle.rdf_terms.specs.Canon.{canon}
 use Rattle.rdf_terms.specs.Triples.{IsGroundTriple}
+use Rattle.rdf_terms.specs.Valid.{IsValidTriple}
 use Rattle.rdf_terms.specs.Fragments.{fragment, page_of, last_page_of}
 use Rattle.nquads_text.specs.Reads.{Reads}
 use Rattle.nquads_text.proofs.ReadLaws.{all_readable as what_is_read}
@@ -19,17 +20,18 @@ use Rattle.template_fill.specs.declared.form.Form.{Form}
 use Rattle.template_fill.specs.Templates.{Template, read_template, expansion}
 use Rattle.template_fill.specs.Pages.{page_address, server_template, template_text}
 use Rattle.template_fill.specs.Metadata.{Config}
+use Rattle.template_fill.specs.Configurations.{IsValidDataSet}
+use Rattle.template_fill.proofs.Histories.{versions}
 use Rattle.template_fill.specs.Bodies.{version_of, in_default_graph, page_quads, page_body}
 use Rattle.control_reader.specs.declared.page.Page.{Page}
 use Rattle.control_reader.specs.Contents.{firsts, page_triples}
 use Rattle.control_reader.specs.Controls.{IsTopic, IsCount, IsLeastForm, IsFormOf, IsNext, IsHome}
 use Rattle.control_reader.specs.Takes.{IsBody, Takes}
-use Rattle.control_reader.specs.Law.{HasValidTerms, HasShortTerms, IsServed, IsWithinLimits, IsNextOf, IsServerForm, IsPageOf, IsReadFrom, ControlsReadBack, NothingElseIsRead, PagesAreThere}
+use Rattle.control_reader.specs.Law.{HasShortTerms, IsWithinLimits, IsNextOf, IsServerForm, IsPageOf, IsReadFrom, ControlsReadBack, NothingElseIsRead, PagesAreThere}
 use Rattle.control_reader.proofs.LawAddresses.{base_web, web_more, extends_web, page_longer, longer, longer_is, same_authority}
 use Rattle.control_reader.proofs.LawControls.{body, texts_of, topic_is, count_is, next_is, no_next_is, least_is}
 use Rattle.control_reader.proofs.LawData.{page_firsts, page_all, default_data, no_blank_data}
 use Rattle.control_reader.proofs.LawMetadata.{Parts, metadata, parts_for, metadata_is, all_named}
-use Rattle.control_reader.proofs.LawNumbers.{below_last, at_last}
 use Rattle.control_reader.proofs.LawOnly.{topic_taken, count_fits, count_taken, texts_taken, form_taken, home_taken, next_taken}
 use Rattle.control_reader.proofs.LawReadable.{IsSafeQuad, HasSafeTexts, all_readable, safe_body}
 use Rattle.control_reader.proofs.LawReads.{only_reading, all_short}
@@ -82,9 +84,9 @@ home_given base template authority h is own = (base, subst (λ (text : List ℕ)
 -- ---- the next page
 
 next_given : (ts : List Triple) (back : Bool) (m : Parts) (config : Config) (slots : Slots) (k last : ℕ) (authority : List ℕ) (next : Option Address) → IsAddress (address_text config.base) config.base → m.next ≡ page_address config.base slots (k + 1) → authority ≡ authority_of config.base → IsNextOf config slots k last next → IsNext (body ts (nat_lt k last) back m) m.page authority next
-next_given ts back m config slots k last authority None h is own more = no_next_is ts (nat_lt k last) back m (at_last k last more) authority
+next_given ts back m config slots k last authority None h is own more = no_next_is ts (nat_lt k last) back m (le-ltb k last more) authority
 next_given ts back m config slots k last authority (Some next) h is own more =
-    next_is ts (nat_lt k last) back m (below_last k last more.0) authority next (subst (λ (text : List ℕ). IsAddress text next) (sym is) more.1)
+    next_is ts (nat_lt k last) back m (lt-ltb k last more.0) authority next (subst (λ (text : List ℕ). IsAddress text next) (sym is) more.1)
     (same_authority config.base next (page_address config.base slots (k + 1)) h (page_longer config.base slots (k + 1)) more.1 ∙ sym own)
 
 -- ---- the data
@@ -98,7 +100,7 @@ triples_are triples slots k size there back m = ap firsts (default_data (page_of
 moved : (P : List Quad → List ℕ → Type 0) (one other : List Quad) (topic text : List ℕ) → one ≡ other → topic ≡ text → P one topic → P other text
 moved P one other topic text e f h = subst (P other) f (subst (λ (qs : List Quad). P qs topic) e h)
 
-module _ (history : List (List Triple)) (version : ℕ) (config : Config) (slots : Slots) (k : ℕ) (served : IsServed (version_of history version) config) where
+module _ (history : List (List Triple)) (version : ℕ) (config : Config) (slots : Slots) (k : ℕ) (valid : IsValidDataSet (version_of history version)) (web : IsAddress (address_text config.base) config.base) where
   abbrev count : ℕ
   count = length (fragment (version_of history version) slots)
 
@@ -122,10 +124,10 @@ module _ (history : List (List Triple)) (version : ℕ) (config : Config) (slots
   text_is = ap canon quads_are
 
   classes : AllByRecursion IsGroundTriple ts
-  classes = page_all IsGroundTriple (version_of history version) slots k config.page_size served.data_set.classes
+  classes = page_all IsGroundTriple (version_of history version) slots k config.page_size valid.data_set.classes
 
   safe : AllByRecursion IsSafeQuad quads
-  safe = safe_body ts (nat_lt k last) (nat_lt 1 k) m classes (page_all HasValidTerms (version_of history version) slots k config.page_size served.terms) (safe_texts config slots k count served.base)
+  safe = safe_body ts (nat_lt k last) (nat_lt 1 k) m classes (page_all IsValidTriple (version_of history version) slots k config.page_size valid.terms) (safe_texts config slots k count web)
 
   page_data : page_triples quads ≡ ts
   page_data = triples_are (version_of history version) slots k config.page_size (nat_lt k last) (nat_lt 1 k) m
@@ -149,9 +151,9 @@ module _ (history : List (List Triple)) (version : ℕ) (config : Config) (slots
     controls = record { body = reads limits.terms; is_topic = topic_is ts (nat_lt k last) (nat_lt 1 k) m (address_text address) };
     count = subst (IsCount quads m.page) (m_count ∙ sym is.count) (count_is ts (nat_lt k last) (nat_lt 1 k) m (rw m_count limits.count));
     least = least_is ts (nat_lt k last) (nat_lt 1 k) m;
-    form = form_given config.base page.form m served.base (parts_template config slots k count) is.form;
-    next = next_given ts (nat_lt 1 k) m config slots k last (authority_of address) page.next served.base (parts_next config slots k count) own is.next;
-    home = home_given config.base page.form.template (authority_of address) served.base is.form.template own;
+    form = form_given config.base page.form m web (parts_template config slots k count) is.form;
+    next = next_given ts (nat_lt 1 k) m config slots k last (authority_of address) page.next web (parts_next config slots k count) own is.next;
+    home = home_given config.base page.form.template (authority_of address) web is.form.template own;
     triples = is.triples_are ∙ sym page_data;
     no_blank = no_blank_data quads ts page_data classes;
   }
@@ -165,11 +167,11 @@ module _ (history : List (List Triple)) (version : ℕ) (config : Config) (slots
       let counted = moved (λ qs text. IsCount qs text page.count) t.quads quads t.topic m.page is topic t.count in
       let least = moved (λ qs text. IsLeastForm qs text t.texts) t.quads quads t.topic m.page is topic t.least in
       let linked = moved (λ qs text. IsNext qs text (authority_of address) page.next) t.quads quads t.topic m.page is topic t.next in
-      let form = form_taken config.base m t.texts page.form served.base (parts_template config slots k count) (texts_taken ts there back m t.texts least) t.form in
+      let form = form_taken config.base m t.texts page.form web (parts_template config slots k count) (texts_taken ts there back m t.texts least) t.form in
       let short = all_short 4194304 t.quads (what_is_read (page_body history version config slots k) 4194304 t.quads t.controls.body) in
       record {
         within = record { count = rw (← m_count) (count_fits ts there back m page.count counted); terms = subst (AllByRecursion (HasShortTerms 4194304)) (is ∙ sym quads_are) short };
-        authority = home_taken config.base page.form.template (authority_of address) served.base form.template t.home;
+        authority = home_taken config.base page.form.template (authority_of address) web form.template t.home;
         is_page = record {
           triples_are = t.triples ∙ ap page_triples is ∙ page_data;
           count = count_taken ts there back m page.count counted ∙ m_count;
@@ -183,7 +185,7 @@ module _ (history : List (List Triple)) (version : ℕ) (config : Config) (slots
       let text = page_address config.base slots (k + 1) in
       let more = page_longer config.base slots (k + 1) in
       elim (cases_lt k last) [
-        | inl below ↦ (Some (longer config.base text more), (below, longer_is config.base text served.base more))
+        | inl below ↦ (Some (longer config.base text more), (below, longer_is config.base text web more))
         | inr past ↦ (None, past)
       ]
 
@@ -202,10 +204,10 @@ module _ (history : List (List Triple)) (version : ℕ) (config : Config) (slots
 -- ---- the law
 
 pub controls_read_back : ControlsReadBack
-controls_read_back history version config slots k address page served = taken history version config slots k served address page
+controls_read_back history version config slots k address page is valid = taken history version config slots k (versions history version is) valid.base address page
 
 pub nothing_else_is_read : NothingElseIsRead
-nothing_else_is_read history version config slots k address page served = only history version config slots k served address page
+nothing_else_is_read history version config slots k address page is valid = only history version config slots k (versions history version is) valid.base address page
 
 pub pages_are_there : PagesAreThere
-pages_are_there history version config slots k served = page_there history version config slots k served
+pages_are_there history version config slots k is valid = page_there history version config slots k (versions history version is) valid.base

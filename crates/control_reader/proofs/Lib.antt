@@ -1,8 +1,6 @@
-pub mod Members
-pub mod Bools
+pub mod TermTests
 pub mod Topics
 pub mod Controlled
-pub mod Ascending
 pub mod Ranged
 pub mod Steps
 pub mod Sorted
@@ -26,3 +24,4 @@ pub mod LawTemplates
 pub mod LawWhole
 pub mod Formed
 pub mod Asked
+pub mod KeptAuthorities

@@ -8,22 +8,22 @@ use Rattle.std.proofs.lemmas.Str.Parse.{tells_all_ascii_digits, numerals_by_valu
 use Rattle.std.proofs.lemmas.Bool.Decides.{nat_tests}
 use Rattle.std.proofs.lemmas.Int.Digits.{digits_value-lt}
 use Rattle.std.proofs.Math.Nat.{pow-le-pow_right}
+use Rattle.std.proofs.lemmas.Bool.{and_parts}
 use Rattle.template_fill.proofs.Ports.{digit_value-digit}
 use Rattle.control_reader.specs.Controls.{is_count_text}
-use Rattle.nquads_text.proofs.Steps.{both}
 
 digits_all : (ds : List ℕ) → list_all is_ascii_digit ds ≡ true → AllDigits 10 ds
 digits_all [] h = tt
 digits_all (d ∷ ds) h =
-    let p = both (is_ascii_digit d) (list_all is_ascii_digit ds) h in
+    let p = and_parts (is_ascii_digit d) (list_all is_ascii_digit ds) h in
     let v = digit_value-digit d p.0 in
     let a = v.0 in let b = v.1 in let e = v.2 in
     (omega (arith, a, b, e), digits_all ds p.1)
 
 parts : (ds : List ℕ) → is_count_text ds ≡ true → (1 ≤ length ds) × (length ds ≤ 19) × (list_all is_ascii_digit ds ≡ true)
 parts ds h =
-    let p = both (nat_le 1 (length ds)) (nat_le (length ds) 19 && list_all is_ascii_digit ds) h in
-    let q = both (nat_le (length ds) 19) (list_all is_ascii_digit ds) p.1 in
+    let p = and_parts (nat_le 1 (length ds)) (nat_le (length ds) 19 && list_all is_ascii_digit ds) h in
+    let q = and_parts (nat_le (length ds) 19) (list_all is_ascii_digit ds) p.1 in
     let some = p.0 in
     let few = q.0 in
     (grind (arith, nat_tests, some), grind (arith, nat_tests, few), q.1)

@@ -1,5 +1,5 @@
 -- The part of an ordered list that has one key.
-use Rattle.std.proofs.Common.{ℕ, zero, suc, ◌≡◌, ◌+◌, ◌-◌, ◌<◌, ◌≤◌, Bool, true, false, List, [], ◌∷◌, refl, sym, ap, subst, ◌∙◌, length, get_or, take, drop, arith, ltb}
+use Rattle.std.proofs.Common.{ℕ, ◌≡◌, ◌-◌, ◌<◌, ◌≤◌, Bool, true, false, List, [], ◌∷◌, refl, sym, ap, subst, ◌∙◌, length, get_or, take, drop, arith, ltb}
 use Rattle.std.specs.Prelude.{◌≢◌}
 use Rattle.std.specs.Borrow.{Bor}
 use Rattle.std.specs.List.{Contains}
@@ -9,16 +9,16 @@ use Rattle.std.specs.declared.cmp.Ordering.TheVariants.{Less, Equal, Greater}
 use Rattle.std.specs.Ordering.{ordering_then}
 use Rattle.std.specs.Cmp.{IsTotalOrder}
 use Rattle.std.proofs.lemmas.Cmp.{alike_right, on_total, then_total}
-use Rattle.std.proofs.lemmas.List.{get_or-take, get_or-drop, length-take, length-drop, length-take-le}
+use Rattle.list_laws.proofs.Ascending.{ascending_unmap, less_not_greater, pair_less, strict_drop, strict_on, strict_take, then_equal}
+use Rattle.list_laws.proofs.Members.{Contains-map, all_from, from_map}
+use Rattle.list_laws.proofs.Places.{any_default, between, in_between}
+use Rattle.list_laws.proofs.Tests.{not_both_ways}
 use Rattle.rdf_terms.specs.declared.term.Term.{Term}
 use Rattle.rdf_terms.specs.declared.term.Triple.{Triple}
 use Rattle.rdf_terms.specs.Order.{term_order, triple_order}
 use Rattle.rdf_terms.specs.OrderLaws.{term_total, term_equal}
 use Rattle.control_reader.specs.Ranges.{pair_order, is_before, goes_before, is_object_before}
 use Rattle.control_reader.specs.Parts.{borrowed_triples, objects_in, triple}
-use Rattle.control_reader.proofs.Members.{Contains-map, from_map}
-use Rattle.control_reader.proofs.Bools.{not_both_ways}
-use Rattle.control_reader.proofs.Ascending.{pair_less, less_not_equal, greater_not_equal, less_not_greater, ascending_unmap, all_from, strict_drop, strict_take, strict_on}
 
 -- ---- an element before another goes before a bound where that one does
 
@@ -42,20 +42,6 @@ partitioned {X} {K} {R} o key xs w bound rises i j d l m h = by (ltb i j) refl
     by false t = let same : j ≡ i = grind (arith, t, l) in subst (λ k. is_before w (R (key (get_or xs k d)) bound) ≡ true) same h
 
 -- ---- what stands between two places
-
-in_between : {X : Type 0} (xs : List X) (from to : ℕ) (x : X) → to ≤ length xs → Contains (take (to - from) (drop from xs)) x → (j : ℕ) × (from ≤ j) × (j < to) × (get_or xs j x ≡ x)
-in_between xs from to x w h =
-    let k = h.0 in let l = h.1 in
-    let short : length (take (to - from) (drop from xs)) ≤ to - from = rw (length-take (to - from) (drop from xs)) (omega arith) in
-    let inside : k < to - from = omega (arith, l, short) in
-    (from + k, omega arith, omega (arith, inside), sym (get_or-take (to - from) (drop from xs) k x inside ∙ get_or-drop from xs k x) ∙ h.2)
-
-between : {X : Type 0} (xs : List X) (from to j : ℕ) (x : X) → from ≤ j → j < to → to ≤ length xs → get_or xs j x ≡ x → Contains (take (to - from) (drop from xs)) x
-between xs from to j x l m w e =
-    let inside : j - from < to - from = omega (arith, l, m) in
-    let place : from + (j - from) ≡ j = omega (arith, l) in
-    let all : to - from ≤ length (drop from xs) = simp length-drop (omega (arith, w)) in
-    (j - from, rw (length-take-le (to - from) (drop from xs) all) inside, get_or-take (to - from) (drop from xs) (j - from) x inside ∙ get_or-drop from xs (j - from) x ∙ subst (λ i. get_or xs i x ≡ x) (sym place) e)
 
 equal_by : (o : Ordering) → is_before false o ≡ false → is_before true o ≡ true → o ≡ Equal
 equal_by Less h k = absurd (cc)
@@ -125,11 +111,6 @@ triples_parted xs w subject predicate s =
     (λ i j d l m. not_greater (term_order (get_or xs i d).now.subject (get_or xs j d).now.subject) (term_order (get_or xs i d).now.predicate (get_or xs j d).now.predicate) (term_order (get_or xs i d).now.object (get_or xs j d).now.object)
     (pair_less (λ (x y : Bor Triple). triple_order x.now y.now) xs (ascending_unmap (λ (t : Bor Triple). t.now) triple_order xs s) i j d d l m))
 
-then_equal : (a b : Ordering) → ordering_then a b ≡ Equal → (a ≡ Equal) × (b ≡ Equal)
-then_equal Less b h = absurd (less_not_equal h)
-then_equal Equal b h = (refl, h)
-then_equal Greater b h = absurd (greater_not_equal h)
-
 same_pair : (t : Triple) (s p : Term) → ordering_then (term_order t.subject s) (term_order t.predicate p) ≡ Equal → (t.subject ≡ s) × (t.predicate ≡ p)
 same_pair t s p h = let e = then_equal _ _ h in ((term_equal t.subject s).0 e.0, (term_equal t.predicate p).0 e.1)
 
@@ -188,11 +169,6 @@ pub objects_parted : (xs : List (Bor Triple)) (object : Term) → IsStrictlySort
 objects_parted xs object s =
     partitioned term_total (λ (t : Bor Triple). t.now.object) xs false object
     (λ i j d l m e. less_not_greater (sym (pair_less (λ (x y : Bor Triple). term_order x.now.object y.now.object) xs (ascending_unmap (λ (t : Bor Triple). t.now.object) term_order xs s) i j d d l m) ∙ e))
-
-pub any_default : {X : Type 0} (xs : List X) (n : ℕ) (d e : X) → n < length xs → get_or xs n d ≡ get_or xs n e
-any_default [] n d e l = absurd (omega arith)
-any_default (x ∷ xs) zero d e l = refl
-any_default (x ∷ xs) (suc n) d e l = any_default xs n d e (omega arith)
 
 module _ (xs : List (Bor Triple)) (object : Term) (place : ℕ) (s : IsStrictlySortedBy term_order (objects_in xs))
     (before : (k : ℕ) (d : Bor Triple) → k < place → is_object_before object (get_or xs k d).now ≡ true)

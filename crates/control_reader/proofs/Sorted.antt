@@ -7,7 +7,8 @@ use Rattle.std.specs.Cmp.{IsTotalOrder}
 use Rattle.std.specs.Ordering.{eq_by_cmp}
 use Rattle.std.specs.declared.cmp.Ordering.{Ordering}
 use Rattle.std.proofs.lemmas.Cmp.{on_total}
-use Rattle.control_reader.proofs.Members.{Contains-map, from_map, ascending_map, deduped_ascends, from_deduped, in_deduped}
+use Rattle.list_laws.proofs.Ascending.{ascending_map}
+use Rattle.list_laws.proofs.Members.{Contains-map, deduped_ascends, from_deduped, from_map, in_deduped}
 
 module _ {X Y : Type 0} (v : X → Y) {R : Y → Y → Ordering} (o : IsTotalOrder R) {E : X → X → Bool} (ties : (x y : X) → E x y ≡ eq_by_cmp (λ a b. R (v a) (v b)) x y) (same : (x y : X) → E x y ≡ true → v x ≡ v y)
     (all : List Y) (xs ys zs : List X) (listed : map v xs ≡ all) (moved : IsPermutation xs ys) (kept : IsFiltered (DiffersFromLast E) [] ys zs) where

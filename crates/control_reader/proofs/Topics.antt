@@ -2,6 +2,9 @@
 use Rattle.std.proofs.Common.{ℕ, ◌≡◌, Bool, true, false, cond, not, List, [], refl, sym, ap, subst, ◌∙◌, Option, Some, None, inl, inr}
 use Rattle.std.specs.Prelude.{◌≢◌}
 use Rattle.std.specs.List.{Contains, list_any}
+use Rattle.std.proofs.lemmas.Bool.{not-true}
+use Rattle.list_laws.proofs.Members.{Contains-filter_map, Contains-map, any_of, from_filter_map, from_map, none_in, some_of}
+use Rattle.list_laws.proofs.Tests.{not_both_ways}
 use Rattle.rdf_terms.specs.declared.term.Term.{Term}
 use Rattle.rdf_terms.specs.declared.term.Term.TheVariants.{Iri, Blank, Literal}
 use Rattle.rdf_terms.specs.declared.term.Quad.{Quad}
@@ -10,9 +13,7 @@ use Rattle.control_reader.specs.declared.topic.GraphTopic.{GraphTopic}
 use Rattle.control_reader.specs.Vocabulary.{primary_topic}
 use Rattle.control_reader.specs.Controls.{IsAbout, HasTopic, IsTopic, HasNoTopic}
 use Rattle.control_reader.specs.Parts.{About, iri_of, about_by, about_of, abouts_of, about, abouts, topics_in, has_same_topic, has_other_topic}
-use Rattle.control_reader.proofs.Members.{Contains-map, from_map, Contains-filter_map, from_filter_map, none_in}
-use Rattle.nquads_text.proofs.Steps.{not_true}
-use Rattle.control_reader.proofs.Bools.{any_of, some_of, not_both_ways, term_same, term_itself, term_is}
+use Rattle.control_reader.proofs.TermTests.{term_same, term_itself, term_is}
 
 -- a quad by its parts
 same_quad : (q : Quad) (graph predicate object : Term) → q.graph ≡ Some graph → q.triple.predicate ≡ predicate → q.triple.object ≡ object →
@@ -87,7 +88,7 @@ module _ (quads : List Quad) (gs : List GraphTopic) (all : abouts gs ≡ abouts_
   other_topic : (t : Term) → list_any (has_other_topic t) gs ≡ true → (text : List ℕ) × (Iri text ≢ t) × HasTopic quads text
   other_topic t h =
       let r = some_of (has_other_topic t) gs h in let l = listed r.0 r.1 in
-      (l.0, (λ e. not_both_ways (term_eq r.0.topic.now t) (term_is _ t (l.1 ∙ e)) (not_true _ r.2)), l.2)
+      (l.0, (λ e. not_both_ways (term_eq r.0.topic.now t) (term_is _ t (l.1 ∙ e)) (not-true _ r.2)), l.2)
 
   no_other : (t : Term) (text : List ℕ) → list_any (has_other_topic t) gs ≡ false → HasTopic quads text → Iri text ≡ t
   no_other t text h has = by (term_eq (Iri text) t) refl

@@ -12,6 +12,9 @@ use Rattle.std.specs.Cmp.{IsTotalOrder, tied_then}
 use Rattle.std.specs.Cmp.Lexicographic.{texts_ties}
 use Rattle.std.proofs.lemmas.Cmp.{nat_list_cmp_total, on_total, then_total}
 use Rattle.std.proofs.lemmas.Slice.Eq.{bytes_eq-Decides}
+use Rattle.std.proofs.lemmas.Bool.{and_parts}
+use Rattle.list_laws.proofs.Ascending.{ascending_unmap, less_not_greater, pair_less}
+use Rattle.list_laws.proofs.Members.{Contains-filter_map, Contains-map, from_filter_map, from_map}
 use Rattle.rdf_terms.specs.declared.term.Term.{Term}
 use Rattle.rdf_terms.specs.declared.term.Term.TheVariants.{Iri, Blank, Literal}
 use Rattle.rdf_terms.specs.declared.term.Triple.{Triple}
@@ -24,11 +27,8 @@ use Rattle.control_reader.specs.Vocabulary.{mapped_variable}
 use Rattle.control_reader.specs.Controls.{IsLiteral}
 use Rattle.control_reader.specs.Parts.{form_of, AreControls, triple}
 use Rattle.control_reader.specs.Variables.{Named, named, named_all, texts_in, named_by, named_of, name_order, goes_before, HasVariable, AreVariables}
-use Rattle.control_reader.proofs.Members.{Contains-map, from_map, Contains-filter_map, from_filter_map}
 use Rattle.control_reader.proofs.Sorted.{from_sorted, in_sorted, sorted_ascends}
-use Rattle.nquads_text.proofs.Steps.{both}
-use Rattle.control_reader.proofs.Bools.{term_same, term_itself}
-use Rattle.control_reader.proofs.Ascending.{pair_less, less_not_greater, ascending_unmap}
+use Rattle.control_reader.proofs.TermTests.{term_same, term_itself}
 use Rattle.control_reader.proofs.Ranged.{partitioned, in_part, part_in, in_order}
 
 pub literal_form : (o : Term) (text : List ℕ) → IsLiteral o text → form_of o ≡ Some text
@@ -80,7 +80,7 @@ named_ties x y =
 
 named_same : (x y : Variable) → (term_eq x.mapping.now y.mapping.now && bytes_eq x.text.now y.text.now) ≡ true → named x ≡ named y
 named_same x y h =
-    let p = both (term_eq x.mapping.now y.mapping.now) (bytes_eq x.text.now y.text.now) h in
+    let p = and_parts (term_eq x.mapping.now y.mapping.now) (bytes_eq x.text.now y.text.now) h in
     let e = term_same x.mapping.now y.mapping.now p.0 in
     let f = (bytes_eq-Decides x.text.now y.text.now).0 p.1 in
     λ i. record { mapping = e i; text = f i }

@@ -6,28 +6,15 @@ use Rattle.rdf_terms.specs.declared.term.Triple.{Triple}
 use Rattle.rdf_terms.specs.declared.term.Quad.{Quad}
 use Rattle.rdf_terms.specs.declared.slots.Slots.{Slots}
 use Rattle.rdf_terms.specs.Canon.{canonical_term}
-use Rattle.rdf_terms.specs.Triples.{IsDataSet}
 use Rattle.rdf_terms.specs.Fragments.{fragment, page_of, last_page}
-use Rattle.nquads_text.specs.Quads.{IsValidTerm}
-use Rattle.tpf_base.specs.Addresses.{Address, IsAddress, address_text, authority_of}
+use Rattle.tpf_base.specs.Addresses.{Address, IsAddress, authority_of}
 use Rattle.template_fill.specs.declared.form.Form.{Form}
 use Rattle.template_fill.specs.Pages.{page_address, server_template}
 use Rattle.template_fill.specs.Metadata.{Config}
+use Rattle.template_fill.specs.Configurations.{IsConfig, IsHistory}
 use Rattle.template_fill.specs.Bodies.{version_of, page_quads, page_body}
 use Rattle.control_reader.specs.declared.page.Page.{Page}
 use Rattle.control_reader.specs.Takes.{Takes}
-
--- terms that keep the rules of their texts
-pub record HasValidTerms (t : Triple) : Type 0 where
-  pub subject : IsValidTerm t.subject
-  pub predicate : IsValidTerm t.predicate
-  pub object : IsValidTerm t.object
-
--- what a server has: a data set of such terms, and a base that is an address
-pub record IsServed (triples : List Triple) (config : Config) : Type 0 where
-  pub data_set : IsDataSet triples
-  pub terms : AllByRecursion HasValidTerms triples
-  pub base : IsAddress (address_text config.base) config.base
 
 -- canonical texts of at most longest bytes
 abbrev pub IsShort : ℕ → Term → Type 0
@@ -71,7 +58,8 @@ pub record IsPageOf (triples : List Triple) (config : Config) (slots : Slots) (k
 abbrev pub ControlsReadBack : Type 0
 ControlsReadBack =
     (history : List (List Triple)) (version : ℕ) (config : Config) (slots : Slots) (k : ℕ) (address : Address) (page : Page)
-    → IsServed (version_of history version) config
+    → IsHistory history
+    → IsConfig config
     → IsWithinLimits history version config slots k
     → authority_of address ≡ authority_of config.base
     → IsPageOf (version_of history version) config slots k page
@@ -87,7 +75,8 @@ pub record IsReadFrom (history : List (List Triple)) (version : ℕ) (config : C
 abbrev pub NothingElseIsRead : Type 0
 NothingElseIsRead =
     (history : List (List Triple)) (version : ℕ) (config : Config) (slots : Slots) (k : ℕ) (address : Address) (page : Page)
-    → IsServed (version_of history version) config
+    → IsHistory history
+    → IsConfig config
     → Takes (page_body history version config slots k) address page
     → IsReadFrom history version config slots k address page
 
@@ -95,5 +84,6 @@ NothingElseIsRead =
 abbrev pub PagesAreThere : Type 0
 PagesAreThere =
     (history : List (List Triple)) (version : ℕ) (config : Config) (slots : Slots) (k : ℕ)
-    → IsServed (version_of history version) config
+    → IsHistory history
+    → IsConfig config
     → (page : Page) × IsPageOf (version_of history version) config slots k page

@@ -11,5 +11,6 @@ pub mod Seen
 pub mod Counts
 pub mod Stages
 pub mod Laws
+pub mod Authorities
 pub mod Law
 pub mod Marks

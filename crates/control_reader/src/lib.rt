@@ -10,13 +10,11 @@ mod laws;
 mod link;
 mod page;
 mod read;
-#[cfg(test)]
-mod tests;
 mod topic;
 mod variable;
 mod vocabulary;
 
 pub use law::controls_read_back;
-pub use laws::a_body_is_one_page;
+pub use laws::{a_body_is_one_page, pages_keep_authority};
 pub use page::{Page, PageFault, TripleList};
 pub use read::read_page;

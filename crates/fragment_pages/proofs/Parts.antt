@@ -2,6 +2,7 @@
 use Rattle.std.proofs.Common.{ℕ, ◌≡◌, ◌+◌, ◌-◌, ◌*◌, ◌≤◌, List, [], sym, ap, subst, ◌∙◌, length, take, drop, arith, min, None}
 use Rattle.std.specs.List.{Contains}
 use Rattle.std.specs.List.Sorted.{IsStrictlySortedBy}
+use Rattle.list_laws.proofs.Members.{in_flat_map, none_in}
 use Rattle.rdf_terms.specs.declared.term.Triple.{Triple}
 use Rattle.rdf_terms.specs.declared.term.Term.{Term}
 use Rattle.rdf_terms.specs.declared.slots.Slot.{Slot}
@@ -12,8 +13,7 @@ use Rattle.rdf_terms.specs.Fragments.{IsFragment, fragment, last_page, last_page
 use Rattle.rdf_terms.proofs.FragmentLaws.{fragment_only}
 use Rattle.triple_table.specs.Served.{terms_in, terms_of}
 use Rattle.triple_table.specs.Stored.{Stored, IsRange, triples_in, listed, slots_at}
-use Rattle.triple_table.proofs.Built.{in_flat_map, subject_in, predicate_in, object_in}
-use Rattle.triple_table.proofs.Members.{none_in}
+use Rattle.triple_table.proofs.Built.{subject_in, predicate_in, object_in}
 use Rattle.triple_table.specs.declared.ids.Range.{Range}
 use Rattle.triple_table.specs.declared.ids.IdPattern.{IdPattern}
 use Rattle.fragment_pages.specs.Pages.{IsPage}

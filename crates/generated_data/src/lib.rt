@@ -3,8 +3,6 @@
 
 mod laws;
 mod lines;
-#[cfg(test)]
-mod tests;
 mod write;
 
 pub use laws::generated_quads_are_rdf;

@@ -1,3 +1,4 @@
+pub mod ConnectionLemmas
 pub mod HeadLemmas
 pub mod FieldLemmas
 pub mod JudgeLemmas

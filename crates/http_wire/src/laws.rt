@@ -1,6 +1,7 @@
 // Laws of the definitions: what is read does not depend on the cuts, is what a feed gives, and wants only so many bytes.
 ghost use Rattle.std.specs.Prelude.{ℕ, List, Bool, ◌≡◌, ◌+◌, ◌*◌, ◌<◌, ◌≤◌, ◌++◌, length, true, false};
 ghost use Rattle.tpf_base.specs.HttpHeads.{Request, Taken, Refused, next_request};
+ghost use Rattle.tpf_base.specs.HttpConnection.{HeadsAreRead, AllHeadsAreRead, HeadsGoOn};
 ghost use Rattle.tpf_base.specs.HttpReply.{Place, More, is_open, after_bytes, reading_from, reply_of};
 ghost use Rattle.http_wire.specs.Replies.{longer};
 ghost use Rattle.http_wire.specs.Laws.{WhatIsReadIsGiven, WantsFewBytes};
@@ -31,4 +32,13 @@ pub fn a_request_stays()
     ensures taken { (xs ys : List ℕ) (r : Request) (n : ℕ) → next_request xs ≡ Taken r n → next_request (xs ++ ys) ≡ Taken r n }
     ensures within { (xs : List ℕ) (r : Request) (n : ℕ) → next_request xs ≡ Taken r n → (0 < n) × (n ≤ length xs) }
     ensures refused { (xs ys : List ℕ) (status : ℕ) → next_request xs ≡ Refused status → next_request (xs ++ ys) ≡ Refused status }
+{}
+
+/// The heads of a connection (RFC 9112, section 9.3) are the next request and then the heads of what
+/// follows it, up to the first that closes: what a feed that takes all bytes gives, one after
+/// another. Unless they close, what is left holds no whole head, and more bytes only go on.
+pub fn heads_are_read()
+    ensures first { HeadsAreRead }
+    ensures all { AllHeadsAreRead }
+    ensures more { HeadsGoOn }
 {}

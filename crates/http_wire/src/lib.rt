@@ -15,13 +15,10 @@ mod state;
 mod target;
 mod write;
 
-pub use laws::{a_reply_is_bounded, a_request_stays, cuts_do_not_matter, what_is_read_is_given};
+pub use laws::{
+    a_reply_is_bounded, a_request_stays, cuts_do_not_matter, heads_are_read, what_is_read_is_given,
+};
 pub use message::{Asked, Fed, Field, NextHead, Reply, ReplyFault, RequestHead};
 pub use reply::ReplyFeed;
 pub use request::RequestFeed;
 pub use write::{write_head, write_request};
-
-#[cfg(test)]
-mod reply_tests;
-#[cfg(test)]
-mod tests;

@@ -1,5 +1,5 @@
 -- The address of a page's text has that text.
-use Rattle.std.proofs.Common.{◌≡◌, ℕ, ◌^◌, ◌<◌, List, ◌++◌, true, refl, sym, ◌∙◌, ap, subst, arith, append_assoc, inl, inr}
+use Rattle.std.proofs.Common.{◌≡◌, ℕ, ◌<◌, List, ◌++◌, true, refl, sym, ◌∙◌, ap, subst, arith, append_assoc, inl, inr}
 use Rattle.std.specs.Prelude.{codes, Result, Ok, Err, IfOk}
 use Rattle.std.specs.List.{list_all}
 use Rattle.std.specs.Str.{str_to_ascii_lowercase}
@@ -90,21 +90,21 @@ extended_text base a text more n all is r =
 
 -- ---- pages
 
-pub page_is_longer : (base : Address) (slots : Slots) (k : ℕ) → k < 2 ^ 64 → Extends base (page_address base slots k)
-page_is_longer base slots k small =
+pub page_is_longer : (base : Address) (slots : Slots) (k : ℕ) → Extends base (page_address base slots k)
+page_is_longer base slots k =
     let whole = (address_text base ++ places_text slots) ++ page_pair (page_mark (places_text slots)) k in
-    let both = page_extends base slots k (page_mark (places_text slots)) (address_text base) (address_text base ++ places_text slots) whole small refl refl refl refl in
+    let both = page_extends base slots k (page_mark (places_text slots)) (address_text base) (address_text base ++ places_text slots) whole refl refl refl refl in
     subst (λ (x : List ℕ). Extends base x) both.1 both.0
 
 -- the address that the text of a page's address is has this text
-pub page_text : (base a : Address) (slots : Slots) (k : ℕ) → k < 2 ^ 64 → IsAddress (address_text base) base → IsAddress (page_address base slots k) a → address_text a ≡ page_address base slots k
-page_text base a slots k small own r =
-    let e = page_is_longer base slots k small in
+pub page_text : (base a : Address) (slots : Slots) (k : ℕ) → IsAddress (address_text base) base → IsAddress (page_address base slots k) a → address_text a ≡ page_address base slots k
+page_text base a slots k own r =
+    let e = page_is_longer base slots k in
     extended_text base a (page_address base slots k) e.more (normal_parts (address_text base) base own) e.bytes e.is_text r
 
 -- the same of the answer of a call
-pub each_page_text : {E : Type 0} (base given : Address) (text : List ℕ) (slots : Slots) (k : ℕ) (r : Result Address E) → k < 2 ^ 64 → given ≡ base → text ≡ address_text given → IsAddress text given → IfOk r (λ a. IsAddress (page_address given slots k) a) → IfOk r (λ a. address_text a ≡ page_address base slots k)
-each_page_text base given text slots k (Err e) small same is own h = tt
-each_page_text base given text slots k (Ok a) small same is own h =
+pub each_page_text : {E : Type 0} (base given : Address) (text : List ℕ) (slots : Slots) (k : ℕ) (r : Result Address E) → given ≡ base → text ≡ address_text given → IsAddress text given → IfOk r (λ a. IsAddress (page_address given slots k) a) → IfOk r (λ a. address_text a ≡ page_address base slots k)
+each_page_text base given text slots k (Err e) same is own h = tt
+each_page_text base given text slots k (Ok a) same is own h =
     let normal : IsAddress (address_text given) given = subst (λ (x : List ℕ). IsAddress x given) is own in
-    page_text given a slots k small normal h ∙ ap (λ (x : Address). page_address x slots k) same
+    page_text given a slots k normal h ∙ ap (λ (x : Address). page_address x slots k) same

@@ -1,6 +1,6 @@
 // Where the fragments of a server stand.
-ghost use Rattle.std.specs.Prelude.{◌≡◌, ◌≤◌, ◌↔◌, false, true, None, IsNone, IfSome};
-ghost use Rattle.template_fill.specs.Metadata.{is_config};
+ghost use Rattle.std.specs.Prelude.{◌≡◌, ◌≤◌, ◌↔◌, IsNone, IfSome};
+ghost use Rattle.template_fill.specs.Configurations.{IsConfig};
 
 use std::marker::Model;
 use template_fill::WebAddress;
@@ -16,14 +16,14 @@ pub struct Config {
 }
 
 impl Model for Config {
-    ghost use Rattle.std.specs.Prelude.{◌≡◌, true};
+    ghost use Rattle.std.specs.Prelude.{◌≡◌, ◌≤◌, None};
     ghost use Rattle.template_fill.specs.Metadata as definitions;
 
     ghost Value = { definitions.Config };
 
     ghost view = { λ c. record { base = c.base; page_size = c.page_size } };
 
-    ghost invariant = { λ c. definitions.is_config c.base c.page_size ≡ true };
+    ghost invariant = { λ c. (c.base.query ≡ None) × (1 ≤ c.page_size) × (c.page_size ≤ 1000) };
 }
 
 impl Config {
@@ -31,28 +31,40 @@ impl Config {
     /// where the base has a query part, or the page size is not 1 to 1000.
     pub fn new(base: WebAddress, page_size: u64) -> Option<Config>
         ensures config { IfSome result (λ config. (config.base ≡ base) × (config.page_size ≡ page_size)) }
-        ensures refused { IsNone result ↔ (is_config base page_size ≡ false) }
+        ensures valid { IfSome result IsConfig }
+        ensures refused { IsNone result ↔ ¬ (IsConfig (record { base = base; page_size = page_size })) }
     {
+        base.is_valid();
         if base.has_query() || page_size == 0 || page_size > 1000 {
             return None;
         }
         Some(Config { base, page_size })
     }
 
+    /// The base is an address without a query part, and the page size is 1 to 1000. The call does
+    /// nothing; it tells a proof of it.
+    pub fn is_valid(&self)
+        ensures { IsConfig self.now }
+    {
+        let _size = self.page_size;
+        self.base.is_valid();
+    }
+
     /// The address that the template stands after.
     pub fn base(&self) -> &WebAddress
         ensures base { result.now ≡ self.now.base }
-        ensures no_query { result.now.query ≡ None }
+        ensures valid { IsConfig self.now }
     {
+        self.base.is_valid();
         &self.base
     }
 
     /// The most triples of a page: 1 to 1000.
     pub fn page_size(&self) -> u64
         ensures size { result ≡ self.now.page_size }
-        ensures low { 1 ≤ result }
-        ensures high { result ≤ 1000 }
+        ensures valid { IsConfig self.now }
     {
+        self.base.is_valid();
         self.page_size
     }
 }

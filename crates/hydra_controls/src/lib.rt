@@ -7,8 +7,6 @@ mod laws;
 mod pages;
 mod source;
 mod statements;
-#[cfg(test)]
-mod tests;
 
 pub use config::Config;
 pub use laws::metadata_is_rdf;

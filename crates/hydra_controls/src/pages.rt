@@ -2,6 +2,7 @@
 ghost use Rattle.std.specs.Prelude.{ℕ, ◌≡◌, ◌≤◌, ◌++◌, IfOk, OnOk};
 ghost use Rattle.rdf_terms.specs.Fragments.{last_page_of};
 ghost use Rattle.tpf_base.specs.Addresses.{IsAddress, address_text};
+ghost use Rattle.template_fill.specs.Authorities.{ShareAuthority};
 ghost use Rattle.template_fill.specs.Forms.{HasNoBlank};
 ghost use Rattle.template_fill.specs.Pages.{page_address};
 ghost use Rattle.template_fill.specs.Metadata.{page_metadata};
@@ -16,7 +17,7 @@ use tpf_base::OutOfMemory;
 
 /// The address of a page of the fragment with these slots (Triple Pattern Fragments, "Paging"):
 /// the base with the fixed places in a query part, and above page 1 with `page=` and the number.
-/// No fixed place is a blank node, and the page is 1 or more.
+/// Its authority is that of the base. No fixed place is a blank node, and the page is 1 or more.
 ///
 /// `OutOfMemory` comes for want of memory alone.
 pub fn address(
@@ -29,11 +30,9 @@ pub fn address(
     requires page { 1 ≤ page }
     ensures text { IfOk result (λ address. address_text address ≡ page_address config.now.base slots.now page) }
     ensures address { IfOk result (λ address. IsAddress (page_address config.now.base slots.now page) address) }
+    ensures authority { IfOk result (λ address. ShareAuthority config.now.base address) }
 {
-    let base = config.base();
-    // It shows that the base is an address in its normal form, and so is what goes on from it.
-    let _text = base.text();
-    page_address(alloc, base, slots, page)
+    page_address(alloc, config.base(), slots, page)
 }
 
 /// What each page of a fragment says, apart from its links.

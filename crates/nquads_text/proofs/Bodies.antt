@@ -1,15 +1,17 @@
 -- What stands between the marks of an IRI and a form: the reader and the grammar agree.
 use Rattle.std.proofs.Common.{ℕ, zero, suc, ◌≡◌, ◌+◌, ◌-◌, ◌<◌, ◌⊎◌, inl, inr, Bool, if◌then◌else◌, true, false, ◌&&◌, List, [], ◌∷◌, ◌++◌, length, take, drop, Option, Some, None, nat_eq, refl, ap, sym, subst, ◌∙◌, arith, append_assoc, length-append}
 use Rattle.std.specs.List.{list_all}
+use Rattle.std.proofs.lemmas.Bool.{and_parts}
+use Rattle.std.proofs.lemmas.Option.{same_Some}
+use Rattle.list_laws.proofs.Options.{bind_some, when_some}
+use Rattle.list_laws.specs.Options.{when, ◌>>=◌}
 use Rattle.rdf_terms.specs.Iri.{is_iri_byte}
 use Rattle.nquads_text.specs.declared.scan.Awaits.{Awaits}
 use Rattle.nquads_text.specs.declared.scan.Awaits.TheVariants.{Item, Escape, Digits}
-use Rattle.nquads_text.specs.Option.{◌>>=◌, when}
 use Rattle.nquads_text.specs.Scan.{is_item, digits_left, opened, iri_step, iri_end}
 use Rattle.nquads_text.specs.Raw.{iri_part}
 use Rattle.nquads_text.specs.Grammar.{is_hex, AreDigits, IsNumeric, IsIriItem, all_of, Each, AreItems, ReadsIri}
 use Rattle.nquads_text.proofs.Lines.{chosen}
-use Rattle.nquads_text.proofs.Steps.{bind_some, when_some, both, some_same}
 
 -- ---- from the grammar to the reader
 
@@ -47,7 +49,7 @@ iri_digits [] n i rest d =
     let at : i ≡ i + 0 = omega arith in
     subst (λ (k : ℕ). iri_end (digits_left k) i rest ≡ iri_end Item (i + k) rest) none (ap (λ (k : ℕ). iri_end Item k rest) at)
 iri_digits (b ∷ digits) n i rest d =
-    let p = both (is_hex b) (list_all is_hex digits) d.each in
+    let p = and_parts (is_hex b) (list_all is_hex digits) d.each in
     let some : 0 < n = omega (arith, d.count) in
     let less : AreDigits (n - 1) digits = record { count = omega (arith, d.count); each = p.1 } in
     let more : iri_end (digits_left (n - 1)) (i + 1) (digits ++ rest) ≡ iri_end Item ((i + 1) + (n - 1)) rest = iri_digits digits (n - 1) (i + 1) rest less in
@@ -120,7 +122,7 @@ Next front b u = (more : List ℕ) × Partial u more × ((rest : List ℕ) → A
 
 pub all_hex : (xs : List ℕ) (b : ℕ) → list_all is_hex xs ≡ true → is_hex b ≡ true → list_all is_hex (xs ++ b ∷ []) ≡ true
 all_hex [] b h k = rw k refl
-all_hex (x ∷ xs) b h k = let p = both (is_hex x) (list_all is_hex xs) h in rw (p.0, all_hex xs b p.1 k) refl
+all_hex (x ∷ xs) b h k = let p = and_parts (is_hex x) (list_all is_hex xs) h in rw (p.0, all_hex xs b p.1 k) refl
 
 pub whole_item : (c b : ℕ) (digits : List ℕ) → Opens 1 c digits → is_hex b ≡ true → IsNumeric (92 ∷ c ∷ (digits ++ b ∷ []))
 whole_item c b digits (e, inl four) h = (digits ++ b ∷ [], inl (ap (λ (k : ℕ). 92 ∷ k ∷ (digits ++ b ∷ [])) four.0, record { count = omega (arith, length-append digits (b ∷ []), four.1); each = all_hex digits b e h }))
@@ -129,7 +131,7 @@ whole_item c b digits (e, inr eight) h = (digits ++ b ∷ [], inr (ap (λ (k : �
 item_next : (k : Bool) (b : ℕ) (u : Awaits) → nat_eq b 92 ≡ k → ◌≡◌ {A = Option Awaits} (if k then Some Escape else when (is_iri_byte b) Item) (Some u) → Next [] b u
 item_next true b u e f =
     let same : 92 ≡ b = grind (arith, e) in
-    let to : Escape ≡ u = some_same Escape u f in
+    let to : Escape ≡ u = same_Some Escape u f in
     subst (λ (u : Awaits). Next [] b u) to (92 ∷ [], refl, λ rest h. subst (λ (k : ℕ). AreItems IsIriItem (k ∷ rest)) same h)
 item_next false b u e f =
     let w = when_some (is_iri_byte b) Item u f in
@@ -138,11 +140,11 @@ item_next false b u e f =
 escape_next : (k l : Bool) (b : ℕ) (u : Awaits) → nat_eq b 117 ≡ k → nat_eq b 85 ≡ l → ◌≡◌ {A = Option Awaits} (if k then Some (digits_left 4) else (if l then Some (digits_left 8) else None)) (Some u) → Next (92 ∷ []) b u
 escape_next true l b u e g f =
     let same : 117 ≡ b = grind (arith, e) in
-    let to : digits_left 4 ≡ u = some_same (digits_left 4) u f in
+    let to : digits_left 4 ≡ u = same_Some (digits_left 4) u f in
     subst (λ (u : Awaits). Next (92 ∷ []) b u) to (92 ∷ 117 ∷ [], (117, [], refl, (refl, inl (refl, refl))), λ rest h. subst (λ (k : ℕ). AreItems IsIriItem (92 ∷ k ∷ rest)) same h)
 escape_next false true b u e g f =
     let same : 85 ≡ b = grind (arith, g) in
-    let to : digits_left 8 ≡ u = some_same (digits_left 8) u f in
+    let to : digits_left 8 ≡ u = same_Some (digits_left 8) u f in
     subst (λ (u : Awaits). Next (92 ∷ []) b u) to (92 ∷ 85 ∷ [], (85, [], refl, (refl, inr (refl, refl))), λ rest h. subst (λ (k : ℕ). AreItems IsIriItem (92 ∷ k ∷ rest)) same h)
 escape_next false false b u e g f = cc
 
@@ -184,7 +186,7 @@ empty_front s front p z = subst (λ (t : Awaits). Partial t front) z p
 iri_ends_step : (s : Awaits) (i b : ℕ) (bs front : List ℕ) (m : ℕ) → Partial s front → ((u : Awaits) (more : List ℕ) → Partial u more → iri_end u (i + 1) bs ≡ Some m → IriEnd (i + 1) more bs m)
     → ((is_item s && nat_eq b 62) ≡ true) × (◌≡◌ {A = Option ℕ} (Some i) (Some m)) ⊎ ((is_item s && nat_eq b 62) ≡ false) × ((iri_step s b >>= λ u. iri_end u (i + 1) bs) ≡ Some m) → IriEnd i front (b ∷ bs) m
 iri_ends_step s i b bs front m p ih (inl here) =
-    let same : i ≡ m = some_same i m here.1 in
+    let same : i ≡ m = same_Some i m here.1 in
     let at = at_mark b s here.0 in
     let none : front ≡ [] = empty_front s front p at.0 in
     record { n = 0; place = omega (arith, same); items = subst (λ (l : List ℕ). AreItems IsIriItem (l ++ [])) (sym none) ([], tt, refl); mark = ap (λ (k : ℕ). k ∷ bs) at.1 }
@@ -214,7 +216,7 @@ unfolding iri_part
 iri_part-some bytes p e =
     let a = bind_some (opened 60 bytes) (λ (inside : List ℕ). iri_end Item 0 inside >>= λ n. let r : Option (List ℕ × List ℕ) = Some (take n inside, drop (n + 1) inside) in r) p e in
     let b = bind_some (iri_end Item 0 a.0) (λ (n : ℕ). let r : Option (List ℕ × List ℕ) = Some (take n a.0, drop (n + 1) a.0) in r) p a.2 in
-    let at : ◌≡◌ {A = List ℕ × List ℕ} (take b.0 a.0, drop (b.0 + 1) a.0) p = some_same _ p b.2 in
+    let at : ◌≡◌ {A = List ℕ × List ℕ} (take b.0 a.0, drop (b.0 + 1) a.0) p = same_Some _ p b.2 in
     let r = iri_ends Item 0 a.0 [] b.0 refl b.1 in
     let n_is : r.n ≡ b.0 = omega (arith, r.place) in
     let items : AreItems IsIriItem (take b.0 a.0) = subst (λ (k : ℕ). AreItems IsIriItem (take k a.0)) n_is r.items in

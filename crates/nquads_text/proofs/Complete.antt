@@ -3,6 +3,7 @@ use Rattle.std.proofs.Common.{ℕ, ◌≡◌, ◌+◌, ◌-◌, ◌⊎◌, inl, 
 use Rattle.std.specs.List.{list_all}
 use Rattle.std.specs.Str.{is_utf8, chars}
 use Rattle.std.proofs.lemmas.Str.{is_utf8-from_IsUtf8, IsUtf8-append, chars-append}
+use Rattle.std.proofs.lemmas.Bool.{and_parts}
 use Rattle.rdf_terms.specs.Label.{is_label, is_label_char, begins_label, are_label_chars, ends_in_dot}
 use Rattle.rdf_terms.specs.Triples.{IsIri, IsIriOrBlank, IsRdfGraph}
 use Rattle.rdf_terms.specs.declared.term.Quad.{Quad}
@@ -13,7 +14,6 @@ use Rattle.rdf_terms.specs.declared.term.Kind.TheVariants.{Plain, Typed, Tagged}
 use Rattle.nquads_text.specs.Grammar.{is_blank, ReadsIri, ReadsLabel, ReadsTag, SkipsBlanks, ReadsDatatype, ReadsKind, ReadsTerm, ReadsGraph, IsComment, HasNoStatement, IsStatement}
 use Rattle.nquads_text.specs.Scan.{skipped, opened, is_over}
 use Rattle.nquads_text.specs.Raw.{iri_part, form_part, label_part, tag_part, datatype_part, kind_part, literal_part, node_part, object_part, graph_part, statement_of}
-use Rattle.nquads_text.proofs.Steps.{both}
 use Rattle.nquads_text.proofs.Bodies.{iri_part-at}
 use Rattle.nquads_text.proofs.Forms.{form_part-at}
 use Rattle.nquads_text.proofs.Utf8.{one_ascii}
@@ -61,7 +61,7 @@ blank_plainly b bs (inr tab) = subst (λ (k : ℕ). Plainly (k ∷ bs)) (sym tab
 
 plainly_by : (blanks next : List ℕ) → list_all is_blank blanks ≡ true → IsMark next → Plainly (blanks ++ next)
 plainly_by [] next h m = mark_plainly next m
-plainly_by (b ∷ blanks) next h m = let p = both (is_blank b) (list_all is_blank blanks) h in blank_plainly b (blanks ++ next) (blank_is b p.0)
+plainly_by (b ∷ blanks) next h m = let p = and_parts (is_blank b) (list_all is_blank blanks) h in blank_plainly b (blanks ++ next) (blank_is b p.0)
 
 plainly : (rest next : List ℕ) → Follows rest next → Plainly rest
 plainly rest next f = subst (λ (l : List ℕ). Plainly l) (sym f.blanks.1) (plainly_by f.blanks.0 next f.blanks.2 f.mark)
@@ -78,7 +78,7 @@ comment_stops bytes (inr (text, e)) = subst (λ (l : List ℕ). Stops l) (sym e)
 
 end_stops : (blanks comment : List ℕ) → list_all is_blank blanks ≡ true → IsComment comment → Stops (blanks ++ comment)
 end_stops [] comment h c = comment_stops comment c
-end_stops (b ∷ blanks) comment h c = let p = both (is_blank b) (list_all is_blank blanks) h in blank_stops b (blanks ++ comment) (blank_is b p.0)
+end_stops (b ∷ blanks) comment h c = let p = and_parts (is_blank b) (list_all is_blank blanks) h in blank_stops b (blanks ++ comment) (blank_is b p.0)
 
 dot_stops : (more : List ℕ) → HasNoStatement more → Stops (46 ∷ more)
 dot_stops more n e i = subst (λ (l : List ℕ). Stops l) (sym n.1.1) (end_stops n.1.0 n.0 n.1.2 n.2) e (i + 1)
@@ -103,7 +103,7 @@ begins_more (c ∷ cs) more h = h
 
 each_more : (cs more : List ℕ) → are_label_chars cs ≡ true → are_label_chars more ≡ true → are_label_chars (cs ++ more) ≡ true
 each_more [] more h k = k
-each_more (c ∷ cs) more h k = let p = both (is_label_char c || nat_eq c 46) (are_label_chars cs) h in rw (p.0, each_more cs more p.1 k) refl
+each_more (c ∷ cs) more h k = let p = and_parts (is_label_char c || nat_eq c 46) (are_label_chars cs) h in rw (p.0, each_more cs more p.1 k) refl
 
 -- a label with _ behind it is one
 label_more : (label : List ℕ) → LabelParts label → is_label (label ++ 95 ∷ []) ≡ true
@@ -129,7 +129,7 @@ mark_stops bytes label next r (inr (inr dot)) = subst (λ (l : List ℕ). Stops 
 stops_by : (bytes label rest blanks next : List ℕ) → ReadsLabel bytes label rest → rest ≡ blanks ++ next → list_all is_blank blanks ≡ true → IsMark next → Stops rest
 stops_by bytes label rest [] next r e h m = subst (λ (l : List ℕ). Stops l) (sym e) (mark_stops bytes label next (subst (λ (l : List ℕ). ReadsLabel bytes label l) e r) m)
 stops_by bytes label rest (b ∷ blanks) next r e h m =
-    let p = both (is_blank b) (list_all is_blank blanks) h in
+    let p = and_parts (is_blank b) (list_all is_blank blanks) h in
     subst (λ (l : List ℕ). Stops l) (sym e) (blank_stops b (blanks ++ next) (blank_is b p.0))
 
 label_next : (bytes label rest next : List ℕ) → ReadsLabel bytes label rest → Follows rest next → label_part bytes ≡ Some (label, rest)
@@ -167,7 +167,7 @@ iri_next bytes from text rest s r = ap (λ (l : List ℕ). iri_part l) (skip_to 
 
 marks_no_tag : (blanks more : List ℕ) → list_all is_blank blanks ≡ true → opened 64 (blanks ++ 94 ∷ more) ≡ None
 marks_no_tag [] more h = refl
-marks_no_tag (b ∷ blanks) more h = let p = both (is_blank b) (list_all is_blank blanks) h in (blank_plainly b (blanks ++ 94 ∷ more) (blank_is b p.0)).1
+marks_no_tag (b ∷ blanks) more h = let p = and_parts (is_blank b) (list_all is_blank blanks) h in (blank_plainly b (blanks ++ 94 ∷ more) (blank_is b p.0)).1
 
 datatype_at : (bytes text rest : List ℕ) → ReadsDatatype bytes text rest → datatype_part (skipped bytes) ≡ Some (text, rest)
 unfolding datatype_part

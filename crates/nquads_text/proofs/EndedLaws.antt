@@ -3,6 +3,7 @@ use Rattle.std.proofs.Common.{ℕ, ◌≡◌, ◌+◌, ◌<◌, ◌≤◌, ◌�
 use Rattle.std.specs.List.{list_all}
 use Rattle.std.specs.Option.{option_to_list}
 use Rattle.std.proofs.lemmas.List.{append_cancel_right}
+use Rattle.std.proofs.lemmas.Bool.{and_parts, not-true, or_parts}
 use Rattle.rdf_terms.specs.declared.term.Quad.{Quad}
 use Rattle.nquads_text.specs.declared.fault.Why.{Why}
 use Rattle.nquads_text.specs.declared.fault.TextFault.{TextFault}
@@ -11,10 +12,8 @@ use Rattle.nquads_text.specs.Line.{line_read}
 use Rattle.nquads_text.specs.Lines.{with_quad, line_end, without_lf, after_end}
 use Rattle.nquads_text.specs.Feed.{Fed, last_number, is_inside, ends_lines, TakesLines}
 use Rattle.nquads_text.specs.Pieces.{is_cut_end, reading, ReadsEnded}
-use Rattle.nquads_text.proofs.Steps.{both, neither, not_true}
-use Rattle.nquads_text.proofs.Lines.{after_cr}
 use Rattle.nquads_text.proofs.LineLaws.{line_reads}
-use Rattle.nquads_text.proofs.PieceLaws.{EndAt, end_at, next_lines, one_line}
+use Rattle.nquads_text.proofs.PieceLaws.{end_at, next_lines, one_line}
 use Rattle.nquads_text.proofs.FedLaws.{made, before_piece, cr_front}
 
 abbrev Found : Type 0
@@ -95,8 +94,8 @@ last_lines (b ∷ bs) = (b ∷ bs) ∷ []
 
 inside_after : (cr : Bool) (b : ℕ) (bs : List ℕ) → list_all is_inside (b ∷ bs) ≡ true → lines_from cr (b ∷ bs) ≡ lines_from false (b ∷ bs)
 inside_after cr b bs h =
-    let p = both (is_inside b) (list_all is_inside bs) h in
-    let q = neither (nat_eq b 10) (nat_eq b 13) (not_true (nat_eq b 10 || nat_eq b 13) p.0) in
+    let p = and_parts (is_inside b) (list_all is_inside bs) h in
+    let q = or_parts (nat_eq b 10) (nat_eq b 13) (not-true (nat_eq b 10 || nat_eq b 13) p.0) in
     rw (q.0, q.1) refl
 
 left_lines : (cr : Bool) (left : List ℕ) → list_all is_inside left ≡ true → lines_from cr left ≡ last_lines left

@@ -2,15 +2,15 @@
 use Rattle.std.proofs.Common.{ℕ, suc, ◌≡◌, ◌+◌, ◌-◌, ◌<◌, ◌⊎◌, inl, inr, Bool, true, false, List, [], ◌∷◌, ◌++◌, length, take, drop, slice_index, Option, Some, None, nat_eq, refl, ap, sym, subst, ◌∙◌, arith, append_assoc, append-nil}
 use Rattle.std.specs.Str.{IsUtf8}
 use Rattle.std.proofs.lemmas.List.{drop_more, take_rest}
+use Rattle.std.proofs.lemmas.Option.{same_Some}
+use Rattle.list_laws.specs.Options.{◌>>=◌}
 use Rattle.nquads_text.specs.declared.scan.Awaits.{Awaits}
 use Rattle.nquads_text.specs.declared.scan.Awaits.TheVariants.{Item, Escape, Digits}
-use Rattle.nquads_text.specs.Option.{◌>>=◌}
 use Rattle.nquads_text.specs.Scan.{first_place, is_item}
 use Rattle.nquads_text.specs.Escape.{Resolving, resolve_step, resolve_from, resolved}
 use Rattle.nquads_text.specs.Meaning.{IsItem}
 use Rattle.nquads_text.specs.Line.{IsWrittenText}
 use Rattle.nquads_text.proofs.Lines.{chosen}
-use Rattle.nquads_text.proofs.Steps.{some_same}
 use Rattle.nquads_text.proofs.Resolve.{resolved_means}
 use Rattle.nquads_text.proofs.Texts.{text_utf8}
 
@@ -27,7 +27,7 @@ pub record Run (iri : Bool) (out : List ℕ) (i : ℕ) (bs : List ℕ) (m : ℕ)
 run_step : (iri : Bool) (out bs : List ℕ) (b i m : ℕ) → ((out : List ℕ) → first_place is_back (i + 1) bs ≡ Some m → Run iri out (i + 1) bs m)
     → ((nat_eq b 92 ≡ true) × (◌≡◌ {A = Option ℕ} (Some i) (Some m))) ⊎ ((nat_eq b 92 ≡ false) × (first_place is_back (i + 1) bs ≡ Some m)) → Run iri out i (b ∷ bs) m
 run_step iri out bs b i m ih (inl here) =
-    let same : i ≡ m = some_same i m here.1 in
+    let same : i ≡ m = same_Some i m here.1 in
     record { n = 0; place = omega (arith, same); same = ap (λ (o : List ℕ). resolve_from iri o Item 0 (b ∷ bs)) (sym (append-nil out)) }
 run_step iri out bs b i m ih (inr later) =
     let r = ih (out ++ b ∷ []) later.1 in

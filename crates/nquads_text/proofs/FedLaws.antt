@@ -6,7 +6,7 @@ use Rattle.std.specs.List.{list_all}
 use Rattle.std.specs.Prelude.{IfOk}
 use Rattle.nquads_text.specs.declared.fault.TextFault.{TextFault}
 use Rattle.nquads_text.specs.declared.fault.TextFault.TheVariants.{Bad, OutOfMemory}
-use Rattle.nquads_text.specs.Reads.{lines_from, RefusedFor, IsOkOrMemory, IsBadOrMemory}
+use Rattle.nquads_text.specs.Reads.{lines_from, RefusedFor}
 use Rattle.nquads_text.specs.Lines.{with_quad, after_line, read_lines, without_lf, Gives}
 use Rattle.nquads_text.specs.Feed.{Fed, last_number, is_inside, ReadsWith, FaultWith, TakesPiece, IsUnfinished}
 use Rattle.nquads_text.specs.Pieces.{capped, reading, fed_reading}

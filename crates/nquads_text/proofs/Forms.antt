@@ -1,14 +1,16 @@
 -- What stands between the marks of a form: the reader and the grammar agree.
 use Rattle.std.proofs.Common.{ℕ, suc, ◌≡◌, ◌+◌, ◌-◌, ◌<◌, ◌⊎◌, inl, inr, Bool, if◌then◌else◌, true, false, ◌&&◌, List, [], ◌∷◌, ◌++◌, length, take, drop, Option, Some, None, nat_eq, refl, ap, sym, subst, ◌∙◌, arith, append_assoc, length-append}
 use Rattle.std.specs.List.{list_all}
+use Rattle.std.proofs.lemmas.Bool.{and_parts}
+use Rattle.std.proofs.lemmas.Option.{same_Some}
+use Rattle.list_laws.proofs.Options.{bind_some, when_some}
+use Rattle.list_laws.specs.Options.{when, ◌>>=◌}
 use Rattle.nquads_text.specs.declared.scan.Awaits.{Awaits}
 use Rattle.nquads_text.specs.declared.scan.Awaits.TheVariants.{Item, Escape, Digits}
-use Rattle.nquads_text.specs.Option.{◌>>=◌, when}
 use Rattle.nquads_text.specs.Scan.{is_item, digits_left, opened, digits_after, form_step, form_end}
 use Rattle.nquads_text.specs.Raw.{form_part}
 use Rattle.nquads_text.specs.Grammar.{is_hex, is_form_byte, is_short_escape, AreDigits, IsFormItem, all_of, Each, AreItems, ReadsForm}
 use Rattle.nquads_text.proofs.Lines.{chosen}
-use Rattle.nquads_text.proofs.Steps.{bind_some, when_some, both, some_same}
 use Rattle.nquads_text.proofs.Bodies.{not_here, plain_step, take_front, drop_front, some_left, whole_item, Opens, Partial, none_or_some, opens_more, opened_some, take_drop, empty_front}
 
 -- ---- forms
@@ -25,7 +27,7 @@ form_digits [] n i rest d =
     let at : i ≡ i + 0 = omega arith in
     subst (λ (k : ℕ). form_end (digits_left k) i rest ≡ form_end Item (i + k) rest) none (ap (λ (k : ℕ). form_end Item k rest) at)
 form_digits (b ∷ digits) n i rest d =
-    let p = both (is_hex b) (list_all is_hex digits) d.each in
+    let p = and_parts (is_hex b) (list_all is_hex digits) d.each in
     let some : 0 < n = omega (arith, d.count) in
     let less : AreDigits (n - 1) digits = record { count = omega (arith, d.count); each = p.1 } in
     let more : form_end (digits_left (n - 1)) (i + 1) (digits ++ rest) ≡ form_end Item ((i + 1) + (n - 1)) rest = form_digits digits (n - 1) (i + 1) rest less in
@@ -95,7 +97,7 @@ Next front b u = (more : List ℕ) × Partial u more × ((rest : List ℕ) → A
 item_next : (k : Bool) (b : ℕ) (u : Awaits) → nat_eq b 92 ≡ k → ◌≡◌ {A = Option Awaits} (if k then Some Escape else when (is_form_byte b) Item) (Some u) → Next [] b u
 item_next true b u e f =
     let same : 92 ≡ b = grind (arith, e) in
-    let to : Escape ≡ u = some_same Escape u f in
+    let to : Escape ≡ u = same_Some Escape u f in
     subst (λ (u : Awaits). Next [] b u) to (92 ∷ [], refl, λ rest h. subst (λ (k : ℕ). AreItems IsFormItem (k ∷ rest)) same h)
 item_next false b u e f =
     let w = when_some (is_form_byte b) Item u f in
@@ -103,15 +105,15 @@ item_next false b u e f =
 
 escape_next : (j k l : Bool) (b : ℕ) (u : Awaits) → is_short_escape b ≡ j → nat_eq b 117 ≡ k → nat_eq b 85 ≡ l → ◌≡◌ {A = Option Awaits} (if j then Some Item else (if k then Some (digits_left 4) else (if l then Some (digits_left 8) else None))) (Some u) → Next (92 ∷ []) b u
 escape_next true k l b u d e g f =
-    let to : Item ≡ u = some_same Item u f in
+    let to : Item ≡ u = same_Some Item u f in
     subst (λ (u : Awaits). Next (92 ∷ []) b u) to ([], refl, λ rest h. one_more (92 ∷ b ∷ []) rest (inr (inl (b, refl, d))) h)
 escape_next false true l b u d e g f =
     let same : 117 ≡ b = grind (arith, e) in
-    let to : digits_left 4 ≡ u = some_same (digits_left 4) u f in
+    let to : digits_left 4 ≡ u = same_Some (digits_left 4) u f in
     subst (λ (u : Awaits). Next (92 ∷ []) b u) to (92 ∷ 117 ∷ [], (117, [], refl, (refl, inl (refl, refl))), λ rest h. subst (λ (k : ℕ). AreItems IsFormItem (92 ∷ k ∷ rest)) same h)
 escape_next false false true b u d e g f =
     let same : 85 ≡ b = grind (arith, g) in
-    let to : digits_left 8 ≡ u = some_same (digits_left 8) u f in
+    let to : digits_left 8 ≡ u = same_Some (digits_left 8) u f in
     subst (λ (u : Awaits). Next (92 ∷ []) b u) to (92 ∷ 85 ∷ [], (85, [], refl, (refl, inr (refl, refl))), λ rest h. subst (λ (k : ℕ). AreItems IsFormItem (92 ∷ k ∷ rest)) same h)
 escape_next false false false b u d e g f = cc
 
@@ -142,7 +144,7 @@ at_mark b (Digits more) e = cc
 form_ends_step : (s : Awaits) (i b : ℕ) (bs front : List ℕ) (m : ℕ) → Partial s front → ((u : Awaits) (more : List ℕ) → Partial u more → form_end u (i + 1) bs ≡ Some m → FormEnd (i + 1) more bs m)
     → ((is_item s && nat_eq b 34) ≡ true) × (◌≡◌ {A = Option ℕ} (Some i) (Some m)) ⊎ ((is_item s && nat_eq b 34) ≡ false) × ((form_step s b >>= λ u. form_end u (i + 1) bs) ≡ Some m) → FormEnd i front (b ∷ bs) m
 form_ends_step s i b bs front m p ih (inl here) =
-    let same : i ≡ m = some_same i m here.1 in
+    let same : i ≡ m = same_Some i m here.1 in
     let at = at_mark b s here.0 in
     let none : front ≡ [] = empty_front s front p at.0 in
     record { n = 0; place = omega (arith, same); items = subst (λ (l : List ℕ). AreItems IsFormItem (l ++ [])) (sym none) ([], tt, refl); mark = ap (λ (k : ℕ). k ∷ bs) at.1 }
@@ -160,7 +162,7 @@ unfolding form_part
 form_part-some bytes p e =
     let a = bind_some (opened 34 bytes) (λ (inside : List ℕ). form_end Item 0 inside >>= λ n. let r : Option (List ℕ × List ℕ) = Some (take n inside, drop (n + 1) inside) in r) p e in
     let b = bind_some (form_end Item 0 a.0) (λ (n : ℕ). let r : Option (List ℕ × List ℕ) = Some (take n a.0, drop (n + 1) a.0) in r) p a.2 in
-    let at : ◌≡◌ {A = List ℕ × List ℕ} (take b.0 a.0, drop (b.0 + 1) a.0) p = some_same _ p b.2 in
+    let at : ◌≡◌ {A = List ℕ × List ℕ} (take b.0 a.0, drop (b.0 + 1) a.0) p = same_Some _ p b.2 in
     let r = form_ends Item 0 a.0 [] b.0 refl b.1 in
     let n_is : r.n ≡ b.0 = omega (arith, r.place) in
     let items : AreItems IsFormItem (take b.0 a.0) = subst (λ (k : ℕ). AreItems IsFormItem (take k a.0)) n_is r.items in

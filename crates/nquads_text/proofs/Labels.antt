@@ -5,14 +5,15 @@ use Rattle.std.specs.Char.{encode_utf8}
 use Rattle.std.specs.Str.{IsUtf8, is_utf8, chars, encode_utf8_all}
 use Rattle.std.proofs.lemmas.List.{take_at, drop_at, length-take}
 use Rattle.std.proofs.lemmas.Str.{IsUtf8-from_is_utf8, encodes-chars}
+use Rattle.std.proofs.lemmas.Bool.{and_parts, not-true}
+use Rattle.list_laws.proofs.Options.{bind_some, when_some}
+use Rattle.list_laws.specs.Options.{when, ◌>>=◌}
 use Rattle.rdf_terms.specs.Iri.{is_digit, is_between}
 use Rattle.rdf_terms.specs.Label.{is_label, is_base, is_label_char, begins_label, are_label_chars, ends_in_dot}
 use Rattle.rdf_terms.specs.Tag.{is_tag}
-use Rattle.nquads_text.specs.Option.{◌>>=◌, when}
 use Rattle.nquads_text.specs.Scan.{opened, is_label_byte, label_len, is_tag_byte, tag_len}
 use Rattle.nquads_text.specs.Raw.{label_part, tag_part}
 use Rattle.nquads_text.specs.Grammar.{ReadsLabel, ReadsTag}
-use Rattle.nquads_text.proofs.Steps.{bind_some, when_some, both, not_true}
 use Rattle.nquads_text.proofs.TagTexts.{tag_bytes}
 use Rattle.nquads_text.proofs.Bodies.{opened_some, take_drop}
 
@@ -27,10 +28,10 @@ pub record LabelParts (bytes : List ℕ) : Type 0 where
 pub label_parts : (bytes : List ℕ) → is_label bytes ≡ true → LabelParts bytes
 unfolding is_label
 label_parts bytes h =
-    let a = both ((is_utf8 bytes && begins_label (chars bytes)) && are_label_chars (chars bytes)) (not (ends_in_dot bytes)) h in
-    let b = both (is_utf8 bytes && begins_label (chars bytes)) (are_label_chars (chars bytes)) a.0 in
-    let d = both (is_utf8 bytes) (begins_label (chars bytes)) b.0 in
-    record { utf8 = IsUtf8-from_is_utf8 bytes d.0; begins = d.1; each = b.1; last = not_true (ends_in_dot bytes) a.1 }
+    let a = and_parts ((is_utf8 bytes && begins_label (chars bytes)) && are_label_chars (chars bytes)) (not (ends_in_dot bytes)) h in
+    let b = and_parts (is_utf8 bytes && begins_label (chars bytes)) (are_label_chars (chars bytes)) a.0 in
+    let d = and_parts (is_utf8 bytes) (begins_label (chars bytes)) b.0 in
+    record { utf8 = IsUtf8-from_is_utf8 bytes d.0; begins = d.1; each = b.1; last = not-true (ends_in_dot bytes) a.1 }
 
 -- a byte of a run that may be a label
 abbrev pub is_run_byte : ℕ → Bool
@@ -41,7 +42,7 @@ all_run bs = list_all is_run_byte bs ≡ true
 
 run_append : (xs ys : List ℕ) → all_run xs → all_run ys → all_run (xs ++ ys)
 run_append [] ys h k = k
-run_append (x ∷ xs) ys h k = let p = both (is_run_byte x) (list_all is_run_byte xs) h in rw (p.0, run_append xs ys p.1 k) refl
+run_append (x ∷ xs) ys h k = let p = and_parts (is_run_byte x) (list_all is_run_byte xs) h in rw (p.0, run_append xs ys p.1 k) refl
 
 run_cons : (b : ℕ) (bs : List ℕ) → is_run_byte b ≡ true → all_run bs → all_run (b ∷ bs)
 run_cons b bs h k = rw (h, k) refl
@@ -77,7 +78,7 @@ if_or c {a} {b} f g h = by a f h
     by false f h = g h
 
 range_run : (low high c : ℕ) → 128 ≤ low → Runs c (is_between low high c)
-range_run low high c h k = high_run c (let le = both (nat_le low c) (nat_le c high) k in reaches low c h le.0)
+range_run low high c h k = high_run c (let le = and_parts (nat_le low c) (nat_le c high) k in reaches low c h le.0)
   where
     reaches : (low c : ℕ) → 128 ≤ low → nat_le low c ≡ true → 128 ≤ c
     reaches low c h k = grind (arith, h, k)
@@ -115,7 +116,7 @@ encoded_run c h =
 chars_run : (cs : List ℕ) → are_label_chars cs ≡ true → all_run (encode_utf8_all cs)
 chars_run [] h = refl
 chars_run (c ∷ cs) h =
-    let p = both (is_label_char c || nat_eq c 46) (are_label_chars cs) h in
+    let p = and_parts (is_label_char c || nat_eq c 46) (are_label_chars cs) h in
     run_append (encode_utf8 c) (encode_utf8_all cs) (encoded_run c p.0) (chars_run cs p.1)
 
 pub label_run : (bytes : List ℕ) → LabelParts bytes → all_run bytes
@@ -144,12 +145,12 @@ run_on false b e i rest m d h k = let l : is_label_byte b ≡ true = label_byte 
 run_len : (bs r : List ℕ) (e i : ℕ) → all_run bs → 0 < length bs → ends_in_dot bs ≡ false → label_len e i (bs ++ r) ≡ label_len (i + length bs) (i + length bs) r
 run_len [] r e i h l d = absurd (omega arith)
 run_len (b ∷ []) r e i h l d =
-    let p = both (is_run_byte b) true h in
+    let p = and_parts (is_run_byte b) true h in
     let no_dot : nat_eq b 46 ≡ false = d in
     let one : is_label_byte b ≡ true = label_byte (is_label_byte b) (nat_eq b 46) p.0 no_dot in
     rw (no_dot, one) refl
 run_len (b ∷ c ∷ cs) r e i h l d =
-    let p = both (is_run_byte b) (list_all is_run_byte (c ∷ cs)) h in
+    let p = and_parts (is_run_byte b) (list_all is_run_byte (c ∷ cs)) h in
     let place : (i + 1) + length (c ∷ cs) ≡ i + length (b ∷ c ∷ cs) = omega arith in
     let whole : (x : ℕ) → label_len x (i + 1) ((c ∷ cs) ++ r) ≡ label_len (i + length (b ∷ c ∷ cs)) (i + length (b ∷ c ∷ cs)) r = λ x. run_len (c ∷ cs) r x (i + 1) p.1 (omega arith) (sym (last_more b c cs) ∙ d) ∙ ap (λ (k : ℕ). label_len k k r) place in
     run_on (nat_eq b 46) b e i ((c ∷ cs) ++ r) (label_len (i + length (b ∷ c ∷ cs)) (i + length (b ∷ c ∷ cs)) r) refl p.0 whole
@@ -218,7 +219,7 @@ label_some bytes p e =
 tag_run : (tag rest : List ℕ) (i : ℕ) → list_all is_tag_byte tag ≡ true → tag_len i (tag ++ rest) ≡ tag_len (i + length tag) rest
 tag_run [] rest i h = let same : i ≡ i + 0 = omega arith in ap (λ (k : ℕ). tag_len k rest) same
 tag_run (b ∷ tag) rest i h =
-    let p = both (is_tag_byte b) (list_all is_tag_byte tag) h in
+    let p = and_parts (is_tag_byte b) (list_all is_tag_byte tag) h in
     let place : (i + 1) + length tag ≡ i + length (b ∷ tag) = omega arith in
     let more : tag_len (i + 1) (tag ++ rest) ≡ tag_len (i + length (b ∷ tag)) rest = tag_run tag rest (i + 1) p.1 ∙ ap (λ (k : ℕ). tag_len k rest) place in
     rw p.0 more
@@ -230,7 +231,7 @@ begins_no_tag (b ∷ bs) = not (is_tag_byte b)
 
 tag_stops : (rest : List ℕ) (i : ℕ) → begins_no_tag rest ≡ true → tag_len i rest ≡ i
 tag_stops [] i h = refl
-tag_stops (b ∷ bs) i h = let none : is_tag_byte b ≡ false = not_true (is_tag_byte b) h in rw none refl
+tag_stops (b ∷ bs) i h = let none : is_tag_byte b ≡ false = not-true (is_tag_byte b) h in rw none refl
 
 pub tag_at : (bytes tag rest : List ℕ) → ReadsTag bytes tag rest → begins_no_tag rest ≡ true → tag_part bytes ≡ Some (tag, rest)
 unfolding tag_part

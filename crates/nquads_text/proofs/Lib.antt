@@ -3,7 +3,6 @@ pub mod Forms
 pub mod Lengths
 pub mod Lines
 pub mod Places
-pub mod Steps
 pub mod Resolve
 pub mod Texts
 pub mod Labels
@@ -14,7 +13,7 @@ pub mod LineLaws
 pub mod TagTexts
 pub mod Escapes
 pub mod ReadLaws
-pub mod Begins
+pub mod Runs
 pub mod RoundTrip
 pub mod PieceLaws
 pub mod FedLaws

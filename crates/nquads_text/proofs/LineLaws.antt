@@ -3,6 +3,7 @@ use Rattle.std.proofs.Common.{ℕ, ◌≡◌, ◌⊎◌, inl, inr, Bool, if◌th
 use Rattle.std.specs.Option.{option_map}
 use Rattle.std.specs.Str.{IsUtf8, is_utf8}
 use Rattle.std.proofs.lemmas.Str.{IsUtf8-from_is_utf8, is_utf8-from_IsUtf8}
+use Rattle.std.proofs.lemmas.Bool.{cases_Bool}
 use Rattle.rdf_terms.specs.declared.term.Quad.{Quad}
 use Rattle.nquads_text.specs.declared.fault.Why.{Why}
 use Rattle.nquads_text.specs.declared.fault.Why.TheVariants.{Utf8, Statement, Escape, RelativeIri, LangString, TermTooLong}
@@ -14,7 +15,6 @@ use Rattle.nquads_text.specs.Scan.{skipped, is_over}
 use Rattle.nquads_text.specs.Raw.{statement_of, line_form}
 use Rattle.nquads_text.specs.Line.{or_fault, checked, quad_of, some_quad, line_read, resolved_quad, IsWritten}
 use Rattle.nquads_text.specs.Quads.{IsReadable}
-use Rattle.nquads_text.proofs.Steps.{true_or_false}
 use Rattle.nquads_text.proofs.Statements.{none_over, over_none, statement_some}
 use Rattle.nquads_text.proofs.Complete.{statement_read}
 use Rattle.nquads_text.proofs.Written.{written}
@@ -90,11 +90,11 @@ sound_text longest line u (inl o) = subst (λ (r : Outcome). Sound longest line 
 sound_text longest line u (inr o) = sound_form longest line u o (statement_of (skipped line)) refl
 
 sound_by : (longest : ℕ) (line : List ℕ) → (is_utf8 line ≡ true) ⊎ (is_utf8 line ≡ false) → Sound longest line (line_read longest line)
-sound_by longest line (inl u) = sound_text longest line u (true_or_false (is_over (skipped line)))
+sound_by longest line (inl u) = sound_text longest line u (cases_Bool (is_over (skipped line)))
 sound_by longest line (inr u) = subst (λ (r : Outcome). Sound longest line r) (sym (not_text longest line u)) (λ v. is_not (is_utf8 line) u (is_utf8-from_IsUtf8 line v))
 
 sound : (longest : ℕ) (line : List ℕ) → Sound longest line (line_read longest line)
-sound longest line = sound_by longest line (true_or_false (is_utf8 line))
+sound longest line = sound_by longest line (cases_Bool (is_utf8 line))
 
 pub line_reads : (longest : ℕ) (line : List ℕ) (q : Option Quad) → line_read longest line ≡ Ok q → ReadsLine longest line q
 line_reads longest line q e = subst (λ (r : Outcome). Sound longest line r) e (sound longest line)

@@ -1,8 +1,8 @@
 -- Where lines end.
 use Rattle.std.proofs.Common.{ℕ, suc, ◌≡◌, ◌+◌, ◌<◌, ◌⊎◌, inl, inr, Bool, if◌then◌else◌, true, false, ◌||◌, List, [], ◌∷◌, length, take, drop, Option, Some, None, nat_eq, refl, ap, subst, ◌∙◌, arith}
+use Rattle.std.proofs.lemmas.Bool.{or_parts}
 use Rattle.nquads_text.specs.Reads.{onto_first, lines_from, lines_of}
 use Rattle.nquads_text.specs.Lines.{line_end, without_lf, after_end}
-use Rattle.nquads_text.proofs.Steps.{neither}
 
 -- the lines after a line end at the front
 abbrev lines_after : List ℕ → List (List ℕ)
@@ -59,7 +59,7 @@ step : (i b : ℕ) (bs : List ℕ) (m : ℕ) → (line_end (i + 1) bs ≡ Some m
 step i b bs m ih (inl here) = let same : i ≡ m = cc in record { n = 0; place = omega (arith, same); lines = ends_here b bs here.0 }
 step i b bs m ih (inr later) =
     let c = ih later.1 in
-    let all : lines_from false (b ∷ bs) ≡ onto_first b (take c.n bs ∷ lines_from false (after_end (drop c.n bs))) = goes_on b bs (neither (nat_eq b 10) (nat_eq b 13) later.0) ∙ ap (λ (l : List (List ℕ)). onto_first b l) c.lines in
+    let all : lines_from false (b ∷ bs) ≡ onto_first b (take c.n bs ∷ lines_from false (after_end (drop c.n bs))) = goes_on b bs (or_parts (nat_eq b 10) (nat_eq b 13) later.0) ∙ ap (λ (l : List (List ℕ)). onto_first b l) c.lines in
     record { n = suc c.n; place = omega (arith, c.place); lines = all }
 
 cut : (i : ℕ) (bs : List ℕ) (m : ℕ) → line_end i bs ≡ Some m → Cut i bs m
@@ -74,7 +74,7 @@ lines_at bytes n e =
 
 last_step : (i b : ℕ) (bs : List ℕ) → (line_end (i + 1) bs ≡ None → onto_first b (lines_from false bs) ≡ (b ∷ bs) ∷ []) → ((nat_eq b 10 || nat_eq b 13) ≡ true) × (◌≡◌ {A = Option ℕ} (Some i) None) ⊎ ((nat_eq b 10 || nat_eq b 13) ≡ false) × (line_end (i + 1) bs ≡ None) → lines_from false (b ∷ bs) ≡ (b ∷ bs) ∷ []
 last_step i b bs ih (inl here) = cc
-last_step i b bs ih (inr later) = goes_on b bs (neither (nat_eq b 10) (nat_eq b 13) later.0) ∙ ih later.1
+last_step i b bs ih (inr later) = goes_on b bs (or_parts (nat_eq b 10) (nat_eq b 13) later.0) ∙ ih later.1
 
 last_line : (i b : ℕ) (bs : List ℕ) → line_end i (b ∷ bs) ≡ None → lines_from false (b ∷ bs) ≡ (b ∷ bs) ∷ []
 last_line i b [] e = last_step i b [] (λ h. refl) (chosen (nat_eq b 10 || nat_eq b 13) (Some i) (line_end (i + 1) []) None e)

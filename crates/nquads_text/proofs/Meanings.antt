@@ -1,7 +1,11 @@
 -- Resolving a statement's texts gives what the statement means; and what is meant, without a fault, can be held by the types.
-use Rattle.std.proofs.Common.{ℕ, ◌≡◌, ◌≤◌, ◌⊎◌, inl, inr, Bool, if◌then◌else◌, true, false, not, ◌||◌, nat_lt, List, length, Option, Some, None, refl, ap, sym, subst, ◌∙◌, arith}
+use Rattle.std.proofs.Common.{ℕ, ◌≡◌, ◌⊎◌, inl, inr, Bool, if◌then◌else◌, true, false, not, ◌||◌, nat_lt, List, length, Option, Some, None, refl, ap, sym, subst, ◌∙◌}
 use Rattle.std.specs.List.{list_all}
 use Rattle.std.specs.Str.{IsUtf8}
+use Rattle.std.proofs.lemmas.Bool.{ltb-false, not-false, or_parts}
+use Rattle.std.proofs.lemmas.Option.{same_Some}
+use Rattle.list_laws.proofs.Options.{bind_none, bind_some}
+use Rattle.list_laws.specs.Options.{◌>>=◌}
 use Rattle.rdf_terms.specs.Iri.{is_iri, is_iri_byte, has_scheme}
 use Rattle.rdf_terms.specs.Tag.{lower}
 use Rattle.rdf_terms.proofs.Tags.{lower_is_kept}
@@ -16,13 +20,13 @@ use Rattle.rdf_terms.specs.declared.term.Kind.{Kind}
 use Rattle.rdf_terms.specs.declared.term.Kind.TheVariants.{Plain, Typed, Tagged}
 use Rattle.nquads_text.specs.declared.fault.Why.{Why}
 use Rattle.nquads_text.specs.declared.fault.Why.TheVariants.{RelativeIri, LangString, TermTooLong}
-use Rattle.nquads_text.specs.Option.{◌>>=◌}
 use Rattle.nquads_text.specs.Meaning.{HasBadEscape, MeansKind, MeansTerm, MeansGraph, MeansQuad, KindIsBad, TermIsBad, GraphIsBad, QuadIsBad}
 use Rattle.nquads_text.specs.Faults.{is_relative, is_relative_kind, has_lang_string, is_lang_kind, has_long_label, is_too_long, graph_passes, some_term, fault_of}
 use Rattle.nquads_text.specs.Escape.{resolved}
-use Rattle.nquads_text.specs.Quads.{IsValidKind, IsValidTerm, HasShortLabel, IsReadableTerm, IsReadableGraph, IsReadable}
-use Rattle.nquads_text.specs.Line.{resolved_kind, resolved_term, resolved_graph, resolved_quad, IsWrittenKind, IsWrittenTerm, IsWrittenGraph, IsWritten, IsValidGraph, IsValidQuad}
-use Rattle.nquads_text.proofs.Steps.{bind_some, bind_none, neither, not_false, some_same}
+use Rattle.rdf_terms.specs.Valid.{IsValidKind, IsValidTerm, IsValidGraph, IsValidQuad}
+use Rattle.rdf_terms.specs.Sizes.{HasShortLabel}
+use Rattle.nquads_text.specs.Quads.{IsReadableTerm, IsReadableGraph, IsReadable}
+use Rattle.nquads_text.specs.Line.{resolved_kind, resolved_term, resolved_graph, resolved_quad, IsWrittenKind, IsWrittenTerm, IsWrittenGraph, IsWritten}
 use Rattle.nquads_text.proofs.Resolve.{means_resolved, resolved_means, bad_resolved, resolved_bad}
 use Rattle.nquads_text.proofs.Texts.{text_utf8, text_iri}
 use Rattle.nquads_text.proofs.Statements.{made_quad}
@@ -30,28 +34,28 @@ use Rattle.nquads_text.proofs.Statements.{made_quad}
 -- ---- from the reader to what is meant
 
 kind_means : (raw kind : Kind) → IsWrittenKind raw → resolved_kind raw ≡ Some kind → MeansKind raw kind
-kind_means Plain kind w e = sym (some_same Plain kind e)
+kind_means Plain kind w e = sym (same_Some Plain kind e)
 kind_means (Typed datatype) kind w e =
     let b = bind_some (resolved true datatype) (λ (text : List ℕ). Some (typed_kind text)) kind e in
-    (b.0, resolved_means true datatype b.0 w.items b.1, sym (some_same (typed_kind b.0) kind b.2))
-kind_means (Tagged tag) kind w e = sym (some_same (Tagged (lower tag)) kind e)
+    (b.0, resolved_means true datatype b.0 w.items b.1, sym (same_Some (typed_kind b.0) kind b.2))
+kind_means (Tagged tag) kind w e = sym (same_Some (Tagged (lower tag)) kind e)
 
 term_means : (raw term : Term) → IsWrittenTerm raw → resolved_term raw ≡ Some term → MeansTerm raw term
 unfolding resolved_term
 term_means (Iri bytes) term w e =
     let b = bind_some (resolved true bytes) (λ (text : List ℕ). Some (Iri text)) term e in
-    (b.0, resolved_means true bytes b.0 w.items b.1, sym (some_same (Iri b.0) term b.2))
-term_means (Blank label) term w e = sym (some_same (Blank label) term e)
+    (b.0, resolved_means true bytes b.0 w.items b.1, sym (same_Some (Iri b.0) term b.2))
+term_means (Blank label) term w e = sym (same_Some (Blank label) term e)
 term_means (Literal form kind) term w e =
     let f = bind_some (resolved false form) (λ (f : List ℕ). resolved_kind kind >>= λ k. Some (Literal f k)) term e in
     let k = bind_some (resolved_kind kind) (λ (k : Kind). Some (Literal f.0 k)) term f.2 in
-    (f.0, k.0, resolved_means false form f.0 w.0.items f.1, kind_means kind k.0 w.1 k.1, sym (some_same (Literal f.0 k.0) term k.2))
+    (f.0, k.0, resolved_means false form f.0 w.0.items f.1, kind_means kind k.0 w.1 k.1, sym (same_Some (Literal f.0 k.0) term k.2))
 
 graph_means : (raw graph : Option Term) → IsWrittenGraph raw → resolved_graph raw ≡ Some graph → MeansGraph raw graph
-graph_means None graph w e = sym (some_same None graph e)
+graph_means None graph w e = sym (same_Some None graph e)
 graph_means (Some raw) graph w e =
     let b = bind_some (resolved_term raw) (λ (t : Term). Some (Some t)) graph e in
-    (b.0, term_means raw b.0 w b.1, sym (some_same (Some b.0) graph b.2))
+    (b.0, term_means raw b.0 w b.1, sym (same_Some (Some b.0) graph b.2))
 
 pub quad_means : (raw q : Quad) → IsWritten raw → resolved_quad raw ≡ Some q → MeansQuad raw q
 unfolding resolved_quad
@@ -60,7 +64,7 @@ quad_means raw q w e =
     let p = bind_some (resolved_term raw.triple.predicate) (λ (p : Term). resolved_term raw.triple.object >>= λ o. resolved_graph raw.graph >>= λ g. Some (made_quad s.0 p o g)) q s.2 in
     let o = bind_some (resolved_term raw.triple.object) (λ (o : Term). resolved_graph raw.graph >>= λ g. Some (made_quad s.0 p.0 o g)) q p.2 in
     let g = bind_some (resolved_graph raw.graph) (λ (g : Option Term). Some (made_quad s.0 p.0 o.0 g)) q o.2 in
-    subst (λ (q : Quad). MeansQuad raw q) (some_same (made_quad s.0 p.0 o.0 g.0) q g.2) (record {
+    subst (λ (q : Quad). MeansQuad raw q) (same_Some (made_quad s.0 p.0 o.0 g.0) q g.2) (record {
       subject = term_means raw.triple.subject s.0 w.subject s.1;
       predicate = term_means raw.triple.predicate p.0 w.predicate p.1;
       object = term_means raw.triple.object o.0 w.object o.1;
@@ -192,7 +196,7 @@ bad_quad raw (inr (inr (inr b))) =
 -- ---- what is meant, without a fault
 
 is_iri_from : (text : List ℕ) → list_all is_iri_byte text ≡ true → not (has_scheme text) ≡ false → is_iri text ≡ true
-is_iri_from text h r = let s : has_scheme text ≡ true = not_false (has_scheme text) r in rw (h, s) refl
+is_iri_from text h r = let s : has_scheme text ≡ true = not-false (has_scheme text) r in rw (h, s) refl
 
 kind_valid_by : (k : Bool) (text : List ℕ) → is_xsd_string text ≡ k → IsUtf8 text → list_all is_iri_byte text ≡ true → is_relative_kind (if k then Plain else Typed text) ≡ false → is_lang_kind (if k then Plain else Typed text) ≡ false → IsValidKind (if k then Plain else Typed text)
 kind_valid_by true text x u h r l = tt
@@ -239,9 +243,9 @@ none_by false false false x y z e = (refl, refl, refl)
 
 four_false : (a b d g : Bool) → (((a || b) || d) || g) ≡ false → (a ≡ false) × (b ≡ false) × (d ≡ false) × (g ≡ false)
 four_false a b d g e =
-    let x = neither ((a || b) || d) g e in
-    let y = neither (a || b) d x.0 in
-    let z = neither a b y.0 in
+    let x = or_parts ((a || b) || d) g e in
+    let y = or_parts (a || b) d x.0 in
+    let z = or_parts a b y.0 in
     (z.0, z.1, y.1, x.1)
 
 graph_no : (longest : ℕ) (graph : Option Term) → graph_passes is_relative graph ≡ false → graph_passes has_lang_string graph ≡ false → graph_passes (is_too_long longest) graph ≡ false → GraphNoFault longest graph
@@ -301,18 +305,15 @@ quad_classes raw q c m =
       graph = means_class raw.graph q.graph c.graph m.graph;
     }
 
-at_most : (m n : ℕ) → nat_lt m n ≡ false → n ≤ m
-at_most m n h = grind (arith, h)
-
 short_label : (term : Term) → has_long_label term ≡ false → HasShortLabel term
 short_label (Iri text) h = tt
-short_label (Blank label) h = at_most 1024 (length label) h
+short_label (Blank label) h = ltb-false 1024 (length label) h
 short_label (Literal form kind) h = tt
 
 readable_term : (longest : ℕ) (term : Term) → IsValidTerm term → is_too_long longest term ≡ false → IsReadableTerm longest term
 readable_term longest term v h =
-    let p = neither (nat_lt longest (length (canonical_term term))) (has_long_label term) h in
-    record { valid = v; fits = at_most longest (length (canonical_term term)) p.0; label = short_label term p.1 }
+    let p = or_parts (nat_lt longest (length (canonical_term term))) (has_long_label term) h in
+    record { valid = v; fits = ltb-false longest (length (canonical_term term)) p.0; label = short_label term p.1 }
 
 readable_graph : (longest : ℕ) (graph : Option Term) → IsValidGraph graph → GraphNoFault longest graph → IsReadableGraph longest graph
 readable_graph longest None v n = tt

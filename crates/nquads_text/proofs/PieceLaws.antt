@@ -1,6 +1,8 @@
 -- Lines of a text that comes in pieces.
 use Rattle.std.proofs.Common.{ℕ, suc, ◌≡◌, ◌+◌, ◌<◌, ◌≤◌, ◌⊎◌, inl, inr, min, Bool, if◌then◌else◌, true, false, not, ◌&&◌, ◌||◌, nat_eq, List, [], ◌∷◌, ◌++◌, length, take, drop, Option, Some, None, Result, Ok, Err, refl, ap, sym, subst, ◌∙◌, arith, append_assoc}
 use Rattle.std.specs.List.{list_all}
+use Rattle.std.proofs.lemmas.Bool.{and_parts, not-true, or_parts}
+use Rattle.std.proofs.lemmas.Option.{same_Some}
 use Rattle.rdf_terms.specs.declared.term.Quad.{Quad}
 use Rattle.nquads_text.specs.declared.fault.Why.{Why}
 use Rattle.nquads_text.specs.Reads.{lines_from}
@@ -8,7 +10,6 @@ use Rattle.nquads_text.specs.Line.{line_read}
 use Rattle.nquads_text.specs.Lines.{with_quad, after_line, read_lines, line_end, after_end}
 use Rattle.nquads_text.specs.Feed.{is_inside, last_number}
 use Rattle.nquads_text.specs.Pieces.{is_cut_end, capped, reading}
-use Rattle.nquads_text.proofs.Steps.{both, neither, not_true, some_same}
 use Rattle.nquads_text.proofs.Lines.{chosen, after_cr}
 
 abbrev Found : Type 0
@@ -20,8 +21,8 @@ Found = Result (List Quad) (ℕ × Why)
 inside_lines : (xs ys : List ℕ) (ls : List (List ℕ)) → list_all is_inside xs ≡ true → lines_from false ys ≡ [] ∷ ls → lines_from false (xs ++ ys) ≡ xs ∷ ls
 inside_lines [] ys ls h e = e
 inside_lines (b ∷ xs) ys ls h e =
-    let p = both (is_inside b) (list_all is_inside xs) h in
-    let q = neither (nat_eq b 10) (nat_eq b 13) (not_true (nat_eq b 10 || nat_eq b 13) p.0) in
+    let p = and_parts (is_inside b) (list_all is_inside xs) h in
+    let q = or_parts (nat_eq b 10) (nat_eq b 13) (not-true (nat_eq b 10 || nat_eq b 13) p.0) in
     rw (q.0, q.1, inside_lines xs ys ls p.1 e) refl
 
 pub lf_more : (t : Bool) (c : ℕ) (bs more : List ℕ) → (if t then bs ++ more else c ∷ (bs ++ more)) ≡ (if t then bs else c ∷ bs) ++ more
@@ -61,7 +62,7 @@ end_byte b h = grind (arith, h)
 
 at_step : (i b : ℕ) (bs : List ℕ) (m : ℕ) → (line_end (i + 1) bs ≡ Some m → EndAt (i + 1) bs m) → ((nat_eq b 10 || nat_eq b 13) ≡ true) × (◌≡◌ {A = Option ℕ} (Some i) (Some m)) ⊎ ((nat_eq b 10 || nat_eq b 13) ≡ false) × (line_end (i + 1) bs ≡ Some m) → EndAt i (b ∷ bs) m
 at_step i b bs m ih (inl here) =
-    let same : i ≡ m = some_same i m here.1 in
+    let same : i ≡ m = same_Some i m here.1 in
     record { n = 0; place = omega (arith, same); inside = refl; whole = refl; byte = b; tail = bs; end = refl; ends = end_byte b here.0 }
 at_step i b bs m ih (inr later) =
     let e = ih later.1 in
@@ -74,7 +75,7 @@ end_at i (b ∷ bs) m e = at_step i b bs m (end_at (i + 1) bs m) (chosen (nat_eq
 
 pub inside_append : (xs ys : List ℕ) → list_all is_inside xs ≡ true → list_all is_inside ys ≡ true → list_all is_inside (xs ++ ys) ≡ true
 inside_append [] ys h k = k
-inside_append (x ∷ xs) ys h k = let p = both (is_inside x) (list_all is_inside xs) h in rw (p.0, inside_append xs ys p.1 k) refl
+inside_append (x ∷ xs) ys h k = let p = and_parts (is_inside x) (list_all is_inside xs) h in rw (p.0, inside_append xs ys p.1 k) refl
 
 next_by : (kept bytes more : List ℕ) (n : ℕ) (e : EndAt 0 bytes n) → e.n ≡ n → list_all is_inside kept ≡ true → lines_from false (kept ++ (bytes ++ more)) ≡ (kept ++ take n bytes) ∷ lines_from (is_cut_end (drop n bytes)) (after_end (drop n bytes) ++ more)
 next_by kept bytes more n e same h =
@@ -146,11 +147,11 @@ no_end_inside i (b ∷ bs) e = by (chosen (nat_eq b 10 || nat_eq b 13) (Some i) 
 pub one_line : (bs : List ℕ) → 0 < length bs → list_all is_inside bs ≡ true → lines_from false bs ≡ bs ∷ []
 one_line [] l h = absurd (omega arith)
 one_line (b ∷ []) l h =
-    let q = neither (nat_eq b 10) (nat_eq b 13) (not_true (nat_eq b 10 || nat_eq b 13) (both (is_inside b) true h).0) in
+    let q = or_parts (nat_eq b 10) (nat_eq b 13) (not-true (nat_eq b 10 || nat_eq b 13) (and_parts (is_inside b) true h).0) in
     rw (q.0, q.1) refl
 one_line (b ∷ c ∷ bs) l h =
-    let p = both (is_inside b) (list_all is_inside (c ∷ bs)) h in
-    let q = neither (nat_eq b 10) (nat_eq b 13) (not_true (nat_eq b 10 || nat_eq b 13) p.0) in
+    let p = and_parts (is_inside b) (list_all is_inside (c ∷ bs)) h in
+    let q = or_parts (nat_eq b 10) (nat_eq b 13) (not-true (nat_eq b 10 || nat_eq b 13) p.0) in
     rw (q.0, q.1, one_line (c ∷ bs) (omega arith) p.1) refl
 
 no_cr : (kept : List ℕ) (cr : Bool) → 0 < length kept → (cr ≡ true → kept ≡ []) → cr ≡ false

@@ -1,8 +1,8 @@
 -- The first place that a search of the kit finds.
-use Rattle.std.proofs.Common.{ℕ, zero, suc, ◌≡◌, ◌+◌, ◌<◌, ◌≤◌, Bool, if◌then◌else◌, true, false, List, [], ◌∷◌, length, Option, Some, None, slice_index, refl, ap, sym, ◌∙◌, arith}
-use Rattle.memchr.specs.Find.{IsFirst, Passes, IsFirstByte, Nowhere}
+use Rattle.std.proofs.Common.{ℕ, zero, suc, ◌≡◌, ◌+◌, Bool, true, false, List, [], ◌∷◌, Option, Some, None, refl, ap, sym, ◌∙◌, arith}
+use Rattle.std.proofs.lemmas.Bool.{true≢false}
+use Rattle.memchr.specs.Find.{IsFirstByte}
 use Rattle.nquads_text.specs.Scan.{first_place}
-use Rattle.nquads_text.proofs.Steps.{true_false}
 
 -- what a search from the second byte on says
 later_none : (test : ℕ → Bool) (b : ℕ) (bs : List ℕ) → IsFirstByte test (b ∷ bs) None → IsFirstByte test bs None
@@ -20,7 +20,7 @@ at_step true test i b bs None e ih h = absurd (h 0 (omega arith) (omega arith) e
 at_step true test i b bs (Some zero) e ih h = let at : i ≡ i + 0 = omega arith in rw e (ap (λ (k : ℕ). Some k) at)
 at_step true test i b bs (Some (suc k)) e ih h = absurd (h.0.before 0 (omega arith) (omega arith) e)
 at_step false test i b bs None e ih h = let later : first_place test (i + 1) bs ≡ None = ih None (later_none test b bs h) in rw e later
-at_step false test i b bs (Some zero) e ih h = absurd (true_false (sym h.1 ∙ e))
+at_step false test i b bs (Some zero) e ih h = absurd (true≢false (sym h.1 ∙ e))
 at_step false test i b bs (Some (suc k)) e ih h =
     let later : first_place test (i + 1) bs ≡ Some ((i + 1) + k) = ih (Some k) (later_some test b bs k h) in
     let at : (i + 1) + k ≡ i + suc k = omega arith in

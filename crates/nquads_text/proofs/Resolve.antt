@@ -1,10 +1,10 @@
 -- The machine that resolves escapes gives what the items mean.
 use Rattle.std.proofs.Common.{ℕ, ◌≡◌, ◌+◌, ◌*◌, ◌-◌, ◌<◌, ◌≤◌, ◌⊎◌, inl, inr, min, Bool, if◌then◌else◌, true, false, List, [], ◌∷◌, ◌++◌, length, Option, Some, None, nat_eq, refl, ap, sym, subst, ◌∙◌, arith, append_assoc, append-nil}
 use Rattle.std.specs.Char.{encode_utf8, digit_value}
+use Rattle.list_laws.specs.Options.{when, ◌>>=◌}
 use Rattle.rdf_terms.specs.Iri.{is_iri_byte}
 use Rattle.nquads_text.specs.declared.scan.Awaits.{Awaits}
 use Rattle.nquads_text.specs.declared.scan.Awaits.TheVariants.{Item, Escape, Digits}
-use Rattle.nquads_text.specs.Option.{◌>>=◌, when}
 use Rattle.nquads_text.specs.Scan.{digits_left}
 use Rattle.nquads_text.specs.Grammar.{is_form_byte, is_short_escape, AreDigits, IsNumeric, all_of, Each, AreItems}
 use Rattle.nquads_text.specs.Meaning.{hex_value, is_scalar, is_nameable, named, item_value, items_value, IsItem, MeansText, HasBadEscape}

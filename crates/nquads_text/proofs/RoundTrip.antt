@@ -1,10 +1,11 @@
 -- Canonical text is read again as the quads that it was written from.
-use Rattle.std.proofs.Common.{ℕ, ◌≡◌, ◌<◌, ◌≤◌, inl, inr, Bool, if◌then◌else◌, true, false, not, ◌&&◌, ◌||◌, nat_eq, nat_lt, List, [], ◌∷◌, ◌++◌, length, Option, Some, None, refl, ap, sym, subst, ◌∙◌, arith, append_assoc}
+use Rattle.std.proofs.Common.{ℕ, ◌≡◌, ◌<◌, inl, inr, Bool, if◌then◌else◌, true, false, not, ◌&&◌, ◌||◌, nat_eq, nat_lt, List, [], ◌∷◌, ◌++◌, length, Option, Some, None, refl, ap, sym, subst, ◌∙◌, arith, append_assoc}
 use Rattle.std.specs.List.{list_all, AllByRecursion}
 use Rattle.std.specs.Option.{option_map}
 use Rattle.std.specs.Char.{to_ascii_lowercase}
 use Rattle.std.specs.Str.{IsUtf8}
 use Rattle.std.proofs.lemmas.Str.{IsUtf8-nil, IsUtf8-append}
+use Rattle.std.proofs.lemmas.Bool.{and_parts, le-ltb, not-true, or_parts}
 use Rattle.rdf_terms.specs.Iri.{is_iri, is_iri_byte, has_scheme}
 use Rattle.rdf_terms.specs.Label.{is_label}
 use Rattle.rdf_terms.specs.Tag.{is_tag, is_lower_tag, is_upper, lower}
@@ -20,9 +21,10 @@ use Rattle.nquads_text.specs.declared.fault.Why.{Why}
 use Rattle.nquads_text.specs.Grammar.{is_form_byte, is_short_escape, IsIriItem, IsFormItem, all_of, Each, AreItems, SkipsBlanks, ReadsKind, ReadsTerm, ReadsGraph, IsStatement}
 use Rattle.nquads_text.specs.Meaning.{short_value, item_value, items_value, MeansText, MeansKind, MeansTerm, MeansGraph, MeansQuad}
 use Rattle.nquads_text.specs.Faults.{is_relative, is_relative_kind, has_lang_string, is_lang_kind, has_long_label, is_too_long, graph_passes, some_term, fault_of}
-use Rattle.nquads_text.specs.Quads.{IsValidKind, IsValidTerm, HasShortLabel, IsReadableTerm, IsReadableGraph, IsReadable}
+use Rattle.rdf_terms.specs.Valid.{IsValidKind, IsValidTerm, IsValidGraph}
+use Rattle.rdf_terms.specs.Sizes.{HasShortLabel}
+use Rattle.nquads_text.specs.Quads.{IsReadableTerm, IsReadableGraph, IsReadable}
 use Rattle.nquads_text.specs.Reads.{lines_of, ReadsLine, ReadsLines, Reads}
-use Rattle.nquads_text.proofs.Steps.{both, neither, not_true}
 use Rattle.nquads_text.proofs.Utf8.{before_ascii, after_ascii, one_ascii}
 use Rattle.nquads_text.proofs.TagTexts.{tag_text}
 use Rattle.nquads_text.proofs.Labels.{label_parts, is_run_byte, label_run}
@@ -35,7 +37,7 @@ pub record IriParts (text : List ℕ) : Type 0 where
   pub scheme : has_scheme text ≡ true
 
 iri_parts : (text : List ℕ) → is_iri text ≡ true → IriParts text
-iri_parts text h = let p = both (list_all is_iri_byte text) (has_scheme text) h in record { each = p.0; scheme = p.1 }
+iri_parts text h = let p = and_parts (list_all is_iri_byte text) (has_scheme text) h in record { each = p.0; scheme = p.1 }
 
 pub record DatatypeParts (text : List ℕ) : Type 0 where
   pub iri : IriParts text
@@ -44,9 +46,9 @@ pub record DatatypeParts (text : List ℕ) : Type 0 where
 
 datatype_parts : (text : List ℕ) → is_datatype text ≡ true → DatatypeParts text
 datatype_parts text h =
-    let p = both (is_iri text && not (is_xsd_string text)) (not (is_lang_string text)) h in
-    let q = both (is_iri text) (not (is_xsd_string text)) p.0 in
-    record { iri = iri_parts text q.0; no_string = not_true (is_xsd_string text) q.1; no_lang = not_true (is_lang_string text) p.1 }
+    let p = and_parts (is_iri text && not (is_xsd_string text)) (not (is_lang_string text)) h in
+    let q = and_parts (is_iri text) (not (is_xsd_string text)) p.0 in
+    record { iri = iri_parts text q.0; no_string = not-true (is_xsd_string text) q.1; no_lang = not-true (is_lang_string text) p.1 }
 
 lower_same : (b : ℕ) → is_upper b ≡ false → to_ascii_lowercase b ≡ b
 lower_same b h = grind (arith, h)
@@ -54,8 +56,8 @@ lower_same b h = grind (arith, h)
 lower_all : (tag : List ℕ) → list_all (λ b. not (is_upper b)) tag ≡ true → lower tag ≡ tag
 lower_all [] h = refl
 lower_all (b ∷ tag) h =
-    let p = both (not (is_upper b)) (list_all (λ b. not (is_upper b)) tag) h in
-    rw (lower_same b (not_true (is_upper b) p.0), lower_all tag p.1) refl
+    let p = and_parts (not (is_upper b)) (list_all (λ b. not (is_upper b)) tag) h in
+    rw (lower_same b (not-true (is_upper b) p.0), lower_all tag p.1) refl
 
 pub record TagParts (tag : List ℕ) : Type 0 where
   pub is_one : is_tag tag ≡ true
@@ -63,7 +65,7 @@ pub record TagParts (tag : List ℕ) : Type 0 where
 
 tag_parts : (tag : List ℕ) → is_lower_tag tag ≡ true → TagParts tag
 unfolding is_lower_tag
-tag_parts tag h = let p = both (is_tag tag) (list_all (λ b. not (is_upper b)) tag) h in record { is_one = p.0; kept = lower_all tag p.1 }
+tag_parts tag h = let p = and_parts (is_tag tag) (list_all (λ b. not (is_upper b)) tag) h in record { is_one = p.0; kept = lower_all tag p.1 }
 
 -- ---- texts
 
@@ -79,7 +81,7 @@ singles_of (b ∷ text) = ap (λ (l : List ℕ). b ∷ l) (singles_of text)
 singles_items : (text : List ℕ) → list_all is_iri_byte text ≡ true → Each IsIriItem (singles text)
 unfolding singles
 singles_items [] h = tt
-singles_items (b ∷ text) h = let p = both (is_iri_byte b) (list_all is_iri_byte text) h in (inl (b, refl, p.0), singles_items text p.1)
+singles_items (b ∷ text) h = let p = and_parts (is_iri_byte b) (list_all is_iri_byte text) h in (inl (b, refl, p.0), singles_items text p.1)
 
 singles_value : (text : List ℕ) → items_value true (singles text) ≡ Some text
 unfolding singles
@@ -164,7 +166,7 @@ space_run more h = cc
 
 run_back : (xs ys : List ℕ) → list_all is_run_byte (xs ++ ys) ≡ true → list_all is_run_byte ys ≡ true
 run_back [] ys h = h
-run_back (x ∷ xs) ys h = run_back xs ys (both (is_run_byte x) (list_all is_run_byte (xs ++ ys)) h).1
+run_back (x ∷ xs) ys h = run_back xs ys (and_parts (is_run_byte x) (list_all is_run_byte (xs ++ ys)) h).1
 
 no_more : (label more later rest : List ℕ) → 32 ∷ rest ≡ more ++ later → is_label (label ++ more) ≡ true → more ≡ []
 no_more label [] later rest e h = refl
@@ -189,14 +191,14 @@ NoEnds bs = list_all no_end bs ≡ true
 
 ends_append : (xs ys : List ℕ) → NoEnds xs → NoEnds ys → NoEnds (xs ++ ys)
 ends_append [] ys h k = k
-ends_append (x ∷ xs) ys h k = let p = both (no_end x) (list_all no_end xs) h in rw (p.0, ends_append xs ys p.1 k) refl
+ends_append (x ∷ xs) ys h k = let p = and_parts (no_end x) (list_all no_end xs) h in rw (p.0, ends_append xs ys p.1 k) refl
 
 ends_cons : (b : ℕ) (bs : List ℕ) → no_end b ≡ true → NoEnds bs → NoEnds (b ∷ bs)
 ends_cons b bs h k = rw (h, k) refl
 
 ends_each : (test : ℕ → Bool) (bs : List ℕ) → ((b : ℕ) → test b ≡ true → no_end b ≡ true) → list_all test bs ≡ true → NoEnds bs
 ends_each test [] f h = refl
-ends_each test (b ∷ bs) f h = let p = both (test b) (list_all test bs) h in ends_cons b bs (f b p.0) (ends_each test bs f p.1)
+ends_each test (b ∷ bs) f h = let p = and_parts (test b) (list_all test bs) h in ends_cons b bs (f b p.0) (ends_each test bs f p.1)
 
 iri_ends : (text : List ℕ) → IriParts text → NoEnds text
 iri_ends text p = ends_each is_iri_byte text (λ b h. grind (arith, h)) p.each
@@ -228,8 +230,8 @@ term_ends (Literal form kind) v = ends_cons 34 (canonical_form form ++ 34 ∷ ca
 line_cut : (text rest : List ℕ) → NoEnds text → lines_of (text ++ 10 ∷ rest) ≡ text ∷ lines_of rest
 line_cut [] rest h = refl
 line_cut (b ∷ text) rest h =
-    let p = both (no_end b) (list_all no_end text) h in
-    let q = neither (nat_eq b 10) (nat_eq b 13) (not_true (nat_eq b 10 || nat_eq b 13) p.0) in
+    let p = and_parts (no_end b) (list_all no_end text) h in
+    let q = or_parts (nat_eq b 10) (nat_eq b 13) (not-true (nat_eq b 10 || nat_eq b 13) p.0) in
     rw (q.0, q.1, line_cut text rest p.1) refl
 
 -- ---- UTF-8
@@ -283,11 +285,7 @@ pub record GraphText (graph : Option Term) : Type 0 where
   pub skips : SkipsBlanks (canonical_graph graph ++ 32 ∷ 46 ∷ []) from
   pub reads : ReadsGraph from (option_map as_written graph) (32 ∷ 46 ∷ [])
 
-abbrev GraphIsValid : Option Term → Type 0
-GraphIsValid None = Unit {0}
-GraphIsValid (Some graph) = IsValidTerm graph
-
-graph_text : (graph : Option Term) → GraphIsValid graph → GraphText graph
+graph_text : (graph : Option Term) → IsValidGraph graph → GraphText graph
 graph_text None v = record { more = 46 ∷ []; from = 32 ∷ 46 ∷ []; spaced = refl; skips = ([], refl, refl); reads = refl }
 graph_text (Some graph) v =
     record {
@@ -298,15 +296,15 @@ graph_text (Some graph) v =
       reads = term_reads graph (46 ∷ []) v;
     }
 
-graph_means : (graph : Option Term) → GraphIsValid graph → MeansGraph (option_map as_written graph) graph
+graph_means : (graph : Option Term) → IsValidGraph graph → MeansGraph (option_map as_written graph) graph
 graph_means None v = refl
 graph_means (Some graph) v = (graph, term_means graph v, refl)
 
-graph_ends : (graph : Option Term) → GraphIsValid graph → NoEnds (canonical_graph graph)
+graph_ends : (graph : Option Term) → IsValidGraph graph → NoEnds (canonical_graph graph)
 graph_ends None v = refl
 graph_ends (Some graph) v = ends_cons 32 (canonical_term graph) refl (term_ends graph v)
 
-graph_utf8 : (graph : Option Term) → GraphIsValid graph → IsUtf8 (canonical_graph graph)
+graph_utf8 : (graph : Option Term) → IsValidGraph graph → IsUtf8 (canonical_graph graph)
 graph_utf8 None v = IsUtf8-nil
 graph_utf8 (Some graph) v = cons_utf8 32 (canonical_term graph) (omega arith) (term_utf8 graph v)
 
@@ -331,7 +329,7 @@ pub record LineParts (q : Quad) : Type 0 where
   pub subject : IsValidTerm q.triple.subject
   pub predicate : IsValidTerm q.triple.predicate
   pub object : IsValidTerm q.triple.object
-  pub graph : GraphIsValid q.graph
+  pub graph : IsValidGraph q.graph
   pub classes : IsRdfQuad q
 
 object_reads : (o : Term) (after more : List ℕ) → after ≡ 32 ∷ more → IsValidTerm o → ReadsTerm (canonical_term o ++ after) (as_written o) after
@@ -402,18 +400,15 @@ valid_passes (Iri text) v = (ap not (iri_parts text v.0).scheme, refl)
 valid_passes (Blank label) v = (refl, refl)
 valid_passes (Literal form kind) v = kind_passes kind v.1
 
-not_above : (m n : ℕ) → n ≤ m → nat_lt m n ≡ false
-not_above m n h = grind (arith, h)
-
 label_passes : (term : Term) → HasShortLabel term → has_long_label term ≡ false
 label_passes (Iri text) h = refl
-label_passes (Blank label) h = not_above 1024 (length label) h
+label_passes (Blank label) h = le-ltb 1024 (length label) h
 label_passes (Literal form kind) h = refl
 
 term_passes : (longest : ℕ) (term : Term) → IsReadableTerm longest term → Passes longest term
 term_passes longest term r =
     let p = valid_passes term r.valid in
-    let fits : nat_lt longest (length (canonical_term term)) ≡ false = not_above longest (length (canonical_term term)) r.fits in
+    let fits : nat_lt longest (length (canonical_term term)) ≡ false = le-ltb longest (length (canonical_term term)) r.fits in
     let short : has_long_label term ≡ false = label_passes term r.label in
     record { relative = p.0; lang = p.1; long = rw (fits, short) refl }
 
@@ -443,7 +438,7 @@ no_fault longest q r =
 
 -- ---- the text
 
-graph_valid : (longest : ℕ) (graph : Option Term) → IsReadableGraph longest graph → GraphIsValid graph
+graph_valid : (longest : ℕ) (graph : Option Term) → IsReadableGraph longest graph → IsValidGraph graph
 graph_valid longest None r = tt
 graph_valid longest (Some graph) r = r.valid
 

@@ -2,17 +2,19 @@
 use Rattle.std.proofs.Common.{ℕ, ◌≡◌, ◌⊎◌, inl, inr, Bool, if◌then◌else◌, true, false, not, List, [], ◌∷◌, ◌++◌, Option, Some, None, refl, ap, sym, subst, ◌∙◌, arith, append_assoc}
 use Rattle.std.specs.List.{list_all}
 use Rattle.std.specs.Option.{option_map}
+use Rattle.std.proofs.lemmas.Bool.{and_parts, not-true}
+use Rattle.std.proofs.lemmas.Option.{same_Some}
+use Rattle.list_laws.proofs.Options.{bind_some, first_some, map_some, when_some}
+use Rattle.list_laws.specs.Options.{first_of, when, ◌>>=◌}
 use Rattle.rdf_terms.specs.Triples.{IsIriOrBlank, IsRdfGraph}
 use Rattle.rdf_terms.specs.declared.term.Quad.{Quad}
 use Rattle.rdf_terms.specs.declared.term.Term.{Term}
 use Rattle.rdf_terms.specs.declared.term.Term.TheVariants.{Iri, Blank, Literal}
 use Rattle.rdf_terms.specs.declared.term.Kind.{Kind}
 use Rattle.rdf_terms.specs.declared.term.Kind.TheVariants.{Typed, Tagged}
-use Rattle.nquads_text.specs.Option.{◌>>=◌, when, first_of}
 use Rattle.nquads_text.specs.Grammar.{is_blank, SkipsBlanks, ReadsDatatype, ReadsKind, ReadsTerm, ReadsGraph, IsComment, HasNoStatement, IsStatement}
 use Rattle.nquads_text.specs.Scan.{skipped, opened, is_over}
 use Rattle.nquads_text.specs.Raw.{iri_part, form_part, label_part, tag_part, datatype_part, or_plain, kind_part, literal_part, node_part, object_part, or_none, graph_part, statement_of}
-use Rattle.nquads_text.proofs.Steps.{bind_some, when_some, both, not_true, some_same, first_some, map_some}
 use Rattle.nquads_text.proofs.Bodies.{iri_part-some, opened_some}
 use Rattle.nquads_text.proofs.Forms.{form_part-some}
 use Rattle.nquads_text.proofs.Labels.{label_some, tag_some}
@@ -33,18 +35,18 @@ begins_no_blank (b ∷ bs) = not (is_blank b)
 
 skipped_blanks : (blanks rest : List ℕ) → list_all is_blank blanks ≡ true → skipped (blanks ++ rest) ≡ skipped rest
 skipped_blanks [] rest h = refl
-skipped_blanks (b ∷ blanks) rest h = let p = both (is_blank b) (list_all is_blank blanks) h in rw p.0 (skipped_blanks blanks rest p.1)
+skipped_blanks (b ∷ blanks) rest h = let p = and_parts (is_blank b) (list_all is_blank blanks) h in rw p.0 (skipped_blanks blanks rest p.1)
 
 skipped_none : (rest : List ℕ) → begins_no_blank rest ≡ true → skipped rest ≡ rest
 skipped_none [] h = refl
-skipped_none (b ∷ bs) h = let none : is_blank b ≡ false = not_true (is_blank b) h in rw none refl
+skipped_none (b ∷ bs) h = let none : is_blank b ≡ false = not-true (is_blank b) h in rw none refl
 
 pub skip_to : (bytes rest : List ℕ) → SkipsBlanks bytes rest → begins_no_blank rest ≡ true → skipped bytes ≡ rest
 skip_to bytes rest s h = ap (λ (l : List ℕ). skipped l) s.1 ∙ skipped_blanks s.0 rest s.2 ∙ skipped_none rest h
 
 pub blanks_append : (xs ys : List ℕ) → list_all is_blank xs ≡ true → list_all is_blank ys ≡ true → list_all is_blank (xs ++ ys) ≡ true
 blanks_append [] ys h k = k
-blanks_append (x ∷ xs) ys h k = let p = both (is_blank x) (list_all is_blank xs) h in rw (p.0, blanks_append xs ys p.1 k) refl
+blanks_append (x ∷ xs) ys h k = let p = and_parts (is_blank x) (list_all is_blank xs) h in rw (p.0, blanks_append xs ys p.1 k) refl
 
 pub skip_twice : (bytes middle rest : List ℕ) → SkipsBlanks bytes middle → SkipsBlanks middle rest → SkipsBlanks bytes rest
 skip_twice bytes middle rest s t = (s.0 ++ t.0, s.1 ∙ ap (λ (l : List ℕ). s.0 ++ l) t.1 ∙ sym (append_assoc s.0 t.0 rest), blanks_append s.0 t.0 s.2 t.2)
@@ -112,7 +114,7 @@ literal_some : (bytes : List ℕ) (p : Term × List ℕ) → literal_part bytes 
 unfolding literal_part
 literal_some bytes p e =
     let a = bind_some (form_part bytes) (λ (f : List ℕ × List ℕ). let r : Option (Term × List ℕ) = Some (Literal f.0 (kind_part f.1).0, (kind_part f.1).1) in r) p e in
-    let at : ◌≡◌ {A = Term × List ℕ} (Literal a.0.0 (kind_part a.0.1).0, (kind_part a.0.1).1) p = some_same _ p a.2 in
+    let at : ◌≡◌ {A = Term × List ℕ} (Literal a.0.0 (kind_part a.0.1).0, (kind_part a.0.1).1) p = same_Some _ p a.2 in
     subst (λ (x : Term × List ℕ). ReadsTerm bytes x.0 x.1) at (a.0.1, form_part-some bytes a.0 a.1, kind_some a.0.1)
 
 object_by : (bytes : List ℕ) (p : Term × List ℕ) → (node_part bytes ≡ Some p) ⊎ ((node_part bytes ≡ None) × (literal_part bytes ≡ Some p)) → ReadsTerm bytes p.0 p.1

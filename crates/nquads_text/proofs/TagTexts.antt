@@ -3,10 +3,10 @@ use Rattle.std.proofs.Common.{ℕ, ◌≡◌, ◌<◌, Bool, if◌then◌else◌
 use Rattle.std.specs.List.{list_all}
 use Rattle.std.specs.Str.{IsUtf8, is_utf8}
 use Rattle.std.proofs.lemmas.Str.{IsUtf8-nil, IsUtf8-append, is_utf8-from_IsUtf8}
+use Rattle.std.proofs.lemmas.Bool.{and_parts}
 use Rattle.rdf_terms.specs.Tag.{is_tag, runs_tag, may_stand}
 use Rattle.rdf_terms.proofs.Tags.{runs_is_tag}
 use Rattle.nquads_text.specs.Scan.{is_tag_byte}
-use Rattle.nquads_text.proofs.Steps.{both}
 use Rattle.nquads_text.proofs.Utf8.{one_ascii}
 
 hyphen_byte : (b : ℕ) → nat_eq b 45 ≡ true → is_tag_byte b ≡ true
@@ -18,8 +18,8 @@ stand_byte false b h = grind (arith, h)
 
 tag_by : (hyphen f h : Bool) (b : ℕ) (bs : List ℕ) → nat_eq b 45 ≡ hyphen → (runs_tag false false bs ≡ true → list_all is_tag_byte bs ≡ true) → (runs_tag f true bs ≡ true → list_all is_tag_byte bs ≡ true)
     → (if hyphen then h && runs_tag false false bs else (may_stand f b && runs_tag f true bs)) ≡ true → (is_tag_byte b && list_all is_tag_byte bs) ≡ true
-tag_by true f h b bs k one more g = let p = both h (runs_tag false false bs) g in rw (hyphen_byte b k, one p.1) refl
-tag_by false f h b bs k one more g = let p = both (may_stand f b) (runs_tag f true bs) g in rw (stand_byte f b p.0, more p.1) refl
+tag_by true f h b bs k one more g = let p = and_parts h (runs_tag false false bs) g in rw (hyphen_byte b k, one p.1) refl
+tag_by false f h b bs k one more g = let p = and_parts (may_stand f b) (runs_tag f true bs) g in rw (stand_byte f b p.0, more p.1) refl
 
 all_tag : (f h : Bool) (bs : List ℕ) → runs_tag f h bs ≡ true → list_all is_tag_byte bs ≡ true
 all_tag f h [] e = refl
@@ -33,7 +33,7 @@ tag_low b h = grind (arith, h)
 
 ascii_text : (tag : List ℕ) → list_all is_tag_byte tag ≡ true → IsUtf8 tag
 ascii_text [] h = IsUtf8-nil
-ascii_text (b ∷ tag) h = let p = both (is_tag_byte b) (list_all is_tag_byte tag) h in IsUtf8-append (b ∷ []) tag (one_ascii b (tag_low b p.0)) (ascii_text tag p.1)
+ascii_text (b ∷ tag) h = let p = and_parts (is_tag_byte b) (list_all is_tag_byte tag) h in IsUtf8-append (b ∷ []) tag (one_ascii b (tag_low b p.0)) (ascii_text tag p.1)
 
 pub tag_text : (tag : List ℕ) → is_tag tag ≡ true → IsUtf8 tag
 tag_text tag h = ascii_text tag (tag_bytes tag h)

@@ -2,6 +2,7 @@
 use Rattle.std.proofs.Common.{ℕ, ◌≡◌, ◌<◌, true, List, [], ◌∷◌, ◌++◌, Option, Some, None, subst, arith}
 use Rattle.std.specs.List.{list_all}
 use Rattle.std.specs.Str.{IsUtf8}
+use Rattle.std.proofs.lemmas.Bool.{and_parts}
 use Rattle.rdf_terms.specs.declared.term.Quad.{Quad}
 use Rattle.rdf_terms.specs.declared.term.Term.{Term}
 use Rattle.rdf_terms.specs.declared.term.Term.TheVariants.{Iri, Blank, Literal}
@@ -9,7 +10,6 @@ use Rattle.rdf_terms.specs.declared.term.Kind.{Kind}
 use Rattle.rdf_terms.specs.declared.term.Kind.TheVariants.{Plain, Typed, Tagged}
 use Rattle.nquads_text.specs.Grammar.{is_blank, IsIriItem, IsFormItem, ReadsIri, ReadsForm, SkipsBlanks, ReadsKind, ReadsTerm, ReadsGraph, IsStatement}
 use Rattle.nquads_text.specs.Line.{IsWrittenText, IsWrittenKind, IsWrittenTerm, IsWrittenGraph, IsWritten}
-use Rattle.nquads_text.proofs.Steps.{both}
 use Rattle.nquads_text.proofs.Utf8.{before_ascii, after_ascii, after_text}
 use Rattle.nquads_text.proofs.Labels.{label_parts}
 use Rattle.nquads_text.proofs.TagTexts.{tag_text}
@@ -20,7 +20,7 @@ blank_low b h = grind (arith, h)
 after_all : (blanks rest : List ℕ) → list_all is_blank blanks ≡ true → IsUtf8 (blanks ++ rest) → IsUtf8 rest
 after_all [] rest h u = u
 after_all (b ∷ blanks) rest h u =
-    let p = both (is_blank b) (list_all is_blank blanks) h in
+    let p = and_parts (is_blank b) (list_all is_blank blanks) h in
     after_all blanks rest p.1 (after_ascii [] (blanks ++ rest) b (blank_low b p.0) u)
 
 pub after_blanks : (bytes rest : List ℕ) → SkipsBlanks bytes rest → IsUtf8 bytes → IsUtf8 rest

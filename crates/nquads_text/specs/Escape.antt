@@ -1,9 +1,9 @@
 -- The text that stands between two marks, its escapes resolved byte by byte.
 use Rattle.std.specs.Prelude.{ℕ, ◌+◌, ◌*◌, ◌-◌, Bool, ◌==◌, min, List, [], ◌∷◌, ◌++◌, Option, Some, if◌then◌else◌}
 use Rattle.std.specs.Char.{encode_utf8, digit_value}
+use Rattle.list_laws.specs.Options.{when, ◌>>=◌}
 use Rattle.nquads_text.specs.declared.scan.Awaits.{Awaits}
 use Rattle.nquads_text.specs.declared.scan.Awaits.TheVariants.{Item, Escape, Digits}
-use Rattle.nquads_text.specs.Option.{◌>>=◌, when}
 use Rattle.nquads_text.specs.Scan.{digits_left}
 use Rattle.nquads_text.specs.Meaning.{short_value, is_nameable}
 

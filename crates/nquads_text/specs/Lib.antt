@@ -1,4 +1,3 @@
-pub mod Option
 pub mod Grammar
 pub mod Meaning
 pub mod Faults
@@ -10,7 +9,6 @@ pub mod Views
 pub mod Escape
 pub mod Line
 pub mod Lines
-pub mod Begins
 pub mod Feed
 pub mod Pieces
 pub mod Laws

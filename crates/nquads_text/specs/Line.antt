@@ -1,6 +1,7 @@
 -- What the reader makes of a line.
 use Rattle.std.specs.Prelude.{ℕ, ◌≡◌, true, false, List, Option, Some, None, Result, Ok, Err, if◌then◌else◌}
 use Rattle.std.specs.Str.{is_utf8, IsUtf8}
+use Rattle.list_laws.specs.Options.{◌>>=◌}
 use Rattle.rdf_terms.specs.Label.{is_label}
 use Rattle.rdf_terms.specs.Tag.{is_tag, lower}
 use Rattle.rdf_terms.specs.Kinds.{typed_kind}
@@ -11,12 +12,10 @@ use Rattle.rdf_terms.specs.declared.term.Kind.{Kind}
 use Rattle.rdf_terms.specs.declared.term.Kind.TheVariants.{Plain, Typed, Tagged}
 use Rattle.nquads_text.specs.declared.fault.Why.{Why}
 use Rattle.nquads_text.specs.declared.fault.Why.TheVariants.{Utf8, Statement, Escape}
-use Rattle.nquads_text.specs.Option.{◌>>=◌}
 use Rattle.nquads_text.specs.Grammar.{IsIriItem, IsFormItem, AreItems}
 use Rattle.nquads_text.specs.Escape.{resolved}
 use Rattle.nquads_text.specs.Faults.{fault_of}
 use Rattle.nquads_text.specs.Raw.{line_form}
-use Rattle.nquads_text.specs.Quads.{IsValidTerm}
 
 -- ---- a raw statement, its escapes resolved
 
@@ -104,14 +103,3 @@ pub record IsWritten (q : Quad) : Type 0 where
   pub predicate : IsWrittenTerm q.triple.predicate
   pub object : IsWrittenTerm q.triple.object
   pub graph : IsWrittenGraph q.graph
-
--- a term and a quad whose texts keep the rules of their parts
-abbrev pub IsValidGraph : Option Term → Type 0
-IsValidGraph None = Unit {0}
-IsValidGraph (Some graph) = IsValidTerm graph
-
-pub record IsValidQuad (q : Quad) : Type 0 where
-  pub subject : IsValidTerm q.triple.subject
-  pub predicate : IsValidTerm q.triple.predicate
-  pub object : IsValidTerm q.triple.object
-  pub graph : IsValidGraph q.graph

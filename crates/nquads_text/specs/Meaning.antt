@@ -1,6 +1,7 @@
 -- What a statement as written means: its escapes are resolved, xsd:string is left out, and its tags are in lower case.
 use Rattle.std.specs.Prelude.{ℕ, ◌≡◌, ◌⊎◌, ◌+◌, ◌*◌, Bool, true, false, not, ◌==◌, ◌&&◌, ◌||◌, nat_lt, List, [], ◌∷◌, ◌++◌, Option, Some, None, if◌then◌else◌}
 use Rattle.std.specs.Char.{encode_utf8, digit_value}
+use Rattle.list_laws.specs.Options.{when, ◌>>=◌}
 use Rattle.rdf_terms.specs.Iri.{is_between, is_iri_byte}
 use Rattle.rdf_terms.specs.Tag.{lower}
 use Rattle.rdf_terms.specs.Kinds.{typed_kind}
@@ -9,7 +10,6 @@ use Rattle.rdf_terms.specs.declared.term.Term.{Term}
 use Rattle.rdf_terms.specs.declared.term.Term.TheVariants.{Iri, Blank, Literal}
 use Rattle.rdf_terms.specs.declared.term.Kind.{Kind}
 use Rattle.rdf_terms.specs.declared.term.Kind.TheVariants.{Plain, Typed, Tagged}
-use Rattle.nquads_text.specs.Option.{◌>>=◌, when}
 use Rattle.nquads_text.specs.Grammar.{IsIriItem, IsFormItem, all_of, Each}
 
 -- ---- items

@@ -1,6 +1,7 @@
 -- A line's raw form: its terms with their texts as written, escapes and all.
 use Rattle.std.specs.Prelude.{ℕ, ◌+◌, List, take, drop, Option, Some, None, if◌then◌else◌}
 use Rattle.std.specs.Option.{option_map}
+use Rattle.list_laws.specs.Options.{first_of, when, ◌>>=◌}
 use Rattle.rdf_terms.specs.declared.term.Quad.{Quad}
 use Rattle.rdf_terms.specs.declared.term.Term.{Term}
 use Rattle.rdf_terms.specs.declared.term.Term.TheVariants.{Iri, Blank, Literal}
@@ -9,7 +10,6 @@ use Rattle.rdf_terms.specs.declared.term.Kind.TheVariants.{Plain, Typed, Tagged}
 use Rattle.rdf_terms.specs.Label.{is_label}
 use Rattle.rdf_terms.specs.Tag.{is_tag}
 use Rattle.nquads_text.specs.declared.scan.Awaits.TheVariants.{Item}
-use Rattle.nquads_text.specs.Option.{◌>>=◌, when, first_of}
 use Rattle.nquads_text.specs.Scan.{skipped, opened, is_over, iri_end, form_end, label_len, tag_len}
 
 unfoldable pub iri_part : List ℕ → Option (List ℕ × List ℕ)

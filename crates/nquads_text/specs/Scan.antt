@@ -1,9 +1,9 @@
 -- How far the parts of a line reach, read byte by byte from the left.
 use Rattle.std.specs.Prelude.{ℕ, ◌+◌, ◌-◌, Bool, true, false, ◌==◌, ◌&&◌, ◌||◌, nat_le, List, [], ◌∷◌, Option, Some, None, if◌then◌else◌}
+use Rattle.list_laws.specs.Options.{when, ◌>>=◌}
 use Rattle.rdf_terms.specs.Iri.{is_letter, is_digit, is_iri_byte}
 use Rattle.nquads_text.specs.declared.scan.Awaits.{Awaits}
 use Rattle.nquads_text.specs.declared.scan.Awaits.TheVariants.{Item, Escape, Digits}
-use Rattle.nquads_text.specs.Option.{◌>>=◌, when}
 use Rattle.nquads_text.specs.Grammar.{is_blank, is_hex, is_form_byte, is_short_escape}
 
 -- the bytes after the blanks at the front

@@ -6,11 +6,8 @@ mod fault;
 mod feed;
 mod line;
 mod loose;
-mod mark;
 mod raw;
 mod scan;
-#[cfg(test)]
-mod tests;
 mod text;
 mod write;
 

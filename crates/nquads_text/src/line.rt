@@ -4,8 +4,8 @@ ghost use Rattle.std.specs.Option.{option_map};
 ghost use Rattle.std.specs.Str.{is_utf8};
 ghost use Rattle.nquads_text.specs.Raw.{line_form};
 ghost use Rattle.nquads_text.specs.Faults.{fault_of};
-ghost use Rattle.nquads_text.specs.Quads.{IsValidKind, IsValidTerm};
-ghost use Rattle.nquads_text.specs.Line.{IsValidGraph, IsValidQuad, IsWritten, resolved_quad, quad_of, line_read};
+ghost use Rattle.rdf_terms.specs.Valid.{IsValidKind, IsValidTerm, IsValidGraph, IsValidQuad};
+ghost use Rattle.nquads_text.specs.Line.{IsWritten, resolved_quad, quad_of, line_read};
 ghost use Rattle.nquads_text.specs.Views.{quad_view, loose_kind, loose_term, loose_quad};
 ghost use Rattle.nquads_text.specs.Lines.{LineGives};
 

@@ -5,7 +5,7 @@ ghost use Rattle.rdf_terms.specs.Iri.{has_scheme};
 ghost use Rattle.rdf_terms.specs.Tag.{lower};
 ghost use Rattle.rdf_terms.specs.Datatype.{is_xsd_string, is_lang_string};
 ghost use Rattle.rdf_terms.specs.Kinds.{typed_kind};
-ghost use Rattle.rdf_terms.specs.Canon.{is_marked, marks, kind_len, canonical_term};
+ghost use Rattle.rdf_terms.specs.Canon.{marks, kind_len, canonical_term};
 ghost use Rattle.nquads_text.specs.Escape.{resolved};
 ghost use Rattle.nquads_text.specs.Faults.{is_relative_kind, is_relative, is_lang_kind, has_lang_string, has_long_label, is_too_long, graph_passes, some_term, fault_of};
 ghost use Rattle.nquads_text.specs.Line.{IsWrittenTag, IsWrittenKind, IsWrittenTerm, IsWrittenGraph, IsWritten, resolved_kind, resolved_literal, resolved_term, resolved_quad, resolved_graph, IsWrittenText};
@@ -14,9 +14,8 @@ ghost use Rattle.nquads_text.specs.Views.{kind_view, term_view, quad_view, loose
 
 use crate::escape::{copied, resolved};
 use crate::fault::Why;
-use crate::mark::is_marked;
 use crate::raw::{RawKind, RawQuad, RawTerm};
-use rdf_terms::{has_scheme, is_lang_string, is_xsd_string, lowered};
+use rdf_terms::{has_scheme, is_lang_string, is_xsd_string, lowered, marks};
 use std::alloc::Global;
 use std::str;
 use tpf_base::{OutOfMemory, Text};
@@ -185,19 +184,6 @@ impl LooseKind {
             LooseKind::Tagged(tag) => tag.as_str().len() as u128 + 1,
         }
     }
-}
-
-fn marks(bytes: &[u8]) -> usize
-    ensures value { result ≡ marks bytes.now }
-    ensures small { result ≤ length bytes.now }
-{
-    let mut n: usize = 0;
-    for b in bytes {
-        if is_marked(*b) {
-            n += 1;
-        }
-    }
-    n
 }
 
 fn literal_len(form: &str, kind: &LooseKind) -> u128

@@ -8,6 +8,7 @@ ghost use Rattle.nquads_text.specs.Grammar.{is_blank, is_hex, is_form_byte, is_s
 ghost use Rattle.nquads_text.specs.declared.scan.Awaits.TheVariants.{Item};
 ghost use Rattle.nquads_text.specs.Scan.{skipped, opened, is_over, is_item, digits_left, digits_after, iri_step, form_step, iri_end, form_end, is_label_byte, label_len, is_tag_byte, tag_len};
 
+use rdf_terms::is_marked;
 use std::str;
 
 fn is_blank(b: u8) -> bool
@@ -69,7 +70,7 @@ fn is_iri_byte(b: u8) -> bool
 fn is_form_byte(b: u8) -> bool
     ensures { result ≡ is_form_byte b }
 {
-    !matches!(b, b'"' | b'\\' | b'\n' | b'\r')
+    !is_marked(b)
 }
 
 fn is_short_escape(b: u8) -> bool

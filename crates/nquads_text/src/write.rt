@@ -1,25 +1,14 @@
 // Canonical text (N-Triples, "A Canonical form of N-Triples").
 ghost use Rattle.std.specs.Prelude.{ℕ, ◌≡◌, ◌<◌, ◌∷◌, ◌++◌, [], List, length, take, Option, Some, None, IfOk, IfSome, OnOk, OnErr};
-ghost use Rattle.rdf_terms.specs.Canon.{is_marked, after_mark, canonical_byte, canonical_form, canonical_kind, canonical_term, canonical_graph, canonical_line};
+ghost use Rattle.rdf_terms.specs.Canon.{is_marked, canonical_byte, canonical_form, canonical_kind, canonical_term, canonical_graph, canonical_line};
 ghost use Rattle.nquads_text.specs.Scan.{first_place};
-ghost use Rattle.nquads_text.specs.Begins.{Begins};
+ghost use Rattle.list_laws.specs.Begins.{Begins};
 ghost use Rattle.nquads_text.specs.Laws.{CanonReadsBack};
 
-use crate::mark::is_marked;
-use rdf_terms::{Kind, Quad, Term, Triple};
+use rdf_terms::{Kind, Quad, Term, Triple, after_mark, is_marked};
 use tpf_base::OutOfMemory;
 
-fn after_mark(b: u8) -> u8
-    ensures { result ≡ after_mark b }
-{
-    match b {
-        b'\n' => b'n',
-        b'\r' => b'r',
-        _ => b,
-    }
-}
-
-#[tactic(auto, using(crate::proofs::Begins::same_begins, crate::proofs::Begins::more_begins))]
+#[tactic(auto, using(list_laws::proofs::Begins::same_begins, list_laws::proofs::Begins::more_begins))]
 fn push_all(bytes: &[u8], out: &mut Vec<u8>) -> Result<(), OutOfMemory>
     ensures ok { OnOk result (out.new.items ≡ out.old.items ++ bytes.now) }
     ensures front { Begins out.old.items out.new.items }
@@ -28,7 +17,7 @@ fn push_all(bytes: &[u8], out: &mut Vec<u8>) -> Result<(), OutOfMemory>
     Ok(())
 }
 
-#[tactic(auto, using(crate::proofs::Begins::same_begins, crate::proofs::Begins::more_begins))]
+#[tactic(auto, using(list_laws::proofs::Begins::same_begins, list_laws::proofs::Begins::more_begins))]
 fn push_one(b: u8, out: &mut Vec<u8>) -> Result<(), OutOfMemory>
     ensures ok { OnOk result (out.new.items ≡ out.old.items ++ b ∷ []) }
     ensures front { Begins out.old.items out.new.items }
@@ -62,7 +51,7 @@ fn mark_place(form: &[u8]) -> Option<usize>
 }
 
 /// Appends the bytes up to the one in place n, which is written with a backslash, and that one. Answers those after it.
-#[tactic(auto, using(crate::proofs::Begins::begins_on))]
+#[tactic(auto, using(list_laws::proofs::Begins::begins_on))]
 fn push_run<'a>(form: &'a [u8], n: usize, out: &mut Vec<u8>) -> Result<&'a [u8], OutOfMemory>
     requires place { first_place is_marked 0 form.now ≡ Some n }
     requires within { n < length form.now }
@@ -75,7 +64,7 @@ fn push_run<'a>(form: &'a [u8], n: usize, out: &mut Vec<u8>) -> Result<&'a [u8],
     Ok(&form[n + 1..])
 }
 
-#[tactic(auto, using(crate::proofs::Begins::begins_on))]
+#[tactic(auto, using(list_laws::proofs::Begins::begins_on))]
 fn push_form(form: &[u8], out: &mut Vec<u8>) -> Result<(), OutOfMemory>
     ensures ok { OnOk result (out.new.items ≡ out.old.items ++ canonical_form form.now) }
     ensures front { Begins out.old.items out.new.items }
@@ -88,7 +77,7 @@ fn push_form(form: &[u8], out: &mut Vec<u8>) -> Result<(), OutOfMemory>
     Ok(())
 }
 
-#[tactic(auto, using(crate::proofs::Begins::begins_on))]
+#[tactic(auto, using(list_laws::proofs::Begins::begins_on))]
 fn push_iri(text: &str, out: &mut Vec<u8>) -> Result<(), OutOfMemory>
     ensures ok { OnOk result (out.new.items ≡ out.old.items ++ 60 ∷ (text.now ++ 62 ∷ [])) }
     ensures front { Begins out.old.items out.new.items }
@@ -98,7 +87,7 @@ fn push_iri(text: &str, out: &mut Vec<u8>) -> Result<(), OutOfMemory>
     push_one(b'>', out)
 }
 
-#[tactic(auto, using(crate::proofs::Begins::itself_begins, crate::proofs::Begins::begins_on))]
+#[tactic(auto, using(list_laws::proofs::Begins::itself_begins, list_laws::proofs::Begins::begins_on))]
 fn push_kind(kind: &Kind, out: &mut Vec<u8>) -> Result<(), OutOfMemory>
     ensures ok { OnOk result (out.new.items ≡ out.old.items ++ canonical_kind kind.now) }
     ensures front { Begins out.old.items out.new.items }
@@ -116,7 +105,7 @@ fn push_kind(kind: &Kind, out: &mut Vec<u8>) -> Result<(), OutOfMemory>
     }
 }
 
-#[tactic(auto, using(crate::proofs::Begins::begins_on, crate::proofs::Begins::quoted_is))]
+#[tactic(auto, using(list_laws::proofs::Begins::begins_on, crate::proofs::Runs::quoted_is))]
 fn push_quoted(form: &str, out: &mut Vec<u8>) -> Result<(), OutOfMemory>
     ensures ok { OnOk result (out.new.items ≡ out.old.items ++ 34 ∷ (canonical_form form.now ++ 34 ∷ [])) }
     ensures front { Begins out.old.items out.new.items }
@@ -126,7 +115,7 @@ fn push_quoted(form: &str, out: &mut Vec<u8>) -> Result<(), OutOfMemory>
     push_one(b'"', out)
 }
 
-#[tactic(auto, using(crate::proofs::Begins::begins_on, crate::proofs::Begins::literal_is))]
+#[tactic(auto, using(list_laws::proofs::Begins::begins_on, crate::proofs::Runs::literal_is))]
 fn push_literal(form: &str, kind: &Kind, out: &mut Vec<u8>) -> Result<(), OutOfMemory>
     ensures ok { OnOk result (out.new.items ≡ out.old.items ++ 34 ∷ (canonical_form form.now ++ 34 ∷ canonical_kind kind.now)) }
     ensures front { Begins out.old.items out.new.items }
@@ -135,7 +124,7 @@ fn push_literal(form: &str, kind: &Kind, out: &mut Vec<u8>) -> Result<(), OutOfM
     push_kind(kind, out)
 }
 
-#[tactic(auto, using(crate::proofs::Begins::begins_on))]
+#[tactic(auto, using(list_laws::proofs::Begins::begins_on))]
 fn push_label(label: &str, out: &mut Vec<u8>) -> Result<(), OutOfMemory>
     ensures ok { OnOk result (out.new.items ≡ out.old.items ++ 95 ∷ 58 ∷ label.now) }
     ensures front { Begins out.old.items out.new.items }
@@ -155,7 +144,7 @@ fn push_term(term: &Term, out: &mut Vec<u8>) -> Result<(), OutOfMemory>
     }
 }
 
-#[tactic(auto, using(crate::proofs::Begins::itself_begins, crate::proofs::Begins::begins_on))]
+#[tactic(auto, using(list_laws::proofs::Begins::itself_begins, list_laws::proofs::Begins::begins_on))]
 fn push_graph(graph: &Option<Term>, out: &mut Vec<u8>) -> Result<(), OutOfMemory>
     ensures ok { OnOk result (out.new.items ≡ out.old.items ++ canonical_graph graph.now) }
     ensures front { Begins out.old.items out.new.items }
@@ -170,7 +159,7 @@ fn push_graph(graph: &Option<Term>, out: &mut Vec<u8>) -> Result<(), OutOfMemory
 }
 
 /// A term and a space.
-#[tactic(auto, using(crate::proofs::Begins::begins_on))]
+#[tactic(auto, using(list_laws::proofs::Begins::begins_on))]
 fn push_spaced(term: &Term, out: &mut Vec<u8>) -> Result<(), OutOfMemory>
     ensures ok { OnOk result (out.new.items ≡ out.old.items ++ (canonical_term term.now ++ 32 ∷ [])) }
     ensures front { Begins out.old.items out.new.items }
@@ -179,7 +168,7 @@ fn push_spaced(term: &Term, out: &mut Vec<u8>) -> Result<(), OutOfMemory>
     push_one(b' ', out)
 }
 
-#[tactic(auto, using(crate::proofs::Begins::begins_on, crate::proofs::Begins::triple_is))]
+#[tactic(auto, using(list_laws::proofs::Begins::begins_on, crate::proofs::Runs::triple_is))]
 fn push_triple(triple: &Triple, out: &mut Vec<u8>) -> Result<(), OutOfMemory>
     ensures ok { OnOk result (out.new.items ≡ out.old.items ++ (canonical_term triple.now.subject ++ 32 ∷ (canonical_term triple.now.predicate ++ 32 ∷ canonical_term triple.now.object))) }
     ensures front { Begins out.old.items out.new.items }
@@ -189,7 +178,7 @@ fn push_triple(triple: &Triple, out: &mut Vec<u8>) -> Result<(), OutOfMemory>
     push_term(&triple.object, out)
 }
 
-#[tactic(auto, using(crate::proofs::Begins::begins_on, crate::proofs::Begins::line_is))]
+#[tactic(auto, using(list_laws::proofs::Begins::begins_on, crate::proofs::Runs::line_is))]
 fn push_quad(quad: &Quad, out: &mut Vec<u8>) -> Result<(), OutOfMemory>
     ensures ok { OnOk result (out.new.items ≡ out.old.items ++ canonical_line quad.now) }
     ensures front { Begins out.old.items out.new.items }
@@ -200,7 +189,7 @@ fn push_quad(quad: &Quad, out: &mut Vec<u8>) -> Result<(), OutOfMemory>
 }
 
 /// Takes back what was appended since `out` had this length, where the writing failed.
-#[tactic(auto, using(crate::proofs::Begins::cut_back))]
+#[tactic(auto, using(list_laws::proofs::Begins::cut_back))]
 fn taken_back(
     written: Result<(), OutOfMemory>,
     before: usize,
@@ -217,7 +206,7 @@ fn taken_back(
 }
 
 /// Appends the canonical text of a term. After `OutOfMemory`, which comes for want of memory alone, `out` is as before.
-#[tactic(auto, using(crate::proofs::Begins::cut_back))]
+#[tactic(auto, using(list_laws::proofs::Begins::cut_back))]
 pub fn canonical(term: &Term, out: &mut Vec<u8>) -> Result<(), OutOfMemory>
     ensures ok { OnOk result (out.new.items ≡ out.old.items ++ canonical_term term.now) }
     ensures err { OnErr result (out.new.items ≡ out.old.items) }
@@ -229,7 +218,7 @@ pub fn canonical(term: &Term, out: &mut Vec<u8>) -> Result<(), OutOfMemory>
 
 /// Appends the canonical line of a quad, its end LF with it. After `OutOfMemory`, which comes for want of memory alone,
 /// `out` is as before.
-#[tactic(auto, using(crate::proofs::Begins::cut_back))]
+#[tactic(auto, using(list_laws::proofs::Begins::cut_back))]
 pub fn write_quad(quad: &Quad, out: &mut Vec<u8>) -> Result<(), OutOfMemory>
     ensures ok { OnOk result (out.new.items ≡ out.old.items ++ canonical_line quad.now) }
     ensures err { OnErr result (out.new.items ≡ out.old.items) }

@@ -4,7 +4,7 @@ use Rattle.std.proofs.lemmas.List.{take-append-drop}
 use Rattle.std.specs.List.{list_all}
 use Rattle.std.specs.Option.{unwrap_or, is_some}
 use Rattle.std.specs.Str.{bytes_eq, chars}
-use Rattle.regular_expressions.proofs.Left.{both}
+use Rattle.std.proofs.lemmas.Bool.{and_parts, not-false}
 use Rattle.rdf_terms.specs.declared.term.Term.TheVariants as terms
 use Rattle.rdf_terms.specs.declared.term.Kind.TheVariants.{Plain, Typed, Tagged}
 use Rattle.rdf_terms.specs.Iri.{is_iri, is_iri_byte, is_letter, is_scheme_byte, has_scheme, has_colon}
@@ -39,10 +39,6 @@ use Rattle.pattern_parser.proofs.Splits.{Is, Are, flat, none, one, marked, leaf,
 use Rattle.pattern_parser.proofs.Blocks.{It, is_one, is_string, kind_more, more_by_kind, Stops, is_mark, marks, mark_read, verb_word}
 use Rattle.pattern_parser.proofs.Groups.{group, is_point, groups_stop, groups_of}
 use Rattle.pattern_parser.proofs.Outline.{Outline, outline, body_is, block_is}
-
-not_false : (b : Bool) → not b ≡ false → b ≡ true
-not_false true e = refl
-not_false false e = cc
 
 -- ---- no fault
 
@@ -84,7 +80,7 @@ same_text : (s t : List ℕ) → ◌≡◌ {A = Option (List ℕ)} (Some s) (Som
 same_text s t e = cc
 
 iri_is : (v : Value) (t : List ℕ) → is_relative v ≡ false → iri_in v ≡ Some t → is_iri t ≡ true
-iri_is (values.Iri u) t r e = subst (λ (l : List ℕ). is_iri l ≡ true) (same_text u t e) (not_false (is_iri u) r)
+iri_is (values.Iri u) t r e = subst (λ (l : List ℕ). is_iri l ≡ true) (same_text u t e) (not-false (is_iri u) r)
 iri_is _ t r e = absurd (no_text t e)
 
 first_is : (ws : List Word) (t : List ℕ) → first_at is_relative ws ≡ None → first_iri ws ≡ Some t → is_iri t ≡ true
@@ -123,11 +119,11 @@ colon_more (b ∷ u) l h = pick (b == 58) (is_scheme_byte b) (colon_more u l) h
 
 scheme_more : (u l : List ℕ) → has_scheme u ≡ true → has_scheme (u ++ l) ≡ true
 scheme_more [] l h = cc
-scheme_more (b ∷ u) l h = let p = both (is_letter b) (has_colon u) h in rw (p.0, colon_more u l p.1) refl
+scheme_more (b ∷ u) l h = let p = and_parts (is_letter b) (has_colon u) h in rw (p.0, colon_more u l p.1) refl
 
 -- an IRI goes on as one
 iri_more : (u l : List ℕ) → is_iri u ≡ true → list_all is_iri_byte l ≡ true → is_iri (u ++ l) ≡ true
-iri_more u l h k = let p = both (list_all is_iri_byte u) (has_scheme u) h in rw (iri_append u l p.0 k, scheme_more u l p.1) refl
+iri_more u l h k = let p = and_parts (list_all is_iri_byte u) (has_scheme u) h in rw (iri_append u l p.0 k, scheme_more u l p.1) refl
 
 known : (o : Option (List ℕ)) → not (is_some o) ≡ false → o ≡ Some (unwrap_or o [])
 known None e = cc
@@ -155,7 +151,7 @@ abbrev Declares : (List ℕ → Option (List ℕ)) → Type 0
 Declares iri = (n t : List ℕ) → iri n ≡ Some t → is_iri t ≡ true
 
 iri_sound : (iri : List ℕ → Option (List ℕ)) → Declares iri → (v : Value) → is_iri_kind (kind_of v) ≡ true → is_relative v ≡ false → is_unknown iri v ≡ false → Good v → IsIriText iri v (iri_text iri v)
-iri_sound iri d (values.Iri t) k r u g = record { spells = refl; scheme = not_false (is_iri t) r }
+iri_sound iri d (values.Iri t) k r u g = record { spells = refl; scheme = not-false (is_iri t) r }
 iri_sound iri d (values.Prefix n) k r u g = let s = known (iri n) u in record { spells = s; scheme = d n (unwrap_or (iri n) []) s }
 iri_sound iri d (values.Prefixed n l) k r u g =
     let front = unwrap_or (iri n) [] in

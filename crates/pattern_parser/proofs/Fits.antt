@@ -12,7 +12,8 @@ use Rattle.rdf_terms.specs.Datatype.{is_lang_string}
 use Rattle.rdf_terms.specs.Tag.{is_tag, lower}
 use Rattle.bgp_core.specs.declared.pattern.Part.{Part}
 use Rattle.bgp_core.specs.declared.pattern.Part.TheVariants as parts
-use Rattle.bgp_core.specs.Queries.{IsNotBlank, IsPartOf, IsPatternOf}
+use Rattle.rdf_terms.specs.Valid.{IsNotBlank}
+use Rattle.bgp_core.specs.Queries.{IsPartOf, IsPatternOf}
 use Rattle.query_words.specs.declared.word.Value.{Value}
 use Rattle.query_words.specs.declared.word.Value.TheVariants as values
 use Rattle.query_words.specs.declared.word.Word.{Word}

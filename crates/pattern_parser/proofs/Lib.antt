@@ -13,6 +13,7 @@ pub mod Outline
 pub mod Places
 pub mod Produced
 pub mod Searches
+pub mod Shorts
 pub mod Skips
 pub mod SomeQuery
 pub mod Splits

@@ -1,9 +1,9 @@
 -- In what the grammar reads an IRI or a prefixed name follows each '^^'.
 use Rattle.std.proofs.Common.{ℕ, ◌≡◌, inl, inr, Bool, true, not, ◌==◌, List, [], ◌∷◌, ◌++◌, refl, sym, ap, subst, ◌∙◌, arith}
 use Rattle.std.specs.List.{list_all}
+use Rattle.std.proofs.lemmas.Bool.{and_parts}
 use Rattle.regular_expressions.specs.Regular.{Regular, nil, is_among, Matches}
 use Rattle.regular_expressions.specs.Combinators.{◌·◌, ◌∣◌, maybe}
-use Rattle.regular_expressions.proofs.Left.{both}
 use Rattle.query_grammar.specs.declared.kind.Kind.TheVariants as kinds
 use Rattle.query_grammar.specs.Grammar.{a, iri, literal, subject, verb, block, query}
 use Rattle.pattern_parser.proofs.Splits.{only, only_all, among_passes}
@@ -39,7 +39,7 @@ other k h e = grind (arith, h, e)
 
 nexts_other : (w : List ℕ) → list_all is_other w ≡ true → Nexts w
 nexts_other [] h = tt
-nexts_other (k ∷ w) h = let p = both (is_other k) (list_all is_other w) h in (λ e. absurd (other k p.0 e), nexts_other w p.1)
+nexts_other (k ∷ w) h = let p = and_parts (is_other k) (list_all is_other w) h in (λ e. absurd (other k p.0 e), nexts_other w p.1)
 
 -- an expression without '^^'
 plain : (r : Regular) → only is_other r ≡ true → Keeps Nexts r

@@ -1,6 +1,7 @@
 -- The parts of some words that the grammar reads: the PREFIX part, the SELECT part, and the braces with what stands between them.
 use Rattle.std.specs.List.{list_all}
 use Rattle.std.proofs.Common.{ℕ, suc, ◌≡◌, Bool, true, false, not, ◌==◌, if◌then◌else◌, List, [], ◌∷◌, ◌++◌, refl, ap, ◌∙◌, take, drop, append_assoc}
+use Rattle.std.proofs.lemmas.Bool.{and_parts}
 use Rattle.regular_expressions.specs.Regular.{Regular, many}
 use Rattle.query_grammar.specs.declared.kind.Kind.{Kind}
 use Rattle.query_grammar.specs.declared.kind.Kind.TheVariants as kinds
@@ -14,7 +15,6 @@ use Rattle.query_words.specs.Words.{kind_of, kinds_of}
 use Rattle.pattern_parser.specs.Prefixes.{before}
 use Rattle.pattern_parser.specs.Queries.{is_select, is_brace, prologue, body, block}
 use Rattle.pattern_parser.proofs.Splits.{Is, seq_split, one, only, only_all}
-use Rattle.regular_expressions.proofs.Left.{both}
 
 -- the expressions of the parts
 abbrev pub prefix_part : Regular
@@ -49,7 +49,7 @@ brace_kind _ h = refl
 none_pass : (test : Value → Bool) (k : Kind) → ((v : Value) → is_other k (code (kind_of v)) ≡ true → test v ≡ false) → (ws : List Word) → list_all (is_other k) (codes (kinds_of ws)) ≡ true → NonePass test ws
 none_pass test k f [] h = tt
 none_pass test k f (w ∷ ws) h =
-    let p = both (is_other k (code (kind_of w.value))) (list_all (is_other k) (codes (kinds_of ws))) h in
+    let p = and_parts (is_other k (code (kind_of w.value))) (list_all (is_other k) (codes (kinds_of ws))) h in
     (f w.value p.0, none_pass test k f ws p.1)
 
 -- none of the words passes, where their expression has no letter of the kind

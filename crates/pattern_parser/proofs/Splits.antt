@@ -1,8 +1,8 @@
 -- What the grammar reads of some words, taken apart as its productions are.
 use Rattle.std.specs.List.{list_all}
 use Rattle.std.proofs.Common.{ℕ, ◌≡◌, ◌⊎◌, inl, inr, Bool, true, false, ◌&&◌, ◌==◌, nat_eq, if◌then◌else◌, List, [], ◌∷◌, ◌++◌, refl, sym, ap, subst, ◌∙◌, arith}
+use Rattle.std.proofs.lemmas.Bool.{and_parts, or_cases}
 use Rattle.regular_expressions.specs.Regular.{Regular, nothing, nil, one_of, seq, alt, many, is_among, joined, Matches, Each}
-use Rattle.regular_expressions.proofs.Left.{both, either}
 use Rattle.query_grammar.specs.declared.kind.Kind.{Kind}
 use Rattle.query_grammar.specs.declared.kind.Kind.TheVariants as kinds
 use Rattle.regular_expressions.specs.Combinators.{◌·◌}
@@ -104,7 +104,7 @@ same_kind : (j k : Kind) → code j ≡ code k → j ≡ k
 same_kind j k e = sym (kind_back j) ∙ ap kind_at e ∙ kind_back k
 
 among_one : (j k : ℕ) → is_among (j ∷ []) k ≡ true → j ≡ k
-among_one j k e = pick (either (nat_eq j k) false e)
+among_one j k e = pick (or_cases (nat_eq j k) false e)
   where
     pick : (nat_eq j k ≡ true) ⊎ (false ≡ true) → j ≡ k
     pick (inl h) = grind (arith, h)
@@ -154,7 +154,7 @@ only p (many r) = only p r
 
 all_two : (p : ℕ → Bool) (u v : List ℕ) → list_all p u ≡ true → list_all p v ≡ true → list_all p (u ++ v) ≡ true
 all_two p [] v a b = b
-all_two p (j ∷ u) v a b = let h = both (p j) (list_all p u) a in rw (h.0, all_two p u v h.1 b) refl
+all_two p (j ∷ u) v a b = let h = and_parts (p j) (list_all p u) a in rw (h.0, all_two p u v h.1 b) refl
 
 all_each : (p : ℕ → Bool) (r : Regular) → ((w : List ℕ) → Matches r w → list_all p w ≡ true) → (us : List (List ℕ)) → Each (Matches r) us → list_all p (joined us) ≡ true
 all_each p r f [] h = refl
@@ -163,8 +163,8 @@ all_each p r f (u ∷ us) h = all_two p u (joined us) (f u h.0) (all_each p r f 
 pub among_passes : (p : ℕ → Bool) (js : List ℕ) (k : ℕ) → list_all p js ≡ true → is_among js k ≡ true → p k ≡ true
 among_passes p [] k a e = cc
 among_passes p (j ∷ js) k a e =
-    let h = both (p j) (list_all p js) a in
-    pick h.0 (λ f. among_passes p js k h.1 f) (either (nat_eq j k) (is_among js k) e)
+    let h = and_parts (p j) (list_all p js) a in
+    pick h.0 (λ f. among_passes p js k h.1 f) (or_cases (nat_eq j k) (is_among js k) e)
   where
     pick : p j ≡ true → (is_among js k ≡ true → p k ≡ true) → (nat_eq j k ≡ true) ⊎ (is_among js k ≡ true) → p k ≡ true
     pick h g (inl f) = let same : j ≡ k = grind (arith, f) in subst (λ (i : ℕ). p i ≡ true) same h
@@ -179,9 +179,9 @@ only_all p nothing e w m = absurd m
 only_all p nil e w m = rw m refl
 only_all p (one_of js) e w m = one_passes p m.0 w (among_passes p js m.0 e m.1) m.2
 only_all p (seq r s) e w m =
-    let h = both (only p r) (only p s) e in
+    let h = and_parts (only p r) (only p s) e in
     subst (λ (l : List ℕ). list_all p l ≡ true) (sym m.4) (all_two p m.0 m.1 (only_all p r h.0 m.0 m.2) (only_all p s h.1 m.1 m.3))
-only_all p (alt r s) e w (inl m) = only_all p r (both (only p r) (only p s) e).0 w m
-only_all p (alt r s) e w (inr m) = only_all p s (both (only p r) (only p s) e).1 w m
+only_all p (alt r s) e w (inl m) = only_all p r (and_parts (only p r) (only p s) e).0 w m
+only_all p (alt r s) e w (inr m) = only_all p s (and_parts (only p r) (only p s) e).1 w m
 only_all p (many r) e w m =
     subst (λ (l : List ℕ). list_all p l ≡ true) (sym m.2) (all_each p r (only_all p r e) m.0 m.1)

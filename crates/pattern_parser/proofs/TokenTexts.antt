@@ -3,8 +3,9 @@ use Rattle.std.proofs.Common.{ℕ, zero, suc, ◌≡◌, ◌+◌, ◌/◌, ◌%�
 use Rattle.std.specs.List.{list_all}
 use Rattle.std.specs.Char.{encode_utf8}
 use Rattle.std.specs.Str.{encode_utf8_all}
+use Rattle.std.proofs.lemmas.Bool.{and_parts, or_cases, not-true}
+use Rattle.list_laws.proofs.Tests.{all_below, from_all_below, implied}
 use Rattle.regular_expressions.specs.Regular.{is_among, joined, Matches, Each}
-use Rattle.regular_expressions.proofs.Left.{both, either}
 use Rattle.rdf_terms.specs.Iri.{is_iri_byte, is_letter}
 use Rattle.rdf_terms.specs.Tag.{is_letter_or_digit, may_stand, is_tag, runs_tag}
 use Rattle.rdf_terms.proofs.Tags.{runs_is_tag}
@@ -17,23 +18,6 @@ use Rattle.regular_expressions.specs.Combinators.{◌·◌, some}
 use Rattle.query_tokens.specs.Forms.{form, any, a, letters, IsToken}
 use Rattle.query_words.specs.Texts.{unescaped, local_text, colon}
 use Rattle.pattern_parser.proofs.Splits.{only, only_all, among_passes}
-
--- ---- a test of each number below n
-
-all_below : ℕ → (ℕ → Bool) → Bool
-all_below zero p = true
-all_below (suc n) p = p n && all_below n p
-
-from_all_below : (n : ℕ) (p : ℕ → Bool) → all_below n p ≡ true → (c : ℕ) → c < n → p c ≡ true
-unfolding all_below
-from_all_below zero p e c l = absurd (omega arith)
-from_all_below (suc n) p e c l =
-    let h = both (p n) (all_below n p) e in
-    by (ltb c n) refl h.0 (from_all_below n p h.1 c)
-  where
-    by : (b : Bool) → ltb c n ≡ b → p n ≡ true → (c < n → p c ≡ true) → p c ≡ true
-    by true t last below = below (grind (arith, t))
-    by false t last below = let same : n ≡ c = grind (arith, t, l) in subst (λ (k : ℕ). p k ≡ true) same last
 
 -- ---- characters past ASCII
 
@@ -58,7 +42,7 @@ high_byte b h = grind arith
 
 pub iri_append : (xs ys : List ℕ) → AllIri xs → AllIri ys → AllIri (xs ++ ys)
 iri_append [] ys h k = k
-iri_append (x ∷ xs) ys h k = let p = both (is_iri_byte x) (list_all is_iri_byte xs) h in rw (p.0, iri_append xs ys p.1 k) refl
+iri_append (x ∷ xs) ys h k = let p = and_parts (is_iri_byte x) (list_all is_iri_byte xs) h in rw (p.0, iri_append xs ys p.1 k) refl
 
 all_cons : (b : ℕ) (bs : List ℕ) → is_iri_byte b ≡ true → AllIri bs → AllIri (b ∷ bs)
 all_cons b bs h k = rw (h, k) refl
@@ -119,12 +103,12 @@ char_iri c e f = by (ltb c 128) refl
 drop_fine : (p : ℕ → Bool) (n : ℕ) (cs : List ℕ) → list_all p (letters cs) ≡ true → list_all p (letters (drop n cs)) ≡ true
 drop_fine p zero cs h = h
 drop_fine p (suc n) [] h = h
-drop_fine p (suc n) (c ∷ cs) h = drop_fine p n cs (both (p (code (class_of c))) (list_all p (letters cs)) h).1
+drop_fine p (suc n) (c ∷ cs) h = drop_fine p n cs (and_parts (p (code (class_of c))) (list_all p (letters cs)) h).1
 
 unescaped_iri : (cs : List ℕ) → list_all is_fine (letters cs) ≡ true → AllIri (encode_utf8_all (unescaped cs))
 unescaped_iri [] h = refl
 unescaped_iri (c ∷ cs) h =
-    let p = both (is_fine (code (class_of c))) (list_all is_fine (letters cs)) h in
+    let p = and_parts (is_fine (code (class_of c))) (list_all is_fine (letters cs)) h in
     by (c == 92) refl p.0 (unescaped_iri cs p.1)
   where
     by : (b : Bool) → (c == 92) ≡ b → is_fine (code (class_of c)) ≡ true → AllIri (encode_utf8_all (unescaped cs)) → AllIri (encode_utf8_all (unescaped (c ∷ cs)))
@@ -159,13 +143,9 @@ abbrev run : Bool → Bool → List ℕ → Bool
 run f h [] = h
 run f h (j ∷ w) = if j == 23 then h && run false false w else (stands f j && run f true w)
 
-not_true : (b : Bool) → not b ≡ true → b ≡ false
-not_true true e = cc
-not_true false e = refl
-
 no_minus : (f : Bool) (j : ℕ) → stands f j ≡ true → (j == 23) ≡ false
-no_minus true j h = not_true (j == 23) (among_passes (λ i. not (i == 23)) (map code letter) j refl h)
-no_minus false j h = not_true (j == 23) (among_passes (λ i. not (i == 23)) (map code letter_or_digit) j refl h)
+no_minus true j h = not-true (j == 23) (among_passes (λ i. not (i == 23)) (map code letter) j refl h)
+no_minus false j h = not-true (j == 23) (among_passes (λ i. not (i == 23)) (map code letter_or_digit) j refl h)
 
 run_one : (f h : Bool) (k : ℕ) (w : List ℕ) → stands f k ≡ true → run f h (k ∷ w) ≡ run f true w
 run_one f h k w s = rw (no_minus f k s, s) refl
@@ -184,7 +164,7 @@ run_some f h u rest m =
     ap (λ (l : List ℕ). run f h (l ++ rest)) there ∙ run_one f h k (joined us ++ rest) m.2.1 ∙ run_many f us m.3.1 rest
 
 is_minus : (k : ℕ) → is_among (23 ∷ []) k ≡ true → (k == 23) ≡ true
-is_minus k h = pick (either (nat_eq 23 k) false h)
+is_minus k h = pick (or_cases (nat_eq 23 k) false h)
   where
     pick : (nat_eq 23 k ≡ true) ⊎ (false ≡ true) → (k == 23) ≡ true
     pick (inl e) = grind (arith, e)
@@ -242,23 +222,19 @@ one_byte c h = let t : nat_lt c 128 ≡ true = grind (arith, h) in rw t refl
 
 same_is : (p q b : Bool) → same p q ≡ true → p ≡ b → q ≡ b
 same_is true q b h e = h ∙ e
-same_is false q b h e = not_true q h ∙ e
-
-implied : (p q : Bool) → (not p || q) ≡ true → p ≡ true → q ≡ true
-implied true q e h = e
-implied false q e h = cc
+same_is false q b h e = not-true q h ∙ e
 
 tag_minus : (c : ℕ) (b : Bool) → c < 128 → (code (class_of c) == 23) ≡ b → (c == 45) ≡ b
 tag_minus c b l e =
     let j = code (class_of c) in
-    let h = both (same (j == 23) (c == 45)) ((not (stands true j) || is_letter c) && (not (stands false j) || is_letter_or_digit c)) (from_all_below 128 agrees low_tag c l) in
+    let h = and_parts (same (j == 23) (c == 45)) ((not (stands true j) || is_letter c) && (not (stands false j) || is_letter_or_digit c)) (from_all_below 128 agrees low_tag c l) in
     same_is (j == 23) (c == 45) b h.0 e
 
 tag_stands : (f : Bool) (c : ℕ) → c < 128 → stands f (code (class_of c)) ≡ true → may_stand f c ≡ true
 tag_stands f c l e =
     let j = code (class_of c) in
-    let h = both (same (j == 23) (c == 45)) ((not (stands true j) || is_letter c) && (not (stands false j) || is_letter_or_digit c)) (from_all_below 128 agrees low_tag c l) in
-    let p = both (not (stands true j) || is_letter c) (not (stands false j) || is_letter_or_digit c) h.1 in
+    let h = and_parts (same (j == 23) (c == 45)) ((not (stands true j) || is_letter c) && (not (stands false j) || is_letter_or_digit c)) (from_all_below 128 agrees low_tag c l) in
+    let p = and_parts (not (stands true j) || is_letter c) (not (stands false j) || is_letter_or_digit c) h.1 in
     pick f p.0 p.1 e
   where
     pick : (f : Bool) → (not (stands true (code (class_of c))) || is_letter c) ≡ true → (not (stands false (code (class_of c))) || is_letter_or_digit c) ≡ true → stands f (code (class_of c)) ≡ true → may_stand f c ≡ true
@@ -286,11 +262,11 @@ text_run f h (c ∷ cs) e = by (λ k. text_run false false cs k) (λ k. text_run
   where
     by : (run false false (letters cs) ≡ true → runs_tag false false (encode_utf8_all cs) ≡ true) → (run f true (letters cs) ≡ true → runs_tag f true (encode_utf8_all cs) ≡ true) → (b : Bool) → (code (class_of c) == 23) ≡ b → (if b then h && run false false (letters cs) else (stands f (code (class_of c)) && run f true (letters cs))) ≡ true → runs_tag f h (encode_utf8_all (c ∷ cs)) ≡ true
     by later more true t r =
-        let p = both h (run false false (letters cs)) r in
+        let p = and_parts h (run false false (letters cs)) r in
         let low : c < 128 = low_char f c true t (λ x. absurd (differ true refl x)) in
         ap (λ (l : List ℕ). runs_tag f h (l ++ encode_utf8_all cs)) (one_byte c low) ∙ rw (tag_minus c true low t, p.0, later p.1) refl
     by later more false t r =
-        let p = both (stands f (code (class_of c))) (run f true (letters cs)) r in
+        let p = and_parts (stands f (code (class_of c))) (run f true (letters cs)) r in
         let low : c < 128 = low_char f c false t (λ x. p.0) in
         ap (λ (l : List ℕ). runs_tag f h (l ++ encode_utf8_all cs)) (one_byte c low) ∙ rw (tag_minus c false low t, tag_stands f c low p.0, more p.1) refl
 

@@ -8,4 +8,5 @@ pub mod Tokens
 pub mod Triples
 pub mod Productions
 pub mod Read
+pub mod Short
 pub mod Written

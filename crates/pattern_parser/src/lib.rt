@@ -13,9 +13,6 @@ mod token;
 mod triple;
 
 pub use fault::{QueryFault, QueryWhy};
-pub use reading::{one_query, parse, read_as_produced, terms_as_written};
+pub use reading::{one_query, parse, read_as_produced, terms_are_short, terms_as_written};
 pub use token::{Token, TokenKind, tokens};
 pub use triple::as_produced;
-
-#[cfg(test)]
-mod tests;

@@ -6,6 +6,7 @@ ghost use Rattle.query_grammar.specs.Grammar.{IsQuery, IsGrammarFault};
 ghost use Rattle.pattern_parser.specs.declared.fault.QueryWhy.{QueryWhy};
 ghost use Rattle.pattern_parser.specs.Read.{ReadAsProduced};
 ghost use Rattle.pattern_parser.specs.Written.{TermsAsWritten};
+ghost use Rattle.pattern_parser.specs.Short.{TermsAreShort};
 ghost use Rattle.pattern_parser.specs.Queries.{place_or, fault_with, later_fault, query_of, prefixes, body, ReadsTokens, ReadsQuery, OneQuery, FaultAt, IsTokenFaultAt};
 
 use crate::build::{build, check_terms};
@@ -110,4 +111,11 @@ pub fn read_as_produced()
 /// language tag is dropped (SPARQL 1.1, section 4.1).
 pub fn terms_as_written()
     ensures { TermsAsWritten }
+{}
+
+/// In each query the texts of a fixed term, its IRI or its form with the datatype or language tag,
+/// have at most 262204 bytes together. They stand in the query's text, which has at most 262144
+/// bytes, but for rdf:type and the datatypes of numbers, `true` and `false`.
+pub fn terms_are_short()
+    ensures { TermsAreShort }
 {}

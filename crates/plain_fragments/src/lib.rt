@@ -4,7 +4,5 @@
 
 mod order;
 mod plain;
-#[cfg(test)]
-mod tests;
 
 pub use plain::plain_fragment;

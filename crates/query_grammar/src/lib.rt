@@ -5,5 +5,3 @@
 pub mod grammar;
 pub mod kind;
 mod machine;
-#[cfg(test)]
-mod tests;

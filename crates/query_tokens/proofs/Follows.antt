@@ -2,6 +2,7 @@
 use Rattle.std.proofs.Common.{ℕ, zero, suc, ◌+◌, ◌≡◌, Bool, true, false, ◌&&◌, nat_eq, List, [], ◌∷◌, Option, Some, None, refl, sym, ap, ◌∙◌, map, get_or, arith, ◌<◌, lit<}
 use Rattle.std.specs.Str.{bytes_eq}
 use Rattle.std.proofs.lemmas.Slice.Eq.{bytes_eq-Decides}
+use Rattle.std.proofs.lemmas.Bool.{and_parts}
 use Rattle.regular_expressions.specs.Regular.{Regular, nothing, nil, one_of, seq, alt, many, left, lefts, nullable}
 use Rattle.query_tokens.specs.declared.class.Class.{Class}
 use Rattle.query_tokens.specs.declared.class.Class.TheVariants as classes
@@ -14,10 +15,6 @@ use Rattle.query_tokens.specs.Sets.{code, all_classes}
 use Rattle.query_tokens.specs.Forms.{form}
 
 -- ---- a test of equality
-
-both : (a b : Bool) → (a && b) ≡ true → (a ≡ true) × (b ≡ true)
-both true b e = (refl, e)
-both false b e = cc
 
 abbrev same : Regular → Regular → Bool
 same nothing nothing = true
@@ -32,8 +29,8 @@ same-is : (r s : Regular) → same r s ≡ true → r ≡ s
 same-is nothing nothing e = refl
 same-is nil nil e = refl
 same-is (one_of js) (one_of ks) e = ap one_of ((bytes_eq-Decides js ks).0 e)
-same-is (seq a b) (seq c d) e = let p = both (same a c) (same b d) e in ap (λ (r : Regular). seq r b) (same-is a c p.0) ∙ ap (seq c) (same-is b d p.1)
-same-is (alt a b) (alt c d) e = let p = both (same a c) (same b d) e in ap (λ (r : Regular). alt r b) (same-is a c p.0) ∙ ap (alt c) (same-is b d p.1)
+same-is (seq a b) (seq c d) e = let p = and_parts (same a c) (same b d) e in ap (λ (r : Regular). seq r b) (same-is a c p.0) ∙ ap (seq c) (same-is b d p.1)
+same-is (alt a b) (alt c d) e = let p = and_parts (same a c) (same b d) e in ap (λ (r : Regular). alt r b) (same-is a c p.0) ∙ ap (alt c) (same-is b d p.1)
 same-is (many a) (many b) e = ap many (same-is a b e)
 same-is _ _ e = cc
 
@@ -45,8 +42,8 @@ all_true (b ∷ bs) = b && all_true bs
 
 at-true : (bs : List Bool) (i : ℕ) → all_true bs ≡ true → get_or bs i true ≡ true
 at-true [] i e = refl
-at-true (b ∷ bs) zero e = (both b (all_true bs) e).0
-at-true (b ∷ bs) (suc i) e = at-true bs i (both b (all_true bs) e).1
+at-true (b ∷ bs) zero e = (and_parts b (all_true bs) e).0
+at-true (b ∷ bs) (suc i) e = at-true bs i (and_parts b (all_true bs) e).1
 
 class_at : (f : Class → Bool) (k : Class) → get_or (map f all_classes) (code k) true ≡ f k
 class_at f classes.Space = refl

@@ -8,5 +8,3 @@ pub mod kind;
 mod longest;
 mod machine;
 pub mod piece;
-#[cfg(test)]
-mod tests;

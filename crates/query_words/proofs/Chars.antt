@@ -1,11 +1,13 @@
 -- Characters, their bytes, and words in any case.
-use Rattle.std.proofs.Common.{ℕ, zero, suc, ◌≡◌, ◌+◌, ◌<◌, ◌≤◌, Bool, true, false, List, [], ◌∷◌, ◌++◌, refl, sym, ap, subst, ◌∙◌, map, take, length, get_or, arith}
+use Rattle.std.proofs.Common.{ℕ, ◌≡◌, ◌+◌, ◌<◌, ◌≤◌, true, false, List, [], ◌∷◌, ◌++◌, sym, ap, subst, ◌∙◌, map, take, length, get_or, arith}
 use Rattle.std.specs.Char.{to_ascii_lowercase}
 use Rattle.std.specs.Str.{bytes_eq, chars, IsUtf8}
 use Rattle.std.proofs.lemmas.List.{take_more, take_all, map-append, length-map}
 use Rattle.std.proofs.Math.ListN.{get_or-map}
 use Rattle.std.proofs.lemmas.Str.{length-le-encodes, encodes-chars}
 use Rattle.std.proofs.lemmas.Slice.Eq.{bytes_eq-Decides}
+use Rattle.std.proofs.lemmas.Bool.{false_from_ne_true}
+use Rattle.list_laws.proofs.Places.{any_default}
 use Rattle.query_words.specs.Texts.{same_word}
 
 -- the first i characters are those of the word, in any case
@@ -25,28 +27,19 @@ same_all word text i a b h =
     let e : map to_ascii_lowercase text ≡ word = ap (map to_ascii_lowercase) (sym (take_all i text a)) ∙ h.same ∙ take_all i word b in
     (bytes_eq-Decides (map to_ascii_lowercase text) word).1 e
 
-not_same : (b : Bool) → (b ≡ true → ⊥) → b ≡ false
-not_same true h = absurd (h refl)
-not_same false h = refl
-
-get_or_any : (xs : List ℕ) (i c d : ℕ) → i < length xs → get_or xs i c ≡ get_or xs i d
-get_or_any [] i c d h = absurd (omega arith)
-get_or_any (x ∷ xs) zero c d h = refl
-get_or_any (x ∷ xs) (suc i) c d h = get_or_any xs i c d (omega arith)
-
 pub differ_at : (word text : List ℕ) (i c d : ℕ) → i < length text → length word ≡ length text → c ≡ get_or text i c → (to_ascii_lowercase c ≡ get_or word i d → ⊥) → same_word word text ≡ false
 unfolding same_word
 differ_at word text i c d below long at h =
-    not_same (bytes_eq (map to_ascii_lowercase text) word) (λ e.
+    false_from_ne_true (bytes_eq (map to_ascii_lowercase text) word) (λ e.
     let same : map to_ascii_lowercase text ≡ word = (bytes_eq-Decides (map to_ascii_lowercase text) word).0 e in
     let there : get_or word i (to_ascii_lowercase c) ≡ to_ascii_lowercase (get_or text i c) = ap (λ (l : List ℕ). get_or l i (to_ascii_lowercase c)) (sym same) ∙ get_or-map to_ascii_lowercase text i c in
     let under : i < length word = omega arith in
-    h (ap to_ascii_lowercase at ∙ sym there ∙ get_or_any word i (to_ascii_lowercase c) d under))
+    h (ap to_ascii_lowercase at ∙ sym there ∙ any_default word i (to_ascii_lowercase c) d under))
 
 pub differ_length : (word text : List ℕ) → (length word ≡ length text → ⊥) → same_word word text ≡ false
 unfolding same_word
 differ_length word text h =
-    not_same (bytes_eq (map to_ascii_lowercase text) word) (λ e. let same : map to_ascii_lowercase text ≡ word = (bytes_eq-Decides (map to_ascii_lowercase text) word).0 e in h (sym (ap length same) ∙ length-map text to_ascii_lowercase))
+    false_from_ne_true (bytes_eq (map to_ascii_lowercase text) word) (λ e. let same : map to_ascii_lowercase text ≡ word = (bytes_eq-Decides (map to_ascii_lowercase text) word).0 e in h (sym (ap length same) ∙ length-map text to_ascii_lowercase))
 
 -- a text has no more characters than bytes
 pub no_more_chars : (bs cs : List ℕ) (n : ℕ) → IsUtf8 bs → cs ≡ chars bs → length bs ≤ n → length cs ≤ n

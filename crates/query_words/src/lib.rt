@@ -2,7 +2,5 @@
 //! the words of the grammar.
 #![tactic(auto)]
 
-#[cfg(test)]
-mod tests;
 pub mod text;
 pub mod word;

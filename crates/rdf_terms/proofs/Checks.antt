@@ -1,5 +1,5 @@
 -- The definitions computed at examples.
-use Rattle.std.proofs.Common.{ℕ, ◌≡◌, true, false, List, refl}
+use Rattle.std.proofs.Common.{◌≡◌, true, false, refl}
 use Rattle.std.specs.Prelude.{codes}
 use Rattle.std.specs.declared.cmp.Ordering.TheVariants.{Less}
 use Rattle.rdf_terms.specs.declared.term.Term.TheVariants.{Iri, Blank, Literal}

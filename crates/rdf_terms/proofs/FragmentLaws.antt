@@ -1,5 +1,5 @@
 -- The definition's program gives a fragment, and it is the only one.
-use Rattle.std.proofs.Common.{ℕ, zero, suc, ◌<◌, ◌≡◌, ◌↔◌, ◌⊎◌, inl, inr, Bool, true, false, ◌&&◌, cond, List, [], ◌∷◌, length, get_or, refl, ap, sym, subst, ◌∙◌, arith}
+use Rattle.std.proofs.Common.{ℕ, zero, suc, ◌<◌, ◌≡◌, ◌⊎◌, inl, inr, Bool, true, false, ◌&&◌, cond, List, [], ◌∷◌, length, get_or, refl, ap, sym, subst, ◌∙◌, arith}
 use Rattle.std.specs.Bool.{Decides}
 use Rattle.std.specs.List.{AllByRecursion, Contains, filter}
 use Rattle.std.specs.List.Sorted.{IsStrictlySortedBy}
@@ -13,9 +13,8 @@ use Rattle.rdf_terms.specs.declared.term.Triple.{Triple}
 use Rattle.rdf_terms.specs.declared.slots.Slot.{Slot}
 use Rattle.rdf_terms.specs.declared.slots.Slot.TheVariants.{Any, Fixed}
 use Rattle.rdf_terms.specs.declared.slots.Slots.{Slots}
-use Rattle.rdf_terms.specs.Same.{term_eq}
 use Rattle.rdf_terms.specs.EqualityLaws.{term_decides}
-use Rattle.rdf_terms.specs.Order.{term_order, triple_order}
+use Rattle.rdf_terms.specs.Order.{term_order}
 use Rattle.rdf_terms.specs.OrderLaws.{term_total, term_equal, triple_total, triple_equal}
 use Rattle.rdf_terms.specs.Slots.{MatchesSlot, Matches, matches_slot, matches, pos_order, osp_order, is_fixed, order_by, order_of}
 use Rattle.rdf_terms.specs.Fragments.{IsFragment, put_by, put, sorted, fragment}

@@ -1,5 +1,7 @@
+pub mod Asked
 pub mod Books
 pub mod Checks
+pub mod Ended
 pub mod FragmentLaws
 pub mod Lengths
 pub mod Tags

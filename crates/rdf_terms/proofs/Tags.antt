@@ -1,8 +1,7 @@
 -- A tag read from left to right, and tags in lower case.
-use Rattle.std.proofs.Common.{ℕ, ◌≡◌, ◌==◌, Bool, true, false, not, ◌&&◌, ◌||◌, if◌then◌else◌, cond, List, [], ◌∷◌, map, refl, ap, sym, ◌∙◌, arith}
+use Rattle.std.proofs.Common.{ℕ, ◌≡◌, ◌==◌, Bool, true, false, not, ◌&&◌, if◌then◌else◌, List, [], ◌∷◌, refl, ap, sym, ◌∙◌, arith}
 use Rattle.std.specs.List.{list_all}
 use Rattle.std.specs.Char.{to_ascii_lowercase}
-use Rattle.rdf_terms.specs.Iri.{is_letter, is_digit}
 use Rattle.rdf_terms.specs.Tag.{is_letter_or_digit, put_first, groups, is_group, may_stand, is_tag, runs_tag, is_upper, lower, is_lower_tag}
 
 -- what `runs_tag` says of the groups that are left, of which the first is begun

@@ -1,6 +1,5 @@
 -- Numbered terms.
-use Rattle.std.specs.Prelude.{◌≡◌, ◌⊎◌, ℕ, List, [], ◌∷◌, ◌++◌, length, Option, Some, None, MatchOption, slice_get}
-use Rattle.std.specs.List.{Contains}
+use Rattle.std.specs.Prelude.{◌≡◌, ◌⊎◌, ℕ, List, [], ◌∷◌, ◌++◌, length, Option, Some, None, slice_get}
 use Rattle.rdf_terms.specs.declared.term.Term.{Term}
 
 -- the one place at which the term stands, or none where it is not held

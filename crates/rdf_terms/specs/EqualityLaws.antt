@@ -1,5 +1,5 @@
 -- The tests of equality hold exactly where kinds, terms and triples are the same, so they are equivalences.
-use Rattle.std.proofs.Common.{◌≡◌, Bool, true, false, ◌&&◌, List, ℕ, refl, ap, sym, subst, ◌∙◌}
+use Rattle.std.proofs.Common.{◌≡◌, Bool, true, false, ◌&&◌, List, ℕ, refl, ap}
 use Rattle.std.specs.Bool.{Decides}
 use Rattle.std.specs.Cmp.{IsPartialEquivalence, IsEquivalence, partial_equiv_from_equiv, decided}
 use Rattle.std.proofs.lemmas.Slice.Eq.{bytes_eq-Decides}

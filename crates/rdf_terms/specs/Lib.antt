@@ -1,3 +1,4 @@
+pub mod Askable
 pub mod Book
 pub mod Canon
 pub mod Compare
@@ -5,12 +6,16 @@ pub mod Datatype
 pub mod EqualityLaws
 pub mod Fragments
 pub mod Index
+pub mod Fronts
 pub mod Iri
+pub mod Kept
 pub mod Kinds
 pub mod Label
 pub mod Order
 pub mod OrderLaws
 pub mod Same
+pub mod Sizes
 pub mod Slots
 pub mod Tag
 pub mod Triples
+pub mod Valid

@@ -1,5 +1,5 @@
 -- Data sets, and the classes of terms that RDF allows (RDF 1.1 Concepts 3.1).
-use Rattle.std.specs.Prelude.{ℕ, Option, Some, None, List, ⊤}
+use Rattle.std.specs.Prelude.{Option, Some, None, List, ⊤}
 use Rattle.std.specs.List.{AllByRecursion}
 use Rattle.std.specs.List.Sorted.{IsStrictlySortedBy}
 use Rattle.rdf_terms.specs.declared.term.Term.{Term}

@@ -1,4 +1,5 @@
 // Datatypes of typed literals.
+ghost use Rattle.std.specs.Str.{IsUtf8};
 ghost use Rattle.std.specs.Prelude.{ℕ, ◌≡◌, List, IsTrue, IfOk};
 ghost use Rattle.rdf_terms.specs.Datatype.{xsd_string, lang_string, is_xsd_string, is_lang_string, is_datatype};
 
@@ -60,6 +61,7 @@ impl Datatype {
     pub fn as_str(&self) -> &str
         ensures text { result.now ≡ self.now }
         ensures datatype { IsTrue (is_datatype self.now) }
+        ensures utf8 { IsUtf8 self.now }
     {
         self.text.as_str()
     }

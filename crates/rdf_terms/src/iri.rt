@@ -1,4 +1,5 @@
 // IRIs with a scheme.
+ghost use Rattle.std.specs.Str.{IsUtf8};
 ghost use Rattle.std.specs.Prelude.{ℕ, ◌≡◌, List, IsTrue, IfOk};
 ghost use Rattle.std.specs.List.{list_all};
 ghost use Rattle.rdf_terms.specs.Iri.{is_iri, is_iri_byte, is_scheme_byte, is_letter, has_colon, has_scheme};
@@ -90,6 +91,7 @@ impl IriText {
     pub fn as_str(&self) -> &str
         ensures text { result.now ≡ self.now }
         ensures iri { IsTrue (is_iri self.now) }
+        ensures utf8 { IsUtf8 self.now }
     {
         self.text.as_str()
     }

@@ -1,6 +1,6 @@
 // Labels of blank nodes.
 ghost use Rattle.std.specs.Prelude.{ℕ, ◌≡◌, List, IsTrue, IfOk};
-ghost use Rattle.std.specs.Str.{chars};
+ghost use Rattle.std.specs.Str.{chars, IsUtf8};
 ghost use Rattle.rdf_terms.specs.Label.{is_base, is_label_start, is_label_char, begins_label, are_label_chars, ends_in_dot, is_label};
 
 use std::alloc::Global;
@@ -97,6 +97,7 @@ impl Label {
     pub fn as_str(&self) -> &str
         ensures text { result.now ≡ self.now }
         ensures label { IsTrue (is_label self.now) }
+        ensures utf8 { IsUtf8 self.now }
     {
         self.text.as_str()
     }

@@ -1,7 +1,9 @@
 //! Terms of RDF: their grammar, equality and order, triples and quads, and the slots of a fragment.
 #![tactic(auto)]
 
+mod askable;
 mod book;
+mod canon;
 mod datatype;
 mod fragment;
 mod iri;
@@ -10,10 +12,11 @@ mod order;
 mod slots;
 mod tag;
 mod term;
-#[cfg(test)]
-mod tests;
+mod valid;
 
+pub use askable::askable_slots_are_kept;
 pub use book::TermBook;
+pub use canon::{after_mark, is_marked, marks};
 pub use datatype::{Datatype, is_datatype, is_lang_string, is_xsd_string};
 pub use fragment::{canonical_len_is, fragment_is_one, no_other_fragment};
 pub use iri::{IriText, has_scheme, is_iri, is_iri_byte};

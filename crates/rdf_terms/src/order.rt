@@ -1,31 +1,16 @@
 // The order of terms and of triples, found without making canonical text.
-ghost use Rattle.std.specs.Prelude.{ℕ, ◌≡◌, ◌↔◌, List};
+ghost use Rattle.std.specs.Prelude.{ℕ, ◌≡◌, ◌<◌, ◌↔◌, length, List, IsTrue};
 ghost use Rattle.rdf_terms.specs.declared.term.Term.{Term};
 ghost use Rattle.rdf_terms.specs.declared.term.Triple.{Triple};
 ghost use Rattle.std.specs.declared.cmp.Ordering.{Ordering};
 ghost use Rattle.std.specs.Cmp.{IsTotalOrder};
-ghost use Rattle.rdf_terms.specs.Canon.{is_marked, after_mark};
+ghost use Rattle.rdf_terms.specs.Fronts.{is_front, byte_behind};
 ghost use Rattle.rdf_terms.specs.Compare.{ended_cmp, first_written, byte_cmp, form_cmp, kind_cmp, term_cmp};
 ghost use Rattle.rdf_terms.specs.Order.{bytes_order, term_order, triple_order};
 
+use crate::canon::{after_mark, is_marked};
 use crate::{Kind, Term, Triple};
 use std::cmp::Ordering;
-
-fn is_marked(b: u8) -> bool
-    ensures { result ≡ is_marked b }
-{
-    matches!(b, b'"' | b'\\' | b'\n' | b'\r')
-}
-
-fn after_mark(b: u8) -> u8
-    ensures { result ≡ after_mark b }
-{
-    match b {
-        b'\n' => b'n',
-        b'\r' => b'r',
-        _ => b,
-    }
-}
 
 fn first_written(b: u8) -> u8
     ensures { result ≡ first_written b }
@@ -49,23 +34,37 @@ fn byte_cmp(x: u8, y: u8) -> Ordering
     }
 }
 
-/// Two texts, each with this byte behind it.
-fn ended_cmp(end: u8, a: &[u8], b: &[u8]) -> Ordering
+/// Whether the first text is a front of the second, which is longer.
+#[tactic(auto, using(crate::proofs::Ended::front_short, crate::proofs::Ended::front_long))]
+fn is_front(a: &[u8], b: &[u8]) -> bool
+    ensures front { result ≡ is_front a.now b.now }
+    ensures shorter { IsTrue result → length a.now < length b.now }
+{
+    a.len() < b.len() && b.starts_with(a)
+}
+
+/// The byte of the second text behind the first, which is a front of it.
+#[tactic(auto, using(crate::proofs::Ended::behind_is))]
+fn byte_behind(a: &[u8], b: &[u8]) -> u8
+    requires front { IsTrue (is_front a.now b.now) }
+    requires shorter { length a.now < length b.now }
+    ensures { result ≡ byte_behind a.now b.now }
+{
+    b[a.len()]
+}
+
+/// Two texts, each with this byte behind it: their own order decides, unless one is a front of the other.
+#[tactic(auto, using(crate::proofs::Ended::by_order, crate::proofs::Ended::by_first, crate::proofs::Ended::by_second))]
+fn ended_cmp(end: u8, a: &str, b: &str) -> Ordering
     ensures { result ≡ ended_cmp end a.now b.now }
 {
-    let mut n: usize = 0;
-    while n < a.len() && n < b.len() {
-        if a[n] != b[n] {
-            return a[n].cmp(&b[n]);
-        }
-        n += 1;
-    }
-    if n < b.len() {
-        end.cmp(&b[n]).then(Ordering::Less)
-    } else if n < a.len() {
-        a[n].cmp(&end).then(Ordering::Greater)
+    let (x, y) = (a.as_bytes(), b.as_bytes());
+    if is_front(x, y) {
+        end.cmp(&byte_behind(x, y)).then(Ordering::Less)
+    } else if is_front(y, x) {
+        byte_behind(y, x).cmp(&end).then(Ordering::Greater)
     } else {
-        Ordering::Equal
+        a.cmp(b)
     }
 }
 
@@ -92,7 +91,7 @@ fn form_cmp(rest: Ordering, a: &[u8], b: &[u8]) -> Ordering
 fn bytes_cmp(a: &str, b: &str) -> Ordering
     ensures { result ≡ bytes_order a.now b.now }
 {
-    a.as_bytes().cmp(b.as_bytes())
+    a.cmp(b)
 }
 
 fn kind_cmp(a: &Kind, b: &Kind) -> Ordering
@@ -104,7 +103,7 @@ fn kind_cmp(a: &Kind, b: &Kind) -> Ordering
             _ => Ordering::Less,
         },
         Kind::Typed(d) => match b {
-            Kind::Typed(e) => ended_cmp(b'>', d.as_str().as_bytes(), e.as_str().as_bytes()),
+            Kind::Typed(e) => ended_cmp(b'>', d.as_str(), e.as_str()),
             _ => Ordering::Greater,
         },
         Kind::Tagged(t) => match b {
@@ -120,7 +119,7 @@ fn term_cmp(a: &Term, b: &Term) -> Ordering
 {
     match a {
         Term::Iri(a) => match b {
-            Term::Iri(b) => ended_cmp(b'>', a.as_str().as_bytes(), b.as_str().as_bytes()),
+            Term::Iri(b) => ended_cmp(b'>', a.as_str(), b.as_str()),
             _ => Ordering::Less,
         },
         Term::Blank(a) => match b {

@@ -1,4 +1,5 @@
 // Language tags.
+ghost use Rattle.std.specs.Str.{IsUtf8};
 ghost use Rattle.std.specs.Prelude.{ℕ, ◌≡◌, true, false, List, IsTrue, IfOk};
 ghost use Rattle.rdf_terms.specs.Tag.{may_stand, runs_tag, lower, is_tag, is_lower_tag};
 
@@ -94,6 +95,7 @@ impl Tag {
     pub fn as_str(&self) -> &str
         ensures text { result.now ≡ self.now }
         ensures tag { IsTrue (is_lower_tag self.now) }
+        ensures utf8 { IsUtf8 self.now }
     {
         self.text.as_str()
     }

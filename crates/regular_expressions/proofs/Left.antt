@@ -1,25 +1,14 @@
 -- What is left of a regular expression after a number matches what follows that number, and nothing else does.
-use Rattle.std.proofs.Common.{ℕ, ◌≡◌, ◌⊎◌, inl, inr, Bool, true, false, ◌&&◌, ◌||◌, nat_eq, List, [], ◌∷◌, ◌++◌, if◌then◌else◌, refl, sym, ap, subst, ◌∙◌, arith}
+use Rattle.std.proofs.Common.{ℕ, ◌≡◌, ◌⊎◌, inl, inr, Bool, true, false, ◌||◌, nat_eq, List, [], ◌∷◌, ◌++◌, if◌then◌else◌, refl, sym, ap, subst, ◌∙◌, arith}
+use Rattle.std.proofs.lemmas.Bool.{and_parts, or_cases, or_right}
 use Rattle.regular_expressions.specs.Regular.{Regular, nothing, nil, one_of, is_among, seq, alt, many, joined, Each, Matches, nullable, seq_of, alt_of, left, lefts, is_alive, Begins}
-
-pub both : (a b : Bool) → (a && b) ≡ true → (a ≡ true) × (b ≡ true)
-both true b e = (refl, e)
-both false b e = cc
-
-pub either : (a b : Bool) → (a || b) ≡ true → (a ≡ true) ⊎ (b ≡ true)
-either true b e = inl refl
-either false b e = inr e
-
-right_true : (a b : Bool) → b ≡ true → (a || b) ≡ true
-right_true true b e = refl
-right_true false b e = e
 
 pub nullable-matches : (r : Regular) → nullable r ≡ true → Matches r []
 nullable-matches nothing e = cc
 nullable-matches nil e = refl
 nullable-matches (one_of ks) e = cc
-nullable-matches (seq r s) e = let p = both (nullable r) (nullable s) e in ([], [], nullable-matches r p.0, nullable-matches s p.1, refl)
-nullable-matches (alt r s) e = pick (nullable-matches r) (nullable-matches s) (either (nullable r) (nullable s) e)
+nullable-matches (seq r s) e = let p = and_parts (nullable r) (nullable s) e in ([], [], nullable-matches r p.0, nullable-matches s p.1, refl)
+nullable-matches (alt r s) e = pick (nullable-matches r) (nullable-matches s) (or_cases (nullable r) (nullable s) e)
   where
     pick : (nullable r ≡ true → Matches r []) → (nullable s ≡ true → Matches s []) → (nullable r ≡ true) ⊎ (nullable s ≡ true) → Matches r [] ⊎ Matches s []
     pick f g (inl e) = inl (f e)
@@ -43,7 +32,7 @@ matches-nullable (seq r s) m =
     let b : nullable s ≡ true = matches-nullable s (subst (λ (w : List ℕ). Matches s w) e.1 m.3) in
     rw a b
 matches-nullable (alt r s) (inl m) = rw (matches-nullable r m) refl
-matches-nullable (alt r s) (inr m) = right_true (nullable r) (nullable s) (matches-nullable s m)
+matches-nullable (alt r s) (inr m) = or_right (nullable r) (nullable s) (matches-nullable s m)
 matches-nullable (many r) m = refl
 
 -- ---- the two builders mean what they build
@@ -193,12 +182,12 @@ alive-some (one_of (k ∷ ks)) e = (k ∷ [], (k, first k (nat_eq k k) refl, ref
         differ : nat_eq k k ≡ false → ⊥
         differ e = grind (arith, e)
 alive-some (seq r s) e =
-    let p = both (is_alive r) (is_alive s) e in
+    let p = and_parts (is_alive r) (is_alive s) e in
     let a = alive-some r p.0 in
     let b = alive-some s p.1 in
     (a.0 ++ b.0, (a.0, b.0, a.1, b.1, refl))
 alive-some (alt r s) e =
-    let p = both (is_alive r) (is_alive s) e in
+    let p = and_parts (is_alive r) (is_alive s) e in
     let a = alive-some r p.0 in
     (a.0, inl a.1)
 alive-some (many r) e = ([], ([], tt, refl))

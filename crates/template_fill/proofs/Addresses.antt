@@ -7,7 +7,7 @@ use Rattle.std.specs.Str.{str_to_ascii_lowercase, IsUtf8, IsAscii}
 use Rattle.std.proofs.lemmas.List.{length-map}
 use Rattle.std.proofs.lemmas.List.Folds.{list_all-append}
 use Rattle.std.proofs.lemmas.Bool.Decides.{nat_tests}
-use Rattle.std.proofs.lemmas.Bool.{agree_below_at}
+use Rattle.std.proofs.lemmas.Bool.{agree_below_at, and_from}
 use Rattle.rdf_terms.specs.Iri.{is_iri, is_iri_byte}
 use Rattle.std.proofs.lemmas.Fmt.{decimal_is_IsNumeral}
 use Rattle.std.proofs.lemmas.Str.{IsUtf8-from_ascii}
@@ -15,9 +15,11 @@ use Rattle.std.proofs.lemmas.Str.Ascii.{IsAscii-nil, IsAscii-cons}
 use Rattle.std.proofs.lemmas.Str.Parse.{digit_from_value}
 use Rattle.std.specs.Str.Parse.{AllDigits}
 use Rattle.std.proofs.Math.Seq.{drop-append_seam, take-append_seam, drop-append-add}
+use Rattle.list_laws.proofs.Tests.{implied}
 use Rattle.tpf_base.specs.Addresses.{Address, IsAddress, IsPortTyped, is_host_byte, is_host, is_address_byte, is_path_byte, is_query_part, authority_text, query_text, target_of, address_text}
 use Rattle.template_fill.specs.ReadAddress.{IsSpelled, Spelled, is_rest, rooted, path_of, query_of, with_target, normal}
 use Rattle.template_fill.specs.WebAddress.{IsNormal, IsKept, is_lower, port_text, kept_address, kept_host, kept_target, Extends}
+use Rattle.template_fill.specs.Authorities.{ShareAuthority}
 use Rattle.template_fill.proofs.Passing.{list_all-wider}
 
 -- ---- tests
@@ -29,10 +31,6 @@ and_left false b h = h
 pub and_right : (a b : Bool) → a && b ≡ true → b ≡ true
 and_right true b h = h
 and_right false b h = absurd (cc)
-
-pub and_both : (a b : Bool) → a ≡ true → b ≡ true → a && b ≡ true
-and_both true b h k = k
-and_both false b h k = h
 
 below_127 : (b : ℕ) → nat_lt b 127 ≡ true → is_ascii b ≡ true
 below_127 b h = grind (arith, nat_tests)
@@ -73,7 +71,7 @@ is_path_byte-path (b ∷ rest) all =
     let go : (t : Bool) → (b == 63) ≡ t → list_all is_path_byte (cond t [] (b ∷ path_of rest)) ≡ true =
     λ t. elim t as (λ v. (b == 63) ≡ v → list_all is_path_byte (cond v [] (b ∷ path_of rest)) ≡ true) [
       | true ↦ λ _. refl
-      | false ↦ λ no. and_both (is_path_byte b) _ (and_both (is_address_byte b) (not (b == 63)) own (ap not no)) more
+      | false ↦ λ no. and_from (is_path_byte b) _ (and_from (is_address_byte b) (not (b == 63)) own (ap not no)) more
     ] in
     go (b == 63) refl
 
@@ -98,7 +96,7 @@ is_rooted (b ∷ rest) h =
     let go : (t : Bool) → (b == 47) ≡ t → IsRooted (cond t (b ∷ rest) (47 ∷ b ∷ rest)) =
     λ t. elim t as (λ v. (b == 47) ≡ v → IsRooted (cond v (b ∷ rest) (47 ∷ b ∷ rest))) [
       | true ↦ λ yes. let is : b ≡ 47 = grind (arith, nat_tests) in record { after_slash = rest; slash = ap (λ x. x ∷ rest) is; bytes = bytes }
-      | false ↦ λ no. let is : b ≡ 63 = grind (arith, nat_tests) in record { after_slash = b ∷ rest; slash = refl; bytes = and_both (is_address_byte b) _ (ap is_address_byte is) bytes }
+      | false ↦ λ no. let is : b ≡ 63 = grind (arith, nat_tests) in record { after_slash = b ∷ rest; slash = refl; bytes = and_from (is_address_byte b) _ (ap is_address_byte is) bytes }
     ] in
     go (b == 47) refl
 
@@ -110,14 +108,14 @@ is_lower-same (b ∷ host) h = rw (lower-not_upper b (and_left (not (is_ascii_up
 
 pub is_lower-lower : (host : List ℕ) → is_lower (str_to_ascii_lowercase host) ≡ true
 is_lower-lower [] = refl
-is_lower-lower (b ∷ host) = and_both (not (is_ascii_uppercase (to_ascii_lowercase b))) _ (not_upper-lower b) (is_lower-lower host)
+is_lower-lower (b ∷ host) = and_from (not (is_ascii_uppercase (to_ascii_lowercase b))) _ (not_upper-lower b) (is_lower-lower host)
 
 all_host-lower : (host : List ℕ) → list_all is_host_byte host ≡ true → list_all is_host_byte (str_to_ascii_lowercase host) ≡ true
 all_host-lower [] h = refl
-all_host-lower (b ∷ host) h = and_both (is_host_byte (to_ascii_lowercase b)) _ (is_host_byte-lower b (and_left (is_host_byte b) _ h)) (all_host-lower host (and_right (is_host_byte b) _ h))
+all_host-lower (b ∷ host) h = and_from (is_host_byte (to_ascii_lowercase b)) _ (is_host_byte-lower b (and_left (is_host_byte b) _ h)) (all_host-lower host (and_right (is_host_byte b) _ h))
 
 pub is_host-lower : (host : List ℕ) → is_host host ≡ true → is_host (str_to_ascii_lowercase host) ≡ true
-is_host-lower host h = rw length-map (and_both (nat_le 1 (length host) && nat_le (length host) 255) _ (and_left (nat_le 1 (length host) && nat_le (length host) 255) _ h) (all_host-lower host (and_right (nat_le 1 (length host) && nat_le (length host) 255) _ h)))
+is_host-lower host h = rw length-map (and_from (nat_le 1 (length host) && nat_le (length host) 255) _ (and_left (nat_le 1 (length host) && nat_le (length host) 255) _ h) (all_host-lower host (and_right (nat_le 1 (length host) && nat_le (length host) 255) _ h)))
 
 pub all_host : (host : List ℕ) → is_host host ≡ true → list_all is_host_byte host ≡ true
 all_host host h = and_right (nat_le 1 (length host) && nat_le (length host) 255) _ h
@@ -135,7 +133,7 @@ is_port_typed port low high =
     let go : (t : Bool) → (port == 80) ≡ t → IsPortTyped (cond t [] (codes ":" ++ decimal port)) port =
     λ t. elim t as (λ v. (port == 80) ≡ v → IsPortTyped (cond v [] (codes ":" ++ decimal port)) port) [
       | true ↦ λ yes. inl (refl, grind (arith, nat_tests))
-      | false ↦ λ _. inr (refl, and_both (nat_le 1 port) (nat_le port 65535) (grind (arith, nat_tests)) (grind (arith, nat_tests)))
+      | false ↦ λ _. inr (refl, and_from (nat_le 1 port) (nat_le port 65535) (grind (arith, nat_tests)) (grind (arith, nat_tests)))
     ] in
     go (port == 80) refl
 
@@ -202,7 +200,7 @@ ascii-rest [] h = refl
 ascii-rest (b ∷ rest) h =
     let mark = and_left ((b == 47) || (b == 63)) _ h in
     let bytes = and_right ((b == 47) || (b == 63)) _ h in
-    and_both (is_ascii b) _ (grind (arith, nat_tests)) (list_all-wider is_address_byte is_ascii is_ascii-address rest bytes)
+    and_from (is_ascii b) _ (grind (arith, nat_tests)) (list_all-wider is_address_byte is_ascii is_ascii-address rest bytes)
 
 pub all_digits : (digits : List ℕ) → AllDigits 10 digits → list_all is_ascii_digit digits ≡ true
 all_digits [] h = refl
@@ -210,7 +208,7 @@ all_digits (d ∷ digits) h =
     let range = digit_from_value d h.0 in
     let low : 48 ≤ d = range.0 in
     let high : d ≤ 57 = range.1 in
-    and_both (is_ascii_digit d) _ (grind (arith, nat_tests)) (all_digits digits h.1)
+    and_from (is_ascii_digit d) _ (grind (arith, nat_tests)) (all_digits digits h.1)
 
 pub all_digits-decimal : (n : ℕ) → n < 2 ^ 64 → list_all is_ascii_digit (decimal n) ≡ true
 all_digits-decimal n small = all_digits (decimal n) ((decimal_is_IsNumeral n small).0).1
@@ -265,8 +263,8 @@ made s a b c d h ea eb ec ed =
     keeps d host (rooted s.rest) (length s.host) (length c - 7) s.port (normal-spelled s h) (rw (ed, front) refl) (sym (length-map s.host to_ascii_lowercase)) (rw front (omega arith))
 
 -- more characters of a target
-pub extended : (bytes longer : List ℕ) (host_len authority_len port : ℕ) (a : Address) → IsKept bytes host_len authority_len port → kept_address bytes host_len authority_len port ≡ a → Extends a longer → IsKept longer host_len authority_len port
-extended bytes longer host_len authority_len port a kept is e =
+pub extended_as : (bytes longer : List ℕ) (host_len authority_len port : ℕ) (a : Address) → IsKept bytes host_len authority_len port → kept_address bytes host_len authority_len port ≡ a → (e : Extends a longer) → IsKept longer host_len authority_len port × (kept_address longer host_len authority_len port ≡ with_target (kept_host bytes host_len) port (kept_target bytes authority_len ++ e.more))
+extended_as bytes longer host_len authority_len port a kept is e =
     let host = kept_host bytes host_len in
     let target = kept_target bytes authority_len in
     let n = kept.normal in
@@ -281,13 +279,18 @@ extended bytes longer host_len authority_len port a kept is e =
     } in
     let text : longer ≡ codes "http://" ++ (authority_text host port ++ (target ++ e.more)) =
     e.is_text ∙ ap (λ front. front ++ e.more) (sym (kept_text bytes host_len authority_len port a kept is) ∙ kept.text) ∙ ap (λ rest. codes "http://" ++ rest) (append_assoc (authority_text host port) target e.more) in
-    (keeps longer host (target ++ e.more) host_len authority_len port more text kept.host kept.authority).0
+    keeps longer host (target ++ e.more) host_len authority_len port more text kept.host kept.authority
+
+pub extended : (bytes longer : List ℕ) (host_len authority_len port : ℕ) (a : Address) → IsKept bytes host_len authority_len port → kept_address bytes host_len authority_len port ≡ a → Extends a longer → IsKept longer host_len authority_len port
+extended bytes longer host_len authority_len port a kept is e = (extended_as bytes longer host_len authority_len port a kept is e).0
+
+-- the host and the port stay
+pub extended_shares : (bytes longer : List ℕ) (host_len authority_len port : ℕ) (a : Address) → IsKept bytes host_len authority_len port → kept_address bytes host_len authority_len port ≡ a → Extends a longer → ShareAuthority a (kept_address longer host_len authority_len port)
+extended_shares bytes longer host_len authority_len port a kept is e =
+    let same = (extended_as bytes longer host_len authority_len port a kept is e).1 in
+    record { host = ap (λ (x : Address). x.host) same ∙ ap (λ (x : Address). x.host) is; port = ap (λ (x : Address). x.port) same ∙ ap (λ (x : Address). x.port) is }
 
 -- ---- IRIs
-
-either : (a b : Bool) → not a || b ≡ true → a ≡ true → b ≡ true
-either true b h k = h
-either false b h k = absurd (cc)
 
 host-below : (b : ℕ) → is_host_byte b ≡ true → b < 128
 host-below b h = grind (arith, nat_tests)
@@ -296,10 +299,10 @@ address-below : (b : ℕ) → is_address_byte b ≡ true → b < 128
 address-below b h = grind (arith, nat_tests, is_ascii-address b h)
 
 pub iri_byte-address : (b : ℕ) → is_address_byte b ≡ true → is_iri_byte b ≡ true
-iri_byte-address b h = either (is_address_byte b) (is_iri_byte b) (agree_below_at (λ x. not (is_address_byte x) || is_iri_byte x) (λ _. true) 128 b refl (address-below b h)) h
+iri_byte-address b h = implied (is_address_byte b) (is_iri_byte b) (agree_below_at (λ x. not (is_address_byte x) || is_iri_byte x) (λ _. true) 128 b refl (address-below b h)) h
 
 iri_byte-host : (b : ℕ) → is_host_byte b ≡ true → is_iri_byte b ≡ true
-iri_byte-host b h = either (is_host_byte b) (is_iri_byte b) (agree_below_at (λ x. not (is_host_byte x) || is_iri_byte x) (λ _. true) 128 b refl (host-below b h)) h
+iri_byte-host b h = implied (is_host_byte b) (is_iri_byte b) (agree_below_at (λ x. not (is_host_byte x) || is_iri_byte x) (λ _. true) 128 b refl (host-below b h)) h
 
 digit-host : (b : ℕ) → is_ascii_digit b ≡ true → is_host_byte b ≡ true
 digit-host b h = grind (arith, nat_tests)
@@ -321,7 +324,7 @@ iri-bytes host target port n =
     rw (authority-port host port, list_all-append is_iri_byte (host ++ port_text port) target, list_all-append is_iri_byte host (port_text port), own, number, rest) refl
 
 http-iri : (rest : List ℕ) → list_all is_iri_byte rest ≡ true → is_iri (codes "http://" ++ rest) ≡ true
-http-iri rest all = and_both (list_all is_iri_byte rest) true all refl
+http-iri rest all = and_from (list_all is_iri_byte rest) true all refl
 
 -- the text of an address is an IRI
 pub kept_iri : (bytes : List ℕ) (host_len authority_len port : ℕ) → IsKept bytes host_len authority_len port → is_iri bytes ≡ true

@@ -1,16 +1,18 @@
 -- The places of a page's address, one by one.
-use Rattle.std.proofs.Common.{◌≡◌, ℕ, ◌<◌, List, [], ◌∷◌, ◌++◌, true, false, ◌==◌, cond, refl, sym, ◌∙◌, ap, append_assoc, append-nil, lit<, ◌^◌}
+use Rattle.std.proofs.Common.{◌≡◌, ℕ, ◌<◌, List, [], ◌∷◌, ◌++◌, true, false, ◌==◌, cond, refl, sym, ◌∙◌, ap, append_assoc, append-nil, lit<}
 use Rattle.std.specs.Char.{is_ascii_digit}
 use Rattle.std.proofs.lemmas.List.Folds.{list_all-append}
 use Rattle.template_fill.specs.WebAddress.{Extends}
 use Rattle.template_fill.proofs.Passing.{list_all-wider}
-use Rattle.template_fill.proofs.Addresses.{and_both, all_digits-decimal}
 use Rattle.template_fill.proofs.Values.{pairs-address, unreserved-address, digit-unreserved}
-use Rattle.std.specs.Prelude.{codes, decimal}
+use Rattle.std.specs.Prelude.{codes}
 use Rattle.std.specs.List.{list_all}
+use Rattle.std.proofs.lemmas.Bool.{and_from}
 use Rattle.rdf_terms.specs.declared.slots.Slot.{Slot}
 use Rattle.rdf_terms.specs.declared.slots.Slot.TheVariants.{Any, Fixed}
 use Rattle.rdf_terms.specs.declared.slots.Slots.{Slots}
+use Rattle.tpf_base.specs.Decimals.{decimal_text}
+use Rattle.tpf_base.proofs.DecimalTexts.{decimal_text-digits}
 use Rattle.tpf_base.specs.Addresses.{Address, address_text, is_address_byte}
 use Rattle.template_fill.specs.Templates.{value_of, next_mark, pair_text, expansion}
 use Rattle.template_fill.specs.Forms.{filled}
@@ -65,10 +67,10 @@ places-address slots = pairs-address 63 place_names (filled (codes "subject") (c
 digit-address : (b : ℕ) → is_ascii_digit b ≡ true → is_address_byte b ≡ true
 digit-address b h = unreserved-address b (digit-unreserved b h)
 
-page-address : (mark k : ℕ) → is_address_byte mark ≡ true → list_all is_ascii_digit (decimal k) ≡ true → list_all is_address_byte (page_pair mark k) ≡ true
-page-address mark k own digits = elim (k == 1) as (λ v. list_all is_address_byte (cond v [] (mark ∷ (codes "page=" ++ decimal k))) ≡ true) [
+page-address : (mark k : ℕ) → is_address_byte mark ≡ true → list_all is_ascii_digit (decimal_text k) ≡ true → list_all is_address_byte (page_pair mark k) ≡ true
+page-address mark k own digits = elim (k == 1) as (λ v. list_all is_address_byte (cond v [] (mark ∷ (codes "page=" ++ decimal_text k))) ≡ true) [
   | true ↦ refl
-  | false ↦ and_both (is_address_byte mark) _ own (list_all-wider is_ascii_digit is_address_byte digit-address (decimal k) digits)
+  | false ↦ and_from (is_address_byte mark) _ own (list_all-wider is_ascii_digit is_address_byte digit-address (decimal_text k) digits)
 ]
 
 page_mark-address : (written : List ℕ) → is_address_byte (page_mark written) ≡ true
@@ -80,15 +82,15 @@ page_mark-ascii [] = lit< tt
 page_mark-ascii (b ∷ written) = lit< tt
 
 -- what a page's address writes after the base
-pub more-address : (slots : Slots) (k : ℕ) → list_all is_ascii_digit (decimal k) ≡ true → list_all is_address_byte (places_text slots ++ page_pair (page_mark (places_text slots)) k) ≡ true
+pub more-address : (slots : Slots) (k : ℕ) → list_all is_ascii_digit (decimal_text k) ≡ true → list_all is_address_byte (places_text slots ++ page_pair (page_mark (places_text slots)) k) ≡ true
 more-address slots k digits =
     rw (list_all-append is_address_byte (places_text slots) (page_pair (page_mark (places_text slots)) k), places-address slots) (page-address (page_mark (places_text slots)) k (page_mark-address (places_text slots)) digits)
 
 -- the text of a page's address is that of the base and more
-pub page_extends : (base : Address) (slots : Slots) (k mark : ℕ) (a b c : List ℕ) → k < 2 ^ 64 → a ≡ address_text base → mark ≡ page_mark (places_text slots) → b ≡ a ++ places_text slots → c ≡ b ++ page_pair mark k → Extends base c × (c ≡ page_address base slots k)
+pub page_extends : (base : Address) (slots : Slots) (k mark : ℕ) (a b c : List ℕ) → a ≡ address_text base → mark ≡ page_mark (places_text slots) → b ≡ a ++ places_text slots → c ≡ b ++ page_pair mark k → Extends base c × (c ≡ page_address base slots k)
 unfolding page_address
-page_extends base slots k mark a b c small ea em eb ec =
+page_extends base slots k mark a b c ea em eb ec =
     let more = places_text slots ++ page_pair (page_mark (places_text slots)) k in
     let text : c ≡ address_text base ++ more = rw (ec, eb, ea, em) (append_assoc (address_text base) (places_text slots) (page_pair (page_mark (places_text slots)) k)) in
-    let bytes : list_all is_address_byte more ≡ true = more-address slots k (all_digits-decimal k small) in
+    let bytes : list_all is_address_byte more ≡ true = more-address slots k (decimal_text-digits k) in
     (record { more = more; is_text = text; bytes = bytes }, text)

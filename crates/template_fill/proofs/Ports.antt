@@ -68,7 +68,7 @@ digits_all (d ∷ ds) all =
     let digit = digit_value-digit d (list_all-get is_ascii_digit (d ∷ ds) 0 0 all (omega arith)) in
     (omega arith, digits_all ds (grind (arith, common_steps)))
 
-above_first : (ds : List ℕ) → is_port_text ds ≡ true → (get_or ds 0 0 ≡ 48 → ⊥) × (0 < length ds) × (digits_value 10 ds < 65536)
+pub above_first : (ds : List ℕ) → is_port_text ds ≡ true → (get_or ds 0 0 ≡ 48 → ⊥) × (0 < length ds) × (digits_value 10 ds < 65536)
 above_first [] port = absurd (cc)
 above_first (b ∷ ds) port = (grind (arith, nat_tests), omega arith, grind (arith, nat_tests))
 

@@ -1,11 +1,10 @@
 -- What the address of a page asks for.
 use Rattle.std.proofs.Common.{◌≡◌, ◌≢◌, ℕ, ◌<◌, ◌≤◌, List, [], ◌∷◌, ◌++◌, Bool, true, false, not, cond, ◌==◌, ◌&&◌, nat_le, map, filter, length, Option, Some, None, if◌then◌else◌, refl, sym, ap, ◌∙◌, subst, inl, inr, arith, append_assoc, append-nil, All}
-use Rattle.std.specs.Prelude.{codes, decimal, bytes_eq, unwrap_or}
+use Rattle.std.specs.Prelude.{codes, bytes_eq, unwrap_or}
 use Rattle.std.specs.List.{AllByRecursion, list_all}
 use Rattle.std.specs.Char.{is_ascii, is_ascii_digit}
 use Rattle.std.specs.Str.Parse.{digits_value}
 use Rattle.std.proofs.lemmas.Bool.Decides.{nat_tests}
-use Rattle.std.proofs.lemmas.Fmt.{decimal_is_IsNumeral_wide}
 use Rattle.std.proofs.lemmas.List.{map-append}
 use Rattle.std.proofs.lemmas.List.Concat.{flat_map-cons}
 use Rattle.std.proofs.lemmas.List.Elements.{All-nil, All-cons, filter-append}
@@ -15,6 +14,9 @@ use Rattle.form_urlencoded.proofs.FormLemmas.{raw_pairs-nil}
 use Rattle.rdf_terms.specs.declared.slots.Slot.{Slot}
 use Rattle.rdf_terms.specs.declared.slots.Slot.TheVariants.{Any, Fixed}
 use Rattle.rdf_terms.specs.declared.slots.Slots.{Slots}
+use Rattle.rdf_terms.specs.Kept.{IsKeptSlot, AreKept}
+use Rattle.tpf_base.specs.Decimals.{decimal_text}
+use Rattle.tpf_base.proofs.DecimalTexts.{decimal_text-digits, decimal_text-some, decimal_text-value}
 use Rattle.tpf_base.specs.Addresses.{Address, IsAddress, IsPortTyped, is_path, is_path_byte, is_address_byte, query_text, target_of, address_text, authority_text}
 use Rattle.template_fill.specs.Explicit.{explicit_form, slot_of}
 use Rattle.template_fill.specs.ReadAddress.{when, ◌>>=◌, with_target}
@@ -22,11 +24,13 @@ use Rattle.template_fill.specs.Templates.{next_mark, pair_text}
 use Rattle.template_fill.specs.Values.{is_unreserved, encoded_byte, encoded_value}
 use Rattle.template_fill.specs.Pages.{slot_text, places_text, page_mark, page_pair, page_address}
 use Rattle.template_fill.specs.WebAddress.{IsNormal}
-use Rattle.template_fill.specs.Answers.{Question, form_text, parameters, values_under, one_value, accepted, slot_under, page_number, asked_by, question_of, IsBase, IsKeptSlot, AreKept, AsksFor, ReadsAddress}
-use Rattle.template_fill.proofs.Addresses.{and_left, and_right, is_host-lower, is_lower-lower, utf8-ascii, is_ascii-address, all_digits, normal_is_address, target-parts, not_empty}
+use Rattle.template_fill.specs.Metadata.{Config}
+use Rattle.template_fill.specs.Configurations.{IsConfig}
+use Rattle.template_fill.specs.Answers.{Question, form_text, parameters, values_under, one_value, accepted, slot_under, page_number, asked_by, question_of, AsksFor, ReadsAddress}
+use Rattle.template_fill.proofs.Addresses.{and_left, and_right, is_host-lower, is_lower-lower, utf8-ascii, is_ascii-address, normal_is_address, target-parts, not_empty}
 use Rattle.template_fill.proofs.PageTexts.{places-next, places-text, more-address}
 use Rattle.template_fill.proofs.Passing.{list_all-wider}
-use Rattle.template_fill.proofs.Quotes.{reads_back}
+use Rattle.template_fill.proofs.Quotes.{reads_back, forms_are_text}
 use Rattle.template_fill.proofs.Reading.{parts-target, one_address}
 use Rattle.template_fill.proofs.Values.{unreserved-address, digit-unreserved}
 use Rattle.template_fill.proofs.Written.{utf8_bytes, ampersand_apart, value_reads, marked, behind_mark, IsWhole, pairs_read}
@@ -44,7 +48,7 @@ place_read name (Fixed term) = (name, explicit_form term) ∷ []
 
 -- the pair of the number of a page above 1, which is read as it is written
 abbrev page_written : ℕ → List (List ℕ × List ℕ)
-page_written k = if k == 1 then [] else (codes "page", decimal k) ∷ []
+page_written k = if k == 1 then [] else (codes "page", decimal_text k) ∷ []
 
 abbrev written : Slots → ℕ → List (List ℕ × List ℕ)
 written slots k =
@@ -62,9 +66,9 @@ place_marked mark name Any later tail is = is
 place_marked mark name (Fixed term) later tail is = ap (λ (bytes : List ℕ). mark ∷ ((name ++ 61 ∷ encoded_value (explicit_form term)) ++ bytes)) is
 
 page_marked : (mark k : ℕ) → page_pair mark k ≡ marked mark (page_written k)
-page_marked mark k = elim (k == 1) as (λ v. cond v [] (mark ∷ (codes "page=" ++ decimal k)) ≡ marked mark (cond v [] ((codes "page", decimal k) ∷ []))) [
+page_marked mark k = elim (k == 1) as (λ v. cond v [] (mark ∷ (codes "page=" ++ decimal_text k)) ≡ marked mark (cond v [] ((codes "page", decimal_text k) ∷ []))) [
   | true ↦ refl
-  | false ↦ ap (λ (bytes : List ℕ). mark ∷ bytes) (sym (append-nil (codes "page=" ++ decimal k)))
+  | false ↦ ap (λ (bytes : List ℕ). mark ∷ bytes) (sym (append-nil (codes "page=" ++ decimal_text k)))
 ]
 
 -- what follows the base
@@ -120,18 +124,18 @@ both P (x ∷ xs) ys one other = (one.0, both P xs ys one.1 other)
 place_whole : (name : List ℕ) (slot : Slot) → list_all is_unreserved name ≡ true → IsKeptSlot slot → AllByRecursion IsWhole (place_written name slot)
 place_whole name Any own kept = tt
 place_whole name (Fixed term) own kept =
-    (record { name = unreserved_apart 38 name refl own; equals = unreserved_apart 61 name refl own; value = ampersand_apart (explicit_form term) (utf8_bytes (explicit_form term) kept.2) }, tt)
+    (record { name = unreserved_apart 38 name refl own; equals = unreserved_apart 61 name refl own; value = ampersand_apart (explicit_form term) (utf8_bytes (explicit_form term) (forms_are_text term kept.valid)) }, tt)
 
 digits_unreserved : (digits : List ℕ) → list_all is_ascii_digit digits ≡ true → list_all is_unreserved digits ≡ true
 digits_unreserved digits all = list_all-wider is_ascii_digit is_unreserved digit-unreserved digits all
 
-page_whole : (k : ℕ) → list_all is_ascii_digit (decimal k) ≡ true → AllByRecursion IsWhole (page_written k)
-page_whole k digits = elim (k == 1) as (λ v. AllByRecursion IsWhole (cond v [] ((codes "page", decimal k) ∷ []))) [
+page_whole : (k : ℕ) → list_all is_ascii_digit (decimal_text k) ≡ true → AllByRecursion IsWhole (page_written k)
+page_whole k digits = elim (k == 1) as (λ v. AllByRecursion IsWhole (cond v [] ((codes "page", decimal_text k) ∷ []))) [
   | true ↦ tt
-  | false ↦ (record { name = unreserved_apart 38 (codes "page") refl refl; equals = unreserved_apart 61 (codes "page") refl refl; value = unreserved_apart 38 (decimal k) refl (digits_unreserved (decimal k) digits) }, tt)
+  | false ↦ (record { name = unreserved_apart 38 (codes "page") refl refl; equals = unreserved_apart 61 (codes "page") refl refl; value = unreserved_apart 38 (decimal_text k) refl (digits_unreserved (decimal_text k) digits) }, tt)
 ]
 
-written_whole : (slots : Slots) (k : ℕ) → AreKept slots → list_all is_ascii_digit (decimal k) ≡ true → AllByRecursion IsWhole (written slots k)
+written_whole : (slots : Slots) (k : ℕ) → AreKept slots → list_all is_ascii_digit (decimal_text k) ≡ true → AllByRecursion IsWhole (written slots k)
 written_whole slots k kept digits =
     both IsWhole (place_written (codes "subject") slots.subject) (place_written (codes "predicate") slots.predicate ++ (place_written (codes "object") slots.object ++ page_written k)) (place_whole (codes "subject") slots.subject refl kept.subject)
     (both IsWhole (place_written (codes "predicate") slots.predicate) (place_written (codes "object") slots.object ++ page_written k) (place_whole (codes "predicate") slots.predicate refl kept.predicate)
@@ -147,18 +151,18 @@ pair_read p = (form_text p.0, form_text p.1)
 
 place_decoded : (name : List ℕ) (slot : Slot) → list_all is_unreserved name ≡ true → IsKeptSlot slot → map pair_read (place_written name slot) ≡ place_read name slot
 place_decoded name Any own kept = refl
-place_decoded name (Fixed term) own kept = λ i. (unreserved_reads name own i, value_reads (explicit_form term) kept.2 i) ∷ []
+place_decoded name (Fixed term) own kept = λ i. (unreserved_reads name own i, value_reads (explicit_form term) (forms_are_text term kept.valid) i) ∷ []
 
-page_decoded : (k : ℕ) → list_all is_ascii_digit (decimal k) ≡ true → map pair_read (page_written k) ≡ page_written k
-page_decoded k digits = elim (k == 1) as (λ v. map pair_read (cond v [] ((codes "page", decimal k) ∷ [])) ≡ cond v [] ((codes "page", decimal k) ∷ [])) [
+page_decoded : (k : ℕ) → list_all is_ascii_digit (decimal_text k) ≡ true → map pair_read (page_written k) ≡ page_written k
+page_decoded k digits = elim (k == 1) as (λ v. map pair_read (cond v [] ((codes "page", decimal_text k) ∷ [])) ≡ cond v [] ((codes "page", decimal_text k) ∷ [])) [
   | true ↦ refl
-  | false ↦ λ i. (unreserved_reads (codes "page") refl i, unreserved_reads (decimal k) (digits_unreserved (decimal k) digits) i) ∷ []
+  | false ↦ λ i. (unreserved_reads (codes "page") refl i, unreserved_reads (decimal_text k) (digits_unreserved (decimal_text k) digits) i) ∷ []
 ]
 
 front_decoded : (xs ys zs ws : List (List ℕ × List ℕ)) → map pair_read xs ≡ zs → map pair_read ys ≡ ws → map pair_read (xs ++ ys) ≡ zs ++ ws
 front_decoded xs ys zs ws front behind = map-append pair_read xs ys ∙ (λ i. front i ++ behind i)
 
-written_decoded : (slots : Slots) (k : ℕ) → AreKept slots → list_all is_ascii_digit (decimal k) ≡ true → map pair_read (written slots k) ≡ read slots k
+written_decoded : (slots : Slots) (k : ℕ) → AreKept slots → list_all is_ascii_digit (decimal_text k) ≡ true → map pair_read (written slots k) ≡ read slots k
 written_decoded slots k kept digits =
     front_decoded (place_written (codes "subject") slots.subject) _ (place_read (codes "subject") slots.subject) _ (place_decoded (codes "subject") slots.subject refl kept.subject)
     (front_decoded (place_written (codes "predicate") slots.predicate) _ (place_read (codes "predicate") slots.predicate) _ (place_decoded (codes "predicate") slots.predicate refl kept.predicate)
@@ -171,7 +175,7 @@ place_values Any = []
 place_values (Fixed term) = explicit_form term ∷ []
 
 abbrev page_values : ℕ → List (List ℕ)
-page_values k = if k == 1 then [] else decimal k ∷ []
+page_values k = if k == 1 then [] else decimal_text k ∷ []
 
 values_append : (name : List ℕ) (xs ys : List (List ℕ × List ℕ)) → values_under name (xs ++ ys) ≡ values_under name xs ++ values_under name ys
 values_append name xs ys =
@@ -184,13 +188,13 @@ values_place name own (Fixed term) true is = ap (λ (b : Bool). map (λ (p : Lis
 values_place name own (Fixed term) false is = ap (λ (b : Bool). map (λ (p : List ℕ × List ℕ). p.1) (cond b ((own, explicit_form term) ∷ []) [])) is
 
 values_page : (name : List ℕ) (k : ℕ) (v : Bool) → bytes_eq (codes "page") name ≡ v → values_under name (page_written k) ≡ (if v then page_values k else [])
-values_page name k true is = elim (k == 1) as (λ one. values_under name (cond one [] ((codes "page", decimal k) ∷ [])) ≡ cond one [] (decimal k ∷ [])) [
+values_page name k true is = elim (k == 1) as (λ one. values_under name (cond one [] ((codes "page", decimal_text k) ∷ [])) ≡ cond one [] (decimal_text k ∷ [])) [
   | true ↦ refl
-  | false ↦ ap (λ (b : Bool). map (λ (p : List ℕ × List ℕ). p.1) (cond b ((codes "page", decimal k) ∷ []) [])) is
+  | false ↦ ap (λ (b : Bool). map (λ (p : List ℕ × List ℕ). p.1) (cond b ((codes "page", decimal_text k) ∷ []) [])) is
 ]
-values_page name k false is = elim (k == 1) as (λ one. values_under name (cond one [] ((codes "page", decimal k) ∷ [])) ≡ []) [
+values_page name k false is = elim (k == 1) as (λ one. values_under name (cond one [] ((codes "page", decimal_text k) ∷ [])) ≡ []) [
   | true ↦ refl
-  | false ↦ ap (λ (b : Bool). map (λ (p : List ℕ × List ℕ). p.1) (cond b ((codes "page", decimal k) ∷ []) [])) is
+  | false ↦ ap (λ (b : Bool). map (λ (p : List ℕ × List ℕ). p.1) (cond b ((codes "page", decimal_text k) ∷ []) [])) is
 ]
 
 values_are : (name : List ℕ) (slots : Slots) (k : ℕ) (s p o g : Bool) → bytes_eq (codes "subject") name ≡ s → bytes_eq (codes "predicate") name ≡ p → bytes_eq (codes "object") name ≡ o → bytes_eq (codes "page") name ≡ g
@@ -203,7 +207,7 @@ values_are name slots k s p o g is_s is_p is_o is_g =
 
 one_slot : (slot : Slot) → IsKeptSlot slot → (one_value (place_values slot) >>= (λ value. accepted (slot_of value))) ≡ Some slot
 one_slot Any kept = refl
-one_slot (Fixed term) kept = ap accepted (reads_back term kept.0 kept.1)
+one_slot (Fixed term) kept = ap accepted (reads_back term kept)
 
 slot_read : (name : List ℕ) (slot : Slot) (pairs : List (List ℕ × List ℕ)) → values_under name pairs ≡ place_values slot → IsKeptSlot slot → slot_under name pairs ≡ Some slot
 slot_read name slot pairs is kept = ap (λ (values : List (List ℕ)). one_value values >>= (λ value. accepted (slot_of value))) is ∙ one_slot slot kept
@@ -221,15 +225,15 @@ number_read [] k all some is low = absurd (omega arith)
 number_read (b ∷ digits) k all some is low =
     passed (list_all is_ascii_digit (b ∷ digits)) (nat_le 1 (digits_value 10 (b ∷ digits))) (digits_value 10 (b ∷ digits)) all (ap (nat_le 1) is ∙ at_least k low) ∙ ap Some is
 
-one_page : (k : ℕ) → list_all is_ascii_digit (decimal k) ≡ true → 0 < length (decimal k) → digits_value 10 (decimal k) ≡ k → 1 ≤ k → (one_value (page_values k) >>= page_number) ≡ Some k
+one_page : (k : ℕ) → list_all is_ascii_digit (decimal_text k) ≡ true → 0 < length (decimal_text k) → digits_value 10 (decimal_text k) ≡ k → 1 ≤ k → (one_value (page_values k) >>= page_number) ≡ Some k
 one_page k all some is low = by (k == 1) refl
   where
     first : (k : ℕ) → (k == 1) ≡ true → 1 ≡ k
     first k is = grind (arith, nat_tests)
 
-    by : (v : Bool) → (k == 1) ≡ v → (one_value (if v then [] else decimal k ∷ []) >>= page_number) ≡ Some k
+    by : (v : Bool) → (k == 1) ≡ v → (one_value (if v then [] else decimal_text k ∷ []) >>= page_number) ≡ Some k
     by true one = ap Some (first k one)
-    by false other = number_read (decimal k) k all some is low
+    by false other = number_read (decimal_text k) k all some is low
 
 abbrev question_with : Slot → Slot → Slot → ℕ → Question
 question_with subject predicate object page = record { slots = record { subject = subject; predicate = predicate; object = object }; page = page }
@@ -242,7 +246,7 @@ asked pairs slots k s p o g = parts (slot_under (codes "subject") pairs) (slot_u
         → (a >>= (λ subject. b >>= (λ predicate. c >>= (λ object. d >>= (λ page. Some (question_with subject predicate object page)))))) ≡ Some (record { slots = slots; page = k })
     parts a b c d is_a is_b is_c is_d = rw (is_a, is_b, is_c, is_d) refl
 
-read_asks : (slots : Slots) (k : ℕ) → AreKept slots → list_all is_ascii_digit (decimal k) ≡ true → 0 < length (decimal k) → digits_value 10 (decimal k) ≡ k → 1 ≤ k → asked_by (read slots k) ≡ Some (record { slots = slots; page = k })
+read_asks : (slots : Slots) (k : ℕ) → AreKept slots → list_all is_ascii_digit (decimal_text k) ≡ true → 0 < length (decimal_text k) → digits_value 10 (decimal_text k) ≡ k → 1 ≤ k → asked_by (read slots k) ≡ Some (record { slots = slots; page = k })
 read_asks slots k kept all some is low =
     asked (read slots k) slots k
     (slot_read (codes "subject") slots.subject (read slots k) (values_are (codes "subject") slots k true false false false refl refl refl refl ∙ append-nil (place_values slots.subject)) kept.subject)
@@ -255,6 +259,12 @@ read_asks slots k kept all some is low =
 port_range : (typed : List ℕ) (port : ℕ) → IsPortTyped typed port → (0 < port) × (port < 65536)
 port_range typed port (inl is) = (omega (arith, is.1), omega (arith, is.1))
 port_range typed port (inr is) = (grind (arith, nat_tests), grind (arith, nat_tests))
+
+-- an address without a query
+record IsBase (base : Address) : Type 0 where
+  text : List ℕ
+  address : IsAddress text base
+  no_query : base.query ≡ None
 
 -- a path of an address, which is not empty
 record IsPath (path : List ℕ) : Type 0 where
@@ -300,7 +310,7 @@ base_text base more none =
     ∙ ap (λ (path : List ℕ). (codes "http://" ++ (authority_text base.host base.port ++ path)) ++ more) (append-nil base.path)
     ∙ ap (λ (rest : List ℕ). codes "http://" ++ rest) (append_assoc (authority_text base.host base.port) base.path more)
 
-page_target : (base : Address) (slots : Slots) (k : ℕ) (address : Address) → IsBase base → list_all is_ascii_digit (decimal k) ≡ true → IsAddress (page_address base slots k) address
+page_target : (base : Address) (slots : Slots) (k : ℕ) (address : Address) → IsBase base → list_all is_ascii_digit (decimal_text k) ≡ true → IsAddress (page_address base slots k) address
     → target_of address ≡ base.path ++ (places_text slots ++ page_pair (page_mark (places_text slots)) k)
 unfolding page_address
 page_target base slots k address is digits given =
@@ -315,7 +325,7 @@ marked_query : (pairs : List (List ℕ × List ℕ)) → marked 63 pairs ≡ que
 marked_query [] = refl
 marked_query (pair ∷ pairs) = refl
 
-target_asks : (base : Address) (slots : Slots) (k : ℕ) → IsBase base → AreKept slots → list_all is_ascii_digit (decimal k) ≡ true → 0 < length (decimal k) → digits_value 10 (decimal k) ≡ k → 1 ≤ k
+target_asks : (base : Address) (slots : Slots) (k : ℕ) → IsBase base → AreKept slots → list_all is_ascii_digit (decimal_text k) ≡ true → 0 < length (decimal_text k) → digits_value 10 (decimal_text k) ≡ k → 1 ≤ k
     → AsksFor base slots k (base.path ++ query_text (behind_mark (written slots k)))
 unfolding question_of parameters
 target_asks base slots k is kept digits some number low =
@@ -329,9 +339,13 @@ target_asks base slots k is kept digits some number low =
           ∙ read_asks slots k kept digits some number low;
     }
 
+is_base : (config : Config) → IsConfig config → IsBase config.base
+is_base config is = record { text = address_text config.base; address = is.base; no_query = is.no_query }
+
 pub reads_address_back : ReadsAddress
-reads_address_back base slots k address is kept low small given =
-    let numeral = decimal_is_IsNumeral_wide k small in
-    let digits = all_digits (decimal k) numeral.0.1 in
+reads_address_back config slots k address valid kept low given =
+    let base = config.base in
+    let is = is_base config valid in
+    let digits = decimal_text-digits k in
     let target = page_target base slots k address is digits given ∙ ap (λ (more : List ℕ). base.path ++ more) (more_marked slots k ∙ marked_query (written slots k)) in
-    subst (AsksFor base slots k) (sym target) (target_asks base slots k is kept digits numeral.0.0 numeral.1 low)
+    subst (AsksFor base slots k) (sym target) (target_asks base slots k is kept digits (decimal_text-some k) (decimal_text-value k) low)

@@ -1,7 +1,9 @@
 -- Explicit forms, and the slots that texts stand for.
-use Rattle.std.proofs.Common.{◌≡◌, ℕ, ◌+◌, ◌<◌, List, [], ◌∷◌, ◌++◌, Bool, true, false, not, ◌==◌, ◌&&◌, ◌||◌, Some, None, Option, Result, Ok, Err, length, take, get_or, refl, sym, ◌∙◌, ap, arith, add-one, lit<, Bor}
+use Rattle.std.proofs.Common.{◌≡◌, ℕ, ◌+◌, ◌<◌, ◌≤◌, List, [], ◌∷◌, ◌++◌, Bool, true, false, not, ◌==◌, ◌&&◌, ◌||◌, Some, None, Option, Result, Ok, Err, length, take, get_or, zero, suc, refl, sym, ◌∙◌, ap, arith, add-one, lit<, Bor, length-append}
 use Rattle.std.specs.Prelude.{IfErr, MatchOption}
 use Rattle.std.specs.List.{list_all}
+use Rattle.std.specs.Str.{IsUtf8, IsAscii}
+use Rattle.std.proofs.lemmas.Str.{IsUtf8-nil, IsUtf8-append, IsUtf8-from_ascii}
 use Rattle.std.proofs.lemmas.Bool.Decides.{nat_tests}
 use Rattle.std.proofs.lemmas.List.{take-append-drop}
 use Rattle.std.proofs.lemmas.Str.Pattern.{NoCharPasses-char, drop_at_char}
@@ -14,13 +16,17 @@ use Rattle.rdf_terms.specs.declared.term.Term.TheVariants.{Iri, Blank, Literal}
 use Rattle.rdf_terms.specs.declared.term.Kind.{Kind}
 use Rattle.rdf_terms.specs.declared.term.Kind.TheVariants.{Plain, Typed, Tagged}
 use Rattle.rdf_terms.specs.declared.slots.Slot.TheVariants.{Fixed}
+use Rattle.rdf_terms.specs.Canon.{canonical_term, kind_len}
+use Rattle.rdf_terms.specs.Sizes.{term_size, kind_size}
+use Rattle.rdf_terms.specs.Valid.{IsValidKind}
+use Rattle.rdf_terms.proofs.Lengths.{canonical_len_is}
 use Rattle.template_fill.specs.declared.fault.ValueFault.{ValueFault}
 use Rattle.template_fill.specs.declared.fault.ValueFault.TheVariants as faults
-use Rattle.template_fill.specs.Explicit.{Gives, IsValidKind, ReadsBack, suffix, cut_last, marked_literal, suffixed_literal, read_literal, read_iri, fixed, slot_of}
+use Rattle.template_fill.specs.Explicit.{Gives, ReadsBack, FormsAreText, FormsAreShort, suffix, explicit_form, cut_last, marked_literal, suffixed_literal, read_literal, read_iri, fixed, slot_of}
 use Rattle.template_fill.proofs.Passing.{list_all-get, list_all-wider}
-use Rattle.template_fill.proofs.Reading.{not-true}
 use Rattle.std.specs.Char.{to_ascii_lowercase}
-use Rattle.template_fill.proofs.Addresses.{and_left, and_right, and_both}
+use Rattle.std.proofs.lemmas.Bool.{and_from, not-true}
+use Rattle.template_fill.proofs.Addresses.{and_left, and_right}
 
 other : (b c : ℕ) → (b ≡ c → ⊥) → (b == c) ≡ false
 other b c h = grind (arith, nat_tests)
@@ -102,7 +108,7 @@ groups-bytes : (bytes : List ℕ) → list_all is_letter_or_digit (groups bytes)
 groups-bytes [] first more = refl
 groups-bytes (b ∷ bytes) first more =
     let parts = put-first (b == 45) b (groups bytes) first more (λ is. grind (arith, nat_tests)) in
-    and_both (is_tag_byte b) _ parts.0 (groups-bytes bytes parts.1 parts.2)
+    and_from (is_tag_byte b) _ parts.0 (groups-bytes bytes parts.1 parts.2)
 
 letters : (b : ℕ) → is_letter b ≡ true → is_letter_or_digit b ≡ true
 letters b h = or_left (is_letter b) _ h
@@ -142,7 +148,7 @@ lower-same (b ∷ tag) h =
 suffix-none : (kind : Kind) → IsValidKind kind → cut_last 34 (suffix kind) ≡ None
 suffix-none Plain h = refl
 suffix-none (Typed datatype) h =
-    let iri = and_left (is_iri datatype) _ (and_left (is_iri datatype && not (is_xsd_string datatype)) _ h) in
+    let iri = and_left (is_iri datatype) _ (and_left (is_iri datatype && not (is_xsd_string datatype)) _ h.0) in
     let bytes = no_quote-last is_iri_byte refl datatype (and_left (list_all is_iri_byte datatype) _ iri) in
     rw bytes refl
 suffix-none (Tagged tag) h = rw (no_quote-last is_tag_byte quote-tag tag (tag-bytes tag (tag-is tag h))) refl
@@ -150,10 +156,10 @@ suffix-none (Tagged tag) h = rw (no_quote-last is_tag_byte quote-tag tag (tag-by
 literal-back : (form : List ℕ) (kind : Kind) → IsValidKind kind → suffixed_literal form (suffix kind) ≡ Ok (Literal form kind)
 literal-back form Plain h = refl
 literal-back form (Typed datatype) h =
-    let both = and_left (is_iri datatype && not (is_xsd_string datatype)) _ h in
+    let both = and_left (is_iri datatype && not (is_xsd_string datatype)) _ h.0 in
     let iri = and_left (is_iri datatype) _ both in
     let plain = not-true (is_xsd_string datatype) (and_right (is_iri datatype) _ both) in
-    let lang = not-true (is_lang_string datatype) (and_right (is_iri datatype && not (is_xsd_string datatype)) _ h) in
+    let lang = not-true (is_lang_string datatype) (and_right (is_iri datatype && not (is_xsd_string datatype)) _ h.0) in
     rw (lang, iri, plain) refl
 literal-back form (Tagged tag) h = rw (tag-is tag h, lower-same tag (tag-lower tag h)) refl
 
@@ -175,6 +181,62 @@ read-back form kind h = rw (cut_last-at form (suffix kind) (suffix-none kind h))
 
 -- the slot of the explicit form of a term is that term fixed
 pub reads_back : ReadsBack
-reads_back (Iri text) free valid = iri-back text valid
-reads_back (Blank label) free valid = absurd free
-reads_back (Literal form kind) free valid = rw (read-back form kind valid) refl
+reads_back (Iri text) kept = iri-back text kept.valid.0
+reads_back (Blank label) kept = absurd kept.not_blank
+reads_back (Literal form kind) kept = rw (read-back form kind kept.valid.1) refl
+
+-- ---- explicit forms are UTF-8
+
+tag-byte-low : (b : ℕ) → is_tag_byte b ≡ true → b < 128
+unfolding is_tag_byte
+tag-byte-low b h = grind (arith, h)
+
+cons-text : (b : ℕ) (text : List ℕ) → b < 128 → IsUtf8 text → IsUtf8 (b ∷ text)
+cons-text b text h u = IsUtf8-append (b ∷ []) text (IsUtf8-from_ascii (b ∷ []) (one-ascii b h)) u
+  where
+    one-ascii : (b : ℕ) → b < 128 → IsAscii (b ∷ [])
+    one-ascii b h zero = h
+    one-ascii b h (suc i) = omega arith
+
+tag-text : (tag : List ℕ) → list_all is_tag_byte tag ≡ true → IsUtf8 tag
+tag-text [] h = IsUtf8-nil
+tag-text (b ∷ tag) h = cons-text b tag (tag-byte-low b (and_left (is_tag_byte b) _ h)) (tag-text tag (and_right (is_tag_byte b) _ h))
+
+suffix-text : (kind : Kind) → IsValidKind kind → IsUtf8 (suffix kind)
+suffix-text Plain h = IsUtf8-nil
+suffix-text (Typed datatype) h = cons-text 94 (94 ∷ datatype) (omega arith) (cons-text 94 datatype (omega arith) h.1)
+suffix-text (Tagged tag) h = cons-text 64 tag (omega arith) (tag-text tag (tag-bytes tag (tag-is tag h)))
+
+pub forms_are_text : FormsAreText
+forms_are_text (Iri text) valid = valid.1
+forms_are_text (Blank label) valid = IsUtf8-nil
+forms_are_text (Literal form kind) valid =
+    cons-text 34 (form ++ 34 ∷ suffix kind) (omega arith)
+    (IsUtf8-append form (34 ∷ suffix kind) valid.0 (cons-text 34 (suffix kind) (omega arith) (suffix-text kind valid.1)))
+
+-- ---- and short
+
+suffix-size : (kind : Kind) → length (suffix kind) ≤ kind_size kind + 2
+suffix-size Plain = omega arith
+suffix-size (Typed datatype) = omega arith
+suffix-size (Tagged tag) = omega arith
+
+suffix-len : (kind : Kind) → length (suffix kind) ≤ kind_len kind
+suffix-len Plain = omega arith
+suffix-len (Typed datatype) = omega arith
+suffix-len (Tagged tag) = omega arith
+
+texts-short : (term : Term) → length (explicit_form term) ≤ term_size term + 4
+texts-short (Iri text) = omega arith
+texts-short (Blank label) = omega arith
+texts-short (Literal form kind) = omega (arith, length-append form (34 ∷ suffix kind), suffix-size kind)
+
+canonical-short : (term : Term) → length (explicit_form term) ≤ length (canonical_term term)
+canonical-short (Iri text) = let e = canonical_len_is (Iri text) in omega (arith, e)
+canonical-short (Blank label) = omega arith
+canonical-short (Literal form kind) =
+    let e = canonical_len_is (Literal form kind) in
+    omega (arith, e, length-append form (34 ∷ suffix kind), suffix-len kind)
+
+pub forms_are_short : FormsAreShort
+forms_are_short = record { texts = texts-short; canonical = canonical-short }

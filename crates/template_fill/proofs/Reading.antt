@@ -10,9 +10,10 @@ use Rattle.std.proofs.lemmas.Fmt.{decimal_is_IsNumeral, first_decimal}
 use Rattle.std.proofs.Math.Seq.{drop-append_seam, take-append_seam}
 use Rattle.tpf_base.specs.Addresses.{Address, IsAddress, IsPortTyped, is_host_byte, is_host, is_address_byte, is_path_byte, is_path, is_query_part, is_port, query_text}
 use Rattle.template_fill.specs.ReadAddress.{Spells, ◌>>=◌, when, after_scheme, is_port_text, port_part, is_rest, rooted, path_of, query_of, Spelled, IsSpelled, read_spelled, normal, read_address}
-use Rattle.template_fill.proofs.Addresses.{and_left, and_right, and_both, target-parts, all_digits-decimal, all_host, is_path_byte-path, is_query_part-query, not_empty, four}
+use Rattle.template_fill.proofs.Addresses.{and_left, and_right, target-parts, all_digits-decimal, all_host, is_path_byte-path, is_query_part-query, not_empty, four}
 use Rattle.template_fill.specs.WebAddress.{IsNoAddress}
 use Rattle.std.specs.Option.{option_map}
+use Rattle.std.proofs.lemmas.Bool.{and_from, not-true}
 
 -- ---- parts of a do
 
@@ -23,10 +24,6 @@ when-inv false x y h = absurd (cc)
 pub bind-inv : {A B : Type 0} (o : Option A) (f : A → Option B) (y : B) → (o >>= f) ≡ Some y → (x : A) × (o ≡ Some x) × (f x ≡ Some y)
 bind-inv None f y h = absurd (cc)
 bind-inv (Some x) f y h = (x, refl, h)
-
-pub not-true : (b : Bool) → not b ≡ true → b ≡ false
-not-true true h = absurd (cc)
-not-true false h = refl
 
 -- ---- fronts
 
@@ -50,7 +47,7 @@ pub record IsTail (tail : List ℕ) : Type 0 where
 
 path_bytes : (path : List ℕ) → list_all is_path_byte path ≡ true → list_all is_address_byte path ≡ true
 path_bytes [] all = refl
-path_bytes (b ∷ path) all = and_both (is_address_byte b) _ (and_left (is_address_byte b) _ (and_left (is_path_byte b) _ all)) (path_bytes path (and_right (is_path_byte b) _ all))
+path_bytes (b ∷ path) all = and_from (is_address_byte b) _ (and_left (is_address_byte b) _ (and_left (is_path_byte b) _ all)) (path_bytes path (and_right (is_path_byte b) _ all))
 
 query_bytes : (query : Option (List ℕ)) → is_query_part query ≡ true → list_all is_address_byte (query_text query) ≡ true
 query_bytes None h = refl
@@ -79,7 +76,7 @@ parts-target (b ∷ path) query all =
 
 port_text_of : (digits : List ℕ) → 48 < get_or digits 0 0 → digits_value 10 digits < 65536 → is_port_text digits ≡ true
 port_text_of [] first small = absurd (omega arith)
-port_text_of (b ∷ digits) first small = and_both (not (b == 48)) _ (grind (arith, nat_tests)) (grind (arith, nat_tests))
+port_text_of (b ∷ digits) first small = and_from (not (b == 48)) _ (grind (arith, nat_tests)) (grind (arith, nat_tests))
 
 pub is_port_text-decimal : (port : ℕ) → is_port port ≡ true → is_port_text (decimal port) ≡ true
 is_port_text-decimal port h =
@@ -161,7 +158,7 @@ spells_is_address text s h spells =
 
 -- ---- completeness
 
-address-eq : (a : Address) (host : List ℕ) (port : ℕ) (path : List ℕ) (query : Option (List ℕ)) → host ≡ a.host → port ≡ a.port → path ≡ a.path → query ≡ a.query → record { host = host; port = port; path = path; query = query } ≡ a
+pub address-eq : (a : Address) (host : List ℕ) (port : ℕ) (path : List ℕ) (query : Option (List ℕ)) → host ≡ a.host → port ≡ a.port → path ≡ a.path → query ≡ a.query → record { host = host; port = port; path = path; query = query } ≡ a
 address-eq a host port path query eh ep ea eq = rw (eh, ep, ea, eq) refl
 
 pub record RootsPath (typed : List ℕ) (asked : Option (List ℕ)) : Type 0 where

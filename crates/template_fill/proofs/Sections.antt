@@ -4,15 +4,16 @@ use Rattle.std.specs.List.{list_all, slice_split, onto_first}
 use Rattle.std.specs.Option.{option_map}
 use Rattle.std.proofs.lemmas.List.Folds.{list_all-append}
 use Rattle.std.proofs.lemmas.Bool.Decides.{nat_tests}
-use Rattle.std.proofs.lemmas.Bool.{agree_below_at}
+use Rattle.std.proofs.lemmas.Bool.{agree_below_at, and_from}
 use Rattle.tpf_base.specs.Addresses.{is_address_byte}
 use Rattle.template_fill.specs.ReadAddress.{◌>>=◌}
 use Rattle.template_fill.specs.Templates.{before, after, sections_after, is_name_byte, is_word, is_name, names_of, Part, is_part, shape_of, part_of, parts_of}
 use Rattle.template_fill.specs.declared.part.Operator.{Operator}
 use Rattle.template_fill.proofs.Passing.{list_all-wider}
-use Rattle.template_fill.proofs.Addresses.{and_left, and_right, and_both, is_ascii-address}
+use Rattle.template_fill.proofs.Addresses.{and_left, and_right, is_ascii-address}
 use Rattle.template_fill.proofs.Reading.{when-inv}
 use Rattle.std.specs.Char.{is_ascii}
+use Rattle.list_laws.proofs.Tests.{implied}
 
 pub sections-cut : (x : ℕ) (bytes : List ℕ) → slice_split (λ b. b == x) bytes ≡ before x bytes ∷ sections_after x (after x bytes)
 sections-cut x [] = refl
@@ -48,12 +49,8 @@ all-stop p x bytes section is fails = rw (sections-cut x bytes, ← is, fails) r
 name_byte-below : (b : ℕ) → is_name_byte b ≡ true → b < 128
 name_byte-below b h = grind (arith, nat_tests)
 
-either : (a b : Bool) → not a || b ≡ true → a ≡ true → b ≡ true
-either true b h k = h
-either false b h k = absurd (cc)
-
 name_byte-address : (b : ℕ) → is_name_byte b ≡ true → is_address_byte b ≡ true
-name_byte-address b h = either (is_name_byte b) (is_address_byte b) (agree_below_at (λ x. not (is_name_byte x) || is_address_byte x) (λ _. true) 128 b refl (name_byte-below b h)) h
+name_byte-address b h = implied (is_name_byte b) (is_address_byte b) (agree_below_at (λ x. not (is_name_byte x) || is_address_byte x) (λ _. true) 128 b refl (name_byte-below b h)) h
 
 word_bytes : (word : List ℕ) → is_word word ≡ true → list_all is_name_byte word ≡ true
 word_bytes [] h = refl
@@ -63,7 +60,7 @@ onto-first : (p : ℕ → Bool) (b : ℕ) (sections : List (List ℕ)) → list_
 onto-first p b [] h = (and_left (p b) _ (and_left (p b && true) _ h), refl)
 onto-first p b (section ∷ sections) h =
     let own = and_left (p b && list_all p section) _ h in
-    (and_left (p b) _ own, and_both (list_all p section) _ (and_right (p b) _ own) (and_right (p b && list_all p section) _ h))
+    (and_left (p b) _ own, and_from (list_all p section) _ (and_right (p b) _ own) (and_right (p b && list_all p section) _ h))
 
 -- bytes of sections that pass, with the mark between them, pass
 joined : (p q : ℕ → Bool) (x : ℕ) → ((b : ℕ) → p b ≡ true → q b ≡ true) → q x ≡ true → (bytes : List ℕ) → list_all (list_all p) (slice_split (λ b. b == x) bytes) ≡ true → list_all q bytes ≡ true
@@ -71,8 +68,8 @@ joined p q x wider mark [] h = refl
 joined p q x wider mark (b ∷ bytes) h =
     let go : (t : Bool) → (b == x) ≡ t → list_all (list_all p) (cond t ([] ∷ slice_split (λ b. b == x) bytes) (onto_first b (slice_split (λ b. b == x) bytes))) ≡ true → q b && list_all q bytes ≡ true =
     λ t. elim t as (λ v. (b == x) ≡ v → list_all (list_all p) (cond v ([] ∷ slice_split (λ b. b == x) bytes) (onto_first b (slice_split (λ b. b == x) bytes))) ≡ true → q b && list_all q bytes ≡ true) [
-      | true ↦ λ yes all. let is : b ≡ x = grind (arith, nat_tests) in and_both (q b) _ (ap q is ∙ mark) (joined p q x wider mark bytes all)
-      | false ↦ λ no all. let parts = onto-first p b (slice_split (λ b. b == x) bytes) all in and_both (q b) _ (wider b parts.0) (joined p q x wider mark bytes parts.1)
+      | true ↦ λ yes all. let is : b ≡ x = grind (arith, nat_tests) in and_from (q b) _ (ap q is ∙ mark) (joined p q x wider mark bytes all)
+      | false ↦ λ no all. let parts = onto-first p b (slice_split (λ b. b == x) bytes) all in and_from (q b) _ (wider b parts.0) (joined p q x wider mark bytes parts.1)
     ] in
     go (b == x) refl h
 
@@ -138,7 +135,7 @@ unfolding part_of
 part-is bytes text literal kept names operator shape own same = rw (shape, own, same) refl
 
 pub part-kept : (text literal kept : List ℕ) (names : List (List ℕ)) → names_of text ≡ Some names → list_all is_address_byte literal ≡ true → kept ≡ literal → is_part names kept ≡ true
-part-kept text literal kept names own all same = rw same (and_both (list_all (list_all is_address_byte) names) _ (names_of-bytes text names own) all)
+part-kept text literal kept names own all same = rw same (and_from (list_all (list_all is_address_byte) names) _ (names_of-bytes text names own) all)
 
 pub literal_ascii : (literal : List ℕ) → list_all is_address_byte literal ≡ true → list_all is_ascii literal ≡ true
 literal_ascii literal all = list_all-wider is_address_byte is_ascii is_ascii-address literal all

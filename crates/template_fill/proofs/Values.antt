@@ -1,6 +1,6 @@
 -- Our words on values are those of percent_encoding at its set; and what they write is of an address.
 use Rattle.std.proofs.Common.{◌≡◌, ℕ, ◌<◌, ◌/◌, ◌%◌, List, [], ◌∷◌, ◌++◌, Bool, true, false, not, ◌||◌, cond, Some, None, Option, if◌then◌else◌, refl, arith}
-use Rattle.std.proofs.lemmas.Bool.{agree_below_at}
+use Rattle.std.proofs.lemmas.Bool.{agree_below_at, and_from}
 use Rattle.std.specs.List.{flat_map, list_all, All}
 use Rattle.std.proofs.lemmas.List.Concat.{flat_map-cons}
 use Rattle.std.proofs.lemmas.List.Elements.{All-head, All-tail}
@@ -13,11 +13,12 @@ use Rattle.template_fill.specs.Values.{is_unreserved, encoded_byte, encoded_valu
 use Rattle.std.specs.Fmt.{digit_glyph}
 use Rattle.std.specs.Char.{is_ascii_digit}
 use Rattle.std.proofs.lemmas.Bool.Decides.{nat_tests}
+use Rattle.list_laws.proofs.Tests.{implied}
 use Rattle.template_fill.specs.Templates.{is_part, value_of, first_mark, next_mark, pair_text, pairs_text}
 use Rattle.template_fill.specs.declared.part.Operator.{Operator}
 use Rattle.template_fill.specs.declared.part.Operator.TheVariants.{Query, Continuation}
 use Rattle.template_fill.specs.declared.value.Value.{Value}
-use Rattle.template_fill.proofs.Addresses.{and_left, and_right, and_both}
+use Rattle.template_fill.proofs.Addresses.{and_left, and_right}
 use Rattle.template_fill.specs.declared.value.TheConstants.{VALUE}
 
 same_test : (b : ℕ) → b < 256 → should_percent_encode VALUE b ≡ not (is_unreserved b)
@@ -35,10 +36,6 @@ same_text (b ∷ bytes) h = rw (flat_map-cons (encode_byte VALUE) b bytes, flat_
 
 -- ---- what is written is of an address
 
-either : (a b : Bool) → not a || b ≡ true → a ≡ true → b ≡ true
-either true b h k = h
-either false b h k = absurd (cc)
-
 unreserved-below : (b : ℕ) → is_unreserved b ≡ true → b < 128
 unreserved-below b h = grind (arith, nat_tests)
 
@@ -46,7 +43,7 @@ pub digit-unreserved : (b : ℕ) → is_ascii_digit b ≡ true → is_unreserved
 digit-unreserved b h = grind (arith, nat_tests)
 
 pub unreserved-address : (b : ℕ) → is_unreserved b ≡ true → is_address_byte b ≡ true
-unreserved-address b h = either (is_unreserved b) (is_address_byte b) (agree_below_at (λ x. not (is_unreserved x) || is_address_byte x) (λ _. true) 128 b refl (unreserved-below b h)) h
+unreserved-address b h = implied (is_unreserved b) (is_address_byte b) (agree_below_at (λ x. not (is_unreserved x) || is_address_byte x) (λ _. true) 128 b refl (unreserved-below b h)) h
 
 glyph-address : (d : ℕ) → d < 16 → is_address_byte (digit_glyph true d) ≡ true
 glyph-address d h = agree_below_at (λ x. is_address_byte (digit_glyph true x)) (λ _. true) 16 d refl h
@@ -57,8 +54,8 @@ byte-address b =
     let low = glyph-address (b % 16) (omega arith) in
     let go : (t : Bool) → is_unreserved b ≡ t → list_all is_address_byte (cond t (b ∷ []) (37 ∷ digit_glyph true (b / 16 % 16) ∷ digit_glyph true (b % 16) ∷ [])) ≡ true =
     λ t. elim t as (λ v. is_unreserved b ≡ v → list_all is_address_byte (cond v (b ∷ []) (37 ∷ digit_glyph true (b / 16 % 16) ∷ digit_glyph true (b % 16) ∷ [])) ≡ true) [
-      | true ↦ λ own. and_both (is_address_byte b) true (unreserved-address b own) refl
-      | false ↦ λ _. and_both (is_address_byte (digit_glyph true (b / 16 % 16))) _ high (and_both (is_address_byte (digit_glyph true (b % 16))) true low refl)
+      | true ↦ λ own. and_from (is_address_byte b) true (unreserved-address b own) refl
+      | false ↦ λ _. and_from (is_address_byte (digit_glyph true (b / 16 % 16))) _ high (and_from (is_address_byte (digit_glyph true (b % 16))) true low refl)
     ] in
     go (is_unreserved b) refl
 
@@ -70,7 +67,7 @@ value-address (b ∷ bytes) = rw (flat_map-cons encoded_byte b bytes, list_all-a
 pair-address : (mark : ℕ) (name : List ℕ) (value : Option (List ℕ)) → is_address_byte mark ≡ true → list_all is_address_byte name ≡ true → list_all is_address_byte (pair_text mark name value) ≡ true
 pair-address mark name None own all = refl
 pair-address mark name (Some text) own all =
-    and_both (is_address_byte mark) _ own (rw (list_all-append is_address_byte name (61 ∷ encoded_value text), all) (value-address text))
+    and_from (is_address_byte mark) _ own (rw (list_all-append is_address_byte name (61 ∷ encoded_value text), all) (value-address text))
 
 mark-address : (mark : ℕ) (value : Option (List ℕ)) → is_address_byte mark ≡ true → is_address_byte (next_mark mark value) ≡ true
 mark-address mark None own = own

@@ -2,7 +2,6 @@
 use Rattle.std.proofs.Common.{◌≡◌, ℕ, List, [], ◌∷◌, ◌++◌, true, false, Some, None, length, refl}
 use Rattle.std.specs.Prelude.{⊤, codes}
 use Rattle.form_urlencoded.proofs.OnLiterals.{form_urlencoded_on_literals}
-use Rattle.std.specs.Fmt.{digits}
 use Rattle.std.specs.Str.{is_utf8, chars}
 use Rattle.std.specs.Str.Lossy.{utf8_valid_len, utf8_lossy}
 use lib.Utf8.{encode}
@@ -17,7 +16,9 @@ use Rattle.template_fill.specs.Explicit.{read_literal}
 use Rattle.template_fill.specs.Metadata.{Config, foaf, void, hydra, rdf, integer, topic_quads, form_quads, mapping_quads, count_quads, link_quads, page_metadata}
 use Rattle.template_fill.specs.Pages.{page_address, places_text}
 use Rattle.template_fill.specs.Bodies.{page_body}
-use Rattle.template_fill.specs.Answers.{Served, parameters, question_of, phrase, refusal, answer_to, answer_fields, head_text, answer_text}
+use Rattle.tpf_base.specs.Decimals.{digits_up_to, decimal_text}
+use Rattle.tpf_base.specs.HttpAnswer.{phrase, answer_fields, head_text, answer_text}
+use Rattle.template_fill.specs.Answers.{Served, parameters, question_of, refusal, answer_to}
 use Rattle.template_fill.specs.Responses.{head_answer}
 
 -- what reading a target unfolds
@@ -27,12 +28,12 @@ targets = tt
 
 -- what writing an answer unfolds
 unfoldable answers : ⊤
-unfolding answer_to answer_text head_text answer_fields phrase digits
+unfolding answer_to answer_text head_text answer_fields phrase decimal_text digits_up_to
 answers = tt
 
 -- what the body of a page unfolds
 unfoldable bodies : ⊤
-unfolding page_body fragment page_metadata topic_quads form_quads mapping_quads count_quads link_quads foaf void hydra rdf integer page_address places_text xsd_string digits
+unfolding page_body fragment page_metadata topic_quads form_quads mapping_quads count_quads link_quads foaf void hydra rdf integer page_address places_text xsd_string decimal_text digits_up_to
 bodies = tt
 
 -- ---- what targets ask for

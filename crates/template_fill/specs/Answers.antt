@@ -1,22 +1,23 @@
 -- The answer to a request head (Triple Pattern Fragments, "Controls" and "Paging"; RFC 9110, 9.3, 15.3 and 15.5).
-use Rattle.std.specs.Prelude.{ℕ, ◌≡◌, ◌≤◌, ◌<◌, ◌^◌, Bool, true, ◌==◌, ◌&&◌, not, nat_le, List, [], ◌∷◌, ◌++◌, map, filter, length, codes, decimal, bytes_eq, Option, Some, None, unwrap_or, Result, Ok, Err, if◌then◌else◌}
+use Rattle.std.specs.Prelude.{ℕ, ◌≡◌, ◌≤◌, Bool, true, ◌&&◌, not, nat_le, List, [], ◌∷◌, ◌++◌, map, filter, codes, bytes_eq, Option, Some, None, unwrap_or, Result, Ok, Err, if◌then◌else◌}
 use Rattle.std.specs.List.{list_all}
 use Rattle.std.specs.Char.{is_ascii_digit}
-use Rattle.std.specs.Str.{IsUtf8}
 use Rattle.std.specs.Str.Parse.{digits_value}
 use Rattle.std.specs.Str.Lossy.{utf8_lossy}
 use Rattle.form_urlencoded.specs.Form.{raw_pairs, decode}
 use Rattle.tpf_base.specs.Addresses.{Address, IsAddress, target_of}
 use Rattle.tpf_base.specs.HttpHeads.{Request}
-use Rattle.tpf_base.specs.HttpText.{answer_head}
+use Rattle.tpf_base.specs.Decimals.{decimal_text}
+use Rattle.tpf_base.specs.HttpAnswer.{Answer, phrase}
 use Rattle.rdf_terms.specs.declared.term.Triple.{Triple}
 use Rattle.rdf_terms.specs.declared.slots.Slot.{Slot}
-use Rattle.rdf_terms.specs.declared.slots.Slot.TheVariants.{Any, Fixed}
 use Rattle.rdf_terms.specs.declared.slots.Slots.{Slots}
 use Rattle.rdf_terms.specs.Fragments.{last_page}
+use Rattle.rdf_terms.specs.Kept.{AreKept}
 use Rattle.template_fill.specs.ReadAddress.{path_of, query_of, when, ◌>>=◌}
-use Rattle.template_fill.specs.Explicit.{IsNoBlank, IsValid, explicit_form, slot_of}
+use Rattle.template_fill.specs.Explicit.{slot_of}
 use Rattle.template_fill.specs.Metadata.{Config}
+use Rattle.template_fill.specs.Configurations.{IsConfig}
 use Rattle.template_fill.specs.Pages.{page_address}
 use Rattle.template_fill.specs.Bodies.{version_of, page_body}
 use Rattle.template_fill.specs.declared.fault.ValueFault.{ValueFault}
@@ -75,24 +76,9 @@ question_of target = asked_by (parameters target)
 
 -- ---- answers
 
--- a status and a body
-pub record Answer : Type 0 where
-  pub status : ℕ
-  pub body : List ℕ
-
--- the phrase of each status that is answered (RFC 9110, 15; RFC 6585, 5)
-unfoldable pub phrase : ℕ → List ℕ
-phrase status =
-    if status == 200 then codes "OK"
-    else (if status == 400 then codes "Bad Request"
-    else (if status == 404 then codes "Not Found"
-    else (if status == 405 then codes "Method Not Allowed"
-    else (if status == 431 then codes "Request Header Fields Too Large"
-    else []))))
-
 -- the status, its phrase and LF as body
 abbrev pub refusal : ℕ → Answer
-refusal status = record { status = status; body = decimal status ++ 32 ∷ (phrase status ++ 10 ∷ []) }
+refusal status = record { status = status; body = decimal_text status ++ 32 ∷ (phrase status ++ 10 ∷ []) }
 
 -- how an answer stands: over the data of a version; a reload that failed, or that met want of memory
 pub data Mark : Type 0 where
@@ -128,57 +114,15 @@ answer_to history mark config request =
     else (if not (bytes_eq (path_of request.target) config.base.path) then refusal 404
     else answer_if history (version_at mark) config (question_of request.target))
 
--- ---- the bytes of an answer
-
--- N-Quads for a page, text for all else
-abbrev pub media_type : ℕ → List ℕ
-media_type status = if status == 200 then codes "application/n-quads" else codes "text/plain"
-
-abbrev pub field_if : Bool → List ℕ → List ℕ → List (List ℕ × List ℕ)
-field_if there name value = if there then (name, value) ∷ [] else []
-
--- the fields of an answer in their order (RFC 9110, 8.3, 8.6 and 10.2.1; RFC 9112, 9.6)
-unfoldable pub answer_fields : ℕ → ℕ → Bool → List (List ℕ × List ℕ)
-answer_fields status body_length closes =
-    (codes "Content-Type", media_type status)
-    ∷ (codes "Content-Length", decimal body_length)
-    ∷ field_if (status == 405) (codes "Allow") (codes "GET, HEAD")
-    ++ field_if closes (codes "Connection") (codes "close")
-
--- the head of an answer whose body has this length
-unfoldable pub head_text : ℕ → ℕ → Bool → List ℕ
-head_text status body_length closes = answer_head (decimal status) (phrase status) (answer_fields status body_length closes)
-
--- the head, and the body unless it was asked for without one
-unfoldable pub answer_text : Answer → Bool → Bool → List ℕ
-answer_text answer without_body closes =
-    head_text answer.status (length answer.body) closes ++ (if without_body then [] else answer.body)
-
 -- ---- the law
-
--- the base of a server: an address without a query
-pub record IsBase (base : Address) : Type 0 where
-  pub text : List ℕ
-  pub address : IsAddress text base
-  pub no_query : base.query ≡ None
-
--- a slot that is free, or fixed to an IRI or a literal as it is kept, whose explicit form is UTF-8
-abbrev pub IsKeptSlot : Slot → Type 0
-IsKeptSlot Any = Unit {0}
-IsKeptSlot (Fixed term) = IsNoBlank term × IsValid term × IsUtf8 (explicit_form term)
-
-pub record AreKept (slots : Slots) : Type 0 where
-  pub subject : IsKeptSlot slots.subject
-  pub predicate : IsKeptSlot slots.predicate
-  pub object : IsKeptSlot slots.object
 
 -- the target asks for this page of the fragment of these slots, on the path of the base
 pub record AsksFor (base : Address) (slots : Slots) (k : ℕ) (target : List ℕ) : Type 0 where
   pub path : path_of target ≡ base.path
   pub question : question_of target ≡ Some (record { slots = slots; page = k })
 
--- the address of a page asks for that page; `decimal` writes the numbers below 10 ^ 64
+-- the address of a page asks for that page
 abbrev pub ReadsAddress : Type 0
 ReadsAddress =
-    (base : Address) (slots : Slots) (k : ℕ) (address : Address) → IsBase base → AreKept slots → 1 ≤ k → k < 10 ^ 64
-    → IsAddress (page_address base slots k) address → AsksFor base slots k (target_of address)
+    (config : Config) (slots : Slots) (k : ℕ) (address : Address) → IsConfig config → AreKept slots → 1 ≤ k
+    → IsAddress (page_address config.base slots k) address → AsksFor config.base slots k (target_of address)

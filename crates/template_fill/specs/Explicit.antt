@@ -1,10 +1,15 @@
 -- The explicit form of a term, and the slot that a text stands for (Triple Pattern Fragments; Hydra, ExplicitRepresentation).
-use Rattle.std.specs.Prelude.{ℕ, ◌≡◌, true, ◌==◌, List, [], ◌∷◌, ◌++◌, Option, Some, None, Result, Ok, Err, if◌then◌else◌}
+use Rattle.std.specs.Prelude.{ℕ, ◌≡◌, ◌+◌, ◌≤◌, ◌==◌, List, [], ◌∷◌, ◌++◌, length, Option, Some, None, Result, Ok, Err, if◌then◌else◌}
 use Rattle.std.specs.Option.{option_map}
+use Rattle.std.specs.Str.{IsUtf8}
 use Rattle.rdf_terms.specs.Iri.{is_iri}
-use Rattle.rdf_terms.specs.Tag.{is_tag, is_lower_tag, lower}
+use Rattle.rdf_terms.specs.Tag.{is_tag, lower}
 use Rattle.rdf_terms.specs.Kinds.{typed_kind}
-use Rattle.rdf_terms.specs.Datatype.{is_datatype, is_lang_string}
+use Rattle.rdf_terms.specs.Datatype.{is_lang_string}
+use Rattle.rdf_terms.specs.Canon.{canonical_term}
+use Rattle.rdf_terms.specs.Sizes.{term_size}
+use Rattle.rdf_terms.specs.Valid.{IsValidTerm}
+use Rattle.rdf_terms.specs.Kept.{IsKeptTerm}
 use Rattle.rdf_terms.specs.declared.term.Term.{Term}
 use Rattle.rdf_terms.specs.declared.term.Term.TheVariants.{Iri, Blank, Literal}
 use Rattle.rdf_terms.specs.declared.term.Kind.{Kind}
@@ -25,23 +30,6 @@ abbrev pub explicit_form : Term → List ℕ
 explicit_form (Iri text) = text
 explicit_form (Blank label) = []
 explicit_form (Literal form kind) = 34 ∷ (form ++ 34 ∷ suffix kind)
-
--- what each IRI and each literal keeps
-abbrev pub IsValidKind : Kind → Type 0
-IsValidKind Plain = Unit {0}
-IsValidKind (Typed datatype) = is_datatype datatype ≡ true
-IsValidKind (Tagged tag) = is_lower_tag tag ≡ true
-
-abbrev pub IsValid : Term → Type 0
-IsValid (Iri text) = is_iri text ≡ true
-IsValid (Blank label) = Unit {0}
-IsValid (Literal form kind) = IsValidKind kind
-
--- no blank node
-abbrev pub IsNoBlank : Term → Type 0
-IsNoBlank (Iri text) = Unit {0}
-IsNoBlank (Blank label) = ⊥
-IsNoBlank (Literal form kind) = Unit {0}
 
 -- the first that there is
 abbrev pub first_of : {A : Type 0} → Option A → Option A → Option A
@@ -95,8 +83,17 @@ Gives (Ok x) wanted = wanted ≡ Ok x
 Gives (Err faults.OutOfMemory) wanted = Unit {0}
 Gives (Err fault) wanted = wanted ≡ Err fault
 
--- ---- the law
+-- ---- the laws
 
 -- the slot of the explicit form of a term is that term fixed, for an IRI and for a literal
 abbrev pub ReadsBack : Type 0
-ReadsBack = (term : Term) → IsNoBlank term → IsValid term → slot_of (explicit_form term) ≡ Ok (Fixed term)
+ReadsBack = (term : Term) → IsKeptTerm term → slot_of (explicit_form term) ≡ Ok (Fixed term)
+
+-- the explicit form of a valid term is UTF-8
+abbrev pub FormsAreText : Type 0
+FormsAreText = (term : Term) → IsValidTerm term → IsUtf8 (explicit_form term)
+
+-- the explicit form has at most four bytes more than the texts of the term, and no more than its canonical text
+pub record FormsAreShort : Type 0 where
+  pub texts : (term : Term) → length (explicit_form term) ≤ term_size term + 4
+  pub canonical : (term : Term) → length (explicit_form term) ≤ length (canonical_term term)

@@ -5,13 +5,14 @@ use Rattle.rdf_terms.specs.declared.slots.Slot.TheVariants.{Any, Fixed}
 use Rattle.rdf_terms.specs.declared.slots.Slots.{Slots}
 use Rattle.template_fill.specs.declared.value.Value.{Value}
 use Rattle.template_fill.specs.declared.form.Form.{Form}
-use Rattle.template_fill.specs.Explicit.{IsNoBlank, explicit_form}
+use Rattle.rdf_terms.specs.Valid.{IsNotBlank}
+use Rattle.template_fill.specs.Explicit.{explicit_form}
 use Rattle.template_fill.specs.Templates.{expansion}
 
 -- a slot that is free, or fixed to no blank node
 abbrev pub HasNoBlankSlot : Slot → Type 0
 HasNoBlankSlot Any = Unit {0}
-HasNoBlankSlot (Fixed term) = IsNoBlank term
+HasNoBlankSlot (Fixed term) = IsNotBlank term
 
 pub record HasNoBlank (slots : Slots) : Type 0 where
   pub subject : HasNoBlankSlot slots.subject

@@ -10,3 +10,6 @@ pub mod Metadata
 pub mod Bodies
 pub mod Answers
 pub mod Responses
+pub mod Authorities
+pub mod Configurations
+pub mod Answered

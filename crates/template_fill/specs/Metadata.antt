@@ -1,5 +1,5 @@
 -- The metadata of a page (Triple Pattern Fragments, "Metadata" and "Controls"; Hydra core vocabulary; VoID): quads of one graph.
-use Rattle.std.specs.Prelude.{ℕ, ◌+◌, ◌-◌, Bool, ◌&&◌, nat_lt, nat_le, is_none, List, [], ◌∷◌, ◌++◌, codes, decimal, Some, if◌then◌else◌}
+use Rattle.std.specs.Prelude.{ℕ, ◌+◌, ◌-◌, Bool, ◌&&◌, nat_lt, nat_le, is_none, List, [], ◌∷◌, ◌++◌, codes, Some, if◌then◌else◌}
 use Rattle.rdf_terms.specs.Fragments.{last_page_of}
 use Rattle.rdf_terms.specs.Kinds.{typed_kind}
 use Rattle.rdf_terms.specs.declared.term.Term.{Term}
@@ -8,6 +8,7 @@ use Rattle.rdf_terms.specs.declared.term.Kind.TheVariants.{Plain}
 use Rattle.rdf_terms.specs.declared.term.Quad.{Quad}
 use Rattle.rdf_terms.specs.declared.slots.Slots.{Slots}
 use Rattle.tpf_base.specs.Addresses.{Address, address_text}
+use Rattle.tpf_base.specs.Decimals.{decimal_text}
 use Rattle.template_fill.specs.Pages.{page_address, template_text}
 
 -- where the fragments of a server stand, and the triples of a page
@@ -38,7 +39,7 @@ plain form = Literal form Plain
 
 -- a number as xsd:integer
 unfoldable pub integer : ℕ → Term
-integer n = Literal (decimal n) (typed_kind (codes "http://www.w3.org/2001/XMLSchema#integer"))
+integer n = Literal (decimal_text n) (typed_kind (codes "http://www.w3.org/2001/XMLSchema#integer"))
 
 abbrev pub statement : List ℕ → Term → Term → Term → Quad
 statement graph subject predicate object = record { triple = record { subject = subject; predicate = predicate; object = object }; graph = Some (Iri graph) }

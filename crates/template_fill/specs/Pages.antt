@@ -1,10 +1,11 @@
 -- The addresses of a fragment's pages (Triple Pattern Fragments, "Pages"; RFC 6570).
-use Rattle.std.specs.Prelude.{ℕ, ◌≡◌, ◌==◌, List, Option, Some, None, [], ◌∷◌, ◌++◌, codes, decimal, if◌then◌else◌}
+use Rattle.std.specs.Prelude.{ℕ, ◌≡◌, ◌==◌, List, Option, Some, None, [], ◌∷◌, ◌++◌, codes, if◌then◌else◌}
 use Rattle.rdf_terms.specs.declared.slots.Slots.{Slots}
 use Rattle.rdf_terms.specs.declared.slots.Slot.{Slot}
 use Rattle.rdf_terms.specs.declared.slots.Slot.TheVariants.{Any, Fixed}
 use Rattle.template_fill.specs.Explicit.{explicit_form}
 use Rattle.tpf_base.specs.Addresses.{Address, address_text}
+use Rattle.tpf_base.specs.Decimals.{decimal_text}
 use Rattle.template_fill.specs.Templates.{Template, pairs_text, expansion}
 use Rattle.template_fill.specs.declared.part.Operator.TheVariants.{Query}
 use Rattle.template_fill.specs.Forms.{filled}
@@ -36,7 +37,7 @@ page_mark (b ∷ written) = 38
 
 -- the number of a page above 1
 abbrev pub page_pair : ℕ → ℕ → List ℕ
-page_pair mark k = if k == 1 then [] else mark ∷ (codes "page=" ++ decimal k)
+page_pair mark k = if k == 1 then [] else mark ∷ (codes "page=" ++ decimal_text k)
 
 -- page k of the fragment of these slots: the template's expansion with the fixed places, and the page above 1
 unfoldable pub page_address : Address → Slots → ℕ → List ℕ

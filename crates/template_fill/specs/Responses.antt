@@ -1,44 +1,12 @@
 -- The response to the bytes of a connection (RFC 9112, 9.3): the answers to the heads in their order, up to the first that closes.
-use Rattle.std.specs.Prelude.{ℕ, ◌≡◌, ◌≤◌, ◌↔◌, zero, suc, Bool, true, false, List, [], ◌∷◌, ◌++◌, map, length, drop, codes, bytes_eq, if◌then◌else◌}
+use Rattle.std.specs.Prelude.{ℕ, ◌≡◌, ◌≤◌, ◌↔◌, Bool, true, false, List, [], ◌∷◌, ◌++◌, map, length, codes, bytes_eq, if◌then◌else◌}
 use Rattle.std.specs.List.{AllByRecursion}
-use Rattle.tpf_base.specs.HttpHeads.{Verdict, Accepted, Rejected, NextRequest, Incomplete, Taken, Refused, next_request}
+use Rattle.tpf_base.specs.HttpHeads.{Verdict, Accepted, Rejected}
+use Rattle.tpf_base.specs.HttpConnection.{heads_of, closes, unread_of}
+use Rattle.tpf_base.specs.HttpAnswer.{answer_text}
 use Rattle.rdf_terms.specs.declared.term.Triple.{Triple}
 use Rattle.template_fill.specs.Metadata.{Config}
-use Rattle.template_fill.specs.Answers.{Mark, Served, Failed, Starved, version_at, answer_to, refusal, answer_text}
-
--- ---- the heads that are answered
-
--- the heads at the front of bytes up to the first that closes, what stands after them, and whether one closes
-pub record Heads : Type 0 where
-  pub heads : List Verdict
-  pub unread : List ℕ
-  pub closed : Bool
-
-abbrev pub with_head : Verdict → Heads → Heads
-with_head head more = record { heads = head ∷ more.heads; unread = more.unread; closed = more.closed }
-
--- the last head of a connection; what follows it is not read
-abbrev pub last_head : Verdict → Heads
-last_head head = record { heads = head ∷ []; unread = []; closed = true }
-
-abbrev pub heads_from : List ℕ → NextRequest → Heads → Heads
-heads_from bytes Incomplete more = record { heads = []; unread = bytes; closed = false }
-heads_from bytes (Refused status) more = last_head (Rejected status)
-heads_from bytes (Taken request n) more = if request.closes then last_head (Accepted request) else with_head (Accepted request) more
-
-abbrev pub after_taken : List ℕ → NextRequest → List ℕ
-after_taken bytes Incomplete = bytes
-after_taken bytes (Refused status) = []
-after_taken bytes (Taken request n) = drop n bytes
-
--- the first heads, at most so many
-unfoldable pub heads_up_to : ℕ → List ℕ → Heads
-heads_up_to zero bytes = record { heads = []; unread = bytes; closed = false }
-heads_up_to (suc most) bytes = heads_from bytes (next_request bytes) (heads_up_to most (after_taken bytes (next_request bytes)))
-
--- all of them: a head has at least one byte
-abbrev pub heads_of : List ℕ → Heads
-heads_of bytes = heads_up_to (length bytes) bytes
+use Rattle.template_fill.specs.Answers.{Mark, Served, Failed, Starved, version_at, answer_to, refusal}
 
 -- ---- the response
 
@@ -55,14 +23,6 @@ answers history config (head ∷ heads) (mark ∷ marks) = head_answer history c
 -- the answers to the heads at the front of the bytes, one mark for each
 unfoldable pub response : List (List Triple) → Config → List ℕ → List Mark → List ℕ
 response history config bytes marks = answers history config (heads_of bytes).heads marks
-
--- an answer that closes is among them
-unfoldable pub closes : List ℕ → Bool
-closes bytes = (heads_of bytes).closed
-
--- the bytes after the heads that are answered, of which no head is made yet
-unfoldable pub unread_of : List ℕ → List ℕ
-unread_of bytes = (heads_of bytes).unread
 
 -- ---- marks
 
@@ -101,14 +61,6 @@ IsHonest allows history config =
     → (marks : List Mark) × (IsMarked history sent marks × (owed ≡ response history config sent marks))
 
 -- ---- the laws
-
--- the heads of bytes are the next, and then those of what follows it
-abbrev pub HeadsAreRead : Type 0
-HeadsAreRead = (bytes : List ℕ) → heads_of bytes ≡ heads_from bytes (next_request bytes) (heads_of (after_taken bytes (next_request bytes)))
-
--- what is not read holds no whole head, unless the heads close
-abbrev pub AllHeadsAreRead : Type 0
-AllHeadsAreRead = (bytes : List ℕ) → closes bytes ≡ false → next_request (unread_of bytes) ≡ Incomplete
 
 -- The response to a longer list is that to the shorter, and then, unless that closes, the response to what was not read and the rest.
 pub record GoesOn (history : List (List Triple)) (config : Config) (bytes more : List ℕ) : Type 0 where

@@ -8,6 +8,7 @@ ghost use Rattle.tpf_base.specs.Addresses.{Address, IsAddress, is_host_byte, aut
 ghost use Rattle.template_fill.specs.ReadAddress.{IsSpelled, is_rest, rooted, normal};
 ghost use Rattle.template_fill.specs.Spelled.{spelled_of};
 ghost use Rattle.template_fill.specs.WebAddress.{Extends, OneAddress, port_text, IsNoAddress};
+ghost use Rattle.template_fill.specs.Authorities.{ShareAuthority, TextsAreAddresses, AuthoritiesAreHostsAndPorts, TemplatesAreKept, ServerTemplatesAreKept, ExpansionsAreAddresses, ExpansionsShareAuthority, PagesAreAddresses, PagesShareAuthority};
 
 use crate::AddressFault;
 use crate::spelled::{SpelledAddress, read_spelled};
@@ -135,7 +136,8 @@ impl WebAddress {
     /// The address whose text is that of this one and more of a target after it.
     pub(crate) fn extended(&self, text: String) -> WebAddress
         requires { Extends self.now (string_bytes text) }
-        ensures { IsAddress (string_bytes text) result }
+        ensures address { IsAddress (string_bytes text) result }
+        ensures authority { ShareAuthority self.now result }
     {
         WebAddress {
             text,
@@ -143,6 +145,13 @@ impl WebAddress {
             authority_len: self.authority_len,
             port: self.port,
         }
+    }
+
+    /// An address is that of its own text. The call does nothing; it tells a proof of it.
+    pub fn is_valid(&self)
+        ensures { IsAddress (address_text self.now) self.now }
+    {
+        let _text = self.text();
     }
 
     /// The whole text, in the normal form.
@@ -214,7 +223,28 @@ impl WebAddress {
     }
 }
 
-/// A text is one address at most.
+/// A text is one address at most, and each address is that of its own text.
 pub fn an_address_is_one()
-    ensures { OneAddress }
+    ensures one { OneAddress }
+    ensures own { TextsAreAddresses }
+{}
+
+/// Addresses have one authority exactly where they have one host and one port (RFC 3986, section 3.2).
+pub fn authorities_are_hosts_and_ports()
+    ensures { AuthoritiesAreHostsAndPorts }
+{}
+
+/// The address before the first expression of a template has its path written, so with any values the
+/// template expands to an address, which has the authority of this start (RFC 6570, section 3).
+pub fn expansions_share_authority()
+    ensures kept { TemplatesAreKept }
+    ensures server { ServerTemplatesAreKept }
+    ensures addresses { ExpansionsAreAddresses }
+    ensures authority { ExpansionsShareAuthority }
+{}
+
+/// Each page has an address, which has the authority of the base.
+pub fn pages_share_authority()
+    ensures addresses { PagesAreAddresses }
+    ensures authority { PagesShareAuthority }
 {}

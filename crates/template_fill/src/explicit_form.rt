@@ -1,7 +1,8 @@
 // Explicit forms of terms, and the slots that texts stand for.
 ghost use Rattle.std.specs.Prelude.{◌≡◌, ◌∷◌, ◌++◌, IfOk, IfErr};
 ghost use Rattle.std.specs.String.{string_bytes};
-ghost use Rattle.template_fill.specs.Explicit.{Gives, IsNoBlank, ReadsBack, fixed, explicit_form, suffix, slot_of, read_iri, read_literal, suffixed_literal, tagged_literal, typed_literal, marked_literal};
+ghost use Rattle.rdf_terms.specs.Valid.{IsNotBlank};
+ghost use Rattle.template_fill.specs.Explicit.{Gives, ReadsBack, FormsAreText, FormsAreShort, fixed, explicit_form, suffix, slot_of, read_iri, read_literal, suffixed_literal, tagged_literal, typed_literal, marked_literal};
 
 use crate::ValueFault;
 use rdf_terms::{Kind, Slot, Term, TermFault};
@@ -13,7 +14,7 @@ use tpf_base::{OutOfMemory, Text};
 /// (Triple Pattern Fragments, controls: hydra:ExplicitRepresentation). Condition: it is no blank
 /// node, which has none. It fails for want of memory alone.
 pub fn explicit(alloc: Global, term: &Term) -> Result<Text, OutOfMemory>
-    requires { IsNoBlank term.now }
+    requires { IsNotBlank term.now }
     ensures { IfOk result (λ text. text ≡ explicit_form term.now) }
 {
     match term {
@@ -148,4 +149,15 @@ pub fn read_explicit(alloc: Global, text: &str) -> Result<Slot, ValueFault>
 /// The slot of the explicit form of an IRI or a literal is that term, fixed.
 pub fn explicit_forms_read_back()
     ensures { ReadsBack }
+{}
+
+/// The explicit form of a valid term is text, so it can be written into an address.
+pub fn explicit_forms_are_text()
+    ensures { FormsAreText }
+{}
+
+/// The explicit form of a term has at most four bytes more than the IRI, or than the form with its datatype or tag; and
+/// no more than the canonical text.
+pub fn explicit_forms_are_short()
+    ensures { FormsAreShort }
 {}

@@ -1,6 +1,7 @@
 // Forms: templates with the names of the three places.
 ghost use Rattle.std.specs.Prelude.{◌≡◌, ◌++◌, IfOk, OnOk};
 ghost use Rattle.tpf_base.specs.Addresses.{IsAddress};
+ghost use Rattle.template_fill.specs.Authorities.{ShareAuthority};
 ghost use Rattle.template_fill.specs.Forms.{HasNoBlank, HasNoBlankSlot, place_value, form_text};
 
 use crate::explicit_form::explicit;
@@ -45,11 +46,13 @@ fn push_place(
 
 impl Form {
     /// The address of the first page of the fragment with these slots: the template with the
-    /// explicit forms of the fixed places. A place whose name the template has not is left out.
+    /// explicit forms of the fixed places. A place whose name the template has not is left out. The
+    /// authority is that of the template's start.
     /// Condition: no fixed place is a blank node. It fails for want of memory alone.
     pub fn address(&self, alloc: Global, slots: &Slots) -> Result<WebAddress, OutOfMemory>
         requires { HasNoBlank slots.now }
-        ensures { IfOk result (λ address. IsAddress (form_text self.now slots.now) address) }
+        ensures address { IfOk result (λ address. IsAddress (form_text self.now slots.now) address) }
+        ensures authority { IfOk result (λ address. ShareAuthority self.now.template.start address) }
     {
         let mut values = Vec::new(alloc);
         push_place(alloc, &mut values, &self.subject, &slots.subject)?;

@@ -5,19 +5,24 @@ mod address;
 mod explicit_form;
 mod fault;
 mod form;
+mod history;
 mod page;
 mod part;
 mod spelled;
 mod template;
 mod value;
 
-pub use address::{WebAddress, an_address_is_one};
-pub use explicit_form::{explicit, explicit_forms_read_back, read_explicit};
+pub use address::{
+    WebAddress, an_address_is_one, authorities_are_hosts_and_ports, expansions_share_authority,
+    pages_share_authority,
+};
+pub use explicit_form::{
+    explicit, explicit_forms_are_short, explicit_forms_are_text, explicit_forms_read_back,
+    read_explicit,
+};
 pub use fault::{AddressFault, TemplateFault, ValueFault};
 pub use form::Form;
-pub use page::{address_reads_back, first_page_is_expansion, page_address};
+pub use history::versions_are_valid;
+pub use page::{address_reads_back, first_page_is_expansion, page_address, pages_are_answered};
 pub use template::Template;
 pub use value::Value;
-
-#[cfg(test)]
-mod tests;

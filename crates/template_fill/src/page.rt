@@ -5,6 +5,8 @@ ghost use Rattle.tpf_base.specs.Addresses.{IsAddress};
 ghost use Rattle.template_fill.specs.Forms.{HasNoBlank, HasNoBlankSlot};
 ghost use Rattle.template_fill.specs.Templates.{next_mark, pair_text};
 ghost use Rattle.template_fill.specs.Answers.{ReadsAddress};
+ghost use Rattle.template_fill.specs.Answered.{PagesAreGiven, AnsweredGivePages, OnePageIsAsked};
+ghost use Rattle.template_fill.specs.Authorities.{ShareAuthority};
 ghost use Rattle.template_fill.specs.Pages.{FirstPageIsExpansion, page_address, page_mark, page_pair, places_text, slot_text};
 
 use crate::WebAddress;
@@ -66,8 +68,8 @@ fn push_page(alloc: Global, out: &mut String, mark: char, page: u64) -> Result<(
 
 /// The address of a page of the fragment with these slots (Triple Pattern Fragments, paging): the
 /// expansion of the template `{?subject,predicate,object}` after the base with the explicit forms of
-/// the fixed places, and for every page but 1 `page=` with the number. Pages count from 1. Condition:
-/// no fixed place is a blank node. It fails for want of memory alone.
+/// the fixed places, and for every page but 1 `page=` with the number. The authority is that of the
+/// base. Pages count from 1. Condition: no fixed place is a blank node. It fails for want of memory alone.
 pub fn page_address(
     alloc: Global,
     base: &WebAddress,
@@ -75,7 +77,8 @@ pub fn page_address(
     page: u64,
 ) -> Result<WebAddress, OutOfMemory>
     requires { HasNoBlank slots.now }
-    ensures { IfOk result (λ address. IsAddress (page_address base.now slots.now page) address) }
+    ensures address { IfOk result (λ address. IsAddress (page_address base.now slots.now page) address) }
+    ensures authority { IfOk result (λ address. ShareAuthority base.now address) }
 {
     let mut text = String::from_str(alloc, base.text())?;
     let mark = push_places(alloc, &mut text, slots)?;
@@ -92,4 +95,13 @@ pub fn first_page_is_expansion()
 /// number of that page, where no slot has a blank node.
 pub fn address_reads_back()
     ensures { ReadsAddress }
+{}
+
+/// The address of each page that a fragment has gives that page: its request is answered with the
+/// status 200 and the page's body. An address that is answered so gives a page, and a target asks for
+/// one page alone.
+pub fn pages_are_answered()
+    ensures given { PagesAreGiven }
+    ensures answered { AnsweredGivePages }
+    ensures one { OnePageIsAsked }
 {}

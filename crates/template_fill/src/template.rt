@@ -4,6 +4,7 @@ ghost use Rattle.std.specs.List.{list_any};
 ghost use Rattle.std.specs.Option.{option_copied};
 ghost use Rattle.tpf_base.specs.Addresses.{IsAddress};
 ghost use Rattle.template_fill.specs.ReadAddress.{IsSpelled};
+ghost use Rattle.template_fill.specs.Authorities.{ShareAuthority};
 ghost use Rattle.template_fill.specs.Spelled.{spelled_of};
 ghost use Rattle.template_fill.specs.Templates.{sections_after, parts_of, start_of, read_template, expansion, has_name};
 
@@ -83,6 +84,14 @@ impl Template {
         Ok(Template { start, parts })
     }
 
+    /// The address before the first expression, whose authority each address has that the template
+    /// expands to.
+    pub fn start(&self) -> &WebAddress
+        ensures { result.now ≡ self.now.start }
+    {
+        &self.start
+    }
+
     /// Whether an expression has this name.
     pub fn names(&self, name: &str) -> bool
         ensures { result ≡ has_name self.now name.now }
@@ -96,11 +105,12 @@ impl Template {
     }
 
     /// The address that the template is with these values (RFC 6570, section 3.2.1). A name
-    /// without a value is left out; of several values with one name the first counts. It fails for
-    /// want of memory alone.
+    /// without a value is left out; of several values with one name the first counts. The authority
+    /// is that of the start. It fails for want of memory alone.
     #[tactic(auto, unfolding(crate::specs::Templates::expansion))]
     pub fn expand(&self, alloc: Global, values: &[Value]) -> Result<WebAddress, OutOfMemory>
-        ensures { IfOk result (λ address. IsAddress (expansion self.now values.now) address) }
+        ensures address { IfOk result (λ address. IsAddress (expansion self.now values.now) address) }
+        ensures authority { IfOk result (λ address. ShareAuthority self.now.start address) }
     {
         let mut text = String::from_str(alloc, self.start.text())?;
         for part in &self.parts {

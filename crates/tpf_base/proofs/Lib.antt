@@ -4,3 +4,4 @@ pub mod Rooms
 pub mod AddressRows
 pub mod HttpReaderLemmas
 pub mod HttpRows
+pub mod DecimalTexts

@@ -1,72 +1,120 @@
--- What a wire tells of its links, and what a call does to one of them.
-use Rattle.std.specs.Prelude.{ℕ, ◌≡◌, ◌≢◌, ◌+◌, ◌<◌, ◌≤◌, ◌==◌, List, [], ◌++◌, length, take, Option, Some, None, Bool, true, false, if◌then◌else◌}
-use Rattle.std.specs.Io.KnownBytes.{Appends}
-use Rattle.tpf_base.specs.Causes.{Rose}
-use Rattle.tpf_base.specs.declared.wire.Moved.{Moved}
-use Rattle.tpf_base.specs.declared.wire.Moved.TheVariants as answers
-use Rattle.tpf_base.specs.declared.wire.Ready.{Ready}
-use Rattle.tpf_base.specs.declared.wire.Ready.TheVariants as ready
+-- What a wire holds: its links, its counts, and what it is from its making.
+use Rattle.std.specs.Prelude.{ℕ, ◌≡◌, ◌≤◌, ◌<◌, ◌↔◌, List, ◌++◌, length, Option, Some, None, Bool, true, false, nat_lt}
 
--- One link. Where the wire tells them: the bytes sent, the bytes received, and the bytes that the other end gives to what was sent so far. How often a call on it stalled, and whether it was given and not closed.
+-- what a call on a link does with bytes
+pub data Way : Type 0 where
+  Sending Receiving : Way
+
+-- how much a wire tells of each link: no bytes; those sent and received; or also those that the other end owes
+pub data Tells : Type 0 where
+  CountsAlone SentAndReceived All : Tells
+
+-- One link. Bytes, peer and end stand where the wire tells them.
 pub record Link : Type 0 where
+  -- the host and the port for which it was dialled; none of a link that came to the door
+  pub peer : Option (List ℕ × ℕ)
+  -- the bytes sent, the bytes received, and the bytes that the other end gives to what was sent so far
   pub sent : Option (List ℕ)
   pub received : Option (List ℕ)
   pub owed : Option (List ℕ)
+  -- how often a call on it stalled; which way its last call was, where that stalled; and whether a wait answered the link since
   pub stalls : ℕ
+  pub stalled : Option Way
+  pub woken : Bool
+  -- whether a receive answered the end
+  pub ended : Option Bool
+  -- given and not closed
   pub is_open : Bool
+
+-- what a wire says of a fact that a wire of counts alone does not tell
+abbrev pub told_by : {A : Type 0} → Tells → A → Option A
+told_by CountsAlone fact = None
+told_by SentAndReceived fact = Some fact
+told_by All fact = Some fact
+
+-- nothing but counts is told of the link
+pub record TellsCounts (link : Link) : Type 0 where
+  pub peer : link.peer ≡ None
+  pub sent : link.sent ≡ None
+  pub received : link.received ≡ None
+  pub owed : link.owed ≡ None
+  pub ended : link.ended ≡ None
+
+-- the bytes of the link and its end are told
+pub record TellsBytes (link : Link) : Type 0 where
+  pub sent : List ℕ
+  pub received : List ℕ
+  pub ended : Bool
+  pub is_sent : link.sent ≡ Some sent
+  pub is_received : link.received ≡ Some received
+  pub is_ended : link.ended ≡ Some ended
+
+-- the link is told exactly as far as the wire tells
+abbrev pub IsToldBy : Tells → Link → Type 0
+IsToldBy CountsAlone link = TellsCounts link
+IsToldBy SentAndReceived link = TellsBytes link × (link.owed ≡ None)
+IsToldBy All link = TellsBytes link × ((owed : List ℕ) × (link.owed ≡ Some owed))
 
 -- what was received is the front of what is owed
 abbrev pub ReceivesOwed : Link → Type 0
 ReceivesOwed link = (received owed : List ℕ) → link.received ≡ Some received → link.owed ≡ Some owed → (rest : List ℕ) × (owed ≡ received ++ rest)
 
--- What a send did to its link and to the counts of faults and of waits. A failed send may have sent a part of the piece's front.
-pub record Sends (piece : List ℕ) (old new : Link) (faults faults' waits waits' : ℕ) (answer : Moved) : Type 0 where
-  pub received : new.received ≡ old.received
-  pub is_open : new.is_open ≡ old.is_open
-  pub stalls : old.stalls ≤ new.stalls
-  pub later : faults ≤ faults'
-  pub moved : (n : ℕ) → answer ≡ answers.Moved n → (0 < n) × (n ≤ length piece) × Appends old.sent new.sent (take n piece) × (new.stalls ≡ old.stalls) × (waits' ≡ 0)
-  pub not_yet : answer ≡ answers.NotYet → (new.sent ≡ old.sent) × (new.owed ≡ old.owed) × Rose old.stalls new.stalls × (waits' ≡ waits)
-  pub failed : answer ≡ answers.Failed → (n : ℕ) × (n ≤ length piece) × Appends old.sent new.sent (take n piece) × (n ≡ 0 → new.owed ≡ old.owed) × (waits' ≡ (if n == 0 then waits else 0)) × Rose faults faults'
-  pub memory : answer ≡ answers.OutOfMemory → (new ≡ old) × (faults' ≡ faults) × (waits' ≡ waits)
-  pub no_end : answer ≢ answers.End
+-- a part of what is owed was not received, where both are told
+abbrev pub some_left : Option (List ℕ) → Option (List ℕ) → Bool
+some_left None owed = false
+some_left (Some received) None = false
+some_left (Some received) (Some owed) = nat_lt (length received) (length owed)
 
--- What a receive did. The end before all that is owed was received is a fault.
-pub record Receives (to : List ℕ) (old new : Link) (faults faults' waits waits' : ℕ) (answer : Moved) : Type 0 where
-  pub sent : new.sent ≡ old.sent
-  pub owed : new.owed ≡ old.owed
-  pub is_open : new.is_open ≡ old.is_open
-  pub stalls : old.stalls ≤ new.stalls
-  pub later : faults ≤ faults'
-  pub moved : (n : ℕ) → answer ≡ answers.Moved n → (0 < n) × (n ≤ length to) × Appends old.received new.received (take n to) × (new.stalls ≡ old.stalls) × (waits' ≡ 0)
-  pub end_ : answer ≡ answers.End → (new.received ≡ old.received) × (waits' ≡ 0) × ((received owed : List ℕ) → old.received ≡ Some received → old.owed ≡ Some owed → received ≢ owed → Rose faults faults')
-  pub not_yet : answer ≡ answers.NotYet → (new.received ≡ old.received) × Rose old.stalls new.stalls × (waits' ≡ waits)
-  pub failed : answer ≡ answers.Failed → (new.received ≡ old.received) × (waits' ≡ waits) × Rose faults faults'
-  pub memory : answer ≡ answers.OutOfMemory → (new ≡ old) × (faults' ≡ faults) × (waits' ≡ waits)
+abbrev pub is_short : Link → Bool
+is_short link = some_left link.received link.owed
 
--- the other links are as they were
-abbrev pub Others : ℕ → (ℕ → Link) → (ℕ → Link) → Type 0
-Others link old new = (k : ℕ) → k ≢ link → new k ≡ old k
+-- may move a byte: open, its last call stalled, and, if that was a receive, a part of what is owed was not received
+pub data IsRipe (link : Link) : Type 0 where
+  ToSend : link.is_open ≡ true → link.stalled ≡ Some Sending → IsRipe link
+  ToReceive : link.is_open ≡ true → link.stalled ≡ Some Receiving → is_short link ≡ true → IsRipe link
 
--- A new link was given: its number is the next, it is open, nothing was sent or received on it, and the links before it are as they were.
-pub record Gives (given given' : ℕ) (old new : ℕ → Link) (number : ℕ) : Type 0 where
-  pub is_next : number ≡ given
-  pub more : given' ≡ given + 1
-  pub is_open : (new number).is_open ≡ true
-  pub sent : (bytes : List ℕ) → (new number).sent ≡ Some bytes → bytes ≡ []
-  pub received : (bytes : List ℕ) → (new number).received ≡ Some bytes → bytes ≡ []
-  pub others : (k : ℕ) → k < given → new k ≡ old k
+-- what no call changes
+pub record Nature : Type 0 where
+  pub tells : Tells
+  -- fewer than 1000 waits follow one another with no byte moved
+  pub lively : Bool
+  -- it fails only where that is due or provoked
+  pub steady : Bool
+  -- of a steady wire, where told: the dials whose number is a multiple of this one are due to fail, none for 0, and nothing else is due
+  pub every : Option ℕ
 
--- no link was given, and all are as they were
-pub record GivesNone (given given' : ℕ) (old new : ℕ → Link) : Type 0 where
-  pub count : given' ≡ given
-  pub links : (k : ℕ) → new k ≡ old k
+-- A wire. Links have the numbers 0, 1, 2 .. in the order in which they were given. Counts stand still at their last value.
+pub record WireState : Type 0 where
+  pub links : ℕ → Link
+  -- how many links were given
+  pub given : ℕ
+  -- how often it failed; and, of a steady wire, how many of these faults the caller provoked
+  pub faults : ℕ
+  pub provoked : ℕ
+  -- how often a dial and a wait was called
+  pub dials : ℕ
+  pub waits : ℕ
+  -- how many waits succeeded, one after another, since a byte moved, a receive answered the end, or a link was given
+  pub idle : ℕ
+  -- whether its door is open, and how often nobody stood there
+  pub listens : Bool
+  pub door_stalls : ℕ
+  pub nature : Nature
 
--- what may be ready: a link is open, and of the door the wire listens
-pub record IsReadyOf (links : ℕ → Link) (listens : Bool) (answer : Ready) : Type 0 where
-  pub link : (number : ℕ) → answer ≡ ready.Link number → (links number).is_open ≡ true
-  pub door : answer ≡ ready.Door → listens ≡ true
+-- the same replies are allowed, where a relation says of a host, a port and the bytes sent there which bytes may be owed
+abbrev pub SameAllowed : (List ℕ → ℕ → List ℕ → List ℕ → Type 0) → (List ℕ → ℕ → List ℕ → List ℕ → Type 0) → Type 0
+SameAllowed old new = (host : List ℕ) (port : ℕ) (sent owed : List ℕ) → new host port sent owed ↔ old host port sent owed
 
--- a link that was never given
-abbrev pub closed_link : Link
-closed_link = record { sent = Some []; received = Some []; owed = None; stalls = 0; is_open = false }
+-- what a dialled link owes is allowed
+abbrev pub OwesAllowed : (List ℕ → ℕ → List ℕ → List ℕ → Type 0) → Link → Type 0
+OwesAllowed allows link =
+    (host : List ℕ) (port : ℕ) (sent owed : List ℕ) → link.peer ≡ Some (host, port) → link.sent ≡ Some sent → link.owed ≡ Some owed
+    → allows host port sent owed
+
+-- no link is open but those that were given
+abbrev pub OpensGiven : WireState → Type 0
+OpensGiven wire = (k : ℕ) → wire.given ≤ k → (wire.links k).is_open ≡ false
+
+-- over a lively wire fewer than 1000 waits follow one another
+abbrev pub IsLively : WireState → Type 0
+IsLively wire = wire.nature.lively ≡ true → wire.idle < 1000

@@ -25,7 +25,12 @@ pub record Reads (file n : ℕ) (to : List ℕ) (old new : ℕ → Option (List 
   pub bytes : (rest : List ℕ) → old file ≡ Some rest → (after : List ℕ) × (new file ≡ Some after) × (rest ≡ take n to ++ after) × (n ≡ 0 → rest ≡ [])
   pub others : (k : ℕ) → k ≢ file → new k ≡ old k
 
--- More numbers may have been given, and what is left under those given before is as it was.
+-- At most one more number was given, and what is left under those given before is as it was.
 pub record LeavesOpened (given now : ℕ) (old new : ℕ → Option (List ℕ)) : Type 0 where
   pub later : given ≤ now
+  pub few : now ≤ given + 1
   pub rest : (k : ℕ) → k < given → new k ≡ old k
+
+-- The shelf tells that it holds the name.
+abbrev pub HoldsName : Option (List (List ℕ × List ℕ)) → List ℕ → Type 0
+HoldsName told name = (files : List (List ℕ × List ℕ)) × (bytes : List ℕ) × (told ≡ Some files) × (content_of files name ≡ Some bytes)

@@ -1,7 +1,9 @@
 // Which calls an object in memory fails.
 ghost use Rattle.std.specs.Prelude.{ℕ, ◌≡◌, ◌<◌, ◌≤◌, false};
 ghost use Rattle.tpf_base.specs.Causes.{counted};
-ghost use Rattle.tpf_base.specs.Failures.{is_due, is_dial_due, room};
+ghost use Rattle.tpf_base.specs.Failures.{is_due, is_dial_due, room, CallCounts, no_calls, is_next_due, is_next_dial_due};
+
+use std::marker::Model;
 
 /// Which calls an object in memory fails.
 ///
@@ -22,8 +24,8 @@ pub enum Failing {
 }
 
 impl Failing {
-    /// Whether the call with this number, which is no dial, is failed, where so many bytes have
-    /// moved before.
+    /// Whether the call with this number is failed, a dial or another, where so many bytes have moved
+    /// before. `Dials` fails none by this number.
     pub fn is_due(&self, call: u64, moved: u64) -> bool
         ensures { result ≡ is_due self.now call moved }
     {
@@ -35,7 +37,8 @@ impl Failing {
         }
     }
 
-    /// Whether the dial with this number is failed, as a dial.
+    /// Whether the dial with this number is failed, where dials alone are counted. Only `Dials` fails
+    /// one by this number.
     pub fn is_dial_due(&self, dial: u64) -> bool
         ensures { result ≡ is_dial_due self.now dial }
     {
@@ -65,36 +68,58 @@ impl Failing {
     }
 }
 
-/// What an object in memory counts: its calls, and those that failed.
-#[derive(Drop)]
+/// What an object in memory counts: its calls that can answer a fault, those of them that are
+/// dials, and those that failed. Contracts see it as these counts and what it fails.
+///
+/// Each count stands still at its last value.
+#[derive(Debug, Drop)]
 pub struct Failures {
     failing: Failing,
     calls: u64,
+    dials: u64,
     faults: u64,
 }
 
+impl Model for Failures {
+    ghost Value = { CallCounts };
+
+    ghost view = { λ f. record { failing = f.failing; calls = f.calls; dials = f.dials; faults = f.faults } };
+}
+
 impl Failures {
+    /// No call was made yet.
     pub fn new(failing: Failing) -> Failures
-        ensures failing { result.failing ≡ failing }
-        ensures calls { result.calls ≡ 0 }
-        ensures faults { result.faults ≡ 0 }
+        ensures { result ≡ no_calls failing }
     {
         Failures {
             failing,
             calls: 0,
+            dials: 0,
             faults: 0,
         }
     }
 
-    /// Counts a call, and answers whether it is failed.
+    /// Counts a call that is no dial, and answers whether it is failed, where so many bytes have
+    /// moved before. A call that is not failed moves something, where something is there.
     #[tactic(auto, using(crate::proofs::Rooms::room_some))]
     pub fn is_next_due(&mut self, moved: u64) -> bool
-        ensures due { result ≡ is_due self.old.failing (counted self.old.calls) moved }
+        ensures due { result ≡ is_next_due self.old moved }
         ensures counts { self.new ≡ record self.old { calls = counted self.old.calls } }
         ensures some { result ≡ false → (there : ℕ) → 0 < there → 0 < room self.old.failing moved there }
     {
         self.calls = self.calls.saturating_add(1);
         self.failing.is_due(self.calls, moved)
+    }
+
+    /// Counts a dial, among the calls and by itself, and answers whether it is failed by either
+    /// number, where so many bytes have moved before.
+    pub fn is_next_dial_due(&mut self, moved: u64) -> bool
+        ensures due { result ≡ is_next_dial_due self.old moved }
+        ensures counts { self.new ≡ record self.old { calls = counted self.old.calls; dials = counted self.old.dials } }
+    {
+        self.calls = self.calls.saturating_add(1);
+        self.dials = self.dials.saturating_add(1);
+        self.failing.is_due(self.calls, moved) || self.failing.is_dial_due(self.dials)
     }
 
     /// Counts a fault.
@@ -105,6 +130,8 @@ impl Failures {
         self.faults = self.faults.saturating_add(1);
     }
 
+    /// How many bytes a call that is not failed moves, where so many are there to move and so many
+    /// have moved before.
     pub fn room(&self, moved: u64, there: usize) -> usize
         ensures value { result ≡ room self.now.failing moved there }
         ensures within { result ≤ there }

@@ -1,7 +1,7 @@
 // Why a call gave nothing.
 use std::alloc::{AllocError, AllocFailed};
 
-/// Want of memory.
+/// Out of memory.
 #[derive(Clone, Copy, Debug, PartialEq, Eq)]
 pub struct OutOfMemory;
 
@@ -10,7 +10,7 @@ pub struct OutOfMemory;
 pub enum Fault {
     /// The object failed. Its count of faults rose in this call.
     Failed,
-    /// Want of memory. Nothing moved, and the count of faults is as before.
+    /// Out of memory. Nothing moved, and the count of faults is as before.
     OutOfMemory,
 }
 

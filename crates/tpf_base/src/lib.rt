@@ -1,6 +1,8 @@
 //! What the program is handed from outside: files, a place to write to, and links to other hosts.
 #![tactic(auto)]
 
+mod decimal;
+mod drain;
 mod failing;
 mod fault;
 mod mem_shelf;
@@ -9,12 +11,12 @@ mod no_wire;
 mod shelf;
 mod sink;
 mod steps;
-#[cfg(test)]
-mod tests;
 mod text;
 mod wire;
 
-pub use failing::Failing;
+pub use decimal::numbers_read_back;
+pub use drain::Drain;
+pub use failing::{Failing, Failures};
 pub use fault::{Fault, OutOfMemory};
 pub use mem_shelf::MemShelf;
 pub use mem_sink::MemSink;

@@ -1,12 +1,11 @@
 // A shelf in memory, which fails where it is told to.
-ghost use Rattle.std.specs.Prelude.{ℕ, ◌≡◌, ◌≢◌, ◌+◌, ◌-◌, ◌^◌, ◌<◌, ◌≤◌, ◌⊎◌, ◌↔◌, ◌++◌, List, [], length, take, drop, min, Option, Some, None, false, IsTrue, Err, IfOk, OnErr, IfSome, IfNone, IsErrOf, slice_get};
-ghost use Rattle.tpf_base.specs.Causes.{HasCause, counted};
-ghost use Rattle.tpf_base.specs.Outside.{content_of, Finds, Leaves, Reads};
-ghost use Rattle.tpf_base.specs.Failures.{is_due, room};
+ghost use Rattle.std.specs.Prelude.{ℕ, ◌≡◌, ◌≢◌, ◌+◌, ◌-◌, ◌^◌, ◌<◌, ◌≤◌, ◌⊎◌, ◌↔◌, ◌++◌, List, [], length, take, drop, min, Option, Some, None, true, false, IsTrue, Err, IfOk, OnErr, IfSome, IfNone, IsErrOf, slice_get};
+ghost use Rattle.tpf_base.specs.Causes.{HasCause, DoesNotFail};
+ghost use Rattle.tpf_base.specs.Outside.{content_of, HoldsName, Finds, Leaves, Reads};
+ghost use Rattle.tpf_base.specs.Failures.{no_calls, is_next_due, room, spares_calls, CountsCall};
 ghost use Rattle.tpf_base.specs.Files.{file_rest};
 
-use crate::failing::Failures;
-use crate::{Bytes, Failing, Fault, Shelf, Text};
+use crate::{Bytes, Failing, Failures, Fault, Shelf, Text};
 use std::alloc::Global;
 
 /// A file that was found: which of the contents, and how many of its bytes were read.
@@ -18,7 +17,7 @@ pub struct Opened {
 
 /// A shelf in memory, which tells its contents. Where a name stands twice the first counts.
 ///
-/// Each call of `find` and of `read` counts, also one that ends in want of memory, and fails where
+/// Each call of `find` and of `read` counts, also one that ends in out of memory, and fails where
 /// its `Failing` says so.
 #[derive(Drop)]
 pub struct MemShelf {
@@ -71,16 +70,14 @@ fn copy_front(failures: &Failures, moved: u64, from: &[u8], to: &mut [u8]) -> us
 }
 
 impl MemShelf {
-    ghost use Rattle.tpf_base.specs.Memory.{shelf_files, shelf_given, shelf_failing, shelf_calls, shelf_moved, shelf_faults};
+    ghost use Rattle.tpf_base.specs.Memory.{shelf_files, shelf_given, shelf_moved, shelf_counts};
 
     /// A shelf with these files, of which none was found yet. It takes no memory.
     pub fn new(alloc: Global, files: Vec<(Text, Bytes)>, failing: Failing) -> MemShelf
         ensures files { shelf_files result ≡ files.items }
         ensures given { shelf_given result ≡ 0 }
-        ensures failing { shelf_failing result ≡ failing }
-        ensures calls { shelf_calls result ≡ 0 }
+        ensures counts { shelf_counts result ≡ no_calls failing }
         ensures moved { shelf_moved result ≡ 0 }
-        ensures faults { shelf_faults result ≡ 0 }
     {
         MemShelf {
             files,
@@ -92,7 +89,7 @@ impl MemShelf {
 }
 
 impl Shelf for MemShelf {
-    ghost use Rattle.tpf_base.specs.Memory.{shelf_files, shelf_given, shelf_rest, shelf_failing, shelf_calls, shelf_moved, shelf_faults, CountsCall};
+    ghost use Rattle.tpf_base.specs.Memory.{shelf_files, shelf_given, shelf_rest, shelf_moved, shelf_counts};
 
     ghost told = { λ shelf. Some (shelf_files shelf) };
 
@@ -100,20 +97,25 @@ impl Shelf for MemShelf {
 
     ghost rest = { shelf_rest };
 
-    ghost faults = { shelf_faults };
+    ghost faults = { λ shelf. (shelf_counts shelf).faults };
+
+    ghost faultless = { λ shelf. spares_calls (shelf_counts shelf).failing };
 
     /// `Failed` exactly where the call is due, the name is not held, or all 2^32 numbers were given.
+    #[tactic(auto, using(crate::proofs::Rooms::spared_next))]
     fn find(&mut self, name: &str) -> Result<u32, Fault>
         ensures ok { IfOk result (Finds (Some (shelf_files self.old)) name.now (shelf_given self.old) (shelf_given self.new) (shelf_rest self.old) (shelf_rest self.new)) }
         ensures err { OnErr result (Leaves (shelf_given self.old) (shelf_given self.new) (shelf_rest self.old) (shelf_rest self.new)) }
         ensures told { shelf_files self.new ≡ shelf_files self.old }
-        ensures cause { HasCause (shelf_faults self.old) (shelf_faults self.new) result }
-        ensures failed { IsErrOf result Fault.Failed → IsTrue (is_due (shelf_failing self.old) (counted (shelf_calls self.old)) (shelf_moved self.old))
+        ensures cause { HasCause (shelf_counts self.old).faults (shelf_counts self.new).faults result }
+        ensures failed { IsErrOf result Fault.Failed → IsTrue (is_next_due (shelf_counts self.old) (shelf_moved self.old))
             ⊎ (content_of (shelf_files self.old) name.now ≡ None) ⊎ (2 ^ 32 ≤ shelf_given self.old) }
-        ensures due { IsTrue (is_due (shelf_failing self.old) (counted (shelf_calls self.old)) (shelf_moved self.old)) → IsErrOf result Fault.Failed }
+        ensures due { IsTrue (is_next_due (shelf_counts self.old) (shelf_moved self.old)) → IsErrOf result Fault.Failed }
         ensures missing { content_of (shelf_files self.old) name.now ≡ None → IsErrOf result Fault.Failed }
-        ensures counts { CountsCall (shelf_calls self.old) (shelf_calls self.new) (shelf_faults self.old) (shelf_faults self.new) result }
-        ensures failing { shelf_failing self.new ≡ shelf_failing self.old }
+        ensures faultless { spares_calls (shelf_counts self.new).failing ≡ spares_calls (shelf_counts self.old).failing }
+        ensures holds { spares_calls (shelf_counts self.old).failing ≡ true → HoldsName (Some (shelf_files self.old)) name.now → shelf_given self.old < 2 ^ 32
+            → DoesNotFail (shelf_counts self.old).faults (shelf_counts self.new).faults result }
+        ensures counts { CountsCall (shelf_counts self.old) (shelf_counts self.new) result }
         ensures moved { shelf_moved self.new ≡ shelf_moved self.old }
     {
         if self.failures.is_next_due(self.moved) {
@@ -135,7 +137,8 @@ impl Shelf for MemShelf {
         }
     }
 
-    /// `Failed` exactly where the call is due; want of memory never comes.
+    /// `Failed` exactly where the call is due; out of memory never comes.
+    #[tactic(auto, using(crate::proofs::Rooms::spared_next))]
     fn read(&mut self, file: u32, to: &mut [u8]) -> Result<usize, Fault>
         requires given { file < shelf_given self.old }
         requires room { 0 < length to.old }
@@ -143,12 +146,13 @@ impl Shelf for MemShelf {
         ensures err { OnErr result (Leaves (shelf_given self.old) (shelf_given self.new) (shelf_rest self.old) (shelf_rest self.new)) }
         ensures given { shelf_given self.new ≡ shelf_given self.old }
         ensures told { shelf_files self.new ≡ shelf_files self.old }
-        ensures cause { HasCause (shelf_faults self.old) (shelf_faults self.new) result }
-        ensures failed { IsErrOf result Fault.Failed ↔ IsTrue (is_due (shelf_failing self.old) (counted (shelf_calls self.old)) (shelf_moved self.old)) }
+        ensures cause { HasCause (shelf_counts self.old).faults (shelf_counts self.new).faults result }
+        ensures failed { IsErrOf result Fault.Failed ↔ IsTrue (is_next_due (shelf_counts self.old) (shelf_moved self.old)) }
         ensures memory { result ≢ Err Fault.OutOfMemory }
-        ensures amount { IfOk result (λ n. (rest : List ℕ) → shelf_rest self.old file ≡ Some rest → n ≡ room (shelf_failing self.old) (shelf_moved self.old) (min (length to.old) (length rest))) }
-        ensures counts { CountsCall (shelf_calls self.old) (shelf_calls self.new) (shelf_faults self.old) (shelf_faults self.new) result }
-        ensures failing { shelf_failing self.new ≡ shelf_failing self.old }
+        ensures amount { IfOk result (λ n. (rest : List ℕ) → shelf_rest self.old file ≡ Some rest → n ≡ room (shelf_counts self.old).failing (shelf_moved self.old) (min (length to.old) (length rest))) }
+        ensures faultless { spares_calls (shelf_counts self.new).failing ≡ spares_calls (shelf_counts self.old).failing }
+        ensures spared { spares_calls (shelf_counts self.old).failing ≡ true → DoesNotFail (shelf_counts self.old).faults (shelf_counts self.new).faults result }
+        ensures counts { CountsCall (shelf_counts self.old) (shelf_counts self.new) result }
         ensures moved { IfOk result (λ n. shelf_moved self.new ≡ min (shelf_moved self.old + n) (2 ^ 64 - 1)) }
         ensures still { OnErr result (shelf_moved self.new ≡ shelf_moved self.old) }
     {

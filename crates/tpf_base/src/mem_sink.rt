@@ -1,17 +1,16 @@
 // A sink in memory, which fails where it is told to.
-ghost use Rattle.std.specs.Prelude.{◌≡◌, ◌<◌, ◌≤◌, ◌↔◌, ◌++◌, [], length, take, Some, IsTrue, IfOk, OnErr, IsErrOf};
-ghost use Rattle.tpf_base.specs.Causes.{HasCause, counted};
-ghost use Rattle.tpf_base.specs.Failures.{is_due, room};
-ghost use Rattle.tpf_base.specs.Memory.{sink_bytes, sink_failing, sink_calls, sink_faults, CountsCall};
+ghost use Rattle.std.specs.Prelude.{◌≡◌, ◌<◌, ◌≤◌, ◌↔◌, ◌++◌, [], length, take, Some, true, IsTrue, IfOk, OnErr, IsErrOf};
+ghost use Rattle.tpf_base.specs.Causes.{HasCause, DoesNotFail};
+ghost use Rattle.tpf_base.specs.Failures.{no_calls, is_next_due, room, spares_calls, CountsCall};
+ghost use Rattle.tpf_base.specs.Memory.{sink_bytes, sink_counts};
 ghost use Rattle.tpf_base.specs.Wrote.{Writes};
 
-use crate::failing::Failures;
-use crate::{Failing, Fault, Sink};
+use crate::{Failing, Failures, Fault, Sink};
 use std::alloc::Global;
 
 /// A sink in memory, which tells what it has taken.
 ///
-/// Each call of `write` counts, also one that ends in want of memory, and fails where its `Failing`
+/// Each call of `write` counts, also one that ends in out of memory, and fails where its `Failing`
 /// says so.
 #[derive(Drop)]
 pub struct MemSink {
@@ -23,9 +22,7 @@ impl MemSink {
     /// A sink that has taken nothing yet. It takes no memory.
     pub fn new(alloc: Global, failing: Failing) -> MemSink
         ensures taken { sink_bytes result ≡ [] }
-        ensures failing { sink_failing result ≡ failing }
-        ensures calls { sink_calls result ≡ 0 }
-        ensures faults { sink_faults result ≡ 0 }
+        ensures counts { sink_counts result ≡ no_calls failing }
     {
         MemSink {
             taken: Vec::new(alloc),
@@ -44,18 +41,22 @@ impl MemSink {
 impl Sink for MemSink {
     ghost taken = { λ sink. Some (sink_bytes sink) };
 
-    ghost faults = { sink_faults };
+    ghost faults = { λ sink. (sink_counts sink).faults };
+
+    ghost faultless = { λ sink. spares_calls (sink_counts sink).failing };
 
     /// `Failed` exactly where the call is due.
+    #[tactic(auto, using(crate::proofs::Rooms::spared_next))]
     fn write(&mut self, piece: &[u8]) -> Result<usize, Fault>
         requires { 0 < length piece.now }
         ensures ok { IfOk result (λ n. Writes n piece.now (Some (sink_bytes self.old)) (Some (sink_bytes self.new))) }
         ensures err { OnErr result (sink_bytes self.new ≡ sink_bytes self.old) }
-        ensures cause { HasCause (sink_faults self.old) (sink_faults self.new) result }
-        ensures failed { IsErrOf result Fault.Failed ↔ IsTrue (is_due (sink_failing self.old) (counted (sink_calls self.old)) (length (sink_bytes self.old))) }
-        ensures amount { IfOk result (λ n. n ≡ room (sink_failing self.old) (length (sink_bytes self.old)) (length piece.now)) }
-        ensures counts { CountsCall (sink_calls self.old) (sink_calls self.new) (sink_faults self.old) (sink_faults self.new) result }
-        ensures failing { sink_failing self.new ≡ sink_failing self.old }
+        ensures cause { HasCause (sink_counts self.old).faults (sink_counts self.new).faults result }
+        ensures failed { IsErrOf result Fault.Failed ↔ IsTrue (is_next_due (sink_counts self.old) (length (sink_bytes self.old))) }
+        ensures amount { IfOk result (λ n. n ≡ room (sink_counts self.old).failing (length (sink_bytes self.old)) (length piece.now)) }
+        ensures faultless { spares_calls (sink_counts self.new).failing ≡ spares_calls (sink_counts self.old).failing }
+        ensures spared { spares_calls (sink_counts self.old).failing ≡ true → DoesNotFail (sink_counts self.old).faults (sink_counts self.new).faults result }
+        ensures counts { CountsCall (sink_counts self.old) (sink_counts self.new) result }
     {
         let moved = self.taken.len() as u64;
         if self.failures.is_next_due(moved) {

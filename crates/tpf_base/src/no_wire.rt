@@ -1,38 +1,45 @@
 // A wire that gives no link.
-ghost use Rattle.std.specs.Prelude.{ℕ, ◌≡◌, ◌≤◌, false, Err};
+ghost use Rattle.std.specs.Prelude.{◌≡◌, ◌≤◌, Err};
 ghost use Rattle.tpf_base.specs.Causes.{HasCause, counted};
-ghost use Rattle.tpf_base.specs.Links.{closed_link, Sends, Receives};
+ghost use Rattle.tpf_base.specs.Unlinked.{Attempts, unlinked, no_attempts};
+ghost use Rattle.tpf_base.specs.Calls.{Sends, Receives, OnlyWaits, OnlyDials, OnlyListens, OnlyAccepts};
 
 use crate::{Accept, Dial, Fault, Moved, Ready, Wire};
 use std::marker::Model;
 
-/// A wire that gives no link. Contracts see it as the count of its faults, which stands still at
-/// its last value.
+/// A wire that gives no link. Contracts see it as the counts of its faults, its dials and its waits,
+/// each of which stands still at its last value.
 ///
-/// `dial`, `listen`, `accept` and `wait` answer `Failed`, and each such call counts.
+/// `send`, `recv`, `dial`, `listen`, `accept` and `wait` answer `Failed`, and each such call counts.
 #[derive(Debug, Drop)]
 pub struct NoWire {
     faults: u64,
+    dials: u64,
+    waits: u64,
 }
 
 impl Model for NoWire {
-    ghost Value = { ℕ };
+    ghost Value = { Attempts };
 
-    ghost view = { λ wire. wire.faults };
+    ghost view = { λ wire. record { faults = wire.faults; dials = wire.dials; waits = wire.waits } };
 }
 
 impl NoWire {
     /// A wire that has not failed yet.
     pub fn new() -> NoWire
-        ensures { result ≡ 0 }
+        ensures { result ≡ no_attempts }
     {
-        NoWire { faults: 0 }
+        NoWire {
+            faults: 0,
+            dials: 0,
+            waits: 0,
+        }
     }
 
     fn fail(&mut self) -> Fault
         ensures answer { result ≡ Fault.Failed }
-        ensures fault { self.new ≡ counted self.old }
-        ensures later { self.old ≤ self.new }
+        ensures fault { self.new ≡ record self.old { faults = counted self.old.faults } }
+        ensures later { self.old.faults ≤ self.new.faults }
     {
         self.faults = self.faults.saturating_add(1);
         Fault::Failed
@@ -40,27 +47,27 @@ impl NoWire {
 }
 
 impl Wire for NoWire {
-    ghost faults = { λ wire. wire };
+    ghost use Rattle.tpf_base.specs.Unlinked.{nothing_owed, nothing_allowed, all_told, none_open, no_wait};
 
-    ghost given = { λ _. 0 };
+    ghost state = { unlinked };
 
-    ghost state = { λ _ _. closed_link };
+    ghost allows = { λ wire host port sent owed. ⊥ };
 
-    ghost waits = { λ _. 0 };
+    ghost told = { λ wire k. all_told };
 
-    ghost listens = { λ _. false };
-
-    ghost door_stalls = { λ _. 0 };
-
-    ghost use Rattle.tpf_base.specs.Unowed.{nothing_owed};
+    ghost given_alone = { none_open };
 
     ghost received_is_owed = { λ wire k. nothing_owed };
+
+    ghost owed_is_allowed = { λ wire k. nothing_allowed };
+
+    ghost is_lively = { no_wait };
 
     // No link is given, so these three ask nothing: else no call could meet what they ask.
     fn send(&mut self, _link: u64, piece: &[u8]) -> Moved
         ensures failed { result ≡ Moved.Failed }
-        ensures fault { self.new ≡ counted self.old }
-        ensures sends { Sends piece.now closed_link closed_link self.old self.new 0 0 result }
+        ensures fault { self.new ≡ record self.old { faults = counted self.old.faults } }
+        ensures sends { Sends _link piece.now (unlinked self.old) (unlinked self.new) result }
     {
         self.fail();
         Moved::Failed
@@ -68,8 +75,8 @@ impl Wire for NoWire {
 
     fn recv(&mut self, _link: u64, to: &mut [u8]) -> Moved
         ensures failed { result ≡ Moved.Failed }
-        ensures fault { self.new ≡ counted self.old }
-        ensures receives { Receives to.new closed_link closed_link self.old self.new 0 0 result }
+        ensures fault { self.new ≡ record self.old { faults = counted self.old.faults } }
+        ensures receives { Receives _link to.new (unlinked self.old) (unlinked self.new) result }
     {
         self.fail();
         Moved::Failed
@@ -81,9 +88,11 @@ impl Wire for NoWire {
 
     fn wait(&mut self) -> Result<Ready, Fault>
         ensures failed { result ≡ Err Fault.Failed }
-        ensures fault { self.new ≡ counted self.old }
-        ensures cause { HasCause self.old self.new result }
+        ensures counts { self.new ≡ record self.old { faults = counted self.old.faults; waits = counted self.old.waits } }
+        ensures only { OnlyWaits (unlinked self.old) (unlinked self.new) }
+        ensures cause { HasCause self.old.faults self.new.faults result }
     {
+        self.waits = self.waits.saturating_add(1);
         Err(self.fail())
     }
 
@@ -95,9 +104,11 @@ impl Wire for NoWire {
 impl Dial for NoWire {
     fn dial(&mut self, _host: &str, _port: u16) -> Result<u64, Fault>
         ensures failed { result ≡ Err Fault.Failed }
-        ensures fault { self.new ≡ counted self.old }
-        ensures cause { HasCause self.old self.new result }
+        ensures counts { self.new ≡ record self.old { faults = counted self.old.faults; dials = counted self.old.dials } }
+        ensures only { OnlyDials (unlinked self.old) (unlinked self.new) }
+        ensures cause { HasCause self.old.faults self.new.faults result }
     {
+        self.dials = self.dials.saturating_add(1);
         Err(self.fail())
     }
 }
@@ -105,8 +116,9 @@ impl Dial for NoWire {
 impl Accept for NoWire {
     fn listen(&mut self, _host: &str, _port: u16) -> Result<(), Fault>
         ensures failed { result ≡ Err Fault.Failed }
-        ensures fault { self.new ≡ counted self.old }
-        ensures cause { HasCause self.old self.new result }
+        ensures fault { self.new ≡ record self.old { faults = counted self.old.faults } }
+        ensures only { OnlyListens (unlinked self.old) (unlinked self.new) }
+        ensures cause { HasCause self.old.faults self.new.faults result }
     {
         Err(self.fail())
     }
@@ -114,8 +126,9 @@ impl Accept for NoWire {
     // It asks no listen, since none succeeds.
     fn accept(&mut self) -> Result<Option<u64>, Fault>
         ensures failed { result ≡ Err Fault.Failed }
-        ensures fault { self.new ≡ counted self.old }
-        ensures cause { HasCause self.old self.new result }
+        ensures fault { self.new ≡ record self.old { faults = counted self.old.faults } }
+        ensures only { OnlyAccepts (unlinked self.old) (unlinked self.new) }
+        ensures cause { HasCause self.old.faults self.new.faults result }
     {
         Err(self.fail())
     }

@@ -1,7 +1,7 @@
 // Files to read.
-ghost use Rattle.std.specs.Prelude.{ℕ, ◌≡◌, ◌≢◌, ◌<◌, ◌≤◌, List, length, Option, Some, IfOk, OnErr, IsErrOf, vec_len};
-ghost use Rattle.tpf_base.specs.Causes.{Rose, HasCause};
-ghost use Rattle.tpf_base.specs.Outside.{content_of, Finds, Leaves, LeavesOpened, Reads};
+ghost use Rattle.std.specs.Prelude.{ℕ, ◌≡◌, ◌≢◌, ◌^◌, ◌<◌, ◌≤◌, List, length, Bool, true, Option, Some, Err, IfOk, OnErr, IsErrOf, vec_len};
+ghost use Rattle.tpf_base.specs.Causes.{Rose, HasCause, DoesNotFail};
+ghost use Rattle.tpf_base.specs.Outside.{content_of, HoldsName, Finds, Leaves, LeavesOpened, Reads};
 
 use crate::Fault;
 use std::alloc::{AllocError, Global};
@@ -23,6 +23,10 @@ pub trait Shelf {
     /// How often it has failed.
     ghost faults: { Self → ℕ };
 
+    /// Whether it finds each name that it holds and each of its reads succeeds, but for the number
+    /// of files and for memory. No call changes it.
+    ghost faultless: { Self → Bool };
+
     /// Gives a new number, also for a name found before. Its next bytes are the front of the
     /// contents.
     ///
@@ -31,7 +35,9 @@ pub trait Shelf {
         ensures ok { IfOk result (Finds (told self.old) name.now (given self.old) (given self.new) (rest self.old) (rest self.new)) }
         ensures err { OnErr result (Leaves (given self.old) (given self.new) (rest self.old) (rest self.new)) }
         ensures told { told self.new ≡ told self.old }
-        ensures cause { HasCause (faults self.old) (faults self.new) result };
+        ensures cause { HasCause (faults self.old) (faults self.new) result }
+        ensures faultless { faultless self.new ≡ faultless self.old }
+        ensures holds { faultless self.old ≡ true → HoldsName (told self.old) name.now → given self.old < 2 ^ 32 → DoesNotFail (faults self.old) (faults self.new) result };
 
     /// Gives the next bytes of a file that was found, and says how many. 0 is the end.
     ///
@@ -43,7 +49,9 @@ pub trait Shelf {
         ensures err { OnErr result (Leaves (given self.old) (given self.new) (rest self.old) (rest self.new)) }
         ensures given { given self.new ≡ given self.old }
         ensures told { told self.new ≡ told self.old }
-        ensures cause { HasCause (faults self.old) (faults self.new) result };
+        ensures cause { HasCause (faults self.old) (faults self.new) result }
+        ensures faultless { faultless self.new ≡ faultless self.old }
+        ensures spared { faultless self.old ≡ true → DoesNotFail (faults self.old) (faults self.new) result };
 }
 
 /// Why a file was not read.
@@ -53,7 +61,7 @@ pub enum FileFault {
     Failed,
     /// The file has more bytes than were to be read.
     TooLong,
-    /// Want of memory.
+    /// Out of memory.
     OutOfMemory,
 }
 
@@ -109,6 +117,8 @@ fn read_rest<F: Shelf>(
     ensures given { F.given shelf.new ≡ F.given shelf.old }
     ensures others { (k : ℕ) → k < F.given shelf.old → k ≢ file → F.rest shelf.new k ≡ F.rest shelf.old k }
     ensures later { F.faults shelf.old ≤ F.faults shelf.new }
+    ensures faultless { F.faultless shelf.new ≡ F.faultless shelf.old }
+    ensures spared { F.faultless shelf.old ≡ true → (F.faults shelf.new ≡ F.faults shelf.old) × (result ≢ Err FileFault.Failed) }
 {
     let mut bytes = Vec::new(alloc);
     while bytes.len() <= most {
@@ -123,7 +133,9 @@ fn read_rest<F: Shelf>(
 
 /// Reads the whole of a file of at most so many bytes.
 ///
-/// `TooLong` exactly where it has more. Files found before are left as they were.
+/// `TooLong` exactly where it has more. The file is found once, and files found before are left as
+/// they were. Over a faultless shelf that holds the name `Failed` never comes, as long as numbers are
+/// left.
 pub fn read_file<F: Shelf>(
     alloc: Global,
     shelf: &mut F,
@@ -138,6 +150,9 @@ pub fn read_file<F: Shelf>(
     ensures told { F.told shelf.new ≡ F.told shelf.old }
     ensures opened { LeavesOpened (F.given shelf.old) (F.given shelf.new) (F.rest shelf.old) (F.rest shelf.new) }
     ensures later { F.faults shelf.old ≤ F.faults shelf.new }
+    ensures faultless { F.faultless shelf.new ≡ F.faultless shelf.old }
+    ensures holds { F.faultless shelf.old ≡ true → HoldsName (F.told shelf.old) name.now → F.given shelf.old < 2 ^ 32 →
+        (F.faults shelf.new ≡ F.faults shelf.old) × (result ≢ Err FileFault.Failed) }
 {
     let mut piece = new_piece(alloc)?;
     let file = shelf.find(name)?;

@@ -1,7 +1,8 @@
 // Links to other hosts.
-ghost use Rattle.std.specs.Prelude.{ℕ, ◌≡◌, ◌<◌, ◌≤◌, length, IfOk, OnOk, OnErr, IfSome, OnSome, IfNone, Bool, true, false};
-ghost use Rattle.tpf_base.specs.Causes.{Rose, HasCause, counted};
-ghost use Rattle.tpf_base.specs.Links.{Link, Sends, Receives, Others, Gives, GivesNone, IsReadyOf, ReceivesOwed};
+ghost use Rattle.std.specs.Prelude.{ℕ, ◌≡◌, ◌<◌, List, length, IfOk, OnOk, OnErr, IfSome, IfNone, true};
+ghost use Rattle.tpf_base.specs.Causes.{HasCause, Rose};
+ghost use Rattle.tpf_base.specs.Links.{WireState, IsToldBy, ReceivesOwed, SameAllowed, OwesAllowed, OpensGiven, IsLively};
+ghost use Rattle.tpf_base.specs.Calls.{Sends, Receives, Closes, GivesDialled, GivesAccepted, GivesNone, OnlyDials, DialsSteadily, OnlyListens, Opens, LeavesDoor, OnlyAccepts, ServesSteadily, OnlyWaits, Wakes, WaitsSteadily};
 
 use crate::Fault;
 
@@ -16,7 +17,7 @@ pub enum Moved {
     NotYet,
     /// The link failed, and the wire's count of faults rose.
     Failed,
-    /// Want of memory. Nothing moved.
+    /// Out of memory. Nothing moved.
     OutOfMemory,
 }
 
@@ -33,98 +34,86 @@ pub enum Ready {
 ///
 /// Links have the numbers 0, 1, 2 .. in the order in which they were given, so no number is given
 /// twice. Counts never fall, and one that is kept as a u64 stands still at its last value.
+///
+/// A wire tells of its links counts alone, or also the bytes that were sent and received, or also
+/// those that the other end owes. No call changes how much it tells.
 pub trait Wire {
-    /// How often it has failed.
-    ghost faults: { Self → ℕ };
+    /// What it holds.
+    ghost state: { Self → WireState };
 
-    /// How many links were given. Their numbers are those below it.
-    ghost given: { Self → ℕ };
-
-    /// What it holds of a link.
-    ghost state: { Self → ℕ → Link };
-
-    /// How many waits succeeded since a byte last moved, a receive answered the end, or a link was
-    /// given.
-    ghost waits: { Self → ℕ };
-
-    /// Whether its door is open.
-    ghost listens: { Self → Bool };
-
-    /// How often nobody stood at the door.
-    ghost door_stalls: { Self → ℕ };
+    /// Which bytes the other ends may owe: of a host, a port and what was sent there. No call
+    /// changes it.
+    ghost allows: { Self → List ℕ → ℕ → List ℕ → List ℕ → Type 0 };
 
     /// Sends a part of the piece's front on an open link, at least one byte.
     ///
     /// `NotYet` sent nothing. `Failed` may have sent a part of the front. `End` never comes.
     fn send(&mut self, link: u64, piece: &[u8]) -> Moved
-        requires is_open { (Self.state self.old link).is_open ≡ true }
+        requires is_open { ((state self.old).links link).is_open ≡ true }
         requires some { 0 < length piece.now }
-        ensures sends { Sends piece.now (Self.state self.old link) (Self.state self.new link)
-            (faults self.old) (faults self.new) (waits self.old) (waits self.new) result }
-        ensures others { Others link (Self.state self.old) (Self.state self.new) }
-        ensures given { given self.new ≡ given self.old }
-        ensures listens { listens self.new ≡ listens self.old }
-        ensures door { door_stalls self.new ≡ door_stalls self.old };
+        ensures sends { Sends link piece.now (state self.old) (state self.new) result }
+        ensures allowed { SameAllowed (allows self.old) (allows self.new) };
 
     /// Receives the next bytes of an open link into the front of the buffer.
     ///
     /// `End` says that no more come; where the wire tells what is owed and a part of it was not
     /// received, that is a fault. `NotYet` and `Failed` received nothing.
     fn recv(&mut self, link: u64, to: &mut [u8]) -> Moved
-        requires is_open { (Self.state self.old link).is_open ≡ true }
+        requires is_open { ((state self.old).links link).is_open ≡ true }
         requires room { 0 < length to.old }
-        ensures receives { Receives to.new (Self.state self.old link) (Self.state self.new link)
-            (faults self.old) (faults self.new) (waits self.old) (waits self.new) result }
-        ensures others { Others link (Self.state self.old) (Self.state self.new) }
-        ensures given { given self.new ≡ given self.old }
-        ensures listens { listens self.new ≡ listens self.old }
-        ensures door { door_stalls self.new ≡ door_stalls self.old };
+        ensures receives { Receives link to.new (state self.old) (state self.new) result }
+        ensures allowed { SameAllowed (allows self.old) (allows self.new) };
 
     /// Closes an open link. Nothing moves on it from then on.
     fn close(&mut self, link: u64)
-        requires is_open { (Self.state self.old link).is_open ≡ true }
-        ensures closed { Self.state self.new link ≡ record (Self.state self.old link) { is_open = false } }
-        ensures others { Others link (Self.state self.old) (Self.state self.new) }
-        ensures given { given self.new ≡ given self.old }
-        ensures faults { faults self.new ≡ faults self.old }
-        ensures waits { waits self.new ≡ waits self.old }
-        ensures listens { listens self.new ≡ listens self.old }
-        ensures door { door_stalls self.new ≡ door_stalls self.old };
+        requires is_open { ((state self.old).links link).is_open ≡ true }
+        ensures closes { Closes link (state self.old) (state self.new) }
+        ensures allowed { SameAllowed (allows self.old) (allows self.new) };
 
     /// Waits until an open link or the door may be ready, and says which.
     ///
-    /// `Failed` where that takes too long.
+    /// `Failed` where the time for it is over, or nothing can become ready.
     fn wait(&mut self) -> Result<Ready, Fault>
-        ensures ready { IfOk result (λ answer. IsReadyOf (Self.state self.new) (listens self.new) answer) }
-        ensures none_given { GivesNone (given self.old) (given self.new) (Self.state self.old) (Self.state self.new) }
-        ensures ok { OnOk result (waits self.new ≡ counted (waits self.old)) }
-        ensures err { OnErr result (waits self.new ≡ waits self.old) }
-        ensures cause { HasCause (faults self.old) (faults self.new) result }
-        ensures listens { listens self.new ≡ listens self.old }
-        ensures door { door_stalls self.new ≡ door_stalls self.old };
+        ensures ok { IfOk result (λ answer. Wakes answer (state self.old) (state self.new)) }
+        ensures err { OnErr result (GivesNone (state self.old) (state self.new)) }
+        ensures only { OnlyWaits (state self.old) (state self.new) }
+        ensures cause { HasCause (state self.old).faults (state self.new).faults result }
+        ensures steady { (state self.old).nature.steady ≡ true → WaitsSteadily (state self.old) (state self.new) result }
+        ensures allowed { SameAllowed (allows self.old) (allows self.new) };
 
     /// How many waits succeeded, one after another, since a byte last moved, a receive answered
     /// `End`, or a link was given.
     fn idle(&self) -> u64
-        ensures { result ≡ waits self.now };
+        ensures { result ≡ (state self.now).idle };
+
+    /// It tells of each link, given or not, as much as it says.
+    ghost told: { (wire : Self) (k : ℕ) → IsToldBy (state wire).nature.tells ((state wire).links k) };
+
+    /// No link is open but those that were given.
+    ghost given_alone: { (wire : Self) → OpensGiven (state wire) };
 
     /// What was received is always the front of what is owed.
-    ghost received_is_owed: { (wire : Self) (k : ℕ) → ReceivesOwed (state wire k) };
+    ghost received_is_owed: { (wire : Self) (k : ℕ) → ReceivesOwed ((state wire).links k) };
+
+    /// What a dialled link owes is allowed.
+    ghost owed_is_allowed: { (wire : Self) (k : ℕ) → OwesAllowed (allows wire) ((state wire).links k) };
+
+    /// Over a lively wire fewer than 1000 waits follow one another.
+    ghost is_lively: { (wire : Self) → IsLively (state wire) };
 }
 
 /// A wire that opens links to other hosts.
 pub trait Dial: Wire {
     /// Opens a link to a host at a port, and gives its number.
     ///
-    /// `Failed` where the host is not there, or no number is left.
+    /// `Failed` where the host is not there, or no number is left. Each call counts.
     fn dial(&mut self, host: &str, port: u16) -> Result<u64, Fault>
-        ensures ok { IfOk result (λ number. Gives (Self.given self.old) (Self.given self.new) (Self.state self.old) (Self.state self.new) number) }
-        ensures moved { OnOk result (Self.waits self.new ≡ 0) }
-        ensures err { OnErr result (GivesNone (Self.given self.old) (Self.given self.new) (Self.state self.old) (Self.state self.new)) }
-        ensures waits { OnErr result (Self.waits self.new ≡ Self.waits self.old) }
-        ensures cause { HasCause (Self.faults self.old) (Self.faults self.new) result }
-        ensures listens { Self.listens self.new ≡ Self.listens self.old }
-        ensures door { Self.door_stalls self.new ≡ Self.door_stalls self.old };
+        ensures ok { IfOk result (λ number. GivesDialled host.now port number (Self.state self.old) (Self.state self.new)) }
+        ensures err { OnErr result (GivesNone (Self.state self.old) (Self.state self.new)) }
+        ensures only { OnlyDials (Self.state self.old) (Self.state self.new) }
+        ensures cause { HasCause (Self.state self.old).faults (Self.state self.new).faults result }
+        ensures steady { (Self.state self.old).nature.steady ≡ true → DialsSteadily (Self.state self.old) (Self.state self.new) result }
+        ensures allowed { SameAllowed (Self.allows self.old) (Self.allows self.new) };
 }
 
 /// A wire to which other hosts open links.
@@ -133,26 +122,24 @@ pub trait Accept: Wire {
     ///
     /// `Failed` where it can't be opened; it is then as before.
     fn listen(&mut self, host: &str, port: u16) -> Result<(), Fault>
-        ensures ok { OnOk result (Self.listens self.new ≡ true) }
-        ensures err { OnErr result (Self.listens self.new ≡ Self.listens self.old) }
-        ensures none_given { GivesNone (Self.given self.old) (Self.given self.new) (Self.state self.old) (Self.state self.new) }
-        ensures waits { Self.waits self.new ≡ Self.waits self.old }
-        ensures cause { HasCause (Self.faults self.old) (Self.faults self.new) result }
-        ensures door { Self.door_stalls self.new ≡ Self.door_stalls self.old };
+        ensures ok { OnOk result (Opens (Self.state self.old) (Self.state self.new)) }
+        ensures err { OnErr result (LeavesDoor (Self.state self.old) (Self.state self.new)) }
+        ensures only { OnlyListens (Self.state self.old) (Self.state self.new) }
+        ensures cause { HasCause (Self.state self.old).faults (Self.state self.new).faults result }
+        ensures steady { (Self.state self.old).nature.steady ≡ true → ServesSteadily (Self.state self.old) (Self.state self.new) result }
+        ensures allowed { SameAllowed (Self.allows self.old) (Self.allows self.new) };
 
     /// Gives the link of a host that stands at the door, and nothing where nobody does.
     ///
     /// `Failed` where that can't be found out, or no number is left.
     fn accept(&mut self) -> Result<Option<u64>, Fault>
-        requires { Self.listens self.old ≡ true }
-        ensures given { IfOk result (λ link. IfSome link (λ number. Gives (Self.given self.old) (Self.given self.new) (Self.state self.old) (Self.state self.new) number)) }
-        ensures moved { IfOk result (λ link. OnSome link (Self.waits self.new ≡ 0)) }
-        ensures none { IfOk result (λ link. IfNone link (GivesNone (Self.given self.old) (Self.given self.new) (Self.state self.old) (Self.state self.new))) }
-        ensures stalled { IfOk result (λ link. IfNone link (Rose (Self.door_stalls self.old) (Self.door_stalls self.new))) }
-        ensures still { IfOk result (λ link. IfNone link (Self.waits self.new ≡ Self.waits self.old)) }
-        ensures err { OnErr result (GivesNone (Self.given self.old) (Self.given self.new) (Self.state self.old) (Self.state self.new)) }
-        ensures waits { OnErr result (Self.waits self.new ≡ Self.waits self.old) }
-        ensures later { Self.door_stalls self.old ≤ Self.door_stalls self.new }
-        ensures listens { Self.listens self.new ≡ true }
-        ensures cause { HasCause (Self.faults self.old) (Self.faults self.new) result };
+        requires { (Self.state self.old).listens ≡ true }
+        ensures given { IfOk result (λ link. IfSome link (λ number. GivesAccepted number (Self.state self.old) (Self.state self.new))) }
+        ensures none { IfOk result (λ link. IfNone link (GivesNone (Self.state self.old) (Self.state self.new))) }
+        ensures stalled { IfOk result (λ link. IfNone link (Rose (Self.state self.old).door_stalls (Self.state self.new).door_stalls)) }
+        ensures err { OnErr result (GivesNone (Self.state self.old) (Self.state self.new)) }
+        ensures only { OnlyAccepts (Self.state self.old) (Self.state self.new) }
+        ensures cause { HasCause (Self.state self.old).faults (Self.state self.new).faults result }
+        ensures steady { (Self.state self.old).nature.steady ≡ true → ServesSteadily (Self.state self.old) (Self.state self.new) result }
+        ensures allowed { SameAllowed (Self.allows self.old) (Self.allows self.new) };
 }

@@ -9,6 +9,7 @@ use Rattle.rdf_terms.specs.declared.term.Kind.{Kind}
 use Rattle.rdf_terms.specs.declared.term.Kind.TheVariants.{Plain, Typed, Tagged}
 use Rattle.rdf_terms.specs.Order.{bytes_order}
 use Rattle.bgp_core.specs.Queries.{QueryData}
+use Rattle.bgp_core.specs.Solutions.{term_at}
 
 -- a member whose value is a string
 abbrev pub text_member : List ℕ → List ℕ → List Token
@@ -49,14 +50,13 @@ abbrev pub columns_of : QueryData → List ℕ
 columns_of q = values (first_numbers q.names q.selected)
 
 -- a member for a name that is bound
-abbrev pub bound_member : List ℕ → Option (Option Term) → List Token
-bound_member name (Some (Some term)) = key name ∷ [] ++ object_of (term_members term)
-bound_member name (Some None) = []
+abbrev pub bound_member : List ℕ → Option Term → List Token
+bound_member name (Some term) = key name ∷ [] ++ object_of (term_members term)
 bound_member name None = []
 
 -- a row as an object: a member for each column that it binds (section 3.2.1)
 abbrev pub row_object : List (List ℕ) → List ℕ → List (Option Term) → List Token
-row_object names columns row = object_of (flat_map (λ n. bound_member (name_at names n) (slice_get row n)) columns)
+row_object names columns row = object_of (flat_map (λ n. bound_member (name_at names n) (term_at row n)) columns)
 
 -- the selected names as an array, in the order of the query (section 3.1.1)
 unfoldable pub names_array : QueryData → List Token

@@ -3,6 +3,7 @@ ghost use Rattle.std.specs.Prelude.{ℕ, ◌≡◌, ◌≤◌, List, [], ◌∷�
 ghost use Rattle.std.specs.BTreeMap.{values};
 ghost use Rattle.json.specs.Token.{key, string};
 ghost use Rattle.json.specs.Print.{print};
+ghost use Rattle.bgp_core.specs.Solutions.{term_at};
 ghost use Rattle.tpf_cli.specs.Results.{text_member, datatype_member, tag_member, term_members, object_of, array_of, name_at, columns_of, bound_member, row_object, names_array, rows_array, result_tokens, result_text};
 
 use bgp_core::{Query, Row};
@@ -64,17 +65,10 @@ fn put_members(writer: &mut Writer, term: &Term) -> Result<(), AllocError>
 }
 
 /// A member for a name and the term that it is bound to.
-fn put_bound(
-    writer: &mut Writer,
-    name: &str,
-    place: Option<&Option<Term>>,
-) -> Result<(), AllocError>
-    ensures tokens { OnOk result (writer.new.tokens ≡ writer.old.tokens ++ bound_member name.now (option_map (λ p. p.now) place.entry)) }
+fn put_bound(writer: &mut Writer, name: &str, term: &Term) -> Result<(), AllocError>
+    ensures tokens { OnOk result (writer.new.tokens ≡ writer.old.tokens ++ bound_member name.now (Some term.now)) }
     ensures before { writer.new.before ≡ writer.old.before }
 {
-    let Some(Some(term)) = place else {
-        return Ok(());
-    };
     writer.key(name)?;
     writer.begin_object()?;
     put_members(writer, term)?;
@@ -114,23 +108,21 @@ fn columns_of(alloc: Global, query: &Query) -> Result<Vec<u32>, OutOfMemory>
 }
 
 /// A member for a column of a row, where the row binds it.
-fn put_column(
-    writer: &mut Writer,
-    names: &[Text],
-    n: u32,
-    row: &[Option<Term>],
-) -> Result<(), AllocError>
-    ensures tokens { OnOk result (writer.new.tokens ≡ writer.old.tokens ++ bound_member (name_at names.now n) (slice_get row.now n)) }
+fn put_column(writer: &mut Writer, names: &[Text], n: u32, row: &Row) -> Result<(), AllocError>
+    ensures tokens { OnOk result (writer.new.tokens ≡ writer.old.tokens ++ bound_member (name_at names.now n) (term_at row.now n)) }
     ensures before { writer.new.before ≡ writer.old.before }
 {
-    put_bound(writer, name_at(names, n), row.get(n as usize))
+    match row.term(n) {
+        Some(term) => put_bound(writer, name_at(names, n), term),
+        None => Ok(()),
+    }
 }
 
 fn put_row(
     writer: &mut Writer,
     names: &[Text],
     columns: &[u32],
-    row: &[Option<Term>],
+    row: &Row,
 ) -> Result<(), AllocError>
     ensures tokens { OnOk result (writer.new.tokens ≡ writer.old.tokens ++ row_object names.now columns.now row.now) }
     ensures before { writer.new.before ≡ writer.old.before }
@@ -168,7 +160,7 @@ fn put_rows(
 {
     writer.begin_array()?;
     for row in rows {
-        put_row(writer, query.names(), columns, row.places())?;
+        put_row(writer, query.names(), columns, row)?;
     }
     writer.end_array()
 }

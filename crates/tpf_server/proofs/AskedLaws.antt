@@ -1,15 +1,12 @@
 -- What a request asks for, and its answer.
-use Rattle.std.proofs.Common.{◌≡◌, ℕ, zero, suc, ◌+◌, ◌-◌, ◌*◌, ◌/◌, ◌^◌, ◌<◌, ◌≤◌, max, Bool, true, false, List, [], ◌∷◌, map, length, take, drop, Option, Some, None, refl, ap, ap₂, sym, subst, ◌∙◌, arith, if◌then◌else◌, le-leb}
-use Rattle.std.specs.Prelude.{codes, bytes_eq, not, nat_le, unwrap_or, is_some, IfSome}
+use Rattle.std.proofs.Common.{◌≡◌, ℕ, zero, suc, ◌+◌, ◌-◌, ◌*◌, ◌/◌, ◌^◌, ◌<◌, ◌≤◌, max, Bool, true, false, List, [], ◌∷◌, length, Option, Some, None, refl, ap, ap₂, sym, subst, ◌∙◌, arith, if◌then◌else◌}
+use Rattle.std.specs.Prelude.{bytes_eq, not, nat_le, unwrap_or, is_some, IfSome}
 use Rattle.std.specs.List.{filter}
 use Rattle.std.proofs.Math.Nat.{div-le_of_le-mul, le-mul_of_pos_right}
 use Rattle.std.specs.declared.cmp.Ordering.{Ordering}
 use Rattle.std.specs.declared.cmp.Ordering.TheVariants.{Less, Equal, Greater}
+use Rattle.std.proofs.lemmas.Bool.{true≢false}
 use Rattle.form_urlencoded.specs.Form.{raw_pairs}
-use Rattle.tpf_base.specs.HttpHeads.{Request}
-use Rattle.http_wire.specs.declared.message.Asked.{Asked}
-use Rattle.http_wire.specs.declared.message.Asked.TheVariants.{Get, Head, Other}
-use Rattle.http_wire.specs.Requests.{asked_of}
 use Rattle.rdf_terms.specs.declared.term.Triple.{Triple}
 use Rattle.rdf_terms.specs.declared.slots.Slots.{Slots}
 use Rattle.rdf_terms.specs.Slots.{matches, order_of}
@@ -17,17 +14,15 @@ use Rattle.rdf_terms.specs.Fragments.{fragment, last_page, last_page_of, put, pu
 use Rattle.template_fill.specs.ReadAddress.{path_of, query_of, ◌>>=◌}
 use Rattle.template_fill.specs.Forms.{HasNoBlank}
 use Rattle.template_fill.specs.Bodies.{page_body}
-use Rattle.template_fill.specs.Answers.{Answer, Question, Served, answer_if, answer_to, asked_by, is_read, page_answer, parameters, question_of, refusal}
+use Rattle.template_fill.specs.Answers.{Question, answer_if, asked_by, parameters, question_of, refusal}
 use Rattle.tpf_server.specs.declared.parameters.Parameters.{Parameters}
-use Rattle.tpf_server.specs.declared.status.Status.TheVariants.{BadRequest, NotFound, MethodNotAllowed}
+use Rattle.tpf_server.specs.declared.status.Status.TheVariants.{BadRequest, NotFound}
 use Rattle.tpf_server.specs.declared.asked.Asking.{Asking}
 use Rattle.tpf_server.specs.declared.asked.Asking.TheVariants.{Refused, Page}
-use Rattle.tpf_server.specs.Statuses.{code}
 use Rattle.tpf_server.specs.Serving.{Serving, data_of}
 use Rattle.tpf_server.specs.Parameters.{decoded, found_in, page_in, question_in, slots_in}
-use Rattle.tpf_server.specs.Asked.{IsAsked, answer_at, answer_for, answer_for_target, answer_of, is_head}
+use Rattle.tpf_server.specs.Asked.{answer_at, answer_for_target, answer_of}
 use Rattle.tpf_server.proofs.Questions.{question_is, slots_fit}
-use Rattle.tpf_server.proofs.RestLaws.{true_false}
 
 -- ---- what the parameters ask for
 
@@ -108,12 +103,12 @@ past_answer server p slots n some page size fits big =
 
 pub given_answer : (server : Serving) (p : Parameters) (slots : Option Slots) (n : ℕ) → slots ≡ slots_in p → is_some slots ≡ true → page_in p.page ≡ Some n
     → 1 ≤ server.config.page_size → length (data_of server) < 2 ^ 64 → 2 ^ 64 ≤ n → answer_of server (Refused NotFound) ≡ answer_at server (question_in p)
-given_answer server p None n is some page size fits big = absurd (true_false (sym some))
+given_answer server p None n is some page size fits big = absurd (true≢false (sym some))
 given_answer server p (Some slots) n is some page size fits big = past_answer server p slots n (sym is) page size fits big
 
 pub none_answer : (server : Serving) (p : Parameters) (slots : Option Slots) → slots ≡ slots_in p → is_some slots ≡ false → answer_of server (Refused BadRequest) ≡ answer_at server (question_in p)
 none_answer server p None is none = no_slots_answer server p is
-none_answer server p (Some slots) is none = absurd (true_false none)
+none_answer server p (Some slots) is none = absurd (true≢false none)
 
 pub some_fit : (p : Parameters) (slots : Slots) → Some slots ≡ slots_in p → HasNoBlank slots
 some_fit p slots is = subst (λ (o : Option Slots). IfSome o HasNoBlank) (sym is) (slots_fit p)

@@ -1,24 +1,27 @@
 -- What each call does to a conversation.
-use Rattle.std.proofs.Common.{◌≡◌, ℕ, zero, suc, ◌+◌, ◌-◌, ◌<◌, ◌≤◌, ◌⊎◌, Bool, true, false, List, [], ◌∷◌, ◌++◌, length, take, drop, Option, Some, None, refl, ap, ap₂, sym, subst, ◌∙◌, inl, inr, arith, append_assoc, append-nil, length-append, length-drop, if◌then◌else◌}
-use Rattle.std.specs.List.{AllByRecursion, concat, flat_map}
+use Rattle.std.proofs.Common.{◌≡◌, ℕ, zero, suc, ◌+◌, ◌-◌, ◌<◌, ◌≤◌, ◌⊎◌, Bool, true, false, List, [], ◌∷◌, ◌++◌, length, take, drop, Option, None, refl, ap, ap₂, sym, subst, ◌∙◌, inl, inr, arith, append_assoc, append-nil, length-append, length-drop, if◌then◌else◌}
+use Rattle.std.specs.List.{AllByRecursion, concat}
 use Rattle.std.proofs.lemmas.List.{take-append-drop}
 use Rattle.tpf_base.specs.HttpHeads.{Incomplete, next_request, blank_length, least_below, ends_empty}
 use Rattle.http_wire.specs.Requests.{Held, fed, fed_to, holding}
 use Rattle.rdf_terms.specs.declared.term.Triple.{Triple}
-use Rattle.template_fill.specs.Metadata.{Config}
-use Rattle.template_fill.specs.Responses.{Heads, GoesOn, closes, heads_of, response_over, unread_of}
-use Rattle.response_laws.proofs.Heads.{goes_on, over_goes_on}
+use Rattle.tpf_base.specs.HttpConnection.{Heads, closes, unread_of}
+use Rattle.template_fill.specs.Responses.{response_over}
+use Rattle.response_laws.proofs.Responses.{goes_on, over_goes_on}
 use Rattle.tpf_server.specs.declared.asked.Queued.{Queued}
 use Rattle.tpf_server.specs.declared.rest.Rest.{Rest}
 use Rattle.tpf_server.specs.declared.rest.Rest.TheVariants.{Nothing, Line, Page}
 use Rattle.tpf_server.specs.Serving.{Serving, data_of}
 use Rattle.tpf_server.specs.Given.{IsSmall}
-use Rattle.std.specs.Prelude.{decimal, nat_lt, ◌||◌}
+use Rattle.std.specs.Prelude.{nat_lt}
+use Rattle.std.proofs.lemmas.Bool.{or_cases, true≢false}
 use Rattle.rdf_terms.specs.declared.term.Quad.{Quad}
 use Rattle.rdf_terms.specs.Canon.{canonical_line}
 use Rattle.triple_table.specs.Stored.{Stored, listed}
 use Rattle.template_fill.specs.Bodies.{in_default_graph}
-use Rattle.template_fill.specs.Answers.{head_text, phrase, refusal}
+use Rattle.tpf_base.specs.Decimals.{decimal_text}
+use Rattle.tpf_base.specs.HttpAnswer.{head_text, phrase}
+use Rattle.template_fill.specs.Answers.{refusal}
 use Rattle.tpf_server.specs.declared.status.Status.{Status}
 use Rattle.tpf_server.specs.Statuses.{code}
 use Rattle.tpf_server.specs.Asked.{answer_of}
@@ -33,7 +36,6 @@ use Rattle.tpf_server.specs.Conversation.{Answers, Conversation, Feeds, Makes, S
 use Rattle.tpf_server.proofs.PageLaws.{concat_more}
 use Rattle.tpf_server.proofs.HeadAnswers.{closes_is, unread_is}
 use Rattle.tpf_server.proofs.Readings.{nothing_over, nothing_read}
-use Rattle.tpf_server.proofs.RestLaws.{true_false}
 
 -- ---- at the beginning
 
@@ -263,10 +265,6 @@ long_triples : (triples : List Triple) → 0 < length triples → 0 < length (co
 long_triples [] some = absurd (omega arith)
 long_triples (t ∷ triples) some = long_first (triple_line t) (triple_lines triples) (long_line (in_default_graph t))
 
-some_left : (a b : Bool) → (a || b) ≡ true → (a ≡ true) ⊎ (b ≡ true)
-some_left true b h = inl refl
-some_left false b h = inr h
-
 below_is : (a b : ℕ) → nat_lt a b ≡ true → a < b
 below_is a b h = grind (arith, h)
 
@@ -275,17 +273,17 @@ unfolding page_pieces
 long_page table page part left =
     let both = ap (λ (l : List ℕ). length l) (concat_more (triple_lines (listed table page.triples)) (quad_lines page.quads)) in
     let sum = length-append (concat (triple_lines (listed table page.triples))) (concat (quad_lines page.quads)) in
-    elim (some_left (nat_lt page.triples.from page.triples.to) (nat_lt 0 (length page.quads)) left) as (λ e. 0 < length (concat (triple_lines (listed table page.triples) ++ quad_lines page.quads))) [
+    elim (or_cases (nat_lt page.triples.from page.triples.to) (nat_lt 0 (length page.quads)) left) as (λ e. 0 < length (concat (triple_lines (listed table page.triples) ++ quad_lines page.quads))) [
       | inl h ↦ omega (arith, both, sum, long_triples (listed table page.triples) (omega (arith, part.lists, below_is page.triples.from page.triples.to h)))
       | inr h ↦ omega (arith, both, sum, long_quads page.quads (below_is 0 (length page.quads) h))
     ]
 
 long_status : (status : Status) → 0 < length (concat ((refusal (code status)).body ∷ []))
-long_status status = long_first (refusal (code status)).body [] (omega (arith, length-append (decimal (code status)) (32 ∷ (phrase (code status) ++ 10 ∷ []))))
+long_status status = long_first (refusal (code status)).body [] (omega (arith, length-append (decimal_text (code status)) (32 ∷ (phrase (code status) ++ 10 ∷ []))))
 
 long_rest : (server : Serving) (rest : Rest) → IsWithin server.table rest → is_left rest ≡ true → 0 < length (concat (rest_pieces server.table rest))
 unfolding rest_pieces
-long_rest server Nothing within left = absurd (true_false (sym left))
+long_rest server Nothing within left = absurd (true≢false (sym left))
 long_rest server (Line status) within left = long_status status
 long_rest server (Page page) within left = long_page server.table page within left
 
@@ -298,7 +296,7 @@ unfolding answer_pieces
 long_answer server queued = long_first (head_text (answer_of server queued.asking).status (length (answer_of server queued.asking).body) queued.closes) (if queued.without_body then [] else body_pieces server queued.asking) (long_head (answer_of server queued.asking).status (length (answer_of server queued.asking).body) queued.closes)
 
 long_queue : (server : Serving) (waiting : List Queued) → nat_lt 0 (length waiting) ≡ true → 0 < length (concat (queue_pieces server waiting))
-long_queue server [] some = absurd (true_false (sym some))
+long_queue server [] some = absurd (true≢false (sym some))
 long_queue server (q ∷ waiting) some =
     omega (arith, long_answer server q, ap (λ (l : List ℕ). length l) (concat_more (answer_pieces server q) (queue_pieces server waiting)), length-append (concat (answer_pieces server q)) (concat (queue_pieces server waiting)))
 
@@ -306,7 +304,7 @@ long_debt : (server : Serving) (rest : Rest) (waiting : List Queued) → Fits se
 long_debt server rest waiting fits left =
     let both = ap (λ (l : List ℕ). length l) (debt_text server rest waiting) in
     let sum = length-append (concat (rest_pieces server.table rest)) (concat (queue_pieces server waiting)) in
-    elim (some_left (is_left rest) (nat_lt 0 (length waiting)) left) as (λ e. 0 < length (concat (debt_pieces server rest waiting))) [
+    elim (or_cases (is_left rest) (nat_lt 0 (length waiting)) left) as (λ e. 0 < length (concat (debt_pieces server rest waiting))) [
       | inl h ↦ omega (arith, both, sum, long_rest server rest fits.range h)
       | inr h ↦ omega (arith, both, sum, long_queue server waiting h)
     ]
@@ -316,7 +314,7 @@ owes_by server c true is suits = ((λ h none. no_zero (owed_text server c) (long
   where
     no_zero : (l : List ℕ) → 0 < length l → l ≡ [] → ⊥
     no_zero l some none = omega (arith, some, ap (λ (x : List ℕ). length x) none)
-owes_by server c false is suits = ((λ h none. true_false (sym h)), (λ h. absurd (h (ap concat (debt_done server c.rest c.waiting (sym is))))))
+owes_by server c false is suits = ((λ h none. true≢false (sym h)), (λ h. absurd (h (ap concat (debt_done server c.rest c.waiting (sym is))))))
 
 pub owes_is : (server : Serving) (unread : List ℕ) (rest : Rest) (waiting : List Queued) (pending : List ℕ) (closing starved : Bool) (c : Conversation) (left : Bool)
     → (let view : Conversation = record { unread = unread; rest = rest; waiting = waiting; pending = pending; closing = closing; starved = starved } in view ≡ c)

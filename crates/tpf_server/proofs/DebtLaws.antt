@@ -1,21 +1,22 @@
 -- What is owed, and how it becomes less piece by piece.
-use Rattle.std.proofs.Common.{◌≡◌, ℕ, zero, suc, ◌+◌, ◌-◌, ◌<◌, ◌≤◌, ◌⊎◌, Bool, true, false, List, [], ◌∷◌, ◌++◌, length, Option, Some, None, Result, Ok, Err, refl, ap, ap₂, sym, subst, ◌∙◌, inl, inr, arith, append_assoc, append-nil, length-append, if◌then◌else◌}
+use Rattle.std.proofs.Common.{◌≡◌, ℕ, ◌+◌, ◌-◌, ◌<◌, ◌≤◌, Bool, true, false, List, [], ◌∷◌, ◌++◌, length, Result, Ok, Err, refl, ap, ap₂, sym, subst, ◌∙◌, arith, append_assoc, append-nil, length-append, if◌then◌else◌}
 use Rattle.std.specs.Prelude.{nat_lt, ◌||◌, OnOk}
-use Rattle.std.specs.List.{AllByRecursion, concat, flat_map}
-use Rattle.template_fill.specs.Answers.{head_text}
+use Rattle.std.specs.List.{AllByRecursion, concat}
+use Rattle.std.proofs.lemmas.Bool.{or_parts, true≢false}
+use Rattle.tpf_base.specs.HttpAnswer.{head_text}
 use Rattle.triple_table.specs.Stored.{Stored}
 use Rattle.tpf_server.specs.declared.asked.Queued.{Queued}
 use Rattle.tpf_server.specs.declared.pages.Opened.{Opened}
 use Rattle.tpf_server.specs.declared.rest.Rest.{Rest}
-use Rattle.tpf_server.specs.declared.rest.Rest.TheVariants.{Nothing, Line, Page}
+use Rattle.tpf_server.specs.declared.rest.Rest.TheVariants.{Nothing}
 use Rattle.tpf_server.specs.Statuses.{code}
 use Rattle.tpf_server.specs.Serving.{Serving}
-use Rattle.tpf_server.specs.Asked.{IsAsked, answer_of}
+use Rattle.tpf_server.specs.Asked.{IsAsked}
 use Rattle.tpf_server.specs.Given.{IsGiven, IsSmall}
 use Rattle.tpf_server.specs.Rests.{IsWithin, is_left, rest_pieces}
 use Rattle.tpf_server.specs.Opened.{Opens, body_pieces}
 use Rattle.tpf_server.specs.Owed.{Fits, Fills, answer_pieces, debt_left, debt_pieces, queue_pieces}
-use Rattle.tpf_server.proofs.RestLaws.{rest_done, neither_left, no_length, true_false}
+use Rattle.tpf_server.proofs.RestLaws.{rest_done, no_length}
 use Rattle.tpf_server.proofs.PageLaws.{concat_more}
 
 pub on_ok : {T E P Q : Type 0} (r : Result T E) → (P → Q) → OnOk r P → OnOk r Q
@@ -87,7 +88,7 @@ pub answer_fits : (server : Serving) (rest new : Rest) (waiting later : List Que
 answer_fits server rest new waiting later queued is fits within = record { range = within; asked = (subst AllAsked is fits.asked).1 }
 
 pub nothing_waits : (rest : Rest) (waiting : List Queued) → is_left rest ≡ false → debt_left rest waiting ≡ true → waiting ≡ [] → ⊥
-nothing_waits rest waiting none left empty = true_false (sym left ∙ ap₂ (λ (b : Bool) (q : List Queued). b || nat_lt 0 (length q)) none empty)
+nothing_waits rest waiting none left empty = true≢false (sym left ∙ ap₂ (λ (b : Bool) (q : List Queued). b || nat_lt 0 (length q)) none empty)
 
 -- ---- many pieces
 
@@ -121,7 +122,7 @@ no_queue (q ∷ waiting) h = absurd (no_length (length waiting) h)
 pub debt_done : (server : Serving) (rest : Rest) (waiting : List Queued) → debt_left rest waiting ≡ false → debt_pieces server rest waiting ≡ []
 unfolding debt_pieces
 debt_done server rest waiting none =
-    let p = neither_left (is_left rest) (nat_lt 0 (length waiting)) none in
+    let p = or_parts (is_left rest) (nat_lt 0 (length waiting)) none in
     ap₂ (λ (l : List (List ℕ)) (q : List Queued). l ++ queue_pieces server q) (none_left server rest p.0) (no_queue waiting p.1)
 
 pub debt_settled : (server : Serving) (rest new : Rest) (waiting : List Queued) → rest_pieces server.table new ≡ rest_pieces server.table rest → debt_pieces server new waiting ≡ debt_pieces server rest waiting

@@ -1,31 +1,29 @@
 -- The answers to the heads at the front of bytes, one after another.
-use Rattle.std.proofs.Common.{◌≡◌, ℕ, zero, suc, ◌+◌, ◌-◌, ◌<◌, ◌≤◌, ◌⊎◌, Bool, true, false, List, [], ◌∷◌, ◌++◌, map, length, take, drop, Option, Some, None, refl, ap, ap₂, sym, subst, ◌∙◌, inl, inr, arith, append_assoc, append-nil, length-drop, if◌then◌else◌}
-use Rattle.std.specs.Prelude.{codes, bytes_eq, not, nat_lt, nat_le, ◌&&◌, ◌==◌, IfSome}
-use Rattle.std.specs.List.{AllByRecursion, concat, flat_map}
+use Rattle.std.proofs.Common.{◌≡◌, ℕ, ◌+◌, ◌-◌, ◌⊎◌, Bool, true, false, List, [], ◌∷◌, ◌++◌, map, length, take, drop, Option, Some, None, refl, ap, ap₂, sym, subst, ◌∙◌, inl, inr, arith, append-nil, length-drop, if◌then◌else◌}
+use Rattle.std.specs.Prelude.{codes, bytes_eq, not, nat_lt, nat_le, ◌&&◌}
+use Rattle.std.specs.List.{concat}
+use Rattle.std.proofs.lemmas.Bool.{true≢false}
 use Rattle.tpf_base.specs.HttpHeads.{Request, Verdict, Accepted, Rejected, NextRequest, Incomplete, Taken, Refused, next_request, next_at, with_length, judged, judged_head, head_limit, blank_length, head_length, field_lines, taken_whole, names_host, is_target}
 use Rattle.tpf_base.specs.HttpReader.{read_request}
 use Rattle.http_wire.specs.Requests.{Held, asked_of, holding}
 use Rattle.http_wire.specs.declared.message.Asked.{Asked}
 use Rattle.http_wire.specs.declared.message.Asked.TheVariants.{Get, Head, Other}
 use Rattle.http_wire.proofs.StayLemmas.{taken_within}
-use Rattle.template_fill.specs.Metadata.{Config}
-use Rattle.template_fill.specs.Answers.{Answer, Mark, Served, answer_if, answer_text, answer_to, head_text, is_read, question_of, refusal}
-use Rattle.template_fill.specs.ReadAddress.{path_of}
-use Rattle.template_fill.specs.Responses.{Heads, after_taken, answers, closes, first_marks, head_answer, heads_from, heads_of, last_head, response, response_over, unread_of, with_head}
-use Rattle.response_laws.proofs.Heads.{heads_read}
+use Rattle.tpf_base.specs.HttpAnswer.{Answer, answer_text, head_text}
+use Rattle.template_fill.specs.Answers.{Served, answer_to, refusal}
+use Rattle.tpf_base.specs.HttpConnection.{Heads, after_taken, closes, heads_from, heads_of, last_head, unread_of, with_head}
+use Rattle.template_fill.specs.Responses.{answers, head_answer, response, response_over}
+use Rattle.http_wire.proofs.ConnectionLemmas.{heads_read}
 use Rattle.tpf_server.specs.declared.asked.Asking.{Asking}
 use Rattle.tpf_server.specs.declared.asked.Asking.TheVariants as asks
 use Rattle.tpf_server.specs.declared.asked.Queued.{Queued}
-use Rattle.tpf_server.specs.declared.status.Status.{Status}
-use Rattle.tpf_server.specs.declared.status.Status.TheVariants.{BadRequest, HeaderFieldsTooLarge}
 use Rattle.tpf_server.specs.Statuses.{code}
 use Rattle.tpf_server.specs.Serving.{Serving, data_of}
 use Rattle.tpf_server.specs.Asked.{IsAsked, answer_at, answer_for, answer_for_target, answer_of, is_head, refused_with}
 use Rattle.tpf_server.specs.Opened.{body_pieces, page_lines}
-use Rattle.tpf_server.specs.Owed.{ReadsHead, ReadsHeads, answer_pieces, queue_pieces}
+use Rattle.tpf_server.specs.Owed.{ReadsHead, answer_pieces}
 use Rattle.triple_table.proofs.Bytes.{bytes_eq_same}
 use Rattle.tpf_server.proofs.PageLaws.{body_is_lines}
-use Rattle.tpf_server.proofs.RestLaws.{true_false}
 
 -- ---- the pieces of an answer are its text
 
@@ -174,8 +172,8 @@ refused_reads server bytes status before after held is waiting =
       text = over_is server bytes ∙ ap (λ (h : Heads). over_heads server h.heads) heads ∙ ap (λ (l : List ℕ). l ++ []) (sym (refused_pieces server bytes status is));
       closing = closes_is bytes ∙ ap (λ (h : Heads). h.closed) heads;
       unread = unread_is bytes ∙ ap (λ (h : Heads). h.unread) heads;
-      open_ = λ other. absurd (true_false other);
-      shorter = λ other. absurd (true_false other);
+      open_ = λ other. absurd (true≢false other);
+      shorter = λ other. absurd (true≢false other);
     }
 
 taken_text : (server : Serving) (last : Bool) (request : Request) (rest : List ℕ)

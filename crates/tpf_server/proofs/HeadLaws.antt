@@ -1,16 +1,16 @@
 -- The status line of each status.
 use Rattle.std.proofs.Common.{◌≡◌, ℕ, Bool, List, [], ◌++◌, refl, ap, ap₂, sym, ◌∙◌}
-use Rattle.std.specs.Prelude.{unwrap_or, decimal}
-use Rattle.std.specs.Fmt.{digits}
+use Rattle.std.specs.Prelude.{unwrap_or}
 use Rattle.http.specs.StatusCode.{code_digits, reason_phrase}
+use Rattle.tpf_base.specs.Decimals.{digits_up_to, decimal_text}
 use Rattle.tpf_base.specs.HttpText.{answer_head}
-use Rattle.template_fill.specs.Answers.{answer_fields, head_text, phrase}
+use Rattle.tpf_base.specs.HttpAnswer.{answer_fields, head_text, phrase}
 use Rattle.tpf_server.specs.declared.status.Status.{Status}
 use Rattle.tpf_server.specs.declared.status.Status.TheVariants.{Success, BadRequest, NotFound, MethodNotAllowed, HeaderFieldsTooLarge}
 use Rattle.tpf_server.specs.Statuses.{code}
 
-pub digits_are : (status : Status) → code_digits (code status) ≡ decimal (code status)
-unfolding digits
+pub digits_are : (status : Status) → code_digits (code status) ≡ decimal_text (code status)
+unfolding decimal_text digits_up_to
 digits_are Success = refl
 digits_are BadRequest = refl
 digits_are NotFound = refl

@@ -11,7 +11,8 @@ use Rattle.fragment_pages.specs.declared.view.PageView.{PageView}
 use Rattle.fragment_pages.specs.Pages.{IsPage, IsPageNumber, shown}
 use Rattle.template_fill.specs.Metadata.{Config, page_metadata}
 use Rattle.template_fill.specs.Bodies.{page_body}
-use Rattle.template_fill.specs.Answers.{Answer, page_answer, refusal}
+use Rattle.tpf_base.specs.HttpAnswer.{Answer}
+use Rattle.template_fill.specs.Answers.{page_answer, refusal}
 use Rattle.tpf_server.specs.declared.status.Status.{Status}
 use Rattle.tpf_server.specs.declared.status.Status.TheVariants.{Success, NotFound}
 use Rattle.tpf_server.specs.declared.asked.Asking.{Asking}

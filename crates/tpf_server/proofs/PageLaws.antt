@@ -16,7 +16,8 @@ use Rattle.fragment_pages.specs.declared.view.PageView.{PageView}
 use Rattle.fragment_pages.specs.Pages.{IsPage, IsPageNumber, shown}
 use Rattle.template_fill.specs.Metadata.{Config, page_metadata, topic_quads, form_quads, mapping_quads, count_quads, link_quads}
 use Rattle.template_fill.specs.Bodies.{in_default_graph, page_body, page_quads}
-use Rattle.template_fill.specs.Answers.{Answer, page_answer, refusal}
+use Rattle.tpf_base.specs.HttpAnswer.{Answer}
+use Rattle.template_fill.specs.Answers.{page_answer, refusal}
 use Rattle.tpf_server.specs.Lines.{quad_lines, triple_lines}
 use Rattle.tpf_server.specs.PageRests.{IsPart, page_pieces}
 use Rattle.tpf_server.specs.Serving.{Serving, data_of}

@@ -15,7 +15,8 @@ use Rattle.template_fill.specs.declared.fault.ValueFault.{ValueFault}
 use Rattle.template_fill.specs.declared.fault.ValueFault.TheVariants as faults
 use Rattle.template_fill.specs.ReadAddress.{◌>>=◌}
 use Rattle.template_fill.specs.Forms.{HasNoBlank, HasNoBlankSlot}
-use Rattle.template_fill.specs.Explicit.{IsNoBlank, slot_of, fixed, read_literal, read_iri, cut_literal, cut_last, suffixed_literal, marked_literal, typed_literal, tagged_literal}
+use Rattle.rdf_terms.specs.Valid.{IsNotBlank}
+use Rattle.template_fill.specs.Explicit.{slot_of, fixed, read_literal, read_iri, cut_literal, cut_last, suffixed_literal, marked_literal, typed_literal, tagged_literal}
 use Rattle.template_fill.specs.Answers.{Question, accepted, asked_by, one_value, page_number, slot_under, values_under}
 use Rattle.tpf_server.specs.declared.parameters.Values.{Values}
 use Rattle.tpf_server.specs.declared.parameters.Values.TheVariants.{Absent, One, Several}
@@ -77,7 +78,7 @@ question_is pairs =
 -- ---- no blank node is asked for
 
 abbrev NoBlankTerm : Result Term ValueFault → Type 0
-NoBlankTerm (Ok term) = IsNoBlank term
+NoBlankTerm (Ok term) = IsNotBlank term
 NoBlankTerm (Err fault) = Unit {0}
 
 abbrev NoBlankRead : Result Slot ValueFault → Type 0

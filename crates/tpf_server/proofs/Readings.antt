@@ -1,19 +1,20 @@
 -- Heads that are read one after another, and what the feed of requests tells of each.
-use Rattle.std.proofs.Common.{◌≡◌, ℕ, ◌+◌, ◌<◌, Bool, true, false, List, [], ◌∷◌, ◌++◌, length, drop, Option, Some, None, refl, ap, ap₂, sym, subst, ◌∙◌, append_assoc, append-nil, if◌then◌else◌}
+use Rattle.std.proofs.Common.{◌≡◌, ℕ, ◌+◌, Bool, true, false, List, [], ◌∷◌, ◌++◌, Option, Some, None, refl, ap, sym, subst, ◌∙◌, append_assoc, append-nil, if◌then◌else◌}
 use Rattle.std.specs.Prelude.{MatchOption}
-use Rattle.std.specs.List.{AllByRecursion, concat, flat_map}
-use Rattle.tpf_base.specs.HttpHeads.{Request, NextRequest, Incomplete, Taken, Refused, next_request}
+use Rattle.std.specs.List.{AllByRecursion, concat}
+use Rattle.std.proofs.lemmas.Bool.{true≢false}
+use Rattle.tpf_base.specs.HttpHeads.{NextRequest, Incomplete, Taken, Refused, next_request}
 use Rattle.http_wire.specs.declared.message.RequestHead.{RequestHead}
 use Rattle.http_wire.specs.declared.message.NextHead.{NextHead}
 use Rattle.http_wire.specs.declared.message.NextHead.TheVariants as nexts
-use Rattle.http_wire.specs.Requests.{Held, after_answer, after_if, after_next, asked_of, head_of, holding, next_for, next_of, refusing, shown}
-use Rattle.template_fill.specs.Responses.{closes, heads_of, response, response_over, unread_of, heads_from, after_taken, Heads}
+use Rattle.http_wire.specs.Requests.{Held, after_answer, after_if, after_next, head_of, holding, next_for, next_of, shown}
+use Rattle.tpf_base.specs.HttpConnection.{closes, heads_of, unread_of, Heads}
+use Rattle.template_fill.specs.Responses.{response_over}
 use Rattle.tpf_server.specs.declared.asked.Queued.{Queued}
 use Rattle.tpf_server.specs.Serving.{Serving, data_of}
 use Rattle.tpf_server.specs.Asked.{IsAsked, answer_for, answer_of, is_head}
 use Rattle.tpf_server.specs.Owed.{ReadsHead, ReadsHeads, answer_pieces, queue_pieces}
 use Rattle.tpf_server.proofs.HeadAnswers.{closes_is, heads_at, over_is, refused_reads, refusing_with, taken_reads, unread_is, over_heads}
-use Rattle.tpf_server.proofs.RestLaws.{true_false}
 use Rattle.tpf_server.proofs.PageLaws.{concat_more}
 
 -- ---- what the feed tells
@@ -149,7 +150,7 @@ reading_ends server bytes before waiting later held new last ends reading r = re
   text = sym (append-nil (concat (queue_pieces server later))) ∙ ap (λ (l : Bool). concat (queue_pieces server later) ++ (if l then [] else response_over (data_of server) server.config new.bytes)) (sym ends) ∙ read_text server bytes before waiting later held new last reading r;
   asked = read_asked server bytes before waiting later held new last reading r;
   closing = sym (sym reading.closing ∙ r.closing ∙ ap (λ (l : Bool). if l then true else closes new.bytes) ends);
-  unread = λ other. absurd (true_false other);
+  unread = λ other. absurd (true≢false other);
   ended = λ same. sym reading.unread ∙ r.unread ∙ ap (λ (l : Bool). if l then [] else unread_of new.bytes) ends;
 }
 
@@ -171,7 +172,7 @@ reading_stops server bytes before waiting held reading none =
       asked = reading.asked;
       closing = sym (sym reading.closing ∙ closes_is held.bytes ∙ ap (λ (h : Heads). h.closed) heads);
       unread = λ same. same_held held reading.open_ ∙ ap holding (sym (ap (λ (h : Heads). h.unread) heads) ∙ sym (unread_is held.bytes) ∙ reading.unread);
-      ended = λ other. absurd (true_false (sym other));
+      ended = λ other. absurd (true≢false (sym other));
     }
 
 pub reading_none : (server : Serving) (bytes : List ℕ) (before waiting later : List Queued) (held new : Held) → Reading server bytes before waiting held → next_request held.bytes ≡ Incomplete → new ≡ held → later ≡ waiting

@@ -1,6 +1,7 @@
 -- The pieces that are left of a body.
 use Rattle.std.proofs.Common.{◌≡◌, ℕ, zero, suc, ◌+◌, ◌-◌, ◌<◌, ◌≤◌, Bool, true, false, List, [], ◌∷◌, ◌++◌, map, length, take, drop, refl, ap, ap₂, sym, subst, ◌∙◌, arith, length-drop}
 use Rattle.std.specs.Prelude.{slice_index_or, nat_lt, ◌||◌}
+use Rattle.std.proofs.lemmas.Bool.{ltb-false, or_parts, true≢false}
 use Rattle.rdf_terms.specs.declared.term.Triple.{Triple}
 use Rattle.rdf_terms.specs.declared.term.Quad.{Quad}
 use Rattle.rdf_terms.specs.declared.term.Term.TheVariants.{Iri}
@@ -8,7 +9,7 @@ use Rattle.rdf_terms.specs.Canon.{canonical_line}
 use Rattle.triple_table.specs.declared.ids.Row.{Row}
 use Rattle.triple_table.specs.declared.ids.Range.{Range}
 use Rattle.triple_table.specs.Rows.{id_triple_of}
-use Rattle.triple_table.specs.Stored.{Stored, IsRange, listed, rows_in, triple_at}
+use Rattle.triple_table.specs.Stored.{Stored, listed, rows_in, triple_at}
 use Rattle.template_fill.specs.Bodies.{in_default_graph}
 use Rattle.template_fill.specs.Answers.{refusal}
 use Rattle.tpf_server.specs.declared.status.Status.{Status}
@@ -18,7 +19,7 @@ use Rattle.tpf_server.specs.Given.{IsGiven}
 use Rattle.tpf_server.specs.PageRests.{IsPart, PageLines, page_left, page_pieces}
 use Rattle.tpf_server.specs.declared.rest.Rest.{Rest}
 use Rattle.tpf_server.specs.declared.rest.Rest.TheVariants.{Nothing, Line, Page}
-use Rattle.tpf_server.specs.Rests.{IsWithin, is_left, rest_pieces}
+use Rattle.tpf_server.specs.Rests.{is_left, rest_pieces}
 use Rattle.tpf_server.proofs.LineLengths.{drop_at}
 
 drop_one : {A : Type 0} (xs : List A) (n : ℕ) → drop 1 (drop n xs) ≡ drop (suc n) xs
@@ -119,9 +120,6 @@ given_page s rest p q before after is given = record { piece = given.piece; piec
 
 -- ---- nothing left
 
-pub true_false : true ≡ false → ⊥
-true_false h = grind (arith, h)
-
 pub no_length : (n : ℕ) → nat_lt 0 (suc n) ≡ false → ⊥
 no_length n h = grind (arith, h)
 
@@ -129,23 +127,16 @@ no_quads : (quads : List Quad) → nat_lt 0 (length quads) ≡ false → quads �
 no_quads [] h = refl
 no_quads (q ∷ quads) h = absurd (grind (arith, h))
 
-pub neither_left : (a b : Bool) → (a || b) ≡ false → (a ≡ false) × (b ≡ false)
-neither_left true b h = absurd (true_false h)
-neither_left false b h = (refl, h)
-
-not_below : (a b : ℕ) → nat_lt a b ≡ false → b ≤ a
-not_below a b h = grind (arith, h)
-
 pub page_done : (s : Stored) (page : PageLines) → page_left page ≡ false → page_pieces s page ≡ []
 unfolding page_pieces
 page_done s page h =
-    let p = neither_left (nat_lt page.triples.from page.triples.to) (nat_lt 0 (length page.quads)) h in
-    ap₂ (λ (l : List Triple) (quads : List Quad). triple_lines l ++ quad_lines quads) (none_listed s page.triples (not_below page.triples.from page.triples.to p.0)) (no_quads page.quads p.1)
+    let p = or_parts (nat_lt page.triples.from page.triples.to) (nat_lt 0 (length page.quads)) h in
+    ap₂ (λ (l : List Triple) (quads : List Quad). triple_lines l ++ quad_lines quads) (none_listed s page.triples (ltb-false page.triples.from page.triples.to p.0)) (no_quads page.quads p.1)
 
 pub rest_done : (s : Stored) (rest : Rest) → is_left rest ≡ false → rest_pieces s rest ≡ rest_pieces s Nothing
 unfolding rest_pieces
 rest_done s Nothing h = refl
-rest_done s (Line status) h = absurd (true_false h)
+rest_done s (Line status) h = absurd (true≢false h)
 rest_done s (Page page) h = page_done s page h
 
 below_none : (i : ℕ) → nat_lt i 0 ≡ false

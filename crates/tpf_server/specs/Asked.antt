@@ -2,7 +2,8 @@
 use Rattle.std.specs.Prelude.{ℕ, ◌≤◌, ◌==◌, Bool, true, false, List, [], ◌∷◌, not, bytes_eq, Option, if◌then◌else◌}
 use Rattle.template_fill.specs.ReadAddress.{path_of}
 use Rattle.template_fill.specs.Forms.{HasNoBlank}
-use Rattle.template_fill.specs.Answers.{Answer, Question, answer_if, page_answer, question_of, refusal}
+use Rattle.tpf_base.specs.HttpAnswer.{Answer}
+use Rattle.template_fill.specs.Answers.{Question, answer_if, page_answer, question_of, refusal}
 use Rattle.http_wire.specs.declared.message.Asked.{Asked}
 use Rattle.http_wire.specs.declared.message.Asked.TheVariants.{Get, Head, Other}
 use Rattle.tpf_server.specs.declared.status.Status.{Status}

@@ -1,7 +1,8 @@
 -- What is known of one connection of a server.
 use Rattle.std.specs.Prelude.{ℕ, ◌≡◌, ◌⊎◌, ◌≤◌, ◌<◌, Bool, true, false, List, [], ◌∷◌, ◌++◌, length, take, drop, if◌then◌else◌}
 use Rattle.std.specs.List.{concat}
-use Rattle.template_fill.specs.Responses.{closes, response_over, unread_of}
+use Rattle.tpf_base.specs.HttpConnection.{closes, unread_of}
+use Rattle.template_fill.specs.Responses.{response_over}
 use Rattle.tpf_server.specs.declared.asked.Queued.{Queued}
 use Rattle.tpf_server.specs.declared.rest.Rest.{Rest}
 use Rattle.tpf_server.specs.declared.rest.Rest.TheVariants.{Nothing}

@@ -2,8 +2,9 @@
 use Rattle.std.specs.Prelude.{ℕ, ◌≡◌, ◌-◌, ◌<◌, ◌||◌, Bool, true, false, not, nat_lt, List, [], ◌∷◌, ◌++◌, length, None, if◌then◌else◌}
 use Rattle.std.specs.List.{AllByRecursion, concat, flat_map}
 use Rattle.http_wire.specs.Requests.{Held, holding}
-use Rattle.template_fill.specs.Answers.{head_text}
-use Rattle.template_fill.specs.Responses.{closes, response_over, unread_of}
+use Rattle.tpf_base.specs.HttpAnswer.{head_text}
+use Rattle.tpf_base.specs.HttpConnection.{closes, unread_of}
+use Rattle.template_fill.specs.Responses.{response_over}
 use Rattle.tpf_server.specs.declared.asked.Queued.{Queued}
 use Rattle.tpf_server.specs.declared.rest.Rest.{Rest}
 use Rattle.tpf_server.specs.Serving.{Serving, data_of}

@@ -1,7 +1,7 @@
 // One connection: from the bytes that come to the bytes of the response.
 ghost use Rattle.std.specs.Prelude.{ℕ, ◌≡◌, ◌↔◌, ◌≤◌, ◌+◌, ◌++◌, [], List, true, false, length, take, drop, IsTrue, IsErr, OnOk, OnErr};
 ghost use Rattle.std.specs.List.{AllByRecursion};
-ghost use Rattle.nquads_text.specs.Begins.{Begins};
+ghost use Rattle.list_laws.specs.Begins.{Begins};
 ghost use Rattle.http_wire.specs.Requests.{holding};
 ghost use Rattle.tpf_server.specs.Serving.{Serving};
 ghost use Rattle.tpf_server.specs.Conversation.{Answers, Conversation, Feeds, Makes, Suits, opening, owed_pieces, owed_text, starved_at};

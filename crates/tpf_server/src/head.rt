@@ -1,8 +1,9 @@
 // The head of an answer.
-ghost use Rattle.std.specs.Prelude.{ℕ, ◌≡◌, ◌==◌, ◌++◌, codes, decimal, OnOk, IfOk};
+ghost use Rattle.std.specs.Prelude.{ℕ, ◌≡◌, ◌==◌, ◌++◌, codes, OnOk, IfOk};
 ghost use Rattle.http_wire.specs.Fields.{pair_of, pairs_of};
-ghost use Rattle.nquads_text.specs.Begins.{Begins};
-ghost use Rattle.template_fill.specs.Answers.{answer_fields, field_if, head_text, media_type};
+ghost use Rattle.list_laws.specs.Begins.{Begins};
+ghost use Rattle.tpf_base.specs.Decimals.{decimal_text};
+ghost use Rattle.tpf_base.specs.HttpAnswer.{answer_fields, field_if, head_text, media_type};
 ghost use Rattle.tpf_server.specs.Statuses.{code};
 
 use crate::status::Status;
@@ -29,8 +30,9 @@ fn field(alloc: Global, name: &str, value: &str) -> Result<Field, OutOfMemory>
 }
 
 /// The field that tells the length of a body (RFC 9110, section 8.6).
+#[tactic(auto, using(tpf_base::proofs::DecimalTexts::decimal_of_u128))]
 fn length_field(alloc: Global, length: u128) -> Result<Field, OutOfMemory>
-    ensures { IfOk result (λ field. pair_of field ≡ (codes "Content-Length", decimal length)) }
+    ensures { IfOk result (λ field. pair_of field ≡ (codes "Content-Length", decimal_text length)) }
 {
     Ok(Field {
         name: Text::copy(alloc, "Content-Length")?,
@@ -55,7 +57,7 @@ fn push_if(
 }
 
 /// The fields of an answer whose body has this length.
-#[tactic(auto, unfolding(template_fill::specs::Answers::answer_fields))]
+#[tactic(auto, unfolding(tpf_base::specs::HttpAnswer::answer_fields))]
 fn fields(
     alloc: Global,
     status: Status,
@@ -79,7 +81,7 @@ fn fields(
 }
 
 /// Appends the head of an answer whose body has this length.
-#[tactic(auto, using(nquads_text::proofs::Begins::same_begins, nquads_text::proofs::Begins::more_begins))]
+#[tactic(auto, using(list_laws::proofs::Begins::same_begins, list_laws::proofs::Begins::more_begins))]
 pub fn write_answer_head(
     alloc: Global,
     status: Status,

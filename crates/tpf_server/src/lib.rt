@@ -14,6 +14,3 @@ mod status;
 
 pub use connection::Connection;
 pub use server::Server;
-
-#[cfg(test)]
-mod tests;

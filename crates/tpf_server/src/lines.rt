@@ -2,64 +2,16 @@
 ghost use Rattle.std.specs.Prelude.{ℕ, ◌≡◌, ◌+◌, ◌*◌, ◌-◌, ◌<◌, ◌≤◌, ◌^◌, ◌++◌, ◌∷◌, [], Some, None, List, length, take, drop, OnOk};
 ghost use Rattle.std.specs.List.{concat};
 ghost use Rattle.rdf_terms.specs.declared.term.Triple.{Triple};
-ghost use Rattle.rdf_terms.specs.Canon.{is_marked, marks, kind_len, canonical_graph, canonical_len, canonical_term, canonical_line};
-ghost use Rattle.nquads_text.specs.Begins.{Begins};
+ghost use Rattle.rdf_terms.specs.Canon.{canonical_graph, canonical_term, canonical_line};
+ghost use Rattle.list_laws.specs.Begins.{Begins};
 ghost use Rattle.triple_table.specs.Stored.{IsRange, IsIdTriple, held_terms, listed, term_at, triple_at};
 ghost use Rattle.template_fill.specs.Bodies.{in_default_graph};
 ghost use Rattle.tpf_server.specs.Lines.{quad_lines, triple_lines};
 
 use nquads_text::canonical;
-use rdf_terms::{Kind, Quad, Term, canonical_len_is};
+use rdf_terms::{Quad, Term};
 use tpf_base::OutOfMemory;
 use triple_table::{IdTriple, Range, Table};
-
-fn is_marked(b: u8) -> bool
-    ensures { result ≡ is_marked b }
-{
-    matches!(b, b'"' | b'\\' | b'\n' | b'\r')
-}
-
-/// How many bytes of a form are written with a backslash.
-fn marks(form: &[u8]) -> usize
-    ensures marks { result ≡ marks form.now }
-    ensures within { result ≤ length form.now }
-{
-    let mut marks = 0;
-    for b in form {
-        if is_marked(*b) {
-            marks += 1;
-        }
-    }
-    marks
-}
-
-/// The length of what follows the closing quote of a literal.
-fn kind_length(kind: &Kind) -> u128
-    ensures length { result ≡ kind_len kind.now }
-    ensures small { result < 2 ^ 65 }
-{
-    match kind {
-        Kind::Plain => 0,
-        Kind::Typed(datatype) => datatype.as_str().len() as u128 + 4,
-        Kind::Tagged(tag) => tag.as_str().len() as u128 + 1,
-    }
-}
-
-/// The length of the canonical text of a term.
-fn term_length(term: &Term) -> u128
-    ensures length { result ≡ length (canonical_term term.now) }
-    ensures small { result < 2 ^ 67 }
-{
-    canonical_len_is();
-    match term {
-        Term::Iri(text) => text.as_str().len() as u128 + 2,
-        Term::Blank(label) => label.as_str().len() as u128 + 2,
-        Term::Literal { form, kind } => {
-            let form = form.as_str().as_bytes();
-            form.len() as u128 + marks(form) as u128 + 2 + kind_length(kind)
-        }
-    }
-}
 
 /// The length of a graph and the space before it.
 fn graph_length(graph: &Option<Term>) -> u128
@@ -68,7 +20,7 @@ fn graph_length(graph: &Option<Term>) -> u128
 {
     match graph {
         None => 0,
-        Some(graph) => term_length(graph) + 1,
+        Some(graph) => graph.canonical_len() + 1,
     }
 }
 
@@ -78,9 +30,9 @@ fn quad_length(quad: &Quad) -> u128
     ensures length { result ≡ length (canonical_line quad.now) }
     ensures small { result < 2 ^ 70 }
 {
-    term_length(&quad.triple.subject)
-        + term_length(&quad.triple.predicate)
-        + term_length(&quad.triple.object)
+    quad.triple.subject.canonical_len()
+        + quad.triple.predicate.canonical_len()
+        + quad.triple.object.canonical_len()
         + graph_length(&quad.graph)
         + 5
 }
@@ -92,9 +44,9 @@ fn triple_length(table: &Table, ids: IdTriple) -> u128
     ensures length { result ≡ length (canonical_line (in_default_graph (triple_at (held_terms table.now) ids))) }
     ensures small { result < 2 ^ 70 }
 {
-    term_length(table.term(ids.subject))
-        + term_length(table.term(ids.predicate))
-        + term_length(table.term(ids.object))
+    table.term(ids.subject).canonical_len()
+        + table.term(ids.predicate).canonical_len()
+        + table.term(ids.object).canonical_len()
         + 5
 }
 
@@ -128,7 +80,7 @@ pub fn triples_length(table: &Table, range: &Range) -> u128
 }
 
 /// Appends a term and what stands behind it.
-#[tactic(auto, using(nquads_text::proofs::Begins::begins_on, nquads_text::proofs::Begins::more_begins, nquads_text::proofs::Begins::same_begins))]
+#[tactic(auto, using(list_laws::proofs::Begins::begins_on, list_laws::proofs::Begins::more_begins, list_laws::proofs::Begins::same_begins))]
 fn write_term(term: &Term, end: &[u8], out: &mut Vec<u8>) -> Result<(), OutOfMemory>
     ensures ok { OnOk result (out.new.items ≡ out.old.items ++ (canonical_term term.now ++ end.now)) }
     ensures front { Begins out.old.items out.new.items }
@@ -139,7 +91,7 @@ fn write_term(term: &Term, end: &[u8], out: &mut Vec<u8>) -> Result<(), OutOfMem
 }
 
 /// Appends the line of a triple of the table.
-#[tactic(auto, using(crate::proofs::Appends::line_stands, nquads_text::proofs::Begins::begins_on))]
+#[tactic(auto, using(crate::proofs::Appends::line_stands, list_laws::proofs::Begins::begins_on))]
 pub fn write_triple(table: &Table, ids: IdTriple, out: &mut Vec<u8>) -> Result<(), OutOfMemory>
     requires { IsIdTriple (held_terms table.now) ids }
     ensures ok { OnOk result (out.new.items ≡ out.old.items ++ canonical_line (in_default_graph (triple_at (held_terms table.now) ids))) }

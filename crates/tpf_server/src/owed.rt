@@ -1,6 +1,6 @@
 // What is owed on a connection: the rest of an answer that was begun, and the answers behind it.
 ghost use Rattle.std.specs.Prelude.{ℕ, ◌≡◌, ◌⊎◌, ◌-◌, ◌≤◌, [], true, None, length, IfOk, OnOk, MatchOption, if◌then◌else◌};
-ghost use Rattle.nquads_text.specs.Begins.{Begins};
+ghost use Rattle.list_laws.specs.Begins.{Begins};
 ghost use Rattle.tpf_base.specs.HttpHeads.{Incomplete, next_request};
 ghost use Rattle.triple_table.specs.Stored.{Stored};
 ghost use Rattle.tpf_server.specs.Serving.{Serving};
@@ -37,7 +37,7 @@ fn wanted(without_body: bool, body: Rest) -> Rest
 }
 
 /// Appends the head of an answer, and tells what its body is.
-#[tactic(auto, using(crate::proofs::DebtLaws::begun, crate::proofs::DebtLaws::begun_within, nquads_text::proofs::Begins::same_begins))]
+#[tactic(auto, using(crate::proofs::DebtLaws::begun, crate::proofs::DebtLaws::begun_within, list_laws::proofs::Begins::same_begins))]
 fn begin(
     alloc: Global,
     server: &Server,

@@ -1,6 +1,6 @@
 // What is left of the body of an answer that was begun.
 ghost use Rattle.std.specs.Prelude.{ℕ, ◌≡◌, ◌++◌, ◌∷◌, [], ◌<◌, ◌≤◌, length, drop, false, true, IsTrue, OnOk, ◌↔◌};
-ghost use Rattle.nquads_text.specs.Begins.{Begins};
+ghost use Rattle.list_laws.specs.Begins.{Begins};
 ghost use Rattle.triple_table.specs.Stored.{Stored};
 ghost use Rattle.tpf_server.specs.Lines.{quad_lines, triple_lines};
 ghost use Rattle.tpf_server.specs.Given.{IsGiven};
@@ -51,7 +51,7 @@ impl PageRest {
     }
 
     /// Appends the next line of a triple.
-    #[tactic(auto, using(crate::proofs::RestLaws::page_passed, nquads_text::proofs::Begins::same_begins))]
+    #[tactic(auto, using(crate::proofs::RestLaws::page_passed, list_laws::proofs::Begins::same_begins))]
     fn give_triple(&mut self, table: &Table, out: &mut Vec<u8>) -> Result<(), OutOfMemory>
         requires part { IsPart table.now self.old.triples }
         requires some { self.old.triples.from < self.old.triples.to }

@@ -1,8 +1,11 @@
 // The data and the configuration of a server.
-ghost use Rattle.std.specs.Prelude.{◌≡◌};
+ghost use Rattle.std.specs.Prelude.{◌≡◌, [], ◌∷◌};
+ghost use Rattle.template_fill.specs.Configurations.{IsConfig, IsHistory};
+ghost use Rattle.tpf_server.specs.Serving.{data_of};
 
 use hydra_controls::Config;
 use std::marker::Model;
+use template_fill::versions_are_valid;
 use triple_table::Table;
 
 /// A server of the fragments of a table. Contracts see it as the table and the configuration.
@@ -26,6 +29,17 @@ impl Server {
         ensures { result ≡ record { table = table; config = config } }
     {
         Server { table, config }
+    }
+
+    /// What is served is a history of one data set of valid terms, and the configuration is one. The
+    /// call does nothing; it tells a proof of it.
+    pub fn is_valid(&self)
+        ensures history { IsHistory (data_of self.now ∷ []) }
+        ensures config { IsConfig self.now.config }
+    {
+        let _count = self.table.len();
+        self.config.is_valid();
+        versions_are_valid();
     }
 
     /// The table.

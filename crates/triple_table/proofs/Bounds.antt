@@ -1,14 +1,11 @@
 -- A row lies between the bounds of a pattern exactly where the pattern matches it.
-use Rattle.std.proofs.Common.{ℕ, ◌≡◌, ◌+◌, ◌-◌, ◌*◌, ◌^◌, ◌<◌, ◌≤◌, Bool, true, false, cond, eqb, ltb, Option, Some, None, refl, sym, ap, subst, ◌∙◌, arith, inl, inr, ⊎_elim}
+use Rattle.std.proofs.Common.{ℕ, ◌≡◌, ◌+◌, ◌*◌, ◌<◌, ◌≤◌, Bool, true, false, eqb, ltb, refl, sym, ap, ◌∙◌, arith, inl, inr, ⊎_elim}
 use Rattle.std.specs.Prelude.{◌⊎◌}
-use Rattle.std.specs.declared.cmp.Ordering.{Ordering}
 use Rattle.std.specs.declared.cmp.Ordering.TheVariants.{Less, Equal, Greater}
-use Rattle.std.specs.Ordering.{nat_cmp, ordering_then}
+use Rattle.std.specs.Ordering.{nat_cmp}
 use Rattle.std.proofs.lemmas.Bool.{true≢false}
 use Rattle.triple_table.specs.declared.ids.Row.{Row}
-use Rattle.triple_table.specs.declared.ids.IdTriple.{IdTriple}
-use Rattle.triple_table.specs.declared.ids.IdPattern.{IdPattern}
-use Rattle.triple_table.specs.Rows.{row_order, row_of, id_triple_of, order_for, bound_of, goes_before}
+use Rattle.triple_table.specs.Rows.{row_order, goes_before}
 
 -- ---- numbers compared
 

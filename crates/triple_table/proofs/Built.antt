@@ -1,21 +1,20 @@
 -- What the building of a table makes of triples, terms and sorted rows.
-use Rattle.std.proofs.Common.{ℕ, ◌≡◌, ◌≢◌, ◌+◌, ◌*◌, ◌^◌, ◌<◌, ◌≤◌, Bool, true, false, List, [], ◌∷◌, ◌++◌, zero, suc, refl, sym, ap, subst, ◌∙◌, length, get_or, take, map, arith, ⊎_elim, inl, inr, All}
-use Rattle.std.specs.Prelude.{◌⊎◌, ◌↔◌}
-use Rattle.std.specs.List.{Contains, AllByRecursion, IsDistinct, flat_map}
+use Rattle.std.proofs.Common.{ℕ, ◌≡◌, ◌+◌, ◌*◌, ◌^◌, ◌<◌, ◌≤◌, Bool, true, false, List, [], ◌∷◌, ◌++◌, refl, sym, ap, subst, ◌∙◌, length, get_or, take, map, arith, ⊎_elim, All}
+use Rattle.std.specs.Prelude.{◌↔◌}
+use Rattle.std.specs.List.{Contains, AllByRecursion, IsDistinct}
 use Rattle.std.specs.List.Sorted.{IsStrictlySortedBy, IsSorted, IsPermutation}
-use Rattle.std.specs.declared.cmp.Ordering.{Ordering}
-use Rattle.std.specs.declared.cmp.Ordering.TheVariants.{Less, Equal, Greater}
-use Rattle.std.specs.Ordering.{nat_cmp, ordering_then, ordering_reverse, is_lt, is_eq, eq_by_cmp}
-use Rattle.std.specs.Cmp.{IsTotalOrder}
-use Rattle.std.proofs.lemmas.Bool.{true≢false}
+use Rattle.std.specs.declared.cmp.Ordering.TheVariants.{Less, Equal}
+use Rattle.std.specs.Ordering.{nat_cmp, eq_by_cmp}
 use Rattle.std.proofs.lemmas.Cmp.{eq_by_cmp_equiv, tied_itself}
 use Rattle.std.proofs.lemmas.Map.Keys.{IsDistinct-IsPermutation}
 use Rattle.std.proofs.lemmas.List.{length-map, map-append, take_more}
-use Rattle.std.proofs.lemmas.List.Elements.{All-from_recursion, recursion_from_All, All-map, All-weaker, All-contains, Contains-get_or, Contains-append_left, Contains-append_right, Contains-append_cases}
-use Rattle.std.proofs.lemmas.List.Sorted.{sorted_far, ranks_by, All-permutation, Contains-permutation, IsPermutation-sym, length_permutation}
+use Rattle.std.proofs.lemmas.List.Elements.{All-from_recursion, recursion_from_All, All-map, All-weaker, All-contains, Contains-get_or}
+use Rattle.std.proofs.lemmas.List.Sorted.{All-permutation, Contains-permutation, IsPermutation-sym, length_permutation}
+use Rattle.list_laws.proofs.Ascending.{greater_not_equal, is_equal, less_not_equal, strict_from, strict_on, then_equal}
+use Rattle.list_laws.proofs.Members.{Contains-map, at_head, from_flat_map, from_map, in_flat_map, in_tail}
 use Rattle.rdf_terms.specs.declared.term.Term.{Term}
 use Rattle.rdf_terms.specs.declared.term.Triple.{Triple}
-use Rattle.rdf_terms.specs.Order.{term_order, triple_order}
+use Rattle.rdf_terms.specs.Order.{triple_order}
 use Rattle.rdf_terms.specs.OrderLaws.{triple_total}
 use Rattle.rdf_terms.specs.Triples.{IsDataSet, IsGroundTriple}
 use Rattle.triple_table.specs.declared.ids.Row.{Row}
@@ -25,36 +24,10 @@ use Rattle.triple_table.specs.declared.ids.Order.TheVariants.{Spo, Pos, Osp}
 use Rattle.triple_table.specs.Rows.{row_order, row_of, id_triple_of}
 use Rattle.triple_table.specs.Served.{terms_in, terms_of}
 use Rattle.triple_table.specs.Stored.{Stored, IsStored, IsOrdered, IsRanking, IsIdTriple, triple_at, triples_in, rows_in}
-use Rattle.triple_table.proofs.Bounds.{cmp_less, cmp_equal, cmp_greater, three_ways}
-use Rattle.triple_table.proofs.Members.{at_head, in_tail, head_or_tail, none_in, Contains-map, from_map}
-use Rattle.triple_table.proofs.Ranges.{back_there, there_back}
-use Rattle.triple_table.proofs.Ranks.{rows_cmp, strict_on, triples_cmp}
+use Rattle.triple_table.proofs.Bounds.{cmp_less, cmp_greater, three_ways}
+use Rattle.triple_table.proofs.Ranges.{back_there}
+use Rattle.triple_table.proofs.Ranks.{rows_cmp}
 use Rattle.triple_table.proofs.RowOrder.{row_total}
-use Rattle.triple_table.proofs.Ascending.{less_not_equal, greater_not_equal}
-
--- ---- sorted and distinct is strictly ascending
-
-distinct_pair : {X : Type 0} (e : X → X → Bool) (xs : List X) → IsDistinct e xs → (i j : ℕ) (d : X) → i < j → j < length xs → e (get_or xs i d) (get_or xs j d) ≡ false
-unfolding IsDistinct
-distinct_pair e [] s i j d l m = absurd (omega arith)
-distinct_pair e (x ∷ xs) s i zero d l m = absurd (omega arith)
-distinct_pair e (x ∷ xs) s zero (suc j) d l m = All-from_recursion (λ y. e x y ≡ false) xs s.0 j d (omega arith)
-distinct_pair e (x ∷ xs) s (suc i) (suc j) d l m = distinct_pair e xs s.1 i j d (omega arith) (omega arith)
-
-strict_pairs : {X : Type 0} (R : X → X → Ordering) (xs : List X) → ((i j : ℕ) (d : X) → i < j → j < length xs → R (get_or xs i d) (get_or xs j d) ≡ Less) → IsStrictlySortedBy R xs
-unfolding IsStrictlySortedBy
-strict_pairs R [] h = tt
-strict_pairs R (x ∷ xs) h = (recursion_from_All (λ y. R x y ≡ Less) xs (λ k d l. h 0 (suc k) d (omega arith) (omega arith)), strict_pairs R xs (λ i j d l m. h (suc i) (suc j) d (omega arith) (omega arith)))
-
-must_be_less : (o p : Ordering) → o ≡ ordering_reverse p → is_lt p ≡ false → is_eq o ≡ false → o ≡ Less
-must_be_less o Less e h k = absurd (true≢false h)
-must_be_less o Equal e h k = absurd (true≢false (sym (ap is_eq e) ∙ k))
-must_be_less o Greater e h k = e
-
-strict_from : {X : Type 0} {R : X → X → Ordering} (o : IsTotalOrder R) (xs : List X) → IsSorted R xs → IsDistinct (eq_by_cmp R) xs → IsStrictlySortedBy R xs
-strict_from {X} {R} o xs s apart = strict_pairs R xs (λ i j d l m.
-    must_be_less (R (get_or xs i d) (get_or xs j d)) (R (get_or xs j d) (get_or xs i d)) (o.antisymm (get_or xs i d) (get_or xs j d))
-    (sorted_far (λ x y. is_lt (R x y)) (ranks_by o (λ (x : X). x)) xs s i j d (omega arith) m) (distinct_pair (eq_by_cmp R) xs apart i j d l m))
 
 -- ---- rows of distinct triples are distinct
 
@@ -62,14 +35,9 @@ number_same : (x y : ℕ) → nat_cmp x y ≡ Equal → x ≡ y
 number_same x y h =
     ⊎_elim (λ l. absurd (less_not_equal (sym (cmp_less x y l) ∙ h))) (λ r. ⊎_elim (λ e. e) (λ l. absurd (greater_not_equal (sym (cmp_greater x y l) ∙ h))) r) (three_ways x y)
 
-then_both : (o p : Ordering) → ordering_then o p ≡ Equal → (o ≡ Equal) × (p ≡ Equal)
-then_both Less p e = absurd (less_not_equal e)
-then_both Equal p e = (refl, e)
-then_both Greater p e = absurd (greater_not_equal e)
-
 pub same_row : (r q : Row) → row_order r q ≡ Equal → r ≡ q
 same_row r q h =
-    let first = then_both _ _ h in let second = then_both _ _ first.1 in
+    let first = then_equal _ _ h in let second = then_equal _ _ first.1 in
     let e : r.first ≡ q.first = number_same _ _ first.0 in
     let f : r.second ≡ q.second = number_same _ _ second.0 in
     let g : r.third ≡ q.third = number_same _ _ second.1 in
@@ -77,11 +45,6 @@ same_row r q h =
 
 pub same_triple : (o : Order) (x y : IdTriple) → row_of o x ≡ row_of o y → x ≡ y
 same_triple o x y e = sym (back_there o x) ∙ ap (id_triple_of o) e ∙ back_there o y
-
-pub is_equal : (o : Ordering) → is_eq o ≡ true → o ≡ Equal
-is_equal Less e = absurd (true≢false (sym e))
-is_equal Equal e = refl
-is_equal Greater e = absurd (true≢false (sym e))
 
 apart_rows : (terms : List Term) (o : Order) (x y : IdTriple) → triple_order (triple_at terms x) (triple_at terms y) ≡ Less → eq_by_cmp row_order (row_of o x) (row_of o y) ≡ false
 apart_rows terms o x y h = by (eq_by_cmp row_order (row_of o x) (row_of o y)) refl
@@ -102,16 +65,6 @@ distinct_rows terms o [] s = tt
 distinct_rows terms o (x ∷ xs) s = (apart_all terms o x xs s.0, distinct_rows terms o xs s.1)
 
 -- ---- terms of the same triples
-
-pub in_flat_map : {X Y : Type 0} (f : X → List Y) (xs : List X) (x : X) (y : Y) → Contains xs x → Contains (f x) y → Contains (flat_map f xs) y
-in_flat_map f [] x y h k = absurd (none_in x h)
-in_flat_map f (z ∷ xs) x y h k =
-    ⊎_elim (λ e. Contains-append_left (f z) (flat_map f xs) y (subst (λ w. Contains (f w) y) (sym e) k)) (λ t. Contains-append_right (f z) (flat_map f xs) y (in_flat_map f xs x y t k)) (head_or_tail z x xs h)
-
-from_flat_map : {X Y : Type 0} (f : X → List Y) (xs : List X) (y : Y) → Contains (flat_map f xs) y → (x : X) × Contains xs x × Contains (f x) y
-from_flat_map f [] y h = absurd (none_in y h)
-from_flat_map f (z ∷ xs) y h =
-    ⊎_elim (λ k. (z, at_head z xs, k)) (λ k. let r = from_flat_map f xs y k in (r.0, in_tail z r.0 xs r.1, r.2)) (Contains-append_cases (f z) (flat_map f xs) y h)
 
 pub same_terms : (xs ys : List Triple) → ((t : Triple) → Contains xs t → Contains ys t) → (term : Term) → Contains (terms_of xs) term → Contains (terms_of ys) term
 same_terms xs ys h term c = let r = from_flat_map terms_in xs term c in in_flat_map terms_in ys r.0 term (h r.0 r.1) r.2

@@ -1,6 +1,6 @@
 -- Triples by ids, each once.
-use Rattle.std.proofs.Common.{ℕ, nat_eq, ◌&&◌, ◌≡◌, ◌+◌, ◌*◌, ◌<◌, ◌≤◌, Bool, true, List, [], ◌∷◌, refl, sym, ap, subst, ◌∙◌, length, get_or, map, arith, All, inl, inr, Ok, Err}
-use Rattle.std.specs.Prelude.{◌⊎◌, ◌↔◌, Result, IfOk}
+use Rattle.std.proofs.Common.{ℕ, nat_eq, ◌&&◌, ◌≡◌, ◌*◌, ◌<◌, ◌≤◌, Bool, true, List, [], ◌∷◌, refl, sym, ap, subst, ◌∙◌, length, get_or, map, arith, All, inl, inr, Ok, Err}
+use Rattle.std.specs.Prelude.{Result, IfOk}
 use Rattle.std.specs.List.{Contains, AllByRecursion}
 use Rattle.std.specs.List.Retain.{IsFiltered, DiffersFromLast}
 use Rattle.std.specs.List.Sorted.{IsStrictlySortedBy, IsSorted, IsPermutation}
@@ -9,12 +9,13 @@ use Rattle.std.specs.Cmp.Derive.{tie, on_tied, then_tied}
 use Rattle.std.specs.declared.cmp.Ordering.{Ordering}
 use Rattle.std.specs.Bool.{Decides}
 use Rattle.std.specs.Ordering.{nat_cmp, ordering_then, eq_by_cmp, is_eq}
-use Rattle.std.specs.Set.{is_member}
 use Rattle.std.proofs.lemmas.Cmp.{nat_cmp_total, on_total, then_total, eq_by_cmp_equiv}
 use Rattle.std.proofs.lemmas.List.{length-map}
 use Rattle.std.proofs.lemmas.List.Elements.{recursion_from_All, All-contains, Contains-get_or}
 use Rattle.std.proofs.lemmas.Map.Keys.{IsDistinct-from_sorted}
 use Rattle.std.proofs.lemmas.Map.Made.{length-le_from_is_member, is_member-Decides}
+use Rattle.list_laws.proofs.Ascending.{is_equal, strict_on}
+use Rattle.list_laws.proofs.Members.{Contains-map, deduped_ascends, from_deduped, from_map, in_deduped}
 use Rattle.rdf_terms.specs.declared.term.Term.{Term}
 use Rattle.rdf_terms.specs.declared.term.Triple.{Triple}
 use Rattle.rdf_terms.specs.declared.slots.Slot.TheVariants.{Any}
@@ -26,14 +27,13 @@ use Rattle.rdf_terms.specs.Fragments.{fragment}
 use Rattle.rdf_terms.proofs.FragmentLaws.{fragment_is}
 use Rattle.triple_table.specs.declared.ids.IdTriple.{IdTriple}
 use Rattle.triple_table.specs.declared.ids.Order.TheVariants.{Spo}
-use Rattle.triple_table.specs.Rows.{row_order, row_of}
+use Rattle.triple_table.specs.Rows.{row_of}
 use Rattle.triple_table.specs.Genid.{skolem_triple}
 use Rattle.triple_table.specs.Ranking.{SameMembers, HoldsMore}
-use Rattle.triple_table.specs.Served.{terms_in, terms_of, Clashes, IsServed}
+use Rattle.triple_table.specs.Served.{terms_of, Clashes, IsServed}
 use Rattle.triple_table.specs.Stored.{IsRanking, IsIdTriple, PassesMost, triple_at}
-use Rattle.triple_table.proofs.Members.{Contains-map, from_map, deduped_ascends, from_deduped, in_deduped}
-use Rattle.triple_table.proofs.Built.{same_terms, is_equal, same_row, same_triple}
-use Rattle.triple_table.proofs.Ranks.{rows_cmp, strict_on}
+use Rattle.triple_table.proofs.Built.{same_terms, same_row, same_triple}
+use Rattle.triple_table.proofs.Ranks.{rows_cmp}
 
 -- the order of triples by ids
 abbrev pub id_order : IdTriple → IdTriple → Ordering

@@ -1,18 +1,17 @@
 -- Lists with the same members, and the terms of one more triple.
 use Rattle.std.proofs.Common.{ℕ, true, ◌≡◌, ◌+◌, ◌<◌, List, [], ◌∷◌, ◌++◌, sym, ap, subst, ◌∙◌, length, get_or, take, ⊎_elim, append_assoc}
-use Rattle.std.specs.Prelude.{◌↔◌}
 use Rattle.std.specs.Borrow.{Bor}
 use Rattle.std.specs.List.{Contains}
 use Rattle.std.proofs.lemmas.List.{take_more, map-append}
 use Rattle.std.proofs.lemmas.List.Concat.{flat_map-append}
 use Rattle.std.proofs.lemmas.List.Elements.{Contains-append_left, Contains-append_right, Contains-append_cases, Contains-get_or}
+use Rattle.list_laws.proofs.Members.{Contains-map, head_or_tail, none_in}
 use Rattle.rdf_terms.specs.declared.term.Term.{Term}
 use Rattle.rdf_terms.specs.declared.term.Triple.{Triple}
 use Rattle.rdf_terms.specs.Same.{term_eq}
 use Rattle.rdf_terms.specs.EqualityLaws.{term_decides}
 use Rattle.triple_table.specs.Ranking.{SameMembers, borrowed_terms}
 use Rattle.triple_table.specs.Served.{terms_in, terms_of}
-use Rattle.triple_table.proofs.Members.{head_or_tail, none_in, Contains-map}
 
 pub same_trans : {X : Type 0} (xs ys zs : List X) → SameMembers xs ys → SameMembers ys zs → SameMembers xs zs
 same_trans xs ys zs h k x = (λ c. (k x).0 ((h x).0 c), λ c. (h x).1 ((k x).1 c))

@@ -1,6 +1,6 @@
 -- The IRI of a blank node is an IRI.
-use Rattle.std.proofs.Common.{ℕ, ◌≡◌, ◌+◌, ◌^◌, ◌/◌, ◌%◌, ◌<◌, ◌≤◌, Bool, true, false, cond, List, [], ◌∷◌, ◌++◌, refl, sym, ◌∙◌, subst, ltb, inl, inr, ⊎_elim, length, zero, suc, arith}
-use Rattle.std.specs.Prelude.{◌⊎◌, nat_le, ◌&&◌, ◌||◌, ◌==◌, not, codes, if◌then◌else◌}
+use Rattle.std.proofs.Common.{ℕ, ◌≡◌, ◌+◌, ◌^◌, ◌/◌, ◌%◌, ◌<◌, ◌≤◌, Bool, true, false, cond, List, [], ◌∷◌, ◌++◌, refl, sym, ◌∙◌, subst, ltb, ⊎_elim, length, arith}
+use Rattle.std.specs.Prelude.{nat_le, ◌&&◌, ◌||◌, ◌==◌, not, codes, if◌then◌else◌}
 use Rattle.std.specs.List.{list_all}
 use Rattle.std.specs.Str.{chars, IsUtf8, str_to_ascii_lowercase}
 use Rattle.std.specs.Int.{is_in_range}
@@ -10,51 +10,21 @@ use Rattle.std.specs.Str.Parse.{AllDigits}
 use Rattle.std.proofs.lemmas.List.Folds.{list_all-append, list_all-map}
 use Rattle.std.proofs.lemmas.Fmt.{decimal_is_IsNumeral}
 use Rattle.std.proofs.lemmas.Str.{encodes-chars}
+use Rattle.std.proofs.lemmas.Bool.{and_from, and_parts, or_cases}
 use lib.Utf8.{encode, encodes}
+use Rattle.list_laws.proofs.Tests.{all_below, from_all_below, implied}
 use Rattle.rdf_terms.specs.Iri.{is_iri, is_iri_byte, has_scheme}
 use Rattle.rdf_terms.specs.Label.{is_label, is_label_char, are_label_chars}
 use Rattle.tpf_base.specs.Addresses.{IsAuthority, is_host, is_host_byte, is_port}
 use Rattle.triple_table.specs.Genid.{genid}
 
-pub and_both : (p q : Bool) → (p && q) ≡ true → (p ≡ true) × (q ≡ true)
-and_both true q e = (refl, e)
-and_both false q e = cc
-
-pub and_true : (p q : Bool) → p ≡ true → q ≡ true → (p && q) ≡ true
-and_true true q e f = f
-and_true false q e f = e
-
 -- a test that is weaker at each element
 all_weaker : (p q : ℕ → Bool) → ((b : ℕ) → p b ≡ true → q b ≡ true) → (bs : List ℕ) → list_all p bs ≡ true → list_all q bs ≡ true
 all_weaker p q w [] e = refl
-all_weaker p q w (b ∷ bs) e = let parts = and_both (p b) (list_all p bs) e in and_true (q b) (list_all q bs) (w b parts.0) (all_weaker p q w bs parts.1)
+all_weaker p q w (b ∷ bs) e = let parts = and_parts (p b) (list_all p bs) e in and_from (q b) (list_all q bs) (w b parts.0) (all_weaker p q w bs parts.1)
 
 high_byte : (b : ℕ) → 128 ≤ b → is_iri_byte b ≡ true
 high_byte b h = grind (arith, h)
-
--- a test of each number below n
-all_below : ℕ → (ℕ → Bool) → Bool
-all_below zero p = true
-all_below (suc n) p = p n && all_below n p
-
-from_all_below : (n : ℕ) (p : ℕ → Bool) → all_below n p ≡ true → (c : ℕ) → c < n → p c ≡ true
-unfolding all_below
-from_all_below zero p e c l = absurd (omega arith)
-from_all_below (suc n) p e c l =
-    let parts = and_both (p n) (all_below n p) e in
-    by (ltb c n) refl parts.0 (from_all_below n p parts.1 c)
-  where
-    by : (b : Bool) → ltb c n ≡ b → p n ≡ true → (c < n → p c ≡ true) → p c ≡ true
-    by true t last below = below (grind (arith, t))
-    by false t last below = let same : n ≡ c = grind (arith, t, l) in subst (λ k. p k ≡ true) same last
-
-implied : (p q : Bool) → (not p || q) ≡ true → p ≡ true → q ≡ true
-implied true q e h = e
-implied false q e h = cc
-
-or_cases : (p q : Bool) → (p || q) ≡ true → (p ≡ true) ⊎ (q ≡ true)
-or_cases true q e = inl refl
-or_cases false q e = inr e
 
 range_low : (low high b : ℕ) → high < 128 → is_in_range low high b ≡ true → b < 128
 range_low low high b l h = grind (arith, h)
@@ -86,7 +56,7 @@ digit_byte b h = grind (arith, h)
 
 digits_bytes : (bs : List ℕ) → AllDigits 10 bs → list_all is_iri_byte bs ≡ true
 digits_bytes [] h = refl
-digits_bytes (b ∷ bs) h = and_true (is_iri_byte b) (list_all is_iri_byte bs) (digit_byte b h.0) (digits_bytes bs h.1)
+digits_bytes (b ∷ bs) h = and_from (is_iri_byte b) (list_all is_iri_byte bs) (digit_byte b h.0) (digits_bytes bs h.1)
 
 label_byte : (c : ℕ) → ltb c 128 ≡ true → (is_label_char c || (c == 46)) ≡ true → is_iri_byte c ≡ true
 unfolding all_below
@@ -108,14 +78,14 @@ encode_bytes c h = char_bytes (ltb c 128) (ltb c 2048) (ltb c 65536) c refl h
 encodes_bytes : (cs : List ℕ) → are_label_chars cs ≡ true → list_all is_iri_byte (encodes cs) ≡ true
 encodes_bytes [] h = refl
 encodes_bytes (c ∷ cs) h =
-    let parts = and_both (is_label_char c || (c == 46)) (are_label_chars cs) h in
-    list_all-append is_iri_byte (encode c) (encodes cs) ∙ and_true _ _ (encode_bytes c parts.0) (encodes_bytes cs parts.1)
+    let parts = and_parts (is_label_char c || (c == 46)) (are_label_chars cs) h in
+    list_all-append is_iri_byte (encode c) (encodes cs) ∙ and_from _ _ (encode_bytes c parts.0) (encodes_bytes cs parts.1)
 
 pub label_bytes : (label : List ℕ) → is_label label ≡ true → IsUtf8 label → list_all is_iri_byte label ≡ true
 unfolding is_label
 label_bytes label h u =
-    let three = (and_both _ _ h).0 in
-    let are = (and_both _ _ three).1 in
+    let three = (and_parts _ _ h).0 in
+    let are = (and_parts _ _ three).1 in
     subst (λ bs. list_all is_iri_byte bs ≡ true) (encodes-chars label u) (encodes_bytes (chars label) are)
 
 authority_bytes : (b : Bool) (host : List ℕ) (port : ℕ) → is_host host ≡ true → is_port port ≡ true →
@@ -123,7 +93,7 @@ authority_bytes : (b : Bool) (host : List ℕ) (port : ℕ) → is_host host ≡
 authority_bytes b host port h p = by b
   where
     lower : list_all is_iri_byte (str_to_ascii_lowercase host) ≡ true
-    lower = list_all-map is_iri_byte to_ascii_lowercase host ∙ all_weaker is_host_byte (λ b. is_iri_byte (to_ascii_lowercase b)) host_byte host (and_both (nat_le 1 (length host) && nat_le (length host) 255) (list_all is_host_byte host) h).1
+    lower = list_all-map is_iri_byte to_ascii_lowercase host ∙ all_weaker is_host_byte (λ b. is_iri_byte (to_ascii_lowercase b)) host_byte host (and_parts (nat_le 1 (length host) && nat_le (length host) 255) (list_all is_host_byte host) h).1
 
     small : port < 2 ^ 64
     small = grind (arith, p)
@@ -132,7 +102,7 @@ authority_bytes b host port h p = by b
     by true = lower
     by false =
         list_all-append is_iri_byte (str_to_ascii_lowercase host ++ codes ":") (decimal port)
-        ∙ and_true _ _ (list_all-append is_iri_byte (str_to_ascii_lowercase host) (codes ":") ∙ and_true _ _ lower refl)
+        ∙ and_from _ _ (list_all-append is_iri_byte (str_to_ascii_lowercase host) (codes ":") ∙ and_from _ _ lower refl)
         (digits_bytes (decimal port) (decimal_is_IsNumeral port small).0.1)
 
 pub authority_all : (authority : List ℕ) → IsAuthority authority → list_all is_iri_byte authority ≡ true
@@ -141,10 +111,10 @@ authority_all authority a =
 
 pub genid_is_iri : (authority label : List ℕ) → IsAuthority authority → is_label label ≡ true → IsUtf8 label → is_iri (genid authority label) ≡ true
 genid_is_iri authority label a l u =
-    and_true (list_all is_iri_byte (genid authority label)) (has_scheme (genid authority label))
+    and_from (list_all is_iri_byte (genid authority label)) (has_scheme (genid authority label))
     (list_all-append is_iri_byte (codes "http://" ++ authority ++ codes "/.well-known/genid/") label
-    ∙ and_true _ _
+    ∙ and_from _ _
     (list_all-append is_iri_byte (codes "http://" ++ authority) (codes "/.well-known/genid/")
-    ∙ and_true _ _ (list_all-append is_iri_byte (codes "http://") authority ∙ authority_all authority a) refl)
+    ∙ and_from _ _ (list_all-append is_iri_byte (codes "http://") authority ∙ authority_all authority a) refl)
     (label_bytes label l u))
     refl

@@ -9,12 +9,13 @@ use Rattle.std.specs.Str.{bytes_eq}
 use Rattle.std.specs.Cmp.{IsTotalOrder}
 use Rattle.std.specs.Cmp.Lexicographic.{texts_ties}
 use Rattle.std.proofs.lemmas.Cmp.{nat_list_cmp_total, on_total}
+use Rattle.list_laws.proofs.Ascending.{ascending_map}
+use Rattle.list_laws.proofs.Members.{Contains-filter_map, Contains-map, deduped_ascends, from_deduped, from_filter_map, from_map, in_deduped}
 use Rattle.rdf_terms.specs.Order.{bytes_order}
 use Rattle.triple_table.proofs.Bytes.{bytes_eq_same}
 use Rattle.rdf_terms.specs.declared.term.Term.{Term}
 use Rattle.rdf_terms.specs.declared.term.Term.TheVariants.{Iri, Blank, Literal}
 use Rattle.triple_table.specs.Labels.{texts, label_of}
-use Rattle.triple_table.proofs.Members.{Contains-map, from_map, Contains-filter_map, from_filter_map, ascending_map, deduped_ascends, from_deduped, in_deduped}
 
 is_blank : (t : Term) (label : List ℕ) → label_of t ≡ Some label → t ≡ Blank label
 is_blank (Iri text) label e = cc

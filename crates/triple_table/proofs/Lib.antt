@@ -2,9 +2,7 @@ pub mod Iris
 pub mod Parts
 pub mod Steps
 pub mod FirstClash
-pub mod Ascending
 pub mod Searched
-pub mod Members
 pub mod LabelMembers
 pub mod Clashes
 pub mod Bytes
@@ -20,3 +18,4 @@ pub mod Built
 pub mod TermMembers
 pub mod Gathered
 pub mod Distinct
+pub mod Kept

@@ -1,5 +1,5 @@
 -- A search that halves what is left: what it knows, and how often it compares.
-use Rattle.std.proofs.Common.{ℕ, ◌≡◌, ◌+◌, ◌-◌, ◌*◌, ◌/◌, ◌^◌, ◌<◌, ◌≤◌, List, zero, suc, refl, sym, ap, subst, ◌∙◌, length, get_or, arith}
+use Rattle.std.proofs.Common.{ℕ, ◌≡◌, ◌+◌, ◌-◌, ◌*◌, ◌/◌, ◌^◌, ◌<◌, ◌≤◌, List, zero, suc, length, get_or, arith}
 use Rattle.std.proofs.Math.Nat.{pow-suc}
 
 -- Elements below `low` are before what is sought and those from `high` on are behind it. From `start` on `now` steps were taken, and e more are enough.

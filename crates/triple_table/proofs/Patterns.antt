@@ -1,10 +1,9 @@
 -- Between the bounds of a pattern stand exactly the rows that it matches.
-use Rattle.std.proofs.Common.{ℕ, ◌≡◌, ◌+◌, ◌-◌, ◌*◌, ◌<◌, ◌≤◌, Option, Some, None, refl, sym, ap, subst, ◌∙◌, arith}
+use Rattle.std.proofs.Common.{ℕ, ◌≡◌, ◌<◌, ◌≤◌, Option, Some, None, arith}
 use Rattle.triple_table.specs.declared.ids.Row.{Row}
 use Rattle.triple_table.specs.declared.ids.IdTriple.{IdTriple}
 use Rattle.triple_table.specs.declared.ids.IdPattern.{IdPattern}
-use Rattle.triple_table.specs.declared.ids.Order.TheVariants.{Spo, Pos, Osp}
-use Rattle.triple_table.specs.Rows.{row_of, id_triple_of, order_for, order_by, bound_of}
+use Rattle.triple_table.specs.Rows.{id_triple_of, order_by, bound_of}
 use Rattle.triple_table.proofs.Bounds.{key, IsSmall, one_is, two_are, three_are}
 
 -- an open place fits every id

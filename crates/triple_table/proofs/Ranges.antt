@@ -1,18 +1,19 @@
 -- A range lists the fragment.
-use Rattle.std.proofs.Common.{ℕ, ◌≡◌, ◌+◌, ◌-◌, ◌*◌, ◌^◌, ◌<◌, ◌≤◌, Bool, true, false, ltb, leb, suc, List, [], refl, sym, ap, subst, ◌∙◌, length, get_or, take, drop, map, arith, ⊎_elim, All, Option, Some, None}
-use Rattle.std.specs.Prelude.{◌↔◌, slice_index_or}
-use Rattle.std.specs.List.{Contains, AllByRecursion}
+use Rattle.std.proofs.Common.{ℕ, ◌≡◌, ◌+◌, ◌-◌, ◌*◌, ◌^◌, ◌<◌, ◌≤◌, Bool, true, false, ltb, leb, suc, List, refl, sym, ap, subst, ◌∙◌, length, get_or, take, drop, map, arith, Option, Some, None}
+use Rattle.std.specs.List.{Contains}
 use Rattle.std.specs.List.Sorted.{IsStrictlySortedBy}
 use Rattle.std.proofs.lemmas.Bool.{true≢false}
 use Rattle.std.proofs.lemmas.List.{length-map, get_or-map, get_or-drop, get_or-take}
 use Rattle.std.proofs.lemmas.List.Elements.{Contains-get_or, recursion_from_All, All-take, All-drop, All-contains}
 use Rattle.std.proofs.Math.Nat.{pow-suc}
+use Rattle.list_laws.proofs.Ascending.{strict_drop, strict_on, strict_take}
+use Rattle.list_laws.proofs.Members.{Contains-map, from_map}
+use Rattle.list_laws.proofs.Places.{between, between_len, in_between}
 use Rattle.rdf_terms.specs.declared.term.Term.{Term}
-use Rattle.rdf_terms.specs.declared.term.Term.TheVariants.{Iri}
 use Rattle.rdf_terms.specs.declared.term.Triple.{Triple}
 use Rattle.rdf_terms.specs.Order.{term_order}
 use Rattle.rdf_terms.specs.declared.slots.Slots.{Slots}
-use Rattle.rdf_terms.specs.Slots.{MatchesSlot, Matches, order_of}
+use Rattle.rdf_terms.specs.Slots.{MatchesSlot, Matches}
 use Rattle.rdf_terms.specs.Fragments.{IsFragment}
 use Rattle.triple_table.specs.declared.ids.Row.{Row}
 use Rattle.triple_table.specs.declared.ids.IdTriple.{IdTriple}
@@ -23,9 +24,8 @@ use Rattle.triple_table.specs.declared.ids.Range.{Range}
 use Rattle.triple_table.specs.Rows.{row_order, row_of, id_triple_of, order_for, order_by, bound_of, goes_before}
 use Rattle.triple_table.specs.Stored.{Stored, IsStored, IsOrdered, IsRange, IsIdPattern, IsIdTriple, IsIdOrOpen, term_at, triple_at, triples_by, triples_in, rows_in, listed, slot_at, slots_at}
 use Rattle.triple_table.proofs.Bounds.{key, IsSmall, not_before, is_not_before, up_to, is_up_to}
-use Rattle.triple_table.proofs.Members.{Contains-map, from_map}
 use Rattle.triple_table.proofs.Patterns.{FitsId, IsSmallId, MatchesIds, pattern, from_bounds, to_bounds, bound_small}
-use Rattle.triple_table.proofs.Ranks.{rank_cmp, same_rank, rows_cmp, triples_cmp, kind_is, strict_drop, strict_take, strict_on, in_between, between, between_len}
+use Rattle.triple_table.proofs.Ranks.{same_rank, rows_cmp, triples_cmp, kind_is}
 
 -- ---- ids and terms
 

@@ -1,14 +1,10 @@
 -- Ranks follow the order of terms, and rows the order of triples.
-use Rattle.std.proofs.Common.{ℕ, ◌≡◌, ◌+◌, ◌-◌, ◌<◌, ◌≤◌, Bool, true, false, List, [], ◌∷◌, zero, suc, refl, sym, ap, subst, ◌∙◌, length, get_or, take, drop, map, arith, ⊎_elim, All, Option, Some, None}
-use Rattle.std.specs.Prelude.{◌⊎◌}
-use Rattle.std.specs.List.{Contains, AllByRecursion}
+use Rattle.std.proofs.Common.{ℕ, ◌≡◌, ◌<◌, List, [], refl, sym, ap, subst, ◌∙◌, length, ⊎_elim, Option, Some, None}
 use Rattle.std.specs.List.Sorted.{IsStrictlySortedBy}
 use Rattle.std.specs.declared.cmp.Ordering.{Ordering}
-use Rattle.std.specs.declared.cmp.Ordering.TheVariants.{Less, Equal, Greater}
 use Rattle.std.specs.Ordering.{nat_cmp, ordering_reverse}
 use Rattle.std.proofs.lemmas.Cmp.{tied_itself}
-use Rattle.std.proofs.lemmas.List.{get_or-drop, get_or-take, length-drop, length-take, length-take-le}
-use Rattle.std.proofs.lemmas.List.Elements.{All-from_recursion, recursion_from_All, All-take, All-drop}
+use Rattle.list_laws.proofs.Ascending.{apart, pair_less}
 use Rattle.rdf_terms.specs.declared.term.Term.{Term}
 use Rattle.rdf_terms.specs.declared.term.Term.TheVariants.{Iri}
 use Rattle.rdf_terms.specs.declared.term.Triple.{Triple}
@@ -18,12 +14,9 @@ use Rattle.rdf_terms.specs.Slots.{pos_order, osp_order, order_of}
 use Rattle.triple_table.specs.declared.ids.Row.{Row}
 use Rattle.triple_table.specs.declared.ids.Order.{Order}
 use Rattle.triple_table.specs.declared.ids.Order.TheVariants.{Spo, Pos, Osp}
-use Rattle.triple_table.specs.declared.ids.IdPattern.{IdPattern}
-use Rattle.triple_table.specs.Rows.{row_order, id_triple_of, order_for, order_by}
-use Rattle.triple_table.specs.Stored.{Stored, term_at, triple_at, triples_by, IsIdTriple, slots_at, slot_at}
-use Rattle.triple_table.proofs.Ascending.{pair_less, apart}
+use Rattle.triple_table.specs.Rows.{row_order, id_triple_of, order_by}
+use Rattle.triple_table.specs.Stored.{term_at, triple_at, IsIdTriple, slot_at}
 use Rattle.triple_table.proofs.Bounds.{cmp_less, cmp_equal, cmp_greater, three_ways}
-use Rattle.triple_table.proofs.Patterns.{pattern}
 
 pub rank_cmp : (terms : List Term) → IsStrictlySortedBy term_order terms → (a b : ℕ) → a < length terms → b < length terms → term_order (term_at terms a) (term_at terms b) ≡ nat_cmp a b
 rank_cmp terms s a b l m =
@@ -57,46 +50,3 @@ kind_is terms (Some x) (Some y) None = refl
 kind_is terms None (Some y) (Some z) = refl
 kind_is terms (Some x) None (Some z) = refl
 kind_is terms (Some x) (Some y) (Some z) = refl
-
--- ---- parts of an ascending list
-
-pub strict_drop : {X : Type 0} (R : X → X → Ordering) (n : ℕ) (xs : List X) → IsStrictlySortedBy R xs → IsStrictlySortedBy R (drop n xs)
-unfolding IsStrictlySortedBy
-strict_drop R zero xs s = s
-strict_drop R (suc n) [] s = tt
-strict_drop R (suc n) (x ∷ xs) s = strict_drop R n xs s.1
-
-pub strict_take : {X : Type 0} (R : X → X → Ordering) (n : ℕ) (xs : List X) → IsStrictlySortedBy R xs → IsStrictlySortedBy R (take n xs)
-unfolding IsStrictlySortedBy
-strict_take R zero xs s = tt
-strict_take R (suc n) [] s = tt
-strict_take {X} R (suc n) (x ∷ xs) s = (recursion_from_All (λ y. R x y ≡ Less) (take n xs) (All-take (λ y. R x y ≡ Less) n xs (All-from_recursion (λ y. R x y ≡ Less) xs s.0)), strict_take R n xs s.1)
-
-all_on : {X Y : Type 0} (f : X → Y) (Q : Y → Type 0) (P S : X → Type 0) → ((x : X) → P x → S x → Q (f x)) → (xs : List X) → AllByRecursion P xs → AllByRecursion S xs → AllByRecursion Q (map f xs)
-all_on f Q P S w [] p s = tt
-all_on f Q P S w (x ∷ xs) p s = (w x p.0 s.0, all_on f Q P S w xs p.1 s.1)
-
-pub strict_on : {X Y : Type 0} (f : X → Y) (R : Y → Y → Ordering) (S : X → X → Ordering) (P : X → Type 0) → ((x y : X) → P x → P y → S x y ≡ R (f x) (f y)) → (xs : List X) → AllByRecursion P xs →
-    IsStrictlySortedBy S xs → IsStrictlySortedBy R (map f xs)
-unfolding IsStrictlySortedBy
-strict_on f R S P w [] p s = tt
-strict_on f R S P w (x ∷ xs) p s = (all_on f (λ y. R (f x) y ≡ Less) P (λ y. S x y ≡ Less) (λ y q e. sym (w x y p.0 q) ∙ e) xs p.1 s.0, strict_on f R S P w xs p.1 s.1)
-
--- ---- what stands between two places
-
-pub in_between : {X : Type 0} (xs : List X) (from to : ℕ) (x : X) → to ≤ length xs → Contains (take (to - from) (drop from xs)) x → (j : ℕ) × (from ≤ j) × (j < to) × (get_or xs j x ≡ x)
-in_between xs from to x w h =
-    let k = h.0 in let l = h.1 in
-    let short : length (take (to - from) (drop from xs)) ≤ to - from = rw (length-take (to - from) (drop from xs)) (omega arith) in
-    let inside : k < to - from = omega (arith, l, short) in
-    (from + k, omega arith, omega (arith, inside), sym (get_or-take (to - from) (drop from xs) k x inside ∙ get_or-drop from xs k x) ∙ h.2)
-
-pub between : {X : Type 0} (xs : List X) (from to j : ℕ) (x : X) → from ≤ j → j < to → to ≤ length xs → get_or xs j x ≡ x → Contains (take (to - from) (drop from xs)) x
-between xs from to j x l m w e =
-    let inside : j - from < to - from = omega (arith, l, m) in
-    let place : from + (j - from) ≡ j = omega (arith, l) in
-    let all : to - from ≤ length (drop from xs) = simp length-drop (omega (arith, w)) in
-    (j - from, rw (length-take-le (to - from) (drop from xs) all) inside, get_or-take (to - from) (drop from xs) (j - from) x inside ∙ get_or-drop from xs (j - from) x ∙ subst (λ i. get_or xs i x ≡ x) (sym place) e)
-
-pub between_len : {X : Type 0} (xs : List X) (from to : ℕ) → from ≤ to → to ≤ length xs → length (take (to - from) (drop from xs)) ≡ to - from
-between_len xs from to l w = let all : to - from ≤ length (drop from xs) = simp length-drop (omega (arith, l, w)) in length-take-le (to - from) (drop from xs) all

@@ -10,12 +10,13 @@ use Rattle.std.specs.Borrow.{Bor}
 use Rattle.std.proofs.lemmas.Cmp.{nat_list_cmp_total, tied_itself}
 use Rattle.std.proofs.lemmas.List.{get_or-map, length-map}
 use Rattle.std.proofs.lemmas.List.Sorted.{searchable_from_sorted}
+use Rattle.list_laws.proofs.Ascending.{apart, greater_not_equal, less_not_equal, pair_less, sorted_keys}
+use Rattle.list_laws.proofs.Members.{contains_one, one_of}
 use Rattle.rdf_terms.specs.Order.{bytes_order}
 use Rattle.triple_table.proofs.Bytes.{bytes_same}
 use Rattle.rdf_terms.specs.declared.term.Term.TheVariants.{Iri}
 use Rattle.triple_table.specs.Genid.{genid}
 use Rattle.triple_table.specs.Labels.{IsFirstClash, texts}
-use Rattle.triple_table.proofs.Ascending.{less_not_equal, greater_not_equal, pair_less, apart, sorted_keys, one_of, contains_one}
 use Rattle.triple_table.proofs.Parts.{genid_same}
 
 iri_same : (a b : List ℕ) → Iri a ≡ Iri b → a ≡ b

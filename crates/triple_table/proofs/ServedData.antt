@@ -1,10 +1,10 @@
 -- What a sort and a dedup of the served triples leave.
 use Rattle.std.proofs.Common.{◌≡◌, ℕ, List, sym, subst, get_or, map, All, []}
-use Rattle.std.specs.Prelude.{◌↔◌}
 use Rattle.std.specs.List.{Contains, filter}
 use Rattle.std.specs.List.Retain.{IsFiltered, DiffersFromLast}
 use Rattle.std.specs.List.Sorted.{IsSorted, IsPermutation}
 use Rattle.std.proofs.lemmas.List.Elements.{recursion_from_All, All-contains, All-filter, Contains-get_or}
+use Rattle.list_laws.proofs.Members.{deduped_ascends, from_deduped, from_map, in_deduped}
 use Rattle.rdf_terms.specs.declared.term.Term.{Term}
 use Rattle.rdf_terms.specs.declared.term.Term.TheVariants.{Iri, Blank, Literal}
 use Rattle.rdf_terms.specs.declared.term.Triple.{Triple}
@@ -16,12 +16,11 @@ use Rattle.rdf_terms.specs.Same.{triple_eq}
 use Rattle.rdf_terms.specs.Order.{triple_order}
 use Rattle.rdf_terms.specs.EqualityLaws.{triple_decides}
 use Rattle.rdf_terms.specs.OrderLaws.{triple_total, triple_ties}
-use Rattle.rdf_terms.specs.Triples.{IsDataSet, IsIri, IsIriOrBlank, IsIriOrLiteral, IsRdfTriple, IsRdfQuad, IsGroundTriple}
+use Rattle.rdf_terms.specs.Triples.{IsIri, IsIriOrBlank, IsIriOrLiteral, IsRdfTriple, IsRdfQuad, IsGroundTriple}
 use Rattle.triple_table.specs.declared.choice.Choice.{Choice}
 use Rattle.triple_table.specs.Chosen.{is_chosen, chosen}
 use Rattle.triple_table.specs.Genid.{skolem, skolem_triple}
 use Rattle.triple_table.specs.Served.{IsServed}
-use Rattle.triple_table.proofs.Members.{from_map, deduped_ascends, from_deduped, in_deduped}
 
 iri_served : (authority : List ℕ) (t : Term) → IsIriOrBlank t → IsIri (skolem authority t)
 iri_served authority (Iri text) h = tt

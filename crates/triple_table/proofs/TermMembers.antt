@@ -1,13 +1,13 @@
 -- The terms that a sort and a dedup leave.
-use Rattle.std.proofs.Common.{ℕ, ◌≡◌, ◌+◌, ◌*◌, ◌≤◌, Bool, true, List, [], ◌∷◌, refl, sym, ap, subst, ◌∙◌, length, map, arith, length-append}
-use Rattle.std.specs.Prelude.{◌↔◌}
+use Rattle.std.proofs.Common.{◌≡◌, List, [], sym, subst, ◌∙◌}
 use Rattle.std.specs.Borrow.{Bor}
 use Rattle.std.specs.List.{Contains}
 use Rattle.std.specs.List.Retain.{IsFiltered, DiffersFromLast}
-use Rattle.std.specs.List.Sorted.{IsStrictlySortedBy, IsSorted, IsPermutation}
+use Rattle.std.specs.List.Sorted.{IsSorted, IsPermutation}
 use Rattle.std.specs.Cmp.{IsTotalOrder}
 use Rattle.std.proofs.lemmas.Cmp.{on_total}
-use Rattle.std.proofs.lemmas.List.{length-map}
+use Rattle.list_laws.proofs.Ascending.{ascending_map}
+use Rattle.list_laws.proofs.Members.{Contains-map, deduped_ascends, from_deduped, from_map, in_deduped}
 use Rattle.rdf_terms.specs.declared.term.Term.{Term}
 use Rattle.rdf_terms.specs.declared.term.Triple.{Triple}
 use Rattle.rdf_terms.specs.Same.{term_eq}
@@ -15,9 +15,8 @@ use Rattle.rdf_terms.specs.Order.{term_order}
 use Rattle.rdf_terms.specs.EqualityLaws.{term_decides}
 use Rattle.rdf_terms.specs.OrderLaws.{term_total, term_ties}
 use Rattle.triple_table.specs.Ranking.{borrowed_terms, SameMembers}
-use Rattle.triple_table.specs.Served.{terms_in, terms_of}
+use Rattle.triple_table.specs.Served.{terms_of}
 use Rattle.triple_table.specs.Stored.{IsRanking}
-use Rattle.triple_table.proofs.Members.{Contains-map, from_map, ascending_map, deduped_ascends, from_deduped, in_deduped}
 
 module _ (triples : List Triple) (xs ys zs : List (Bor Term)) (terms : SameMembers (borrowed_terms xs) (terms_of triples)) (moved : IsPermutation xs ys)
     (kept : IsFiltered (DiffersFromLast (λ x y. term_eq x.now y.now)) [] ys zs) where

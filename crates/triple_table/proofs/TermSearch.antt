@@ -1,13 +1,12 @@
 -- A step of the search for a term, and what it finds.
-use Rattle.std.proofs.Common.{ℕ, ◌≡◌, ◌+◌, ◌-◌, ◌/◌, ◌<◌, ◌≤◌, Bool, true, false, List, refl, sym, subst, ◌∙◌, length, get_or, arith, ltb}
+use Rattle.std.proofs.Common.{ℕ, ◌≡◌, ◌+◌, ◌-◌, ◌/◌, ◌<◌, ◌≤◌, Bool, true, false, List, refl, sym, ◌∙◌, length, get_or, arith, ltb}
 use Rattle.std.specs.List.{Contains}
 use Rattle.std.specs.List.Sorted.{IsStrictlySortedBy}
-use Rattle.std.specs.declared.cmp.Ordering.{Ordering}
 use Rattle.std.specs.declared.cmp.Ordering.TheVariants.{Less, Equal, Greater}
+use Rattle.list_laws.proofs.Ascending.{greater_not_equal, less_not_equal}
 use Rattle.rdf_terms.specs.declared.term.Term.{Term}
 use Rattle.rdf_terms.specs.Order.{term_order}
 use Rattle.rdf_terms.specs.OrderLaws.{term_total, term_equal}
-use Rattle.triple_table.proofs.Ascending.{less_not_equal, greater_not_equal}
 use Rattle.triple_table.proofs.Narrowing.{Narrowed, narrow_up, narrow_down}
 use Rattle.triple_table.proofs.RowOrder.{still_less, still_greater}
 

@@ -5,3 +5,4 @@ pub mod Labels
 pub mod Rows
 pub mod Stored
 pub mod Ranking
+pub mod Short

@@ -6,6 +6,7 @@ ghost use Rattle.rdf_terms.specs.declared.term.Term.{Term};
 ghost use Rattle.rdf_terms.specs.declared.term.Triple.{Triple};
 ghost use Rattle.rdf_terms.specs.Order.{term_order, triple_order};
 ghost use Rattle.rdf_terms.specs.Triples.{IsDataSet, IsGroundTriple, IsRdfQuad};
+ghost use Rattle.rdf_terms.specs.Valid.{IsValidTerm};
 ghost use Rattle.tpf_base.specs.Addresses.{IsAuthority};
 ghost use Rattle.triple_table.specs.Chosen.{chosen};
 ghost use Rattle.triple_table.specs.Ranking.{borrowed_terms, HoldsMore, SameMembers};
@@ -77,11 +78,14 @@ fn ranked_terms<'a>(alloc: Global, triples: &'a [Triple]) -> Result<Vec<&'a Term
 }
 
 fn copied(alloc: Global, terms: &[&Term]) -> Result<Vec<Term>, OutOfMemory>
-    ensures { IfOk result (λ v. v.items ≡ borrowed_terms terms.now) }
+    ensures copies { IfOk result (λ v. v.items ≡ borrowed_terms terms.now) }
+    ensures valid { IfOk result (λ v. All IsValidTerm v.items) }
 {
     let mut copies = Vec::with_capacity(alloc, terms.len())?;
     for term in terms {
-        copies.push(term.copy(alloc)?)?;
+        let copy = term.copy(alloc)?;
+        copy.is_valid();
+        copies.push(copy)?;
     }
     Ok(copies)
 }

@@ -11,10 +11,10 @@ mod recent;
 mod rows;
 mod table;
 mod term_list;
-#[cfg(test)]
-mod tests;
 
 pub use choice::Choice;
-pub use data_set::{BuildFault, served, served_is_one};
+pub use data_set::{
+    BuildFault, authorities_are_short, served, served_is_one, served_terms_are_short,
+};
 pub use ids::{IdPattern, IdTriple, Order, Range};
 pub use table::Table;

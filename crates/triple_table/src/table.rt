@@ -1,10 +1,11 @@
 // The table: the terms by rank, and the triples in three orders.
 ghost use Rattle.std.specs.Prelude.{ℕ, ◌≡◌, ◌+◌, ◌-◌, ◌*◌, ◌<◌, ◌≤◌, ◌^◌, length, slice_index_or, MatchOption};
-ghost use Rattle.std.specs.List.{Contains};
+ghost use Rattle.std.specs.List.{Contains, AllByRecursion};
 ghost use Rattle.rdf_terms.specs.declared.term.Triple.{Triple};
 ghost use Rattle.rdf_terms.specs.declared.term.Term.{Term};
 ghost use Rattle.rdf_terms.specs.Fragments.{IsFragment};
 ghost use Rattle.rdf_terms.specs.Triples.{IsDataSet};
+ghost use Rattle.rdf_terms.specs.Valid.{IsValidTerm, IsValidTriple};
 ghost use Rattle.triple_table.specs.Rows.{order_for};
 ghost use Rattle.triple_table.specs.Served.{terms_of};
 ghost use Rattle.triple_table.specs.Stored.{Stored, IsStored, IsOrdered, IsRange, IsRanking, IsIdPattern, IsIdTriple, held_terms, term_at, triple_at, triples_in, rows_in, listed, slots_at};
@@ -66,19 +67,26 @@ impl Table {
 
     /// The term with an id, which is to be an id of this table: below the number of its terms, as `id`
     /// and `at` give it.
+    /// It keeps the rules of its texts.
     pub fn term(&self, id: u32) -> &Term
         requires { id < length (held_terms self.now) }
-        ensures { result.now ≡ term_at (held_terms self.now) id }
+        ensures term { result.now ≡ term_at (held_terms self.now) id }
+        ensures valid { IsValidTerm result.now }
     {
-        self.terms.get(id as usize)
+        let term = self.terms.get(id as usize);
+        term.is_valid();
+        term
     }
 
-    /// How many triples there are, each counted once.
+    /// How many triples there are, each counted once. They are a data set of valid terms.
+    #[tactic(auto, using(crate::proofs::Kept::triples_are_valid))]
     pub fn len(&self) -> usize
         ensures len { result ≡ length (triples_in self.now) }
         ensures data_set { IsDataSet (triples_in self.now) }
+        ensures valid { AllByRecursion IsValidTriple (triples_in self.now) }
         ensures ranking { IsRanking (triples_in self.now) (held_terms self.now) }
     {
+        self.terms.are_valid();
         self.spo.len()
     }
 

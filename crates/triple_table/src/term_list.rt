@@ -1,9 +1,10 @@
 // The terms of a table in their order, which only one counting call compares.
-ghost use Rattle.std.specs.Prelude.{ℕ, ◌≡◌, ◌≢◌, ◌+◌, ◌<◌, ◌≤◌, ◌^◌, List, length, slice_index_or, MatchOption};
+ghost use Rattle.std.specs.Prelude.{ℕ, ◌≡◌, ◌≢◌, ◌+◌, ◌<◌, ◌≤◌, ◌^◌, List, length, slice_index_or, All, MatchOption};
 ghost use Rattle.std.specs.List.{Contains};
 ghost use Rattle.std.specs.List.Sorted.{IsStrictlySortedBy};
 ghost use Rattle.rdf_terms.specs.declared.term.Term.{Term};
 ghost use Rattle.rdf_terms.specs.Order.{term_order};
+ghost use Rattle.rdf_terms.specs.Valid.{IsValidTerm};
 
 use rdf_terms::Term;
 use std::cmp::Ordering;
@@ -11,23 +12,38 @@ use std::marker::Model;
 use std::sync::ledger::Ledger;
 use tpf_base::Steps;
 
-/// The terms of a table, which contracts see as a list.
+/// The terms of a table, which contracts see as a list of valid terms.
 #[derive(Drop)]
 pub struct TermList {
     terms: Vec<Term>,
 }
 
 impl Model for TermList {
+    ghost use Rattle.std.specs.Prelude.{List, All};
+    ghost use Rattle.rdf_terms.specs.declared.term.Term.{Term};
+    ghost use Rattle.rdf_terms.specs.Valid.{IsValidTerm};
+
     ghost Value = { List Term };
 
     ghost view = { λ t. t.terms.items };
+
+    ghost invariant = { λ t. All IsValidTerm t.terms.items };
 }
 
 impl TermList {
     pub(crate) fn from_vec(terms: Vec<Term>) -> TermList
+        requires { All IsValidTerm terms.items }
         ensures { result ≡ terms.items }
     {
         TermList { terms }
+    }
+
+    /// Each term keeps its rules. The call does nothing; it tells a proof of it.
+    pub(crate) fn are_valid(&self)
+        ensures { All IsValidTerm self.now }
+    {
+        // a field is read, so that the invariant is at hand in the proof
+        let _terms = &self.terms;
     }
 
     pub(crate) fn len(&self) -> usize

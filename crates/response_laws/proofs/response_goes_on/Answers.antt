@@ -1,8 +1,5 @@
-use Rattle.response_laws.proofs.Heads.{heads_read, all_read, goes_on, over_goes_on, begins, first_alone}
+use Rattle.response_laws.proofs.Responses.{goes_on, over_goes_on, begins, first_alone}
 use Rattle.response_laws.proofs.response_goes_on.Goals as goal
-
-pub returns-clause-heads : goal.returns-clause-heads
-returns-clause-heads c = heads_read
 
 pub returns-clause-goes_on : goal.returns-clause-goes_on
 returns-clause-goes_on c = goes_on
@@ -12,9 +9,6 @@ returns-clause-over c = over_goes_on
 
 pub returns-clause-begins : goal.returns-clause-begins
 returns-clause-begins c = begins
-
-pub returns-clause-unread : goal.returns-clause-unread
-returns-clause-unread c = all_read
 
 pub returns-clause-marks : goal.returns-clause-marks
 returns-clause-marks c = first_alone

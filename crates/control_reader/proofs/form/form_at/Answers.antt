@@ -1,11 +1,11 @@
 use Rattle.std.proofs.Common.{subst, sym, ◌∙◌}
 use Rattle.std.specs.Prelude.{◌↔◌}
 use Rattle.std.specs.List.{Contains}
+use Rattle.list_laws.proofs.Tests.{not_both_ways}
 use Rattle.rdf_terms.specs.declared.term.Term.{Term}
 use Rattle.control_reader.specs.Vocabulary.{representation, rdf_subject, rdf_predicate, rdf_object}
 use Rattle.control_reader.specs.Controls.{Says, IsOnly, MapsTo}
 use Rattle.control_reader.specs.Parts.{objects_in}
-use Rattle.control_reader.proofs.Bools.{not_both_ways}
 use Rattle.control_reader.proofs.Fine.{only_one}
 use Rattle.control_reader.proofs.Formed.{other_object, no_other_object}
 use Rattle.control_reader.proofs.form.form_at.Goals as goal

@@ -1,12 +1,12 @@
 use Rattle.std.proofs.Common.{arith, subst, refl, Bor}
 use Rattle.std.specs.Prelude.{◌↔◌}
 use Rattle.std.specs.List.{Contains}
+use Rattle.list_laws.proofs.Tests.{not_both_ways}
 use Rattle.rdf_terms.specs.declared.term.Term.{Term}
 use Rattle.rdf_terms.specs.declared.term.Triple.{Triple}
 use Rattle.control_reader.specs.Controls.{Says}
 use Rattle.control_reader.specs.Parts.{objects_in}
 use Rattle.control_reader.specs.Places.{NamesOther}
-use Rattle.control_reader.proofs.Bools.{not_both_ways}
 use Rattle.control_reader.proofs.Formed.{maps, no_other_variable, passed_more, item_in}
 use Rattle.control_reader.proofs.form.has_other_variable.Goals as goal
 

@@ -1,8 +1,8 @@
 use Rattle.std.proofs.Common.{subst, sym, ◌∙◌}
+use Rattle.list_laws.proofs.Tests.{not_both_ways}
 use Rattle.rdf_terms.specs.declared.term.Term.{Term}
 use Rattle.control_reader.specs.Controls.{Says}
 use Rattle.control_reader.specs.Variables.{texts_in, HasVariable}
-use Rattle.control_reader.proofs.Bools.{not_both_ways}
 use Rattle.control_reader.proofs.Formed.{texts_are, other_text, text_other}
 use Rattle.control_reader.proofs.form.names_other.Goals as goal
 

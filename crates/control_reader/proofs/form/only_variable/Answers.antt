@@ -1,5 +1,5 @@
+use Rattle.list_laws.proofs.Tests.{not_both_ways}
 use Rattle.control_reader.specs.Controls.{MapsTo}
-use Rattle.control_reader.proofs.Bools.{not_both_ways}
 use Rattle.control_reader.proofs.Formed.{only_text, two_texts}
 use Rattle.control_reader.proofs.form.only_variable.Goals as goal
 

@@ -1,10 +1,10 @@
 use Rattle.std.proofs.Common.{subst, sym, ℕ, List}
 use Rattle.rdf_terms.specs.declared.term.Term.{Term}
 use Rattle.std.specs.List.{Contains}
+use Rattle.list_laws.proofs.Members.{none_in}
+use Rattle.list_laws.proofs.Tests.{not_both_ways}
 use Rattle.control_reader.specs.Controls.{Says}
 use Rattle.control_reader.specs.Variables.{texts_in}
-use Rattle.control_reader.proofs.Members.{none_in}
-use Rattle.control_reader.proofs.Bools.{not_both_ways}
 use Rattle.control_reader.proofs.Formed.{match_map, texts_are}
 use Rattle.control_reader.proofs.form.variable_of.Goals as goal
 

@@ -1,6 +1,6 @@
 use Rattle.std.proofs.Common.{refl, inr}
+use Rattle.list_laws.proofs.Tests.{not_both_ways}
 use Rattle.tpf_base.specs.Addresses.{authority_of}
-use Rattle.control_reader.proofs.Bools.{not_both_ways}
 use Rattle.control_reader.proofs.Counted.{no_link}
 use Rattle.control_reader.proofs.link.home_link.Goals as goal
 

@@ -1,4 +1,4 @@
-use Rattle.std.proofs.Common.{List, ℕ, ◌≡◌, Some, ap, sym, ◌∙◌}
+use Rattle.std.proofs.Common.{List, ℕ, Some, ap, sym, ◌∙◌}
 use Rattle.nquads_text.proofs.Escapes.{run_to, plain_from}
 use Rattle.nquads_text.proofs.escape.resolve_all.Goals as goal
 

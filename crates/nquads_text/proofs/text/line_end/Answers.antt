@@ -1,4 +1,4 @@
-use Rattle.std.proofs.Common.{ℕ, ◌||◌, nat_eq}
+use Rattle.std.proofs.Common.{◌||◌, nat_eq}
 use Rattle.nquads_text.proofs.Places.{first_byte}
 use Rattle.nquads_text.proofs.text.line_end.Goals as goal
 

@@ -1,4 +1,4 @@
-use Rattle.std.proofs.Common.{ℕ, ◌≡◌, List, Result, Ok, Err, subst, ap, sym}
+use Rattle.std.proofs.Common.{ℕ, List, Result, Ok, Err, subst}
 use Rattle.std.specs.Prelude.{IfOk}
 use Rattle.std.specs.List.{All, AllByRecursion}
 use Rattle.rdf_terms.specs.Triples.{IsRdfQuad}
@@ -8,7 +8,7 @@ use Rattle.nquads_text.specs.declared.fault.TextFault.{TextFault}
 use Rattle.nquads_text.specs.declared.fault.TextFault.TheVariants.{Bad, OutOfMemory}
 use Rattle.nquads_text.specs.Quads.{IsReadable}
 use Rattle.nquads_text.specs.Lines.{text_read, Gives}
-use Rattle.nquads_text.specs.Reads.{Reads, FirstFault, RefusedFor, IsOkOrMemory, IsBadOrMemory}
+use Rattle.nquads_text.specs.Reads.{Reads, FirstFault, RefusedFor}
 use Rattle.nquads_text.proofs.ReadLaws.{ok_of, bad_of, text_reads, text_faults, reads_text, faults_text, all_readable, at_each}
 use Rattle.nquads_text.proofs.text.read_all.Goals as goal
 

@@ -1,5 +1,5 @@
 use Rattle.std.proofs.Common.{List, ℕ, ◌++◌, ap, sym, ◌∙◌}
-use Rattle.nquads_text.proofs.Begins.{plain_form}
+use Rattle.nquads_text.proofs.Runs.{plain_form}
 use Rattle.nquads_text.proofs.write.push_form.Goals as goal
 
 pub returns-clause-ok : goal.returns-clause-ok

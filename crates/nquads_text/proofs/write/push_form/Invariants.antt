@@ -1,6 +1,6 @@
 use Rattle.std.proofs.Common.{◌≡◌, ◌++◌, length}
+use Rattle.list_laws.specs.Begins.{Begins}
 use Rattle.rdf_terms.specs.Canon.{canonical_form}
-use Rattle.nquads_text.specs.Begins.{Begins}
 use Rattle.nquads_text.proofs.write.push_form.Given as goal
 
 abbrev pub invariant-loop-n : goal.invariant-loop-n

@@ -1,6 +1,6 @@
 use Rattle.std.proofs.Common.{◌+◌}
 use Rattle.std.proofs.lemmas.List.{take_rest}
-use Rattle.nquads_text.proofs.Begins.{run_is}
+use Rattle.nquads_text.proofs.Runs.{run_is}
 use Rattle.nquads_text.proofs.write.push_run.Goals as goal
 
 pub returns-clause-ok : goal.returns-clause-ok

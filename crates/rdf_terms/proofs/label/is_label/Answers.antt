@@ -1,4 +1,4 @@
-use Rattle.std.proofs.Common.{refl, ℕ, ◌≡◌, List, Bool, true, false, not, ap, sym, ◌∙◌}
+use Rattle.std.proofs.Common.{refl, ℕ, ◌≡◌, List, true, not, ap, sym, ◌∙◌}
 use Rattle.std.specs.Str.{chars, is_utf8, IsUtf8}
 use Rattle.std.proofs.lemmas.Str.{is_utf8-from_IsUtf8}
 use Rattle.rdf_terms.specs.Label.{begins_label, are_label_chars, ends_in_dot, is_label}

@@ -1,4 +1,4 @@
-use Rattle.std.proofs.Common.{ℕ, ◌≡◌, ◌≢◌, ◌<◌, ◌≤◌, ◌++◌, List, length, Some, ◌+◌, ◌-◌, vec_len}
+use Rattle.std.proofs.Common.{ℕ, ◌≡◌, ◌≢◌, ◌<◌, ◌≤◌, ◌++◌, List, length, Some, true, ◌+◌, ◌-◌, vec_len}
 use Rattle.tpf_base.proofs.shelf.read_rest.Given as goal
 
 abbrev pub invariant-loop-shelf : goal.invariant-loop-shelf
@@ -8,6 +8,8 @@ invariant-loop-shelf g l = record {
   given : g.F.Shelf.given l.shelf ≡ g.F.Shelf.given l.fn.shelf;
   told : g.F.Shelf.told l.shelf ≡ g.F.Shelf.told l.fn.shelf;
   later : g.F.Shelf.faults l.fn.shelf ≤ g.F.Shelf.faults l.shelf;
+  faultless : g.F.Shelf.faultless l.shelf ≡ g.F.Shelf.faultless l.fn.shelf;
+  spared : g.F.Shelf.faultless l.fn.shelf ≡ true → g.F.Shelf.faults l.shelf ≡ g.F.Shelf.faults l.fn.shelf;
   room : 0 < length l.piece;
   others : (k : ℕ) → k < g.F.Shelf.given l.fn.shelf → k ≢ l.file → g.F.Shelf.rest l.shelf k ≡ g.F.Shelf.rest l.fn.shelf k;
 }

@@ -6,7 +6,7 @@ use Rattle.tpf_server.proofs.asked.beyond.Goals as goal
 
 pub returns-then-are_some-clause-answer : goal.returns-then-are_some-clause-answer
 returns-then-are_some-clause-answer c =
-    let size : 1 ≤ c.args.server.now.config.page_size = omega (arith, c.page_size-size.ensures.low, c.page_size-size.ensures.size, ap (λ (x : Config). x.page_size) c.config.ensures) in
+    let size : 1 ≤ c.args.server.now.config.page_size = omega (arith, c.page_size-size.ensures.valid.low, ap (λ (x : Config). x.page_size) c.config.ensures) in
     let few : length (triples_in c.args.server.now.table) < 2 ^ 64 = omega (arith, c.len-triples.ensures.len, ap (λ (t : Stored). length (triples_in t)) c.table.ensures) in
     given_answer c.args.server.now c.args.found.now c.in_ok-slots.slots c.requires.0 c.in_ok-slots.ensures (sym c.are_some.ensures ∙ c.if-are_some.true) c.requires.1.0 size few c.requires.1.1
 

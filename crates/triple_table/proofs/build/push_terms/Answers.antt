@@ -1,8 +1,5 @@
-use Rattle.std.proofs.Common.{◌++◌}
-use Rattle.std.specs.Result.{OnOk}
 use Rattle.std.proofs.lemmas.Result.{IfOk-weaker}
-use Rattle.triple_table.specs.Ranking.{borrowed_terms, SameMembers}
-use Rattle.triple_table.specs.Served.{terms_in}
+use Rattle.triple_table.specs.Ranking.{borrowed_terms}
 use Rattle.triple_table.proofs.Gathered.{same_three}
 use Rattle.triple_table.proofs.build.push_terms.Goals as goal
 

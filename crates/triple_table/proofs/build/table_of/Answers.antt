@@ -1,11 +1,10 @@
-use Rattle.std.proofs.Common.{◌≡◌, ◌<◌, List, length, map, sym, ap, subst, ◌∙◌, arith, Bor}
+use Rattle.std.proofs.Common.{List, map, sym, ap, subst, ◌∙◌, arith, Bor}
 use Rattle.std.proofs.lemmas.List.{length-map}
 use Rattle.rdf_terms.specs.declared.term.Term.{Term}
-use Rattle.rdf_terms.specs.declared.term.Triple.{Triple}
 use Rattle.rdf_terms.specs.Triples.{IsDataSet}
 use Rattle.triple_table.specs.declared.ids.IdTriple.{IdTriple}
 use Rattle.triple_table.specs.Ranking.{borrowed_terms, SameMembers}
-use Rattle.triple_table.specs.Stored.{IsRanking, triple_at, triples_in}
+use Rattle.triple_table.specs.Stored.{IsRanking, triple_at}
 use Rattle.triple_table.proofs.Distinct.{data_of, ranking_of, few_ids, more_terms, more_triples}
 use Rattle.triple_table.proofs.Gathered.{same_trans}
 use Rattle.triple_table.proofs.build.table_of.Goals as goal
@@ -30,13 +29,13 @@ pub filled-requires-clause-ranking : goal.filled-requires-clause-ranking
 filled-requires-clause-ranking c =
     subst (λ (ids : List IdTriple). IsRanking (map (triple_at c.from_vec-terms.result) ids) c.from_vec-terms.result) (sym c.as_slice-2.ensures.value)
     (ranking_of c.args.triples.now (map (triple_at c.from_vec-terms.result) c.in_ok-ids.ids.items) c.from_vec-terms.result
-    (subst (IsRanking c.args.triples.now) (sym (c.from_vec-terms.ensures ∙ c.in_ok-copied.ensures ∙ ap borrowed_terms c.as_slice.ensures.value)) c.in_ok-ranked.ensures) c.in_ok-ids.ensures.members)
+    (subst (IsRanking c.args.triples.now) (sym (c.from_vec-terms.ensures ∙ c.in_ok-copied.ensures.copies ∙ ap borrowed_terms c.as_slice.ensures.value)) c.in_ok-ranked.ensures) c.in_ok-ids.ensures.members)
 
 pub filled-requires-clause-few : goal.filled-requires-clause-few
 filled-requires-clause-few c = few_ids c.from_vec-terms.result c.as_slice-2.result.now
     (subst (λ (ids : List IdTriple). IsRanking (map (triple_at c.from_vec-terms.result) ids) c.from_vec-terms.result) (sym c.as_slice-2.ensures.value)
     (ranking_of c.args.triples.now (map (triple_at c.from_vec-terms.result) c.in_ok-ids.ids.items) c.from_vec-terms.result
-    (subst (IsRanking c.args.triples.now) (sym (c.from_vec-terms.ensures ∙ c.in_ok-copied.ensures ∙ ap borrowed_terms c.as_slice.ensures.value)) c.in_ok-ranked.ensures) c.in_ok-ids.ensures.members))
+    (subst (IsRanking c.args.triples.now) (sym (c.from_vec-terms.ensures ∙ c.in_ok-copied.ensures.copies ∙ ap borrowed_terms c.as_slice.ensures.value)) c.in_ok-ranked.ensures) c.in_ok-ids.ensures.members))
 
 pub returns-clause-members : goal.returns-clause-members
 returns-clause-members c =

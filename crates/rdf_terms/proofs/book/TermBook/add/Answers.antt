@@ -1,4 +1,4 @@
-use Rattle.std.proofs.Common.{◌≡◌, refl, sym, ◌∙◌}
+use Rattle.std.proofs.Common.{◌∙◌}
 use Rattle.rdf_terms.proofs.Books.{index_added, index_kept, index_undone}
 use Rattle.rdf_terms.proofs.book.TermBook.add.Goals as goal
 

@@ -1,4 +1,4 @@
-use Rattle.std.proofs.Common.{◌≡◌, true, false, Bool, sym, ◌∙◌}
+use Rattle.std.proofs.Common.{◌≡◌, true, false, sym, ◌∙◌}
 use Rattle.rdf_terms.proofs.Types.{lang_is_iri}
 use Rattle.rdf_terms.proofs.term.Term.typed.Goals as goal
 

@@ -1,5 +1,5 @@
-use Rattle.std.proofs.Common.{refl, sym, ◌∙◌, inl, inr, arith, length}
-use Rattle.nquads_text.proofs.Begins.{begins_on}
+use Rattle.std.proofs.Common.{refl, sym, ◌∙◌, inl, inr, arith}
+use Rattle.list_laws.proofs.Begins.{begins_on}
 use Rattle.tpf_server.specs.Owed.{debt_pieces}
 use Rattle.tpf_server.proofs.DebtLaws.{debt_done, debt_settled, fills_more, fills_settled, rest_fits}
 use Rattle.tpf_server.proofs.owed.Debt.fill.Goals as goal

@@ -1,5 +1,5 @@
 use Rattle.std.proofs.Common.{length}
-use Rattle.nquads_text.specs.Begins.{Begins}
+use Rattle.list_laws.specs.Begins.{Begins}
 use Rattle.tpf_server.specs.Owed.{Fills, Fits, debt_pieces}
 use Rattle.tpf_server.proofs.owed.Debt.fill.Given as goal
 

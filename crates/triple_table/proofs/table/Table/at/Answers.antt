@@ -1,8 +1,8 @@
-use Rattle.std.proofs.Common.{ℕ, ◌≡◌, ◌+◌, ◌-◌, ◌<◌, List, length, get_or, arith, subst, sym, ap, ◌∙◌}
+use Rattle.std.proofs.Common.{ℕ, ◌≡◌, ◌+◌, ◌-◌, ◌<◌, List, get_or, arith, subst, sym, ap, ◌∙◌}
 use Rattle.triple_table.specs.declared.ids.Row.{Row}
 use Rattle.triple_table.specs.declared.ids.Range.{Range}
 use Rattle.triple_table.specs.Rows.{id_triple_of}
-use Rattle.triple_table.specs.Stored.{Stored, IsRange, IsOrdered, IsIdTriple, triple_at, listed, rows_in, triples_in}
+use Rattle.triple_table.specs.Stored.{Stored, IsRange, IsOrdered, IsIdTriple, triple_at}
 use Rattle.triple_table.proofs.Ranges.{listed_at, row_is_of, stored_len}
 use Rattle.triple_table.proofs.table.Table.at.Goals as goal
 

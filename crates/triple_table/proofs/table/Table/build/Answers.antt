@@ -3,7 +3,7 @@ use Rattle.triple_table.proofs.Distinct.{both_ok, passes_most, served_by}
 use Rattle.triple_table.proofs.ServedData.{served_ground}
 use Rattle.triple_table.specs.Chosen.{chosen}
 use Rattle.triple_table.specs.Stored.{triples_in}
-use Rattle.std.proofs.Common.{List, subst, sym}
+use Rattle.std.proofs.Common.{List, subst}
 use Rattle.std.specs.List.{Contains}
 use Rattle.rdf_terms.specs.declared.term.Triple.{Triple}
 use Rattle.triple_table.proofs.table.Table.build.Goals as goal

@@ -1,4 +1,4 @@
-use Rattle.std.proofs.Common.{subst, sym, ap, ◌∙◌, ◌≡◌, ◌-◌, length}
+use Rattle.std.proofs.Common.{subst, sym, ◌≡◌, ◌-◌, length}
 use Rattle.triple_table.specs.Stored.{Stored, IsRange, listed}
 use Rattle.triple_table.proofs.Ranges.{listed_len}
 use Rattle.triple_table.proofs.table.Table.count.Goals as goal

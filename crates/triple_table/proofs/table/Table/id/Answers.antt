@@ -1,4 +1,4 @@
-use Rattle.std.proofs.Common.{ℕ, ◌≡◌, ◌+◌, ◌*◌, ◌^◌, ◌<◌, ◌≤◌, length, subst, sym}
+use Rattle.std.proofs.Common.{ℕ, ◌≡◌, ◌+◌, ◌^◌, ◌<◌, ◌≤◌, length, subst, sym}
 use Rattle.std.specs.List.{Contains}
 use Rattle.triple_table.specs.Served.{terms_of}
 use Rattle.triple_table.specs.Stored.{Stored, IsStored, triples_in}

@@ -1,6 +1,6 @@
 use Rattle.std.proofs.Common.{subst}
 use Rattle.triple_table.specs.Stored.{IsStored}
-use Rattle.triple_table.proofs.Ranges.{FoundPlace, range_is_range, range_is_fragment}
+use Rattle.triple_table.proofs.Ranges.{range_is_range, range_is_fragment}
 use Rattle.triple_table.proofs.table.Table.range.Goals as goal
 
 pub returns-clause-range : goal.returns-clause-range

@@ -1,0 +1,125 @@
+// A wire of scripts of which no link is closed, so that tests can call on each of its links.
+ghost use Rattle.std.specs.Prelude.{ℕ, ◌≡◌, ◌≤◌, length, true};
+ghost use Rattle.script_wire.specs.Held.{state_of};
+ghost use Rattle.base_tests.specs.Played.{AreOpen};
+
+use script_wire::{Script, ScriptWire};
+use std::alloc::{AllocError, Global};
+use tpf_base::{Accept, Dial, Failing, Fault, Moved, Ready, Wire};
+
+#[derive(Drop)]
+pub struct Played {
+    wire: ScriptWire,
+    door: bool,
+    ghost are_open: { AreOpen (state_of wire) },
+    ghost door_open: { door ≡ true → (state_of wire).listens ≡ true },
+}
+
+impl Played {
+    #[tactic(auto, using(crate::proofs::Open::open_first))]
+    pub fn new(alloc: Global, scripts: Vec<Script>, failing: Failing) -> Played {
+        Played {
+            wire: ScriptWire::new(alloc, scripts, failing),
+            door: false,
+        }
+    }
+
+    /// How many links were given.
+    pub fn links(&self) -> usize {
+        self.wire.links()
+    }
+
+    /// The bytes sent on a link, and none where it was not given.
+    pub fn sent_on(&self, i: usize) -> &[u8] {
+        if i < self.wire.links() {
+            self.wire.sent_on(i)
+        } else {
+            &[]
+        }
+    }
+
+    pub fn idle(&self) -> u64 {
+        self.wire.idle()
+    }
+
+    #[tactic(auto, using(crate::proofs::Open::open_given, crate::proofs::Open::open_none))]
+    pub fn dial(&mut self, host: &str, port: u16) -> Result<u64, Fault> {
+        self.wire.dial(host, port)
+    }
+
+    #[tactic(auto, using(crate::proofs::Open::open_none))]
+    pub fn listen(&mut self, host: &str, port: u16) -> Result<(), Fault> {
+        let opened = self.wire.listen(host, port);
+        if opened.is_ok() {
+            self.door = true;
+        }
+        opened
+    }
+
+    /// `Failed` where the door is not open.
+    #[tactic(auto, using(crate::proofs::Open::open_given, crate::proofs::Open::open_none))]
+    pub fn accept(&mut self) -> Result<Option<u64>, Fault> {
+        if !self.door {
+            return Err(Fault::Failed);
+        }
+        self.wire.accept()
+    }
+
+    #[tactic(auto, using(crate::proofs::Open::open_woken, crate::proofs::Open::open_none))]
+    pub fn wait(&mut self) -> Result<Ready, Fault> {
+        self.wire.wait()
+    }
+
+    /// `End`, which no send answers, where the link was not given or the piece is empty.
+    #[tactic(auto, using(crate::proofs::Open::open_on))]
+    pub fn send(&mut self, link: u64, piece: &[u8]) -> Moved {
+        if link >= self.wire.links() as u64 || piece.is_empty() {
+            return Moved::End;
+        }
+        self.wire.send(link, piece)
+    }
+
+    /// `Failed` where the link was not given or the buffer is empty.
+    #[tactic(auto, using(crate::proofs::Open::open_on))]
+    pub fn recv(&mut self, link: u64, to: &mut [u8]) -> Moved
+        ensures { (n : ℕ) → result ≡ Moved.Moved n → n ≤ length to.new }
+    {
+        if link >= self.wire.links() as u64 || to.is_empty() {
+            return Moved::Failed;
+        }
+        self.wire.recv(link, to)
+    }
+
+    /// One receive with room for so many bytes, at most 8, and its answer at the end of the log:
+    /// bytes, `.` for the end, `-` for a stall, and `F` for a fault.
+    pub fn hear(&mut self, link: u64, room: usize, log: &mut String) -> Result<(), AllocError> {
+        let mut buffer = [0u8; 8];
+        let answer = self.recv(link, &mut buffer[..room.min(8)]);
+        match answer {
+            Moved::Moved(n) => match std::str::from_utf8(&buffer[..n]) {
+                Ok(text) => log.push_str(text)?,
+                Err(_) => log.push('?')?,
+            },
+            Moved::End => log.push('.')?,
+            Moved::NotYet => log.push('-')?,
+            Moved::Failed => log.push('F')?,
+            Moved::OutOfMemory => log.push('M')?,
+        }
+        log.push(' ')
+    }
+
+    /// So many receives.
+    pub fn heard(
+        &mut self,
+        alloc: Global,
+        link: u64,
+        room: usize,
+        times: usize,
+    ) -> Result<String, AllocError> {
+        let mut log = String::new(alloc);
+        for _ in 0..times {
+            self.hear(link, room, &mut log)?;
+        }
+        Ok(log)
+    }
+}

@@ -1,0 +1,328 @@
+// One request and its reply over a wire of scripts.
+ghost use Rattle.std.specs.Prelude.{◌≡◌, IfOk, None};
+ghost use Rattle.exchange.specs.declared.exchange.Standing.TheVariants.{Underway};
+
+use crate::polling::{asked_behind, polled};
+use exchange::{Exchange, ExchangeFault, ReceiveBuffer};
+use http_wire::{Reply, ReplyFault};
+use script_wire::{Script, ScriptWire};
+use std::alloc::Global;
+use std::test::Fail;
+use template_fill::WebAddress;
+use tpf_base::{Bytes, Failing};
+
+const ADDRESS: &str = "http://e:81/d?s=a";
+
+const REQUEST: &str = "GET /d?s=a HTTP/1.1\r\nHost: e:81\r\nAccept: application/n-quads\r\n\r\n";
+
+const OK: &str = "HTTP/1.1 200 OK\r\nContent-Type: application/n-quads\r\n";
+
+/// A link on which these pieces come.
+fn script(alloc: Global, pieces: &[&[u8]], ends: bool, most: usize) -> Result<Script, Fail> {
+    let mut all = Vec::new(alloc);
+    for piece in pieces {
+        all.push(Bytes::copy(alloc, piece)?)?;
+    }
+    Ok(Script {
+        after: 0,
+        pieces: all,
+        ends,
+        most,
+    })
+}
+
+/// A wire with one link on which these pieces come.
+fn wire(alloc: Global, pieces: &[&[u8]], ends: bool, most: usize) -> Result<ScriptWire, Fail> {
+    let mut scripts = Vec::new(alloc);
+    scripts.push(script(alloc, pieces, ends, most)?)?;
+    Ok(ScriptWire::new(alloc, scripts, Failing::Never))
+}
+
+fn address(alloc: Global) -> Result<WebAddress, Fail> {
+    WebAddress::read(alloc, ADDRESS).map_err(|_| "no address".into())
+}
+
+/// An exchange for the address, on a link that it dials.
+fn started(alloc: Global, limit: u64) -> Result<Exchange, Fail>
+    ensures { IfOk result (λ e. (e.standing ≡ Underway) × (e.link ≡ None)) }
+{
+    let address = address(alloc)?;
+    Ok(Exchange::start(alloc, &address, limit, None)?)
+}
+
+fn text(bytes: &Bytes) -> Result<&str, Fail> {
+    Ok(str::from_utf8(bytes.as_slice())?)
+}
+
+/// The name of a fault of a reply.
+fn fault_name(fault: ReplyFault) -> &'static str {
+    match fault {
+        ReplyFault::Head => "head",
+        ReplyFault::Status(404) => "404",
+        ReplyFault::Status(_) => "another status",
+        ReplyFault::MediaType => "type",
+        ReplyFault::Coding => "coding",
+        ReplyFault::Framing => "framing",
+        ReplyFault::TooLong => "long",
+    }
+}
+
+/// The answer as text: what became of the link and the body, or the fault and the bytes kept.
+fn told(
+    alloc: Global,
+    exchange: Exchange,
+    answer: Result<Reply, ExchangeFault>,
+) -> Result<String, Fail> {
+    match answer {
+        Ok(reply) => {
+            let end = if exchange.leave().is_some() {
+                "left"
+            } else {
+                "closed"
+            };
+            Ok(format!(in alloc; "{end} {}", text(&reply.body)?)?)
+        }
+        Err(ExchangeFault::Failed) => Ok(String::from_str(alloc, "failed")?),
+        Err(ExchangeFault::OutOfMemory) => Ok(String::from_str(alloc, "out of memory")?),
+        Err(ExchangeFault::Cut { received }) => {
+            Ok(format!(in alloc; "cut {}", text(&received)?)?)
+        }
+        Err(ExchangeFault::Bad { fault, received }) => {
+            Ok(format!(in alloc; "{} {}", fault_name(fault), text(&received)?)?)
+        }
+    }
+}
+
+/// What a first exchange on the wire comes to.
+fn first(alloc: Global, limit: u64, mut wire: ScriptWire) -> Result<String, Fail> {
+    let mut buffer = ReceiveBuffer::new(alloc)?;
+    let mut exchange = started(alloc, limit)?;
+    let answer = polled(&mut exchange, &mut wire, &mut buffer, 10_000).ok_or("it is never ready")?;
+    told(alloc, exchange, answer)
+}
+
+/// The text behind the begin of a good head.
+fn with_ok(alloc: Global, rest: &str) -> Result<String, Fail> {
+    let mut text = String::from_str(alloc, OK)?;
+    text.push_str(rest)?;
+    Ok(text)
+}
+
+/// What follows the status line and the media type, and the answer where the link ends behind it.
+const WHOLE: [(&str, &str); 7] = [
+    ("Content-Length: 3\r\n\r\nabc", "left abc"),
+    ("Content-Length: 0\r\n\r\n", "left "),
+    (
+        "Connection: close\r\nContent-Length: 3\r\n\r\nabc",
+        "closed abc",
+    ),
+    (
+        "Transfer-Encoding: chunked\r\n\r\n2\r\nab\r\n1;x\r\nc\r\n0\r\n\r\n",
+        "left abc",
+    ),
+    (
+        "Transfer-Encoding: chunked\r\n\r\n2\r\nab\r\n0\r\na: b\r\n\r\n",
+        "left ab",
+    ),
+    ("\r\nabc", "closed abc"),
+    ("Connection: close\r\n\r\n", "closed "),
+];
+
+#[test]
+fn a_reply_is_whole_over_any_cut(rt: HostRuntime) -> Result<(), Fail> {
+    let alloc = rt.alloc();
+    for (rest, wanted) in &WHOLE {
+        let reply = with_ok(alloc, rest)?;
+        let bytes = reply.as_bytes();
+        for at in 0..=bytes.len() {
+            let (front, back) = bytes.split_at(at);
+            let wire = wire(alloc, &[front, back], true, 65536)?;
+            assert_eq!(rt; first(alloc, 3, wire)?.as_str(), *wanted, "{rest} at {at}");
+        }
+    }
+    Ok(())
+}
+
+#[test]
+fn a_reply_cut_short_is_kept(rt: HostRuntime) -> Result<(), Fail> {
+    let alloc = rt.alloc();
+    for (rest, _) in &WHOLE[..5] {
+        let reply = with_ok(alloc, rest)?;
+        let bytes = reply.as_bytes();
+        for at in 0..bytes.len() {
+            let wire = wire(alloc, &[&bytes[..at]], true, 65536)?;
+            let wanted = format!(in alloc; "cut {}", str::from_utf8(&bytes[..at])?)?;
+            assert_eq!(rt; first(alloc, 3, wire)?.as_str(), wanted.as_str());
+        }
+    }
+    Ok(())
+}
+
+/// Replies that are refused, and the fault; each whole reply is kept.
+const REFUSED: [(&str, &str); 8] = [
+    ("HTTP/1.1 404 Not Found\r\nContent-Length: 0\r\n\r\n", "404"),
+    ("HTTP/1.1 503 Service Unavailable\r\n\r\n", "another status"),
+    ("HTTP/2 200 OK\r\n\r\n", "head"),
+    ("HTTP/1.1 200 OK\r\nContent-Type: text/html\r\n\r\n", "type"),
+    (
+        "HTTP/1.1 200 OK\r\nContent-Type: application/n-quads\r\nContent-Encoding: gzip\r\n\r\n",
+        "coding",
+    ),
+    (
+        "HTTP/1.1 200 OK\r\nContent-Type: application/n-quads\r\nContent-Length: x\r\n\r\n",
+        "framing",
+    ),
+    (
+        "HTTP/1.1 200 OK\r\nContent-Type: application/n-quads\r\nContent-Length: 4\r\n\r\n",
+        "long",
+    ),
+    (
+        "HTTP/1.1 200 OK\r\nContent-Type: application/n-quads\r\n\r\nabcd",
+        "long",
+    ),
+];
+
+#[test]
+fn each_fault_keeps_what_was_received(rt: HostRuntime) -> Result<(), Fail> {
+    let alloc = rt.alloc();
+    for (reply, fault) in &REFUSED {
+        let wire = wire(alloc, &[reply.as_bytes()], false, 65536)?;
+        let wanted = format!(in alloc; "{fault} {reply}")?;
+        assert_eq!(rt; first(alloc, 3, wire)?.as_str(), wanted.as_str());
+    }
+    Ok(())
+}
+
+#[test]
+fn a_second_request_goes_over_the_link_that_was_left(rt: HostRuntime) -> Result<(), Fail> {
+    let alloc = rt.alloc();
+    let one = with_ok(alloc, "Content-Length: 3\r\n\r\nabc")?;
+    let two = with_ok(alloc, "Content-Length: 2\r\n\r\nde")?;
+    let mut wire = wire(alloc, &[one.as_bytes(), two.as_bytes()], true, 1)?;
+    let mut buffer = ReceiveBuffer::new(alloc)?;
+    let mut exchange = started(alloc, 9)?;
+    let answer = polled(&mut exchange, &mut wire, &mut buffer, 10_000).ok_or("it is never ready")?;
+    let Ok(reply) = answer else {
+        return Err("no reply".into());
+    };
+    assert_eq!(rt; text(&reply.body)?, "abc");
+    assert_eq!(rt; exchange.link(), Some(0));
+    let address = address(alloc)?;
+    let (again, answer) = asked_behind(
+        alloc,
+        &address,
+        9,
+        exchange,
+        &mut wire,
+        &mut buffer,
+        10_000,
+    )?;
+    let answer = answer.ok_or("it is never ready")?;
+    assert_eq!(rt; told(alloc, again, answer)?.as_str(), "left de");
+    if wire.links() != 1 {
+        return Err("another link was dialled".into());
+    }
+    let requests = format!(in alloc; "{REQUEST}{REQUEST}")?;
+    assert_eq!(rt; wire.sent_on(0), requests.as_bytes());
+    Ok(())
+}
+
+#[test]
+fn a_byte_behind_the_reply_closes_the_link(rt: HostRuntime) -> Result<(), Fail> {
+    let alloc = rt.alloc();
+    let reply = with_ok(alloc, "Content-Length: 3\r\n\r\nabcx")?;
+    let wire = wire(alloc, &[reply.as_bytes()], true, 65536)?;
+    assert_eq!(rt; first(alloc, 3, wire)?.as_str(), "closed abc");
+    Ok(())
+}
+
+#[test]
+fn a_dial_that_fails_gives_no_link(rt: HostRuntime) -> Result<(), Fail> {
+    let alloc = rt.alloc();
+    let mut scripts = Vec::new(alloc);
+    scripts.push(script(alloc, &[OK.as_bytes()], true, 65536)?)?;
+    let mut wire = ScriptWire::new(alloc, scripts, Failing::Dials(1));
+    let mut buffer = ReceiveBuffer::new(alloc)?;
+    let mut exchange = started(alloc, 3)?;
+    let answer = polled(&mut exchange, &mut wire, &mut buffer, 10_000).ok_or("it is never ready")?;
+    assert_eq!(rt; exchange.link(), None);
+    assert_eq!(rt; told(alloc, exchange, answer)?.as_str(), "failed");
+    assert_eq!(rt; wire.links(), 0);
+    Ok(())
+}
+
+/// The calls of the wire in order: a dial, a send, and two receives, of which the first answers
+/// `NotYet`.
+#[test]
+fn each_call_that_fails_ends_the_exchange(rt: HostRuntime) -> Result<(), Fail> {
+    let alloc = rt.alloc();
+    let reply = with_ok(alloc, "Content-Length: 3\r\n\r\nabc")?;
+    for call in 1..=4 {
+        let mut scripts = Vec::new(alloc);
+        scripts.push(script(alloc, &[reply.as_bytes()], true, 65536)?)?;
+        let mut calls = Vec::new(alloc);
+        calls.push(call)?;
+        let wire = ScriptWire::new(alloc, scripts, Failing::At(calls));
+        assert_eq!(rt; first(alloc, 3, wire)?.as_str(), "failed", "{call}");
+    }
+    Ok(())
+}
+
+/// A reply of so many chunks of one byte, each behind a line of 1000 bytes.
+fn padded(alloc: Global, chunks: usize) -> Result<String, Fail> {
+    let mut reply = with_ok(alloc, "Transfer-Encoding: chunked\r\n\r\n")?;
+    for _ in 0..chunks {
+        reply.push_str("1;")?;
+        for _ in 0..996 {
+            reply.push('x')?;
+        }
+        reply.push_str("\r\na\r\n")?;
+    }
+    Ok(reply)
+}
+
+#[test]
+fn a_reply_padded_as_much_as_it_may_be_is_cut_at_its_end(rt: HostRuntime) -> Result<(), Fail> {
+    let alloc = rt.alloc();
+    // 1002 bytes for each of 1054 chunks are 1056108, and 1048576 and eight for each byte 1057008
+    let reply = padded(alloc, 1054)?;
+    let mut wire = wire(alloc, &[reply.as_bytes()], true, 65536)?;
+    let mut buffer = ReceiveBuffer::new(alloc)?;
+    let mut exchange = started(alloc, 2000)?;
+    assert_eq!(rt; exchange.kept(), 0);
+    let answer = polled(&mut exchange, &mut wire, &mut buffer, 10_000).ok_or("it is never ready")?;
+    let Err(ExchangeFault::Cut { received }) = answer else {
+        return Err("not cut".into());
+    };
+    assert!(rt; received.as_slice() == reply.as_bytes());
+    Ok(())
+}
+
+#[test]
+fn a_reply_padded_too_much_is_too_long(rt: HostRuntime) -> Result<(), Fail> {
+    let alloc = rt.alloc();
+    let reply = padded(alloc, 1055)?;
+    let mut wire = wire(alloc, &[reply.as_bytes()], true, 65536)?;
+    let mut buffer = ReceiveBuffer::new(alloc)?;
+    let mut exchange = started(alloc, 2000)?;
+    let answer = polled(&mut exchange, &mut wire, &mut buffer, 10_000).ok_or("it is never ready")?;
+    let Err(ExchangeFault::Bad { fault, received }) = answer else {
+        return Err("not refused".into());
+    };
+    assert_eq!(rt; fault, ReplyFault::TooLong);
+    assert!(rt; received.as_slice().len() <= reply.len());
+    Ok(())
+}
+
+#[test]
+fn a_large_body_comes_whole(rt: HostRuntime) -> Result<(), Fail> {
+    let alloc = rt.alloc();
+    let mut reply = with_ok(alloc, "Content-Length: 3000000\r\n\r\n")?;
+    for _ in 0..3_000_000 {
+        reply.push('a')?;
+    }
+    let wire = wire(alloc, &[reply.as_bytes()], false, 65536)?;
+    let told = first(alloc, 3_000_000, wire)?;
+    assert_eq!(rt; told.len(), 3_000_005);
+    Ok(())
+}

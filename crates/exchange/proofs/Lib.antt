@@ -1,0 +1,5 @@
+pub mod KeepingLemmas
+pub mod IncomingLemmas
+pub mod ReceivingLemmas
+pub mod ConcludeLemmas
+pub mod PollLemmas

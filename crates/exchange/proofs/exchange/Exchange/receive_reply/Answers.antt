@@ -1,0 +1,31 @@
+-- What was received comes behind what came before.
+use Rattle.std.proofs.Common.{◌∙◌, ap}
+use Rattle.exchange.proofs.PollLemmas.{reply_pending, reply_broken, reply_failed, reply_read, as_result, rose_then}
+use Rattle.exchange.specs.declared.exchange.Standing.TheVariants.{Over}
+use Rattle.exchange.proofs.exchange.Exchange.receive_reply.Goals as goal
+
+pub returns-in-NotYet-clause-answers : goal.returns-in-NotYet-clause-answers
+returns-in-NotYet-clause-answers g c = let h = c.in-NotYet.ensures.receives in let n = c.in-NotYet.ensures.end_ in
+    reply_pending _ _ _ _ _ _ _ h.0 _ _ _ _ c.self.view_is c.requires.link c.requires.sent h.1 (h.2 (λ e. cc)) c.requires.is_open n.0 c.leads.ensures c.what_is_read_is_given.ensures
+    (ap (λ x. x.standing) c.self.view_is ∙ c.requires.underway) n.1 n.3 n.4
+
+pub returns-in-Failed-clause-answers : goal.returns-in-Failed-clause-answers
+returns-in-Failed-clause-answers g c = let h = c.in-Failed.ensures.receives in
+    as_result _ _ _ _ _ _ c.break_off.ensures.result
+    (reply_failed _ _ _ _ _ _ _ _ h.0 _ _ _ _ c.self.view_is c.requires.link c.requires.sent h.1 (h.2 (λ e. cc)) c.in-Failed.ensures.end_.0 c.leads.ensures c.what_is_read_is_given.ensures
+    c.break_off.ensures.closes c.break_off.ensures.over (rose_then _ _ _ c.in-Failed.ensures.end_.1 c.break_off.ensures.closes.faults) c.in-Failed.ensures.end_.2)
+
+pub returns-in-OutOfMemory-clause-answers : goal.returns-in-OutOfMemory-clause-answers
+returns-in-OutOfMemory-clause-answers g c = let h = c.in-OutOfMemory.ensures.receives in
+    as_result _ _ _ _ _ _ c.break_off-in-OutOfMemory.ensures.result
+    (reply_broken _ _ _ _ _ _ _ _ h.0 _ _ _ _ c.self.view_is c.requires.link c.requires.sent h.1 c.break_off-in-OutOfMemory.ensures.closes c.break_off-in-OutOfMemory.ensures.over)
+
+pub returns-in-Read-clause-answers : goal.returns-in-Read-clause-answers
+returns-in-Read-clause-answers g c = let h = c.in-Read.ensures.receives in let n = c.in-Read.ensures.end_ in
+    reply_read _ _ _ _ _ _ _ _ h.0 _ _ Over _ _ _ _ c.self.view_is c.requires.link c.requires.sent h.1 (h.2 (λ e. cc)) c.requires.is_open n.1 (λ e. cc) (λ e. cc) (λ e. cc) (λ e. n.2)
+    c.conclude.ensures.concludes c.conclude.ensures.address c.conclude.ensures.limit c.conclude.ensures.link
+
+pub returns-in-End-clause-answers : goal.returns-in-End-clause-answers
+returns-in-End-clause-answers g c = let h = c.in-End.ensures.receives in let n = c.in-End.ensures.end_ in
+    reply_read _ _ _ _ _ _ _ _ h.0 _ _ Over _ _ _ _ c.self.view_is c.requires.link c.requires.sent h.1 (h.2 (λ e. cc)) c.requires.is_open n.1 (λ e. n.2) (λ e. n.3) (λ e. n.4) (λ e. cc)
+    c.conclude-in-End.ensures.concludes c.conclude-in-End.ensures.address c.conclude-in-End.ensures.limit c.conclude-in-End.ensures.link

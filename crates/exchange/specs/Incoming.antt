@@ -1,0 +1,34 @@
+-- What was received in reply to a request, and what is read of it.
+use Rattle.std.specs.Prelude.{ℕ, ◌≡◌, ◌+◌, ◌*◌, ◌≤◌, Bool, true, false, List, [], length}
+use Rattle.tpf_base.specs.HttpReply as reply
+use Rattle.tpf_base.specs.HttpReply.{Place, Reading, begun, is_open, after_bytes, reply_of}
+use Rattle.http_wire.specs.Replies.{shown_fault}
+use Rattle.exchange.specs.declared.incoming.Conclusion.{Conclusion}
+use Rattle.exchange.specs.declared.incoming.Conclusion.TheVariants.{Whole, Cut, Refused}
+
+-- The bytes so far, the place in the reply that they lead to, and how many of them stand behind a reply that is whole.
+pub record Coming : Type 0 where
+  pub limit : ℕ
+  pub received : List ℕ
+  pub place : Place
+  pub spare : ℕ
+
+-- no byte yet
+abbrev pub none_yet : ℕ → Coming
+none_yet limit = record { limit = limit; received = []; place = begun; spare = 0 }
+
+-- The place is that of the bytes, and they are not too many.
+pub record IsComing (c : Coming) : Type 0 where
+  pub leads : c.place ≡ after_bytes c.limit begun c.received
+  pub bound : length c.received ≤ 9 * c.limit + 1187840
+  pub spare : (body : List ℕ) (n : ℕ) (keeps : Bool) → reply_of c.received false c.limit ≡ reply.Whole body n keeps → n + c.spare ≡ length c.received
+
+-- the reading where no more is received: an open reply is at its end
+abbrev pub concluded : Coming → Reading
+concluded c = reply_of c.received (is_open c.place) c.limit
+
+-- what the reading comes to; a reply that runs to the close keeps nothing
+abbrev pub IsConclusion : Coming → Conclusion → Type 0
+IsConclusion c (Whole answer) = (n : ℕ) × (concluded c ≡ reply.Whole answer.body n answer.keeps) × (is_open c.place ≡ true → answer.keeps ≡ false)
+IsConclusion c (Refused fault received) = (why : reply.ReplyFault) × (fault ≡ shown_fault why) × (concluded c ≡ reply.Bad why) × (received ≡ c.received) × (is_open c.place ≡ false)
+IsConclusion c (Cut received) = (concluded c ≡ reply.More) × (received ≡ c.received) × (is_open c.place ≡ true)

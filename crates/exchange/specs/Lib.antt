@@ -1,0 +1,5 @@
+pub mod Incoming
+pub mod Receiving
+pub mod Exchanges
+pub mod Polls
+pub mod Parts

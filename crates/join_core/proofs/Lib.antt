@@ -1,0 +1,14 @@
+pub mod Valid
+pub mod Unaskable
+pub mod Over
+pub mod Pages
+pub mod Replacing
+pub mod Turns
+pub mod Taken
+pub mod Outs
+pub mod Least
+pub mod Marks
+pub mod Promises
+pub mod Accounts
+pub mod Scans
+pub mod Starts

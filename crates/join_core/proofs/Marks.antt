@@ -1,0 +1,281 @@
+-- The events of a node at any stage: their turns, and what they do to the tickets that are out.
+use Rattle.std.proofs.Common.{ℕ, zero, suc, ◌≡◌, ◌+◌, ◌-◌, ◌*◌, ◌/◌, ◌%◌, ◌<◌, ◌≤◌, ◌⊎◌, inl, inr, length-set, max, nat_eq, Bool, true, false, ◌&&◌, if◌then◌else◌, List, [], ◌∷◌, ◌++◌, length, map, get_or, Option, Some, None, refl, ap, sym, subst, ◌∙◌, arith}
+use Rattle.std.specs.Prelude.{option_to_list}
+use Rattle.std.specs.List.{remove, list_all, Contains}
+use Rattle.std.specs.List.Sorted.{IsPermutation}
+use Rattle.std.proofs.Math.Nat.{mul_comm, div-add-mod, add-mul}
+use Rattle.std.proofs.lemmas.Nat.{mul-le}
+use Rattle.std.proofs.lemmas.Bool.Decides.{nat_tests}
+use Rattle.std.proofs.lemmas.List.{get_or_default}
+use Rattle.std.proofs.lemmas.List.Sorted.{IsPermutation-refl, IsPermutation-sym, Contains-permutation}
+use Rattle.tpf_base.specs.Addresses.{Address}
+use Rattle.rdf_terms.specs.declared.slots.Slots.{Slots}
+use Rattle.rdf_terms.specs.Fragments.{last_page_of}
+use Rattle.bgp_core.specs.declared.pattern.Pattern.{Pattern}
+use Rattle.bgp_core.specs.Solutions.{Places}
+use Rattle.bgp_core.specs.Instances.{instance}
+use Rattle.bgp_core.specs.Queries.{IsValidPattern}
+use Rattle.template_fill.specs.declared.form.Form.{Form}
+use Rattle.template_fill.specs.WebAddress.{OneAddress}
+use Rattle.control_reader.specs.declared.page.Page.{Page}
+use Rattle.join_core.specs.declared.first.First.{First}
+use Rattle.join_core.specs.declared.first.First.TheVariants.{Out, Got}
+use Rattle.join_core.specs.declared.node.Waits.{Waits}
+use Rattle.join_core.specs.declared.node.Waits.TheVariants.{First as ForFirst, Next as ForNext}
+use Rattle.join_core.specs.Worlds.{World, IsWorld, HasForm, last, IsPageAfter, IsPageAt}
+use Rattle.join_core.specs.Nodes.{Stage, NodeData, node, Holds, FirstsHold, opened, walk_on, put_out, least, counts, is_got, count_of}
+use Rattle.join_core.specs.Nodes.Stage.{Asking, Walking}
+use Rattle.join_core.specs.Events.{CanAsk, CanAskStage, asked, IsNextAddress, IsNextAddressOf, first_waiting, waits_for, with_first_at, is_full, one_more, next_walk, opened_by, out_by, after_by, MadeOf, IsChosen, IsFirstOf, made_of}
+use Rattle.join_core.specs.Joins.{outs, first_outs, tickets_of, first_tickets, Turn}
+use Rattle.join_core.proofs.Valid.{askable-at, instance-valid, every-at, pattern-at}
+use Rattle.join_core.proofs.Over.{least-counts}
+use Rattle.join_core.proofs.Pages.{counts-told}
+use Rattle.join_core.proofs.Turns.{first-ask-turn, next-ask-turn, walk-turn, held-turn, choice-turn}
+use Rattle.join_core.proofs.Outs.{first_outs-push, first_tickets-push, map-some, first-came, tickets-came, put-back, waiting-within}
+
+-- ---- an ask
+
+ask-turn-in : (w : World) (form : Form) → OneAddress → HasForm w form → (row : Places) (ps : List Pattern) (stage : Stage) (ticket : ℕ) (address : Address) → CanAskStage ps stage → IsNextAddressOf form row ps stage address → Holds w (node row ps stage) →
+    Turn w (node row ps stage) [] (address ∷ []) (asked ticket (node row ps stage) ∷ []) × IsPermutation (outs w (asked ticket (node row ps stage))) ((ticket, address) ∷ outs w (node row ps stage))
+ask-turn-in w form one has row [] (Asking fs) ticket address can is holds = absurd (omega arith)
+ask-turn-in w form one has row (q ∷ qs) (Asking fs) ticket address can is holds =
+    let p = get_or (q ∷ qs) (length fs) q in
+    let at : p ≡ get_or (q ∷ qs) (length fs) p = get_or_default (q ∷ qs) (length fs) q p can in
+    let e : w.address (instance p row) 1 ≡ address = one _ _ _ (has.first (instance p row) (askable-at row (q ∷ qs) (length fs) p holds.asking.askable can at)) (is p at) in
+    subst (λ (a : Address). Turn w (node row (q ∷ qs) (Asking fs)) [] (a ∷ []) (asked ticket (node row (q ∷ qs) (Asking fs)) ∷ []) × IsPermutation (first_outs w row (q ∷ qs) (fs ++ Out ticket ∷ [])) ((ticket, a) ∷ first_outs w row (q ∷ qs) fs)) e
+    (first-ask-turn w row (q ∷ qs) fs p ticket holds can at, first_outs-push w row (q ∷ qs) fs p ticket can at)
+ask-turn-in w form one has row ps (Walking p k next None) ticket address can is holds =
+    subst (λ (a : Address). Turn w (node row ps (Walking p k next None)) [] (a ∷ []) (asked ticket (node row ps (Walking p k next None)) ∷ []) × IsPermutation (outs w (asked ticket (node row ps (Walking p k next None)))) ((ticket, a) ∷ [])) (sym is)
+    (next-ask-turn w p ps row k ticket next holds, IsPermutation-refl _)
+ask-turn-in w form one has row ps (Walking p k next (Some t)) ticket address can is holds = absurd can
+
+pub ask-turn : (w : World) (form : Form) → OneAddress → HasForm w form → (n : NodeData) (ticket : ℕ) (address : Address) → CanAsk n → IsNextAddress form n address → Holds w n → Turn w n [] (address ∷ []) (asked ticket n ∷ []) × IsPermutation (outs w (asked ticket n)) ((ticket, address) ∷ outs w n)
+ask-turn w form one has n ticket address can is holds = ask-turn-in w form one has n.row n.rest n.stage ticket address can is holds
+
+tickets-ask-in : (row : Places) (ps : List Pattern) (stage : Stage) (ticket : ℕ) → CanAskStage ps stage → IsPermutation (tickets_of (asked ticket (node row ps stage))) (ticket ∷ tickets_of (node row ps stage))
+tickets-ask-in row ps (Asking fs) ticket can = first_tickets-push fs ticket
+tickets-ask-in row ps (Walking p k next None) ticket can = IsPermutation-refl _
+tickets-ask-in row ps (Walking p k next (Some t)) ticket can = absurd can
+
+pub tickets-ask : (n : NodeData) (ticket : ℕ) → CanAsk n → IsPermutation (tickets_of (asked ticket n)) (ticket ∷ tickets_of n)
+tickets-ask n ticket can = tickets-ask-in n.row n.rest n.stage ticket can
+
+-- ---- the next page of a walk
+
+-- a fragment has no more pages than triples, and at least one
+below_or_not : (q n : ℕ) → (q ≤ n) ⊎ (n + 1 ≤ q)
+below_or_not zero n = inl (omega arith)
+below_or_not (suc q) zero = inr (omega arith)
+below_or_not (suc q) (suc n) = elim (below_or_not q n) [ inl h ↦ inl (omega (arith, h)) | inr h ↦ inr (omega (arith, h)) ]
+
+too-many : (n m q : ℕ) → 0 < m → q * m ≤ n + (m - 1) → n + 1 ≤ q → ⊥
+too-many n m q h e y =
+    let two : (n + 1) * m ≤ q * m = mul-le (n + 1) m q m y (let r : m ≤ m = omega arith in r) in
+    let three : n * 1 ≤ n * m = mul-le n 1 n m (let r : n ≤ n = omega arith in r) h in
+    let four : (n + 1) * m ≡ n * m + 1 * m = add-mul n 1 m in
+    omega arith
+
+last-small : (n m : ℕ) → 0 < m → last_page_of n m ≤ max 1 n
+last-small n m h =
+    let q = (n + (m - 1)) / m in
+    let e : m * q + (n + (m - 1)) % m ≡ n + (m - 1) = div-add-mod (n + (m - 1)) m in
+    let c : q * m ≡ m * q = mul_comm q m in
+    let most : q * m ≤ n + (m - 1) = omega arith in
+    let small : q ≤ n = elim (below_or_not q n) [ inl x ↦ x | inr y ↦ absurd (too-many n m q h most y) ] in
+    omega arith
+
+-- a page that there is can be counted
+counted : (w : World) → IsWorld w → (s : Slots) (k : ℕ) → k < last w s → one_more k ≡ suc k
+counted w is s k h =
+    let one : last w s ≤ max 1 (length (w.fragment s)) = last-small (length (w.fragment s)) w.size is.sized in
+    omega (arith, is.few s)
+
+pub walk-list : (p : Pattern) (others : List Pattern) (row : Places) (k : ℕ) (next : Option Address) → option_to_list (next_walk p others row k next) ≡ walk_on p others row k next
+walk-list p others row k None = refl
+walk-list p others row k (Some a) = refl
+
+-- what the node waits for is its next page
+pub record WaitsNext (n : NodeData) (ticket : ℕ) : Type 0 where
+  pub chosen : Pattern
+  pub pages : ℕ
+  pub next : Address
+  pub stage : n.stage ≡ Walking chosen pages next (Some ticket)
+
+next-in : (row : Places) (ps : List Pattern) (p : Pattern) (k t ticket : ℕ) (next : Address) (b : Bool) → nat_eq t ticket ≡ b → ◌≡◌ {A = Option Waits} (if b then Some ForNext else None) (Some ForNext) → WaitsNext (node row ps (Walking p k next (Some t))) ticket
+next-in row ps p k t ticket next true e h = record { chosen = p; pages = k; next = next; stage = ap (λ x. Walking p k next (Some x)) (grind (arith, nat_tests)) }
+next-in row ps p k t ticket next false e h = cc
+
+next-of : (row : Places) (ps : List Pattern) (stage : Stage) (ticket : ℕ) → waits_for ticket (node row ps stage) ≡ Some ForNext → WaitsNext (node row ps stage) ticket
+next-of row ps (Asking fs) ticket h = let m = map-some ForFirst (first_waiting ticket fs) ForNext h in let e : ForFirst m.0 ≡ ForNext = m.2 in cc
+next-of row ps (Walking p k next None) ticket h = cc
+next-of row ps (Walking p k next (Some t)) ticket h = next-in row ps p k t ticket next (nat_eq t ticket) refl h
+
+pub waits-next : (n : NodeData) (ticket : ℕ) → waits_for ticket n ≡ Some ForNext → WaitsNext n ticket
+waits-next n ticket h = next-of n.row n.rest n.stage ticket h
+
+Nexts : World → NodeData → ℕ → Page → Type 0
+Nexts w n ticket page = Turn w n (out_by n page.triples) [] (opened_by n page.triples ++ option_to_list (after_by n page.next))
+
+walk-next : (w : World) → IsWorld w → (row : Places) (ps : List Pattern) (p : Pattern) (k ticket : ℕ) (next : Address) (page : Page) → Holds w (node row ps (Walking p k next (Some ticket))) → IsPageAt w next page → Nexts w (node row ps (Walking p k next (Some ticket))) ticket page
+unfolding Nexts
+walk-next w is row ps p k ticket next page holds at =
+    let h = holds.stage in
+    let true' : IsPageAfter w (instance p row) k page = at.stands (instance p row) k h.valid h.askable h.next h.more in
+    let e : opened p ps row page.triples ++ walk_on p ps row (suc k) page.next ≡ opened p ps row page.triples ++ option_to_list (next_walk p ps row (one_more k) page.next) =
+    ap (λ m. opened p ps row page.triples ++ walk_on p ps row m page.next) (sym (counted w is (instance p row) k h.more)) ∙ ap (λ (l : List NodeData). opened p ps row page.triples ++ l) (sym (walk-list p ps row (one_more k) page.next)) in
+    subst (λ (l : List NodeData). Turn w (node row ps (Walking p k next (Some ticket))) (put_out p ps row page.triples) [] l) e (walk-turn w is p ps row k ticket next page holds true')
+
+pub next-turn : (w : World) → IsWorld w → (n : NodeData) (ticket : ℕ) (page : Page) → Holds w n → waits_for ticket n ≡ Some ForNext → ((a : Address) → Contains (outs w n) (ticket, a) → IsPageAt w a page) →
+    Turn w n (out_by n page.triples) [] (opened_by n page.triples ++ option_to_list (after_by n page.next))
+unfolding Nexts
+next-turn w is n ticket page holds waits true' =
+    let s = waits-next n ticket waits in
+    let stands : IsPageAt w s.next page = true' s.next (subst (λ (x : Stage). Contains (outs w (node n.row n.rest x)) (ticket, s.next)) (sym s.stage) (0, omega arith, refl)) in
+    subst (λ (x : Stage). Nexts w (node n.row n.rest x) ticket page) (sym s.stage) (walk-next w is n.row n.rest s.chosen s.pages ticket s.next page (subst (λ (x : Stage). Holds w (node n.row n.rest x)) s.stage holds) stands)
+
+pub next-outs : (w : World) (n : NodeData) (ticket : ℕ) → waits_for ticket n ≡ Some ForNext → (a : Address) × (outs w n ≡ (ticket, a) ∷ [])
+next-outs w n ticket waits = let s = waits-next n ticket waits in (s.next, ap (λ (x : Stage). outs w (node n.row n.rest x)) s.stage)
+
+pub next-tickets : (n : NodeData) (ticket : ℕ) → waits_for ticket n ≡ Some ForNext → tickets_of n ≡ ticket ∷ []
+next-tickets n ticket waits = let s = waits-next n ticket waits in ap (λ (x : Stage). tickets_of (node n.row n.rest x)) s.stage
+
+-- ---- a first page
+
+pub record WaitsFirst (n : NodeData) (ticket i : ℕ) : Type 0 where
+  pub firsts : List First
+  pub stage : n.stage ≡ Asking firsts
+  pub waiting : first_waiting ticket firsts ≡ Some i
+
+walking-no : (ticket : ℕ) (t i : ℕ) (b : Bool) → ◌≡◌ {A = Option Waits} (if b then Some ForNext else None) (Some (ForFirst i)) → ⊥
+walking-no ticket t i true h = cc
+walking-no ticket t i false h = cc
+
+first-of : (row : Places) (ps : List Pattern) (stage : Stage) (ticket i : ℕ) → waits_for ticket (node row ps stage) ≡ Some (ForFirst i) → WaitsFirst (node row ps stage) ticket i
+first-of row ps (Asking fs) ticket i h =
+    let m = map-some ForFirst (first_waiting ticket fs) (ForFirst i) h in
+    let e : m.0 ≡ i = cc in
+    record { firsts = fs; stage = refl; waiting = m.1 ∙ ap (λ x. let o : Option ℕ = Some x in o) e }
+first-of row ps (Walking p k next None) ticket i h = cc
+first-of row ps (Walking p k next (Some t)) ticket i h = absurd (walking-no ticket t i (nat_eq t ticket) h)
+
+pub waits-first : (n : NodeData) (ticket i : ℕ) → waits_for ticket n ≡ Some (ForFirst i) → WaitsFirst n ticket i
+waits-first n ticket i h = first-of n.row n.rest n.stage ticket i h
+
+First-came : World → NodeData → ℕ → ℕ → Page → Type 0
+First-came w n ticket i page = Turn w n [] [] (with_first_at i (Got page) n ∷ []) × ((a : Address) × IsPermutation (outs w n) ((ticket, a) ∷ outs w (with_first_at i (Got page) n)))
+
+first-turn-in : (w : World) → IsWorld w → (row : Places) (ps : List Pattern) (fs : List First) (ticket i : ℕ) (page : Page) → Holds w (node row ps (Asking fs)) → first_waiting ticket fs ≡ Some i → ((a : Address) → Contains (first_outs w row ps fs) (ticket, a) → IsPageAt w a page) → First-came w (node row ps (Asking fs)) ticket i page
+unfolding First-came
+first-turn-in w is row ps fs ticket i page holds waits true' =
+    let within = (put-back fs i ticket page waits).0 in
+    let below : i < length ps = omega (arith, within, holds.asking.within) in
+    let p = pattern-at ps i below in
+    let gone = first-came w row ps fs i p.0 ticket page waits holds.asking.within p.1 in
+    let a = w.address (instance p.0 row) 1 in
+    let at : IsPageAt w a page = true' a (Contains-permutation _ _ (ticket, a) (IsPermutation-sym _ _ gone) (0, omega arith, refl)) in
+    let ok = askable-at row ps i p.0 holds.asking.askable below p.1 in
+    let valid = instance-valid p.0 row (every-at IsValidPattern ps i p.0 holds.patterns below p.1) holds.row in
+    let first : 0 < last w (instance p.0 row) = omega arith in
+    (held-turn w row ps fs i p.0 page holds within p.1 (at.stands (instance p.0 row) 0 valid ok refl first), (a, gone))
+
+pub first-turn : (w : World) → IsWorld w → (n : NodeData) (ticket i : ℕ) (page : Page) → Holds w n → waits_for ticket n ≡ Some (ForFirst i) → ((a : Address) → Contains (outs w n) (ticket, a) → IsPageAt w a page) →
+    Turn w n [] [] (with_first_at i (Got page) n ∷ []) × ((a : Address) × IsPermutation (outs w n) ((ticket, a) ∷ outs w (with_first_at i (Got page) n)))
+unfolding First-came
+first-turn w is n ticket i page holds waits true' =
+    let s = waits-first n ticket i waits in
+    subst (λ (x : Stage). First-came w (node n.row n.rest x) ticket i page) (sym s.stage)
+    (first-turn-in w is n.row n.rest s.firsts ticket i page (subst (λ (x : Stage). Holds w (node n.row n.rest x)) s.stage holds) s.waiting (subst (λ (x : Stage). (a : Address) → Contains (outs w (node n.row n.rest x)) (ticket, a) → IsPageAt w a page) s.stage true'))
+
+pub first-tickets : (n : NodeData) (ticket i : ℕ) (page : Page) → waits_for ticket n ≡ Some (ForFirst i) → IsPermutation (tickets_of n) (ticket ∷ tickets_of (with_first_at i (Got page) n))
+first-tickets n ticket i page waits =
+    let s = waits-first n ticket i waits in
+    subst (λ (x : Stage). IsPermutation (tickets_of (node n.row n.rest x)) (ticket ∷ tickets_of (with_first_at i (Got page) (node n.row n.rest x)))) (sym s.stage) (tickets-came s.firsts i ticket page s.waiting)
+
+pub first-back : (n : NodeData) (ticket i : ℕ) (page : Page) → waits_for ticket n ≡ Some (ForFirst i) → with_first_at i (Out ticket) (with_first_at i (Got page) n) ≡ n
+first-back n ticket i page waits =
+    let s = waits-first n ticket i waits in
+    subst (λ (x : Stage). with_first_at i (Out ticket) (with_first_at i (Got page) (node n.row n.rest x)) ≡ node n.row n.rest x) (sym s.stage) (ap (λ (l : List First). node n.row n.rest (Asking l)) (put-back s.firsts i ticket page s.waiting).1)
+
+pub first-place : (n : NodeData) (ticket i : ℕ) → waits_for ticket n ≡ Some (ForFirst i) → IsFirstOf i n
+first-place n ticket i waits =
+    let s = waits-first n ticket i waits in
+    subst (λ (x : Stage). IsFirstOf i (node n.row n.rest x)) (sym s.stage) (waiting-within s.firsts i ticket s.waiting)
+
+pub first-place-again : (n : NodeData) (ticket i : ℕ) (first : First) → waits_for ticket n ≡ Some (ForFirst i) → IsFirstOf i (with_first_at i first n)
+first-place-again n ticket i first waits =
+    let s = waits-first n ticket i waits in
+    subst (λ (x : Stage). IsFirstOf i (with_first_at i first (node n.row n.rest x))) (sym s.stage) (omega (arith, waiting-within s.firsts i ticket s.waiting, length-set s.firsts i first))
+
+-- ---- the choice
+
+both : (a b : Bool) → (a && b) ≡ true → (a ≡ true) × (b ≡ true)
+both true b e = (refl, e)
+both false b e = cc
+
+got-at : (fs : List First) (i : ℕ) → list_all is_got fs ≡ true → i < length fs → (page : Page) × (Got page ≡ get_or fs i (Got page))
+got-at [] i h l = absurd (omega arith)
+got-at (Out t ∷ fs) i h l = cc
+got-at (Got page ∷ fs) zero h l = (page, refl)
+got-at (Got page ∷ fs) (suc i) h l = got-at fs i h (omega arith)
+
+first-true : (w : World) (row : Places) (ps : List Pattern) (fs : List First) (i : ℕ) (p : Pattern) (page : Page) → FirstsHold w row ps fs → i < length fs → Got page ≡ get_or fs i (Got page) → p ≡ get_or ps i p → IsPageAfter w (instance p row) 0 page
+first-true w row ps [] i p page h l g e = absurd (omega arith)
+first-true w row [] (f ∷ fs) i p page h l g e = absurd h
+first-true w row (q ∷ qs) (Out t ∷ fs) zero p page h l g e = cc
+first-true w row (q ∷ qs) (Got x ∷ fs) zero p page h l g e = let same : x ≡ page = cc in subst (λ (y : Page). IsPageAfter w (instance p row) 0 y) same (subst (λ (r : Pattern). IsPageAfter w (instance r row) 0 x) (sym e) h.0)
+first-true w row (q ∷ qs) (f ∷ fs) (suc i) p page h l g e = first-true w row qs fs i p page h.1 (omega arith) g e
+
+least-within : (w : World) (row : Places) (ps : List Pattern) → 0 < length ps → least (counts w row ps) < length ps
+least-within w row [] h = absurd (omega arith)
+least-within w row (p ∷ ps) h = omega (arith, least-counts w row p ps)
+
+choice-in : (w : World) → IsWorld w → (row : Places) (ps : List Pattern) (fs : List First) (made : List NodeData) (rows : List Places) (after : Option NodeData) → Holds w (node row ps (Asking fs)) → length fs ≡ length ps → list_all is_got fs ≡ true → IsChosen (node row ps (Asking fs)) made rows after → Turn w (node row ps (Asking fs)) rows [] (made ++ option_to_list after)
+choice-in w is row ps fs made rows after holds l g chosen =
+    let i = least (counts w row ps) in
+    let told : least (map count_of fs) ≡ i = ap least (counts-told w row ps fs holds.stage l g) in
+    let within : i < length ps = least-within w row ps holds.asking.some in
+    let p = pattern-at ps i within in
+    let page = got-at fs i g (omega (arith, l)) in
+    let m : MadeOf p.0 (remove ps i) row (1) page.0 made rows after =
+    (subst (λ (k : ℕ). (q : Pattern) (x : Page) → k < length fs → q ≡ get_or ps k q → Got x ≡ get_or fs k (Got x) → MadeOf q (remove ps k) row (1) x made rows after) told chosen) p.0 page.0 (omega (arith, l, within)) p.1 page.1 in
+    let t = choice-turn w is row ps fs p.0 page.0 holds l p.1 within (first-true w row ps fs i p.0 page.0 holds.stage (omega (arith, l)) page.1 p.1) in
+    let e : made_of p.0 (remove ps i) row (0) page.0 ≡ made ++ option_to_list after =
+    ap (λ (x : List NodeData). x ++ walk_on p.0 (remove ps i) row (1) page.0.next) (sym m.opens) ∙ ap (λ (x : List NodeData). made ++ x) (sym (walk-list p.0 (remove ps i) row (1) page.0.next)) ∙ ap (λ (o : Option NodeData). made ++ option_to_list o) (sym m.goes) in
+    subst (λ (x : List NodeData). Turn w (node row ps (Asking fs)) rows [] x) e (subst (λ (x : List Places). Turn w (node row ps (Asking fs)) x [] (made_of p.0 (remove ps i) row (0) page.0)) (sym m.puts) t)
+
+Choice : World → NodeData → List NodeData → List Places → Option NodeData → Type 0
+Choice w n made rows after = Turn w n rows [] (made ++ option_to_list after)
+
+choice-by : (w : World) → IsWorld w → (row : Places) (ps : List Pattern) (stage : Stage) (made : List NodeData) (rows : List Places) (after : Option NodeData) → Holds w (node row ps stage) → is_full (node row ps stage) ≡ true → IsChosen (node row ps stage) made rows after → Choice w (node row ps stage) made rows after
+unfolding Choice
+choice-by w is row ps (Asking fs) made rows after holds full chosen =
+    let b = both (nat_eq (length fs) (length ps)) (list_all is_got fs) full in
+    choice-in w is row ps fs made rows after holds (grind (arith, nat_tests)) b.1 chosen
+choice-by w is row ps (Walking p k next out) made rows after holds full chosen = cc
+
+pub choice-turn-of : (w : World) → IsWorld w → (n : NodeData) (made : List NodeData) (rows : List Places) (after : Option NodeData) → Holds w n → is_full n ≡ true → IsChosen n made rows after → Turn w n rows [] (made ++ option_to_list after)
+unfolding Choice
+choice-turn-of w is n made rows after holds full chosen = choice-by w is n.row n.rest n.stage made rows after holds full chosen
+
+got-outs : (w : World) (row : Places) (ps : List Pattern) (fs : List First) → list_all is_got fs ≡ true → first_outs w row ps fs ≡ []
+got-outs w row [] fs h = refl
+got-outs w row (p ∷ ps) [] h = refl
+got-outs w row (p ∷ ps) (Out t ∷ fs) h = cc
+got-outs w row (p ∷ ps) (Got page ∷ fs) h = got-outs w row ps fs h
+
+got-tickets : (fs : List First) → list_all is_got fs ≡ true → first_tickets fs ≡ []
+got-tickets [] h = refl
+got-tickets (Out t ∷ fs) h = cc
+got-tickets (Got page ∷ fs) h = got-tickets fs h
+
+pub full-outs : (w : World) (n : NodeData) → is_full n ≡ true → outs w n ≡ []
+full-outs w n full = by n.row n.rest n.stage full where
+  by : (row : Places) (ps : List Pattern) (s : Stage) → is_full (node row ps s) ≡ true → outs w (node row ps s) ≡ []
+  by row ps (Asking fs) h = got-outs w row ps fs (both (nat_eq (length fs) (length ps)) (list_all is_got fs) h).1
+  by row ps (Walking p k next out) h = cc
+
+pub full-tickets : (n : NodeData) → is_full n ≡ true → tickets_of n ≡ []
+full-tickets n full = by n.row n.rest n.stage full where
+  by : (row : Places) (ps : List Pattern) (s : Stage) → is_full (node row ps s) ≡ true → tickets_of (node row ps s) ≡ []
+  by row ps (Asking fs) h = got-tickets fs (both (nat_eq (length fs) (length ps)) (list_all is_got fs) h).1
+  by row ps (Walking p k next out) h = cc

@@ -1,0 +1,189 @@
+-- A join: its nodes by depth, and three multisets of it. Each is a list, up to order.
+use Rattle.std.specs.Prelude.{ℕ, suc, ◌≡◌, ◌+◌, ◌<◌, ◌≤◌, ◌*◌, Bool, false, List, [], ◌∷◌, ◌++◌, length, Option, Some, None, slice_index_or, slice_set, nat_lt, if◌then◌else◌}
+use Rattle.std.specs.List.{flat_map, All, count_by, remove, Contains}
+use Rattle.std.specs.List.Sorted.{IsPermutation}
+use Rattle.tpf_base.specs.Addresses.{Address}
+use Rattle.bgp_core.specs.declared.pattern.Pattern.{Pattern}
+use Rattle.bgp_core.specs.Solutions.{Places, solutions}
+use Rattle.bgp_core.specs.Instances.{instance}
+use Rattle.template_fill.specs.declared.form.Form.{Form}
+use Rattle.control_reader.specs.declared.page.Page.{Page}
+use Rattle.join_core.specs.declared.first.First.{First}
+use Rattle.join_core.specs.declared.first.First.TheVariants.{Out, Got}
+use Rattle.join_core.specs.Worlds.{World, IsWorld, HasForm, IsPageAt}
+use Rattle.join_core.specs.Nodes.{Stage, NodeData, future, left, plan, Holds}
+use Rattle.join_core.specs.Nodes.Stage.{Asking, Walking}
+use Rattle.join_core.specs.Events.{works}
+
+pub record JoinData : Type 0 where
+  pub form : Form
+  pub window : ℕ
+  pub tickets : ℕ
+  pub longest : ℕ
+  pub levels : List (List NodeData)
+  pub waiting : List Places
+
+abbrev pub nodes : List (List NodeData) → List NodeData
+nodes levels = flat_map (λ l. l) levels
+
+-- the rows that wait, and those still to be found
+abbrev pub owed : World → JoinData → List Places
+owed w j = j.waiting ++ flat_map (future w) (nodes j.levels)
+
+-- the addresses still to be handed out
+abbrev pub left_over : World → JoinData → List Address
+left_over w j = flat_map (left w) (nodes j.levels)
+
+-- the first pages that are out, each by its ticket and the address of its pattern's first page
+abbrev pub first_outs : World → Places → List Pattern → List First → List (ℕ × Address)
+first_outs w row [] fs = []
+first_outs w row (p ∷ ps) [] = []
+first_outs w row (p ∷ ps) (Out ticket ∷ fs) = (ticket, w.address (instance p row) 1) ∷ first_outs w row ps fs
+first_outs w row (p ∷ ps) (Got page ∷ fs) = first_outs w row ps fs
+
+abbrev pub next_outs : Address → Option ℕ → List (ℕ × Address)
+next_outs next None = []
+next_outs next (Some ticket) = (ticket, next) ∷ []
+
+abbrev pub outs_of : World → Places → List Pattern → Stage → List (ℕ × Address)
+outs_of w row rest (Asking fs) = first_outs w row rest fs
+outs_of w row rest (Walking p k next out) = next_outs next out
+
+abbrev pub outs : World → NodeData → List (ℕ × Address)
+outs w n = outs_of w n.row n.rest n.stage
+
+-- the tickets that are out, each with its address
+abbrev pub out : World → JoinData → List (ℕ × Address)
+out w j = flat_map (outs w) (nodes j.levels)
+
+-- ---- the same tickets without their addresses
+
+abbrev pub first_tickets : List First → List ℕ
+first_tickets [] = []
+first_tickets (Out ticket ∷ fs) = ticket ∷ first_tickets fs
+first_tickets (Got page ∷ fs) = first_tickets fs
+
+abbrev pub next_tickets : Option ℕ → List ℕ
+next_tickets None = []
+next_tickets (Some ticket) = ticket ∷ []
+
+abbrev pub tickets_in : Stage → List ℕ
+tickets_in (Asking fs) = first_tickets fs
+tickets_in (Walking p k next out) = next_tickets out
+
+abbrev pub tickets_of : NodeData → List ℕ
+tickets_of n = tickets_in n.stage
+
+abbrev pub tickets_out : JoinData → List ℕ
+tickets_out j = flat_map tickets_of (nodes j.levels)
+
+-- ---- the promises
+
+-- the pages that the join holds are true for a world that has its form
+pub record Suits (w : World) (j : JoinData) : Type 0 where
+  pub world : IsWorld w
+  pub form : HasForm w j.form
+  pub holds : All (Holds w) (nodes j.levels)
+
+-- what is owed and what is left to ask stay
+pub record Keeps (w : World) (old new : JoinData) : Type 0 where
+  pub suits : Suits w new
+  pub owed : IsPermutation (owed w old) (owed w new)
+  pub left : IsPermutation (left_over w old) (left_over w new)
+
+-- an address was handed out
+pub record HandsOut (w : World) (old new : JoinData) (ticket : ℕ) (address : Address) : Type 0 where
+  pub suits : Suits w new
+  pub owed : IsPermutation (owed w old) (owed w new)
+  pub left : IsPermutation (left_over w old) (address ∷ left_over w new)
+  pub out : IsPermutation (out w new) ((ticket, address) ∷ out w old)
+
+-- the page is true for each address with which the ticket is out
+abbrev pub IsTrueFor : World → JoinData → ℕ → Page → Type 0
+IsTrueFor w j ticket page = (address : Address) → Contains (out w j) (ticket, address) → IsPageAt w address page
+
+-- a page was taken
+pub record TakesPage (w : World) (old new : JoinData) (ticket : ℕ) : Type 0 where
+  pub suits : Suits w new
+  pub owed : IsPermutation (owed w old) (owed w new)
+  pub left : IsPermutation (left_over w old) (left_over w new)
+  pub address : Address
+  pub out : IsPermutation (out w old) ((ticket, address) ∷ out w new)
+
+-- a row was taken
+pub record GivesRow (w : World) (old new : JoinData) (row : Places) : Type 0 where
+  pub suits : Suits w new
+  pub owed : IsPermutation (owed w old) (row ∷ owed w new)
+  pub left : IsPermutation (left_over w old) (left_over w new)
+  pub out : out w new ≡ out w old
+
+-- a join before its first event: the solutions are owed, the plan is left to ask, and no ticket is out
+pub record Begins (w : World) (patterns : List Pattern) (row : Places) (j : JoinData) : Type 0 where
+  pub suits : Suits w j
+  pub owed : IsPermutation (solutions w.triples patterns row) (owed w j)
+  pub left : IsPermutation (plan w patterns row) (left_over w j)
+  pub out : out w j ≡ []
+
+-- ---- how events change the nodes
+
+-- a node stands among the nodes, and new ones stand in its place
+pub record Replaces (old new : List (List NodeData)) (node : NodeData) (made : List NodeData) : Type 0 where
+  pub others : List NodeData
+  pub before : IsPermutation (nodes old) (node ∷ others)
+  pub after : IsPermutation (nodes new) (made ++ others)
+
+-- a node becomes others, with rows put out, addresses handed out and tickets that end or begin
+pub record Turn (w : World) (node : NodeData) (rows : List Places) (addresses : List Address) (made : List NodeData) : Type 0 where
+  pub owed : IsPermutation (future w node) (rows ++ flat_map (future w) made)
+  pub left : IsPermutation (left w node) (addresses ++ flat_map (left w) made)
+  pub holds : All (Holds w) made
+
+-- there is a node at this place
+pub record Stands (levels : List (List NodeData)) (depth index : ℕ) : Type 0 where
+  pub deep : depth < length levels
+  pub within : index < length (slice_index_or levels depth [])
+
+abbrev pub IsAt : List (List NodeData) → ℕ → ℕ → NodeData → Type 0
+IsAt levels depth index n = n ≡ slice_index_or (slice_index_or levels depth []) index n
+
+-- the node after a page, or none
+abbrev pub settled : List NodeData → ℕ → Option NodeData → List NodeData
+settled l i None = remove l i
+settled l i (Some n) = slice_set l i n
+
+-- nodes are added at the end of a level, which may be a new one
+abbrev pub levels_after : List (List NodeData) → ℕ → List NodeData → List (List NodeData)
+levels_after levels depth made = if nat_lt depth (length levels) then slice_set levels depth (slice_index_or levels depth [] ++ made) else levels ++ made ∷ []
+
+abbrev pub with_levels : JoinData → List (List NodeData) → JoinData
+with_levels j levels = record { form = j.form; window = j.window; tickets = j.tickets; longest = j.longest; levels = levels; waiting = j.waiting }
+
+-- the same join with another longest page
+abbrev pub with_longest : JoinData → ℕ → JoinData
+with_longest j longest = record { form = j.form; window = j.window; tickets = j.tickets; longest = longest; levels = j.levels; waiting = j.waiting }
+
+abbrev pub with_made : JoinData → List (List NodeData) → List Places → JoinData
+with_made j levels rows = record { form = j.form; window = j.window; tickets = j.tickets; longest = j.longest; levels = levels; waiting = j.waiting ++ rows }
+
+-- the join after a page made nodes and rows of the node at a place
+abbrev pub taken_at : JoinData → ℕ → ℕ → List NodeData → List Places → Option NodeData → JoinData
+taken_at j depth index made rows after = with_made j (slice_set (levels_after j.levels (depth + 1) made) depth (settled (slice_index_or j.levels depth []) index after)) rows
+
+-- no node has what the test looks for
+abbrev pub NoneIn : (NodeData → Bool) → List (List NodeData) → Type 0
+NoneIn test levels = All (λ n. test n ≡ false) (nodes levels)
+
+-- ---- the bound, with m the most triples of a page
+
+abbrev pub level_at : List (List NodeData) → ℕ → List NodeData
+level_at levels d = slice_index_or levels d []
+
+abbrev pub open_at : List (List NodeData) → ℕ → ℕ
+open_at levels d = length (level_at levels d)
+
+abbrev pub working_at : List (List NodeData) → ℕ → ℕ
+working_at levels d = count_by works (level_at levels d)
+
+pub record IsBounded (m window : ℕ) (levels : List (List NodeData)) : Type 0 where
+  pub working : count_by works (nodes levels) ≤ window
+  pub open_rows : (d : ℕ) → open_at levels (suc d) + m * working_at levels d ≤ m * window

@@ -1,0 +1,74 @@
+// What the triples of a page make of a row.
+ghost use Rattle.std.specs.Prelude.{ℕ, ◌≡◌, ◌<◌, List, [], ◌∷◌, ◌++◌, length, IfOk, OnOk, Option, Some, None, drop};
+ghost use Rattle.std.specs.List.{AllByRecursion};
+ghost use Rattle.bgp_core.specs.declared.pattern.Pattern.{Pattern};
+ghost use Rattle.bgp_core.specs.Queries.{HasPlacesFor};
+ghost use Rattle.join_core.specs.Nodes.{put_out, opened, rows_out, nodes_in, all_askable};
+
+use crate::node::Node;
+use crate::pattern_list::PatternList;
+use bgp_core::{Pattern, Row, instance_askable, match_triple};
+use rdf_terms::Triple;
+use std::alloc::Global;
+use std::rc::Rc;
+use tpf_base::OutOfMemory;
+
+/// Whether each of the patterns from a place on can be asked for under a row.
+fn askable_from(patterns: &PatternList, index: usize, row: &Row) -> bool
+    ensures { result ≡ all_askable row.now (drop index patterns.now) }
+{
+    if index >= patterns.len() {
+        return true;
+    }
+    instance_askable(patterns.at(index), row) && askable_from(patterns, index + 1, row)
+}
+
+/// Whether each of the patterns can be asked for under a row.
+pub(crate) fn are_askable(patterns: &PatternList, row: &Row) -> bool
+    ensures { result ≡ all_askable row.now patterns.now }
+{
+    askable_from(patterns, 0, row)
+}
+
+/// A row with no pattern left is put out, and any other becomes a node, unless one of its patterns cannot be asked for.
+pub(crate) fn add_match(
+    alloc: Global,
+    others: &Rc<PatternList>,
+    row: Row,
+    nodes: &mut Vec<Node>,
+    rows: &mut Vec<Row>,
+) -> Result<(), OutOfMemory>
+    requires { AllByRecursion (HasPlacesFor (length row)) others.now.value }
+    ensures nodes { OnOk result (nodes.new.items ≡ nodes.old.items ++ nodes_in others.now.value row) }
+    ensures rows { OnOk result (rows.new.items ≡ rows.old.items ++ rows_out others.now.value row) }
+{
+    if others.len() == 0 {
+        rows.push(row)?;
+    } else if are_askable(others, &row) {
+        nodes.push(Node::fresh(alloc, row, others.clone()?))?;
+    }
+    Ok(())
+}
+
+/// Adds what the triples make of a row.
+pub(crate) fn expand(
+    alloc: Global,
+    chosen: &Pattern,
+    others: &Rc<PatternList>,
+    row: &Row,
+    triples: &[Triple],
+    nodes: &mut Vec<Node>,
+    rows: &mut Vec<Row>,
+) -> Result<(), OutOfMemory>
+    requires chosen { HasPlacesFor (length row.now) chosen.now }
+    requires others { AllByRecursion (HasPlacesFor (length row.now)) others.now.value }
+    ensures nodes { OnOk result (nodes.new.items ≡ nodes.old.items ++ opened chosen.now others.now.value row.now triples.now) }
+    ensures rows { OnOk result (rows.new.items ≡ rows.old.items ++ put_out chosen.now others.now.value row.now triples.now) }
+{
+    for triple in triples {
+        if let Some(next) = match_triple(alloc, chosen, row, triple)? {
+            add_match(alloc, others, next, nodes, rows)?;
+        }
+    }
+    Ok(())
+}

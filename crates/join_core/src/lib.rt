@@ -1,0 +1,14 @@
+//! The join of the patterns of a query over the pages of their fragments: what to ask next, and the rows that come of it.
+#![tactic(auto)]
+
+mod choice;
+mod expand;
+mod first;
+mod join;
+mod laws;
+mod level;
+mod node;
+mod pattern_list;
+
+pub use join::{Answered, Ask, Join};
+pub use laws::{a_run_asks_the_plan, a_run_gives_the_solutions};

@@ -1,0 +1,339 @@
+// The nodes of a join.
+ghost use Rattle.std.specs.Prelude.{ℕ, ◌≡◌, ◌<◌, ◌+◌, ◌≤◌, List, length, IfOk, OnOk, OnErr, IfSome, [], Option, Some, None, true, false, IsTrue, ◌++◌, map, min, slice_index_or, option_to_list};
+ghost use Rattle.std.specs.List.{list_all, All, AllByRecursion, remove};
+ghost use Rattle.bgp_core.specs.declared.pattern.Pattern.{Pattern};
+ghost use Rattle.bgp_core.specs.Queries.{HasPlacesFor};
+ghost use Rattle.bgp_core.specs.Instances.{instance};
+ghost use Rattle.control_reader.specs.declared.page.Page.{Page};
+ghost use Rattle.rdf_terms.specs.Askable.{askable};
+ghost use Rattle.tpf_base.specs.Addresses.{IsAddress};
+ghost use Rattle.template_fill.specs.Forms.{form_text};
+ghost use Rattle.join_core.specs.Nodes.{Stage, NodeData, all_askable, fresh, opened, put_out, is_got, count_of};
+ghost use Rattle.join_core.specs.Events.{CanAsk, asked, IsNextAddress, waits_for, first_waiting, with_first_at, is_full, next_walk, one_more};
+ghost use Rattle.join_core.specs.Events.{IsFirstOf, opened_by, out_by, after_by, IsChosen, has_ask, is_idle};
+
+use crate::choice::least_count;
+use crate::expand::expand;
+use crate::first::First;
+use crate::pattern_list::PatternList;
+use bgp_core::{Pattern, Row, instance};
+use control_reader::Page;
+use std::alloc::Global;
+use std::marker::Model;
+use std::rc::Rc;
+use template_fill::{Form, WebAddress};
+use tpf_base::OutOfMemory;
+
+/// A walk over the pages of the chosen pattern.
+#[derive(Debug, Drop)]
+pub(crate) struct Walk {
+    pub(crate) chosen: Rc<Pattern>,
+    pub(crate) pages: u64,
+    pub(crate) next: WebAddress,
+    pub(crate) out: Option<u64>,
+}
+
+/// What a node does: it asks for the first pages of its patterns, or walks over the pages of the chosen one.
+#[derive(Debug, Drop)]
+pub(crate) enum Progress {
+    Asks(Vec<First>),
+    Walks(Walk),
+}
+
+/// What a node waits for under a ticket: the first page of a pattern, by its place, or the next page.
+#[derive(Clone, Copy, Debug, Drop)]
+pub(crate) enum Waits {
+    First(usize),
+    Next,
+}
+
+/// What a page makes of a node: nodes that it opens, rows that it puts out, and the node after it, if it goes on.
+#[derive(Debug, Drop)]
+pub(crate) struct Made {
+    pub(crate) opened: Vec<Node>,
+    pub(crate) rows: Vec<Row>,
+    pub(crate) after: Option<Node>,
+}
+
+/// A row with the patterns that are still to be matched.
+#[derive(Debug, Drop)]
+pub(crate) struct Node {
+    row: Row,
+    rest: Rc<PatternList>,
+    progress: Progress,
+}
+
+impl Model for Node {
+    ghost use Rattle.std.specs.Prelude.{length};
+    ghost use Rattle.std.specs.List.{AllByRecursion};
+    ghost use Rattle.bgp_core.specs.Queries.{HasPlacesFor};
+    ghost use Rattle.join_core.specs.Nodes.{NodeData};
+    ghost use Rattle.join_core.specs.Shown.{stage_of, IsMadeStage};
+
+    ghost Value = { NodeData };
+
+    ghost view = { λ n. record { row = n.row; rest = n.rest.value; stage = stage_of n.progress } };
+
+    ghost invariant = { λ n. AllByRecursion (HasPlacesFor (length n.row)) n.rest.value × IsMadeStage n.row n.rest.value (stage_of n.progress) };
+}
+
+/// The address of the first page of a pattern under a row.
+fn first_address(
+    alloc: Global,
+    form: &Form,
+    pattern: &Pattern,
+    row: &Row,
+) -> Result<WebAddress, OutOfMemory>
+    requires { askable (instance pattern.now row.now) ≡ true }
+    ensures { IfOk result (λ a. IsAddress (form_text form.now (instance pattern.now row.now)) a) }
+{
+    let slots = instance(alloc, pattern, row)?;
+    form.address(alloc, &slots)
+}
+
+/// The place of the first page that is out under a ticket.
+fn first_waiting(firsts: &[First], ticket: u64) -> Option<usize>
+    ensures value { result ≡ first_waiting ticket firsts.now }
+    ensures within { IfSome result (λ i. i < length firsts.now) }
+{
+    match firsts {
+        [] => None,
+        [First::Out(out), ..] if *out == ticket => Some(0),
+        [_, rest @ ..] => match first_waiting(rest, ticket) {
+            Some(index) => Some(index + 1),
+            None => None,
+        },
+    }
+}
+
+/// Whether all of these pages are held.
+fn are_got(firsts: &[First]) -> bool
+    ensures { result ≡ list_all is_got firsts.now }
+{
+    match firsts {
+        [] => true,
+        [first, rest @ ..] => first.is_got() && are_got(rest),
+    }
+}
+
+impl Node {
+    /// A node that has asked for nothing.
+    pub(crate) fn fresh(alloc: Global, row: Row, rest: Rc<PatternList>) -> Node
+        requires places { AllByRecursion (HasPlacesFor (length row)) rest.value }
+        requires some { 0 < length rest.value }
+        requires askable { all_askable row rest.value ≡ true }
+        ensures { result ≡ fresh rest.value row }
+    {
+        Node {
+            row,
+            rest,
+            progress: Progress::Asks(Vec::new(alloc)),
+        }
+    }
+
+    /// Hands out the next address that the node has to ask, under a ticket.
+    pub(crate) fn ask(
+        &mut self,
+        alloc: Global,
+        form: &Form,
+        ticket: u64,
+    ) -> Result<WebAddress, OutOfMemory>
+        requires { CanAsk self.old }
+        ensures done { OnOk result (self.new ≡ asked ticket self.old) }
+        ensures address { IfOk result (λ a. IsNextAddress form.now self.old a) }
+        ensures failed { OnErr result (self.new ≡ self.old) }
+    {
+        match &mut self.progress {
+            Progress::Asks(firsts) => {
+                let pattern = self.rest.at(firsts.len());
+                let address = first_address(alloc, form, pattern, &self.row)?;
+                firsts.push(First::Out(ticket))?;
+                Ok(address)
+            }
+            Progress::Walks(walk) => {
+                let address = walk.next.copy(alloc)?;
+                walk.out = Some(ticket);
+                Ok(address)
+            }
+        }
+    }
+
+    /// What the node waits for under a ticket.
+    pub(crate) fn waits_for(&self, ticket: u64) -> Option<Waits>
+        ensures { result ≡ waits_for ticket self.now }
+    {
+        match &self.progress {
+            Progress::Asks(firsts) => match first_waiting(firsts, ticket) {
+                Some(index) => Some(Waits::First(index)),
+                None => None,
+            },
+            Progress::Walks(walk) => match walk.out {
+                Some(out) if out == ticket => Some(Waits::Next),
+                _ => None,
+            },
+        }
+    }
+
+    /// Writes over what is held of a first page.
+    pub(crate) fn set_first(&mut self, index: usize, first: First)
+        requires { IsFirstOf index self.old }
+        ensures { self.new ≡ with_first_at index first self.old }
+    {
+        match &mut self.progress {
+            Progress::Asks(firsts) => firsts[index] = first,
+            Progress::Walks(_) => {}
+        }
+    }
+
+    /// Whether it holds all first pages.
+    pub(crate) fn is_full(&self) -> bool
+        ensures { result ≡ is_full self.now }
+    {
+        match &self.progress {
+            Progress::Asks(firsts) => { firsts.len() == self.rest.len() && are_got(firsts) }
+            Progress::Walks(_) => false,
+        }
+    }
+
+    /// Whether it was started and has a first page to hand out.
+    pub(crate) fn has_ask(&self) -> bool
+        ensures value { result ≡ has_ask self.now }
+        ensures can_ask { IsTrue result → CanAsk self.now }
+    {
+        match &self.progress {
+            Progress::Asks(firsts) => !firsts.is_empty() && firsts.len() < self.rest.len(),
+            Progress::Walks(_) => false,
+        }
+    }
+
+    /// Whether it may be started.
+    pub(crate) fn is_idle(&self) -> bool
+        ensures value { result ≡ is_idle self.now }
+        ensures can_ask { IsTrue result → CanAsk self.now }
+    {
+        match &self.progress {
+            Progress::Asks(firsts) => firsts.is_empty(),
+            Progress::Walks(walk) => walk.out.is_none(),
+        }
+    }
+}
+
+/// The node that walks on after some pages, if there is a further one.
+fn walk_on(
+    alloc: Global,
+    row: &Row,
+    rest: Rc<PatternList>,
+    chosen: &Rc<Pattern>,
+    pages: u64,
+    next: &Option<WebAddress>,
+) -> Result<Option<Node>, OutOfMemory>
+    requires places { AllByRecursion (HasPlacesFor (length row.now)) rest.value }
+    requires chosen { HasPlacesFor (length row.now) chosen.now.value }
+    ensures { IfOk result (λ o. o ≡ next_walk chosen.now.value rest.value row.now pages next.now) }
+{
+    let Some(next) = next else {
+        return Ok(None);
+    };
+    let walk = Walk {
+        chosen: chosen.clone()?,
+        pages,
+        next: next.copy(alloc)?,
+        out: None,
+    };
+    Ok(Some(Node {
+        row: row.copy(alloc)?,
+        rest,
+        progress: Progress::Walks(walk),
+    }))
+}
+
+/// What a page of a pattern makes of a row.
+fn made_of(
+    alloc: Global,
+    row: &Row,
+    rest: Rc<PatternList>,
+    chosen: &Rc<Pattern>,
+    pages: u64,
+    page: &Page,
+) -> Result<Made, OutOfMemory>
+    requires places { AllByRecursion (HasPlacesFor (length row.now)) rest.value }
+    requires chosen { HasPlacesFor (length row.now) chosen.now.value }
+    ensures opened { IfOk result (λ m. m.opened.items ≡ opened chosen.now.value rest.value row.now page.now.triples) }
+    ensures rows { IfOk result (λ m. m.rows.items ≡ put_out chosen.now.value rest.value row.now page.now.triples) }
+    ensures after { IfOk result (λ m. m.after ≡ next_walk chosen.now.value rest.value row.now pages page.now.next) }
+    ensures idle { IfOk result (λ m. All (λ n. is_idle n ≡ true) (m.opened.items ++ option_to_list m.after)) }
+{
+    let mut opened = Vec::new(alloc);
+    let mut rows = Vec::new(alloc);
+    expand(
+        alloc,
+        chosen,
+        &rest,
+        row,
+        page.triples.as_slice(),
+        &mut opened,
+        &mut rows,
+    )?;
+    let after = walk_on(alloc, row, rest, chosen, pages, &page.next)?;
+    Ok(Made {
+        opened,
+        rows,
+        after,
+    })
+}
+
+fn nothing(alloc: Global) -> Made
+    ensures opened { result.opened.items ≡ [] }
+    ensures rows { result.rows.items ≡ [] }
+    ensures after { result.after ≡ None }
+    ensures idle { All (λ n. is_idle n ≡ true) (result.opened.items ++ option_to_list result.after) }
+{
+    Made {
+        opened: Vec::new(alloc),
+        rows: Vec::new(alloc),
+        after: None,
+    }
+}
+
+impl Node {
+    /// What the next page of a walk makes of the node.
+    pub(crate) fn next_page(&self, alloc: Global, page: &Page) -> Result<Made, OutOfMemory>
+        ensures opened { IfOk result (λ m. m.opened.items ≡ opened_by self.now page.now.triples) }
+        ensures rows { IfOk result (λ m. m.rows.items ≡ out_by self.now page.now.triples) }
+        ensures after { IfOk result (λ m. m.after ≡ after_by self.now page.now.next) }
+        ensures idle { IfOk result (λ m. All (λ n. is_idle n ≡ true) (m.opened.items ++ option_to_list m.after)) }
+    {
+        let Progress::Walks(walk) = &self.progress else {
+            return Ok(nothing(alloc));
+        };
+        let pages = walk.pages.saturating_add(1);
+        made_of(
+            alloc,
+            &self.row,
+            self.rest.clone()?,
+            &walk.chosen,
+            pages,
+            page,
+        )
+    }
+
+    /// What the held first page of the pattern with the least count makes of the node.
+    pub(crate) fn choose(&self, alloc: Global) -> Result<Made, OutOfMemory>
+        requires { is_full self.now ≡ true }
+        ensures chosen { IfOk result (λ m. IsChosen self.now m.opened.items m.rows.items m.after) }
+        ensures idle { IfOk result (λ m. All (λ n. is_idle n ≡ true) (m.opened.items ++ option_to_list m.after)) }
+    {
+        let Progress::Asks(firsts) = &self.progress else {
+            return Ok(nothing(alloc));
+        };
+        let index = least_count(firsts);
+        if index >= firsts.len() {
+            return Ok(nothing(alloc));
+        }
+        let First::Got(page) = &firsts[index] else {
+            return Ok(nothing(alloc));
+        };
+        let rest = Rc::new(alloc, self.rest.without(alloc, index)?)?;
+        made_of(alloc, &self.row, rest, self.rest.at(index), 1, page)
+    }
+}

@@ -1,0 +1,98 @@
+// What every term keeps, told by calls that do nothing.
+ghost use Rattle.std.specs.Prelude.{List};
+ghost use Rattle.rdf_terms.specs.Valid.{IsValidKind, IsValidTerm, IsValidTriple, IsValidGraph, IsValidQuad};
+ghost use Rattle.rdf_terms.specs.Kept.{IsValidSlot, AreValid};
+
+use crate::{Kind, Quad, Slot, Slots, Term, Triple};
+
+impl Kind {
+    /// The datatype and the tag of a literal keep their rules. The call does nothing; it tells a proof of it.
+    pub fn is_valid(&self)
+        ensures { IsValidKind self.now }
+    {
+        match self {
+            Kind::Plain => {}
+            Kind::Typed(datatype) => {
+                let _text = datatype.as_str();
+            }
+            Kind::Tagged(tag) => {
+                let _text = tag.as_str();
+            }
+        }
+    }
+}
+
+impl Term {
+    /// The texts of a term keep their rules: an IRI has a scheme, a label is one of N-Quads, a datatype is neither
+    /// xsd:string nor rdf:langString, a tag is in lower case, and each text is UTF-8. The call does nothing; it tells a
+    /// proof of it.
+    pub fn is_valid(&self)
+        ensures { IsValidTerm self.now }
+    {
+        match self {
+            Term::Iri(text) => {
+                let _text = text.as_str();
+            }
+            Term::Blank(label) => {
+                let _text = label.as_str();
+            }
+            Term::Literal { form, kind } => {
+                let _text = form.as_str();
+                kind.is_valid();
+            }
+        }
+    }
+}
+
+impl Triple {
+    /// Each term of a triple keeps its rules. The call does nothing; it tells a proof of it.
+    pub fn is_valid(&self)
+        ensures { IsValidTriple self.now }
+    {
+        self.subject.is_valid();
+        self.predicate.is_valid();
+        self.object.is_valid();
+    }
+}
+
+fn graph_is_valid(graph: &Option<Term>)
+    ensures { IsValidGraph graph.now }
+{
+    match graph {
+        None => {}
+        Some(graph) => graph.is_valid(),
+    }
+}
+
+impl Quad {
+    /// Each term of a quad keeps its rules. The call does nothing; it tells a proof of it.
+    pub fn is_valid(&self)
+        ensures { IsValidQuad self.now }
+    {
+        self.triple.is_valid();
+        graph_is_valid(&self.graph);
+    }
+}
+
+impl Slot {
+    /// The term of a fixed slot keeps its rules. The call does nothing; it tells a proof of it.
+    pub fn is_valid(&self)
+        ensures { IsValidSlot self.now }
+    {
+        match self {
+            Slot::Any => {}
+            Slot::Fixed(term) => term.is_valid(),
+        }
+    }
+}
+
+impl Slots {
+    /// Each fixed term of the slots keeps its rules. The call does nothing; it tells a proof of it.
+    pub fn is_valid(&self)
+        ensures { AreValid self.now }
+    {
+        self.subject.is_valid();
+        self.predicate.is_valid();
+        self.object.is_valid();
+    }
+}

@@ -1,0 +1,4 @@
+pub mod Scripts
+pub mod Peers
+pub mod Held
+pub mod Laws

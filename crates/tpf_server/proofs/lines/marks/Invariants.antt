@@ -1,6 +1,0 @@
-use Rattle.std.proofs.Common.{◌≡◌, ◌+◌, ◌≤◌, drop}
-use Rattle.rdf_terms.specs.Canon.{marks}
-use Rattle.tpf_server.proofs.lines.marks.Given as goal
-
-abbrev pub invariant-loop-b : goal.invariant-loop-b
-invariant-loop-b l = (l.marks + marks (drop l.b-index l.form) ≡ marks l.form) × (l.marks ≤ l.b-index)

@@ -1,0 +1,15 @@
+//! Tests of addresses, of requests and replies, and of the controls of pages as text and read back.
+#![tactic(auto)]
+
+#[cfg(test)]
+mod addresses;
+#[cfg(test)]
+mod controls;
+#[cfg(test)]
+mod metadata;
+#[cfg(test)]
+mod pages;
+#[cfg(test)]
+mod replies;
+#[cfg(test)]
+mod requests;

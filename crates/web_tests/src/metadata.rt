@@ -1,0 +1,92 @@
+// `hydra_controls`: that calls succeed with ample memory, worked addresses, and what a config refuses.
+ghost use Rattle.std.specs.Prelude.{◌≡◌, IfOk};
+ghost use Rattle.template_fill.specs.Forms.{HasNoBlank};
+
+use hydra_controls::{Config, address, metadata, metadata_is_rdf};
+use rdf_terms::{IriText, Slot, Slots, Term};
+use std::alloc::Global;
+use std::process::Abort;
+use std::test::Fail;
+use template_fill::WebAddress;
+use tpf_base::{OutOfMemory, Text};
+
+fn config(rt: &impl Abort, alloc: Global, base: &str, page_size: u64) -> Result<Config, Fail>
+    ensures { IfOk result (λ config. config.page_size ≡ page_size) }
+{
+    let base = WebAddress::read(alloc, base)?;
+    Ok(Config::new(base, page_size).expect(rt, "a config"))
+}
+
+fn free() -> Slots
+    ensures { HasNoBlank result }
+{
+    Slots {
+        subject: Slot::Any,
+        predicate: Slot::Any,
+        object: Slot::Any,
+    }
+}
+
+#[test]
+fn metadata_have_18_to_20_quads(rt: HostRuntime) -> Result<(), Fail> {
+    let config = config(&rt, rt.alloc(), "http://localhost/data", 3)?;
+    for (page, count, wanted) in [(1u64, 0u64, 18), (1, 7, 19), (2, 7, 20), (3, 7, 19)] {
+        let quads = metadata(rt.alloc(), &config, &free(), page, count)?;
+        assert_eq!(rt; quads.len(), wanted, "page {page}");
+    }
+    metadata_is_rdf();
+    Ok(())
+}
+
+fn about_key(alloc: Global) -> Result<Slots, OutOfMemory>
+    ensures { IfOk result HasNoBlank }
+{
+    let key = IriText::from_text(Text::copy(alloc, "http://e/k")?);
+    Ok(Slots {
+        subject: Slot::Any,
+        predicate: Slot::Fixed(Term::Iri(key)),
+        object: Slot::Any,
+    })
+}
+
+#[test]
+fn addresses_have_the_fixed_places_and_the_page(rt: HostRuntime) -> Result<(), Fail> {
+    let config = config(&rt, rt.alloc(), "http://localhost/data", 100)?;
+    let all = free();
+    let one = about_key(rt.alloc())?;
+    let fixed = "http://localhost/data?predicate=http%3A%2F%2Fe%2Fk";
+    let fixed_2 = "http://localhost/data?predicate=http%3A%2F%2Fe%2Fk&page=2";
+    assert_eq!(rt;
+        address(rt.alloc(), &config, &all, 1)?.text(),
+        "http://localhost/data"
+    );
+    assert_eq!(rt;
+        address(rt.alloc(), &config, &all, 2)?.text(),
+        "http://localhost/data?page=2"
+    );
+    assert_eq!(rt; address(rt.alloc(), &config, &one, 1)?.text(), fixed);
+    assert_eq!(rt; address(rt.alloc(), &config, &one, 2)?.text(), fixed_2);
+    Ok(())
+}
+
+#[test]
+fn a_config_has_1_to_1000_triples_a_page_and_no_query(rt: HostRuntime) -> Result<(), Fail> {
+    let cases = [
+        ("http://localhost/data", 0u64, false),
+        ("http://localhost/data", 1, true),
+        ("http://localhost/data", 1000, true),
+        ("http://localhost/data", 1001, false),
+        ("http://localhost/data?x", 100, false),
+        ("http://localhost/data?", 100, false),
+    ];
+    for (base, page_size, wanted) in cases {
+        let base = WebAddress::read(rt.alloc(), base)?;
+        let config = Config::new(base, page_size);
+        assert_eq!(rt; config.is_some(), wanted, "{page_size}");
+        if let Some(config) = config {
+            assert_eq!(rt; config.page_size(), page_size);
+            assert_eq!(rt; config.base().text(), "http://localhost/data");
+        }
+    }
+    Ok(())
+}

@@ -1,0 +1,10 @@
+-- What a wire over sockets holds.
+use Rattle.std.specs.Prelude.{ℕ, Option, option_map, nat_eq}
+use Rattle.std.specs.HashMap.{HashMap, get}
+use Rattle.wire_real.specs.declared.account.Account.{Account}
+use Rattle.wire_real.specs.declared.socket.Socket.{Socket}
+
+module _ {S : Type 0} where
+  -- the accounts of the open links by their numbers
+  abbrev pub accounts : HashMap ℕ Socket S → ℕ → Option Account
+  accounts sockets k = option_map (λ socket. socket.account) (get nat_eq sockets k)

@@ -1,0 +1,337 @@
+// An open link: a socket, and what the system said of it.
+ghost use Rattle.std.specs.Prelude.{◌≡◌, ◌≢◌, ◌<◌, ◌≤◌, length, IfOk, true, false};
+ghost use Rattle.tpf_base.specs.declared.wire.Moved.TheVariants as answers;
+ghost use Rattle.wire_real.specs.Accounts.{account_after, no_account, MovesWithin};
+
+use crate::account::{Account, Direction};
+use mio::event::Event;
+use mio::net::TcpStream;
+use mio::{Interest, Registry, Token};
+use std::io;
+use std::io::{ErrorKind, Read, Write};
+use std::net::{Net, SocketAddr};
+use tpf_base::Moved;
+
+/// What the system said of one direction of a socket.
+#[derive(Clone, Copy, Debug)]
+struct Readiness {
+    /// A call may move bytes. Where this does not hold a call would stall, until an event says more.
+    may_move: bool,
+    /// The other end has closed this direction, so that no call stalls any more.
+    is_over: bool,
+    /// The last call in this direction stalled.
+    is_awaited: bool,
+}
+
+impl Readiness {
+    fn new(may_move: bool) -> Readiness {
+        Readiness {
+            may_move,
+            is_over: false,
+            is_awaited: false,
+        }
+    }
+
+    /// A call moved bytes. Where it moved fewer than it could have, the next one would stall.
+    fn moved(&mut self, all: bool) {
+        self.is_awaited = false;
+        self.may_move = all || self.is_over;
+    }
+
+    fn stalled(&mut self) {
+        self.is_awaited = true;
+        self.may_move = false;
+    }
+
+    fn told(&mut self, may_move: bool, is_over: bool) {
+        self.may_move = self.may_move || may_move || is_over;
+        self.is_over = self.is_over || is_over;
+    }
+}
+
+/// How far a socket is connected.
+#[derive(Drop)]
+enum Connection {
+    /// The system is connecting it. These addresses of the host are tried next, the last one first.
+    Trying(Vec<SocketAddr>),
+    Standing,
+    /// No address of the host could be connected.
+    Refused,
+}
+
+/// An open link.
+#[derive(Drop)]
+pub struct Socket {
+    stream: TcpStream,
+    connection: Connection,
+    sending: Readiness,
+    receiving: Readiness,
+    pub account: Account,
+}
+
+/// What a call answers that failed so.
+fn answer_to(kind: ErrorKind) -> Moved
+    ensures { MovesWithin 0 result × (result ≢ answers.End) }
+{
+    match kind {
+        ErrorKind::WouldBlock => Moved::NotYet,
+        ErrorKind::OutOfMemory => Moved::OutOfMemory,
+        _ => Moved::Failed,
+    }
+}
+
+/// Reads from a stream. A read that a signal interrupted is tried again.
+fn read_some(stream: &TcpStream, to: &mut [u8]) -> io::Result<usize>
+    ensures length { length to.new ≡ length to.old }
+    ensures within { IfOk result (λ n. n ≤ length to.old) }
+{
+    let mut from = stream;
+    'tries: for _ in 0..u64::MAX {
+        match from.read(to) {
+            Err(error) if error.kind() == ErrorKind::Interrupted => {}
+            answer => return answer,
+        }
+    }
+    Err(io::Error::from(ErrorKind::Interrupted))
+}
+
+/// Writes to a stream. A write that a signal interrupted is tried again.
+fn write_some(stream: &TcpStream, piece: &[u8]) -> io::Result<usize>
+    ensures { IfOk result (λ n. n ≤ length piece.now) }
+{
+    let mut to = stream;
+    'tries: for _ in 0..u64::MAX {
+        match to.write(piece) {
+            Err(error) if error.kind() == ErrorKind::Interrupted => {}
+            answer => return answer,
+        }
+    }
+    Err(io::Error::from(ErrorKind::Interrupted))
+}
+
+/// Has the system tell of a stream under a token, and send its bytes at once.
+pub fn register(registry: &Registry, stream: &mut TcpStream, token: Token) -> io::Result<()> {
+    registry.register(stream, token, Interest::READABLE | Interest::WRITABLE)?;
+    // Without it the bytes arrive later, and no less surely.
+    let _ = stream.set_nodelay(true);
+    Ok(())
+}
+
+fn connect<R: Net>(
+    rt: &R,
+    registry: &Registry,
+    token: Token,
+    address: SocketAddr,
+) -> io::Result<TcpStream> {
+    let mut stream = TcpStream::connect(rt, address)?;
+    register(registry, &mut stream, token)?;
+    Ok(stream)
+}
+
+/// Begins to connect to the last of the addresses to which the system lets it, and takes that one
+/// and those behind it off the list.
+pub fn connect_last<R: Net>(
+    rt: &R,
+    registry: &Registry,
+    token: Token,
+    addresses: &mut Vec<SocketAddr>,
+) -> Result<TcpStream, ErrorKind> {
+    let mut kind = ErrorKind::NotFound;
+    while let Some(address) = addresses.pop() {
+        match connect(rt, registry, token, address) {
+            Ok(stream) => return Ok(stream),
+            Err(error) => kind = error.kind(),
+        }
+    }
+    Err(kind)
+}
+
+impl Connection {
+    /// Whether the connection of a stream stands, where that is known by now. One that failed is
+    /// begun anew at the next address.
+    fn settle<R: Net>(
+        &mut self,
+        rt: &R,
+        registry: &Registry,
+        token: Token,
+        stream: &mut TcpStream,
+    ) {
+        let Connection::Trying(others) = self else {
+            return;
+        };
+        match stream.take_error() {
+            Ok(None) => {
+                if stream.peer_addr().is_ok() {
+                    *self = Connection::Standing;
+                }
+            }
+            _ => match connect_last(rt, registry, token, others) {
+                Ok(next) => *stream = next,
+                Err(_) => *self = Connection::Refused,
+            },
+        }
+    }
+}
+
+impl Socket {
+    /// A socket that the system is connecting. The addresses are tried where that fails, the last
+    /// one first.
+    pub fn dialled(stream: TcpStream, others: Vec<SocketAddr>) -> Socket
+        ensures { result.account ≡ no_account }
+    {
+        Socket {
+            stream,
+            connection: Connection::Trying(others),
+            sending: Readiness::new(false),
+            receiving: Readiness::new(false),
+            account: Account::new(),
+        }
+    }
+
+    /// A socket that is connected.
+    pub fn accepted(stream: TcpStream) -> Socket
+        ensures { result.account ≡ no_account }
+    {
+        Socket {
+            stream,
+            connection: Connection::Standing,
+            sending: Readiness::new(true),
+            receiving: Readiness::new(true),
+            account: Account::new(),
+        }
+    }
+
+    /// Sends a part of the piece's front.
+    pub fn send(&mut self, piece: &[u8]) -> Moved
+        requires { 0 < length piece.now }
+        ensures account { self.new.account ≡ account_after Direction.Sending result self.old.account }
+        ensures later { self.old.account.stalls ≤ self.new.account.stalls }
+        ensures within { MovesWithin (length piece.now) result }
+        ensures no_end { result ≢ answers.End }
+    {
+        let answer = self.try_send(piece);
+        self.account = self.account.after(Direction::Sending, answer);
+        answer
+    }
+
+    fn try_send(&mut self, piece: &[u8]) -> Moved
+        requires { 0 < length piece.now }
+        ensures account { self.new.account ≡ self.old.account }
+        ensures within { MovesWithin (length piece.now) result }
+        ensures no_end { result ≢ answers.End }
+    {
+        if self.is_refused() {
+            return Moved::Failed;
+        }
+        if !self.sending.may_move {
+            self.sending.stalled();
+            return Moved::NotYet;
+        }
+        match write_some(&self.stream, piece) {
+            Ok(0) => Moved::Failed,
+            Ok(n) => {
+                self.sending.moved(n == piece.len());
+                Moved::Moved(n)
+            }
+            Err(error) => {
+                let kind = error.kind();
+                if kind == ErrorKind::WouldBlock {
+                    self.sending.stalled();
+                }
+                answer_to(kind)
+            }
+        }
+    }
+
+    /// Receives the next bytes into the buffer's front.
+    pub fn receive(&mut self, to: &mut [u8]) -> Moved
+        requires { 0 < length to.old }
+        ensures account { self.new.account ≡ account_after Direction.Receiving result self.old.account }
+        ensures later { self.old.account.stalls ≤ self.new.account.stalls }
+        ensures within { MovesWithin (length to.old) result }
+        ensures length { length to.new ≡ length to.old }
+    {
+        let answer = self.try_receive(to);
+        self.account = self.account.after(Direction::Receiving, answer);
+        answer
+    }
+
+    fn try_receive(&mut self, to: &mut [u8]) -> Moved
+        requires { 0 < length to.old }
+        ensures account { self.new.account ≡ self.old.account }
+        ensures within { MovesWithin (length to.old) result }
+        ensures length { length to.new ≡ length to.old }
+    {
+        if self.is_refused() {
+            return Moved::Failed;
+        }
+        if !self.receiving.may_move {
+            self.receiving.stalled();
+            return Moved::NotYet;
+        }
+        let room = to.len();
+        match read_some(&self.stream, to) {
+            Ok(0) => Moved::End,
+            Ok(n) => {
+                self.receiving.moved(n == room);
+                Moved::Moved(n)
+            }
+            Err(error) => {
+                let kind = error.kind();
+                if kind == ErrorKind::WouldBlock {
+                    self.receiving.stalled();
+                }
+                answer_to(kind)
+            }
+        }
+    }
+
+    /// Takes in what the system says of the socket.
+    pub fn tell<R: Net>(&mut self, rt: &R, registry: &Registry, token: Token, event: &Event)
+        ensures { self.new.account ≡ self.old.account }
+    {
+        self.connection
+            .settle(rt, registry, token, &mut self.stream);
+        match &self.connection {
+            Connection::Trying(_) => {}
+            Connection::Refused => {
+                self.receiving.told(true, true);
+                self.sending.told(true, true);
+            }
+            Connection::Standing => {
+                let failed = event.is_error();
+                self.receiving
+                    .told(event.is_readable(), failed || event.is_read_closed());
+                self.sending
+                    .told(event.is_writable(), failed || event.is_write_closed());
+            }
+        }
+    }
+
+    /// Marks the link as answered by a wait, where it is ready.
+    pub fn wake(&mut self) -> bool
+        ensures woken { result ≡ true → self.new.account ≡ record self.old.account { woken = true } }
+        ensures still { result ≡ false → self.new.account ≡ self.old.account }
+    {
+        let ready = self.is_ready();
+        if ready {
+            self.account.woken = true;
+        }
+        ready
+    }
+
+    fn is_refused(&self) -> bool {
+        matches!(&self.connection, Connection::Refused)
+    }
+
+    /// Whether a call that stalled may move now, or bytes may move on a link on which no call
+    /// stalled.
+    fn is_ready(&self) -> bool {
+        let sends = self.sending;
+        let receives = self.receiving;
+        if !sends.is_awaited && !receives.is_awaited {
+            return sends.may_move || receives.may_move;
+        }
+        sends.is_awaited && sends.may_move || receives.is_awaited && receives.may_move
+    }
+}
