@@ -1,4 +1,3 @@
-pub mod Columns
 pub mod Options
 pub mod Arguments
 pub mod Served

@@ -24,7 +24,7 @@ use Rattle.pattern_parser.specs.declared.fault.QueryWhy.TheVariants as queries
 use Rattle.bgp_core.specs.Solutions.{solutions}
 use Rattle.rdf_terms.specs.Canon.{canon}
 use Rattle.generated_data.specs.Generated.{generated}
-use Rattle.tpf_cli.specs.Results.{result_text}
+use Rattle.result_json.specs.Results.{result_text}
 use Rattle.tpf_cli.specs.Words.{Command, local, make}
 
 -- how a run ends

@@ -1,4 +1,3 @@
-pub mod Results
 pub mod Arguments
 pub mod Words
 pub mod WholeTable

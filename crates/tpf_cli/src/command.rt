@@ -12,12 +12,12 @@ ghost use Rattle.tpf_cli.specs.EndingViews.{ending_view};
 
 use crate::ending::Ending;
 use crate::listing::triples_of;
-use crate::results::result_text;
 use bgp_core::{Query, solutions};
 use generated_data::write_generated;
 use nquads_text::{TextFault, read_all};
 use pattern_parser::{QueryFault, QueryWhy, parse};
 use rdf_terms::{Quad, Triple};
+use result_json::result_text;
 use std::alloc::Global;
 use tpf_base::{Fault, FileFault, OutOfMemory, Shelf, Sink, read_file, write_all};
 use triple_table::{BuildFault, Choice, Table};

@@ -4,7 +4,6 @@
 mod command;
 mod ending;
 mod listing;
-mod results;
 mod top;
 mod words;
 

@@ -6,6 +6,8 @@ mod answers;
 #[cfg(test)]
 mod messages;
 #[cfg(test)]
+mod pieces;
+#[cfg(test)]
 mod runs;
 #[cfg(test)]
 mod tests;

@@ -6,7 +6,7 @@ use Rattle.rdf_terms.specs.declared.term.Triple.{Triple}
 use Rattle.bgp_core.specs.Solutions.{solutions, distinct}
 use Rattle.bgp_core.proofs.DataSets.{distinct_after-sorted, none_stands}
 use Rattle.tpf_cli.specs.Endings.{solutions_of}
-use Rattle.tpf_cli.specs.Results.{result_text}
+use Rattle.result_json.specs.Results.{result_text}
 use Rattle.tpf_cli.proofs.command.answer_of.Goals as goal
 
 same_rows : (a b : List (List (Option Term))) → a ≡ b → IsPermutation a b

@@ -8,7 +8,7 @@ use Rattle.std.specs.Cmp.Lexicographic.{nat_list_cmp_total}
 use Rattle.std.specs.declared.cmp.Ordering.{Ordering}
 use Rattle.std.specs.declared.cmp.Ordering.TheVariants.{Less, Equal, Greater}
 use Rattle.rdf_terms.specs.Order.{bytes_order}
-use Rattle.tpf_cli.specs.Results.{name_at, first_numbers}
+use Rattle.result_json.specs.Results.{name_at, first_numbers}
 
 nothing : (es : List (List ℕ × ℕ)) → length es ≡ 0 → es ≡ []
 nothing [] e = refl

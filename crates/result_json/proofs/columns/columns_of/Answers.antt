@@ -2,9 +2,9 @@ use Rattle.std.proofs.Common.{ℕ, ◌≡◌, ◌+◌, ◌-◌, List, ◌∷◌,
 use Rattle.std.proofs.lemmas.List.{drop_all, drop_more}
 use Rattle.std.proofs.lemmas.Result.{IfOk-weaker}
 use Rattle.std.specs.FinMap.{entries, values}
-use Rattle.tpf_cli.specs.Results.{first_numbers}
-use Rattle.tpf_cli.proofs.Columns.{none, seen, one_before, numbers}
-use Rattle.tpf_cli.proofs.results.columns_of.Goals as goal
+use Rattle.result_json.specs.Results.{first_numbers}
+use Rattle.result_json.proofs.Names.{none, seen, one_before, numbers}
+use Rattle.result_json.proofs.columns.columns_of.Goals as goal
 
 pub loop-i-init : goal.loop-i-init
 loop-i-init c =

@@ -1,8 +1,8 @@
 use Rattle.std.proofs.Common.{◌≡◌, drop}
 use Rattle.std.specs.FinMap.{entries}
-use Rattle.tpf_cli.specs.Results.{first_numbers}
-use Rattle.tpf_cli.proofs.Columns.{seen}
-use Rattle.tpf_cli.proofs.results.columns_of.Given as goal
+use Rattle.result_json.specs.Results.{first_numbers}
+use Rattle.result_json.proofs.Names.{seen}
+use Rattle.result_json.proofs.columns.columns_of.Given as goal
 
 abbrev pub invariant-loop-i : goal.invariant-loop-i
 invariant-loop-i l = seen (λ k. k.now) l.firsts.entries ≡ entries (first_numbers l.names (drop l.i l.selected))

@@ -1,0 +1,65 @@
+// A result that goes to a sink row by row.
+use bgp_core::{Query, Row};
+use pattern_parser::parse;
+use rdf_terms::Term;
+use result_json::ResultWriter;
+use std::alloc::Global;
+use std::test::Fail;
+use tpf_base::{Failing, MemSink};
+
+/// The text of two rows of `SELECT ?a ?b`, of which the second binds no `b` (SPARQL 1.1 Query Results JSON Format, 3.2.1).
+const TEXT: &str =
+    "{\"head\":{\"vars\":[\"a\",\"b\"]},\"results\":{\"bindings\":[{\"a\":{\"type\":\"uri\",\"value\":\"http://e/1\"},\"b\":{\"type\":\"literal\",\"value\":\"x\"}},{\"a\":{\"type\":\"uri\",\"value\":\"http://e/2\"}}]}}\n";
+
+/// Where its pieces end: what stands in front of the rows, each row, and the whole.
+const ENDS: [usize; 4] = [50, 126, 168, 172];
+
+fn row_of(alloc: Global, subject: &str, object: Option<&str>) -> Result<Row, Fail> {
+    let mut row = Row::empty(alloc, 2);
+    if let Some(object) = object {
+        row.bind(alloc, 1, Term::plain(alloc, object)?)?;
+    }
+    row.bind(alloc, 0, Term::iri(alloc, subject)?)?;
+    Ok(row)
+}
+
+/// Gives what is pending to the sink, and notes how many bytes it has taken then.
+fn give(
+    writer: &mut ResultWriter,
+    out: &mut MemSink,
+    lengths: &mut Vec<usize>,
+) -> Result<(), Fail> {
+    writer.give(out)?;
+    lengths.push(out.taken().len())?;
+    Ok(())
+}
+
+fn write_rows(
+    alloc: Global,
+    query: &Query,
+    out: &mut MemSink,
+    lengths: &mut Vec<usize>,
+) -> Result<(), Fail> {
+    let mut writer = ResultWriter::begin(alloc, query)?;
+    give(&mut writer, out, lengths)?;
+    writer.row(&row_of(alloc, "http://e/1", Some("x"))?)?;
+    give(&mut writer, out, lengths)?;
+    writer.row(&row_of(alloc, "http://e/2", None)?)?;
+    give(&mut writer, out, lengths)?;
+    writer.finish()?;
+    give(&mut writer, out, lengths)
+}
+
+#[test]
+fn rows_go_to_the_sink_one_by_one(rt: HostRuntime) -> Result<(), Fail> {
+    let alloc = rt.alloc();
+    let mut out = MemSink::new(alloc, Failing::Never);
+    let mut lengths = Vec::new(alloc);
+    match parse(alloc, b"SELECT ?a ?b WHERE { ?a <http://e/p> ?b }") {
+        Ok(query) => write_rows(alloc, &query, &mut out, &mut lengths)?,
+        Err(_) => assert!(rt; false),
+    }
+    assert_eq!(rt; out.taken(), TEXT.as_bytes());
+    assert_eq!(rt; lengths.as_slice(), ENDS.as_slice());
+    Ok(())
+}
