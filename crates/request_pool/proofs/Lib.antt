@@ -4,3 +4,6 @@ pub mod Running
 pub mod Holding
 pub mod Risen
 pub mod Outcomes
+pub mod Steps
+pub mod Taking
+pub mod Closing

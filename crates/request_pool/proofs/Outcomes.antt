@@ -2,6 +2,7 @@
 use Rattle.std.proofs.Common.{ℕ, ◌≡◌, ◌+◌, ◌<◌, ◌≤◌, ◌⊎◌, inl, inr, ◌++◌, List, [], ◌∷◌, Option, Some, None, Result, Ok, Err, IfOk, IfErr, refl, sym, ◌∙◌, ap, subst, true, false}
 use Rattle.futures.specs.declared.task.Poll.{Poll}
 use Rattle.futures.specs.declared.task.Poll.TheVariants as poll
+use Rattle.tpf_base.specs.Addresses.{Address}
 use Rattle.tpf_base.specs.Links.{WireState}
 use Rattle.http_wire.specs.declared.message.Reply.{Reply}
 use Rattle.exchange.specs.Exchanges.{Exchanging, left_link}
@@ -57,3 +58,6 @@ on_end (exchanges.Bad fault received) result f e p q a b t w h =
     subst (λ (x : Result Polled PoolFault). FlightTo x f p q a b) (sym h.0) (record { now = e; touches = t; answers = w }, h.1)
 on_end exchanges.OutOfMemory result f e p q a b t w h =
     subst (λ (x : Result Polled PoolFault). FlightTo x f p q a b) (sym h.0) (poll.Ready (Err exchanges.OutOfMemory), b, record { now = e; touches = t; answers = w }, h.1, (w.closed, inl refl))
+
+pub settles_as : (o o' : Option ℕ) (x x' : Address) (p q : Pooled) (a b : WireState) → o ≡ o' → x ≡ x' → Settles o x p q a b → Settles o' x' p q a b
+settles_as o o' x x' p q a b e f h = subst (λ (y : Option ℕ). Settles y x' p q a b) e (subst (λ (y : Address). Settles o y p q a b) f h)

@@ -81,8 +81,8 @@ risen_on : (since a b : WireState) (o : Option ℕ) → Later a b → RisenOn si
 risen_on since a b None l h = absurd h
 risen_on since a b (Some k) l h = (
     omega (arith, h.0, l.given),
-    ((λ below. rose_up _ _ _ _ (h.1.0 below) (omega arith) (l.stalls k h.0)),
-    (λ above. rose_up _ _ _ _ (h.1.1 above) (omega arith) (l.stalls k h.0))))
+    ((λ below. rose_up (since.links k).stalls (since.links k).stalls (a.links k).stalls (b.links k).stalls (h.1.0 below) (omega arith) (l.stalls k h.0)),
+    (λ above. rose_up 0 0 (a.links k).stalls (b.links k).stalls (h.1.1 above) (omega arith) (l.stalls k h.0))))
 
 pub are_risen : (since a b : WireState) (fs : List Flight) → Later a b → AreRisen since a fs → AreRisen since b fs
 are_risen since a b [] l h = tt
@@ -95,7 +95,7 @@ risen-append since a (x ∷ xs) ys h i = (h.0, risen-append since a xs ys h.1 i)
 rose_link : (address : Address) (o : Option ℕ) (k : ℕ) (since a b : WireState) → Later since a → LinkAfter address o (Some k) a b → RoseOn o k a b
     → (k < since.given → Rose (since.links k).stalls (b.links k).stalls) × (since.given ≤ k → Rose 0 (b.links k).stalls)
 rose_link address (Some j) k since a b later l r =
-    ((λ below. rose_up _ _ _ _ r (later.stalls k below) (omega arith)), (λ above. rose_up _ _ _ _ r (omega arith) (omega arith)))
+    ((λ below. rose_up (since.links k).stalls (a.links k).stalls (b.links k).stalls (b.links k).stalls r (later.stalls k below) (omega arith)), (λ above. rose_up 0 (a.links k).stalls (b.links k).stalls (b.links k).stalls r (omega arith) (omega arith)))
 rose_link address None k since a b later l r = ((λ below. absurd (omega (arith, below, later.given, l.0))), (λ above. r))
 
 risen_as : (since b : WireState) (o : Option ℕ) (k : ℕ) → o ≡ Some k → RisenOn since b (Some k) → RisenOn since b o

@@ -1,6 +1,8 @@
 -- Links are closed.
-use Rattle.std.specs.Prelude.{ℕ, ◌≡◌, ◌<◌, false}
+use Rattle.std.specs.Prelude.{ℕ, ◌≡◌, ◌+◌, ◌<◌, false, length, Option}
 use Rattle.tpf_base.specs.Links.{Link, WireState}
+use Rattle.request_pool.specs.Pools.{Pooled}
+use Rattle.request_pool.specs.Owned.{on_link, held_on}
 
 -- A link was closed, and all that is told of it is as before.
 pub record IsClosed (old new : Link) : Type 0 where
@@ -24,3 +26,13 @@ pub record ClosesSome (was is : ℕ → ℕ) (wire wire' : WireState) : Type 0 w
   pub listens : wire'.listens ≡ wire.listens
   pub door_stalls : wire'.door_stalls ≡ wire.door_stalls
   pub nature : wire'.nature ≡ wire.nature
+
+-- how many exchanges in flight and links that were left a pool holds
+abbrev pub count_held : Pooled → ℕ
+count_held pool = length pool.polled + length pool.due + length pool.spare
+
+-- An exchange, or a link that was left, with this link was taken out of a pool.
+pub record PopsLink (link : Option ℕ) (old new : Pooled) : Type 0 where
+  pub held : (k : ℕ) → held_on old k ≡ on_link link k + held_on new k
+  pub kept : new ≡ record old { polled = new.polled; due = new.due; spare = new.spare }
+  pub fewer : count_held new < count_held old

@@ -1,6 +1,6 @@
 -- What a poll of one exchange in flight comes to.
 use Rattle.std.specs.Prelude.{ℕ, ◌≡◌, ◌+◌, ◌<◌, ◌≤◌, ◌⊎◌, ◌++◌, List, [], ◌∷◌, length, Option, Some, None, Result, Ok, Err, IfOk}
-use Rattle.std.specs.List.{AllByRecursion}
+use Rattle.std.specs.List.{All}
 use Rattle.futures.specs.declared.task.Poll.{Poll}
 use Rattle.futures.specs.declared.task.Poll.TheVariants as poll
 use Rattle.tpf_base.specs.Addresses.{Address, authority_of}
@@ -46,7 +46,7 @@ pub record TakesOne (spare : Spare) (old new : List Spare) : Type 0 where
 
 -- A first ask takes a link that was left for its authority, where there is one. An ask that failed takes none.
 abbrev pub TakesLink : Waiting → List Spare → List Spare → Option ℕ → Type 0
-TakesLink first old new None = (new ≡ old) × (first.failed ≡ 0 → AllByRecursion (λ s. ¬ IsFor first.address s) old)
+TakesLink first old new None = (new ≡ old) × (first.failed ≡ 0 → All (λ s. ¬ IsFor first.address s) old)
 TakesLink first old new (Some k) = (first.failed ≡ 0) × ((s : Spare) × (s.link ≡ k) × IsFor first.address s × TakesOne s old new)
 
 -- ---- one exchange

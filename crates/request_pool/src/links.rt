@@ -1,15 +1,11 @@
 // The links that a pool holds.
 ghost use Rattle.std.specs.Prelude.{ℕ, ◌≡◌, ◌<◌, ◌≤◌, ◌∷◌, [], length, MatchOption, ◌++◌, List, slice_index_or};
-ghost use Rattle.std.specs.List.{AllByRecursion};
+ghost use Rattle.std.specs.List.{All};
 ghost use Rattle.tpf_base.specs.Links.{SameAllowed};
 ghost use Rattle.exchange.specs.Exchanges.{IsLinked};
-ghost use Rattle.request_pool.specs.Owned.{flights_on, spare_on, open_on};
 ghost use Rattle.request_pool.specs.Polls.{Shuts, IsFor, TakesLink};
-ghost use Rattle.request_pool.specs.Closing.{ClosesSome};
-ghost use Rattle.request_pool.specs.declared.asks.Waiting.{Waiting};
 
-use crate::asks::{Flight, Spare};
-use std::collections::VecDeque;
+use crate::asks::Spare;
 use template_fill::WebAddress;
 use tpf_base::Wire;
 
@@ -26,7 +22,7 @@ pub(crate) fn shut<W: Wire>(wire: &mut W, link: Option<u64>)
 
 /// The place of the first link that was left for the authority of an address.
 fn place_of(spare: &[Spare], address: &WebAddress) -> Option<usize>
-    ensures { MatchOption result (AllByRecursion (λ s. ¬ IsFor address.now s) spare.now) (λ i. (i < length spare.now) × ((d : Spare) → IsFor address.now (slice_index_or spare.now i d))) }
+    ensures { MatchOption result (All (λ s. ¬ IsFor address.now s) spare.now) (λ i. (i < length spare.now) × ((d : Spare) → IsFor address.now (slice_index_or spare.now i d))) }
 {
     for (place, left) in spare.iter().enumerate() {
         if left.address.same_authority(address) {
@@ -51,29 +47,5 @@ pub(crate) fn take_link(
     match place_of(spare.as_slice(), address) {
         Some(place) => Some(spare.remove(place).link),
         None => None,
-    }
-}
-
-/// Closes the links of exchanges.
-pub(crate) fn close_flights<W: Wire>(wire: &mut W, flights: &mut VecDeque<Flight>)
-    requires { (k : ℕ) → flights_on flights.old.items k ≤ open_on (W.state wire.old) k }
-    ensures closes { ClosesSome (flights_on flights.old.items) (flights_on flights.new.items) (W.state wire.old) (W.state wire.new) }
-    ensures empty { flights.new.items ≡ [] }
-    ensures allowed { SameAllowed (W.allows wire.old) (W.allows wire.new) }
-{
-    while let Some(flight) = flights.pop_front() {
-        shut(wire, flight.exchange.link());
-    }
-}
-
-/// Closes links that were left.
-pub(crate) fn close_spare<W: Wire>(wire: &mut W, spare: &mut Vec<Spare>)
-    requires { (k : ℕ) → spare_on spare.old.items k ≤ open_on (W.state wire.old) k }
-    ensures closes { ClosesSome (spare_on spare.old.items) (spare_on spare.new.items) (W.state wire.old) (W.state wire.new) }
-    ensures empty { spare.new.items ≡ [] }
-    ensures allowed { SameAllowed (W.allows wire.old) (W.allows wire.new) }
-{
-    while let Some(left) = spare.pop() {
-        wire.close(left.link);
     }
 }

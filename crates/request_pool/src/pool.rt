@@ -1,5 +1,5 @@
 // A pool of exchanges over one wire.
-ghost use Rattle.std.specs.Prelude.{ℕ, ◌≡◌, ◌≢◌, ◌+◌, ◌<◌, ◌≤◌, ◌++◌, ◌∷◌, ◌↔◌, ◌⊎◌, List, [], length, Some, None, Ok, Err, IsErr, IsTrue, IfOk, OnOk, OnErr, Result, min, ◌^◌, ◌-◌, true, false, IfErr};
+ghost use Rattle.std.specs.Prelude.{ℕ, ◌≡◌, ◌≢◌, ◌+◌, ◌<◌, ◌≤◌, ◌++◌, ◌∷◌, ◌↔◌, ◌⊎◌, List, [], length, Some, None, Ok, Err, IsErr, IsTrue, IfOk, IfSome, OnOk, OnErr, Result, min, ◌^◌, ◌-◌, true, false, IfErr};
 ghost use Rattle.std.specs.List.{AllByRecursion};
 ghost use Rattle.tpf_base.specs.Links.{WireState, SameAllowed};
 ghost use Rattle.exchange.specs.Exchanges.{left_link, IsLinked};
@@ -10,11 +10,11 @@ ghost use Rattle.request_pool.specs.Polls.{Shuts, Settles, FailsTo, EndsTo, Flig
 ghost use Rattle.request_pool.specs.Runs.{Begins, Starts, PollsNext, RunsTo, is_end};
 ghost use Rattle.request_pool.specs.declared.asks.Flight as flights;
 ghost use Rattle.request_pool.specs.Steps.{StepsTo, IsOverBudget, GivesUp, WaitsTo, MayWait};
-ghost use Rattle.request_pool.specs.Closing.{ClosesSome};
+ghost use Rattle.request_pool.specs.Closing.{ClosesSome, PopsLink};
 
 use crate::asks::{Flight, Spare, Waiting};
 use crate::fault::{Polled, PoolFault, Stepped};
-use crate::links::{close_flights, close_spare, shut, take_link};
+use crate::links::{shut, take_link};
 use exchange::{Exchange, ExchangeFault, ReceiveBuffer};
 use futures::task::Poll;
 use http_wire::Reply;
@@ -170,10 +170,48 @@ impl Pool {
         ensures closes { ClosesSome (held_on self.old) (held_on self.new) (W.state wire.old) (W.state wire.new) }
         ensures allowed { SameAllowed (W.allows wire.old) (W.allows wire.new) }
     {
-        close_flights(wire, &mut self.polled);
-        close_flights(wire, &mut self.due);
-        close_spare(wire, &mut self.spare);
+        while let Some(link) = self.pop_link() {
+            shut(wire, link);
+        }
         self.waiting.clear();
+    }
+
+    /// Takes out the last exchange in flight, or else the last link that was left, and gives its link.
+    fn pop_link(&mut self) -> Option<Option<u64>>
+        ensures some { IfSome result (λ link. PopsLink link self.old self.new) }
+        ensures none { result ≡ None → (self.new ≡ self.old) × (self.old.polled ≡ []) × (self.old.due ≡ []) × (self.old.spare ≡ []) }
+    {
+        if let Some(link) = self.pop_due() {
+            return Some(link);
+        }
+        if let Some(link) = self.pop_polled() {
+            return Some(link);
+        }
+        self.pop_spare()
+    }
+
+    fn pop_due(&mut self) -> Option<Option<u64>>
+        ensures some { IfSome result (λ link. PopsLink link self.old self.new) }
+        ensures none { result ≡ None → (self.new ≡ self.old) × (self.old.due ≡ []) }
+    {
+        let flight = self.due.pop_back()?;
+        Some(flight.exchange.link())
+    }
+
+    fn pop_polled(&mut self) -> Option<Option<u64>>
+        ensures some { IfSome result (λ link. PopsLink link self.old self.new) }
+        ensures none { result ≡ None → (self.new ≡ self.old) × (self.old.polled ≡ []) }
+    {
+        let flight = self.polled.pop_back()?;
+        Some(flight.exchange.link())
+    }
+
+    fn pop_spare(&mut self) -> Option<Option<u64>>
+        ensures some { IfSome result (λ link. PopsLink link self.old self.new) }
+        ensures none { result ≡ None → (self.new ≡ self.old) × (self.old.spare ≡ []) }
+    {
+        let left = self.spare.pop()?;
+        Some(Some(left.link))
     }
 
     /// The fault that ended it, once more; its bytes are copied.
@@ -361,7 +399,8 @@ impl Pool {
 
     /// Whether an exchange is to be polled in this round.
     fn is_due(&self) -> bool
-        ensures { IsTrue result ↔ (self.now.due ≢ []) }
+        ensures some { result ≡ true → self.now.due ≢ [] }
+        ensures none { result ≡ false → self.now.due ≡ [] }
     {
         !self.due.is_empty()
     }
@@ -486,24 +525,35 @@ impl Pool {
         ensures allowed { SameAllowed (W.allows wire.old) (W.allows wire.new) }
     {
         let ticket = flight.ticket;
-        if let Some(link) = flight.exchange.leave() {
-            self.keep(wire, link, flight.exchange.into_address());
-        }
+        let left = flight.exchange.leave();
+        self.settle(wire, left, flight.exchange.into_address());
         Polled::Came { ticket, reply }
     }
 
     /// Keeps a link that was left, or closes it where there is no room for it.
-    fn keep<W: Dial>(&mut self, wire: &mut W, link: u64, address: WebAddress)
-        requires linked { IsLinked (Some link) (W.state wire.old) }
-        ensures settles { Settles (Some link) address self.old self.new (W.state wire.old) (W.state wire.new) }
+    fn settle<W: Dial>(&mut self, wire: &mut W, left: Option<u64>, address: WebAddress)
+        requires linked { IsLinked left (W.state wire.old) }
+        ensures settles { Settles left address self.old self.new (W.state wire.old) (W.state wire.new) }
         ensures allowed { SameAllowed (W.allows wire.old) (W.allows wire.new) }
     {
-        if self.spare.len() < self.links as usize
-            && self.spare.push(Spare { link, address }).is_ok()
-        {
+        let Some(link) = left else {
+            return;
+        };
+        if self.keep(link, address) {
             return;
         }
         wire.close(link);
+    }
+
+    /// Keeps a link that was left, and says whether there is room and memory for it.
+    fn keep(&mut self, link: u64, address: WebAddress) -> bool
+        ensures kept { result ≡ true → (length self.old.spare < self.old.links) × (self.new ≡ record self.old { spare = self.old.spare ++ (record { link = link; address = address }) ∷ [] }) }
+        ensures refused { result ≡ false → self.new ≡ self.old }
+    {
+        if self.spare.len() >= self.links as usize {
+            return false;
+        }
+        self.spare.push(Spare { link, address }).is_ok()
     }
 
     /// What the fault of an exchange that is over comes to.
