@@ -11,7 +11,7 @@ use Rattle.request_pool.specs.Owned.{on_link, flights_on, spare_on, held_on, tim
 use Rattle.request_pool.specs.Polls.{Shuts}
 use Rattle.request_pool.specs.Closing.{IsClosed, ClosesSome, PopsLink, count_held}
 use Rattle.request_pool.proofs.Owned.{at_or_off, on_same, on_other, flights_on-append, spare_on-append, one_at_most, closed_none, same_open, linked_open, rest_closed}
-use Rattle.request_pool.proofs.Suits.{own_none, shuts_rest}
+use Rattle.request_pool.proofs.Suits.{own_none}
 use Rattle.exchange.specs.Exchanges.{IsLinked}
 use Rattle.std.proofs.lemmas.Bool.{cases_lt}
 

@@ -1,12 +1,12 @@
 -- What the calls of a step ask for, and what they make of what was before.
-use Rattle.std.proofs.Common.{ℕ, ◌≡◌, ◌≢◌, ◌+◌, ◌-◌, ◌<◌, ◌≤◌, ◌⊎◌, inl, inr, ◌++◌, List, [], ◌∷◌, map, length, min, take, drop, Option, Some, None, Bool, true, false, Result, Ok, Err, refl, sym, ◌∙◌, ap, subst, arith, append-nil, slice_index_or}
+use Rattle.std.proofs.Common.{ℕ, ◌≡◌, ◌≢◌, ◌+◌, ◌-◌, ◌<◌, ◌≤◌, ◌⊎◌, inl, inr, ◌++◌, List, [], ◌∷◌, map, length, min, take, drop, Option, Some, None, Bool, true, false, Result, Ok, Err, IfOk, refl, sym, ◌∙◌, ap, subst, arith, append-nil, ◌^◌}
 use Rattle.std.specs.List.Sorted.{IsPermutation}
 use Rattle.std.proofs.lemmas.List.Sorted.{length_permutation}
 use Rattle.std.proofs.Math.ListN.{length-map, length-append}
 use Rattle.std.proofs.lemmas.Bool.{cases_lt}
 use Rattle.tpf_base.specs.Addresses.{Address}
 use Rattle.tpf_base.specs.Links.{Link, WireState, OpensGiven}
-use Rattle.exchange.specs.Exchanges.{IsLinked}
+use Rattle.exchange.specs.Exchanges.{IsLinked, starting}
 use Rattle.request_pool.specs.declared.asks.Waiting.{Waiting}
 use Rattle.request_pool.specs.declared.asks.Flight.{Flight}
 use Rattle.request_pool.specs.declared.asks.Spare.{Spare}
@@ -16,11 +16,15 @@ use Rattle.request_pool.specs.declared.fault.PoolFault.{PoolFault}
 use Rattle.request_pool.specs.declared.fault.PoolFault.TheVariants as faults
 use Rattle.request_pool.specs.Pools.{Pooled, Ask, ask_waiting, ask_flying, held, in_flight}
 use Rattle.request_pool.specs.Owned.{on_link, flights_on, spare_on, held_on, open_on, SuitsWire}
-use Rattle.request_pool.specs.Polls.{Settles, NoLink, Kept, Shut, FlightTo}
-use Rattle.request_pool.specs.Runs.{Begins, Starts, Overruns, Flies, Starves, PollsNext, Turn, Start, Next, Round, Running, Last, OfStart, OfPoll, RunsTo, is_end}
-use Rattle.request_pool.specs.Steps.{MayWait, RisenOn}
-use Rattle.request_pool.proofs.Owned.{linked_open}
-use Rattle.request_pool.proofs.Suits.{Owns, owns_begun, owns_next}
+use Rattle.request_pool.specs.Polls.{Shuts, TakesLink, Settles, NoLink, Kept, Shut, FlightTo}
+use Rattle.request_pool.specs.Runs.{Begins, Starts, Overruns, Flies, Starves, PollsNext, Turn, Start, Next, Round, Running, Ended, Last, OfStart, OfPoll, RunsTo, GoesOn, Ends, is_end}
+use Rattle.request_pool.specs.Steps.{MayWait, RisenOn, WaitsTo, EndsInWait, Breaks, InRun, InWait, StepsTo, IsOverBudget}
+use Rattle.request_pool.specs.declared.fault.Stepped.{Stepped}
+use Rattle.request_pool.specs.declared.fault.Stepped.TheVariants.{Came, Waited, Idle}
+use Rattle.http_wire.specs.declared.message.Reply.{Reply}
+use Rattle.request_pool.proofs.Owned.{linked_open, flights_on-append}
+use Rattle.request_pool.proofs.Suits.{Owns, owns_begun, owns_next, starts_suits, next_suits, underway-append}
+use Rattle.request_pool.proofs.Running.{to_then, runs_more, runs_none, went_on, ended}
 use Rattle.request_pool.proofs.Holding.{running_holds}
 use Rattle.request_pool.proofs.Risen.{Fares, Later, AreRisen, later_none, running_fares, fares_first, turn_fares}
 
@@ -91,5 +95,151 @@ next_fewer result p q a b h = let k = flight_keeps result h.f (record p { due = 
 
 -- ---- before a wait
 
-nil_or_more : (n : ℕ) → (n ≡ 0) ⊎ (0 < n)
-nil_or_more n = elim (cases_lt 0 n) [ inl h ↦ inr h | inr h ↦ inl (omega (arith, h)) ]
+full_by : (w : List Waiting) (n links all : ℕ) → all ≡ length w + n → n ≤ links → (((n < links) × (w ≢ [])) → ⊥) → n ≡ min links all
+full_by [] n links all e few full = omega (arith, e, few)
+full_by (w ∷ ws) n links all e few full = elim (cases_lt n links) [ inl l ↦ absurd (full (l, λ x. cc x)) | inr l ↦ omega (arith, e, few, l) ]
+
+held_length : (p : Pooled) → length (held p) ≡ length p.waiting + length (in_flight p)
+held_length p = omega (arith, length-append (map ask_waiting p.waiting) (map ask_flying (in_flight p)), length-map p.waiting ask_waiting, length-map (in_flight p) ask_flying)
+
+-- each exchange was polled, and as many are in flight as may be
+pub may_wait : (since : WireState) (p : Pooled) (a : WireState) → Fares true since p a → p.due ≡ [] → length (in_flight p) ≤ p.links → (((length (in_flight p) < p.links) × (p.waiting ≢ [])) → ⊥) → MayWait since p a
+may_wait since p a f e few full =
+    let all : length p.polled ≡ length (in_flight p) = sym (ap (λ (l : List Flight). length (p.polled ++ l)) e ∙ ap (λ (l : List Flight). length l) (append-nil p.polled)) in
+    record {
+      none_due = e;
+      full = all ∙ full_by p.waiting (length (in_flight p)) p.links (length (held p)) (held_length p) few full;
+      risen = f.risen refl;
+    }
+
+empty_of : (l : List Ask) → length l ≡ 0 → l ≡ []
+empty_of [] e = refl
+empty_of (x ∷ l) e = absurd (omega (arith, e))
+
+pub still_held : (xs ys : List Ask) → IsPermutation xs ys → xs ≢ [] → ys ≢ []
+still_held xs ys p n = λ e. n (empty_of xs (sym (length_permutation xs ys p) ∙ ap (λ (l : List Ask). length l) e))
+
+pub none_held : (l : List Ask) (n : ℕ) → n ≡ min (length l) (2 ^ 64 - 1) → n ≡ 0 → l ≡ []
+none_held l n e z = empty_of l (omega (arith, e, z))
+
+pub none_counted : (l : List Ask) (n : ℕ) → n ≡ min (length l) (2 ^ 64 - 1) → l ≡ [] → n ≡ 0
+none_counted l n e z = omega (arith, e, ap (λ (x : List Ask). length x) z)
+
+-- an exchange is in flight before a wait
+pub some_polled : (since : WireState) (p : Pooled) (a : WireState) → MayWait since p a → 0 < p.links → held p ≢ [] → p.polled ≢ []
+some_polled since p a m links some = λ e. some (empty_of (held p) (omega (arith, m.full, ap (λ (l : List Flight). length l) e, links)))
+
+-- ---- a round
+
+pub round_turn : (p r : Pooled) (a : WireState) → p.due ≡ [] → r ≡ record p { polled = []; due = p.polled } → Turn p r a a
+round_turn p r a e h =
+    let all : p.polled ≡ p.polled ++ p.due = sym (ap (λ (l : List Flight). p.polled ++ l) e ∙ append-nil p.polled) in
+    Round (h ∙ ap (λ (l : List Flight). record p { polled = []; due = l }) all) refl
+
+pub suits_round : (p r : Pooled) (a : WireState) → r ≡ record p { polled = []; due = p.polled } → SuitsWire p a → SuitsWire r a
+suits_round p r a e s = subst (λ (x : Pooled). SuitsWire x a) (sym e) (record { polled = tt; due = s.polled; owned = λ k. omega (arith, s.owned k) })
+
+pub fares_round : (since : WireState) (p r : Pooled) (a : WireState) → r ≡ record p { polled = []; due = p.polled } → Fares false since p a → Fares true since r a
+fares_round since p r a e f = record {
+  suits = suits_round p r a e f.suits;
+  given = f.given;
+  later = f.later;
+  risen = λ k. subst (λ (x : Pooled). AreRisen since a x.polled) (sym e) tt;
+}
+
+-- a run that is not at its end, up to a round, and then another
+pub then_round : (first result : Result Polled PoolFault) (p q r s : Pooled) (a b c : WireState) → is_end first ≡ false → RunsTo first p q a b → q.due ≡ [] → r ≡ record q { polled = []; due = q.polled } → RunsTo result r s b c → RunsTo result p s a c
+then_round first result p q r s a b c e h due is i = to_then result p r s a b c (runs_more p q r a b b (went_on first p q a b e h) (round_turn q r b due is)) i
+
+pub then_runs : (first result : Result Polled PoolFault) (p q r : Pooled) (a b c : WireState) → is_end first ≡ false → RunsTo first p q a b → RunsTo result q r b c → RunsTo result p r a c
+then_runs first result p q r a b c e h i = to_then result p q r a b c (went_on first p q a b e h) i
+
+pub not_pending : (result : Result Polled PoolFault) → is_end result ≡ true → result ≡ Ok polls.Pending → ⊥
+not_pending result e f = let g : false ≡ true = sym (ap is_end f) ∙ e in cc
+
+pub pending_of : (result : Result Polled PoolFault) (p q : Pooled) (a b : WireState) → is_end result ≡ false → RunsTo result p q a b → result ≡ Ok polls.Pending
+pending_of result p q a b e (GoesOn f h) = f
+pending_of result p q a b e (Ends f h) = absurd (let g : false ≡ true = sym e ∙ f in cc)
+
+pub pending_runs : (result : Result Polled PoolFault) (p q : Pooled) (a b : WireState) → result ≡ Ok polls.Pending → RunsTo result p q a b → Running p q a b
+pending_runs result p q a b e h = went_on result p q a b (ap is_end e) h
+
+pub no_failed : (p q : Pooled) (a b : WireState) → RunsTo (Ok polls.Failed) p q a b → ⊥
+no_failed p q a b (GoesOn f h) = cc
+no_failed p q a b (Ends f h) = cc
+
+-- after starts, a round of polls and starts again nothing is left but to wait
+pub run_waits : (first second third : Result Polled PoolFault) (p q r s t : Pooled) (a b c d : WireState) → SuitsWire p a → OpensGiven a → is_end first ≡ false → RunsTo first p q a b → r ≡ record q { polled = []; due = q.polled }
+    → is_end second ≡ false → RunsTo second r s b c → s.due ≡ [] → third ≡ Ok polls.Pending → RunsTo third s t c d → t.due ≡ s.due → length (in_flight t) ≤ t.links → (((length (in_flight t) < t.links) × (t.waiting ≢ [])) → ⊥) → MayWait a t d
+run_waits first second third p q r s t a b c d suits given e1 h1 is e2 h2 none e3 h3 due few full =
+    let f1 = running_fares false a p q a b (fares_first p a suits given) (went_on first p q a b e1 h1) in
+    let f2 = running_fares true a r s b c (fares_round a q r b is f1) (went_on second r s b c e2 h2) in
+    let f3 = running_fares true a s t c d f2 (pending_runs third s t c d e3 h3) in
+    may_wait a t d f3 (due ∙ none) few full
+
+-- ---- loops
+
+pub runs_suit : (p q : Pooled) (a b : WireState) → SuitsWire p a → OpensGiven a → Running p q a b → SuitsWire q b
+runs_suit p q a b s g r = (running_fares false a p q a b (fares_first p a s g) r).suits
+
+pub start_suits : (result : Result Polled PoolFault) (p q r : Pooled) (a b c : WireState) → SuitsWire p a → OpensGiven a → Running p q a b → Starts result q r b c → SuitsWire r c
+start_suits result p q r a b c s g h i = let f = running_fares false a p q a b (fares_first p a s g) h in starts_suits result q r b c f.given f.suits i
+
+pub poll_suits : (result : Result Polled PoolFault) (p q r : Pooled) (a b c : WireState) → SuitsWire p a → OpensGiven a → Running p q a b → PollsNext result q r b c → SuitsWire r c
+poll_suits result p q r a b c s g h i = let f = running_fares false a p q a b (fares_first p a s g) h in next_suits result q r b c f.given f.suits i
+
+-- ---- a whole step
+
+pub suits_gathered : (p q : Pooled) (a : WireState) → q ≡ record p { polled = in_flight p; due = [] } → SuitsWire p a → SuitsWire q a
+suits_gathered p q a e s = subst (λ (x : Pooled). SuitsWire x a) (sym e) (record {
+  polled = underway-append p.polled p.due s.polled s.due;
+  due = tt;
+  owned = λ k. omega (arith, s.owned k, flights_on-append p.polled p.due k);
+})
+
+pub held_gathered : (p q : Pooled) → q ≡ record p { polled = in_flight p; due = [] } → held q ≡ held p
+held_gathered p q e = ap held e ∙ ap (λ (l : List Flight). map ask_waiting p.waiting ++ map ask_flying l) (append-nil (in_flight p))
+
+pub over_gathered : (p q : Pooled) → q ≡ record p { polled = in_flight p; due = [] } → IsOverBudget p → IsOverBudget q
+over_gathered p q e o = subst IsOverBudget (sym e) (record { waits = o.waits; free = subst (λ (l : List Flight). length l < p.links) (sym (append-nil (in_flight p))) o.free; spent = o.spent })
+
+pub held_after : (p q r : Pooled) (a b : WireState) → q ≡ record p { polled = in_flight p; due = [] } → Running q r a b → held p ≢ [] → held r ≢ []
+held_after p q r a b e h n = still_held (held q) (held r) (running_holds q r a b h) (λ x. n (sym (held_gathered p q e) ∙ x))
+
+-- a run that ends with a reply or a fault ends the step
+ended_at : (result : Result Polled PoolFault) (p q r : Pooled) (a b : WireState) → q ≡ record p { polled = in_flight p; due = [] } → is_end result ≡ true → RunsTo result q r a b → Ended result (record p { polled = in_flight p; due = [] }) r a b
+ended_at result p q r a b e end h = subst (λ (x : Pooled). Ended result x r a b) e (ended result q r a b end h)
+
+pub came_steps : (ticket : ℕ) (answer : Reply) (p q r : Pooled) (a b : WireState) → q ≡ record p { polled = in_flight p; due = [] } → RunsTo (Ok (polls.Came ticket answer)) q r a b → StepsTo (Ok (Came ticket answer)) p r a b
+came_steps ticket answer p q r a b e h = ended_at (Ok (polls.Came ticket answer)) p q r a b e refl h
+
+pub fault_steps : (fault : PoolFault) (p q r : Pooled) (a b : WireState) → q ≡ record p { polled = in_flight p; due = [] } → RunsTo (Err fault) q r a b → StepsTo (Err fault) p r a b
+fault_steps fault p q r a b e h = InRun (ended_at (Err fault) p q r a b e refl h)
+
+pub over_steps : (p q : Pooled) (a : WireState) → q ≡ record p { polled = in_flight p; due = [] } → IsOverBudget q → StepsTo (Err faults.Budget) p q a a
+over_steps p q a e o = InRun (record { mid = q; between = a; running = subst (λ (x : Pooled). Running x q a a) e (runs_none q a); last = OfStart (Overruns refl o.spent refl refl) })
+
+stepped : (result : Result Stepped PoolFault) (p q : Pooled) (a b : WireState) → IfOk result (λ s. s ≡ Waited) → EndsInWait result p q a b → StepsTo result p q a b
+stepped (Ok s) p q a b e h = subst (λ (x : Stepped). StepsTo (Ok x) p q a b) (sym e) (subst (λ (x : Stepped). EndsInWait (Ok x) p q a b) e h)
+stepped (Err fault) p q a b e h = InWait h
+
+pub wait_steps : (result : Result Stepped PoolFault) (p q r s : Pooled) (a b c : WireState) → q ≡ record p { polled = in_flight p; due = [] } → RunsTo (Ok polls.Pending) q r a b → MayWait a r b → WaitsTo result r s b c → IfOk result (λ x. x ≡ Waited)
+    → StepsTo result p s a c
+wait_steps result p q r s a b c e h m w i = stepped result p s a c i (record { mid = r; between = b; running = subst (λ (x : Pooled). Running x r a b) e (pending_runs (Ok polls.Pending) q r a b refl h); may_wait = m; waits = w })
+
+-- ---- a start
+
+pub begun : (v p q : Pooled) (f : Flight) → v ≡ p → Begins v q f → Begins p q f
+begun v p q f e b = subst (λ (x : Pooled). Begins x q f) e b
+
+pub begun_err : (v p q : Pooled) (first : Waiting) (rest : List Waiting) (link : Option ℕ) (spare : List Spare) → v ≡ p → v.waiting ≡ first ∷ rest → TakesLink first v.spare spare link → q ≡ record v { waiting = rest; spare = spare }
+    → (x : Pooled) × (y : Flight) × Begins p x y × (q ≡ record x { started = p.started }) × (y.exchange.link ≡ link)
+begun_err v p q first rest link spare e w t h = subst (λ (z : Pooled). (x : Pooled) × (y : Flight) × Begins z x y × (q ≡ record x { started = z.started }) × (y.exchange.link ≡ link)) e
+    (record v { waiting = rest; spare = spare; started = v.started + 1 }, record { ticket = first.ticket; failed = first.failed; exchange = starting first.address v.limit link },
+      record { first = first; rest = rest; link = link; spare = spare; is_first = w; takes = t; is_new = refl; flight = refl }, h, refl)
+
+pub below_budget : (v p : Pooled) → v ≡ p → v.started < v.budget → p.started < p.budget
+below_budget v p e h = subst (λ (x : Pooled). x.started < x.budget) e h
+
+pub shuts_as : (o o' : Option ℕ) (a b : WireState) → o ≡ o' → Shuts o' a b → Shuts o a b
+shuts_as o o' a b e h = subst (λ (x : Option ℕ). Shuts x a b) (sym e) h

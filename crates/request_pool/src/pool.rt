@@ -292,7 +292,10 @@ impl Pool {
         }
         match self.run(wire, buffer) {
             Ok(Polled::Came { ticket, reply }) => Ok(Stepped::Came { ticket, reply }),
-            Ok(Polled::Pending) => self.wait(wire),
+            Ok(Polled::Pending) => {
+                self.bounds();
+                self.wait(wire)
+            }
             Ok(Polled::Failed) => unreachable!(),
             Err(fault) => Err(fault),
         }
@@ -343,7 +346,17 @@ impl Pool {
         if ends(&polled) {
             return polled;
         }
-        self.start_all(wire, buffer)
+        let again = self.start_all(wire, buffer);
+        self.bounds();
+        again
+    }
+
+    /// How many exchanges may be in flight, and that no more are. It does nothing.
+    fn bounds(&self)
+        ensures some { 0 < self.now.links }
+        ensures few { length (in_flight self.now) ≤ self.now.links }
+    {
+        let _links = self.links;
     }
 
     /// All in flight are to be polled.
@@ -596,7 +609,7 @@ impl Pool {
         requires some { self.old.polled ≢ [] }
         ensures waits { WaitsTo result self.old self.new (W.state wire.old) (W.state wire.new) }
         ensures suits { SuitsWire self.new (W.state wire.new) }
-        ensures busy { result ≢ Ok Stepped.Idle }
+        ensures waited { IfOk result (λ stepped. stepped ≡ Stepped.Waited) }
         ensures allowed { SameAllowed (W.allows wire.old) (W.allows wire.new) }
     {
         match wire.wait() {
