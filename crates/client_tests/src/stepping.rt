@@ -45,7 +45,9 @@ pub fn steps<W: Dial>(
     ensures suits { SuitsWire pool.new (W.state wire.new) }
 {
     let mut told = String::new(alloc);
-    for _ in 0..most {
+    let mut done = 0u32;
+    while done < most {
+        done += 1;
         match pool.step(wire) {
             Ok(Stepped::Came { ticket, .. }) => told = format!(in alloc; "{told}{ticket} ")?,
             Ok(Stepped::Waited) => {}

@@ -1,10 +1,12 @@
 -- A pool that goes on holds the same asks.
-use Rattle.std.proofs.Common.{ℕ, ◌≡◌, ◌+◌, ◌++◌, List, [], ◌∷◌, map, length, Result, Ok, Err, Bool, true, false, refl, sym, ◌∙◌, ap, subst, append_assoc}
+use Rattle.std.proofs.Common.{ℕ, ◌≡◌, ◌+◌, ◌++◌, List, [], ◌∷◌, map, length, Option, Result, Ok, Err, Bool, true, false, refl, sym, ◌∙◌, ap, subst, append_assoc, append-nil}
 use Rattle.std.proofs.lemmas.List.{map-append}
 use Rattle.std.specs.List.Sorted.{IsPermutation}
 use Rattle.std.proofs.lemmas.List.Sorted.{IsPermutation-refl, IsPermutation-sym, IsPermutation-trans, IsPermutation-middle, IsPermutation-append_right}
 use Rattle.futures.specs.declared.task.Poll.{Poll}
+use Rattle.tpf_base.specs.Addresses.{Address}
 use Rattle.tpf_base.specs.Links.{WireState}
+use Rattle.exchange.specs.Exchanges.{left_link}
 use Rattle.http_wire.specs.declared.message.Reply.{Reply}
 use Rattle.exchange.specs.declared.fault.ExchangeFault.{ExchangeFault}
 use Rattle.request_pool.specs.declared.asks.Waiting.{Waiting}
@@ -14,8 +16,11 @@ use Rattle.request_pool.specs.declared.fault.Polled.TheVariants as polls
 use Rattle.request_pool.specs.declared.fault.PoolFault.{PoolFault}
 use Rattle.request_pool.specs.declared.fault.PoolFault.TheVariants as faults
 use Rattle.request_pool.specs.Pools.{Pooled, Ask, ask_waiting, ask_flying, held, in_flight}
-use Rattle.request_pool.specs.Polls.{Polls, FlightTo, again}
-use Rattle.request_pool.specs.Runs.{Begins, Starts, Overruns, Flies, Starves, PollsNext, Turn, Start, Next, Round, Moment, Runs, Running, is_end}
+use Rattle.request_pool.specs.Polls.{Polls, FlightTo, again, Settles, NoLink, Kept, Shut}
+use Rattle.request_pool.specs.Runs.{Begins, Starts, Overruns, Flies, Starves, PollsNext, Turn, Start, Next, Round, Moment, Runs, Running, Ended, Last, OfStart, OfPoll, is_end}
+use Rattle.request_pool.specs.declared.fault.Stepped.{Stepped}
+use Rattle.request_pool.specs.declared.fault.Stepped.TheVariants.{Came, Waited, Idle}
+use Rattle.request_pool.specs.Steps.{StepsTo, HoldsOn, HandsOut, GivesUp, WaitsTo, Passes, Stalls, Misses, Lacks, EndsInWait}
 
 -- the asks of a pool and of an exchange that was taken out of it
 abbrev pub held_with : Flight → Pooled → List Ask
@@ -83,3 +88,74 @@ runs_hold (m ∷ ms) p q a b h = IsPermutation-trans _ _ _ (turn_holds p m.pool 
 
 pub running_holds : (p q : Pooled) (a b : WireState) → Running p q a b → IsPermutation (held p) (held q)
 running_holds p q a b h = runs_hold h.moments p q a b h.runs
+
+-- ---- at the end of a run
+
+settles_held : (o : Option ℕ) (address : Address) (p q : Pooled) (a b : WireState) → Settles o address p q a b → held q ≡ held p
+settles_held o address p q a b (NoLink e f h) = ap held f
+settles_held o address p q a b (Kept k e room f h) = ap held f
+settles_held o address p q a b (Shut k e f c) = ap held f
+
+flight_came : (ticket : ℕ) (answer : Reply) (f : Flight) (p q : Pooled) (a b : WireState) → FlightTo (Ok (polls.Came ticket answer)) f p q a b → IsPermutation (held_with f p) (ask_flying f ∷ held q)
+flight_came ticket answer f p q a b h =
+    subst (λ (l : List Ask). IsPermutation (held_with f p) (ask_flying f ∷ l)) (sym (settles_held (left_link h.1.now) h.1.now.address p q h.0 b h.3)) (held_out f p)
+
+no_came : (ticket : ℕ) (answer : Reply) (fault : PoolFault) → ◌≡◌ {A = Result Polled PoolFault} (Ok (polls.Came ticket answer)) (Err fault) → ⊥
+no_came ticket answer fault e = cc
+
+starts_came : (ticket : ℕ) (answer : Reply) (p q : Pooled) (a b : WireState) → Starts (Ok (polls.Came ticket answer)) p q a b → HandsOut ticket p q
+starts_came ticket answer p q a b (Overruns r budget f h) = absurd (no_came ticket answer faults.Budget r)
+starts_came ticket answer p q a b (Starves r mid f begins is shuts) = absurd (no_came ticket answer faults.OutOfMemory r)
+starts_came ticket answer p q a b (Flies mid f budget begins to) = record {
+  ask = ask_flying f;
+  is_ticket = sym to.2;
+  others = IsPermutation-trans _ _ _ (begun_holds p mid f begins) (flight_came ticket answer f mid q a b to);
+}
+
+next_came : (ticket : ℕ) (answer : Reply) (p q : Pooled) (a b : WireState) → PollsNext (Ok (polls.Came ticket answer)) p q a b → HandsOut ticket p q
+next_came ticket answer p q a b h = record {
+  ask = ask_flying h.f;
+  is_ticket = sym h.to.2;
+  others = subst (λ (l : List Flight). IsPermutation (map ask_waiting p.waiting ++ map ask_flying (p.polled ++ l)) (ask_flying h.f ∷ held q)) (sym h.is_next) (flight_came ticket answer h.f (record p { due = h.rest }) q a b h.to);
+}
+
+last_came : (ticket : ℕ) (answer : Reply) (p q : Pooled) (a b : WireState) → Last (Ok (polls.Came ticket answer)) p q a b → HandsOut ticket p q
+last_came ticket answer p q a b (OfStart h) = starts_came ticket answer p q a b h
+last_came ticket answer p q a b (OfPoll h) = next_came ticket answer p q a b h
+
+gathered_held : (p : Pooled) → held (record p { polled = in_flight p; due = [] }) ≡ held p
+gathered_held p = ap (λ (l : List Flight). map ask_waiting p.waiting ++ map ask_flying l) (append-nil (in_flight p))
+
+pub step_came : (ticket : ℕ) (answer : Reply) (p q : Pooled) (a b : WireState) → Ended (Ok (polls.Came ticket answer)) (record p { polled = in_flight p; due = [] }) q a b → HandsOut ticket p q
+step_came ticket answer p q a b h =
+    let r : Pooled = record p { polled = in_flight p; due = [] } in
+    let c = last_came ticket answer h.mid q h.between b h.last in
+    record {
+      ask = c.ask;
+      is_ticket = c.is_ticket;
+      others = subst (λ (l : List Ask). IsPermutation l (c.ask ∷ held q)) (gathered_held p) (IsPermutation-trans _ _ _ (running_holds r h.mid a h.between h.running) c.others);
+    }
+
+-- the oldest exchange is given up, and its ask waits again
+gives_up_held : (fault : PoolFault) (s : Stepped) (p q : Pooled) (a b : WireState) → GivesUp fault (Ok s) p q a b → IsPermutation (held p) (held q)
+gives_up_held fault s p q a b h =
+    let r : Pooled = record p { polled = h.rest; due = [] } in
+    let all : held p ≡ map ask_waiting p.waiting ++ (ask_flying h.f ∷ map ask_flying h.rest) = ap (λ (l : List Flight). map ask_waiting p.waiting ++ map ask_flying l) h.is_oldest in
+    let left : held q ≡ ask_flying h.f ∷ (map ask_waiting p.waiting ++ map ask_flying h.rest) = ap held h.to.1 ∙ ap (λ (l : List Flight). ask_flying h.f ∷ (map ask_waiting p.waiting ++ map ask_flying l)) (append-nil h.rest) in
+    permuted (held p) (held q) _ _ all left (IsPermutation-middle (map ask_waiting p.waiting) (ask_flying h.f) (map ask_flying h.rest))
+
+waits_held : (result : Result Stepped PoolFault) (s : Stepped) (p q : Pooled) (a b : WireState) → result ≡ Ok s → WaitsTo result p q a b → IsPermutation (held p) (held q)
+waits_held result s p q a b e (Passes ready f w i h) = subst (λ (l : List Ask). IsPermutation (held p) l) (sym (ap held h)) (IsPermutation-refl (held p))
+waits_held result s p q a b e (Stalls ready mid w i h) = gives_up_held faults.Stalled s p q mid b (subst (λ (x : Result Stepped PoolFault). GivesUp faults.Stalled x p q mid b) e h)
+waits_held result s p q a b e (Misses mid w h) = gives_up_held faults.Exchange s p q mid b (subst (λ (x : Result Stepped PoolFault). GivesUp faults.Exchange x p q mid b) e h)
+waits_held result s p q a b e (Lacks w f h) = absurd (let i : ◌≡◌ {A = Result Stepped PoolFault} (Err faults.OutOfMemory) (Ok s) = sym f ∙ e in cc)
+
+pub step_waited : (s : Stepped) (p q : Pooled) (a b : WireState) → EndsInWait (Ok s) p q a b → IsPermutation (held p) (held q)
+step_waited s p q a b h =
+    let r : Pooled = record p { polled = in_flight p; due = [] } in
+    subst (λ (l : List Ask). IsPermutation l (held q)) (gathered_held p) (IsPermutation-trans _ _ _ (running_holds r h.mid a h.between h.running) (waits_held (Ok s) s h.mid q h.between b refl h.waits))
+
+pub step_holds : (s : Stepped) (p q : Pooled) (a b : WireState) → StepsTo (Ok s) p q a b → HoldsOn s p q
+step_holds (Came ticket answer) p q a b h = step_came ticket answer p q a b h
+step_holds Waited p q a b h = step_waited Waited p q a b h
+step_holds Idle p q a b h = h.1

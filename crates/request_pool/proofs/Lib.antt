@@ -7,3 +7,5 @@ pub mod Outcomes
 pub mod Steps
 pub mod Taking
 pub mod Closing
+pub mod Waiting
+pub mod Bounds

@@ -26,7 +26,6 @@ use Rattle.request_pool.specs.Owned.{on_link, flights_on, spare_on, held_on, tim
 use Rattle.request_pool.specs.Polls.{Shuts, Settles, NoLink, Kept, Shut, TakesLink, FailsTo, Polls, IsShut, FlightTo}
 use Rattle.request_pool.specs.Runs.{Begins, Starts, Overruns, Flies, Starves, PollsNext}
 use Rattle.request_pool.specs.Steps.{Waits, GivesUp, WaitsTo}
-use Rattle.request_pool.specs.Steps as steps
 use Rattle.request_pool.proofs.Owned.{at_or_off, on_same, one_at_most, flights_on-append, spare_on-append, same_open, rest_none, rest_after, own_after, rest_closed}
 
 pub underway-append : (xs ys : List Flight) → AreUnderway xs → AreUnderway ys → AreUnderway (xs ++ ys)

@@ -34,6 +34,10 @@ empty_pool links retries budget limit = record {
   fault = None;
 }
 
+-- what no step changes but the fault: a pool without what it holds
+abbrev pub bounds_of : Pooled → Pooled
+bounds_of pool = record pool { waiting = []; polled = []; due = []; spare = []; started = 0 }
+
 -- the exchanges in flight, the oldest first
 abbrev pub in_flight : Pooled → List Flight
 in_flight pool = pool.polled ++ pool.due

@@ -1,7 +1,8 @@
 -- What a step of a pool does and answers.
 use Rattle.std.specs.Prelude.{ℕ, ◌≡◌, ◌≢◌, ◌<◌, ◌≤◌, ◌⊎◌, min, ◌++◌, List, [], ◌∷◌, length, Option, Some, None, Result, Ok, Err, IfOk, OnErr, true}
 use Rattle.std.specs.List.{AllByRecursion}
-use Rattle.tpf_base.specs.Causes.{Rose, HasCause}
+use Rattle.std.specs.List.Sorted.{IsPermutation}
+use Rattle.tpf_base.specs.Causes.{Rose, HasCause, counted}
 use Rattle.tpf_base.specs.declared.fault.Fault.{Fault}
 use Rattle.tpf_base.specs.declared.fault.Fault.TheVariants as failures
 use Rattle.tpf_base.specs.declared.wire.Ready.{Ready}
@@ -13,7 +14,7 @@ use Rattle.request_pool.specs.declared.fault.PoolFault.{PoolFault}
 use Rattle.request_pool.specs.declared.fault.PoolFault.TheVariants as faults
 use Rattle.request_pool.specs.declared.fault.Stepped.{Stepped}
 use Rattle.request_pool.specs.declared.fault.Stepped.TheVariants.{Came, Waited, Idle}
-use Rattle.request_pool.specs.Pools.{Pooled, held, in_flight}
+use Rattle.request_pool.specs.Pools.{Pooled, Ask, held, in_flight}
 use Rattle.request_pool.specs.Polls.{Shuts, FailsTo}
 use Rattle.request_pool.specs.Runs.{Running, Ended}
 
@@ -50,8 +51,8 @@ pub record GivesUp (fault : PoolFault) (result : Result Stepped PoolFault) (old 
 pub data WaitsTo (result : Result Stepped PoolFault) (old new : Pooled) (wire wire' : WireState) : Type 0 where
   Passes : (ready : Ready) → result ≡ Ok Waited → Waits (Ok ready) wire wire' → wire'.idle < 1000 → new ≡ old → WaitsTo result old new wire wire'
   Stalls : (ready : Ready) (mid : WireState) → Waits (Ok ready) wire mid → 1000 ≤ mid.idle → GivesUp faults.Stalled result old new mid wire' → WaitsTo result old new wire wire'
-  Fails : (mid : WireState) → Waits (Err failures.Failed) wire mid → GivesUp faults.Exchange result old new mid wire' → WaitsTo result old new wire wire'
-  Starves : Waits (Err failures.OutOfMemory) wire wire' → result ≡ Err faults.OutOfMemory → new ≡ old → WaitsTo result old new wire wire'
+  Misses : (mid : WireState) → Waits (Err failures.Failed) wire mid → GivesUp faults.Exchange result old new mid wire' → WaitsTo result old new wire wire'
+  Lacks : Waits (Err failures.OutOfMemory) wire wire' → result ≡ Err faults.OutOfMemory → new ≡ old → WaitsTo result old new wire wire'
 
 -- ---- a step
 
@@ -69,7 +70,7 @@ pub record EndsInWait (result : Result Stepped PoolFault) (old new : Pooled) (wi
 
 -- why a step ends with a fault: memory ran out before anything was done; a start or a poll had it; or the wait
 pub data Breaks (fault : PoolFault) (old new : Pooled) (wire wire' : WireState) : Type 0 where
-  Starves : fault ≡ faults.OutOfMemory → new ≡ old → wire' ≡ wire → Breaks fault old new wire wire'
+  AtOnce : fault ≡ faults.OutOfMemory → new ≡ old → wire' ≡ wire → Breaks fault old new wire wire'
   InRun : Ended (Err fault) (record old { polled = in_flight old; due = [] }) new wire wire' → Breaks fault old new wire wire'
   InWait : EndsInWait (Err fault) old new wire wire' → Breaks fault old new wire wire'
 
@@ -79,6 +80,25 @@ StepsTo (Ok Idle) old new wire wire' = (held old ≡ []) × (new ≡ old) × (wi
 StepsTo (Ok (Came ticket answer)) old new wire wire' = Ended (Ok (polls.Came ticket answer)) (record old { polled = in_flight old; due = [] }) new wire wire'
 StepsTo (Ok Waited) old new wire wire' = EndsInWait (Ok Waited) old new wire wire'
 StepsTo (Err fault) old new wire wire' = Breaks fault old new wire wire'
+
+-- An ask with this ticket was held and is held no longer, and each other ask is held as before.
+pub record HandsOut (ticket : ℕ) (old new : Pooled) : Type 0 where
+  pub ask : Ask
+  pub is_ticket : ask.ticket ≡ ticket
+  pub others : IsPermutation (held old) (ask ∷ held new)
+
+-- what becomes of the asks
+abbrev pub HoldsOn : Stepped → Pooled → Pooled → Type 0
+HoldsOn (Came ticket answer) old new = HandsOut ticket old new
+HoldsOn Waited old new = IsPermutation (held old) (held new)
+HoldsOn Idle old new = new ≡ old
+
+-- how often the wire was waited for
+abbrev pub WaitsOnce : Result Stepped PoolFault → WireState → WireState → Type 0
+WaitsOnce (Ok (Came ticket answer)) wire wire' = wire'.waits ≡ wire.waits
+WaitsOnce (Ok Waited) wire wire' = wire'.waits ≡ counted wire.waits
+WaitsOnce (Ok Idle) wire wire' = wire'.waits ≡ wire.waits
+WaitsOnce (Err fault) wire wire' = (wire'.waits ≡ wire.waits) ⊎ (wire'.waits ≡ counted wire.waits)
 
 -- an ask waits, a place is free, and as many exchanges were started as the budget allows
 pub record IsOverBudget (pool : Pooled) : Type 0 where

@@ -4,12 +4,12 @@ ghost use Rattle.std.specs.List.{AllByRecursion};
 ghost use Rattle.tpf_base.specs.Links.{WireState, SameAllowed};
 ghost use Rattle.exchange.specs.Exchanges.{left_link, IsLinked};
 ghost use Rattle.exchange.specs.declared.exchange.Standing.TheVariants.{Underway};
-ghost use Rattle.request_pool.specs.Pools.{Pooled, Ask, empty_pool, held, in_flight};
+ghost use Rattle.request_pool.specs.Pools.{Pooled, Ask, empty_pool, held, in_flight, bounds_of};
 ghost use Rattle.request_pool.specs.Owned.{SuitsWire, on_link, held_on, open_on, AreUnderway};
 ghost use Rattle.request_pool.specs.Polls.{Shuts, Settles, FailsTo, EndsTo, FlightTo};
 ghost use Rattle.request_pool.specs.Runs.{Begins, Starts, PollsNext, RunsTo, is_end};
 ghost use Rattle.request_pool.specs.declared.asks.Flight as flights;
-ghost use Rattle.request_pool.specs.Steps.{StepsTo, IsOverBudget, GivesUp, WaitsTo, MayWait};
+ghost use Rattle.request_pool.specs.Steps.{StepsTo, HoldsOn, WaitsOnce, IsOverBudget, GivesUp, WaitsTo, MayWait};
 ghost use Rattle.request_pool.specs.Closing.{ClosesSome, PopsLink};
 
 use crate::asks::{Flight, Spare, Waiting};
@@ -145,8 +145,12 @@ impl Pool {
         ensures suits { SuitsWire self.new (W.state wire.new) }
         ensures allowed { SameAllowed (W.allows wire.old) (W.allows wire.new) }
         ensures ok { self.old.fault ≡ None → IfOk result (λ stepped. StepsTo (Ok stepped) self.old self.new (W.state wire.old) (W.state wire.new)) }
+        ensures holds { self.old.fault ≡ None → IfOk result (λ stepped. HoldsOn stepped self.old self.new) }
+        ensures waits { self.old.fault ≡ None → WaitsOnce result (W.state wire.old) (W.state wire.new) }
         ensures err { self.old.fault ≡ None → IfErr result (λ shown. (fault : PoolFault) × StepsTo (Err fault) self.old (record self.new { fault = None }) (W.state wire.old) (W.state wire.new)
             × (self.new.fault ≡ Some fault) × ((shown ≡ fault) ⊎ (shown ≡ PoolFault.OutOfMemory))) }
+        ensures bounds { bounds_of (record self.new { fault = None }) ≡ bounds_of (record self.old { fault = None }) }
+        ensures no_fault { self.old.fault ≡ None → OnOk result (self.new.fault ≡ None) }
         ensures idle { self.old.fault ≡ None → held self.old ≡ [] → result ≡ Ok Stepped.Idle }
         ensures over { self.old.fault ≡ None → IsOverBudget self.old → (result ≡ Err PoolFault.Budget) ⊎ (result ≡ Err PoolFault.OutOfMemory) }
         ensures again { (fault : PoolFault) → self.old.fault ≡ Some fault → ((result ≡ Err fault) ⊎ (result ≡ Err PoolFault.OutOfMemory)) × (self.new ≡ self.old) × (W.state wire.new ≡ W.state wire.old) }
