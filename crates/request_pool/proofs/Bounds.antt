@@ -1,5 +1,5 @@
 -- No step changes the bounds of a pool.
-use Rattle.std.proofs.Common.{ℕ, ◌≡◌, ◌⊎◌, inl, inr, List, [], ◌∷◌, Option, Some, None, Result, Ok, Err, Bool, true, false, refl, sym, ◌∙◌, ap, subst}
+use Rattle.std.proofs.Common.{ℕ, ◌≡◌, ◌⊎◌, inl, inr, List, [], ◌∷◌, Option, Some, None, Result, Ok, Err, Bool, true, false, IsTrue, refl, sym, ◌∙◌, ap, subst}
 use Rattle.tpf_base.specs.Addresses.{Address}
 use Rattle.tpf_base.specs.Links.{WireState}
 use Rattle.exchange.specs.Exchanges.{left_link}
@@ -13,7 +13,8 @@ use Rattle.request_pool.specs.declared.fault.Stepped.TheVariants.{Came, Waited, 
 use Rattle.request_pool.specs.Pools.{Pooled, in_flight, bounds_of}
 use Rattle.request_pool.specs.Polls.{FailsTo, Settles, NoLink, Kept, Shut, FlightTo}
 use Rattle.request_pool.specs.Runs.{Starts, Overruns, Flies, Starves, Turn, Start, Next, Round, Moment, Runs, Running, Last, OfStart, OfPoll, Ended}
-use Rattle.request_pool.specs.Steps.{GivesUp, WaitsTo, Passes, Stalls, Misses, Lacks, EndsInWait, Breaks, AtOnce, InRun, InWait, StepsTo}
+use Rattle.request_pool.specs.Steps.{GivesUp, WaitsTo, Passes, Stalls, Misses, Lacks, EndsInWait, Breaks, AtOnce, InRun, InWait, StepsTo, IsOverBudget}
+use Rattle.request_pool.specs.Owned.{SuitsWire}
 
 settles_bounds : (o : Option ℕ) (address : Address) (p q : Pooled) (a b : WireState) → Settles o address p q a b → bounds_of q ≡ bounds_of p
 settles_bounds o address p q a b (NoLink e f h) = ap bounds_of f
@@ -87,3 +88,44 @@ same_bounds p q r e f = ap bounds_of f ∙ e
 pub again_err : (shown fault : PoolFault) → (shown ≡ fault) ⊎ (shown ≡ faults.OutOfMemory) → (◌≡◌ {A = Result Stepped PoolFault} (Err shown) (Err fault)) ⊎ (◌≡◌ {A = Result Stepped PoolFault} (Err shown) (Err faults.OutOfMemory))
 again_err shown fault (inl e) = inl (ap (λ (x : PoolFault). Err x) e)
 again_err shown fault (inr e) = inr (ap (λ (x : PoolFault). Err x) e)
+
+pub no_both : (o : Option PoolFault) (fault : PoolFault) → o ≡ None → o ≡ Some fault → ⊥
+no_both o fault e f = let g : None ≡ Some fault = sym e ∙ f in cc
+
+pub suits_fault : (p q : Pooled) (o : Option PoolFault) (a : WireState) → q ≡ record p { fault = o } → SuitsWire p a → SuitsWire q a
+suits_fault p q o a e s = subst (λ (x : Pooled). SuitsWire x a) (sym e) (record { polled = s.polled; due = s.due; owned = s.owned })
+
+no_fault_is : (p : Pooled) → p.fault ≡ None → record p { fault = None } ≡ p
+no_fault_is p e = ap (λ (x : Option PoolFault). record p { fault = x }) (sym e)
+
+pub end_steps : (fault shown : PoolFault) (p q r : Pooled) (a b : WireState) → p.fault ≡ None → StepsTo (Err fault) p q a b → r ≡ record q { fault = Some fault } → (shown ≡ fault) ⊎ (shown ≡ faults.OutOfMemory)
+    → (y : PoolFault) × StepsTo (Err y) p (record r { fault = None }) a b × (r.fault ≡ Some y) × ((shown ≡ y) ⊎ (shown ≡ faults.OutOfMemory))
+end_steps fault shown p q r a b e h i s = (fault,
+    subst (λ (x : Pooled). StepsTo (Err fault) p x a b) (sym (ap (λ (x : Pooled). record x { fault = None }) i ∙ no_fault_is q (step_fault (Err fault) p q a b e h))) h,
+    ap (λ (x : Pooled). x.fault) i, s)
+
+pub end_bounds : (result : Result Stepped PoolFault) (p q r : Pooled) (o : Option PoolFault) (a b : WireState) → StepsTo result p q a b → r ≡ record q { fault = o } → bounds_of (record r { fault = None }) ≡ bounds_of (record p { fault = None })
+end_bounds result p q r o a b h i = ap (λ (x : Pooled). bounds_of (record x { fault = None })) i ∙ ap (λ (x : Pooled). record x { fault = None }) (step_bounds result p q a b h)
+
+pub went_bounds : (result : Result Stepped PoolFault) (p q : Pooled) (a b : WireState) → StepsTo result p q a b → bounds_of (record q { fault = None }) ≡ bounds_of (record p { fault = None })
+went_bounds result p q a b h = ap (λ (x : Pooled). record x { fault = None }) (step_bounds result p q a b h)
+
+pub no_idle : (fault : PoolFault) → ◌≡◌ {A = Result Stepped PoolFault} (Err fault) (Ok Idle) → ⊥
+no_idle fault e = cc
+
+err_is : (x y : PoolFault) → ◌≡◌ {A = Result Stepped PoolFault} (Err x) (Err y) → x ≡ y
+err_is x y e = cc
+
+shown_by : (fault shown other : PoolFault) → fault ≡ other → (shown ≡ fault) ⊎ (shown ≡ faults.OutOfMemory) → (◌≡◌ {A = Result Stepped PoolFault} (Err shown) (Err other)) ⊎ (◌≡◌ {A = Result Stepped PoolFault} (Err shown) (Err faults.OutOfMemory))
+shown_by fault shown other e (inl s) = inl (ap (λ (x : PoolFault). Err x) (s ∙ e))
+shown_by fault shown other e (inr s) = inr (ap (λ (x : PoolFault). Err x) s)
+
+-- the budget is over, or memory
+pub over_shown : (fault shown : PoolFault) → (◌≡◌ {A = Result Stepped PoolFault} (Err fault) (Err faults.Budget)) ⊎ (◌≡◌ {A = Result Stepped PoolFault} (Err fault) (Err faults.OutOfMemory))
+    → (shown ≡ fault) ⊎ (shown ≡ faults.OutOfMemory) → (◌≡◌ {A = Result Stepped PoolFault} (Err shown) (Err faults.Budget)) ⊎ (◌≡◌ {A = Result Stepped PoolFault} (Err shown) (Err faults.OutOfMemory))
+over_shown fault shown (inl e) s = shown_by fault shown faults.Budget (err_is fault faults.Budget e) s
+over_shown fault shown (inr e) (inl s) = inr (ap (λ (x : PoolFault). Err x) (s ∙ err_is fault faults.OutOfMemory e))
+over_shown fault shown (inr e) (inr s) = inr (ap (λ (x : PoolFault). Err x) s)
+
+pub not_over : (b : Bool) (q : Pooled) → (IsOverBudget q → IsTrue b) → b ≡ false → IsOverBudget q → ⊥
+not_over b q h e o = let t : IsTrue false = subst (λ (x : Bool). IsTrue x) e (h o) in absurd t

@@ -243,3 +243,15 @@ below_budget v p e h = subst (λ (x : Pooled). x.started < x.budget) e h
 
 pub shuts_as : (o o' : Option ℕ) (a b : WireState) → o ≡ o' → Shuts o' a b → Shuts o a b
 shuts_as o o' a b e h = subst (λ (x : Option ℕ). Shuts x a b) (sym e) h
+
+-- ---- the calls around it
+
+none_waiting : (w : List Waiting) (l : List Ask) → map ask_waiting w ++ l ≡ [] → w ≡ []
+none_waiting [] l e = refl
+none_waiting (x ∷ w) l e = cc
+
+pub over_held : (p : Pooled) → IsOverBudget p → held p ≢ []
+over_held p o = λ e. o.waits (none_waiting p.waiting (map ask_flying (in_flight p)) e)
+
+pub steps_as : (result : Result Stepped PoolFault) (p p' q q' : Pooled) (a b : WireState) → p' ≡ p → q' ≡ q → StepsTo result p' q a b → StepsTo result p q' a b
+steps_as result p p' q q' a b e f h = subst (λ (x : Pooled). StepsTo result x q' a b) e (subst (λ (x : Pooled). StepsTo result p' x a b) (sym f) h)

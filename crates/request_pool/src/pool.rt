@@ -155,16 +155,30 @@ impl Pool {
         ensures over { self.old.fault ≡ None → IsOverBudget self.old → (result ≡ Err PoolFault.Budget) ⊎ (result ≡ Err PoolFault.OutOfMemory) }
         ensures again { (fault : PoolFault) → self.old.fault ≡ Some fault → ((result ≡ Err fault) ⊎ (result ≡ Err PoolFault.OutOfMemory)) × (self.new ≡ self.old) × (W.state wire.new ≡ W.state wire.old) }
     {
-        if self.fault.is_some() {
+        if self.has_ended() {
             return Err(self.again());
         }
         match self.turn(wire) {
             Ok(stepped) => Ok(stepped),
-            Err(fault) => {
-                self.fault = Some(fault);
-                Err(self.again())
-            }
+            Err(fault) => Err(self.end_with(fault)),
         }
+    }
+
+    /// Whether a step had a fault.
+    fn has_ended(&self) -> bool
+        ensures some { result ≡ true → self.now.fault ≢ None }
+        ensures none { result ≡ false → self.now.fault ≡ None }
+    {
+        self.fault.is_some()
+    }
+
+    /// Ends with a fault, and shows it.
+    fn end_with(&mut self, fault: PoolFault) -> PoolFault
+        ensures ends { self.new ≡ record self.old { fault = Some fault } }
+        ensures shown { (result ≡ fault) ⊎ (result ≡ PoolFault.OutOfMemory) }
+    {
+        self.fault = Some(fault);
+        self.again()
     }
 
     /// Closes all links that it holds. Nothing is held afterwards.
@@ -271,8 +285,15 @@ impl Pool {
     {
         let mut buffer = buffer;
         let stepped = self.go(wire, &mut buffer);
-        self.buffer = Some(buffer);
+        self.keep_buffer(buffer);
         stepped
+    }
+
+    /// Keeps the buffer for the next step.
+    fn keep_buffer(&mut self, buffer: ReceiveBuffer)
+        ensures { self.new ≡ self.old }
+    {
+        self.buffer = Some(buffer);
     }
 
     /// Starts and polls, and then waits.
