@@ -128,4 +128,4 @@ over_shown fault shown (inr e) (inl s) = inr (ap (λ (x : PoolFault). Err x) (s 
 over_shown fault shown (inr e) (inr s) = inr (ap (λ (x : PoolFault). Err x) s)
 
 pub not_over : (b : Bool) (q : Pooled) → (IsOverBudget q → IsTrue b) → b ≡ false → IsOverBudget q → ⊥
-not_over b q h e o = let t : IsTrue false = subst (λ (x : Bool). IsTrue x) e (h o) in absurd t
+not_over b q h e o = let t : false ≡ true = sym e ∙ h o in cc

@@ -20,7 +20,7 @@ pub returns-then-not-gather-clause-over : goal.returns-then-not-gather-clause-ov
 returns-then-not-gather-clause-over g c = λ o. inr refl
 
 pub returns-then-is_over_budget-clause-steps : goal.returns-then-is_over_budget-clause-steps
-returns-then-is_over_budget-clause-steps g c = over_steps c.args.self.now c.gather.new.self (g.W.Wire.state c.args.wire.now) (c.if-not-gather.ensures.ok refl) (c.if-is_over_budget.ensures.0 tt)
+returns-then-is_over_budget-clause-steps g c = over_steps c.args.self.now c.gather.new.self (g.W.Wire.state c.args.wire.now) (c.if-not-gather.ensures.ok refl) (c.is_over_budget.ensures.0 c.if-is_over_budget.true)
 
 pub returns-then-is_over_budget-clause-suits : goal.returns-then-is_over_budget-clause-suits
 returns-then-is_over_budget-clause-suits g c = suits_gathered c.args.self.now c.gather.new.self (g.W.Wire.state c.args.wire.now) (c.if-not-gather.ensures.ok refl) c.requires.suits
