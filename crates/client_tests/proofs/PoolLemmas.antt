@@ -29,4 +29,4 @@ put_below n p q w h e t =
     let s = split n (map ask_waiting p.waiting) (map ask_flying (in_flight p)) h in
     let now : held q ≡ (map ask_waiting p.waiting ++ ask_waiting w ∷ []) ++ map ask_flying (in_flight p) = subst (λ (l : List Ask). held q ≡ l ++ map ask_flying (in_flight p)) (map-append ask_waiting p.waiting (w ∷ [])) (ap held e) in
     subst (AreBelow (n + 1)) (sym now) (joined (n + 1) (map ask_waiting p.waiting ++ ask_waiting w ∷ []) (map ask_flying (in_flight p))
-      (joined (n + 1) (map ask_waiting p.waiting) (ask_waiting w ∷ []) (more n (map ask_waiting p.waiting) s.0) (omega (arith, t), tt)) (more n (map ask_flying (in_flight p)) s.1))
+    (joined (n + 1) (map ask_waiting p.waiting) (ask_waiting w ∷ []) (more n (map ask_waiting p.waiting) s.0) (omega (arith, t), tt)) (more n (map ask_flying (in_flight p)) s.1))

@@ -11,9 +11,11 @@ use std::alloc::Global;
 use std::test::Fail;
 use tpf_base::{Bytes, Failing};
 
-const KEPT: &str = "HTTP/1.1 200 OK\r\nContent-Type: application/n-quads\r\nContent-Length: 1\r\n\r\nx";
+const KEPT: &str =
+    "HTTP/1.1 200 OK\r\nContent-Type: application/n-quads\r\nContent-Length: 1\r\n\r\nx";
 
-const CLOSED: &str = "HTTP/1.1 200 OK\r\nContent-Type: application/n-quads\r\nConnection: close\r\nContent-Length: 1\r\n\r\nx";
+const CLOSED: &str =
+    "HTTP/1.1 200 OK\r\nContent-Type: application/n-quads\r\nConnection: close\r\nContent-Length: 1\r\n\r\nx";
 
 const REFUSED: &str = "HTTP/1.1 404 Not Found\r\nContent-Length: 0\r\n\r\n";
 
@@ -43,12 +45,7 @@ fn scripts(alloc: Global, links: u32, piece: &str, times: u32) -> Result<Vec<Scr
 }
 
 /// What a pool comes to that asks for the addresses, and how many links were given.
-fn told(
-    alloc: Global,
-    pool: Pool,
-    addresses: &[&str],
-    wire: ScriptWire,
-) -> Result<String, Fail>
+fn told(alloc: Global, pool: Pool, addresses: &[&str], wire: ScriptWire) -> Result<String, Fail>
     requires none { held pool ≡ [] }
     requires suits { (wire : WireState) → SuitsWire pool wire }
 {
@@ -114,7 +111,12 @@ fn a_call_that_fails_is_a_failure_of_its_ticket(rt: HostRuntime) -> Result<(), F
         let mut calls = Vec::new(alloc);
         calls.push(*call)?;
         let wire = ScriptWire::new(alloc, scripts(alloc, 3, KEPT, 1)?, Failing::At(calls));
-        let told = told(alloc, Pool::new(alloc, 1, *retries, 9, 100), &FOUR[..1], wire)?;
+        let told = told(
+            alloc,
+            Pool::new(alloc, 1, *retries, 9, 100),
+            &FOUR[..1],
+            wire,
+        )?;
         assert_eq!(rt; told.as_str(), *wanted, "{call} {retries}");
     }
     Ok(())

@@ -1,5 +1,5 @@
 -- No step changes the bounds of a pool.
-use Rattle.std.proofs.Common.{ℕ, ◌≡◌, ◌⊎◌, inl, inr, List, [], ◌∷◌, Option, Some, None, Result, Ok, Err, Bool, true, false, IsTrue, refl, sym, ◌∙◌, ap, subst}
+use Rattle.std.proofs.Common.{ℕ, ◌≡◌, ◌⊎◌, inl, inr, List, [], ◌∷◌, Option, Some, None, Result, Ok, Err, Bool, true, false, IsTrue, sym, ◌∙◌, ap, subst}
 use Rattle.tpf_base.specs.Addresses.{Address}
 use Rattle.tpf_base.specs.Links.{WireState}
 use Rattle.exchange.specs.Exchanges.{left_link}
@@ -12,8 +12,8 @@ use Rattle.request_pool.specs.declared.fault.Stepped.{Stepped}
 use Rattle.request_pool.specs.declared.fault.Stepped.TheVariants.{Came, Waited, Idle}
 use Rattle.request_pool.specs.Pools.{Pooled, in_flight, bounds_of}
 use Rattle.request_pool.specs.Polls.{FailsTo, Settles, NoLink, Kept, Shut, FlightTo}
-use Rattle.request_pool.specs.Runs.{Starts, Overruns, Flies, Starves, Turn, Start, Next, Round, Moment, Runs, Running, Last, OfStart, OfPoll, Ended}
-use Rattle.request_pool.specs.Steps.{GivesUp, WaitsTo, Passes, Stalls, Misses, Lacks, EndsInWait, Breaks, AtOnce, InRun, InWait, StepsTo, IsOverBudget}
+use Rattle.request_pool.specs.Runs.{Starts, Overruns, Flies, Starves, Turn, Start, Next, Round, Moment, Runs, Last, OfStart, OfPoll, Ended}
+use Rattle.request_pool.specs.Steps.{WaitsTo, Passes, Stalls, Misses, Lacks, EndsInWait, Breaks, AtOnce, InRun, InWait, StepsTo, IsOverBudget}
 use Rattle.request_pool.specs.Owned.{SuitsWire}
 
 settles_bounds : (o : Option ℕ) (address : Address) (p q : Pooled) (a b : WireState) → Settles o address p q a b → bounds_of q ≡ bounds_of p
@@ -100,9 +100,12 @@ no_fault_is p e = ap (λ (x : Option PoolFault). record p { fault = x }) (sym e)
 
 pub end_steps : (fault shown : PoolFault) (p q r : Pooled) (a b : WireState) → p.fault ≡ None → StepsTo (Err fault) p q a b → r ≡ record q { fault = Some fault } → (shown ≡ fault) ⊎ (shown ≡ faults.OutOfMemory)
     → (y : PoolFault) × StepsTo (Err y) p (record r { fault = None }) a b × (r.fault ≡ Some y) × ((shown ≡ y) ⊎ (shown ≡ faults.OutOfMemory))
-end_steps fault shown p q r a b e h i s = (fault,
-    subst (λ (x : Pooled). StepsTo (Err fault) p x a b) (sym (ap (λ (x : Pooled). record x { fault = None }) i ∙ no_fault_is q (step_fault (Err fault) p q a b e h))) h,
-    ap (λ (x : Pooled). x.fault) i, s)
+end_steps fault shown p q r a b e h i s = (
+  fault,
+  subst (λ (x : Pooled). StepsTo (Err fault) p x a b) (sym (ap (λ (x : Pooled). record x { fault = None }) i ∙ no_fault_is q (step_fault (Err fault) p q a b e h))) h,
+  ap (λ (x : Pooled). x.fault) i,
+  s,
+)
 
 pub end_bounds : (result : Result Stepped PoolFault) (p q r : Pooled) (o : Option PoolFault) (a b : WireState) → StepsTo result p q a b → r ≡ record q { fault = o } → bounds_of (record r { fault = None }) ≡ bounds_of (record p { fault = None })
 end_bounds result p q r o a b h i = ap (λ (x : Pooled). bounds_of (record x { fault = None })) i ∙ ap (λ (x : Pooled). record x { fault = None }) (step_bounds result p q a b h)

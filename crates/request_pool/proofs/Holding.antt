@@ -1,5 +1,5 @@
 -- A pool that goes on holds the same asks.
-use Rattle.std.proofs.Common.{ℕ, ◌≡◌, ◌+◌, ◌++◌, List, [], ◌∷◌, map, length, Option, Result, Ok, Err, Bool, true, false, refl, sym, ◌∙◌, ap, subst, append_assoc, append-nil}
+use Rattle.std.proofs.Common.{ℕ, ◌≡◌, ◌+◌, ◌++◌, List, [], ◌∷◌, map, Option, Result, Ok, Err, true, false, refl, sym, ◌∙◌, ap, subst, append_assoc, append-nil}
 use Rattle.std.proofs.lemmas.List.{map-append}
 use Rattle.std.specs.List.Sorted.{IsPermutation}
 use Rattle.std.proofs.lemmas.List.Sorted.{IsPermutation-refl, IsPermutation-sym, IsPermutation-trans, IsPermutation-middle, IsPermutation-append_right}
@@ -16,7 +16,7 @@ use Rattle.request_pool.specs.declared.fault.Polled.TheVariants as polls
 use Rattle.request_pool.specs.declared.fault.PoolFault.{PoolFault}
 use Rattle.request_pool.specs.declared.fault.PoolFault.TheVariants as faults
 use Rattle.request_pool.specs.Pools.{Pooled, Ask, ask_waiting, ask_flying, held, in_flight}
-use Rattle.request_pool.specs.Polls.{Polls, FlightTo, again, Settles, NoLink, Kept, Shut}
+use Rattle.request_pool.specs.Polls.{Polls, FlightTo, Settles, NoLink, Kept, Shut}
 use Rattle.request_pool.specs.Runs.{Begins, Starts, Overruns, Flies, Starves, PollsNext, Turn, Start, Next, Round, Moment, Runs, Running, Ended, Last, OfStart, OfPoll, is_end}
 use Rattle.request_pool.specs.declared.fault.Stepped.{Stepped}
 use Rattle.request_pool.specs.declared.fault.Stepped.TheVariants.{Came, Waited, Idle}
@@ -50,7 +50,7 @@ pub flight_holds : (result : Result Polled PoolFault) (f : Flight) (p q : Pooled
 flight_holds (Ok polls.Pending) f p q a b e h =
     let g : Flight = record f { exchange = h.0.now } in
     let same : held q ≡ held_with f p = ap held h.1 ∙ (ap (λ (l : List Flight). map ask_waiting p.waiting ++ map ask_flying l) (append_assoc p.polled (g ∷ []) p.due)
-      ∙ (with_mapped g p ∙ (ap (λ (x : Ask). map ask_waiting p.waiting ++ (map ask_flying p.polled ++ x ∷ map ask_flying p.due)) (same_ask _ f a b h.0) ∙ sym (with_mapped f p)))) in
+    ∙ (with_mapped g p ∙ (ap (λ (x : Ask). map ask_waiting p.waiting ++ (map ask_flying p.polled ++ x ∷ map ask_flying p.due)) (same_ask _ f a b h.0) ∙ sym (with_mapped f p)))) in
     subst (λ (l : List Ask). IsPermutation (held_with f p) l) (sym same) (IsPermutation-refl (held_with f p))
 flight_holds (Ok polls.Failed) f p q a b e h =
     let same : held q ≡ ask_flying f ∷ held p = ap held h.4 ∙ ap (λ (x : Ask). x ∷ held p) (same_ask _ f a b h.1) in

@@ -1,6 +1,5 @@
 -- What a poll comes to, by its answer.
-use Rattle.std.proofs.Common.{ℕ, ◌≡◌, ◌+◌, ◌<◌, ◌≤◌, ◌⊎◌, inl, inr, ◌++◌, List, [], ◌∷◌, Option, Some, None, Result, Ok, Err, IfOk, IfErr, refl, sym, ◌∙◌, ap, subst, true, false}
-use Rattle.futures.specs.declared.task.Poll.{Poll}
+use Rattle.std.proofs.Common.{ℕ, ◌≡◌, ◌+◌, ◌<◌, ◌≤◌, inl, inr, ◌++◌, [], ◌∷◌, Option, Some, None, Result, Ok, Err, IfOk, IfErr, refl, sym, subst, false}
 use Rattle.futures.specs.declared.task.Poll.TheVariants as poll
 use Rattle.tpf_base.specs.Addresses.{Address}
 use Rattle.tpf_base.specs.Links.{WireState}
@@ -15,7 +14,7 @@ use Rattle.request_pool.specs.declared.fault.Polled.TheVariants as polls
 use Rattle.request_pool.specs.declared.fault.PoolFault.{PoolFault}
 use Rattle.request_pool.specs.declared.fault.PoolFault.TheVariants as faults
 use Rattle.request_pool.specs.Pools.{Pooled}
-use Rattle.request_pool.specs.Polls.{Shuts, Settles, FailsTo, EndsTo, Polls, FlightTo}
+use Rattle.request_pool.specs.Polls.{Shuts, Settles, FailsTo, EndsTo, FlightTo}
 
 shut_closed : (o : Option ℕ) (a b : WireState) → Shuts o a b → ClosedOn o b
 shut_closed None a b s = tt
@@ -44,8 +43,9 @@ failed : (result : Result Polled PoolFault) (why : ExchangeFault) (fault : PoolF
     → FailsTo fault result (record f { exchange = e }) p q → IfOk result (λ polled. polled ≡ polls.Failed) → FlightTo result f p q a b
 failed (Ok polled) why fault f e p q a b t w closed again spent h i = subst (λ (x : Polled). FlightTo (Ok x) f p q a b) (sym i) (again h.0 h.1)
 failed (Err shown) why fault f e p q a b t w closed again spent h i = elim h.1 [
-    inl m ↦ subst (λ (x : PoolFault). FlightTo (Err x) f p q a b) (sym m) (poll.Ready (Err why), b, record { now = e; touches = t; answers = w }, h.0, (closed, inl refl))
-  | inr m ↦ subst (λ (x : PoolFault). FlightTo (Err x) f p q a b) (sym m.0) (spent m.1 h.0) ]
+  | inl m ↦ subst (λ (x : PoolFault). FlightTo (Err x) f p q a b) (sym m) (poll.Ready (Err why), b, record { now = e; touches = t; answers = w }, h.0, (closed, inl refl))
+  | inr m ↦ subst (λ (x : PoolFault). FlightTo (Err x) f p q a b) (sym m.0) (spent m.1 h.0)
+]
 
 pub on_end : (why : ExchangeFault) (result : Result Polled PoolFault) (f : Flight) (e : Exchanging) (p q : Pooled) (a b : WireState) → Touches f.exchange e a b → Answers f.exchange e a b (poll.Ready (Err why))
     → EndsTo why result (record f { exchange = e }) p q → FlightTo result f p q a b
@@ -53,7 +53,7 @@ on_end exchanges.Failed result f e p q a b t w h =
     failed result exchanges.Failed faults.Exchange f e p q a b t w w.breaks.closed (λ few is. (exchanges.Failed, record { now = e; touches = t; answers = w }, tt, few, is)) (λ many is. (record { now = e; touches = t; answers = w }, many, is)) h.0 h.1
 on_end (exchanges.Cut received) result f e p q a b t w h =
     failed result (exchanges.Cut received) (faults.Cut received) f e p q a b t w (closed_on e.link w.ends.k b w.ends.link w.ends.closed)
-      (λ few is. (exchanges.Cut received, record { now = e; touches = t; answers = w }, tt, few, is)) (λ many is. (record { now = e; touches = t; answers = w }, many, is)) h.0 h.1
+    (λ few is. (exchanges.Cut received, record { now = e; touches = t; answers = w }, tt, few, is)) (λ many is. (record { now = e; touches = t; answers = w }, many, is)) h.0 h.1
 on_end (exchanges.Bad fault received) result f e p q a b t w h =
     subst (λ (x : Result Polled PoolFault). FlightTo x f p q a b) (sym h.0) (record { now = e; touches = t; answers = w }, h.1)
 on_end exchanges.OutOfMemory result f e p q a b t w h =

@@ -1,5 +1,5 @@
 -- What holds at each moment of a run: the links that are held are open, and the stalls of each exchange that was polled have risen.
-use Rattle.std.proofs.Common.{ℕ, ◌≡◌, ◌≢◌, ◌+◌, ◌<◌, ◌≤◌, ◌⊎◌, inl, inr, ◌++◌, List, [], ◌∷◌, Option, Some, None, Bool, true, false, Result, Ok, Err, refl, sym, ◌∙◌, ap, subst, arith}
+use Rattle.std.proofs.Common.{ℕ, ◌≡◌, ◌≢◌, ◌<◌, ◌≤◌, inl, inr, ◌++◌, List, [], ◌∷◌, Option, Some, None, Bool, true, false, Result, Ok, Err, sym, ◌∙◌, ap, subst, arith}
 use Rattle.std.proofs.lemmas.Bool.{cases_lt}
 use Rattle.std.specs.List.{AllByRecursion}
 use Rattle.futures.specs.declared.task.Poll.{Poll}
@@ -17,9 +17,9 @@ use Rattle.request_pool.specs.declared.fault.Polled.TheVariants as polls
 use Rattle.request_pool.specs.declared.fault.PoolFault.{PoolFault}
 use Rattle.request_pool.specs.declared.fault.PoolFault.TheVariants as faults
 use Rattle.request_pool.specs.Pools.{Pooled}
-use Rattle.request_pool.specs.Owned.{held_on, flights_on, AreUnderway, SuitsWire}
+use Rattle.request_pool.specs.Owned.{held_on, SuitsWire}
 use Rattle.request_pool.specs.Polls.{Polls, FlightTo}
-use Rattle.request_pool.specs.Runs.{Begins, Starts, Overruns, Flies, Starves, PollsNext, Turn, Start, Next, Round, Moment, Runs, Running, Last, OfStart, OfPoll, is_end}
+use Rattle.request_pool.specs.Runs.{Starts, Overruns, Flies, Starves, Turn, Start, Next, Round, Moment, Runs, Running, Last, OfStart, OfPoll, is_end}
 use Rattle.request_pool.specs.Steps.{RisenOn}
 use Rattle.request_pool.proofs.Owned.{at_or_off, linked_open, flights_on-append}
 use Rattle.request_pool.proofs.Suits.{Owns, owns_begun, owns_next, flight_suits, starts_suits, next_suits, underway-append, suits_as}
@@ -80,9 +80,12 @@ AreRisen since a flights = AllByRecursion (λ f. RisenOn since a f.exchange.link
 risen_on : (since a b : WireState) (o : Option ℕ) → Later a b → RisenOn since a o → RisenOn since b o
 risen_on since a b None l h = absurd h
 risen_on since a b (Some k) l h = (
-    omega (arith, h.0, l.given),
-    ((λ below. rose_up (since.links k).stalls (since.links k).stalls (a.links k).stalls (b.links k).stalls (h.1.0 below) (omega arith) (l.stalls k h.0)),
-    (λ above. rose_up 0 0 (a.links k).stalls (b.links k).stalls (h.1.1 above) (omega arith) (l.stalls k h.0))))
+  omega (arith, h.0, l.given),
+  (
+    (λ below. rose_up (since.links k).stalls (since.links k).stalls (a.links k).stalls (b.links k).stalls (h.1.0 below) (omega arith) (l.stalls k h.0)),
+    (λ above. rose_up 0 0 (a.links k).stalls (b.links k).stalls (h.1.1 above) (omega arith) (l.stalls k h.0)),
+  ),
+)
 
 pub are_risen : (since a b : WireState) (fs : List Flight) → Later a b → AreRisen since a fs → AreRisen since b fs
 are_risen since a b [] l h = tt
@@ -129,7 +132,7 @@ flight_fares (Ok polls.Pending) known since f p q a b e g o later risen h =
       given = g';
       later = later_then since a b later l;
       risen = λ (k : known ≡ true). subst (λ (x : Pooled). AreRisen since b x.polled) (sym h.1)
-        (risen-append since b p.polled ((record f { exchange = h.0.now }) ∷ []) (are_risen since a b p.polled l (risen k)) (risen_poll f p since a b g' later h.0, tt));
+          (risen-append since b p.polled ((record f { exchange = h.0.now }) ∷ []) (are_risen since a b p.polled l (risen k)) (risen_poll f p since a b g' later h.0, tt));
     }
 flight_fares (Ok polls.Failed) known since f p q a b e g o later risen h =
     let l = later_poll f.exchange h.1.now a b h.1.touches in

@@ -1,5 +1,5 @@
 -- Runs, one behind another.
-use Rattle.std.proofs.Common.{◌≡◌, ◌++◌, List, [], ◌∷◌, Result, Ok, Err, Bool, true, false, refl, sym, ◌∙◌, subst}
+use Rattle.std.proofs.Common.{◌≡◌, ◌++◌, List, [], ◌∷◌, Result, Bool, true, false, refl, sym, subst}
 use Rattle.tpf_base.specs.Links.{WireState}
 use Rattle.request_pool.specs.declared.fault.Polled.{Polled}
 use Rattle.request_pool.specs.declared.fault.PoolFault.{PoolFault}

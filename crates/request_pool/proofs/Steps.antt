@@ -1,11 +1,11 @@
 -- What the calls of a step ask for, and what they make of what was before.
-use Rattle.std.proofs.Common.{ℕ, ◌≡◌, ◌≢◌, ◌+◌, ◌-◌, ◌<◌, ◌≤◌, ◌⊎◌, inl, inr, ◌++◌, List, [], ◌∷◌, map, length, min, take, drop, Option, Some, None, Bool, true, false, Result, Ok, Err, IfOk, refl, sym, ◌∙◌, ap, subst, arith, append-nil, ◌^◌}
+use Rattle.std.proofs.Common.{ℕ, ◌≡◌, ◌≢◌, ◌+◌, ◌-◌, ◌<◌, ◌≤◌, inl, inr, ◌++◌, List, [], ◌∷◌, map, length, min, Option, true, false, Result, Ok, Err, IfOk, refl, sym, ◌∙◌, ap, subst, arith, append-nil, ◌^◌}
 use Rattle.std.specs.List.Sorted.{IsPermutation}
 use Rattle.std.proofs.lemmas.List.Sorted.{length_permutation}
 use Rattle.std.proofs.Math.ListN.{length-map, length-append}
 use Rattle.std.proofs.lemmas.Bool.{cases_lt}
 use Rattle.tpf_base.specs.Addresses.{Address}
-use Rattle.tpf_base.specs.Links.{Link, WireState, OpensGiven}
+use Rattle.tpf_base.specs.Links.{WireState, OpensGiven}
 use Rattle.exchange.specs.Exchanges.{IsLinked, starting}
 use Rattle.request_pool.specs.declared.asks.Waiting.{Waiting}
 use Rattle.request_pool.specs.declared.asks.Flight.{Flight}
@@ -15,18 +15,18 @@ use Rattle.request_pool.specs.declared.fault.Polled.TheVariants as polls
 use Rattle.request_pool.specs.declared.fault.PoolFault.{PoolFault}
 use Rattle.request_pool.specs.declared.fault.PoolFault.TheVariants as faults
 use Rattle.request_pool.specs.Pools.{Pooled, Ask, ask_waiting, ask_flying, held, in_flight}
-use Rattle.request_pool.specs.Owned.{on_link, flights_on, spare_on, held_on, open_on, SuitsWire}
+use Rattle.request_pool.specs.Owned.{flights_on, spare_on, held_on, SuitsWire}
 use Rattle.request_pool.specs.Polls.{Shuts, TakesLink, Settles, NoLink, Kept, Shut, FlightTo}
-use Rattle.request_pool.specs.Runs.{Begins, Starts, Overruns, Flies, Starves, PollsNext, Turn, Start, Next, Round, Running, Ended, Last, OfStart, OfPoll, RunsTo, GoesOn, Ends, is_end}
-use Rattle.request_pool.specs.Steps.{MayWait, RisenOn, WaitsTo, EndsInWait, Breaks, InRun, InWait, StepsTo, IsOverBudget}
+use Rattle.request_pool.specs.Runs.{Begins, Starts, Overruns, Flies, Starves, PollsNext, Turn, Round, Running, Ended, OfStart, RunsTo, GoesOn, Ends, is_end}
+use Rattle.request_pool.specs.Steps.{MayWait, WaitsTo, EndsInWait, InRun, InWait, StepsTo, IsOverBudget}
 use Rattle.request_pool.specs.declared.fault.Stepped.{Stepped}
-use Rattle.request_pool.specs.declared.fault.Stepped.TheVariants.{Came, Waited, Idle}
+use Rattle.request_pool.specs.declared.fault.Stepped.TheVariants.{Came, Waited}
 use Rattle.http_wire.specs.declared.message.Reply.{Reply}
 use Rattle.request_pool.proofs.Owned.{linked_open, flights_on-append}
-use Rattle.request_pool.proofs.Suits.{Owns, owns_begun, owns_next, starts_suits, next_suits, underway-append}
+use Rattle.request_pool.proofs.Suits.{owns_begun, owns_next, starts_suits, next_suits, underway-append}
 use Rattle.request_pool.proofs.Running.{to_then, runs_more, runs_none, went_on, ended}
 use Rattle.request_pool.proofs.Holding.{running_holds}
-use Rattle.request_pool.proofs.Risen.{Fares, Later, AreRisen, later_none, running_fares, fares_first, turn_fares}
+use Rattle.request_pool.proofs.Risen.{Fares, AreRisen, running_fares, fares_first}
 
 pub linked_as : (o p : Option ℕ) (a : WireState) → o ≡ p → IsLinked p a → IsLinked o a
 linked_as o p a e h = subst (λ (x : Option ℕ). IsLinked x a) (sym e) h
@@ -234,9 +234,13 @@ begun v p q f e b = subst (λ (x : Pooled). Begins x q f) e b
 
 pub begun_err : (v p q : Pooled) (first : Waiting) (rest : List Waiting) (link : Option ℕ) (spare : List Spare) → v ≡ p → v.waiting ≡ first ∷ rest → TakesLink first v.spare spare link → q ≡ record v { waiting = rest; spare = spare }
     → (x : Pooled) × (y : Flight) × Begins p x y × (q ≡ record x { started = p.started }) × (y.exchange.link ≡ link)
-begun_err v p q first rest link spare e w t h = subst (λ (z : Pooled). (x : Pooled) × (y : Flight) × Begins z x y × (q ≡ record x { started = z.started }) × (y.exchange.link ≡ link)) e
-    (record v { waiting = rest; spare = spare; started = v.started + 1 }, record { ticket = first.ticket; failed = first.failed; exchange = starting first.address v.limit link },
-      record { first = first; rest = rest; link = link; spare = spare; is_first = w; takes = t; is_new = refl; flight = refl }, h, refl)
+begun_err v p q first rest link spare e w t h = subst (λ (z : Pooled). (x : Pooled) × (y : Flight) × Begins z x y × (q ≡ record x { started = z.started }) × (y.exchange.link ≡ link)) e (
+  record v { waiting = rest; spare = spare; started = v.started + 1 },
+  record { ticket = first.ticket; failed = first.failed; exchange = starting first.address v.limit link },
+  record { first = first; rest = rest; link = link; spare = spare; is_first = w; takes = t; is_new = refl; flight = refl },
+  h,
+  refl,
+)
 
 pub below_budget : (v p : Pooled) → v ≡ p → v.started < v.budget → p.started < p.budget
 below_budget v p e h = subst (λ (x : Pooled). x.started < x.budget) e h

@@ -1,5 +1,5 @@
 -- What each call leaves of the links that a pool holds: each is open, and held once.
-use Rattle.std.proofs.Common.{ℕ, ◌≡◌, ◌≢◌, ◌+◌, ◌<◌, ◌≤◌, ◌⊎◌, inl, inr, ◌++◌, List, [], ◌∷◌, Option, Some, None, Bool, true, false, Result, Ok, Err, IfOk, OnErr, refl, sym, ◌∙◌, ap, subst, arith}
+use Rattle.std.proofs.Common.{ℕ, ◌≡◌, ◌+◌, ◌≤◌, ◌⊎◌, inl, inr, ◌++◌, List, [], ◌∷◌, Option, Some, None, true, Result, Ok, Err, refl, sym, ◌∙◌, ap, subst, arith}
 use Rattle.futures.specs.declared.task.Poll.{Poll}
 use Rattle.futures.specs.declared.task.Poll.TheVariants as poll
 use Rattle.tpf_base.specs.Addresses.{Address}
@@ -7,9 +7,9 @@ use Rattle.tpf_base.specs.declared.fault.Fault.{Fault}
 use Rattle.tpf_base.specs.declared.wire.Ready.{Ready}
 use Rattle.tpf_base.specs.declared.wire.Ready.TheVariants as ready
 use Rattle.tpf_base.specs.Links.{Link, WireState, OpensGiven}
-use Rattle.tpf_base.specs.Calls.{Closes, Wakes}
+use Rattle.tpf_base.specs.Calls.{Wakes}
 use Rattle.http_wire.specs.declared.message.Reply.{Reply}
-use Rattle.exchange.specs.Exchanges.{Exchanging, IsLinked, left_by, left_link}
+use Rattle.exchange.specs.Exchanges.{IsLinked, left_by}
 use Rattle.exchange.specs.declared.exchange.Standing.{Standing}
 use Rattle.exchange.specs.declared.exchange.Standing.TheVariants.{Underway, Left, Over}
 use Rattle.exchange.specs.declared.fault.ExchangeFault.{ExchangeFault}
@@ -23,10 +23,10 @@ use Rattle.request_pool.specs.declared.fault.PoolFault.TheVariants as faults
 use Rattle.request_pool.specs.declared.fault.Stepped.{Stepped}
 use Rattle.request_pool.specs.Pools.{Pooled, in_flight}
 use Rattle.request_pool.specs.Owned.{on_link, flights_on, spare_on, held_on, times_open, open_on, AreUnderway, SuitsWire}
-use Rattle.request_pool.specs.Polls.{Shuts, Settles, NoLink, Kept, Shut, TakesLink, FailsTo, Polls, IsShut, FlightTo}
+use Rattle.request_pool.specs.Polls.{Shuts, Settles, NoLink, Kept, Shut, TakesLink, FailsTo, Polls, FlightTo}
 use Rattle.request_pool.specs.Runs.{Begins, Starts, Overruns, Flies, Starves, PollsNext}
-use Rattle.request_pool.specs.Steps.{Waits, GivesUp, WaitsTo}
-use Rattle.request_pool.proofs.Owned.{at_or_off, on_same, one_at_most, flights_on-append, spare_on-append, same_open, rest_none, rest_after, own_after, rest_closed}
+use Rattle.request_pool.specs.Steps.{Waits, GivesUp}
+use Rattle.request_pool.proofs.Owned.{at_or_off, on_same, one_at_most, flights_on-append, spare_on-append, rest_none, rest_after, own_after, rest_closed}
 
 pub underway-append : (xs ys : List Flight) → AreUnderway xs → AreUnderway ys → AreUnderway (xs ++ ys)
 underway-append [] ys h i = i
@@ -96,7 +96,7 @@ flight_suits (Ok polls.Pending) f p q a b g o h =
 flight_suits (Ok (polls.Came ticket answer)) f p q a b g o h =
     let w = h.1.answers in
     settles_suits h.1.now.standing h.1.now.link h.1.now.address p q h.0 b o.polled o.due (rest_of (poll.Ready (Ok answer)) f p a h.0 g o h.1) (none_of (poll.Ready (Ok answer)) f p a h.0 g o h.1)
-      (λ (e : h.1.now.standing ≡ Left). subst (λ (x : Option ℕ). IsLinked x h.0) (sym w.link) (w.is_open e).0) h.3
+    (λ (e : h.1.now.standing ≡ Left). subst (λ (x : Option ℕ). IsLinked x h.0) (sym w.link) (w.is_open e).0) h.3
 flight_suits (Ok polls.Failed) f p q a b g o h =
     subst (λ (x : Pooled). SuitsWire x b) (sym h.4) (record { polled = o.polled; due = o.due; owned = rest_of (poll.Ready (Err h.0)) f p a b g o h.1 })
 flight_suits (Err faults.Exchange) f p q a b g o h = subst (λ (x : Pooled). SuitsWire x b) (sym h.2) (record { polled = o.polled; due = o.due; owned = rest_of _ f p a b g o h.0 })

@@ -1,5 +1,5 @@
 -- A link is taken out of a list, or put behind one.
-use Rattle.std.proofs.Common.{ℕ, ◌≡◌, ◌+◌, ◌<◌, ◌++◌, List, [], ◌∷◌, length, take, drop, refl, sym, ◌∙◌, ap, suc, slice_index_or, add-one, drop-cons}
+use Rattle.std.proofs.Common.{ℕ, ◌≡◌, ◌+◌, ◌<◌, ◌++◌, List, ◌∷◌, length, take, drop, sym, ◌∙◌, ap, suc, slice_index_or, add-one, drop-cons}
 use Rattle.std.proofs.lemmas.List.{take-append-drop}
 use Rattle.request_pool.specs.declared.asks.Spare.{Spare}
 use Rattle.request_pool.specs.Polls.{TakesOne}

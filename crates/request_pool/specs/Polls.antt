@@ -7,7 +7,7 @@ use Rattle.tpf_base.specs.Addresses.{Address, authority_of}
 use Rattle.tpf_base.specs.Links.{WireState}
 use Rattle.tpf_base.specs.Calls.{Closes}
 use Rattle.http_wire.specs.declared.message.Reply.{Reply}
-use Rattle.exchange.specs.Exchanges.{Exchanging, starting, left_link}
+use Rattle.exchange.specs.Exchanges.{Exchanging, left_link}
 use Rattle.exchange.specs.Polls.{Touches, Answers, ClosedOn}
 use Rattle.exchange.specs.declared.fault.ExchangeFault.{ExchangeFault}
 use Rattle.exchange.specs.declared.fault.ExchangeFault.TheVariants as exchanges

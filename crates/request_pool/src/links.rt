@@ -34,11 +34,7 @@ fn place_of(spare: &[Spare], address: &WebAddress) -> Option<usize>
 
 /// Takes the first link that was left for the authority of an address out of the list. An ask that
 /// failed before takes none.
-pub(crate) fn take_link(
-    spare: &mut Vec<Spare>,
-    address: &WebAddress,
-    failed: u32,
-) -> Option<u64>
+pub(crate) fn take_link(spare: &mut Vec<Spare>, address: &WebAddress, failed: u32) -> Option<u64>
     ensures { (ticket : ℕ) → TakesLink (record { ticket = ticket; address = address.now; failed = failed }) spare.old.items spare.new.items result }
 {
     if failed > 0 {

@@ -477,11 +477,13 @@ impl Pool {
     {
         match self.waiting.pop_front() {
             None => unreachable!(),
-            Some(Waiting {
-                ticket,
-                address,
-                failed,
-            }) => {
+            Some(
+                Waiting {
+                    ticket,
+                    address,
+                    failed,
+                },
+            ) => {
                 let link = take_link(&mut self.spare, &address, failed);
                 match Exchange::start(self.alloc, address, self.limit, link) {
                     Ok(exchange) => {

@@ -1,8 +1,6 @@
 -- What ends the step.
-use Rattle.std.proofs.Common.{refl, ap, Ok, inl, inr, ◌≡◌, Result}
+use Rattle.std.proofs.Common.{refl, ap, Ok, inl, inr}
 use Rattle.request_pool.specs.declared.fault.Polled.{Polled}
-use Rattle.request_pool.specs.declared.fault.Polled.TheVariants.{Pending}
-use Rattle.request_pool.specs.declared.fault.PoolFault.{PoolFault}
 use Rattle.request_pool.specs.Pools.{Pooled}
 use Rattle.request_pool.specs.Steps.{AtOnce}
 use Rattle.request_pool.proofs.Suits.{suits_as}
@@ -40,9 +38,9 @@ wait-requires-clause-none_due g c = (c.in-Ok-Pending.ensures.may_wait (ap (λ (x
 pub wait-requires-clause-some : goal.wait-requires-clause-some
 wait-requires-clause-some g c =
     some_polled (g.W.Wire.state c.args.wire.now) c.run.new.self (g.W.Wire.state c.run.new.wire) (c.in-Ok-Pending.ensures.may_wait (ap (λ (x : Polled). Ok x) c.in-Ok-Pending.field-0-is)) c.bounds.ensures.some
-      (held_after c.args.self.now c.gather.new.self c.run.new.self (g.W.Wire.state c.args.wire.now) (g.W.Wire.state c.run.new.wire) (c.if-not-gather.ensures.ok refl)
-        (pending_runs (Ok c.in-Ok-Pending.field-0) c.gather.new.self c.run.new.self (g.W.Wire.state c.args.wire.now) (g.W.Wire.state c.run.new.wire) (ap (λ (x : Polled). Ok x) c.in-Ok-Pending.field-0-is) c.in-Ok-Pending.ensures.runs)
-        c.requires.some)
+    (held_after c.args.self.now c.gather.new.self c.run.new.self (g.W.Wire.state c.args.wire.now) (g.W.Wire.state c.run.new.wire) (c.if-not-gather.ensures.ok refl)
+    (pending_runs (Ok c.in-Ok-Pending.field-0) c.gather.new.self c.run.new.self (g.W.Wire.state c.args.wire.now) (g.W.Wire.state c.run.new.wire) (ap (λ (x : Polled). Ok x) c.in-Ok-Pending.field-0-is) c.in-Ok-Pending.ensures.runs)
+    c.requires.some)
 
 pub unreachable-requires : goal.unreachable-requires
 unreachable-requires g c = no_failed c.gather.new.self c.run.new.self (g.W.Wire.state c.args.wire.now) (g.W.Wire.state c.run.new.wire) (rw c.in-Ok-Failed.field-0-is at c.in-Ok-Failed.ensures.runs)

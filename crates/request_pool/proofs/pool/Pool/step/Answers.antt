@@ -1,5 +1,5 @@
 -- A step, or the fault again.
-use Rattle.std.proofs.Common.{refl, Ok, Err, inl, inr, Some}
+use Rattle.std.proofs.Common.{refl, Ok, Err, Some}
 use Rattle.request_pool.proofs.Bounds.{step_fault, again_err, no_both, suits_fault, end_steps, end_bounds, went_bounds, no_idle, over_shown}
 use Rattle.request_pool.proofs.Holding.{step_holds}
 use Rattle.request_pool.proofs.Waiting.{step_waits}

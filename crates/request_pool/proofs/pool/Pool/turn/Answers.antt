@@ -1,5 +1,5 @@
 -- Nothing is held, or a step with the buffer.
-use Rattle.std.proofs.Common.{refl, sym, ◌∙◌, ap, subst, inl, inr}
+use Rattle.std.proofs.Common.{refl, sym, ◌∙◌, ap, subst, inr}
 use Rattle.request_pool.specs.Pools.{held}
 use Rattle.request_pool.specs.Steps.{AtOnce, IsOverBudget}
 use Rattle.request_pool.proofs.Suits.{suits_as}
