@@ -47,7 +47,7 @@ fn started(alloc: Global, limit: u64) -> Result<Exchange, Fail>
     ensures { IfOk result (λ e. (e.standing ≡ Underway) × (e.link ≡ None)) }
 {
     let address = address(alloc)?;
-    Ok(Exchange::start(alloc, &address, limit, None)?)
+    Ok(Exchange::start(alloc, address, limit, None)?)
 }
 
 fn text(bytes: &Bytes) -> Result<&str, Fail> {
@@ -210,7 +210,7 @@ fn a_second_request_goes_over_the_link_that_was_left(rt: HostRuntime) -> Result<
     let address = address(alloc)?;
     let (again, answer) = asked_behind(
         alloc,
-        &address,
+        address,
         9,
         exchange,
         &mut wire,

@@ -35,7 +35,7 @@ pub fn polled<W: Dial>(
 /// so many times.
 pub fn asked_behind<W: Dial>(
     alloc: Global,
-    address: &WebAddress,
+    address: WebAddress,
     limit: u64,
     first: Exchange,
     wire: &mut W,

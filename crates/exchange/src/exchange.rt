@@ -74,17 +74,16 @@ impl Model for Exchange {
 impl Exchange {
     /// An exchange for an address whose reply may have a body of so many bytes, or out of memory. It
     /// uses the given link, which another exchange with the same authority left, or else dials one at
-    /// its first poll. Nothing is sent yet.
+    /// its first poll. Nothing is sent yet. The address moves in, and `into_address` gives it back.
     #[tactic(auto, unfolding(crate::specs::Exchanges::request_of))]
     pub fn start(
         alloc: Global,
-        address: &WebAddress,
+        address: WebAddress,
         limit: u64,
         link: Option<u64>,
     ) -> Result<Exchange, OutOfMemory>
-        ensures { IfOk result (λ e. e ≡ starting address.now limit link) }
+        ensures { IfOk result (λ e. e ≡ starting address limit link) }
     {
-        let address = address.copy(alloc)?;
         let mut request = Vec::new(alloc);
         write_request(address.authority(), address.target(), &mut request)?;
         Ok(Exchange {
@@ -117,13 +116,20 @@ impl Exchange {
 
     /// The link, still open, exactly where a reply came that keeps it and no byte behind the reply
     /// was received; else none.
-    pub fn leave(self) -> Option<u64>
-        ensures { result ≡ left_link self }
+    pub fn leave(&self) -> Option<u64>
+        ensures { result ≡ left_link self.now }
     {
         match self.standing {
             Standing::Left => self.link,
             Standing::Underway | Standing::Over => None,
         }
+    }
+
+    /// Its address, for another exchange.
+    pub fn into_address(self) -> WebAddress
+        ensures { result ≡ self.address }
+    {
+        self.address
     }
 
     /// Goes on until a call moves no byte: dials, unless it has a link, to the host and the port of

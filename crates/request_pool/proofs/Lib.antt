@@ -1,0 +1,11 @@
+pub mod Owned
+pub mod Suits
+pub mod Running
+pub mod Holding
+pub mod Risen
+pub mod Outcomes
+pub mod Steps
+pub mod Taking
+pub mod Closing
+pub mod Waiting
+pub mod Bounds

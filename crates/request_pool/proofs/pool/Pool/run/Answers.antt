@@ -1,0 +1,27 @@
+-- Starts, a round of polls, and starts again.
+use Rattle.std.proofs.Common.{sym, ◌∙◌}
+use Rattle.request_pool.proofs.Steps.{then_round, then_runs, pending_of, run_waits}
+use Rattle.request_pool.proofs.pool.Pool.run.Goals as goal
+
+pub returns-then-ends-2-clause-runs : goal.returns-then-ends-2-clause-runs
+returns-then-ends-2-clause-runs g c = then_round c.start_all-started.result c.poll_all-polled.result c.args.self.now c.start_all-started.new.self c.begin_round.new.self c.poll_all-polled.new.self
+    (g.W.Wire.state c.args.wire.now) (g.W.Wire.state c.start_all-started.new.wire) (g.W.Wire.state c.poll_all-polled.new.wire)
+    (sym c.ends.ensures ∙ c.if-ends.false) c.start_all-started.ensures.runs (c.start_all-started.ensures.due ∙ c.requires.none_due) c.begin_round.ensures c.poll_all-polled.ensures.runs
+
+pub returns-clause-runs : goal.returns-clause-runs
+returns-clause-runs g c =
+    then_runs c.poll_all-polled.result c.start_all-again.result c.args.self.now c.poll_all-polled.new.self c.start_all-again.new.self
+    (g.W.Wire.state c.args.wire.now) (g.W.Wire.state c.poll_all-polled.new.wire) (g.W.Wire.state c.start_all-again.new.wire) (sym c.ends-2.ensures ∙ c.if-ends-2.false)
+    (then_round c.start_all-started.result c.poll_all-polled.result c.args.self.now c.start_all-started.new.self c.begin_round.new.self c.poll_all-polled.new.self
+    (g.W.Wire.state c.args.wire.now) (g.W.Wire.state c.start_all-started.new.wire) (g.W.Wire.state c.poll_all-polled.new.wire)
+    (sym c.ends.ensures ∙ c.if-ends.false) c.start_all-started.ensures.runs (c.start_all-started.ensures.due ∙ c.requires.none_due) c.begin_round.ensures c.poll_all-polled.ensures.runs)
+    c.start_all-again.ensures.runs
+
+pub returns-clause-may_wait : goal.returns-clause-may_wait
+returns-clause-may_wait g c = λ e.
+    run_waits c.start_all-started.result c.poll_all-polled.result c.start_all-again.result c.args.self.now c.start_all-started.new.self c.begin_round.new.self c.poll_all-polled.new.self c.start_all-again.new.self
+    (g.W.Wire.state c.args.wire.now) (g.W.Wire.state c.start_all-started.new.wire) (g.W.Wire.state c.poll_all-polled.new.wire) (g.W.Wire.state c.start_all-again.new.wire)
+    c.requires.suits (g.met.W.Wire.given_alone c.args.wire.now) (sym c.ends.ensures ∙ c.if-ends.false) c.start_all-started.ensures.runs c.begin_round.ensures
+    (sym c.ends-2.ensures ∙ c.if-ends-2.false) c.poll_all-polled.ensures.runs
+    (c.poll_all-polled.ensures.none_due (pending_of c.poll_all-polled.result c.begin_round.new.self c.poll_all-polled.new.self (g.W.Wire.state c.start_all-started.new.wire) (g.W.Wire.state c.poll_all-polled.new.wire) (sym c.ends-2.ensures ∙ c.if-ends-2.false) c.poll_all-polled.ensures.runs))
+    e c.start_all-again.ensures.runs c.start_all-again.ensures.due c.bounds.ensures.few (c.start_all-again.ensures.full e)

@@ -1,0 +1,6 @@
+pub mod Pools
+pub mod Owned
+pub mod Polls
+pub mod Runs
+pub mod Steps
+pub mod Closing

@@ -1,0 +1,102 @@
+-- What a poll of one exchange in flight comes to.
+use Rattle.std.specs.Prelude.{ℕ, ◌≡◌, ◌+◌, ◌<◌, ◌≤◌, ◌⊎◌, ◌++◌, List, [], ◌∷◌, length, Option, Some, None, Result, Ok, Err, IfOk}
+use Rattle.std.specs.List.{All}
+use Rattle.futures.specs.declared.task.Poll.{Poll}
+use Rattle.futures.specs.declared.task.Poll.TheVariants as poll
+use Rattle.tpf_base.specs.Addresses.{Address, authority_of}
+use Rattle.tpf_base.specs.Links.{WireState}
+use Rattle.tpf_base.specs.Calls.{Closes}
+use Rattle.http_wire.specs.declared.message.Reply.{Reply}
+use Rattle.exchange.specs.Exchanges.{Exchanging, left_link}
+use Rattle.exchange.specs.Polls.{Touches, Answers, ClosedOn}
+use Rattle.exchange.specs.declared.fault.ExchangeFault.{ExchangeFault}
+use Rattle.exchange.specs.declared.fault.ExchangeFault.TheVariants as exchanges
+use Rattle.request_pool.specs.declared.asks.Waiting.{Waiting}
+use Rattle.request_pool.specs.declared.asks.Flight.{Flight}
+use Rattle.request_pool.specs.declared.asks.Spare.{Spare}
+use Rattle.request_pool.specs.declared.fault.Polled.{Polled}
+use Rattle.request_pool.specs.declared.fault.Polled.TheVariants as polls
+use Rattle.request_pool.specs.declared.fault.PoolFault.{PoolFault}
+use Rattle.request_pool.specs.declared.fault.PoolFault.TheVariants as faults
+use Rattle.request_pool.specs.Pools.{Pooled}
+
+-- ---- links
+
+-- the link, where there is one, is closed
+abbrev pub Shuts : Option ℕ → WireState → WireState → Type 0
+Shuts None wire wire' = wire' ≡ wire
+Shuts (Some k) wire wire' = Closes k wire wire'
+
+-- A link that an exchange left is kept with the address, where the pool keeps fewer than its bound, or closed.
+pub data Settles (left : Option ℕ) (address : Address) (old new : Pooled) (wire wire' : WireState) : Type 0 where
+  NoLink : left ≡ None → new ≡ old → wire' ≡ wire → Settles left address old new wire wire'
+  Kept : (k : ℕ) → left ≡ Some k → length old.spare < old.links → new ≡ record old { spare = old.spare ++ (record { link = k; address = address }) ∷ [] } → wire' ≡ wire → Settles left address old new wire wire'
+  Shut : (k : ℕ) → left ≡ Some k → new ≡ old → Closes k wire wire' → Settles left address old new wire wire'
+
+-- the link was left by an exchange with the same authority
+abbrev pub IsFor : Address → Spare → Type 0
+IsFor address spare = authority_of spare.address ≡ authority_of address
+
+-- one of the links is taken
+pub record TakesOne (spare : Spare) (old new : List Spare) : Type 0 where
+  pub before : List Spare
+  pub after : List Spare
+  pub is_old : old ≡ before ++ spare ∷ after
+  pub is_new : new ≡ before ++ after
+
+-- A first ask takes a link that was left for its authority, where there is one. An ask that failed takes none.
+abbrev pub TakesLink : Waiting → List Spare → List Spare → Option ℕ → Type 0
+TakesLink first old new None = (new ≡ old) × (first.failed ≡ 0 → All (λ s. ¬ IsFor first.address s) old)
+TakesLink first old new (Some k) = (first.failed ≡ 0) × ((s : Spare) × (s.link ≡ k) × IsFor first.address s × TakesOne s old new)
+
+-- ---- one exchange
+
+-- the ask of an exchange that failed, which waits again
+abbrev pub again : Flight → Waiting
+again f = record { ticket = f.ticket; address = f.exchange.address; failed = f.failed + 1 }
+
+-- What becomes of an ask that failed: it waits before all others, unless it failed once more than it may be tried again; then this is the fault. Out of memory, it is lost.
+abbrev pub FailsTo : {T : Type 0} → PoolFault → Result T PoolFault → Flight → Pooled → Pooled → Type 0
+FailsTo fault (Ok done) f old new = (f.failed < old.retries) × (new ≡ record old { waiting = again f ∷ old.waiting })
+FailsTo fault (Err shown) f old new = (new ≡ old) × ((shown ≡ faults.OutOfMemory) ⊎ ((shown ≡ fault) × (old.retries ≤ f.failed)))
+
+-- what the fault of an exchange that is over comes to
+abbrev pub EndsTo : ExchangeFault → Result Polled PoolFault → Flight → Pooled → Pooled → Type 0
+EndsTo exchanges.Failed result f old new = FailsTo faults.Exchange result f old new × IfOk result (λ polled. polled ≡ polls.Failed)
+EndsTo (exchanges.Cut received) result f old new = FailsTo (faults.Cut received) result f old new × IfOk result (λ polled. polled ≡ polls.Failed)
+EndsTo (exchanges.Bad fault received) result f old new = (result ≡ Err (faults.Reply fault received)) × (new ≡ old)
+EndsTo exchanges.OutOfMemory result f old new = (result ≡ Err faults.OutOfMemory) × (new ≡ old)
+
+-- one poll of an exchange and its answer, after which it is another
+pub record Polls (answer : Poll (Result Reply ExchangeFault)) (f : Flight) (wire wire' : WireState) : Type 0 where
+  pub now : Exchanging
+  pub touches : Touches f.exchange now wire wire'
+  pub answers : Answers f.exchange now wire wire' answer
+
+-- the wire failed, or the link was cut
+abbrev pub IsFailure : ExchangeFault → Type 0
+IsFailure exchanges.Failed = Unit {0}
+IsFailure (exchanges.Cut received) = Unit {0}
+IsFailure (exchanges.Bad fault received) = ⊥
+IsFailure exchanges.OutOfMemory = ⊥
+
+-- its link, if it got one, is closed at last
+abbrev pub IsShut : Option ℕ → WireState → WireState → Type 0
+IsShut link wire wire' = ClosedOn link wire' × ((wire' ≡ wire) ⊎ Shuts link wire wire')
+
+-- What a poll of an exchange comes to that was taken out of the pool: it goes on behind the others that were polled; its reply came; it failed and its ask waits again; its ask failed too often; its reply is refused; or memory ran out.
+abbrev pub FlightTo : Result Polled PoolFault → Flight → Pooled → Pooled → WireState → WireState → Type 0
+FlightTo (Ok polls.Pending) f old new wire wire' =
+    (h : Polls poll.Pending f wire wire') × (new ≡ record old { polled = old.polled ++ (record f { exchange = h.now }) ∷ [] })
+FlightTo (Ok (polls.Came ticket answer)) f old new wire wire' =
+    (mid : WireState) × (h : Polls (poll.Ready (Ok answer)) f wire mid) × (ticket ≡ f.ticket) × Settles (left_link h.now) h.now.address old new mid wire'
+FlightTo (Ok polls.Failed) f old new wire wire' =
+    (why : ExchangeFault) × (h : Polls (poll.Ready (Err why)) f wire wire') × IsFailure why × (f.failed < old.retries)
+    × (new ≡ record old { waiting = again (record f { exchange = h.now }) ∷ old.waiting })
+FlightTo (Err faults.Exchange) f old new wire wire' = Polls (poll.Ready (Err exchanges.Failed)) f wire wire' × (old.retries ≤ f.failed) × (new ≡ old)
+FlightTo (Err (faults.Cut received)) f old new wire wire' = Polls (poll.Ready (Err (exchanges.Cut received))) f wire wire' × (old.retries ≤ f.failed) × (new ≡ old)
+FlightTo (Err (faults.Reply fault received)) f old new wire wire' = Polls (poll.Ready (Err (exchanges.Bad fault received))) f wire wire' × (new ≡ old)
+FlightTo (Err faults.OutOfMemory) f old new wire wire' =
+    (answer : Poll (Result Reply ExchangeFault)) × (mid : WireState) × (h : Polls answer f wire mid) × (new ≡ old) × IsShut h.now.link mid wire'
+FlightTo (Err faults.Stalled) f old new wire wire' = ⊥
+FlightTo (Err faults.Budget) f old new wire wire' = ⊥

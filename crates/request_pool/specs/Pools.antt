@@ -1,0 +1,58 @@
+-- A pool of exchanges: what it holds.
+use Rattle.std.specs.Prelude.{ℕ, List, [], ◌++◌, map, Option, None}
+use Rattle.tpf_base.specs.Addresses.{Address}
+use Rattle.request_pool.specs.declared.fault.PoolFault.{PoolFault}
+use Rattle.request_pool.specs.declared.asks.Waiting.{Waiting}
+use Rattle.request_pool.specs.declared.asks.Flight.{Flight}
+use Rattle.request_pool.specs.declared.asks.Spare.{Spare}
+
+-- A pool: its bounds; the asks that wait, first those that failed, then the oldest; the exchanges in flight, the oldest first, of which the first were polled in this round and the others are still to be polled; the links that were left; how many exchanges were started; and the fault that ended it.
+pub record Pooled : Type 0 where
+  pub links : ℕ
+  pub retries : ℕ
+  pub budget : ℕ
+  pub limit : ℕ
+  pub waiting : List Waiting
+  pub polled : List Flight
+  pub due : List Flight
+  pub spare : List Spare
+  pub started : ℕ
+  pub fault : Option PoolFault
+
+-- a pool that holds nothing
+abbrev pub empty_pool : ℕ → ℕ → ℕ → ℕ → Pooled
+empty_pool links retries budget limit = record {
+  links = links;
+  retries = retries;
+  budget = budget;
+  limit = limit;
+  waiting = [];
+  polled = [];
+  due = [];
+  spare = [];
+  started = 0;
+  fault = None;
+}
+
+-- what no step changes but the fault: a pool without what it holds
+abbrev pub bounds_of : Pooled → Pooled
+bounds_of pool = record pool { waiting = []; polled = []; due = []; spare = []; started = 0 }
+
+-- the exchanges in flight, the oldest first
+abbrev pub in_flight : Pooled → List Flight
+in_flight pool = pool.polled ++ pool.due
+
+-- an address that is asked for under a ticket
+pub record Ask : Type 0 where
+  pub ticket : ℕ
+  pub address : Address
+
+abbrev pub ask_waiting : Waiting → Ask
+ask_waiting w = record { ticket = w.ticket; address = w.address }
+
+abbrev pub ask_flying : Flight → Ask
+ask_flying f = record { ticket = f.ticket; address = f.exchange.address }
+
+-- the asks that it holds
+abbrev pub held : Pooled → List Ask
+held pool = map ask_waiting pool.waiting ++ map ask_flying (in_flight pool)

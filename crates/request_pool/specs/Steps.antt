@@ -1,0 +1,107 @@
+-- What a step of a pool does and answers.
+use Rattle.std.specs.Prelude.{ℕ, ◌≡◌, ◌≢◌, ◌<◌, ◌≤◌, ◌⊎◌, min, List, [], ◌∷◌, length, Option, Some, None, Result, Ok, Err, IfOk, OnErr, true}
+use Rattle.std.specs.List.{AllByRecursion}
+use Rattle.std.specs.List.Sorted.{IsPermutation}
+use Rattle.tpf_base.specs.Causes.{Rose, HasCause, counted}
+use Rattle.tpf_base.specs.declared.fault.Fault.{Fault}
+use Rattle.tpf_base.specs.declared.fault.Fault.TheVariants as failures
+use Rattle.tpf_base.specs.declared.wire.Ready.{Ready}
+use Rattle.tpf_base.specs.Links.{WireState}
+use Rattle.tpf_base.specs.Calls.{OnlyWaits, Wakes, GivesNone, WaitsSteadily}
+use Rattle.request_pool.specs.declared.asks.Flight.{Flight}
+use Rattle.request_pool.specs.declared.fault.Polled.TheVariants as polls
+use Rattle.request_pool.specs.declared.fault.PoolFault.{PoolFault}
+use Rattle.request_pool.specs.declared.fault.PoolFault.TheVariants as faults
+use Rattle.request_pool.specs.declared.fault.Stepped.{Stepped}
+use Rattle.request_pool.specs.declared.fault.Stepped.TheVariants.{Came, Waited, Idle}
+use Rattle.request_pool.specs.Pools.{Pooled, Ask, held, in_flight}
+use Rattle.request_pool.specs.Polls.{Shuts, FailsTo}
+use Rattle.request_pool.specs.Runs.{Running, Ended}
+
+-- ---- waiting
+
+-- what the wire says of one wait
+pub record Waits (answer : Result Ready Fault) (wire wire' : WireState) : Type 0 where
+  pub ok : IfOk answer (λ ready. Wakes ready wire wire')
+  pub err : OnErr answer (GivesNone wire wire')
+  pub only : OnlyWaits wire wire'
+  pub cause : HasCause wire.faults wire'.faults answer
+  pub steady : wire.nature.steady ≡ true → WaitsSteadily wire wire' answer
+
+-- The stalls of a link rose since a moment, before which it may not have been given.
+abbrev pub RisenOn : WireState → WireState → Option ℕ → Type 0
+RisenOn since wire None = ⊥
+RisenOn since wire (Some k) = (k < wire.given) × ((k < since.given → Rose (since.links k).stalls (wire.links k).stalls) × (since.given ≤ k → Rose 0 (wire.links k).stalls))
+
+-- No idling: each exchange in flight was polled, as many are in flight as may be, and the stalls of the link of each rose since the moment.
+pub record MayWait (since : WireState) (pool : Pooled) (wire : WireState) : Type 0 where
+  pub none_due : pool.due ≡ []
+  pub full : length pool.polled ≡ min pool.links (length (held pool))
+  pub risen : AllByRecursion (λ f. RisenOn since wire f.exchange.link) pool.polled
+
+-- The oldest exchange in flight is given up: its link is closed, and its ask failed for this reason.
+pub record GivesUp (fault : PoolFault) (result : Result Stepped PoolFault) (old new : Pooled) (wire wire' : WireState) : Type 0 where
+  pub f : Flight
+  pub rest : List Flight
+  pub is_oldest : in_flight old ≡ f ∷ rest
+  pub shuts : Shuts f.exchange.link wire wire'
+  pub to : FailsTo fault result f (record old { polled = rest; due = [] }) new
+
+-- One wait. Where it failed, or 1000 waits followed one another, the oldest exchange is given up.
+pub data WaitsTo (result : Result Stepped PoolFault) (old new : Pooled) (wire wire' : WireState) : Type 0 where
+  Passes : (ready : Ready) → result ≡ Ok Waited → Waits (Ok ready) wire wire' → wire'.idle < 1000 → new ≡ old → WaitsTo result old new wire wire'
+  Stalls : (ready : Ready) (mid : WireState) → Waits (Ok ready) wire mid → 1000 ≤ mid.idle → GivesUp faults.Stalled result old new mid wire' → WaitsTo result old new wire wire'
+  Misses : (mid : WireState) → Waits (Err failures.Failed) wire mid → GivesUp faults.Exchange result old new mid wire' → WaitsTo result old new wire wire'
+  Lacks : Waits (Err failures.OutOfMemory) wire wire' → result ≡ Err faults.OutOfMemory → new ≡ old → WaitsTo result old new wire wire'
+
+-- ---- a step
+
+-- those in flight are as before, and none is due
+abbrev pub Gathers : Pooled → Pooled → Type 0
+Gathers old new = new ≡ record old { polled = in_flight old; due = [] }
+
+-- a run that ended with a wait, before which every exchange waited
+pub record EndsInWait (result : Result Stepped PoolFault) (old new : Pooled) (wire wire' : WireState) : Type 0 where
+  pub mid : Pooled
+  pub between : WireState
+  pub running : Running (record old { polled = in_flight old; due = [] }) mid wire between
+  pub may_wait : MayWait wire mid between
+  pub waits : WaitsTo result mid new between wire'
+
+-- why a step ends with a fault: memory ran out before anything was done; a start or a poll had it; or the wait
+pub data Breaks (fault : PoolFault) (old new : Pooled) (wire wire' : WireState) : Type 0 where
+  AtOnce : fault ≡ faults.OutOfMemory → new ≡ old → wire' ≡ wire → Breaks fault old new wire wire'
+  InRun : Ended (Err fault) (record old { polled = in_flight old; due = [] }) new wire wire' → Breaks fault old new wire wire'
+  InWait : EndsInWait (Err fault) old new wire wire' → Breaks fault old new wire wire'
+
+-- each result of a step
+abbrev pub StepsTo : Result Stepped PoolFault → Pooled → Pooled → WireState → WireState → Type 0
+StepsTo (Ok Idle) old new wire wire' = (held old ≡ []) × (new ≡ old) × (wire' ≡ wire)
+StepsTo (Ok (Came ticket answer)) old new wire wire' = Ended (Ok (polls.Came ticket answer)) (record old { polled = in_flight old; due = [] }) new wire wire'
+StepsTo (Ok Waited) old new wire wire' = EndsInWait (Ok Waited) old new wire wire'
+StepsTo (Err fault) old new wire wire' = Breaks fault old new wire wire'
+
+-- An ask with this ticket was held and is held no longer, and each other ask is held as before.
+pub record HandsOut (ticket : ℕ) (old new : Pooled) : Type 0 where
+  pub ask : Ask
+  pub is_ticket : ask.ticket ≡ ticket
+  pub others : IsPermutation (held old) (ask ∷ held new)
+
+-- what becomes of the asks
+abbrev pub HoldsOn : Stepped → Pooled → Pooled → Type 0
+HoldsOn (Came ticket answer) old new = HandsOut ticket old new
+HoldsOn Waited old new = IsPermutation (held old) (held new)
+HoldsOn Idle old new = new ≡ old
+
+-- how often the wire was waited for
+abbrev pub WaitsOnce : Result Stepped PoolFault → WireState → WireState → Type 0
+WaitsOnce (Ok (Came ticket answer)) wire wire' = wire'.waits ≡ wire.waits
+WaitsOnce (Ok Waited) wire wire' = wire'.waits ≡ counted wire.waits
+WaitsOnce (Ok Idle) wire wire' = wire'.waits ≡ wire.waits
+WaitsOnce (Err fault) wire wire' = (wire'.waits ≡ wire.waits) ⊎ (wire'.waits ≡ counted wire.waits)
+
+-- an ask waits, a place is free, and as many exchanges were started as the budget allows
+pub record IsOverBudget (pool : Pooled) : Type 0 where
+  pub waits : pool.waiting ≢ []
+  pub free : length (in_flight pool) < pool.links
+  pub spent : pool.budget ≤ pool.started
