@@ -48,7 +48,7 @@ asked-home terms form row rest (Walking p k next out) address f h a = subst (λ 
 abbrev pub Fine : Terms → NodeData → Type 0
 Fine terms n = KeepsNode terms n × (is_full n ≡ false)
 
-all-set : {X : Type 0} (P : X → Type 0) (xs : List X) (i : ℕ) (y : X) → All P xs → P y → All P (set xs i y)
+pub all-set : {X : Type 0} (P : X → Type 0) (xs : List X) (i : ℕ) (y : X) → All P xs → P y → All P (set xs i y)
 all-set P [] i y h p = All-nil P
 all-set P (x ∷ xs) zero y h p = All-cons P y xs p (All-tail P x xs h)
 all-set P (x ∷ xs) (suc i) y h p = All-cons P x (set xs i y) (All-head P x xs h) (all-set P xs i y (All-tail P x xs h) p)
@@ -76,8 +76,14 @@ asked-in terms row rest (Walking p k next out) ticket h can = (record { width = 
 pub asked-fine : (terms : Terms) (n : NodeData) (ticket : ℕ) → KeepsNode terms n → CanAsk n → Fine terms (asked ticket n)
 asked-fine terms n ticket k can = asked-in terms n.row n.rest n.stage ticket k can
 
+no-zero : (n : ℕ) → nat_eq 0 (suc n) ≡ false
+no-zero n = grind (arith, nat_tests)
+
+no-front : (a b : Bool) → a ≡ false → (a && b) ≡ false
+no-front a b e = rw e refl
+
 one-opened : (terms : Terms) (q : Pattern) (qs : List Pattern) (row : Places) (b : Bool) → all_askable row (q ∷ qs) ≡ b → length row ≡ terms.width → All (Fine terms) (if b then fresh (q ∷ qs) row ∷ [] else [])
-one-opened terms q qs row true e w = All-cons (Fine terms) (fresh (q ∷ qs) row) [] (record { width = w; home = All-nil (FirstAtHome terms.homes); asking = record { some = omega arith; within = omega arith; askable = e } }, refl) (All-nil (Fine terms))
+one-opened terms q qs row true e w = All-cons (Fine terms) (fresh (q ∷ qs) row) [] (record { width = w; home = All-nil (FirstAtHome terms.homes); asking = record { some = omega arith; within = omega arith; askable = e } }, no-front _ _ (no-zero (length qs))) (All-nil (Fine terms))
 one-opened terms q qs row false e w = All-nil (Fine terms)
 
 pub nodes-fine : (terms : Terms) (others : List Pattern) (row : Places) → length row ≡ terms.width → All (Fine terms) (nodes_in others row)
@@ -111,7 +117,7 @@ walk-fine terms p others row k (Some a) w h = All-cons (Fine terms) (node row ot
 -- what a page makes of a node
 pub record Makes (terms : Terms) (made : List NodeData) (rows : List Places) (after : Option NodeData) : Type 0 where
   pub nodes : All (Fine terms) (made ++ option_to_list after)
-  pub rows : All (λ r. length r ≡ terms.width) rows
+  pub wide : All (λ r. length r ≡ terms.width) rows
   pub idle : All (λ n. is_idle n ≡ true) (made ++ option_to_list after)
 
 page-makes : (terms : Terms) (p : Pattern) (others : List Pattern) (row : Places) (k : ℕ) (page : Page) (made : List NodeData) (rows : List Places) (after : Option NodeData) → length row ≡ terms.width → NextAtHome terms.homes page.next →
@@ -120,12 +126,12 @@ page-makes terms p others row k page made rows after w h m r o = record {
   nodes = subst (λ (l : List NodeData). All (Fine terms) (l ++ option_to_list after)) (sym m)
       (subst (λ (x : Option NodeData). All (Fine terms) (opened p others row page.triples ++ option_to_list x)) (sym o)
       (All-append (Fine terms) _ _ (opened-fine terms p others row page.triples w) (walk-fine terms p others row k page.next w h)));
-  rows = subst (λ (l : List Places). All (λ x. length x ≡ terms.width) l) (sym r) (put-wide terms p others row page.triples w);
+  wide = subst (λ (l : List Places). All (λ x. length x ≡ terms.width) l) (sym r) (put-wide terms p others row page.triples w);
   idle = made-idle p others row k page.triples page.next made after m o;
 }
 
 next-makes-in : (terms : Terms) (row : Places) (rest : List Pattern) (stage : Stage) (page : Page) → KeepsNode terms (node row rest stage) → NextAtHome terms.homes page.next → Makes terms (opened_by (node row rest stage) page.triples) (out_by (node row rest stage) page.triples) (after_by (node row rest stage) page.next)
-next-makes-in terms row rest (Asking fs) page k h = record { nodes = All-nil (Fine terms); rows = All-nil (λ r. length r ≡ terms.width); idle = All-nil (λ n. is_idle n ≡ true) }
+next-makes-in terms row rest (Asking fs) page k h = record { nodes = All-nil (Fine terms); wide = All-nil (λ r. length r ≡ terms.width); idle = All-nil (λ n. is_idle n ≡ true) }
 next-makes-in terms row rest (Walking p j next out) page k h = page-makes terms p rest row (one_more j) page _ _ _ k.width h refl refl refl
 
 pub next-makes : (terms : Terms) (n : NodeData) (page : Page) → KeepsNode terms n → NextAtHome terms.homes page.next → Makes terms (opened_by n page.triples) (out_by n page.triples) (after_by n page.next)
@@ -138,10 +144,10 @@ held-home homes fs i page h e a = subst (λ (f : First). FirstAtHome homes f) (s
 pub least-below : (ns : List ℕ) → 0 < length ns → least ns < length ns
 least-below [] h = absurd (omega arith)
 least-below (n ∷ []) h = omega arith
-least-below (n ∷ (m ∷ ms)) h = by (list_all (λ x. nat_le n x) (m ∷ ms)) where
-  by : (b : Bool) → (if b then 0 else suc (least (m ∷ ms))) < suc (length (m ∷ ms))
-  by true = omega arith
-  by false = omega (arith, least-below (m ∷ ms) (omega arith))
+least-below (n ∷ (m ∷ ms)) h = by (list_all (λ x. nat_le n x) (m ∷ ms)) (least-below (m ∷ ms) (omega arith)) where
+  by : (b : Bool) → least (m ∷ ms) < length (m ∷ ms) → (if b then 0 else suc (least (m ∷ ms))) < suc (length (m ∷ ms))
+  by true k = omega arith
+  by false k = omega (arith, k)
 
 
 -- the pattern that is chosen, and its page
@@ -160,7 +166,7 @@ is-chosen row rest fs made rows after some full chosen =
     let long : length fs ≡ length rest = grind (arith, nat_tests) in
     let i = least (map count_of fs) in
     let counted : length (map count_of fs) ≡ length fs = length-map fs count_of in
-    let below : i < length fs = omega (arith, least-below (map count_of fs) (omega (arith, asking.some))) in
+    let below : i < length fs = omega (arith, counted, least-below (map count_of fs) (omega (arith, some, counted, long))) in
     let within : i < length rest = omega (arith, below) in
     let p = pattern-at rest i within in
     let page = got-at fs i b.1 below in
@@ -255,7 +261,7 @@ page-keeps terms old d i n made rows after extra k stands at m gone =
     let gone' : IsPermutation (tickets_of n) (extra ++ flat_map tickets_of (made ++ option_to_list after)) = subst (λ (l : List ℕ). IsPermutation (tickets_of n) l) (sym (ap (λ (l : List ℕ). extra ++ l) none ∙ append-nil extra)) gone in
     let out : IsPermutation (tickets_out old) (extra ++ tickets_out new) = before-after tickets_of old.levels new.levels n (made ++ option_to_list after) extra r gone' in
     keeps-after terms old new n (made ++ option_to_list after) k r m.nodes
-    (record { window = refl; form = refl; rows = All-append (λ x. length x ≡ terms.width) old.waiting rows k.rows m.rows; tickets = fewer old new extra out k.tickets })
+    (record { window = refl; form = refl; rows = All-append (λ x. length x ≡ terms.width) old.waiting rows k.rows m.wide; tickets = fewer old new extra out k.tickets })
 
 -- a first page came, and it is not the last to come
 pub first-keeps-to : (terms : Terms) (old : JoinData) (d i j : ℕ) (n : NodeData) (ticket : ℕ) (page : Page) → KeepsTo terms old → NextAtHome terms.homes page.next → Stands old.levels d i → IsAt old.levels d i n → waits_for ticket n ≡ Some (ForFirst j) → is_full (with_first_at j (Got page) n) ≡ false → KeepsTo terms (with_node old d i (with_first_at j (Got page) n))

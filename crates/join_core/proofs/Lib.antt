@@ -15,3 +15,4 @@ pub mod Starts
 pub mod Keeping
 pub mod Small
 pub mod Servers
+pub mod Evaluating

@@ -149,15 +149,17 @@ idle-count (n ∷ ns) a =
     let e : works n ≡ false = ap not (All-head (λ x. is_idle x ≡ true) n ns a) in
     rw e (idle-count ns (All-tail (λ x. is_idle x ≡ true) n ns a))
 
+single : (n : NodeData) → count_by works (n ∷ []) ≡ cond (works n) 1 0
+single n = omega arith
+
 busy-count : (ns : List NodeData) → All (λ n. is_idle n ≡ false) ns → count_by works ns ≡ length ns
 busy-count [] a = refl
 busy-count (n ∷ ns) a =
     let e : works n ≡ true = ap not (All-head (λ x. is_idle x ≡ false) n ns a) in
+    let one : cond (works n) 1 0 ≡ 1 = ap (λ (b : Bool). cond b 1 0) e in
     let more : count_by works ns ≡ length ns = busy-count ns (All-tail (λ x. is_idle x ≡ false) n ns a) in
-    rw e (omega (arith, more))
+    omega (arith, count-in (n ∷ []) ns, single n, one, more)
 
-single : (n : NodeData) → count_by works (n ∷ []) ≡ cond (works n) 1 0
-single n = omega arith
 
 -- a level in which a node was settled
 here-count : (l : List NodeData) (i : ℕ) (n : NodeData) (after : Option NodeData) → i < length l → n ≡ get_or l i n → count_by works (settled l i after) + cond (works n) 1 0 ≡ count_by works l + count_by works (option_to_list after)
@@ -165,14 +167,14 @@ here-count l i n after h e =
     let one = count-turned _ _ (after-is l i after h) in
     let two = count-in (option_to_list after) (remove l i) in
     let three = count-turned _ _ (IsPermutation-remove l i n h e) in
-    omega (arith, one, two, three)
+    omega (arith, one, two, three, count-in (n ∷ []) (remove l i), single n)
 
 total-count : (old new : List (List NodeData)) (n : NodeData) (made : List NodeData) → Replaces old new n made → count_by works (nodes new) + cond (works n) 1 0 ≡ count_by works (nodes old) + count_by works made
 total-count old new n made r =
     let one = count-turned _ _ r.before in
     let two = count-turned _ _ r.after in
     let three = count-in made r.others in
-    omega (arith, one, two, three)
+    omega (arith, one, two, three, count-in (n ∷ []) r.others, single n)
 
 settled-length : (l : List NodeData) (i : ℕ) (after : Option NodeData) → i < length l → length (settled l i after) ≤ length l
 settled-length l i None h = omega (arith, length-remove l i h)
