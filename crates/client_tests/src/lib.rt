@@ -3,4 +3,6 @@
 
 #[cfg(test)]
 mod exchanges;
+#[cfg(test)]
+mod joining;
 pub mod polling;
