@@ -96,6 +96,7 @@ fn query_of(alloc: Global, text: &str) -> Result<Query, Fail> {
 }
 
 /// A join on its way: the server, the tickets that are out, and what was seen so far.
+#[derive(Drop)]
 struct Run {
     server: Server,
     join: Join,
@@ -114,7 +115,7 @@ fn ask_all(alloc: Global, run: &mut Run) -> Result<(), Fail>
         let Some(ask) = run.join.next_ask(alloc)? else {
             return Ok(());
         };
-        run.asked.push(String::from_str(alloc, ask.address.as_str())?)?;
+        run.asked.push(String::from_str(alloc, ask.address.text())?)?;
         run.held.push(ask)?;
     }
     Err(Fail::new("more than a hundred asks at once"))

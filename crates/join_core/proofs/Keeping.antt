@@ -381,6 +381,11 @@ row-keeps terms old new o h l f w t k =
       wide None a = tt
       wide (Some row) a = All-head (λ r. length r ≡ terms.width) row [] a
 
+-- the row has its places
+pub row-width : (terms : Terms) (old : JoinData) (rest : List Places) (o : Option Places) → old.waiting ≡ rest ++ option_to_list o → KeepsTo terms old → MatchOption o ⊤ (λ row. length row ≡ terms.width)
+row-width terms old rest None h k = tt
+row-width terms old rest (Some row) h k = All-head (λ r. length r ≡ terms.width) row [] (front (λ r. length r ≡ terms.width) rest (row ∷ []) (subst (λ (x : List Places). All (λ r. length r ≡ terms.width) x) h k.rows)).1
+
 -- the longest page is no part of it
 pub noted-keeps : (terms : Terms) (mid new : JoinData) (longest : ℕ) → new ≡ with_longest mid longest → KeepsTo terms mid → KeepsTo terms new
 noted-keeps terms mid new longest e k = subst (λ (s : JoinData). KeepsTo terms s) (sym e) (record { window = k.window; form = k.form; nodes = k.nodes; not_full = k.not_full; rows = k.rows; tickets = k.tickets })

@@ -152,11 +152,22 @@ idle-count (n ∷ ns) a =
 single : (n : NodeData) → count_by works (n ∷ []) ≡ cond (works n) 1 0
 single n = omega arith
 
+busy-one : (b : Bool) → b ≡ true → ◌≡◌ {A = ℕ} (cond b 1 0) 1
+busy-one true e = refl
+busy-one false e = cc
+
+idle-zero : (b : Bool) → b ≡ false → ◌≡◌ {A = ℕ} (cond b 1 0) 0
+idle-zero true e = cc
+idle-zero false e = refl
+
+same-worth : (a b : Bool) → a ≡ b → ◌≡◌ {A = ℕ} (cond a 1 0) (cond b 1 0)
+same-worth a b e = ap (λ (x : Bool). let n : ℕ = cond x 1 0 in n) e
+
 busy-count : (ns : List NodeData) → All (λ n. is_idle n ≡ false) ns → count_by works ns ≡ length ns
 busy-count [] a = refl
 busy-count (n ∷ ns) a =
     let e : works n ≡ true = ap not (All-head (λ x. is_idle x ≡ false) n ns a) in
-    let one : cond (works n) 1 0 ≡ 1 = ap (λ (b : Bool). cond b 1 0) e in
+    let one = busy-one (works n) e in
     let more : count_by works ns ≡ length ns = busy-count ns (All-tail (λ x. is_idle x ≡ false) n ns a) in
     omega (arith, count-in (n ∷ []) ns, single n, one, more)
 
@@ -257,7 +268,7 @@ small-with nn m old new d i n made after k s b = record {
 -- the node works as it did, and nothing opens
 pub small-same : (nn m : ℕ) (old new : JoinData) (d i : ℕ) (n x : NodeData) → IsKeptSmall nn m old → Settles nn m old new d i n [] (Some x) → works x ≡ works n → IsKeptSmall nn m new
 small-same nn m old new d i n x k s e =
-    let one : cond (works x) 1 0 ≡ cond (works n) 1 0 = ap (λ (b : Bool). cond b 1 0) e in
+    let one = same-worth (works x) (works n) e in
     let total : count_by works (nodes new.levels) ≡ count_by works (nodes old.levels) = omega (arith, works-total nn m old new d i n [] (Some x) s, single x, one) in
     let here : working_at new.levels d ≡ working_at old.levels d = omega (arith, works-here nn m old new d i n [] (Some x) s, single x, one) in
     let each : (f : ℕ) → working_at new.levels f ≡ working_at old.levels f = λ f. elim (same-place f d) [ inl q ↦ subst (λ (y : ℕ). working_at new.levels y ≡ working_at old.levels y) (sym q) here | inr other ↦ works-other nn m old new d i n [] (Some x) s f other ] in
@@ -270,8 +281,8 @@ small-same nn m old new d i n x k s e =
 -- a node starts, where all nodes below it work
 pub small-start : (nn m : ℕ) (old new : JoinData) (d i : ℕ) (n x : NodeData) → IsKeptSmall nn m old → Settles nn m old new d i n [] (Some x) → works n ≡ false → works x ≡ true → count_by works (nodes old.levels) < old.window → All (λ y. is_idle y ≡ false) (level_at old.levels (suc d)) → IsKeptSmall nn m new
 small-start nn m old new d i n x k s e f room busy =
-    let one : cond (works n) 1 0 ≡ 0 = ap (λ (b : Bool). cond b 1 0) e in
-    let two : cond (works x) 1 0 ≡ 1 = ap (λ (b : Bool). cond b 1 0) f in
+    let one = idle-zero (works n) e in
+    let two = busy-one (works x) f in
     let total : count_by works (nodes new.levels) ≡ count_by works (nodes old.levels) + 1 = omega (arith, works-total nn m old new d i n [] (Some x) s, single x, one, two) in
     let here : working_at new.levels d ≡ working_at old.levels d + 1 = omega (arith, works-here nn m old new d i n [] (Some x) s, single x, one, two) in
     let below : open_at new.levels (suc d) ≡ open_at old.levels (suc d) = omega (arith, open-below nn m old new d i n [] (Some x) s) in
@@ -290,7 +301,7 @@ small-start nn m old new d i n x k s e f room busy =
 -- a page of at most m triples came: its node no longer works
 pub small-page : (nn m : ℕ) (old new : JoinData) (d i : ℕ) (n : NodeData) (made : List NodeData) (after : Option NodeData) → IsKeptSmall nn m old → Settles nn m old new d i n made after → works n ≡ true → All (λ x. is_idle x ≡ true) (option_to_list after) → length made ≤ m → IsKeptSmall nn m new
 small-page nn m old new d i n made after k s e idle few =
-    let one : cond (works n) 1 0 ≡ 1 = ap (λ (b : Bool). cond b 1 0) e in
+    let one = busy-one (works n) e in
     let none : count_by works (option_to_list after) ≡ 0 = idle-count (option_to_list after) idle in
     let total : count_by works (nodes new.levels) + 1 ≡ count_by works (nodes old.levels) = omega (arith, works-total nn m old new d i n made after s, one, none) in
     let here : working_at new.levels d + 1 ≡ working_at old.levels d = omega (arith, works-here nn m old new d i n made after s, one, none) in

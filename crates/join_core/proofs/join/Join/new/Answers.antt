@@ -1,4 +1,5 @@
-use Rattle.std.proofs.Common.{◌≡◌, ◌++◌, ◌∷◌, [], refl, length, replicate, None, ap, ◌∙◌, length-replicate}
+use Rattle.std.proofs.Math.ListN.{length-replicate}
+use Rattle.std.proofs.Common.{◌≡◌, ◌++◌, ◌∷◌, [], refl, length, replicate, None, ap, ◌∙◌}
 use Rattle.join_core.specs.Nodes.{nodes_in, rows_out}
 use Rattle.join_core.proofs.Starts.{begins, empty-valid, no-tickets}
 use Rattle.join_core.proofs.Keeping.{first-keeps-all}
