@@ -3,6 +3,4 @@
 
 #[cfg(test)]
 mod exchanges;
-#[cfg(test)]
-mod joining;
 pub mod polling;

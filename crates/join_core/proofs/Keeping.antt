@@ -149,7 +149,6 @@ least-below (n ∷ (m ∷ ms)) h = by (list_all (λ x. nat_le n x) (m ∷ ms)) (
   by true k = omega arith
   by false k = omega (arith, k)
 
-
 -- the pattern that is chosen, and its page
 pub record Chosen (row : Places) (rest : List Pattern) (fs : List First) (made : List NodeData) (rows : List Places) (after : Option NodeData) : Type 0 where
   pub index : ℕ

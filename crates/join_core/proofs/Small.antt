@@ -171,7 +171,6 @@ busy-count (n ∷ ns) a =
     let more : count_by works ns ≡ length ns = busy-count ns (All-tail (λ x. is_idle x ≡ false) n ns a) in
     omega (arith, count-in (n ∷ []) ns, single n, one, more)
 
-
 -- a level in which a node was settled
 here-count : (l : List NodeData) (i : ℕ) (n : NodeData) (after : Option NodeData) → i < length l → n ≡ get_or l i n → count_by works (settled l i after) + cond (works n) 1 0 ≡ count_by works l + count_by works (option_to_list after)
 here-count l i n after h e =
@@ -250,10 +249,10 @@ depths-after nn m old new d i n made after s a e = elim (same-place e d) [
   | inl q ↦ subst (λ (k : ℕ). All (IsOfDepth nn k) (level_at new.levels k)) (sym q)
       (subst (λ (l : List NodeData). All (IsOfDepth nn d) l) (sym s.steps.here) (settled-all (IsOfDepth nn d) (level_at old.levels d) i n after s.stands.within s.at (a d) s.same))
   | inr other ↦ elim (same-place e (suc d)) [
-      | inl q ↦ subst (λ (k : ℕ). All (IsOfDepth nn k) (level_at new.levels k)) (sym q)
-          (subst (λ (l : List NodeData). All (IsOfDepth nn (suc d)) l) (sym s.steps.below) (All-append (IsOfDepth nn (suc d)) (level_at old.levels (suc d)) made (a (suc d)) s.deeper))
-      | inr g ↦ subst (λ (l : List NodeData). All (IsOfDepth nn e) l) (sym (s.steps.others e other g)) (a e)
-    ]
+    | inl q ↦ subst (λ (k : ℕ). All (IsOfDepth nn k) (level_at new.levels k)) (sym q)
+        (subst (λ (l : List NodeData). All (IsOfDepth nn (suc d)) l) (sym s.steps.below) (All-append (IsOfDepth nn (suc d)) (level_at old.levels (suc d)) made (a (suc d)) s.deeper))
+    | inr g ↦ subst (λ (l : List NodeData). All (IsOfDepth nn e) l) (sym (s.steps.others e other g)) (a e)
+  ]
 ]
 
 small-with : (nn m : ℕ) (old new : JoinData) (d i : ℕ) (n : NodeData) (made : List NodeData) (after : Option NodeData) → IsKeptSmall nn m old → Settles nn m old new d i n made after → IsBounded m old.window new.levels → IsKeptSmall nn m new

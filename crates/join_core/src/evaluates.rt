@@ -29,12 +29,7 @@ impl Evaluates for Join {
         Join::next_ask(self, alloc)
     }
 
-    fn answer(
-        &mut self,
-        alloc: Global,
-        ticket: u64,
-        page: Page,
-    ) -> Result<Answered, OutOfMemory> {
+    fn answer(&mut self, alloc: Global, ticket: u64, page: Page) -> Result<Answered, OutOfMemory> {
         Join::answer(self, alloc, ticket, page)
     }
 

@@ -66,12 +66,7 @@ pub trait Evaluates {
     /// Takes the page that was asked for under a ticket. `Stranger` exactly where the ticket is not out;
     /// then nothing changes. It fails for want of memory alone, and then nothing changed but that the
     /// page is gone.
-    fn answer(
-        &mut self,
-        alloc: Global,
-        ticket: u64,
-        page: Page,
-    ) -> Result<Answered, OutOfMemory>
+    fn answer(&mut self, alloc: Global, ticket: u64, page: Page) -> Result<Answered, OutOfMemory>
         ensures suits { (source : Self.Source) → suits source self.old → ((address : Address) → Contains (account source self.old).out (ticket, address) → is_true source address page) → suits source self.new }
         ensures owes { (source : Self.Source) → suits source self.old → ((address : Address) → Contains (account source self.old).out (ticket, address) → is_true source address page) → IfOk result (OwesAfterAnswer (account source self.old) (account source self.new) ticket) }
         ensures stands { IfOk result (StandsAfterAnswer (standing self.old) (standing self.new) ticket) }
