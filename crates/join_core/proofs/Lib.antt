@@ -12,3 +12,6 @@ pub mod Promises
 pub mod Accounts
 pub mod Scans
 pub mod Starts
+pub mod Keeping
+pub mod Small
+pub mod Evaluating

@@ -208,11 +208,11 @@ first-place-again n ticket i first waits =
 
 -- ---- the choice
 
-both : (a b : Bool) → (a && b) ≡ true → (a ≡ true) × (b ≡ true)
+pub both : (a b : Bool) → (a && b) ≡ true → (a ≡ true) × (b ≡ true)
 both true b e = (refl, e)
 both false b e = cc
 
-got-at : (fs : List First) (i : ℕ) → list_all is_got fs ≡ true → i < length fs → (page : Page) × (Got page ≡ get_or fs i (Got page))
+pub got-at : (fs : List First) (i : ℕ) → list_all is_got fs ≡ true → i < length fs → (page : Page) × (Got page ≡ get_or fs i (Got page))
 got-at [] i h l = absurd (omega arith)
 got-at (Out t ∷ fs) i h l = cc
 got-at (Got page ∷ fs) zero h l = (page, refl)

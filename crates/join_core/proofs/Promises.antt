@@ -1,7 +1,7 @@
 -- What a join promises, event by event.
-use Rattle.std.proofs.Common.{ℕ, zero, suc, length-set, ◌≡◌, ◌<◌, true, List, [], ◌∷◌, ◌++◌, length, get_or, set, Option, Some, None, refl, ap, sym, subst, ◌∙◌, arith, append-nil, append_assoc, length-append}
+use Rattle.std.proofs.Common.{ℕ, zero, suc, length-set, ◌≡◌, ◌+◌, ◌<◌, ◌⊎◌, inl, inr, true, List, [], ◌∷◌, ◌++◌, length, get_or, set, Option, Some, None, refl, ap, sym, subst, ◌∙◌, arith, append-nil, append_assoc, length-append}
 use Rattle.std.specs.Prelude.{⊤, MatchOption, option_to_list}
-use Rattle.std.specs.List.{flat_map, All, Contains}
+use Rattle.std.specs.List.{flat_map, All, Contains, remove}
 use Rattle.std.specs.List.Sorted.{IsPermutation}
 use Rattle.std.proofs.lemmas.List.{get_or_default, get_or_append_left, get_or-set_same}
 use Rattle.std.proofs.lemmas.List.Sorted.{IsPermutation-cons, IsPermutation-trans, IsPermutation-sym, IsPermutation-append_left, IsPermutation-append_right, IsPermutation-to_front, Contains-permutation}
@@ -17,9 +17,10 @@ use Rattle.join_core.specs.declared.node.Waits.TheVariants.{First as ForFirst, N
 use Rattle.join_core.specs.Worlds.{World, HasForm}
 use Rattle.join_core.specs.Nodes.{NodeData, future, left, Holds}
 use Rattle.join_core.specs.Events.{CanAsk, asked, IsNextAddress, waits_for, with_first_at, is_full, is_idle, opened_by, out_by, after_by, IsChosen}
-use Rattle.join_core.specs.Joins.{JoinData, nodes, owed, left_over, outs, out, tickets_of, tickets_out, Suits, Keeps, HandsOut, IsTrueFor, TakesPage, GivesRow, Replaces, Turn, Stands, IsAt, with_levels, with_longest, taken_at}
+use Rattle.join_core.specs.Joins.{JoinData, nodes, owed, left_over, outs, out, tickets_of, tickets_out, Suits, Keeps, HandsOut, IsTrueFor, TakesPage, GivesRow, Replaces, Turn, Stands, IsAt, with_levels, with_longest, with_made, taken_at, settled, levels_after, asked_at, walked_at, ChoosesAt, TakesFirstAt}
+use Rattle.join_core.specs.Outcomes.{WaitsMore}
 use Rattle.join_core.proofs.Replacing.{before-after, all-after, holds-before}
-use Rattle.join_core.proofs.Taken.{taken-replaces, set-replaces, node-at}
+use Rattle.join_core.proofs.Taken.{taken-replaces, set-replaces, node-at, levels-set}
 use Rattle.join_core.proofs.Marks.{ask-turn, tickets-ask, next-turn, next-outs, next-tickets, first-turn, first-tickets, first-back, choice-turn-of, full-outs, full-tickets}
 use Rattle.join_core.proofs.Outs.{idle-outs, idle-tickets, idle-none}
 
@@ -280,3 +281,70 @@ pub noted : (w : World) (old mid new : JoinData) (ticket longest : ℕ) → new 
 noted w old mid new ticket longest e t =
     subst (λ (j : JoinData). TakesPage w old j ticket) (sym e)
     (record { suits = record { world = t.suits.world; form = t.suits.form; holds = t.suits.holds }; owed = t.owed; left = t.left; address = t.address; out = t.out })
+
+-- ---- what each call makes of a join
+
+-- the join after an ask
+pub asked-is : (view old new : JoinData) (d i : ℕ) (address : Address) (l after : List NodeData) → view ≡ old → Stands old.levels d i → Asks view new.levels d i view.tickets address l after → new ≡ record { form = view.form; window = view.window; tickets = view.tickets + 1; longest = view.longest; levels = new.levels; waiting = view.waiting } → (n : NodeData) → IsAt old.levels d i n → new ≡ asked_at old d i n
+asked-is view old new d i address l after seen stands a e n at =
+    let here : Stands view.levels d i = subst (λ (s : JoinData). Stands s.levels d i) (sym seen) stands in
+    let there : IsAt view.levels d i n = subst (λ (s : JoinData). IsAt s.levels d i n) (sym seen) at in
+    let level : get_or view.levels d [] ≡ l = level-is view.levels d l here.deep a.level in
+    let found : n ≡ get_or l i n = subst (λ (x : List NodeData). n ≡ get_or x i n) level there in
+    let whole : new.levels ≡ set view.levels d (set (get_or view.levels d []) i (asked view.tickets n)) = a.whole ∙ ap (λ (x : List NodeData). set view.levels d x) (a.done n found ∙ ap (λ (x : List NodeData). set x i (asked view.tickets n)) (sym level)) in
+    let one : new ≡ asked_at view d i n = e ∙ ap (λ (ls : List (List NodeData)). let j : JoinData = record { form = view.form; window = view.window; tickets = view.tickets + 1; longest = view.longest; levels = ls; waiting = view.waiting } in j) whole in
+    one ∙ ap (λ (s : JoinData). asked_at s d i n) seen
+
+set-remove : {X : Type 0} (l : List X) (i : ℕ) (x : X) → remove (set l i x) i ≡ remove l i
+set-remove [] i x = refl
+set-remove (y ∷ ys) zero x = refl
+set-remove (y ∷ ys) (suc i) x = ap (λ (zs : List _). y ∷ zs) (set-remove ys i x)
+
+settled-set : (l : List NodeData) (i : ℕ) (x : NodeData) (after : Option NodeData) → settled (set l i x) i after ≡ settled l i after
+settled-set l i x None = set-remove l i x
+settled-set l i x (Some y) = set-set l i x y
+
+-- a node was written over before the page was taken
+pub taken-over : (old : JoinData) (d i : ℕ) (x : NodeData) (made : List NodeData) (rows : List Places) (after : Option NodeData) → Stands old.levels d i → taken_at (held_at old d i x) d i made rows after ≡ taken_at old d i made rows after
+taken-over old d i x made rows after s =
+    let l = get_or old.levels d [] in
+    let y = set l i x in
+    let ls = set old.levels d y in
+    let long : length ls ≡ length old.levels = length-set old.levels d y in
+    let deep : d < length ls = omega (arith, s.deep, long) in
+    let level : get_or ls d [] ≡ y = get_or-set_same old.levels d y [] s.deep in
+    let one : set (levels_after ls (d + 1) made) d (settled (get_or ls d []) i after) ≡ set (levels_after ls (d + 1) made) d (settled l i after) =
+    ap (λ (z : List NodeData). set (levels_after ls (d + 1) made) d z) (ap (λ (z : List NodeData). settled z i after) level ∙ settled-set l i x after) in
+    let two : set (levels_after ls (d + 1) made) d (settled l i after) ≡ levels_after (set ls d (settled l i after)) (d + 1) made = levels-set ls d made (settled l i after) deep in
+    let three : levels_after (set ls d (settled l i after)) (d + 1) made ≡ levels_after (set old.levels d (settled l i after)) (d + 1) made = ap (λ (z : List (List NodeData)). levels_after z (d + 1) made) (set-set old.levels d y (settled l i after)) in
+    let four : levels_after (set old.levels d (settled l i after)) (d + 1) made ≡ set (levels_after old.levels (d + 1) made) d (settled l i after) = sym (levels-set old.levels d made (settled l i after) s.deep) in
+    ap (λ (z : List (List NodeData)). with_made old z rows) (one ∙ two ∙ three ∙ four)
+
+-- the first pages were all there, so the choice was made
+pub chosen-over : (old mid new : JoinData) (d i : ℕ) (x : NodeData) → Stands old.levels d i → mid ≡ held_at old d i x → ((n : NodeData) → IsAt mid.levels d i n → ChoosesAt mid new d i n) → ChoosesAt old new d i x
+chosen-over old mid new d i x s e h =
+    let c : ChoosesAt mid new d i x = h x (subst (λ (j : JoinData). IsAt j.levels d i x) (sym e) (held-there old d i x s)) in
+    record {
+      made = c.made;
+      rows = c.rows;
+      after = c.after;
+      chosen = c.chosen;
+      done = c.done ∙ ap (λ (j : JoinData). taken_at j d i c.made c.rows c.after) e ∙ taken-over old d i x c.made c.rows c.after s;
+    }
+
+pub taken-same : (j : JoinData) (d i : ℕ) (made more : List NodeData) (rows others : List Places) (after next : Option NodeData) → made ≡ more → rows ≡ others → after ≡ next → taken_at j d i made rows after ≡ taken_at j d i more others next
+taken-same j d i made more rows others after next e f g =
+    ap (λ (x : List NodeData). taken_at j d i x rows after) e ∙ ap (λ (x : List Places). taken_at j d i more x after) f ∙ ap (λ (x : Option NodeData). taken_at j d i more others x) g
+
+-- no row that waits is lost, and the longest page is as before
+pub first-more : (old new : JoinData) (d i : ℕ) (n : NodeData) → TakesFirstAt old new d i n → WaitsMore old new × (new.longest ≡ old.longest)
+first-more old new d i n t = elim t [
+  | inl x ↦ (([], ap (λ (j : JoinData). j.waiting) x.1 ∙ sym (append-nil old.waiting)), ap (λ (j : JoinData). j.longest) x.1)
+  | inr x ↦ ((x.1.rows, ap (λ (j : JoinData). j.waiting) x.1.done), ap (λ (j : JoinData). j.longest) x.1.done)
+]
+
+pub walk-more : (old new : JoinData) (d i : ℕ) (n : NodeData) (page : Page) → new ≡ walked_at old d i n page → WaitsMore old new × (new.longest ≡ old.longest)
+walk-more old new d i n page e = ((out_by n page.triples, ap (λ (j : JoinData). j.waiting) e), ap (λ (j : JoinData). j.longest) e)
+
+pub noted-more : (old mid new : JoinData) (longest : ℕ) → new ≡ with_longest mid longest → WaitsMore old mid → WaitsMore old new
+noted-more old mid new longest e h = (h.0, ap (λ (j : JoinData). j.waiting) e ∙ h.1)

@@ -1,12 +1,12 @@
 -- Loops over all nodes.
-use Rattle.std.proofs.Common.{Option, Some, None, ℕ, suc, ◌≡◌, ◌+◌, ◌-◌, ◌<◌, ◌≤◌, Bool, false, List, [], ◌∷◌, ◌++◌, length, get_or, take, drop, drop-cons, append-nil, length-append, cond, min, refl, ap, sym, subst, ◌∙◌, arith}
+use Rattle.std.proofs.Common.{Option, Some, None, ℕ, zero, suc, ◌≡◌, ◌+◌, ◌-◌, ◌<◌, ◌≤◌, Bool, false, List, [], ◌∷◌, ◌++◌, length, get_or, take, drop, drop-cons, append-nil, length-append, cond, min, refl, ap, sym, subst, ◌∙◌, arith}
 use Rattle.std.specs.Prelude.{IfNone}
 use Rattle.std.specs.List.{All, count_by}
 use Rattle.std.proofs.lemmas.List.Sums.{sum_by-append}
 use Rattle.join_core.specs.Events.{works}
 use Rattle.std.proofs.lemmas.List.{take_more, take_all, drop_all}
 use Rattle.std.proofs.lemmas.List.Concat.{flat_map-append}
-use Rattle.std.proofs.lemmas.List.Elements.{All-nil, All-cons, All-append}
+use Rattle.std.proofs.lemmas.List.Elements.{All-nil, All-cons, All-head, All-tail, All-append}
 use Rattle.join_core.specs.Nodes.{NodeData}
 use Rattle.join_core.specs.Joins.{nodes, NoneIn}
 
@@ -82,3 +82,20 @@ pub back-end : (old : List (List NodeData)) (test : NodeData → Bool) (back : �
 back-end old test back h a =
     let zero' : length old - back ≡ 0 = omega arith in
     subst (λ k. All (λ n. test n ≡ false) (nodes (drop k old))) zero' a
+
+-- ---- one level of those that a scan passed
+
+front : {X : Type 0} (P : X → Type 0) (xs ys : List X) → All P (xs ++ ys) → All P xs × All P ys
+front P [] ys a = (All-nil P, a)
+front P (x ∷ xs) ys a = let more = front P xs ys (All-tail P x (xs ++ ys) a) in (All-cons P x xs (All-head P x (xs ++ ys) a) more.0, more.1)
+
+level-of : (P : NodeData → Type 0) (ls : List (List NodeData)) (e : ℕ) → All P (nodes ls) → All P (get_or ls e [])
+level-of P [] e a = All-nil P
+level-of P (l ∷ ls) zero a = (front P l (nodes ls) a).0
+level-of P (l ∷ ls) (suc e) a = level-of P ls e (front P l (nodes ls) a).1
+
+pub level-past : (P : NodeData → Type 0) (ls : List (List NodeData)) (k e : ℕ) → k ≤ e → All P (nodes (drop k ls)) → All P (get_or ls e [])
+level-past P ls zero e h a = level-of P ls e a
+level-past P [] (suc k) e h a = All-nil P
+level-past P (l ∷ ls) (suc k) zero h a = absurd (omega arith)
+level-past P (l ∷ ls) (suc k) (suc e) h a = level-past P ls k e (omega arith) a

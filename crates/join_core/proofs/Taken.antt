@@ -45,7 +45,7 @@ levels-set levels d made new h =
     let two : set (levels ++ made ∷ []) d new ≡ set levels d new ++ made ∷ [] = set-append_left levels (made ∷ []) d new h in
     if-at (λ (ls : List (List NodeData)). set ls d new) (nat_lt (d + 1) (length levels)) _ _ _ _ one two ∙ ap (λ n. if nat_lt (d + 1) n then set (set levels d new) (d + 1) (get_or (set levels d new) (d + 1) [] ++ made) else set levels d new ++ made ∷ []) (sym long)
 
-after-is : (l : List NodeData) (i : ℕ) (after : Option NodeData) → i < length l → IsPermutation (settled l i after) (option_to_list after ++ remove l i)
+pub after-is : (l : List NodeData) (i : ℕ) (after : Option NodeData) → i < length l → IsPermutation (settled l i after) (option_to_list after ++ remove l i)
 after-is l i None h = IsPermutation-refl (remove l i)
 after-is l i (Some n) h = set-IsPermutation l i n h
 

@@ -1,5 +1,5 @@
 -- A join: its nodes by depth, and three multisets of it. Each is a list, up to order.
-use Rattle.std.specs.Prelude.{ℕ, suc, ◌≡◌, ◌+◌, ◌<◌, ◌≤◌, ◌*◌, Bool, false, List, [], ◌∷◌, ◌++◌, length, Option, Some, None, slice_index_or, slice_set, nat_lt, if◌then◌else◌}
+use Rattle.std.specs.Prelude.{ℕ, suc, ◌≡◌, ◌+◌, ◌<◌, ◌≤◌, ◌*◌, Bool, false, List, [], ◌∷◌, ◌++◌, length, Option, Some, None, slice_index_or, slice_set, nat_lt, if◌then◌else◌, take, true, ◌⊎◌}
 use Rattle.std.specs.List.{flat_map, All, count_by, remove, Contains}
 use Rattle.std.specs.List.Sorted.{IsPermutation}
 use Rattle.tpf_base.specs.Addresses.{Address}
@@ -13,7 +13,7 @@ use Rattle.join_core.specs.declared.first.First.TheVariants.{Out, Got}
 use Rattle.join_core.specs.Worlds.{World, IsWorld, HasForm, IsPageAt}
 use Rattle.join_core.specs.Nodes.{Stage, NodeData, future, left, plan, Holds}
 use Rattle.join_core.specs.Nodes.Stage.{Asking, Walking}
-use Rattle.join_core.specs.Events.{works}
+use Rattle.join_core.specs.Events.{works, is_idle, has_ask, is_full, CanAsk, asked, opened_by, out_by, after_by, IsChosen}
 
 pub record JoinData : Type 0 where
   pub form : Form
@@ -187,3 +187,57 @@ working_at levels d = count_by works (level_at levels d)
 pub record IsBounded (m window : ℕ) (levels : List (List NodeData)) : Type 0 where
   pub working : count_by works (nodes levels) ≤ window
   pub open_rows : (d : ℕ) → open_at levels (suc d) + m * working_at levels d ≤ m * window
+
+-- ---- what each call makes of a join
+
+-- the join with another node at a place
+abbrev pub with_node : JoinData → ℕ → ℕ → NodeData → JoinData
+with_node j depth index n = with_levels j (slice_set j.levels depth (slice_set (level_at j.levels depth) index n))
+
+-- the join after the node at a place asked
+abbrev pub asked_at : JoinData → ℕ → ℕ → NodeData → JoinData
+asked_at j depth index n = record {
+  form = j.form;
+  window = j.window;
+  tickets = j.tickets + 1;
+  longest = j.longest;
+  levels = slice_set j.levels depth (slice_set (level_at j.levels depth) index (asked j.tickets n));
+  waiting = j.waiting;
+}
+
+-- a node may be started: fewer nodes work than the window, no deeper node may be started, and no earlier one of its depth
+pub record StartsAt (j : JoinData) (depth index : ℕ) : Type 0 where
+  pub room : count_by works (nodes j.levels) < j.window
+  pub deeper : (e : ℕ) → depth < e → All (λ n. is_idle n ≡ false) (level_at j.levels e)
+  pub earlier : All (λ n. is_idle n ≡ false) (take index (level_at j.levels depth))
+
+-- the node asks next: it was started and has an address to hand out, or no other has one and it is started
+abbrev pub MayAsk : JoinData → ℕ → ℕ → NodeData → Type 0
+MayAsk j depth index n = (has_ask n ≡ true) ⊎ ((is_idle n ≡ true) × NoneIn has_ask j.levels × StartsAt j depth index)
+
+-- the node at a place asked
+pub record AsksAt (old new : JoinData) : Type 0 where
+  pub depth : ℕ
+  pub index : ℕ
+  pub asker : NodeData
+  pub stands : Stands old.levels depth index
+  pub at : IsAt old.levels depth index asker
+  pub can : CanAsk asker
+  pub may : MayAsk old depth index asker
+  pub done : new ≡ asked_at old depth index asker
+
+-- the next page of the node at a place was taken
+abbrev pub walked_at : JoinData → ℕ → ℕ → NodeData → Page → JoinData
+walked_at j depth index n page = taken_at j depth index (opened_by n page.triples) (out_by n page.triples) (after_by n page.next)
+
+-- the first page with the least count was taken, of this node at a place
+pub record ChoosesAt (old new : JoinData) (depth index : ℕ) (n : NodeData) : Type 0 where
+  pub made : List NodeData
+  pub rows : List Places
+  pub after : Option NodeData
+  pub chosen : IsChosen n made rows after
+  pub done : new ≡ taken_at old depth index made rows after
+
+-- a first page of the node at a place came; where it was the last to come, the pattern with the least count is chosen
+abbrev pub TakesFirstAt : JoinData → JoinData → ℕ → ℕ → NodeData → Type 0
+TakesFirstAt old new depth index n = ((is_full n ≡ false) × (new ≡ with_node old depth index n)) ⊎ ((is_full n ≡ true) × ChoosesAt old new depth index n)

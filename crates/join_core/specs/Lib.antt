@@ -5,3 +5,7 @@ pub mod Events
 pub mod Joins
 pub mod Outcomes
 pub mod Runs
+pub mod Evaluations
+pub mod Sound
+pub mod JoinAccounts
+pub mod JoinLaws

@@ -1,13 +1,14 @@
 -- What the calls of a join answer.
-use Rattle.std.specs.Prelude.{ℕ, ◌≡◌, ◌+◌, ◌≤◌, ◌⊎◌, ◌∷◌, Option, Some, None}
+use Rattle.std.specs.Prelude.{ℕ, ◌≡◌, ◌+◌, ◌≤◌, ◌⊎◌, ◌∷◌, ◌++◌, List, max, Option, Some, None}
 use Rattle.std.specs.List.{count_by}
 use Rattle.std.specs.List.Sorted.{IsPermutation}
-use Rattle.join_core.specs.declared.join.Ask.{Ask}
-use Rattle.join_core.specs.declared.join.Answered.{Answered}
-use Rattle.join_core.specs.declared.join.Answered.TheVariants.{Taken, Stranger}
+use Rattle.join_core.specs.declared.evaluation.Ask.{Ask}
+use Rattle.join_core.specs.declared.evaluation.Answered.{Answered}
+use Rattle.join_core.specs.declared.evaluation.Answered.TheVariants.{Taken, Stranger}
+use Rattle.bgp_core.specs.Solutions.{Places}
 use Rattle.join_core.specs.Worlds.{World}
 use Rattle.join_core.specs.Events.{works, is_idle, has_ask}
-use Rattle.join_core.specs.Joins.{JoinData, nodes, HandsOut, TakesPage, tickets_out, NoneIn}
+use Rattle.join_core.specs.Joins.{JoinData, nodes, HandsOut, TakesPage, tickets_out, NoneIn, AsksAt}
 
 -- an ask was handed out under a new number, or nothing changed
 abbrev pub AskDone : World → JoinData → JoinData → Option Ask → Type 0
@@ -34,3 +35,17 @@ AnswerDone w old new ticket Taken = TakesPage w old new ticket
 abbrev pub AnswerNumbered : JoinData → JoinData → ℕ → Answered → Type 0
 AnswerNumbered old new ticket Stranger = new ≡ old
 AnswerNumbered old new ticket Taken = IsPermutation (tickets_out old) (ticket ∷ tickets_out new)
+
+-- the ask is that of the node that asks next
+abbrev pub AskStarts : JoinData → JoinData → Option Ask → Type 0
+AskStarts old new None = new ≡ old
+AskStarts old new (Some ask) = AsksAt old new
+
+-- no row that waits is lost
+abbrev pub WaitsMore : JoinData → JoinData → Type 0
+WaitsMore old new = (rows : List Places) × (new.waiting ≡ old.waiting ++ rows)
+
+-- the longest page after one of so many triples
+abbrev pub LongestAfter : ℕ → ℕ → ℕ → Answered → Type 0
+LongestAfter before after count Stranger = after ≡ before
+LongestAfter before after count Taken = after ≡ max before count

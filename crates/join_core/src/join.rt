@@ -1,5 +1,5 @@
 // The join.
-ghost use Rattle.std.specs.Prelude.{ℕ, ◌≡◌, ◌+◌, ◌<◌, ◌≤◌, ◌↔◌, ◌⊎◌, ◌^◌, List, [], ◌∷◌, ◌++◌, length, IfOk, OnOk, OnErr, Option, Some, None, true, false, MatchOption, max, min, slice_set, slice_index_or, IfSome, IfNone, IsTrue, replicate, is_some, Ok, ◌*◌, ◌-◌, ⊤};
+ghost use Rattle.std.specs.Prelude.{ℕ, ◌≡◌, ◌+◌, ◌<◌, ◌≤◌, ◌↔◌, ◌⊎◌, ◌^◌, List, [], ◌∷◌, ◌++◌, length, IfOk, OnOk, OnErr, Option, Some, None, true, false, MatchOption, max, min, slice_set, slice_index_or, IfSome, IfNone, IsTrue, replicate, is_some, Ok, ◌*◌, ◌-◌, ⊤, take};
 ghost use Rattle.std.specs.List.{All, AllByRecursion, remove, count_by, Contains};
 ghost use Rattle.bgp_core.specs.Queries.{HasPlacesFor, IsValidPattern};
 ghost use Rattle.control_reader.specs.declared.page.Page.{Page};
@@ -7,10 +7,16 @@ ghost use Rattle.join_core.specs.Worlds.{World, IsWorld, HasForm};
 ghost use Rattle.std.specs.List.Sorted.{IsPermutation};
 ghost use Rattle.join_core.specs.Nodes.{NodeData, nodes_in, rows_out};
 ghost use Rattle.join_core.specs.Events.{CanAsk, asked, waits_for, with_first_at, is_full, IsFirstOf, has_ask, is_idle, works};
+ghost use Rattle.tpf_base.specs.Addresses.{Address};
+ghost use Rattle.join_core.specs.Evaluations.{Terms, HasHome, AsksAtHome, NextAtHome};
+ghost use Rattle.join_core.specs.Sound.{IsAskedBy, KeepsTo, IsKeptSmall};
+ghost use Rattle.join_core.specs.Joins.{MayAsk, ChoosesAt, TakesFirstAt, asked_at, walked_at, level_at};
 ghost use Rattle.join_core.specs.Joins.{JoinData, nodes, out, Suits, Keeps, Begins, HandsOut, IsTrueFor, TakesPage, GivesRow, tickets_out, Stands, IsAt, settled, levels_after, with_levels, with_made, with_longest, taken_at, NoneIn};
-ghost use Rattle.join_core.specs.Outcomes.{AskDone, AskNumbered, NothingToAsk, AnswerDone, AnswerNumbered};
+ghost use Rattle.join_core.specs.Outcomes.{AskDone, AskNumbered, NothingToAsk, AnswerDone, AnswerNumbered, AskStarts, WaitsMore, LongestAfter};
 ghost use Rattle.join_core.specs.Runs.{IsDone};
+ghost use Rattle.join_core.specs.JoinAccounts.{is_over};
 
+use crate::evaluation::{Answered, Ask};
 use crate::expand::add_match;
 use crate::first::First;
 use crate::level::Level;
@@ -21,22 +27,8 @@ use control_reader::Page;
 use std::alloc::Global;
 use std::marker::Model;
 use std::rc::Rc;
-use template_fill::{Form, WebAddress, an_address_is_one};
+use template_fill::{Form, an_address_is_one};
 use tpf_base::OutOfMemory;
-
-/// A page to ask for, and the ticket under which it is to be answered.
-#[derive(Debug, Drop)]
-pub struct Ask {
-    pub ticket: u64,
-    pub address: WebAddress,
-}
-
-/// What became of a page: it was taken, or its ticket is not out.
-#[derive(Clone, Copy, Debug, PartialEq, Eq)]
-pub enum Answered {
-    Taken,
-    Stranger,
-}
 
 /// The place of a node: its depth, and its place among the nodes of that depth.
 #[derive(Clone, Copy, Debug, Drop)]
@@ -81,6 +73,8 @@ impl Join {
         requires tickets { self.old.tickets < 2 ^ 64 - 1 }
         ensures asks { (w : World) → Suits w self.old → IfOk result (λ a. AskDone w self.old self.new (Some a)) }
         ensures numbered { IfOk result (λ a. AskNumbered self.old self.new (Some a)) }
+        ensures done { (n : NodeData) → IsAt self.old.levels place.depth place.index n → OnOk result (self.new ≡ asked_at self.old place.depth place.index n) }
+        ensures asked_by { (n : NodeData) → IsAt self.old.levels place.depth place.index n → IfOk result (λ a. IsAskedBy self.old.form n.stage a.address) }
         ensures failed { OnErr result (self.new ≡ self.old) }
     {
         an_address_is_one();
@@ -106,6 +100,8 @@ impl Join {
     /// The place of the node that is to be started: the deepest, and of these the first.
     fn place_idle(&self) -> Option<Place>
         ensures some { IfSome result (λ p. Stands self.now.levels p.depth p.index × ((n : NodeData) → IsAt self.now.levels p.depth p.index n → (is_idle n ≡ true) × CanAsk n)) }
+        ensures deepest { IfSome result (λ p. (e : ℕ) → p.depth < e → All (λ n. is_idle n ≡ false) (level_at self.now.levels e)) }
+        ensures earliest { IfSome result (λ p. All (λ n. is_idle n ≡ false) (take p.index (level_at self.now.levels p.depth))) }
         ensures none { IfNone result (NoneIn is_idle self.now.levels) }
     {
         let count = self.levels.len();
@@ -212,6 +208,7 @@ impl Join {
         requires waits { (n : NodeData) → IsAt self.old.levels place.depth place.index n → waits_for ticket n ≡ Some Waits.Next }
         ensures taken { (w : World) → Suits w self.old → IsTrueFor w self.old ticket page.now → OnOk result (TakesPage w self.old self.new ticket) }
         ensures numbered { OnOk result (IsPermutation (tickets_out self.old) (ticket ∷ tickets_out self.new)) }
+        ensures turned { (n : NodeData) → IsAt self.old.levels place.depth place.index n → OnOk result (self.new ≡ walked_at self.old place.depth place.index n page.now) }
         ensures kept { self.new.tickets ≡ self.old.tickets }
         ensures failed { OnErr result (self.new ≡ self.old) }
     {
@@ -225,6 +222,7 @@ impl Join {
         requires full { (n : NodeData) → IsAt self.old.levels place.depth place.index n → is_full n ≡ true }
         ensures keeps { (w : World) → Suits w self.old → OnOk result (Keeps w self.old self.new × IsPermutation (out w self.old) (out w self.new)) }
         ensures numbered { OnOk result (IsPermutation (tickets_out self.old) (tickets_out self.new)) }
+        ensures turned { (n : NodeData) → IsAt self.old.levels place.depth place.index n → OnOk result (ChoosesAt self.old self.new place.depth place.index n) }
         ensures kept { self.new.tickets ≡ self.old.tickets }
         ensures failed { OnErr result (self.new ≡ self.old) }
     {
@@ -245,6 +243,7 @@ impl Join {
         requires waits { (n : NodeData) → IsAt self.old.levels place.depth place.index n → waits_for ticket n ≡ Some (Waits.First index) }
         ensures taken { (w : World) → Suits w self.old → IsTrueFor w self.old ticket page → OnOk result (TakesPage w self.old self.new ticket) }
         ensures numbered { OnOk result (IsPermutation (tickets_out self.old) (ticket ∷ tickets_out self.new)) }
+        ensures turned { (n : NodeData) → IsAt self.old.levels place.depth place.index n → OnOk result (TakesFirstAt self.old self.new place.depth place.index (with_first_at index (First.Got page) n)) }
         ensures kept { self.new.tickets ≡ self.old.tickets }
         ensures failed { OnErr result (self.new ≡ self.old) }
     {
@@ -282,6 +281,8 @@ impl Join {
         ensures begins { (w : World) → IsWorld w → HasForm w form → IfOk result (Begins w query.now.patterns (replicate (length query.now.names) None)) }
         ensures window { IfOk result (λ j. j.window ≡ window) }
         ensures longest { IfOk result (λ j. j.longest ≡ 1) }
+        ensures keeps { (homes : List Address) → HasHome homes form.template.start → IfOk result (KeepsTo (record { homes = homes; width = length query.now.names })) }
+        ensures small { IfOk result (IsKeptSmall (length query.now.patterns) 1) }
         ensures tickets { IfOk result (λ j. (j.tickets ≡ 0) × (tickets_out j ≡ [])) }
     {
         let mut waiting = Vec::new(alloc);
@@ -310,23 +311,39 @@ impl Join {
         count
     }
 
-    /// The next page to ask for, if there is one, under a ticket with a new number. There is none exactly where no started
-    /// node has a first page to hand out and either `window` nodes work or none may be started. Condition: fewer than
-    /// 2^64 - 1 tickets were given. It fails for want of memory alone, and then nothing changed.
+    /// The place of the node that asks next: one that was started and has a first page to hand out, or else, where fewer
+    /// than `window` nodes work, the deepest that may be started, and of these the earliest opened.
+    fn place_to_ask(&self) -> Option<Place>
+        ensures stands { IfSome result (λ p. Stands self.now.levels p.depth p.index) }
+        ensures some { IfSome result (λ p. (n : NodeData) → IsAt self.now.levels p.depth p.index n → CanAsk n × MayAsk self.now p.depth p.index n) }
+        ensures none { IfNone result (NothingToAsk self.now) }
+    {
+        if let Some(place) = self.place_with_ask() {
+            return Some(place);
+        }
+        if self.working() >= self.window as usize {
+            return None;
+        }
+        self.place_idle()
+    }
+
+    /// The next page to ask for, if there is one, under a ticket with a new number. A node that was started asks for the
+    /// first pages of its patterns one after another. Where none has one to ask for, the deepest node that may be started is
+    /// started, and of equal ones the earliest opened. There is none exactly where no started node has a first page to hand
+    /// out and either `window` nodes work or none may be started. Condition: fewer than 2^64 - 1 tickets were given. It fails
+    /// for want of memory alone, and then nothing changed.
     pub fn next_ask(&mut self, alloc: Global) -> Result<Option<Ask>, OutOfMemory>
         requires { self.old.tickets < 2 ^ 64 - 1 }
         ensures asks { (w : World) → Suits w self.old → IfOk result (AskDone w self.old self.new) }
         ensures numbered { IfOk result (AskNumbered self.old self.new) }
+        ensures starts { IfOk result (AskStarts self.old self.new) }
         ensures nothing { (result ≡ Ok None) → NothingToAsk self.old }
+        ensures keeps { (terms : Terms) → KeepsTo terms self.old → KeepsTo terms self.new }
+        ensures at_home { (terms : Terms) → KeepsTo terms self.old → IfOk result (AsksAtHome terms.homes) }
+        ensures small { (n m : ℕ) → IsKeptSmall n m self.old → IsKeptSmall n m self.new }
         ensures failed { OnErr result (self.new ≡ self.old) }
     {
-        if let Some(place) = self.place_with_ask() {
-            return Ok(Some(self.hand_out(alloc, place)?));
-        }
-        if self.working() >= self.window as usize {
-            return Ok(None);
-        }
-        let Some(place) = self.place_idle() else {
+        let Some(place) = self.place_to_ask() else {
             return Ok(None);
         };
         Ok(Some(self.hand_out(alloc, place)?))
@@ -344,7 +361,10 @@ impl Join {
         ensures taken { (w : World) → Suits w self.old → IsTrueFor w self.old ticket page → IfOk result (AnswerDone w self.old self.new ticket) }
         ensures numbered { IfOk result (AnswerNumbered self.old self.new ticket) }
         ensures stranger { (result ≡ Ok Answered.Stranger) → All (λ t. (t ≡ ticket) → ⊥) (tickets_out self.old) }
-        ensures kept { self.new.tickets ≡ self.old.tickets }
+        ensures keeps { (terms : Terms) → KeepsTo terms self.old → NextAtHome terms.homes page.next → KeepsTo terms self.new }
+        ensures small { (n m : ℕ) → IsKeptSmall n m self.old → length page.triples ≤ m → IsKeptSmall n m self.new }
+        ensures grows { WaitsMore self.old self.new }
+        ensures kept { (self.new.tickets ≡ self.old.tickets) × (self.new.longest ≡ self.old.longest) }
         ensures failed { OnErr result (self.new ≡ self.old) }
     {
         let Some(found) = self.find(ticket) else {
@@ -374,6 +394,10 @@ impl Join {
         ensures taken { (w : World) → Suits w self.old → IsTrueFor w self.old ticket page → IfOk result (AnswerDone w self.old self.new ticket) }
         ensures numbered { IfOk result (AnswerNumbered self.old self.new ticket) }
         ensures stranger { (result ≡ Ok Answered.Stranger) → All (λ t. (t ≡ ticket) → ⊥) (tickets_out self.old) }
+        ensures keeps { (terms : Terms) → KeepsTo terms self.old → NextAtHome terms.homes page.next → KeepsTo terms self.new }
+        ensures small { (n : ℕ) → IsKeptSmall n self.old.longest self.old → IsKeptSmall n self.new.longest self.new }
+        ensures grows { WaitsMore self.old self.new }
+        ensures longest { IfOk result (LongestAfter self.old.longest self.new.longest (length page.triples)) }
         ensures kept { self.new.tickets ≡ self.old.tickets }
         ensures failed { OnErr result (self.new ≡ self.old) }
     {
@@ -393,6 +417,10 @@ impl Join {
         ensures stays { MatchOption result (self.new ≡ self.old) (λ row. ⊤) }
         ensures row { (w : World) → Suits w self.old → MatchOption result ⊤ (GivesRow w self.old self.new) }
         ensures tickets { tickets_out self.new ≡ tickets_out self.old }
+        ensures one { MatchOption result ⊤ (λ row. length self.old.waiting ≡ length self.new.waiting + 1) }
+        ensures keeps { (terms : Terms) → KeepsTo terms self.old → KeepsTo terms self.new }
+        ensures width { (terms : Terms) → KeepsTo terms self.old → MatchOption result ⊤ (λ row. length row ≡ terms.width) }
+        ensures small { (n m : ℕ) → IsKeptSmall n m self.old → IsKeptSmall n m self.new }
         ensures kept { (self.new.tickets ≡ self.old.tickets) × (self.new.longest ≡ self.old.longest) }
     {
         self.waiting.pop()
@@ -400,7 +428,8 @@ impl Join {
 
     /// How many nodes are open. It takes no memory.
     pub fn open_rows(&self) -> usize
-        ensures { result ≡ min (length (nodes self.now.levels)) (2 ^ 64 - 1) }
+        ensures value { result ≡ min (length (nodes self.now.levels)) (2 ^ 64 - 1) }
+        ensures small { (n m : ℕ) → IsKeptSmall n m self.now → result ≤ 1 + (n - 1) * (m * self.now.window) }
     {
         let mut count: usize = 0;
         for level in &self.levels {
@@ -411,7 +440,8 @@ impl Join {
 
     /// Whether no node is open, no ticket is out and no row waits. It takes no memory.
     pub fn is_done(&self) -> bool
-        ensures { IsTrue result ↔ IsDone self.now }
+        ensures done { IsTrue result ↔ IsDone self.now }
+        ensures value { result ≡ is_over self.now }
     {
         self.waiting.is_empty() && self.open_rows() == 0
     }

@@ -1,9 +1,10 @@
 // The nodes of one depth.
-ghost use Rattle.std.specs.Prelude.{ℕ, ◌≡◌, ◌<◌, ◌≤◌, ◌++◌, List, [], length, IfOk, OnOk, OnErr, Option, Some, None, true, false, IfSome, IfNone, is_some, slice_set, slice_index_or, min, option_to_list, IsTrue};
+ghost use Rattle.std.specs.Prelude.{ℕ, ◌≡◌, ◌<◌, ◌≤◌, ◌++◌, List, [], length, IfOk, OnOk, OnErr, Option, Some, None, true, false, IfSome, IfNone, is_some, slice_set, slice_index_or, min, option_to_list, IsTrue, take};
 ghost use Rattle.std.specs.List.{All, remove, count_by};
 ghost use Rattle.join_core.specs.Nodes.{NodeData};
 ghost use Rattle.join_core.specs.Events.{CanAsk, asked, IsNextAddress, waits_for, with_first_at, is_full, IsFirstOf, opened_by, out_by, after_by, IsChosen, has_ask, is_idle, works};
 ghost use Rattle.join_core.specs.Joins.{settled};
+ghost use Rattle.join_core.specs.Sound.{IsAskedBy};
 
 use crate::first::First;
 use crate::node::{Made, Node, Waits};
@@ -65,6 +66,7 @@ impl Level {
         requires can_ask { (n : NodeData) → n ≡ slice_index_or self.old index n → CanAsk n }
         ensures done { (n : NodeData) → n ≡ slice_index_or self.old index n → OnOk result (self.new ≡ slice_set self.old index (asked ticket n)) }
         ensures address { (n : NodeData) → n ≡ slice_index_or self.old index n → IfOk result (λ a. IsNextAddress form.now n a) }
+        ensures asked_by { (n : NodeData) → n ≡ slice_index_or self.old index n → IfOk result (λ a. IsAskedBy form.now n.stage a) }
         ensures failed { OnErr result (self.new ≡ self.old) }
     {
         self.nodes[index].ask(alloc, form, ticket)
@@ -152,6 +154,7 @@ impl Level {
     /// The first node that may be started.
     pub(crate) fn first_idle(&self) -> Option<usize>
         ensures some { IfSome result (λ i. (i < length self.now) × ((n : NodeData) → n ≡ slice_index_or self.now i n → (is_idle n ≡ true) × CanAsk n)) }
+        ensures earliest { IfSome result (λ i. All (λ n. is_idle n ≡ false) (take i self.now)) }
         ensures none { IfNone result (All (λ n. is_idle n ≡ false) self.now) }
     {
         for index in 0..self.nodes.len() {

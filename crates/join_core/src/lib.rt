@@ -2,6 +2,8 @@
 #![tactic(auto)]
 
 mod choice;
+mod evaluates;
+mod evaluation;
 mod expand;
 mod first;
 mod join;
@@ -10,5 +12,6 @@ mod level;
 mod node;
 mod pattern_list;
 
-pub use join::{Answered, Ask, Join};
+pub use evaluation::{Answered, Ask, Evaluates};
+pub use join::Join;
 pub use laws::{a_run_asks_the_plan, a_run_gives_the_solutions};

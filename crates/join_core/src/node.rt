@@ -8,6 +8,8 @@ ghost use Rattle.control_reader.specs.declared.page.Page.{Page};
 ghost use Rattle.rdf_terms.specs.Askable.{askable};
 ghost use Rattle.tpf_base.specs.Addresses.{IsAddress};
 ghost use Rattle.template_fill.specs.Forms.{form_text};
+ghost use Rattle.template_fill.specs.Authorities.{ShareAuthority};
+ghost use Rattle.join_core.specs.Sound.{IsAskedBy};
 ghost use Rattle.join_core.specs.Nodes.{Stage, NodeData, all_askable, fresh, opened, put_out, is_got, count_of};
 ghost use Rattle.join_core.specs.Events.{CanAsk, asked, IsNextAddress, waits_for, first_waiting, with_first_at, is_full, next_walk, one_more};
 ghost use Rattle.join_core.specs.Events.{IsFirstOf, opened_by, out_by, after_by, IsChosen, has_ask, is_idle};
@@ -85,7 +87,8 @@ fn first_address(
     row: &Row,
 ) -> Result<WebAddress, OutOfMemory>
     requires { askable (instance pattern.now row.now) ≡ true }
-    ensures { IfOk result (λ a. IsAddress (form_text form.now (instance pattern.now row.now)) a) }
+    ensures address { IfOk result (λ a. IsAddress (form_text form.now (instance pattern.now row.now)) a) }
+    ensures authority { IfOk result (λ a. ShareAuthority form.now.template.start a) }
 {
     let slots = instance(alloc, pattern, row)?;
     form.address(alloc, &slots)
@@ -141,6 +144,7 @@ impl Node {
         requires { CanAsk self.old }
         ensures done { OnOk result (self.new ≡ asked ticket self.old) }
         ensures address { IfOk result (λ a. IsNextAddress form.now self.old a) }
+        ensures asked_by { IfOk result (λ a. IsAskedBy form.now self.old.stage a) }
         ensures failed { OnErr result (self.new ≡ self.old) }
     {
         match &mut self.progress {

@@ -22,3 +22,10 @@ returns-clause-numbered c =
     (λ e. subst (λ (j : JoinData). IsPermutation (tickets_out c.args.self.now) (tickets_out j)) (sym e)
     (chosen-tickets c.args.self.now c.args.place.depth c.args.place.index n.0 c.in_ok-made.made.opened.items c.in_ok-made.made.rows.items c.in_ok-made.made.after c.requires.stands n.1 (c.requires.full n.0 n.1) c.in_ok-made.ensures.idle))
     c.take_made.ensures.done
+
+pub returns-clause-turned : goal.returns-clause-turned
+returns-clause-turned c = λ n at.
+    let here : n ≡ get_or c.index.result.now c.args.place.index n = level-at _ c.args.self.now c.args.place.depth c.args.place.index c.index.result.now n c.self.view_is c.requires.stands c.index.ensures at in
+    on_ok_weaker c.take_made.result
+    (λ e. record { made = c.in_ok-made.made.opened.items; rows = c.in_ok-made.made.rows.items; after = c.in_ok-made.made.after; chosen = c.in_ok-made.ensures.chosen n here; done = e })
+    c.take_made.ensures.done

@@ -1,11 +1,11 @@
-use Rattle.std.proofs.Common.{◌≡◌, length, ap, sym, subst, ◌∙◌, arith}
+use Rattle.std.proofs.Common.{◌≡◌, inl, inr, false, true, length, ap, sym, subst, ◌∙◌, arith}
 use Rattle.join_core.specs.declared.first.First.TheVariants.{Got}
 use Rattle.join_core.specs.Nodes.{NodeData}
-use Rattle.join_core.specs.Events.{with_first_at, IsFirstOf}
+use Rattle.join_core.specs.Events.{with_first_at, IsFirstOf, is_full}
 use Rattle.join_core.specs.Joins.{JoinData, Stands, IsAt, TakesPage}
 use Rattle.join_core.proofs.Taken.{node-at}
 use Rattle.join_core.proofs.Marks.{first-place, first-place-again}
-use Rattle.join_core.proofs.Promises.{held_at, held-stands, held-is, first-taken, first-gone, gone-then, put-back-at, TakesPage-Keeps, within-level, level-at}
+use Rattle.join_core.proofs.Promises.{held_at, held-stands, held-is, first-taken, first-gone, gone-then, put-back-at, TakesPage-Keeps, within-level, level-at, held-there, chosen-over}
 use Rattle.join_core.proofs.join.Join.take_first.Goals as goal
 
 pub set_first-requires-clause-first : goal.set_first-requires-clause-first
@@ -159,3 +159,27 @@ returns-in-Err-clause-kept c =
     let waits = c.requires.waits n.0 n.1 in
     let mid : c.set_first.new.self ≡ held_at old d i (with_first_at c.args.index (Got c.args.page) n.0) = c.set_first.ensures n.0 n.1 in
     ap (λ (j : JoinData). j.tickets) (put-back-at old c.choose.new.self c.set_first-in-Err.new.self d i c.args.index n.0 c.args.ticket c.args.page c.requires.stands n.1 waits (c.in-Err.ensures.failed ∙ mid) (λ m at. c.set_first-in-Err.ensures m at))
+
+pub returns-then-not-is_full_at-clause-turned : goal.returns-then-not-is_full_at-clause-turned
+returns-then-not-is_full_at-clause-turned c = λ n at.
+    let old = c.args.self.now in
+    let d = c.args.place.depth in
+    let i = c.args.place.index in
+    let x = with_first_at c.args.index (Got c.args.page) n in
+    let mid : c.set_first.new.self ≡ held_at old d i x = c.set_first.ensures n at in
+    let s : Stands c.set_first.new.self.levels d i = subst (λ (j : JoinData). Stands j.levels d i) (sym mid) (held-stands old d i x c.requires.stands) in
+    let there : IsAt c.set_first.new.self.levels d i x = subst (λ (j : JoinData). IsAt j.levels d i x) (sym mid) (held-there old d i x c.requires.stands) in
+    let told = c.is_full_at.ensures x (level-at _ c.set_first.new.self d i c.index.result.now x c.self.view_is s c.index.ensures there) in
+    inl (sym told ∙ c.if-not-is_full_at.true, mid)
+
+pub returns-in-Ok-clause-turned : goal.returns-in-Ok-clause-turned
+returns-in-Ok-clause-turned c = λ n at.
+    let old = c.args.self.now in
+    let d = c.args.place.depth in
+    let i = c.args.place.index in
+    let x = with_first_at c.args.index (Got c.args.page) n in
+    let mid : c.set_first.new.self ≡ held_at old d i x = c.set_first.ensures n at in
+    let s : Stands c.set_first.new.self.levels d i = subst (λ (j : JoinData). Stands j.levels d i) (sym mid) (held-stands old d i x c.requires.stands) in
+    let there : IsAt c.set_first.new.self.levels d i x = subst (λ (j : JoinData). IsAt j.levels d i x) (sym mid) (held-there old d i x c.requires.stands) in
+    let told = c.is_full_at.ensures x (level-at _ c.set_first.new.self d i c.index.result.now x c.self.view_is s c.index.ensures there) in
+    inr (sym told ∙ c.if-not-is_full_at.false, chosen-over old c.set_first.new.self c.choose.new.self d i x c.requires.stands mid (λ m a. c.in-Ok.ensures.turned m a))

@@ -1,0 +1,73 @@
+-- What a join keeps, whatever pages came.
+use Rattle.std.specs.Prelude.{ℕ, suc, ◌≡◌, ◌+◌, ◌<◌, ◌≤◌, true, List, [], length, Option, Some, None}
+use Rattle.std.specs.List.{All}
+use Rattle.tpf_base.specs.Addresses.{Address}
+use Rattle.bgp_core.specs.declared.pattern.Pattern.{Pattern}
+use Rattle.bgp_core.specs.Solutions.{Places}
+use Rattle.template_fill.specs.declared.form.Form.{Form}
+use Rattle.template_fill.specs.Authorities.{ShareAuthority}
+use Rattle.join_core.specs.declared.first.First.{First}
+use Rattle.join_core.specs.declared.first.First.TheVariants.{Out, Got}
+use Rattle.join_core.specs.Nodes.{Stage, NodeData, AsksRightly}
+use Rattle.join_core.specs.Nodes.Stage.{Asking, Walking}
+use Rattle.join_core.specs.Events.{is_full}
+use Rattle.join_core.specs.Joins.{JoinData, nodes, tickets_out, NoneIn, open_at, level_at, IsBounded}
+use Rattle.join_core.specs.Evaluations.{Terms, HasHome, NextAtHome}
+
+-- the next page of a page that is held has one of the authorities
+abbrev pub FirstAtHome : List Address → First → Type 0
+FirstAtHome homes (Out ticket) = Unit {0}
+FirstAtHome homes (Got page) = NextAtHome homes page.next
+
+abbrev pub StageAtHome : List Address → Stage → Type 0
+StageAtHome homes (Asking firsts) = All (FirstAtHome homes) firsts
+StageAtHome homes (Walking p k next out) = HasHome homes next
+
+-- the address of an ask comes of the form, or is that of the next page
+abbrev pub IsAskedBy : Form → Stage → Address → Type 0
+IsAskedBy form (Asking firsts) address = ShareAuthority form.template.start address
+IsAskedBy form (Walking p k next out) address = address ≡ next
+
+pub record KeepsNode (terms : Terms) (n : NodeData) : Type 0 where
+  pub width : length n.row ≡ terms.width
+  pub home : StageAtHome terms.homes n.stage
+  pub asking : AsksRightly n.row n.rest n.stage
+
+-- asks keep to the authorities and rows to the places, no node holds all first pages, since it then chose, and tickets are
+-- below the next one
+pub record KeepsTo (terms : Terms) (j : JoinData) : Type 0 where
+  pub window : 1 ≤ j.window
+  pub form : HasHome terms.homes j.form.template.start
+  pub nodes : All (KeepsNode terms) (nodes j.levels)
+  pub not_full : NoneIn is_full j.levels
+  pub rows : All (λ row. length row ≡ terms.width) j.waiting
+  pub tickets : All (λ t. t < j.tickets) (tickets_out j)
+
+-- ---- the bound on open nodes
+
+-- the pages that are held have at most m triples
+abbrev pub FirstAtMost : ℕ → First → Type 0
+FirstAtMost m (Out ticket) = Unit {0}
+FirstAtMost m (Got page) = length page.triples ≤ m
+
+abbrev pub StageAtMost : ℕ → Stage → Type 0
+StageAtMost m (Asking firsts) = All (FirstAtMost m) firsts
+StageAtMost m (Walking p k next out) = Unit {0}
+
+-- how many patterns have still to be matched
+abbrev pub unmatched : List Pattern → Stage → ℕ
+unmatched rest (Asking firsts) = length rest
+unmatched rest (Walking p k next out) = suc (length rest)
+
+-- with n patterns, a node of depth d has n - d of them to match, and at least one
+abbrev pub IsOfDepth : ℕ → ℕ → NodeData → Type 0
+IsOfDepth n d x = (unmatched x.rest x.stage + d ≡ n) × (d < n)
+
+-- of n patterns, with pages of at most m triples: one node at most at the top, each node at the depth of its patterns, and
+-- the bound for each depth
+pub record IsKeptSmall (n m : ℕ) (j : JoinData) : Type 0 where
+  pub some : 0 < m
+  pub bounded : IsBounded m j.window j.levels
+  pub held : All (λ x. StageAtMost m x.stage) (nodes j.levels)
+  pub root : open_at j.levels 0 ≤ 1
+  pub depths : (d : ℕ) → All (IsOfDepth n d) (level_at j.levels d)

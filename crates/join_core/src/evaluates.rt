@@ -1,0 +1,49 @@
+// A join is an evaluation.
+ghost use Rattle.join_core.specs.Worlds.{World, IsPageAt};
+ghost use Rattle.join_core.specs.Joins.{Suits};
+ghost use Rattle.join_core.specs.Sound.{KeepsTo};
+ghost use Rattle.join_core.specs.JoinAccounts.{account_of, standing_of};
+ghost use Rattle.join_core.specs.JoinLaws.{done-owes-nothing, done-is-quiet, tickets-are-below};
+
+use crate::evaluation::{Answered, Ask, Evaluates};
+use crate::join::Join;
+use bgp_core::Row;
+use control_reader::Page;
+use std::alloc::Global;
+use tpf_base::OutOfMemory;
+
+impl Evaluates for Join {
+    ghost Source = { World };
+
+    ghost is_true = { IsPageAt };
+
+    ghost suits = { Suits };
+
+    ghost account = { account_of };
+
+    ghost standing = { standing_of };
+
+    ghost keeps_to = { KeepsTo };
+
+    fn next_ask(&mut self, alloc: Global) -> Result<Option<Ask>, OutOfMemory> {
+        Join::next_ask(self, alloc)
+    }
+
+    fn answer(&mut self, alloc: Global, ticket: u64, page: Page) -> Result<Answered, OutOfMemory> {
+        Join::answer(self, alloc, ticket, page)
+    }
+
+    fn take_row(&mut self) -> Option<Row> {
+        Join::take_row(self)
+    }
+
+    fn is_done(&self) -> bool {
+        Join::is_done(self)
+    }
+
+    ghost done_owes_nothing = { done-owes-nothing };
+
+    ghost done_is_quiet = { done-is-quiet };
+
+    ghost tickets_are_below = { tickets-are-below };
+}

@@ -1,0 +1,97 @@
+// Evaluations of a query.
+ghost use Rattle.std.specs.Prelude.{ℕ, ◌≡◌, ◌<◌, ◌^◌, ◌-◌, ⊤, true, List, [], length, Ok, None, IfOk, OnOk, OnErr, MatchOption};
+ghost use Rattle.std.specs.List.{All, Contains};
+ghost use Rattle.tpf_base.specs.Addresses.{Address};
+ghost use Rattle.control_reader.specs.declared.page.Page.{Page};
+ghost use Rattle.join_core.specs.Evaluations.{Account, nothing, GivesOwed, OwesAfterAsk, OwesAfterAnswer, Standing, TakesOne, StandsAfterAsk, StandsAfterAnswer, EndsInQuiet, Terms, AsksAtHome, NextAtHome};
+
+use bgp_core::Row;
+use control_reader::Page;
+use std::alloc::Global;
+use template_fill::WebAddress;
+use tpf_base::OutOfMemory;
+
+/// A page to ask for, and the ticket under which it is to be answered.
+#[derive(Debug, Drop)]
+pub struct Ask {
+    pub ticket: u64,
+    pub address: WebAddress,
+}
+
+/// What became of a page: it was taken, or its ticket is not out.
+#[derive(Clone, Copy, Debug, PartialEq, Eq)]
+pub enum Answered {
+    Taken,
+    Stranger,
+}
+
+/// An evaluation of a query over the pages of one or several servers: it hands out the addresses of
+/// pages, takes the pages that come, in any order, and gives rows.
+///
+/// Where all pages are true for one source, the rows given and those still owed are together what was
+/// owed at first, and the same holds of the addresses handed out and those that are left. Whatever
+/// pages come, tickets are new numbers, every ask has one of the authorities that were agreed, a row
+/// has a place for every name, and with no ticket out and no row waiting the evaluation is done.
+pub trait Evaluates {
+    /// What the other ends have, such as the data of a server and the addresses of its pages.
+    ghost Source: { Type 0 };
+
+    /// A page is what a source has at an address.
+    ghost is_true: { Self.Source → Address → Page → Type 0 };
+
+    /// All that the evaluation holds is true for a source.
+    ghost suits: { Self.Source → Self → Type 0 };
+
+    /// What is owed and left to ask, for a source that it suits.
+    ghost account: { Self.Source → Self → Account };
+
+    /// What it shows.
+    ghost standing: { Self → Standing };
+
+    /// It keeps to the authorities and the places.
+    ghost keeps_to: { Terms → Self → Type 0 };
+
+    /// The next page to ask for, if there is one now, under a ticket with a new number. Condition: fewer
+    /// than 2^64 - 1 tickets were given. It fails for want of memory alone, and then nothing changed.
+    fn next_ask(&mut self, alloc: Global) -> Result<Option<Ask>, OutOfMemory>
+        requires { (standing self.old).given < 2 ^ 64 - 1 }
+        ensures suits { (source : Self.Source) → suits source self.old → suits source self.new }
+        ensures owes { (source : Self.Source) → suits source self.old → IfOk result (OwesAfterAsk (account source self.old) (account source self.new)) }
+        ensures stands { IfOk result (StandsAfterAsk (standing self.old) (standing self.new)) }
+        ensures keeps { (terms : Terms) → keeps_to terms self.old → keeps_to terms self.new }
+        ensures at_home { (terms : Terms) → keeps_to terms self.old → IfOk result (AsksAtHome terms.homes) }
+        ensures quiet { (terms : Terms) → keeps_to terms self.old → (result ≡ Ok None) → EndsInQuiet (standing self.old) }
+        ensures failed { OnErr result (self.new ≡ self.old) };
+
+    /// Takes the page that was asked for under a ticket. `Stranger` exactly where the ticket is not out;
+    /// then nothing changes. It fails for want of memory alone, and then nothing changed but that the
+    /// page is gone.
+    fn answer(&mut self, alloc: Global, ticket: u64, page: Page) -> Result<Answered, OutOfMemory>
+        ensures suits { (source : Self.Source) → suits source self.old → ((address : Address) → Contains (account source self.old).out (ticket, address) → is_true source address page) → suits source self.new }
+        ensures owes { (source : Self.Source) → suits source self.old → ((address : Address) → Contains (account source self.old).out (ticket, address) → is_true source address page) → IfOk result (OwesAfterAnswer (account source self.old) (account source self.new) ticket) }
+        ensures stands { IfOk result (StandsAfterAnswer (standing self.old) (standing self.new) ticket) }
+        ensures keeps { (terms : Terms) → keeps_to terms self.old → NextAtHome terms.homes page.next → keeps_to terms self.new }
+        ensures failed { OnErr result (self.new ≡ self.old) };
+
+    /// Takes a row that waits; `None` exactly where none does. It takes no memory.
+    fn take_row(&mut self) -> Option<Row>
+        ensures none { MatchOption result ((standing self.old).waiting ≡ 0) (λ row. TakesOne (standing self.old) (standing self.new)) }
+        ensures unchanged { MatchOption result (self.new ≡ self.old) (λ row. ⊤) }
+        ensures suits { (source : Self.Source) → suits source self.old → suits source self.new }
+        ensures owes { (source : Self.Source) → suits source self.old → MatchOption result ⊤ (GivesOwed (account source self.old) (account source self.new)) }
+        ensures keeps { (terms : Terms) → keeps_to terms self.old → keeps_to terms self.new }
+        ensures width { (terms : Terms) → keeps_to terms self.old → MatchOption result ⊤ (λ row. length row ≡ terms.width) };
+
+    /// Whether nothing is left to ask, no ticket is out and no row waits. It takes no memory.
+    fn is_done(&self) -> bool
+        ensures { result ≡ (standing self.now).done };
+
+    /// Where it is done, nothing is owed.
+    ghost done_owes_nothing: { (source : Self.Source) (evaluation : Self) → suits source evaluation → (standing evaluation).done ≡ true → account source evaluation ≡ nothing };
+
+    /// Where it is done, no ticket is out and no row waits.
+    ghost done_is_quiet: { (evaluation : Self) → (standing evaluation).done ≡ true → ((standing evaluation).out ≡ []) × ((standing evaluation).waiting ≡ 0) };
+
+    /// Each ticket that is out has a number below that of the next.
+    ghost tickets_are_below: { (terms : Terms) (evaluation : Self) → keeps_to terms evaluation → All (λ ticket. ticket < (standing evaluation).given) (standing evaluation).out };
+}
