@@ -4,7 +4,7 @@ use Rattle.std.specs.Prelude.{Result, Ok, Err, OnOk, is_ok, ⊤}
 use Rattle.std.specs.List.{AllByRecursion}
 use Rattle.connections.specs.Marks.{Mark, version_at}
 use Rattle.tpf_base.specs.Causes.{Rose}
-use Rattle.tpf_base.specs.Links.{Link, WireState}
+use Rattle.tpf_base.specs.Links.{WireState}
 use Rattle.tpf_base.specs.Calls.{OnlyOn}
 use Rattle.connections.specs.Versions.{Serving, IsHistory, MOST_VERSIONS}
 use Rattle.connections.specs.Kinds.{Kind, Grows, Reloads, Fills, mark_of, numbers_of}
@@ -20,6 +20,7 @@ use Rattle.serve_loop.proofs.RelatesLemmas.{here, stays_live}
 use Rattle.serve_loop.proofs.StepLemmas.{goes_on}
 use Rattle.serve_loop.proofs.ReloadLemmas.{talk_answered, rising_last}
 use Rattle.serve_loop.proofs.PrepareLemmas.{relates_took, relates_none}
+use Rattle.serve_loop.proofs.EndsLemmas.{ends_none}
 
 only_same : (k : ℕ) (a : WireState) → OnlyOn k a a
 only_same k a = record { others = λ j h. refl; later = omega arith; given = refl; provoked = refl; dials = refl; waits = refl; listens = refl; door_stalls = refl; nature = refl }
@@ -31,12 +32,12 @@ pub on_ok : {E : Type 0} (r : Result ⊤ E) (P : Type 0) → OnOk r P → is_ok 
 on_ok (Ok x) P h e = h
 on_ok (Err x) P h e = absurd cc
 
-pub supplies_up : (may : Data → Type 0) (outcome : Reloaded) (old now : Moment Data Settings) → Supplies may outcome old now → old.served.version ≤ now.served.version
-supplies_up may (outcomes.Version v) old now s = let x = s.version v refl in omega (arith, ap (λ (y : Serving Data Settings). y.version) x.1.2, x.1.1)
-supplies_up may outcomes.Failed old now s = let n = s.none (λ v e. cc) in omega (arith, ap (λ (y : Serving Data Settings). y.version) n.1)
-supplies_up may outcomes.OutOfMemory old now s = let n = s.none (λ v e. cc) in omega (arith, ap (λ (y : Serving Data Settings). y.version) n.1)
+pub supplies_up : {Data Settings : Type 0} (may : Data → Type 0) (outcome : Reloaded) (old now : Moment Data Settings) → Supplies may outcome old now → old.served.version ≤ now.served.version
+supplies_up {Data = Data} {Settings = Settings} may (outcomes.Version v) old now s = let x = s.version v refl in omega (arith, ap (λ (y : Serving Data Settings). y.version) x.1.2, x.1.1)
+supplies_up {Data = Data} {Settings = Settings} may outcomes.Failed old now s = let n = s.none (λ v e. cc) in omega (arith, ap (λ (y : Serving Data Settings). y.version) n.1)
+supplies_up {Data = Data} {Settings = Settings} may outcomes.OutOfMemory old now s = let n = s.none (λ v e. cc) in omega (arith, ap (λ (y : Serving Data Settings). y.version) n.1)
 
-module _ {C Data Settings : Type 0} where
+module _ {C : Type 0} where
   goes_lower : (low high : ℕ) (x y : Talk C) → low ≤ high → GoesOn high x y → GoesOn low x y
   goes_lower low high x y h g = record {
     later = g.later; marks = g.marks;
@@ -44,6 +45,7 @@ module _ {C Data Settings : Type 0} where
     piece = g.piece; fed = g.fed; part = g.part; taken = g.taken;
   }
 
+module _ {C Data Settings : Type 0} where
   -- what was found of the link's talk after the answer
   abbrev pub Answered : Kind C Data Settings → Moment Data Settings → List Data → (ℕ → ℕ) → Moment Data Settings → ℕ → C → Talk C → Type 0
   Answered kind since history owner now k new old = (talk : Talk C) × (IsTalk kind since history owner now k talk × GoesOn now.served.version old talk × (talk.connection ≡ new) × (talk.over ≡ 0) × (talk.unfed ≡ []))
@@ -51,14 +53,13 @@ module _ {C Data Settings : Type 0} where
   -- the relation with the talk after the answer
   keeps : (kind : Kind C Data Settings) (may : Data → Type 0) (first : List Data) (since : Moment Data Settings) (t u : Traffic C Data) (at : ℕ → Option (Live C)) (len : ℕ) (served served' : Serving Data Settings) (faults faults' : ℕ) (left left' : Option (List Data)) (w : WireState)
       (key : ℕ) (l l' : Live C) (old : Talk C) → Relates kind may first since u at len (moment served' faults' left' w) → at key ≡ Some l → l'.link ≡ l.link → (w.links l.link).is_open ≡ true
-      → served.version ≤ served'.version → u.talks ≡ t.talks → ended u ≡ ended t → length u.starved ≡ length t.starved → t.talks l.link ≡ Some old
+      → served.version ≤ served'.version → u.talks ≡ t.talks → u.ordered ≡ t.ordered → u.broken ≡ t.broken → u.starved ≡ t.starved → t.talks l.link ≡ Some old
       → Answered kind since u.history u.owner (moment served' faults' left' w) l.link l'.connection old
       → Keeps kind may first since t at len key l' (moment served faults left w) (moment served' faults' left' w)
-  keeps kind may first since t u at len served served' faults faults' left left' w key l l' old r found link is_open up talks ends starved old_is a = record {
+  keeps kind may first since t u at len served served' faults faults' left left' w key l l' old r found link is_open up talks ordered broken starved old_is a = record {
     traffic = record u { talks = updated u.talks l.link (Some a.0) };
     relates = stays_live kind may first since u at len served' faults' left' w w key l l' a.0 r found link (only_same l.link w) is_open a.1.0 a.1.2 a.1.3 a.1.4;
-    count = ends;
-    starved = starved;
+    ends = ends_none t (record u { talks = updated u.talks l.link (Some a.0) }) w.faults w.faults ordered broken starved (omega arith);
     goes_on = λ k. subst (λ (f : ℕ → Option (Talk C)). GoesOnAt served.version (t.talks k) (updated f l.link (Some a.0) k)) (sym talks)
         (goes_on served.version t.talks l.link old a.0 old_is (goes_lower served.version served'.version old a.0 up a.1.1) k);
   }
@@ -99,7 +100,7 @@ module _ {C Data Settings : Type 0} where
       (λ fed taken marks p. talk_answered kind since history owner (moment served' faults' left' w) l.link (outcomes.Version v) l.connection l'.connection fed taken marks u.versions.serves reloads tt (one, tt) (rising_last _ v p.0.rising p.1) p.0)
       (a, below) in
       keeps kind may first since t (record t { history = history; given = t.given ++ s.added; owner = owner }) at len served served' faults faults' left left' w key l l' old.talk u found link old.is_open
-      (omega (arith, version)) refl refl refl old.talk_is answer
+      (omega (arith, version)) refl refl refl refl old.talk_is answer
 
   -- the outcome was no version: the server is as it was
   answered_same : (kind : Kind C Data Settings) (may : Data → Type 0) (first : List Data) (since : Moment Data Settings) (t : Traffic C Data) (at : ℕ → Option (Live C)) (len : ℕ) (served : Serving Data Settings) (faults faults' : ℕ) (left left' : Option (List Data)) (w : WireState)
@@ -121,7 +122,7 @@ module _ {C Data Settings : Type 0} where
       (subst (λ (ns : List ℕ). IsRising (kind.reloads served.config fed marks ++ ns)) (sym nothing) (subst (λ (ns : List ℕ). IsRising ns) (sym (append-nil _)) p.rising)) p)
       a in
       keeps kind may first since t (record t { given = t.given ++ added }) at len served served faults faults' left left' w key l l' old.talk u found link old.is_open
-      (omega arith) refl refl refl old.talk_is answer
+      (omega arith) refl refl refl refl old.talk_is answer
 
   -- whatever the outcome
   pub answered : (kind : Kind C Data Settings) → Grows kind → (may : Data → Type 0) (first : List Data) (since : Moment Data Settings) (t : Traffic C Data) (at : ℕ → Option (Live C)) (len : ℕ) (served served' : Serving Data Settings) (faults faults' : ℕ) (left left' : Option (List Data)) (w : WireState)
@@ -135,7 +136,7 @@ module _ {C Data Settings : Type 0} where
       let n = s.none (λ v e. cc) in
       subst (λ (y : Serving Data Settings). Keeps kind may first since t at len key l' (moment served faults left w) (moment y faults' left' w)) (sym n.1)
       (answered_same kind may first since t at len served faults faults' left left' w key l l' outcomes.Failed s.added r found link n.0 s.left s.faults
-      (excused_now since.faults faults faults' served.version r.versions.faults (s.failed refl)) refl
+      (excused_now since.faults faults faults' served.version r.versions.faults (s.failed refl).1) refl
       (subst (λ (y : Serving Data Settings). Reloads kind y outcomes.Failed l.connection l'.connection) n.1 reloads))
   answered kind grows may first since t at len served served' faults faults' left left' w key l l' outcomes.OutOfMemory r found link s reloads =
       let n = s.none (λ v e. cc) in
@@ -154,7 +155,7 @@ module _ {C Data Settings : Type 0} where
       let a = subst (λ (y : Talk C). IsTalk kind since t.history t.owner (moment served faults' left' w) l.link y) (some_same (t.talks l.link) after.talk old.talk after.talk_is old.talk_is) after.is in
       subst (λ (y : Serving Data Settings). Keeps kind may first since t at len key l (moment served faults left w) (moment y faults' left' w)) (sym same)
       (keeps kind may first since t (record t { given = t.given ++ added }) at len served served faults faults' left left' w key l l old.talk u found refl old.is_open
-      (omega arith) refl refl refl old.talk_is (old.talk, (a, goes_nowhere served.version old.talk, old.connection, old.over, old.unfed)))
+      (omega arith) refl refl refl refl old.talk_is (old.talk, (a, goes_nowhere served.version old.talk, old.connection, old.over, old.unfed)))
 
   -- memory was wanting for the answer: the connection is as it was before it
   pub unanswered : (kind : Kind C Data Settings) → Grows kind → (may : Data → Type 0) (first : List Data) (since : Moment Data Settings) (t : Traffic C Data) (at : ℕ → Option (Live C)) (len : ℕ) (served served' : Serving Data Settings) (faults faults' : ℕ) (left left' : Option (List Data)) (w : WireState)
@@ -170,7 +171,7 @@ module _ {C Data Settings : Type 0} where
       let after = u.talks l.link old.later old.given in
       let a = subst (λ (y : Talk C). IsTalk kind since (t.history ++ x.0 ∷ []) (updated t.owner (served.version + 1) l.link) (moment served' faults' left' w) l.link y) (some_same (t.talks l.link) after.talk old.talk after.talk_is old.talk_is) after.is in
       keeps kind may first since t (record t { history = t.history ++ x.0 ∷ []; given = t.given ++ s.added; owner = updated t.owner (served.version + 1) l.link }) at len served served' faults faults' left left' w key l l old.talk u found refl old.is_open
-      (omega (arith, version)) refl refl refl old.talk_is (old.talk, (a, goes_nowhere served'.version old.talk, old.connection, old.over, old.unfed))
+      (omega (arith, version)) refl refl refl refl old.talk_is (old.talk, (a, goes_nowhere served'.version old.talk, old.connection, old.over, old.unfed))
   unanswered kind grows may first since t at len served served' faults faults' left left' w key l outcomes.Failed r found s = let n = s.none (λ v e. cc) in
       unanswered_same kind may first since t at len served served' faults faults' left left' w key l s.added r found n.0 n.1 s.left s.faults
   unanswered kind grows may first since t at len served served' faults faults' left left' w key l outcomes.OutOfMemory r found s = let n = s.none (λ v e. cc) in
@@ -219,7 +220,7 @@ module _ {C Data Settings : Type 0} where
       record { later = []; marks = sym (append-nil _); not_below = tt; piece = []; fed = sym (append-nil _); part = []; taken = sym (append-nil _) },
       refl, refl, refl)))
       a in
-      keeps kind may first since t t at len served served faults faults left left w key l l' old.talk r found link old.is_open (omega arith) refl refl refl old.talk_is answer
+      keeps kind may first since t t at len served served faults faults left left w key l l' old.talk r found link old.is_open (omega arith) refl refl refl refl old.talk_is answer
 
   -- the connection is as it was
   pub kept : (kind : Kind C Data Settings) (may : Data → Type 0) (first : List Data) (since : Moment Data Settings) (t : Traffic C Data) (at : ℕ → Option (Live C)) (len : ℕ) (served : Serving Data Settings) (faults : ℕ) (left : Option (List Data)) (w : WireState)
@@ -229,7 +230,7 @@ module _ {C Data Settings : Type 0} where
       let old = r.lives key l found in
       let here = r.talks l.link old.later old.given in
       let a = subst (λ (y : Talk C). IsTalk kind since t.history t.owner (moment served faults left w) l.link y) (some_same (t.talks l.link) here.talk old.talk here.talk_is old.talk_is) here.is in
-      keeps kind may first since t t at len served served faults faults left left w key l l old.talk r found refl old.is_open (omega arith) refl refl refl old.talk_is
+      keeps kind may first since t t at len served served faults faults left left w key l l old.talk r found refl old.is_open (omega arith) refl refl refl refl old.talk_is
       (old.talk, (a, goes_nowhere served.version old.talk, old.connection, old.over, old.unfed))
 
   -- making bytes as a whole

@@ -10,26 +10,13 @@ use Rattle.serve_loop.specs.Relates.{Relates}
 use Rattle.serve_loop.specs.Steps.{GoesOn, GoesOnAt, Keeps, Prepares}
 use Rattle.serve_loop.proofs.TalkLemmas.{all_append, all_as}
 use Rattle.serve_loop.proofs.RelatesLemmas.{here, there, same_or}
+use Rattle.serve_loop.proofs.EndsLemmas.{ends_then}
 
 pub err_false : {E : Type 0} (r : Result ⊤ E) → IsErr r → false ≡ is_ok r
 err_false (Ok x) h = h
 err_false (Err x) h = refl
 
-module _ {C Data Settings : Type 0} where
-  -- the relation looks at the slab key by key
-  pub relates_same : (kind : Kind C Data Settings) (may : Data → Type 0) (first : List Data) (since : Moment Data Settings) (t : Traffic C Data) (at at' : ℕ → Option (Live C)) (len : ℕ) (now : Moment Data Settings)
-      → ((key : ℕ) → at' key ≡ at key) → Relates kind may first since t at len now → Relates kind may first since t at' len now
-  relates_same kind may first since t at at' len now e r = record {
-    versions = r.versions;
-    lives = λ key l h. r.lives key l (sym (e key) ∙ h);
-    alone = λ i j a b h g l. r.alone i j a b (sym (e i) ∙ h) (sym (e j) ∙ g) l;
-    talks = r.talks;
-    owned = λ k later given is_open. let o = r.owned k later given is_open in record { key = o.key; live = o.live; found = e o.key ∙ o.found; link = o.link };
-    older = r.older;
-    count = r.count;
-    ends = r.ends;
-  }
-
+module _ {C : Type 0} where
   goes_then : (low high : ℕ) (x y z : Talk C) → low ≤ high → GoesOn low x y → GoesOn high y z → GoesOn low x z
   goes_then low high x y z h p q = record {
     later = p.later ++ q.later;
@@ -57,6 +44,22 @@ module _ {C Data Settings : Type 0} where
     | inr n ↦ there at key b k n ∙ sym (there at key a k n) ∙ sym (there (updated at key a) key b k n)
   ]
 
+module _ {C Data Settings : Type 0} where
+  -- the relation looks at the slab key by key
+  pub relates_same : (kind : Kind C Data Settings) (may : Data → Type 0) (first : List Data) (since : Moment Data Settings) (t : Traffic C Data) (at at' : ℕ → Option (Live C)) (len : ℕ) (now : Moment Data Settings)
+      → ((key : ℕ) → at' key ≡ at key) → Relates kind may first since t at len now → Relates kind may first since t at' len now
+  relates_same kind may first since t at at' len now e r = record {
+    versions = r.versions;
+    lives = λ key l h. r.lives key l (sym (e key) ∙ h);
+    alone = λ i j a b h g l. r.alone i j a b (sym (e i) ∙ h) (sym (e j) ∙ g) l;
+    talks = r.talks;
+    unseen = r.unseen;
+    owned = λ k later given is_open. let o = r.owned k later given is_open in record { key = o.key; live = o.live; found = e o.key ∙ o.found; link = o.link };
+    older = r.older;
+    count = r.count;
+    ends = r.ends;
+  }
+
   -- two parts of a step
   pub keeps_then : (kind : Kind C Data Settings) (may : Data → Type 0) (first : List Data) (since : Moment Data Settings) (t : Traffic C Data) (at : ℕ → Option (Live C)) (len key : ℕ) (l m : Live C) (old mid now : Moment Data Settings)
       → old.served.version ≤ mid.served.version → (p : Keeps kind may first since t at len key l old mid)
@@ -65,8 +68,7 @@ module _ {C Data Settings : Type 0} where
   keeps_then kind may first since t at len key l m old mid now up p q = record {
     traffic = q.traffic;
     relates = relates_same kind may first since q.traffic (updated (updated at key (Some l)) key (Some m)) (updated at key (Some m)) len now (updated_twice at key (Some l) (Some m)) q.relates;
-    count = q.count ∙ p.count;
-    starved = q.starved ∙ p.starved;
+    ends = ends_then t p.traffic q.traffic 0 0 0 0 old.wire.faults mid.wire.faults now.wire.faults p.ends q.ends;
     goes_on = λ k. goes_on_then old.served.version mid.served.version (t.talks k) (p.traffic.talks k) (q.traffic.talks k) up (p.goes_on k) (q.goes_on k);
   }
 

@@ -2,7 +2,7 @@
 use Rattle.std.proofs.Common.{ℕ, ◌≡◌, ◌≢◌, ◌+◌, ◌<◌, ◌≤◌, ◌⊎◌, inl, inr, ◌++◌, List, [], ◌∷◌, length, take, Option, Some, None, Bool, true, false, refl, sym, ◌∙◌, ap, subst, arith, append-nil}
 use Rattle.std.specs.List.{AllByRecursion}
 use Rattle.connections.specs.Marks.{Mark}
-use Rattle.tpf_base.specs.Links.{Link, WireState}
+use Rattle.tpf_base.specs.Links.{WireState}
 use Rattle.connections.specs.Versions.{Serving, IsHistory, with_first}
 use Rattle.connections.specs.Kinds.{Kind, Grows}
 use Rattle.connections.specs.declared.reloaded.Reloaded.{Reloaded}
@@ -30,6 +30,7 @@ module _ {C Data Settings : Type 0} where
       talk_is = h.talk_is;
       is = talk_took kind grows since t.history t.owner d (moment served faults left w) (moment served' faults' left' w) j k h.talk next later refl h.is;
     };
+    unseen = r.unseen;
     owned = r.owned;
     older = r.older;
     count = r.count;
@@ -61,6 +62,7 @@ module _ {C Data Settings : Type 0} where
         rising = i.rising;
       };
     };
+    unseen = r.unseen;
     owned = r.owned;
     older = r.older;
     count = r.count;

@@ -1,5 +1,5 @@
 -- A step on one link leaves what the traffic says of all others.
-use Rattle.std.proofs.Common.{ℕ, ◌≡◌, ◌≢◌, ◌+◌, ◌<◌, ◌≤◌, ◌==◌, ◌^◌, ◌⊎◌, inl, inr, ◌++◌, List, [], ◌∷◌, length, take, min, Option, Some, None, Bool, true, false, refl, sym, ◌∙◌, ap, subst, arith, append-nil, if◌then◌else◌, eq-eqb}
+use Rattle.std.proofs.Common.{ℕ, ◌≡◌, ◌≢◌, ◌+◌, ◌<◌, ◌≤◌, ◌==◌, ◌⊎◌, inl, inr, ◌++◌, List, [], ◌∷◌, length, Option, Some, None, Bool, true, false, refl, sym, ◌∙◌, ap, subst, arith, if◌then◌else◌, eq-eqb}
 use Rattle.std.proofs.lemmas.Bool.{eqb-true}
 use Rattle.std.specs.List.{AllByRecursion}
 use Rattle.tpf_base.specs.Causes.{Rose}
@@ -8,12 +8,10 @@ use Rattle.tpf_base.specs.Calls.{OnlyOn}
 use Rattle.connections.specs.Versions.{Serving, IsHistory}
 use Rattle.connections.specs.Kinds.{Kind}
 use Rattle.serve_loop.specs.declared.live.Live.{Live}
-use Rattle.serve_loop.specs.declared.live.Stepped.{Stepped}
-use Rattle.serve_loop.specs.declared.live.Stepped.TheVariants as stepped
 use Rattle.serve_loop.specs.Traffic.{Talk, Given, Traffic, Moment, ended, updated}
-use Rattle.serve_loop.specs.Relates.{IsTalk, IsLive, IsOrdered, IsGone, IsOwned, Talks, Ends, Versions, Relates, AreDistinct}
-use Rattle.serve_loop.specs.Steps.{TalksTo, EndsInOrder}
-use Rattle.serve_loop.proofs.TalkLemmas.{moment, same_talk, all_as}
+use Rattle.serve_loop.specs.Relates.{IsTalk, IsLive, IsOrdered, IsGone, IsOwned, Talks, Ends, Versions, Relates}
+use Rattle.serve_loop.specs.Steps.{EndsInOrder}
+use Rattle.serve_loop.proofs.TalkLemmas.{moment, same_talk, all_as, holds_same}
 use Rattle.serve_loop.proofs.SentenceLemmas.{some_same}
 
 if_true : {T : Type 0} (b : Bool) (x y : T) → b ≡ true → (if b then x else y) ≡ x
@@ -36,13 +34,13 @@ same_or k p = grind arith
 is_not : (x : Bool) → x ≡ true → x ≡ false → ⊥
 is_not x t f = cc
 
-pub versions_on : (may : Data → Type 0) (first : List Data) (since : Moment Data Settings) (history : List Data) (given : List (Given Data)) (served : Serving Data Settings) (faults : ℕ) (left : Option (List Data)) (a b : WireState)
+pub versions_on : {Data Settings : Type 0} (may : Data → Type 0) (first : List Data) (since : Moment Data Settings) (history : List Data) (given : List (Given Data)) (served : Serving Data Settings) (faults : ℕ) (left : Option (List Data)) (a b : WireState)
     → Versions may first since history given (moment served faults left a) → Versions may first since history given (moment served faults left b)
 versions_on may first since history given served faults left a b v = record {
   history_is = v.history_is; serves = v.serves; config = v.config; count = v.count; left = v.left; may_be = v.may_be; faults = v.faults;
 }
 
-gone_on : (since : Moment Data Settings) (a b : WireState) (k : ℕ) → (a.links k).is_open ≡ true → OnlyOn k a b → (j : ℕ) → IsGone since a j → IsGone since b j
+pub gone_on : (since a b : WireState) (k : ℕ) → (a.links k).is_open ≡ true → OnlyOn k a b → (j : ℕ) → IsGone since a j → IsGone since b j
 gone_on since a b k is_open only j h =
     let n : j ≢ k = λ e. is_not (a.links j).is_open (ap (λ (x : ℕ). (a.links x).is_open) e ∙ is_open) h.closed in
     record { later = h.later; given = subst (λ (x : ℕ). j < x) (sym only.given) h.given; closed = ap (λ (l : Link). l.is_open) (only.others j n) ∙ h.closed }
@@ -54,7 +52,7 @@ none_some x e = cc
 closed_apart : (wire : WireState) (k : ℕ) → (wire.links k).is_open ≡ true → (j : ℕ) → (wire.links j).is_open ≡ false → j ≢ k
 closed_apart wire k is_open j closed = λ e. is_not (wire.links j).is_open (ap (λ (x : ℕ). (wire.links x).is_open) e ∙ is_open) closed
 
-module _ {C Data Settings : Type 0} where
+module _ {C : Type 0} where
   pub at_cases : (at : ℕ → Option (Live C)) (key : ℕ) (o : Option (Live C)) (i : ℕ) (x : Live C) → updated at key o i ≡ Some x
       → ((i ≡ key) × (o ≡ Some x)) ⊎ ((i ≢ key) × (at i ≡ Some x))
   at_cases at key o i x h = elim (same_or i key) [
@@ -62,6 +60,7 @@ module _ {C Data Settings : Type 0} where
     | inr n ↦ inr (n, sym (there at key o i n) ∙ h)
   ]
 
+module _ {C Data Settings : Type 0} where
   -- closed links are other than an open one
   ordered_on : (kind : Kind C Data Settings) (since : Moment Data Settings) (talks : ℕ → Option (Talk C)) (a b : WireState) (k : ℕ) (o : Option (Talk C)) → (a.links k).is_open ≡ true → OnlyOn k a b
       → (j : ℕ) → IsOrdered kind since talks a j → IsOrdered kind since (updated talks k o) b j
@@ -78,15 +77,15 @@ module _ {C Data Settings : Type 0} where
         pending = h.pending;
         owes = h.owes;
         wants = h.wants;
-        end_ = elim h.end_ [ | inl c ↦ inl c | inr e ↦ inr (ap (λ (l : Link). l.ended) (only.others j n) ∙ e) ];
+        end_ = elim h.end_ [ | inl c ↦ inl c | inr e ↦ inr (holds_same (a.links j).ended (b.links j).ended true (ap (λ (l : Link). l.ended) (only.others j n)) e) ];
       }
 
   pub ends_on : (kind : Kind C Data Settings) (since : Moment Data Settings) (t : Traffic C Data) (a b : WireState) (k : ℕ) (o : Option (Talk C)) → (a.links k).is_open ≡ true → OnlyOn k a b
       → Ends kind since t a → Ends kind since (record t { talks = updated t.talks k o }) b
   ends_on kind since t a b k o is_open only e = record {
     ordered = all_as _ _ (λ (j : ℕ). ordered_on kind since t.talks a b k o is_open only j) t.ordered e.ordered;
-    broken = all_as _ _ (λ (j : ℕ). gone_on since a b k is_open only j) t.broken e.broken;
-    starved = all_as _ _ (λ (j : ℕ). gone_on since a b k is_open only j) t.starved e.starved;
+    broken = all_as _ _ (λ (j : ℕ). gone_on since.wire a b k is_open only j) t.broken e.broken;
+    starved = all_as _ _ (λ (j : ℕ). gone_on since.wire a b k is_open only j) t.starved e.starved;
     ordered_once = e.ordered_once;
     broken_once = e.broken_once;
     starved_once = e.starved_once;
@@ -163,6 +162,7 @@ module _ {C Data Settings : Type 0} where
         ];
         alone = λ i j x y h g e. let p = mine i x h in let q = mine j y g in r.alone i j p.0 q.0 p.1.0 q.1.0 (p.1.1 ∙ e ∙ sym q.1.1);
         talks = talks_on kind may first since t at len served faults left a b l.link talk r only is;
+        unseen = λ k above. there t.talks l.link (Some talk) k (λ e. let f = old.given in let g = only.given in absurd (omega (arith, above, e, f, g))) ∙ r.unseen k (subst (λ (y : ℕ). y ≤ k) only.given above);
         owned = λ k later given opened. elim (same_or k l.link) [
           | inl e ↦ record { key = key; live = l'; found = here at key (Some l') key refl; link = link ∙ sym e }
           | inr n ↦ owned_on kind may first since t at len served faults left a b key l (Some l') r found only k n later given opened
@@ -193,6 +193,7 @@ module _ {C Data Settings : Type 0} where
         lives = λ i x h. let q = mine i x h in lives_on kind may first since t at len served faults left a b key l (Some talk) r found only i x q.0 q.1;
         alone = λ i j x y h g e. r.alone i j x y (mine i x h).1 (mine j y g).1 e;
         talks = λ k later given. let x = talks_on kind may first since t at len served faults left a b l.link talk r only is k later given in record { talk = x.talk; talk_is = x.talk_is; is = x.is };
+        unseen = λ k above. there t.talks l.link (Some talk) k (λ e. let f = old.given in let g = only.given in absurd (omega (arith, above, e, f, g))) ∙ r.unseen k (subst (λ (y : ℕ). y ≤ k) only.given above);
         owned = λ k later given opened. elim (same_or k l.link) [
           | inl e ↦ absurd (is_not (b.links k).is_open opened (ap (λ (x : ℕ). (b.links x).is_open) e ∙ closed))
           | inr n ↦ owned_on kind may first since t at len served faults left a b key l None r found only k n later given opened
@@ -237,7 +238,7 @@ module _ {C Data Settings : Type 0} where
         broken = (record { later = old.later; given = subst (λ (y : ℕ). l.link < y) (sym only.given) old.given; closed = closed }, same.broken);
         starved = same.starved;
         ordered_once = same.ordered_once;
-        broken_once = (all_as _ _ (λ (j : ℕ) (h : IsGone since a j). closed_apart a l.link old.is_open j h.closed) t.broken r.ends.broken, same.broken_once);
+        broken_once = (all_as _ _ (λ (j : ℕ) (h : IsGone since.wire a j). closed_apart a l.link old.is_open j h.closed) t.broken r.ends.broken, same.broken_once);
         starved_once = same.starved_once;
         faults = let f = r.ends.faults in omega (arith, f, rose);
       })
@@ -256,6 +257,6 @@ module _ {C Data Settings : Type 0} where
         starved = (record { later = old.later; given = subst (λ (y : ℕ). l.link < y) (sym only.given) old.given; closed = closed }, same.starved);
         ordered_once = same.ordered_once;
         broken_once = same.broken_once;
-        starved_once = (all_as _ _ (λ (j : ℕ) (h : IsGone since a j). closed_apart a l.link old.is_open j h.closed) t.starved r.ends.starved, same.starved_once);
+        starved_once = (all_as _ _ (λ (j : ℕ) (h : IsGone since.wire a j). closed_apart a l.link old.is_open j h.closed) t.starved r.ends.starved, same.starved_once);
         faults = same.faults;
       })

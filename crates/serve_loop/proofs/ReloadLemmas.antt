@@ -3,7 +3,7 @@ use Rattle.std.proofs.Common.{ℕ, ◌≡◌, ◌≢◌, ◌+◌, ◌<◌, ◌�
 use Rattle.std.specs.List.{AllByRecursion}
 use Rattle.connections.specs.Marks.{Mark, Served, Failed, Starved, version_at}
 use Rattle.tpf_base.specs.Causes.{Rose, counted}
-use Rattle.tpf_base.specs.Links.{Link, WireState}
+use Rattle.tpf_base.specs.Links.{WireState}
 use Rattle.connections.specs.declared.reloaded.Reloaded.{Reloaded}
 use Rattle.connections.specs.declared.reloaded.Reloaded.TheVariants as outcomes
 use Rattle.connections.specs.Versions.{Serving, IsHistory, MOST_VERSIONS, with_first}
@@ -15,18 +15,18 @@ use Rattle.serve_loop.specs.Steps.{Supplies, GoesOn, GoesOnAt}
 use Rattle.serve_loop.proofs.TalkLemmas.{moment, all_append, all_as, plain, on_plain, holds_as, served_excused, served_level}
 use Rattle.serve_loop.proofs.RelatesLemmas.{here, there}
 
-took_both : (b : Bool) (d : Data) (gs hs : List (Given Data)) → took (gs ++ hs) ≡ took gs ++ took hs
+took_both : {Data : Type 0} (b : Bool) (d : Data) (gs hs : List (Given Data)) → took (gs ++ hs) ≡ took gs ++ took hs
     → (if b then d ∷ took (gs ++ hs) else took (gs ++ hs)) ≡ (if b then d ∷ took gs else took gs) ++ took hs
-took_both true d gs hs e = ap (λ (xs : List Data). d ∷ xs) e
-took_both false d gs hs e = e
+took_both {Data = Data} true d gs hs e = ap (λ (xs : List Data). d ∷ xs) e
+took_both {Data = Data} false d gs hs e = e
 
-pub took_append : (gs hs : List (Given Data)) → took (gs ++ hs) ≡ took gs ++ took hs
-took_append [] hs = refl
-took_append (g ∷ gs) hs = took_both g.took g.data_set gs hs (took_append gs hs)
+pub took_append : {Data : Type 0} (gs hs : List (Given Data)) → took (gs ++ hs) ≡ took gs ++ took hs
+took_append {Data = Data} [] hs = refl
+took_append {Data = Data} (g ∷ gs) hs = took_both g.took g.data_set gs hs (took_append gs hs)
 
-pub given_append : (gs hs : List (Given Data)) (left : Option (List Data)) → with_given (gs ++ hs) left ≡ with_given gs (with_given hs left)
-given_append [] hs left = refl
-given_append (g ∷ gs) hs left = ap (λ (x : Option (List Data)). with_first g.data_set x) (given_append gs hs left)
+pub given_append : {Data : Type 0} (gs hs : List (Given Data)) (left : Option (List Data)) → with_given (gs ++ hs) left ≡ with_given gs (with_given hs left)
+given_append {Data = Data} [] hs left = refl
+given_append {Data = Data} (g ∷ gs) hs left = ap (λ (x : Option (List Data)). with_first g.data_set x) (given_append gs hs left)
 
 -- a cause stays one
 pub excused_later : (before now later : ℕ) → now ≤ later → (m : Mark) → IsExcused before now m → IsExcused before later m
@@ -43,11 +43,11 @@ number_later owner k j before now n h = record {
 }
 
 -- the versions where the supply gave a table that the server took
-pub versions_took : (may : Data → Type 0) (first : List Data) (since : Moment Data Settings) (history : List Data) (given added : List (Given Data)) (d : Data) (old now : Moment Data Settings)
+pub versions_took : {Data Settings : Type 0} (may : Data → Type 0) (first : List Data) (since : Moment Data Settings) (history : List Data) (given added : List (Given Data)) (d : Data) (old now : Moment Data Settings)
     → Versions may first since history given old → took added ≡ d ∷ [] → now.served ≡ record old.served { data_set = d; version = old.served.version + 1 }
     → old.left ≡ with_given added now.left → AllByRecursion may (took added) → old.faults ≤ now.faults
     → Versions may first since (history ++ d ∷ []) (given ++ added) now
-versions_took may first since history given added d old now v one served left may_be faults =
+versions_took {Data = Data} {Settings = Settings} may first since history given added d old now v one served left may_be faults =
     let both = took_append given added ∙ ap (λ (x : List Data). took given ++ x) one in
     let vc = v.count in
     let vf = v.faults in
@@ -68,11 +68,11 @@ versions_took may first since history given added d old now v one served left ma
     }
 
 -- the versions where it took none
-pub versions_none : (may : Data → Type 0) (first : List Data) (since : Moment Data Settings) (history : List Data) (given added : List (Given Data)) (old now : Moment Data Settings)
+pub versions_none : {Data Settings : Type 0} (may : Data → Type 0) (first : List Data) (since : Moment Data Settings) (history : List Data) (given added : List (Given Data)) (old now : Moment Data Settings)
     → Versions may first since history given old → took added ≡ [] → now.served ≡ old.served
     → old.left ≡ with_given added now.left → old.faults ≤ now.faults
     → Versions may first since history (given ++ added) now
-versions_none may first since history given added old now v none served left faults =
+versions_none {Data = Data} {Settings = Settings} may first since history given added old now v none served left faults =
     let both : took (given ++ added) ≡ took given = took_append given added ∙ ap (λ (x : List Data). took given ++ x) none ∙ append-nil (took given) in
     let vc = v.count in
     let vf = v.faults in
@@ -96,11 +96,12 @@ pub rising_last : (ns : List ℕ) (v : ℕ) → IsRising ns → AllByRecursion (
 rising_last [] v r h = (tt, tt)
 rising_last (n ∷ ns) v r h = (all_append (λ m. n < m) ns (v ∷ []) r.0 (h.0, tt), rising_last ns v r.1 h.1)
 
-pub supplies_none : (may : Data → Type 0) (outcome : Reloaded) (old now : Moment Data Settings) (added : List (Given Data)) → ((v : ℕ) → outcome ≢ outcomes.Version v) → took added ≡ [] → now.served ≡ old.served
-    → old.left ≡ with_given added now.left → (outcome ≡ outcomes.Failed → Rose old.faults now.faults ⊎ (old.served.version ≡ MOST_VERSIONS)) → old.faults ≤ now.faults → now.wire ≡ old.wire
+pub supplies_none : {Data Settings : Type 0} (may : Data → Type 0) (outcome : Reloaded) (old now : Moment Data Settings) (added : List (Given Data)) → ((v : ℕ) → outcome ≢ outcomes.Version v) → took added ≡ [] → now.served ≡ old.served
+    → old.left ≡ with_given added now.left → length added ≤ 1 → (outcome ≡ outcomes.Failed → (added ≡ []) × (Rose old.faults now.faults ⊎ (old.served.version ≡ MOST_VERSIONS))) → old.faults ≤ now.faults → now.wire ≡ old.wire
     → Supplies may outcome old now
-supplies_none may outcome old now added other none served left failed faults wire = record {
+supplies_none {Data = Data} {Settings = Settings} may outcome old now added other none served left few failed faults wire = record {
   added = added;
+  few = few;
   left = left;
   may_be = subst (λ (x : List Data). AllByRecursion may x) (sym none) tt;
   version = λ v e. absurd (other v e);
@@ -110,10 +111,11 @@ supplies_none may outcome old now added other none served left failed faults wir
   wire = wire;
 }
 
-pub supplies_took : (may : Data → Type 0) (v : ℕ) (d : Data) (old now : Moment Data Settings) → may d → v ≡ old.served.version + 1 → now.served ≡ record old.served { data_set = d; version = v }
+pub supplies_took : {Data Settings : Type 0} (may : Data → Type 0) (v : ℕ) (d : Data) (old now : Moment Data Settings) → may d → v ≡ old.served.version + 1 → now.served ≡ record old.served { data_set = d; version = v }
     → old.left ≡ with_first d now.left → old.faults ≤ now.faults → now.wire ≡ old.wire → Supplies may (outcomes.Version v) old now
-supplies_took may v d old now m next served left faults wire = record {
+supplies_took {Data = Data} {Settings = Settings} may v d old now m next served left faults wire = record {
   added = record { data_set = d; took = true } ∷ [];
+  few = omega arith;
   left = left;
   may_be = (m, tt);
   version = λ w e. let same : v ≡ w = cc in (d, (refl, sym same ∙ next, served ∙ ap (λ (x : ℕ). record old.served { data_set = d; version = x }) same));

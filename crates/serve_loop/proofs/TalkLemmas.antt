@@ -3,13 +3,13 @@ use Rattle.std.proofs.Common.{ℕ, ◌≡◌, ◌≢◌, ◌+◌, ◌<◌, ◌�
 use Rattle.std.specs.List.{AllByRecursion}
 use Rattle.std.proofs.lemmas.List.{length-take-le}
 use Rattle.std.specs.Io.KnownBytes.{append_known}
-use Rattle.connections.specs.Marks.{Mark, Served, Failed, Starved, version_at}
 use Rattle.tpf_base.specs.Causes.{Rose}
 use Rattle.tpf_base.specs.declared.wire.Moved.{Moved}
 use Rattle.tpf_base.specs.declared.wire.Moved.TheVariants as answers
-use Rattle.tpf_base.specs.Links.{Link, WireState}
+use Rattle.tpf_base.specs.Links.{WireState, Tells, CountsAlone, SentAndReceived, All, told_by}
 use Rattle.tpf_base.specs.Calls.{OnlyOn, SameWire, Sends, Receives, Closes}
 use Rattle.link_calls.specs.Sending.{Holds}
+use Rattle.connections.specs.Marks.{Mark, Served, Failed, Starved, version_at}
 use Rattle.connections.specs.Versions.{Serving, IsHistory}
 use Rattle.connections.specs.Kinds.{Kind, Takes, Feeds, Reads, AreServed}
 use Rattle.serve_loop.specs.declared.live.Stepped.{Stepped}
@@ -18,13 +18,19 @@ use Rattle.serve_loop.specs.declared.step.Received.{Received}
 use Rattle.serve_loop.specs.declared.step.Received.TheVariants as received
 use Rattle.serve_loop.specs.Traffic.{Talk, Moment}
 use Rattle.serve_loop.specs.Relates.{IsTalk, IsExcused, IsNumber, IsRising}
-use Rattle.serve_loop.specs.Steps.{GoesOn, HasMoved, EndsInOrder, EndsAs, TalksTo, StepsLink, Hears, IsReady}
+use Rattle.serve_loop.specs.Steps.{GoesOn, EndsInOrder, EndsAs, TalksTo, StepsLink, Hears, IsReady}
 
 pub holds_as : (told : Option (List ℕ)) (x y : List ℕ) → x ≡ y → Holds told x → Holds told y
 holds_as told x y e h = λ bytes b. h bytes b ∙ e
 
-pub holds_same : (told now : Option (List ℕ)) (x : List ℕ) → now ≡ told → Holds told x → Holds now x
-holds_same told now x e h = λ bytes b. h bytes (sym e ∙ b)
+pub holds_same : {T : Type 0} (told now : Option T) (x : T) → now ≡ told → Holds told x → Holds now x
+holds_same told now x e h = λ fact b. h fact (sym e ∙ b)
+
+-- what a wire tells is the fact
+pub holds_told : (told : Option Bool) (tells : Tells) (fact : Bool) → told ≡ told_by tells fact → Holds told fact
+holds_told told CountsAlone fact e = λ x t. cc
+holds_told told SentAndReceived fact e = λ x t. cc
+holds_told told All fact e = λ x t. cc
 
 pub holds_append : (told now : Option (List ℕ)) (x y : List ℕ) → now ≡ append_known told y → Holds told x → Holds now (x ++ y)
 holds_append None now x y e h = λ bytes b. cc
@@ -44,7 +50,7 @@ closes_as k j a b e c = subst (λ (n : ℕ). Closes n a b) e c
 pub length_of_take : (n : ℕ) (xs : List ℕ) → n ≤ length xs → n ≡ length (take n xs)
 length_of_take n xs h = sym (length-take-le n xs h)
 
-abbrev pub moment : Serving Data Settings → ℕ → Option (List Data) → WireState → Moment Data Settings
+abbrev pub moment : {Data Settings : Type 0} → Serving Data Settings → ℕ → Option (List Data) → WireState → Moment Data Settings
 moment served faults left wire = record { served = served; faults = faults; left = left; wire = wire }
 
 pub served_excused : (before now version : ℕ) (m : Mark) → m ≡ Served version → IsExcused before now m
@@ -53,7 +59,7 @@ served_excused before now version m e = subst (λ (x : Mark). IsExcused before n
 pub served_level : (version : ℕ) (m : Mark) → m ≡ Served version → version ≤ version_at m
 served_level version m e = subst (λ (x : Mark). version ≤ version_at x) (sym e) (omega arith)
 
-module _ {C Data Settings : Type 0} where
+module _ {C : Type 0} where
   -- a talk of a live connection
   abbrev pub plain : List ℕ → List ℕ → List Mark → C → Talk C
   plain fed taken marks c = record { fed = fed; unfed = []; taken = taken; over = 0; marks = marks; connection = c }
@@ -72,6 +78,10 @@ module _ {C Data Settings : Type 0} where
       let is = plain_is talk c e o u in
       subst (λ (x : Talk C). Q x) (sym is) (f talk.fed talk.taken talk.marks (subst (λ (x : Talk C). P x) is p))
 
+  pub goes_nowhere : (version : ℕ) (talk : Talk C) → GoesOn version talk talk
+  goes_nowhere version talk = record { later = []; marks = sym (append-nil _); not_below = tt; piece = []; fed = sym (append-nil _); part = []; taken = sym (append-nil _) }
+
+module _ {C Data Settings : Type 0} where
   -- the same bytes on the link
   pub same_talk : (kind : Kind C Data Settings) (since : Moment Data Settings) (history : List Data) (owner : ℕ → ℕ) (served : Serving Data Settings) (faults : ℕ) (left : Option (List Data))
       (a b : WireState) (k : ℕ) (talk : Talk C) → (b.links k).sent ≡ (a.links k).sent → (b.links k).received ≡ (a.links k).received
@@ -85,9 +95,6 @@ module _ {C Data Settings : Type 0} where
     numbers = h.numbers;
     rising = h.rising;
   }
-
-  pub goes_nowhere : (version : ℕ) (talk : Talk C) → GoesOn version talk talk
-  goes_nowhere version talk = record { later = []; marks = sym (append-nil _); not_below = tt; piece = []; fed = sym (append-nil _); part = []; taken = sym (append-nil _) }
 
   -- a front of what was pending was sent and taken
   pub sent_talk : (kind : Kind C Data Settings) (since : Moment Data Settings) (history : List Data) (owner : ℕ → ℕ) (served : Serving Data Settings) (faults : ℕ) (left : Option (List Data))
@@ -107,7 +114,7 @@ module _ {C Data Settings : Type 0} where
       rising = h.rising;
     };
     goes_on = record { later = []; marks = sym (append-nil _); not_below = tt; piece = []; fed = sym (append-nil _); part = take n (kind.pending old); taken = refl };
-    end_ = (refl, refl, refl, inr (omega (arith, pos, length-append taken (take n (kind.pending old)), length-take-le n (kind.pending old) fits)));
+    end_ = (refl, refl, refl);
   }
 
   -- a send failed, which may have sent a front
@@ -174,7 +181,7 @@ module _ {C Data Settings : Type 0} where
           part = [];
           taken = sym (append-nil _);
         };
-        end_ = (refl, refl, refl, inl (omega (arith, pos, ap (λ (x : List ℕ). length x) (append-nil (fed ++ piece)), ap (λ (x : List ℕ). length x) (append-nil fed), length-append fed piece)));
+        end_ = (refl, refl, refl);
       }
 
   -- bytes were received, and want of memory kept them from being fed
@@ -229,7 +236,7 @@ module _ {C Data Settings : Type 0} where
         on_plain (λ (x : Talk C). IsTalk kind since history owner (moment served faults left a) k x)
         (λ (x : Talk C). TalksTo kind since history owner k stepped.Starved new x (moment served faults left a) (moment served faults left w))
         talk old e o u (λ fed taken marks p. still_talk kind since history owner served faults left a w k stepped.Starved old new fed taken marks
-        (ap (λ (l : Link). l.sent) c.link ∙ ap (λ (l : Link). l.sent) m) (ap (λ (l : Link). l.received) c.link ∙ ap (λ (l : Link). l.received) m) tt p) h;
+        (c.sent ∙ ap (λ l. l.sent) m) (c.received ∙ ap (λ l. l.received) m) tt p) h;
   }
 
   pub failed_step : (kind : Kind C Data Settings) (served : Serving Data Settings) (faults : ℕ) (left : Option (List Data)) (a b w : WireState) (k : ℕ) (old new : C)
@@ -240,7 +247,7 @@ module _ {C Data Settings : Type 0} where
         on_plain (λ (x : Talk C). IsTalk kind since history owner (moment served faults left a) k x)
         (λ (x : Talk C). TalksTo kind since history owner k stepped.Ended new x (moment served faults left a) (moment served faults left w))
         talk old e o u (λ fed taken marks p. failed_talk kind since history owner served faults left a w k f.0 old new fed taken marks f.1
-        (ap (λ (l : Link). l.sent) c.link ∙ f.2) (ap (λ (l : Link). l.received) c.link ∙ s.received) (subst (λ (n : ℕ). Rose a.faults n) (sym c.faults) f.5) p) h;
+        (c.sent ∙ f.2) (c.received ∙ s.received) (subst (λ (n : ℕ). Rose a.faults n) (sym c.faults) f.5) p) h;
   }
 
   -- ---- the steps of a receive
@@ -274,8 +281,8 @@ module _ {C Data Settings : Type 0} where
         on_plain (λ (x : Talk C). IsTalk kind since history owner (moment served faults left a) k x)
         (λ (x : Talk C). TalksTo kind since history owner k stepped.Ended new x (moment served faults left a) (moment served faults left w))
         talk old e o u (λ fed taken marks p. still_talk kind since history owner served faults left a w k stepped.Ended old new fed taken marks
-        (ap (λ (l : Link). l.sent) c.link ∙ s.sent) (ap (λ (l : Link). l.received) c.link ∙ f.0)
-        (inl (record { over = refl; unfed = refl; pending = none; owes = ready.owes none; wants = ready.wants none; end_ = inr (ap (λ (l : Link). l.ended) c.link ∙ f.1) })) p) h;
+        (c.sent ∙ s.sent) (c.received ∙ f.0)
+        (inl (record { over = refl; unfed = refl; pending = none; owes = ready.owes none; wants = ready.wants none; end_ = inr (holds_same (b.links k).ended (w.links k).ended true c.ended f.1) })) p) h;
   }
 
   pub broken_step : (kind : Kind C Data Settings) (served : Serving Data Settings) (faults : ℕ) (left : Option (List Data)) (a b w : WireState) (k : ℕ) (old new : C)
@@ -286,7 +293,7 @@ module _ {C Data Settings : Type 0} where
         on_plain (λ (x : Talk C). IsTalk kind since history owner (moment served faults left a) k x)
         (λ (x : Talk C). TalksTo kind since history owner k stepped.Ended new x (moment served faults left a) (moment served faults left w))
         talk old e o u (λ fed taken marks p. still_talk kind since history owner served faults left a w k stepped.Ended old new fed taken marks
-        (ap (λ (l : Link). l.sent) c.link ∙ s.sent) (ap (λ (l : Link). l.received) c.link ∙ f.0)
+        (c.sent ∙ s.sent) (c.received ∙ f.0)
         (inr (subst (λ (n : ℕ). Rose a.faults n) (sym c.faults) f.1)) p) h;
   }
 
@@ -298,7 +305,7 @@ module _ {C Data Settings : Type 0} where
         on_plain (λ (x : Talk C). IsTalk kind since history owner (moment served faults left a) k x)
         (λ (x : Talk C). TalksTo kind since history owner k stepped.Starved new x (moment served faults left a) (moment served faults left w))
         talk old e o u (λ fed taken marks p. unfed_talk kind since history owner served faults left a w k f.0 old new fed taken marks
-        (ap (λ (l : Link). l.sent) c.link ∙ s.sent) (ap (λ (l : Link). l.received) c.link ∙ f.1) p) h;
+        (c.sent ∙ s.sent) (c.received ∙ f.1) p) h;
   }
 
   -- ---- what a receive did

@@ -1,5 +1,5 @@
 -- How a loop's connections, its server, its supply and its wire stand to the traffic since some moment.
-use Rattle.std.specs.Prelude.{ℕ, ◌≡◌, ◌≢◌, ◌⊎◌, ◌+◌, ◌<◌, ◌≤◌, true, false, List, [], ◌∷◌, ◌++◌, length, take, Option, Some}
+use Rattle.std.specs.Prelude.{ℕ, ◌≡◌, ◌≢◌, ◌⊎◌, ◌+◌, ◌<◌, ◌≤◌, true, false, List, [], ◌∷◌, ◌++◌, length, take, Option, Some, None}
 use Rattle.std.specs.List.{AllByRecursion}
 use Rattle.connections.specs.Marks.{Mark, Served, Failed, Starved}
 use Rattle.tpf_base.specs.Causes.{Rose, RoseBy}
@@ -126,6 +126,8 @@ module _ {C Data Settings : Type 0} where
     pub alone : (i j : ℕ) (a b : Live C) → at i ≡ Some a → at j ≡ Some b → a.link ≡ b.link → i ≡ j
     -- of each link given since, also of those that are closed
     pub talks : (k : ℕ) → since.wire.given ≤ k → k < now.wire.given → Talks kind since t now k
+    -- of a link not given yet there is none
+    pub unseen : (k : ℕ) → now.wire.given ≤ k → t.talks k ≡ None
     -- a link given since that is open has one live connection
     pub owned : (k : ℕ) → since.wire.given ≤ k → k < now.wire.given → (now.wire.links k).is_open ≡ true → IsOwned at k
     pub older : (k : ℕ) → k < since.wire.given → now.wire.links k ≡ since.wire.links k

@@ -246,14 +246,28 @@ impl<C: Converses> Loop<C> {
     pub fn new(alloc: Global) -> Loop<C>
         ensures len { slab_len result.live ≡ 0 }
         ensures none { (key : ℕ) → get result.live key ≡ None }
-        ensures begins { (may : C.Server.Data → Type 0) (first : List C.Server.Data) (now : Moment C.Server.Data C.Server.Settings) → IsHistory first now.served
-            → Relates C.kind may first now (no_traffic first) (get result.live) 0 now }
     {
         Loop {
             alloc,
             live: Slab::new(alloc),
             buffer: [0; 8192],
         }
+    }
+
+    /// A loop without connections begins with no traffic, from now on. It does nothing.
+    pub fn begins<S: Supply<C::Server>, W: Wire>(
+        &self,
+        _server: &C::Server,
+        _supply: &S,
+        _wire: &W,
+    )
+        requires { (key : ℕ) → get self.now.live key ≡ None }
+        ensures { (first : List C.Server.Data) → IsHistory first (C.Server.serving _server.now)
+            → Relates C.kind (S.may _supply.now) first
+            (record { served = C.Server.serving _server.now; faults = S.faults _supply.now; left = S.left _supply.now; wire = W.state _wire.now })
+            (no_traffic first) (get self.now.live) 0
+            (record { served = C.Server.serving _server.now; faults = S.faults _supply.now; left = S.left _supply.now; wire = W.state _wire.now }) }
+    {
     }
 
     /// How many connections are live: at most 256.
@@ -299,8 +313,6 @@ impl<C: Converses> Loop<C> {
         ensures busy { IfOk result (λ turned. IsBusy 256 turned (get self.old.live) (slab_len self.old.live) (W.state wire.old) (W.state wire.new)) }
         ensures idle { IfOk result (λ turned. turned.moved ≡ true → (W.state wire.new).idle ≡ 0) }
         ensures count { IfOk result (λ turned. slab_len self.new.live + turned.ended + (W.state wire.old).given ≡ slab_len self.old.live + (W.state wire.new).given) }
-        ensures most { IfOk result (λ turned. turned.ended ≤ 256) }
-        ensures later { (W.state wire.old).faults ≤ (W.state wire.new).faults }
         ensures most { IfOk result (λ turned. turned.ended ≤ 256) }
     ensures later { (W.state wire.old).faults ≤ (W.state wire.new).faults }
     ensures err { OnErr result ((first : List C.Server.Data) (since : Moment C.Server.Data C.Server.Settings) (t : Traffic C C.Server.Data) → Relates C.kind (S.may supply.old) first since t (get self.old.live) (slab_len self.old.live)
