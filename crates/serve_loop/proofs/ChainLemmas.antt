@@ -38,7 +38,7 @@ module _ {C : Type 0} where
   goes_on_then low high (Some x) (Some y) None h p q = absurd q
   goes_on_then low high (Some x) (Some y) (Some z) h p q = goes_then low high x y z h p q
 
-  updated_twice : (at : ℕ → Option (Live C)) (key : ℕ) (a b : Option (Live C)) (k : ℕ) → updated at key b k ≡ updated (updated at key a) key b k
+  pub updated_twice : (at : ℕ → Option (Live C)) (key : ℕ) (a b : Option (Live C)) (k : ℕ) → updated at key b k ≡ updated (updated at key a) key b k
   updated_twice at key a b k = elim (same_or k key) [
     | inl e ↦ here at key b k e ∙ sym (here (updated at key a) key b k e)
     | inr n ↦ there at key b k n ∙ sym (there at key a k n) ∙ sym (there (updated at key a) key b k n)

@@ -31,7 +31,7 @@ there f p v k n = if_else (k == p) v (f k) (λ t. n (eqb-true k p t))
 pub same_or : (k p : ℕ) → (k ≡ p) ⊎ (k ≢ p)
 same_or k p = grind arith
 
-is_not : (x : Bool) → x ≡ true → x ≡ false → ⊥
+pub is_not : (x : Bool) → x ≡ true → x ≡ false → ⊥
 is_not x t f = cc
 
 pub versions_on : {Data Settings : Type 0} (may : Data → Type 0) (first : List Data) (since : Moment Data Settings) (history : List Data) (given : List (Given Data)) (served : Serving Data Settings) (faults : ℕ) (left : Option (List Data)) (a b : WireState)
@@ -45,7 +45,7 @@ gone_on since a b k is_open only j h =
     let n : j ≢ k = λ e. is_not (a.links j).is_open (ap (λ (x : ℕ). (a.links x).is_open) e ∙ is_open) h.closed in
     record { later = h.later; given = subst (λ (x : ℕ). j < x) (sym only.given) h.given; closed = ap (λ (l : Link). l.is_open) (only.others j n) ∙ h.closed }
 
-none_some : {X : Type 0} (x : X) → None ≡ Some x → ⊥
+pub none_some : {X : Type 0} (x : X) → None ≡ Some x → ⊥
 none_some x e = cc
 
 -- an end that is not listed yet

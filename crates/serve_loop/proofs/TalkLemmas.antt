@@ -1,5 +1,5 @@
 -- What a call on a link does to its talk.
-use Rattle.std.proofs.Common.{ℕ, ◌≡◌, ◌≢◌, ◌+◌, ◌<◌, ◌≤◌, ◌⊎◌, inl, inr, ◌++◌, List, [], ◌∷◌, length, take, Option, Some, None, Bool, true, false, refl, sym, ◌∙◌, ap, subst, arith, append-nil, append_assoc, length-append}
+use Rattle.std.proofs.Common.{ℕ, ◌≡◌, ◌≢◌, ◌+◌, ◌<◌, ◌≤◌, ◌⊎◌, inl, inr, ◌++◌, List, [], ◌∷◌, length, take, Option, Some, None, Bool, true, false, refl, sym, ◌∙◌, ap, subst, arith, append-nil, length-append, if◌then◌else◌, ◌==◌}
 use Rattle.std.specs.List.{AllByRecursion}
 use Rattle.std.proofs.lemmas.List.{length-take-le}
 use Rattle.std.specs.Io.KnownBytes.{append_known}
@@ -18,7 +18,7 @@ use Rattle.serve_loop.specs.declared.step.Received.{Received}
 use Rattle.serve_loop.specs.declared.step.Received.TheVariants as received
 use Rattle.serve_loop.specs.Traffic.{Talk, Moment}
 use Rattle.serve_loop.specs.Relates.{IsTalk, IsExcused, IsNumber, IsRising}
-use Rattle.serve_loop.specs.Steps.{GoesOn, EndsInOrder, EndsAs, TalksTo, StepsLink, Hears, IsReady}
+use Rattle.serve_loop.specs.Steps.{GoesOn, EndsInOrder, EndsAs, TalksTo, StepsLink, Hears, IsReady, CallsOnly, MovesOn}
 
 pub holds_as : (told : Option (List ℕ)) (x y : List ℕ) → x ≡ y → Holds told x → Holds told y
 holds_as told x y e h = λ bytes b. h bytes b ∙ e
@@ -49,6 +49,45 @@ closes_as k j a b e c = subst (λ (n : ℕ). Closes n a b) e c
 
 pub length_of_take : (n : ℕ) (xs : List ℕ) → n ≤ length xs → n ≡ length (take n xs)
 length_of_take n xs h = sym (length-take-le n xs h)
+
+-- ---- what else a call on a link leaves
+
+if_zero : (t : Bool) (x : ℕ) → x ≡ 0 → (if t then x else 0) ≡ 0
+if_zero true x e = e
+if_zero false x e = refl
+
+sends_idle : (k : ℕ) (piece : List ℕ) (a b : WireState) (answer : Moved) → Sends k piece a b answer → a.idle ≡ 0 → b.idle ≡ 0
+sends_idle k piece a b (answers.Moved n) s z = (s.moved n refl).3
+sends_idle k piece a b answers.End s z = absurd (s.no_end refl)
+sends_idle k piece a b answers.NotYet s z = (s.not_yet refl).3 ∙ z
+sends_idle k piece a b answers.Failed s z = let f = s.failed refl in f.4 ∙ if_zero (f.0 == 0) a.idle z
+sends_idle k piece a b answers.OutOfMemory s z = (s.memory refl).idle ∙ z
+
+pub sends_only : (k : ℕ) (piece : List ℕ) (a b : WireState) (answer : Moved) → Sends k piece a b answer → CallsOnly k a b
+sends_only k piece a b answer s = record { only = s.only; idle = sends_idle k piece a b answer s }
+
+receives_idle : (k : ℕ) (to : List ℕ) (a b : WireState) (answer : Moved) → Receives k to a b answer → a.idle ≡ 0 → b.idle ≡ 0
+receives_idle k to a b (answers.Moved n) r z = (r.moved n refl).4
+receives_idle k to a b answers.End r z = (r.end_ refl).2
+receives_idle k to a b answers.NotYet r z = (r.not_yet refl).3 ∙ z
+receives_idle k to a b answers.Failed r z = (r.failed refl).2 ∙ z
+receives_idle k to a b answers.OutOfMemory r z = (r.memory refl).idle ∙ z
+
+pub receives_only : (k : ℕ) (to : List ℕ) (a b : WireState) (answer : Moved) → Receives k to a b answer → CallsOnly k a b
+receives_only k to a b answer r = record { only = r.only; idle = receives_idle k to a b answer r }
+
+pub sends_moves : (k : ℕ) (piece : List ℕ) (a b : WireState) (n : ℕ) → Sends k piece a b (answers.Moved n) → MovesOn k a b × (b.idle ≡ 0)
+sends_moves k piece a b n s = let m = s.moved n refl in (record { piece = take n piece; some = omega (arith, m.0, length-take-le n piece m.1); way = inl m.2 }, m.3)
+
+-- and the link was closed behind it
+pub closes_only : (k : ℕ) (a b w : WireState) → CallsOnly k a b → Closes k b w → CallsOnly k a w
+closes_only k a b w c d = let x = c.only in let y = d.only in let xf = x.later in let yf = y.later in record {
+  only = record {
+    others = λ j n. y.others j n ∙ x.others j n; later = omega (arith, xf, yf); given = y.given ∙ x.given; provoked = y.provoked ∙ x.provoked;
+    dials = y.dials ∙ x.dials; waits = y.waits ∙ x.waits; listens = y.listens ∙ x.listens; door_stalls = y.door_stalls ∙ x.door_stalls; nature = y.nature ∙ x.nature;
+  };
+  idle = λ z. d.idle ∙ c.idle z;
+}
 
 abbrev pub moment : {Data Settings : Type 0} → Serving Data Settings → ℕ → Option (List Data) → WireState → Moment Data Settings
 moment served faults left wire = record { served = served; faults = faults; left = left; wire = wire }
@@ -313,7 +352,7 @@ module _ {C Data Settings : Type 0} where
   pub hears_fed : (kind : Kind C Data Settings) (served : Serving Data Settings) (k : ℕ) (old new : C) (a b : WireState) (buffer : List ℕ) (n : ℕ)
       → Receives k buffer a b (answers.Moved n) → Feeds kind served (take n buffer) old new → Hears kind served k old new a b received.Fed
   hears_fed kind served k old new a b buffer n r feeds = let m = r.moved n refl in record {
-    only = r.only;
+    only = receives_only k buffer a b (answers.Moved n) r;
     sent = r.sent;
     is_open = r.is_open;
     fed = λ e. (take n buffer, omega (arith, m.0, length-take-le n buffer m.1), m.2, feeds, m.4);
@@ -326,7 +365,7 @@ module _ {C Data Settings : Type 0} where
   pub hears_unfed : (kind : Kind C Data Settings) (served : Serving Data Settings) (k : ℕ) (old new : C) (a b : WireState) (buffer : List ℕ) (n : ℕ)
       → Receives k buffer a b (answers.Moved n) → Hears kind served k old new a b received.Starved
   hears_unfed kind served k old new a b buffer n r = let m = r.moved n refl in record {
-    only = r.only;
+    only = receives_only k buffer a b (answers.Moved n) r;
     sent = r.sent;
     is_open = r.is_open;
     fed = λ e. absurd cc;

@@ -180,7 +180,7 @@ module _ {C Data Settings : Type 0} where
 
   -- What a receive on a link did.
   pub record Hears (kind : Kind C Data Settings) (server : Serving Data Settings) (k : ℕ) (old new : C) (a b : WireState) (answer : Received) : Type 0 where
-    pub only : OnlyOn k a b
+    pub only : CallsOnly k a b
     pub sent : (b.links k).sent ≡ (a.links k).sent
     pub is_open : (b.links k).is_open ≡ (a.links k).is_open
     pub fed : answer ≡ received.Fed → (piece : List ℕ) × (0 < length piece) × ((b.links k).received ≡ append_known (a.links k).received piece) × Feeds kind server piece old new × (b.idle ≡ 0)
