@@ -1,5 +1,7 @@
 -- A whole step: what was made ready, and then the call on the link.
-use Rattle.std.proofs.Common.{ℕ, ◌≡◌, ◌≢◌, ◌+◌, ◌<◌, ◌≤◌, inl, List, [], Option, Some, None, Bool, true, false, refl, sym, ◌∙◌, ap, subst, arith}
+use Rattle.std.proofs.Common.{ℕ, ◌≡◌, ◌≢◌, ◌+◌, ◌<◌, ◌≤◌, ◌==◌, inl, List, [], ◌∷◌, length, Option, Some, None, Bool, true, false, refl, sym, ◌∙◌, ap, subst, arith}
+use Rattle.std.proofs.lemmas.Bool.{eqb-true}
+use Rattle.std.specs.Prelude.{Result, Ok, Err, is_ok, is_err, ⊤}
 use Rattle.tpf_base.specs.Links.{WireState}
 use Rattle.tpf_base.specs.Calls.{OnlyOn, Closes}
 use Rattle.connections.specs.Marks.{Mark}
@@ -16,6 +18,14 @@ use Rattle.serve_loop.proofs.RelatesLemmas.{here}
 use Rattle.serve_loop.proofs.StepLemmas.{steps_to}
 use Rattle.serve_loop.proofs.EndsLemmas.{ends_then, ends_as}
 use Rattle.serve_loop.proofs.ChainLemmas.{relates_same, goes_on_then, updated_twice}
+
+pub ok_when : {E : Type 0} (r : Result ⊤ E) → false ≡ is_err r → is_ok r ≡ true
+ok_when (Ok x) e = refl
+ok_when (Err x) e = cc
+
+pub none_when : (xs : List ℕ) → true ≡ (length xs == 0) → xs ≡ []
+none_when [] e = refl
+none_when (x ∷ xs) e = let z : length (x ∷ xs) ≡ 0 = eqb-true (length (x ∷ xs)) 0 (sym e) in absurd (omega (arith, z))
 
 none_live : {X : Type 0} (x : X) → None ≡ Some x → ⊥
 none_live x e = cc

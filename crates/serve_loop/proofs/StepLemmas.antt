@@ -17,7 +17,7 @@ use Rattle.serve_loop.proofs.RelatesLemmas.{here, there, same_or, stays_live, en
 use Rattle.serve_loop.proofs.EndsLemmas.{ends_same, ends_none}
 
 module _ {C : Type 0} where
-  goes_same : (version : ℕ) (o : Option (Talk C)) → GoesOnAt version o o
+  pub goes_same : (version : ℕ) (o : Option (Talk C)) → GoesOnAt version o o
   goes_same version None = tt
   goes_same version (Some talk) = goes_nowhere version talk
 
