@@ -141,11 +141,11 @@ module _ {C : Type 0} where
   below_at x n at a b c (Some m) None alone h found calls = absurd calls
   below_at x n at a b c (Some m) (Some answer) alone h found calls = below_step x n at a b c m answer alone h found calls.0 calls.1
 
-  pub below_more : (x : Turned) (n : ℕ) (at : ℕ → Option (Live C)) (a b c : WireState) (result : Option Stepped)
+  pub below_more : (x y : Turned) (n : ℕ) (at : ℕ → Option (Live C)) (a b c : WireState) (slot : Option (Live C)) (result : Option Stepped)
       → ((i j : ℕ) (p q : Live C) → at i ≡ Some p → at j ≡ Some q → p.link ≡ q.link → i ≡ j)
-      → StepsBelow x n at a b → CallsAt (at n) result b c
-      → StepsBelow (turned_with x result) (n + 1) at a c
-  below_more x n at a b c result alone h calls = below_at x n at a b c (at n) result alone h refl calls
+      → y ≡ turned_with x result → StepsBelow x n at a b → at n ≡ slot → CallsAt slot result b c
+      → StepsBelow y (n + 1) at a c
+  below_more x y n at a b c slot result alone is h found calls = subst (λ (z : Turned). StepsBelow z (n + 1) at a c) (sym is) (below_at x n at a b c slot result alone h found calls)
 
   -- all keys are below n
   pub below_all : (turned : Turned) (n : ℕ) (at : ℕ → Option (Live C)) (a b : WireState) → ((key : ℕ) → n ≤ key → at key ≡ None) → StepsBelow turned n at a b → StepsAll turned at a b

@@ -8,16 +8,19 @@ use Rattle.serve_loop.specs.declared.live.Live.{Live}
 use Rattle.serve_loop.specs.declared.live.Stepped.{Stepped}
 use Rattle.serve_loop.specs.declared.live.Stepped.TheVariants as stepped
 use Rattle.serve_loop.specs.declared.live.Turned.{Turned}
-use Rattle.serve_loop.specs.Traffic.{Traffic, Moment, updated}
+use Rattle.serve_loop.specs.Traffic.{Traffic, Moment, took, updated}
 use Rattle.serve_loop.specs.Relates.{Relates, SuitsWire}
-use Rattle.serve_loop.specs.Steps.{StepsTo, StepsOn, TurnsTo, EndsBy, ended_by, starved_by, left_by, turned_by, turned_with}
-use Rattle.serve_loop.proofs.TalkLemmas.{moment}
+use Rattle.serve_loop.specs.Steps.{StepsTo, StepsOn, TurnsTo, EndsBy, ended_by, starved_by, left_by, ends, turned_by, turned_with}
+use Rattle.serve_loop.proofs.TalkLemmas.{all_as}
 use Rattle.serve_loop.proofs.RelatesLemmas.{here, there, same_or, none_some}
 use Rattle.serve_loop.proofs.SentenceLemmas.{some_same}
 use Rattle.serve_loop.proofs.StepLemmas.{goes_same}
 use Rattle.serve_loop.proofs.EndsLemmas.{ends_same, ends_then, ends_as}
 use Rattle.serve_loop.proofs.ChainLemmas.{relates_same, goes_on_then}
 use Rattle.serve_loop.proofs.BelowLemmas.{nothing}
+use Rattle.serve_loop.proofs.SlotLemmas.{written, written_len, taken_out, has_some, fewer_by_one}
+use Rattle.std.specs.Prelude.{OnSome, ◌↔◌}
+use Rattle.slab.specs.Slab.{Slab, get, slab_len, with_value, Updates}
 
 ended_turned : (answer : Stepped) → ended_by answer ≡ (turned_by (Some answer)).ended
 ended_turned stepped.Moved = refl
@@ -46,15 +49,18 @@ starved_with x (Some stepped.Ended) = omega arith
 starved_with x (Some stepped.Starved) = omega arith
 
 -- so the counts after one more step, from those that are left
-pub counts_with : (x : Turned) (s : Option Stepped) (whole before after : ℕ) → before + x.ended ≡ whole → after + (turned_by s).ended ≡ before → after + (turned_with x s).ended ≡ whole
-counts_with x s whole before after e f = let g = ended_with x s in omega (arith, e, f, g)
+pub counts_with : (x y : Turned) (s : Option Stepped) (whole before after : ℕ) → y ≡ turned_with x s → before + x.ended ≡ whole → after + (turned_by s).ended ≡ before → after + y.ended ≡ whole
+counts_with x y s whole before after is e f = let g = ended_with x s in let i = ap (λ (z : Turned). z.ended) is in omega (arith, e, f, g, i)
 
-pub fewer_with : (x : Turned) (s : Option Stepped) → x.starved ≤ x.ended → (turned_with x s).starved ≤ (turned_with x s).ended
+fewer_with : (x : Turned) (s : Option Stepped) → x.starved ≤ x.ended → (turned_with x s).starved ≤ (turned_with x s).ended
 fewer_with x None h = h
 fewer_with x (Some stepped.Moved) h = h
 fewer_with x (Some stepped.Still) h = h
 fewer_with x (Some stepped.Ended) h = omega (arith, h)
 fewer_with x (Some stepped.Starved) h = omega (arith, h)
+
+pub fewer_as : (x y : Turned) (s : Option Stepped) → y ≡ turned_with x s → x.starved ≤ x.ended → y.starved ≤ y.ended
+fewer_as x y s is h = subst (λ (z : Turned). z.starved ≤ z.ended) (sym is) (fewer_with x s h)
 
 module _ {C Data Settings : Type 0} where
   -- nothing was done
@@ -81,6 +87,14 @@ module _ {C Data Settings : Type 0} where
         up = s.up;
       }
 
+  -- what the supply may give is the same
+  pub relates_may : (kind : Kind C Data Settings) (may may' : Data → Type 0) (first : List Data) (since : Moment Data Settings) (t : Traffic C Data) (at : ℕ → Option (Live C)) (len : ℕ) (now : Moment Data Settings)
+      → ((d : Data) → may d → may' d) → Relates kind may first since t at len now → Relates kind may' first since t at len now
+  relates_may kind may may' first since t at len now f r = let v = r.versions in record {
+    versions = record { history_is = v.history_is; serves = v.serves; config = v.config; count = v.count; left = v.left; may_be = all_as may may' f (took t.given) v.may_be; faults = v.faults };
+    lives = r.lives; alone = r.alone; talks = r.talks; unseen = r.unseen; owned = r.owned; older = r.older; count = r.count; ends = r.ends;
+  }
+
   -- one step more
   pub turns_then : (kind : Kind C Data Settings) (may : Data → Type 0) (first : List Data) (since : Moment Data Settings) (t : Traffic C Data) (x : Turned) (s : Option Stepped) (at at' : ℕ → Option (Live C)) (len rest : ℕ) (old mid now : Moment Data Settings)
       → TurnsTo kind may first since t x at len old mid
@@ -99,7 +113,61 @@ module _ {C Data Settings : Type 0} where
         up = omega (arith, pu, qu);
       }
 
+  -- one step more, over a supply that was called
+  pub turns_more : (kind : Kind C Data Settings) (may may' : Data → Type 0) (first : List Data) (since : Moment Data Settings) (t : Traffic C Data) (x y : Turned) (s : Option Stepped) (at at' : ℕ → Option (Live C)) (len rest : ℕ) (old mid now : Moment Data Settings)
+      → ((d : Data) → may' d ↔ may d) → y ≡ turned_with x s → TurnsTo kind may first since t x at len old mid
+      → ((u : Traffic C Data) → Relates kind may' first since u at len mid → TurnsTo kind may' first since u (turned_by s) at' rest mid now)
+      → TurnsTo kind may first since t y at' rest old now
+  turns_more kind may may' first since t x y s at at' len rest old mid now same is p f =
+      subst (λ (z : Turned). TurnsTo kind may first since t z at' rest old now) (sym is)
+      (turns_then kind may first since t x s at at' len rest old mid now p (λ u r. let q = f u (relates_may kind may may' first since u at len mid (λ d. (same d).1) r) in record {
+        traffic = q.traffic;
+        relates = relates_may kind may' may first since q.traffic at' rest now (λ d. (same d).0) q.relates;
+        ends = q.ends;
+        goes_on = q.goes_on;
+        up = q.up;
+      }))
+
+ends_none_by : (answer : Stepped) → false ≡ ends answer → ended_by answer ≡ 0
+ends_none_by stepped.Moved e = refl
+ends_none_by stepped.Still e = refl
+ends_none_by stepped.Ended e = cc
+ends_none_by stepped.Starved e = cc
+
+ends_one_by : (answer : Stepped) → true ≡ ends answer → ended_by answer ≡ 1
+ends_one_by stepped.Moved e = cc
+ends_one_by stepped.Still e = cc
+ends_one_by stepped.Ended e = refl
+ends_one_by stepped.Starved e = refl
+
 module _ {C : Type 0} where
+  pub stays_left : (answer : Stepped) (l : Live C) → false ≡ ends answer → left_by answer l ≡ Some l
+  stays_left stepped.Moved l e = refl
+  stays_left stepped.Still l e = refl
+  stays_left stepped.Ended l e = cc
+  stays_left stepped.Starved l e = cc
+
+  pub none_left : (answer : Stepped) (l : Live C) → true ≡ ends answer → left_by answer l ≡ None
+  none_left stepped.Moved l e = cc
+  none_left stepped.Still l e = cc
+  none_left stepped.Ended l e = refl
+  none_left stepped.Starved l e = refl
+
+  -- the slab after a step that stays, and after one that ends
+  pub written_by : (s : Slab (Live C)) (key : ℕ) (l l' : Live C) (answer : Stepped) → get s key ≡ Some l → false ≡ ends answer
+      → (k : ℕ) → get (with_value s key l') k ≡ updated (get s) key (left_by answer l') k
+  written_by s key l l' answer found e k = written s key l l' found k ∙ ap (λ (o : Option (Live C)). updated (get s) key o k) (sym (stays_left answer l' e))
+
+  pub taken_by : (s u : Slab (Live C)) (key : ℕ) (l l' : Live C) (answer : Stepped) → get s key ≡ Some l → true ≡ ends answer → Updates (with_value s key l') u key None
+      → (k : ℕ) → get u k ≡ updated (get s) key (left_by answer l') k
+  taken_by s u key l l' answer found e h k = taken_out s u key l l' found h k ∙ ap (λ (o : Option (Live C)). updated (get s) key o k) (sym (none_left answer l' e))
+
+  pub written_fewer : (s : Slab (Live C)) (key : ℕ) (l l' : Live C) (answer : Stepped) → get s key ≡ Some l → false ≡ ends answer → slab_len (with_value s key l') + ended_by answer ≡ slab_len s
+  written_fewer s key l l' answer found e = let w = written_len s key l l' found in let n = ends_none_by answer e in omega (arith, w, n)
+
+  pub taken_fewer : (s u : Slab (Live C)) (key : ℕ) (l l' : Live C) (answer : Stepped) → true ≡ ends answer → slab_len u + 1 ≡ slab_len s → slab_len u + ended_by answer ≡ slab_len s
+  taken_fewer s u key l l' answer e h = let n = ends_one_by answer e in omega (arith, n, h)
+
   left_is : (l x : Live C) (answer : Stepped) → left_by answer l ≡ Some x → (left_by answer l ≡ Some l) × (x ≡ l)
   left_is l x stepped.Moved e = (refl, cc)
   left_is l x stepped.Still e = (refl, cc)
@@ -137,3 +205,29 @@ module _ {C : Type 0} where
         ];
         distinct = λ i j x y h g e. let p = back i x h in let q = back j y g in s.distinct i j p.0 q.0 p.1.0 q.1.0 (p.1.1 ∙ e ∙ sym q.1.1);
       }
+
+  -- the same, where the slab was written
+  pub suits_stays : {Server : Type 0} (Suits : Server → C → Type 0) (old new : Server) (s : Slab (Live C)) (key : ℕ) (l l' : Live C) (answer : Stepped) (a b : WireState)
+      → SuitsWire Suits old (λ k. get s k) a → get s key ≡ Some l → false ≡ ends answer → l'.link ≡ l.link → OnlyOn l.link a b
+      → (left_by answer l' ≡ Some l' → (b.links l.link).is_open ≡ true) → (left_by answer l' ≡ Some l' → Suits new l'.connection) → ((c : C) → Suits old c → Suits new c)
+      → SuitsWire Suits new (λ k. get (with_value s key l') k) b
+  suits_stays Suits old new s key l l' answer a b suits found e link only is_open connection stays =
+      suits_step Suits old new (λ k. get s k) (λ k. get (with_value s key l') k) key l l' answer a b suits found link (written_by s key l l' answer found e) only is_open connection stays
+
+module _ {C Data Settings : Type 0} where
+  -- a step after which the connection stays in the slab
+  pub turns_stays : (kind : Kind C Data Settings) (may : Data → Type 0) (first : List Data) (since : Moment Data Settings) (t : Traffic C Data) (s : Slab (Live C)) (key : ℕ) (l l' : Live C) (answer : Stepped) (old now : Moment Data Settings)
+      → StepsOn kind may l l' answer old now → get s key ≡ Some l → false ≡ ends answer → Relates kind may first since t (get s) (slab_len s) old
+      → TurnsTo kind may first since t (turned_by (Some answer)) (get (with_value s key l')) (slab_len (with_value s key l')) old now
+  turns_stays kind may first since t s key l l' answer old now steps found e r =
+      turns_step kind may first since t (get s) (get (with_value s key l')) (slab_len s) (slab_len (with_value s key l')) key l l' answer old now steps (has_some s key l found) found
+      (written_by s key l l' answer found e) (written_fewer s key l l' answer found e) r
+
+  -- a step after which it was removed
+  pub turns_ends : (kind : Kind C Data Settings) (may : Data → Type 0) (first : List Data) (since : Moment Data Settings) (t : Traffic C Data) (s u : Slab (Live C)) (key : ℕ) (l l' : Live C) (result : Option (Live C)) (answer : Stepped) (old now : Moment Data Settings)
+      → StepsOn kind may l l' answer old now → get s key ≡ Some l → true ≡ ends answer → result ≡ get (with_value s key l') key → Updates (with_value s key l') u key None → OnSome result (slab_len u + 1 ≡ slab_len (with_value s key l'))
+      → Relates kind may first since t (get s) (slab_len s) old
+      → TurnsTo kind may first since t (turned_by (Some answer)) (get u) (slab_len u) old now
+  turns_ends kind may first since t s u key l l' result answer old now steps found e removed updates fewer r =
+      turns_step kind may first since t (get s) (get u) (slab_len s) (slab_len u) key l l' answer old now steps (has_some s key l found) found
+      (taken_by s u key l l' answer found e updates) (taken_fewer s u key l l' answer e (fewer_by_one s u key l l' result found removed fewer)) r

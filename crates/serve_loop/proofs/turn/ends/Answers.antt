@@ -1,4 +1,3 @@
 -- try
-use Rattle.serve_loop.proofs.PreparedLemmas.{steps_ready}
-use Rattle.serve_loop.proofs.BelowLemmas.{below_more}
+use Rattle.serve_loop.proofs.SlotLemmas.{written_len}
 use Rattle.serve_loop.proofs.turn.ends.Goals as goal
