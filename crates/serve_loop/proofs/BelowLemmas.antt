@@ -22,7 +22,7 @@ abbrev pub nothing : Turned
 nothing = record { moved = false; ended = 0; starved = 0 }
 
 -- moves are seen from before calls on other links, and after them
-moves_on : (k : ℕ) (a b c d : WireState) → b.links k ≡ a.links k → d.links k ≡ c.links k → MovesOn k b c → MovesOn k a d
+pub moves_on : (k : ℕ) (a b c d : WireState) → b.links k ≡ a.links k → d.links k ≡ c.links k → MovesOn k b c → MovesOn k a d
 moves_on k a b c d e f m = record {
   piece = m.piece;
   some = m.some;
@@ -32,16 +32,22 @@ moves_on k a b c d e f m = record {
   ];
 }
 
-stays_on : (k : ℕ) (a b c d : WireState) → b.links k ≡ a.links k → d.links k ≡ c.links k → StaysOn k b c → StaysOn k a d
+pub stays_on : (k : ℕ) (a b c d : WireState) → b.links k ≡ a.links k → d.links k ≡ c.links k → StaysOn k b c → StaysOn k a d
 stays_on k a b c d e f s = record {
   sent = ap (λ (l : Link). l.sent) f ∙ s.sent ∙ ap (λ (l : Link). l.sent) e;
   received = ap (λ (l : Link). l.received) f ∙ s.received ∙ ap (λ (l : Link). l.received) e;
 }
 
-turned_keeps : (x y : Turned) (k : ℕ) (a b c : WireState) → (x.moved ≡ true → y.moved ≡ true) → x.ended ≤ y.ended → c.links k ≡ b.links k → HasTurned x k a b → HasTurned y k a c
-turned_keeps x y k a b c f g e (Moved m o) = Moved (f m) (moves_on k a a b c refl e o)
-turned_keeps x y k a b c f g e (Stalled r) = Stalled (subst (λ (l : Link). Rose (a.links k).stalls l.stalls) (sym e) r)
-turned_keeps x y k a b c f g e (Closed p o) = Closed (omega (arith, p, g)) (ap (λ (l : Link). l.is_open) e ∙ o)
+-- and so of what a turn did, where nothing else touched the link
+pub turned_keeps : (x y : Turned) (k : ℕ) (a b c : WireState) → (x.moved ≡ true → y.moved ≡ true) → x.ended ≤ y.ended → b.links k ≡ a.links k → HasTurned x k b c → HasTurned y k a c
+turned_keeps x y k a b c f g e (Moved m p) = Moved (f m) (moves_on k a b c c e refl p)
+turned_keeps x y k a b c f g e (Stalled r) = Stalled (subst (λ (l : Link). Rose l.stalls (c.links k).stalls) e r)
+turned_keeps x y k a b c f g e (Closed p q) = Closed (omega (arith, p, g)) q
+
+turned_on : (x y : Turned) (k : ℕ) (a b c : WireState) → (x.moved ≡ true → y.moved ≡ true) → x.ended ≤ y.ended → c.links k ≡ b.links k → HasTurned x k a b → HasTurned y k a c
+turned_on x y k a b c f g e (Moved m o) = Moved (f m) (moves_on k a a b c refl e o)
+turned_on x y k a b c f g e (Stalled r) = Stalled (subst (λ (l : Link). Rose (a.links k).stalls l.stalls) (sym e) r)
+turned_on x y k a b c f g e (Closed p o) = Closed (omega (arith, p, g)) (ap (λ (l : Link). l.is_open) e ∙ o)
 
 module _ {C : Type 0} where
   pub below_none : (at : ℕ → Option (Live C)) (w : WireState) → StepsBelow nothing 0 at w w
@@ -90,7 +96,7 @@ module _ {C : Type 0} where
       record {
         links = λ key l below e. elim (last_or key n below) [
           | inl p ↦ subst (λ (k : ℕ). HasTurned y k a c) (ap (λ (v : Live C). v.link) (some_same (at n) m l found (ap at (sym p) ∙ e))) turned
-          | inr q ↦ turned_keeps x y l.link a b c up more (other key l (λ s. absurd (omega (arith, q, s))) e) (h.links key l q e)
+          | inr q ↦ turned_on x y l.link a b c up more (other key l (λ s. absurd (omega (arith, q, s))) e) (h.links key l q e)
         ];
         rest = λ key l from e. other key l (λ s. absurd (omega (arith, from, s))) e ∙ h.rest key l (omega (arith, from)) e;
         moved = λ e. elim (moved e) [

@@ -9,7 +9,7 @@ use Rattle.connections.specs.Versions.{Serving, IsHistory}
 use Rattle.connections.specs.Kinds.{Kind}
 use Rattle.serve_loop.specs.declared.live.Live.{Live}
 use Rattle.serve_loop.specs.Traffic.{Talk, Given, Traffic, Moment, ended, updated}
-use Rattle.serve_loop.specs.Relates.{IsTalk, IsLive, IsOrdered, IsGone, IsOwned, Talks, Ends, Versions, Relates}
+use Rattle.serve_loop.specs.Relates.{IsTalk, IsLive, IsOrdered, IsGone, IsOwned, Talks, Ends, Versions, Relates, TellsSame}
 use Rattle.serve_loop.specs.Steps.{EndsInOrder}
 use Rattle.serve_loop.proofs.TalkLemmas.{moment, same_talk, all_as, holds_same}
 use Rattle.serve_loop.proofs.SentenceLemmas.{some_same}
@@ -47,6 +47,9 @@ gone_on since a b k is_open only j h =
 
 pub none_some : {X : Type 0} (x : X) → None ≡ Some x → ⊥
 none_some x e = cc
+
+pub older_as : (x y z : Link) → z ≡ y → TellsSame x y × (y.is_open ≡ x.is_open) → TellsSame x z × (z.is_open ≡ x.is_open)
+older_as x y z e h = subst (λ (l : Link). TellsSame x l × (l.is_open ≡ x.is_open)) (sym e) h
 
 -- an end that is not listed yet
 closed_apart : (wire : WireState) (k : ℕ) → (wire.links k).is_open ≡ true → (j : ℕ) → (wire.links j).is_open ≡ false → j ≢ k
@@ -167,7 +170,7 @@ module _ {C Data Settings : Type 0} where
           | inl e ↦ record { key = key; live = l'; found = here at key (Some l') key refl; link = link ∙ sym e }
           | inr n ↦ owned_on kind may first since t at len served faults left a b key l (Some l') r found only k n later given opened
         ];
-        older = λ k below. only.others k (λ e. let f = old.later in absurd (omega (arith, below, e, f))) ∙ r.older k below;
+        older = λ k below. older_as (since.wire.links k) (a.links k) (b.links k) (only.others k (λ e. let f = old.later in absurd (omega (arith, below, e, f)))) (r.older k below);
         count = only.given ∙ r.count;
         ends = ends_on kind since t a b l.link (Some talk) old.is_open only r.ends;
       }
@@ -198,7 +201,7 @@ module _ {C Data Settings : Type 0} where
           | inl e ↦ absurd (is_not (b.links k).is_open opened (ap (λ (x : ℕ). (b.links x).is_open) e ∙ closed))
           | inr n ↦ owned_on kind may first since t at len served faults left a b key l None r found only k n later given opened
         ];
-        older = λ k below. only.others k (λ e. let f = old.later in absurd (omega (arith, below, e, f))) ∙ r.older k below;
+        older = λ k below. older_as (since.wire.links k) (a.links k) (b.links k) (only.others k (λ e. let f = old.later in absurd (omega (arith, below, e, f)))) (r.older k below);
         count = let c = r.count in let g = only.given in omega (arith, c, g, fewer, more);
         ends = ends;
       }

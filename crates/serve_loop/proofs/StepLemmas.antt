@@ -21,7 +21,7 @@ module _ {C : Type 0} where
   goes_same version None = tt
   goes_same version (Some talk) = goes_nowhere version talk
 
-  goes_at : (version : ℕ) (o n : Option (Talk C)) (x y : Talk C) → o ≡ Some x → n ≡ Some y → GoesOn version x y → GoesOnAt version o n
+  pub goes_at : (version : ℕ) (o n : Option (Talk C)) (x y : Talk C) → o ≡ Some x → n ≡ Some y → GoesOn version x y → GoesOnAt version o n
   goes_at version o n x y e f h = subst (λ (p : Option (Talk C)). GoesOnAt version p n) (sym e) (subst (λ (q : Option (Talk C)). GoesOnAt version (Some x) q) (sym f) h)
 
   -- the talk of one link went on, and all others are as they were
@@ -130,7 +130,7 @@ module _ {C Data Settings : Type 0} where
     talks = λ k later given. absurd (omega (arith, later, given));
     unseen = λ k above. refl;
     owned = λ k later given is_open. absurd (omega (arith, later, given));
-    older = λ k below. refl;
+    older = λ k below. (record { sent = refl; received = refl; ended = refl }, refl);
     count = omega arith;
     ends = record { ordered = tt; broken = tt; starved = tt; ordered_once = tt; broken_once = tt; starved_once = tt; faults = omega arith };
   }

@@ -3,7 +3,7 @@ use Rattle.std.specs.Prelude.{ℕ, ◌≡◌, ◌≢◌, ◌⊎◌, ◌+◌, ◌
 use Rattle.std.specs.List.{AllByRecursion}
 use Rattle.connections.specs.Marks.{Mark, Served, Failed, Starved}
 use Rattle.tpf_base.specs.Causes.{Rose, RoseBy}
-use Rattle.tpf_base.specs.Links.{WireState}
+use Rattle.tpf_base.specs.Links.{Link, WireState}
 use Rattle.link_calls.specs.Sending.{Holds}
 use Rattle.connections.specs.Versions.{Serving, IsHistory, MOST_VERSIONS}
 use Rattle.connections.specs.Kinds.{Kind}
@@ -18,6 +18,12 @@ pub record SuitsWire {Server C : Type 0} (Suits : Server → C → Type 0) (serv
   pub given : (key : ℕ) (l : Live C) → at key ≡ Some l → l.link < wire.given
   pub suits : (key : ℕ) (l : Live C) → at key ≡ Some l → Suits server l.connection
   pub distinct : (i j : ℕ) (a b : Live C) → at i ≡ Some a → at j ≡ Some b → a.link ≡ b.link → i ≡ j
+
+-- the bytes of a link and its end are as before
+pub record TellsSame (old new : Link) : Type 0 where
+  pub sent : new.sent ≡ old.sent
+  pub received : new.received ≡ old.received
+  pub ended : new.ended ≡ old.ended
 
 -- ---- with history
 
@@ -130,7 +136,8 @@ module _ {C Data Settings : Type 0} where
     pub unseen : (k : ℕ) → now.wire.given ≤ k → t.talks k ≡ None
     -- a link given since that is open has one live connection
     pub owned : (k : ℕ) → since.wire.given ≤ k → k < now.wire.given → (now.wire.links k).is_open ≡ true → IsOwned at k
-    pub older : (k : ℕ) → k < since.wire.given → now.wire.links k ≡ since.wire.links k
+    -- the links of others are as they were, but that a wait may have answered one
+    pub older : (k : ℕ) → k < since.wire.given → TellsSame (since.wire.links k) (now.wire.links k) × ((now.wire.links k).is_open ≡ (since.wire.links k).is_open)
     -- each link given since ended, was closed with the loop, or is live
     pub count : now.wire.given ≡ since.wire.given + (ended t + t.left + len)
     pub ends : Ends kind since t now.wire

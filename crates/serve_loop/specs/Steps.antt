@@ -3,7 +3,7 @@ use Rattle.std.specs.Prelude.{ℕ, ◌≡◌, ◌≢◌, ◌⊎◌, ◌+◌, ◌
 use Rattle.std.specs.List.{AllByRecursion}
 use Rattle.std.specs.Io.KnownBytes.{append_known}
 use Rattle.tpf_base.specs.Causes.{Rose, RoseBy, counted_by}
-use Rattle.tpf_base.specs.Links.{Link, WireState}
+use Rattle.tpf_base.specs.Links.{WireState}
 use Rattle.tpf_base.specs.Calls.{OnlyOn, Closes, GivesAccepted, GivesNone}
 use Rattle.link_calls.specs.Sending.{Holds}
 use Rattle.connections.specs.Marks.{Mark, version_at}
@@ -19,7 +19,7 @@ use Rattle.serve_loop.specs.declared.live.Turned.{Turned}
 use Rattle.serve_loop.specs.declared.step.Received.{Received}
 use Rattle.serve_loop.specs.declared.step.Received.TheVariants as received
 use Rattle.serve_loop.specs.Traffic.{Talk, Given, Traffic, Moment, ended, updated, took, with_given}
-use Rattle.serve_loop.specs.Relates.{Relates, IsTalk}
+use Rattle.serve_loop.specs.Relates.{Relates, IsTalk, TellsSame}
 
 -- how many connections ended with a step, and how many of them for want of memory
 abbrev pub ended_by : Stepped → ℕ
@@ -48,12 +48,6 @@ pub record Supplies {Data Settings : Type 0} (may : Data → Type 0) (outcome : 
   pub wire : now.wire ≡ old.wire
 
 -- ---- what is seen on the wire
-
--- the bytes of a link and its end are as before
-pub record TellsSame (old new : Link) : Type 0 where
-  pub sent : new.sent ≡ old.sent
-  pub received : new.received ≡ old.received
-  pub ended : new.ended ≡ old.ended
 
 -- Calls on one link alone, after which it was idle no longer where it was not before.
 pub record CallsOnly (k : ℕ) (old new : WireState) : Type 0 where
