@@ -42,4 +42,7 @@ pub trait Serves {
     ghost follows_then: { (a b c : Self) → Follows a b → Follows b c → Follows a c };
 
     ghost follows_itself: { (a : Self) → Follows a a };
+
+    /// The first version is 1.
+    ghost numbered: { (server : Self) → 1 ≤ (serving server).version };
 }

@@ -12,10 +12,10 @@ use Rattle.serve_loop.specs.Steps.{MovesOn, StaysOn, HasCalled, HasTurned, Moved
 use Rattle.serve_loop.proofs.RelatesLemmas.{same_or, is_not, none_some}
 use Rattle.serve_loop.proofs.SentenceLemmas.{some_same}
 
-last_or : (key n : ℕ) → key < n + 1 → (key ≡ n) ⊎ (key < n)
+pub last_or : (key n : ℕ) → key < n + 1 → (key ≡ n) ⊎ (key < n)
 last_or key n h = grind arith
 
-below_or : (key n : ℕ) → (key < n) ⊎ (n ≤ key)
+pub below_or : (key n : ℕ) → (key < n) ⊎ (n ≤ key)
 below_or key n = grind arith
 
 abbrev pub nothing : Turned

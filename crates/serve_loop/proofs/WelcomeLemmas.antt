@@ -13,7 +13,7 @@ use Rattle.serve_loop.specs.Relates.{IsTalk, IsLive, IsOrdered, IsGone, IsOwned,
 use Rattle.serve_loop.specs.Steps.{GoesOnAt, RestsWire, Welcomes, TurnsTo, StepsAll, IsBusy}
 use Rattle.serve_loop.proofs.BelowLemmas.{nothing, turned_keeps, moves_on, stays_on}
 use Rattle.tpf_base.specs.Causes.{Rose}
-use Rattle.std.specs.Prelude.{◌||◌}
+use Rattle.std.specs.Prelude.{◌||◌, Result, Ok, Err, OnErr}
 use Rattle.serve_loop.proofs.TalkLemmas.{moment, same_talk, all_as, holds_same, holds_as, plain}
 use Rattle.serve_loop.proofs.RelatesLemmas.{here, there, same_or, none_some, is_not, versions_on, older_as}
 use Rattle.serve_loop.proofs.SentenceLemmas.{some_same}
@@ -47,6 +47,10 @@ gone_given since a b g k h =
     let hg = h.given in
     let gm = g.more in
     record { later = h.later; given = omega (arith, hg, gm); closed = ap (λ (x : Link). x.is_open) (g.others k (λ e. absurd (omega (arith, hg, e)))) ∙ h.closed }
+
+pub on_err : {X E : Type 0} (r : Result X E) (P : Type 0) → P → OnErr r P
+on_err (Ok x) P p = tt
+on_err (Err e) P p = p
 
 pub or_true : (x y : Bool) → x ≡ true → true ≡ (x || y)
 or_true true y e = refl

@@ -234,6 +234,7 @@ fn close_all<C: Drop, W: Wire>(live: &mut Slab<Live<C>>, wire: &mut W)
     requires is_open { (key : ℕ) (l : Live C) → get live.old key ≡ Some l → ((W.state wire.old).links l.link).is_open ≡ true }
     ensures none { (key : ℕ) → get live.new key ≡ None }
     ensures leaves { LeavesAll (get live.old) (W.state wire.old) (W.state wire.new) }
+    ensures listens { (W.state wire.new).listens ≡ (W.state wire.old).listens }
 {
     let keys = live.capacity();
     for key in 0..keys {
@@ -340,6 +341,7 @@ impl<C: Converses> Loop<C> {
         requires is_open { (key : ℕ) (l : Live C) → get self.old.live key ≡ Some l → ((W.state wire.old).links l.link).is_open ≡ true }
         ensures none { (key : ℕ) → get self.new.live key ≡ None }
         ensures leaves { LeavesAll (get self.old.live) (W.state wire.old) (W.state wire.new) }
+        ensures listens { (W.state wire.new).listens ≡ (W.state wire.old).listens }
     {
         close_all(&mut self.live, wire);
     }

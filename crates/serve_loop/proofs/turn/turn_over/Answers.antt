@@ -1,6 +1,6 @@
 -- What the door did, and then the steps.
-use Rattle.std.proofs.Common.{refl}
-use Rattle.serve_loop.proofs.WelcomeLemmas.{welcomed, unwelcomed, turns_after, busy, or_true, or_else}
+use Rattle.std.proofs.Common.{refl, ◌∙◌}
+use Rattle.serve_loop.proofs.WelcomeLemmas.{welcomed, unwelcomed, turns_after, busy, or_true, or_else, on_err}
 use Rattle.serve_loop.proofs.turn.turn_over.Goals as goal
 
 pub returns-then-accepted-clause-turns : goal.returns-then-accepted-clause-turns
@@ -13,12 +13,12 @@ returns-else-accepted-clause-turns g c = λ first since t r. turns_after _ _ _ _
 
 pub returns-then-accepted-clause-busy : goal.returns-then-accepted-clause-busy
 returns-then-accepted-clause-busy g c = busy _ c.step_all-turned.result _ _ _ _ _ _ _ _ _ c.in_ok-accepted.ensures.welcomes c.requires.suits.given c.step_all-turned.ensures.all
-    (or_true _ _ c.if-accepted.true) refl
+    (c.if-accepted.true ∙ or_true _ _ c.if-accepted.true) refl
 
 pub returns-else-accepted-clause-busy : goal.returns-else-accepted-clause-busy
 returns-else-accepted-clause-busy g c = busy _ c.step_all-turned.result _ _ _ _ _ _ _ _ _ c.in_ok-accepted.ensures.welcomes c.requires.suits.given c.step_all-turned.ensures.all
     (or_else _ _ c.if-accepted.false) refl
 
 pub returns-in_err-accepted-clause-err : goal.returns-in_err-accepted-clause-err
-returns-in_err-accepted-clause-err g c = λ first since t r. unwelcomed _ _ _ _ _ _ _ _ _ _ _ _ _ _ c.in_err-accepted.ensures.err c.in_err-accepted.ensures.len c.in_err-accepted.ensures.none
-    c.in_err-accepted.ensures.later c.requires.listens c.in_err-accepted.ensures.listens r
+returns-in_err-accepted-clause-err g c = on_err _ _ (λ first since t r. unwelcomed _ _ _ _ _ _ _ _ _ _ _ _ _ _ c.in_err-accepted.ensures.err c.in_err-accepted.ensures.len c.in_err-accepted.ensures.none
+    c.in_err-accepted.ensures.later c.requires.listens c.in_err-accepted.ensures.listens r)
