@@ -1,6 +1,6 @@
 -- Turns, one after another, and the exit.
 use Rattle.std.proofs.Common.{ℕ, ◌≡◌, ◌≢◌, ◌+◌, ◌-◌, ◌<◌, ◌≤◌, List, [], ◌∷◌, ◌++◌, length, replicate, Option, Some, None, refl, sym, ◌∙◌, ap, subst, arith, length-append, length-replicate}
-use Rattle.std.specs.Prelude.{◌↔◌}
+use Rattle.std.specs.Prelude.{◌↔◌, IfSome, IfOk, OnErr, Result, Ok, Err}
 use Rattle.tpf_base.specs.Causes.{counted_by}
 use Rattle.tpf_base.specs.Links.{WireState}
 use Rattle.connections.specs.Versions.{Serving, IsHistory}
@@ -9,15 +9,16 @@ use Rattle.serve_loop.specs.declared.live.Live.{Live}
 use Rattle.serve_loop.specs.declared.live.Served.{Served}
 use Rattle.serve_loop.specs.declared.live.Turned.{Turned}
 use Rattle.serve_loop.specs.Traffic.{Traffic, Moment, no_traffic, ended}
-use Rattle.serve_loop.specs.Relates.{Relates}
-use Rattle.serve_loop.specs.Sentence.{Sentence, SpeaksWhole}
+use Rattle.serve_loop.specs.Relates.{Relates, SuitsWire}
+use Rattle.serve_loop.specs.Sentence.{Sentence, SpeaksWhole, AllClosed}
 use Rattle.serve_loop.specs.Steps.{EndsBy, TurnsTo, ServesTo, Carries, RestsWire, LeavesAll, served_with}
 use Rattle.serve_loop.proofs.TalkLemmas.{moment}
 use Rattle.serve_loop.proofs.SentenceLemmas.{sentence, speaks_whole}
 use Rattle.serve_loop.proofs.EndsLemmas.{ends_same, ends_then, ended_more}
 use Rattle.serve_loop.proofs.TurnLemmas.{relates_may}
 use Rattle.serve_loop.proofs.WelcomeLemmas.{relates_rests}
-use Rattle.serve_loop.proofs.CloseLemmas.{relates_left}
+use Rattle.serve_loop.proofs.CloseLemmas.{relates_left, all_closed}
+use Rattle.serve_loop.proofs.StepLemmas.{begins}
 
 counts_more : (x y z n e : ℕ) → x ≡ counted_by n 0 → y ≡ counted_by e x → y ≡ counted_by (n + e) 0
 counts_more x y z n e p q = omega (arith, p, q)
@@ -29,6 +30,34 @@ some_history {Data = Data} server one = (replicate (server.version - 1) server.d
   before = replicate (server.version - 1) server.data_set;
   last = refl;
 })
+
+-- ---- how many are enough
+
+pub less_if : (o : Option ℕ) (n : ℕ) → IfSome o (λ m. n < m) → IfSome o (λ m. n ≤ m - 1)
+less_if None n h = tt
+less_if (Some m) n h = omega (arith, h)
+
+pub first_if : (o : Option ℕ) (x y e : ℕ) → y ≡ counted_by e x → e ≤ 256 → IfSome o (λ m. x ≤ m - 1) → IfSome o (λ m. y ≤ (m - 1) + 256)
+first_if None x y e is few h = tt
+first_if (Some m) x y e is few h = omega (arith, is, few, h)
+
+pub zero_if : (o : Option ℕ) → IfSome o (λ m. 0 ≤ m - 1)
+zero_if None = tt
+zero_if (Some m) = omega arith
+
+pub if_ok_map : {X E : Type 0} (r : Result X E) (P Q : X → Type 0) → ((x : X) → P x → Q x) → IfOk r P → IfOk r Q
+if_ok_map (Ok x) P Q f h = f x h
+if_ok_map (Err e) P Q f h = tt
+
+module _ {C : Type 0} where
+  -- after a wait the same connections suit the wire
+  pub suits_rests : {Server : Type 0} (Suits : Server → C → Type 0) (server : Server) (at : ℕ → Option (Live C)) (a b : WireState) → RestsWire a b → SuitsWire Suits server at a → SuitsWire Suits server at b
+  suits_rests Suits server at a b w s = record {
+    is_open = λ key l h. w.opened l.link ∙ s.is_open key l h;
+    given = λ key l h. subst (λ (n : ℕ). l.link < n) (sym w.given) (s.given key l h);
+    suits = s.suits;
+    distinct = s.distinct;
+  }
 
 module _ {C Data Settings : Type 0} where
   pub serves_none : (kind : Kind C Data Settings) (may : Data → Type 0) (first : List Data) (since : Moment Data Settings) (t : Traffic C Data) (at : ℕ → Option (Live C)) (len : ℕ) (now : Moment Data Settings)
@@ -120,3 +149,37 @@ module _ {C Data Settings : Type 0} where
       let n = ended_more (no_traffic first) p.traffic p.count p.wanted old.wire.faults now.wire.faults p.ends in
       let k = p.connections in
       omega (arith, c, n, k)
+
+  -- a loop without connections begins, whatever the length is called
+  pub begins_at : (kind : Kind C Data Settings) (may : Data → Type 0) (first : List Data) (at : ℕ → Option (Live C)) (len : ℕ) (served : Serving Data Settings) (faults : ℕ) (left : Option (List Data)) (a : WireState)
+      → len ≡ 0 → ((key : ℕ) → at key ≡ None) → IsHistory first served
+      → Relates kind may first (moment served faults left a) (no_traffic first) at len (moment served faults left a)
+  begins_at kind may first at len served faults left a zero none h =
+      subst (λ (n : ℕ). Relates kind may first (moment served faults left a) (no_traffic first) at n (moment served faults left a)) (sym zero) (begins kind may first at served faults left a h none)
+
+  pub closed_left : (kind : Kind C Data Settings) (may : Data → Type 0) (first : List Data) (since : Moment Data Settings) (at at' : ℕ → Option (Live C)) (len : ℕ) (served : Serving Data Settings) (faults : ℕ) (left : Option (List Data)) (a b : WireState)
+      → LeavesAll at a b → ((key : ℕ) → at' key ≡ None) → Carries kind may first since at len (moment served faults left a)
+      → AllClosed since.wire b
+  closed_left kind may first since at at' len served faults left a b w none p =
+      all_closed kind may first since (record p.traffic { left = p.traffic.left + len }) at' 0 (moment served faults left b) none
+      (relates_left kind may first since p.traffic at at' len served faults left a b w none p.relates)
+
+  -- ---- what a turn says
+
+  pub sentence_either : {E : Type 0} (r : Result Turned E) (kind : Kind C Data Settings) → BeginsResponse kind → (may : Data → Type 0) (first : List Data) (since : Moment Data Settings) (t : Traffic C Data) (at at' : ℕ → Option (Live C)) (len rest : ℕ) (old now : Moment Data Settings)
+      → IfOk r (λ turned. (first : List Data) (since : Moment Data Settings) (t : Traffic C Data) → Relates kind may first since t at len old → TurnsTo kind may first since t turned at' rest old now)
+      → OnErr r ((first : List Data) (since : Moment Data Settings) (t : Traffic C Data) → Relates kind may first since t at len old → Relates kind may first since t at' rest now)
+      → Relates kind may first since t at len old → Sentence kind may first since now
+  sentence_either (Ok turned) kind begins may first since t at at' len rest old now f g r = let q = f first since t r in sentence kind begins may first since q.traffic at' rest now q.relates
+  sentence_either (Err fault) kind begins may first since t at at' len rest old now f g r = sentence kind begins may first since t at' rest now (g first since t r)
+
+  pub speaks_turn : {E : Type 0} (r : Result Turned E) (kind : Kind C Data Settings) → BeginsResponse kind → IsWhole kind → (may : Data → Type 0) (at at' : ℕ → Option (Live C)) (len rest : ℕ) (old now : Moment Data Settings)
+      → IfOk r (λ turned. turned.ended ≤ 256)
+      → IfOk r (λ turned. (first : List Data) (since : Moment Data Settings) (t : Traffic C Data) → Relates kind may first since t at len old → TurnsTo kind may first since t turned at' rest old now)
+      → IfOk r (λ turned. (first : List Data) (since : Moment Data Settings) (t : Traffic C Data) → Relates kind may first since t at len old → SpeaksWhole kind may first since now old.wire.faults turned.ended turned.starved)
+  speaks_turn (Ok turned) kind begins whole may at at' len rest old now few f = λ first since t r.
+      let q = f first since t r in
+      let c = q.ends.count_is in
+      let w = q.ends.wanted_is in
+      speaks_whole kind begins whole may first since t q.traffic at' rest now turned.ended turned.starved old.wire.faults turned.ended turned.starved q.relates q.ends (omega (arith, few)) (omega (arith, few, c, w))
+  speaks_turn (Err fault) kind begins whole may at at' len rest old now few f = tt

@@ -1,9 +1,9 @@
 // A service: turns, and waits where a turn did nothing.
 ghost use Rattle.std.specs.Prelude.{ℕ, ◌≡◌, ◌+◌, ◌-◌, ◌≤◌, ◌<◌, ◌⊎◌, List, IfOk, OnOk, OnErr, IfErr, IfSome, None, Some, true, false, ◌↔◌};
-ghost use Rattle.slab.specs.Slab.{get, slab_len};
 ghost use Rattle.tpf_base.specs.Causes.{Rose, counted};
 ghost use Rattle.connections.specs.Versions.{IsHistory};
 ghost use Rattle.serve_loop.specs.Traffic.{Traffic, Moment};
+ghost use Rattle.serve_loop.specs.Held.{held, held_count};
 ghost use Rattle.serve_loop.specs.Relates.{Relates, SuitsWire};
 ghost use Rattle.serve_loop.specs.Sentence.{Sentence, SpeaksWhole, AllClosed};
 ghost use Rattle.serve_loop.specs.Steps.{Carries, ServesTo, RestsWire, served_with};
@@ -66,17 +66,17 @@ fn serve_on<R: Wait, C: Converses, S: Supply<C::Server>, W: Accept>(
     stop_after: Option<u64>,
 ) -> Result<Served, ServeFault>
     requires listens { (W.state wire.old).listens ≡ true }
-    requires few { slab_len connections.old.live ≤ 256 }
-    requires suits { SuitsWire C.Suits server.old (λ key. get connections.old.live key) (W.state wire.old) }
+    requires few { held_count connections.old ≤ 256 }
+    requires suits { SuitsWire C.Suits server.old (λ key. held connections.old key) (W.state wire.old) }
     ensures listens { (W.state wire.new).listens ≡ true }
-    ensures suits { SuitsWire C.Suits server.new (λ key. get connections.new.live key) (W.state wire.new) }
-    ensures carries { (first : List C.Server.Data) (since : Moment C.Server.Data C.Server.Settings) (t : Traffic C C.Server.Data) → Relates C.kind (S.may supply.old) first since t (get connections.old.live) (slab_len connections.old.live)
+    ensures suits { SuitsWire C.Suits server.new (λ key. held connections.new key) (W.state wire.new) }
+    ensures carries { (first : List C.Server.Data) (since : Moment C.Server.Data C.Server.Settings) (t : Traffic C C.Server.Data) → Relates C.kind (S.may supply.old) first since t (held connections.old) (held_count connections.old)
         (record { served = C.Server.serving server.old; faults = S.faults supply.old; left = S.left supply.old; wire = W.state wire.old })
-        → Carries C.kind (S.may supply.old) first since (get connections.new.live) (slab_len connections.new.live)
+        → Carries C.kind (S.may supply.old) first since (held connections.new) (held_count connections.new)
         (record { served = C.Server.serving server.new; faults = S.faults supply.new; left = S.left supply.new; wire = W.state wire.new }) }
-    ensures serves { IfOk result (λ served. (first : List C.Server.Data) (since : Moment C.Server.Data C.Server.Settings) (t : Traffic C C.Server.Data) → Relates C.kind (S.may supply.old) first since t (get connections.old.live) (slab_len connections.old.live)
+    ensures serves { IfOk result (λ served. (first : List C.Server.Data) (since : Moment C.Server.Data C.Server.Settings) (t : Traffic C C.Server.Data) → Relates C.kind (S.may supply.old) first since t (held connections.old) (held_count connections.old)
         (record { served = C.Server.serving server.old; faults = S.faults supply.old; left = S.left supply.old; wire = W.state wire.old })
-        → ServesTo C.kind (S.may supply.old) first since t served (get connections.new.live) (slab_len connections.new.live)
+        → ServesTo C.kind (S.may supply.old) first since t served (held connections.new) (held_count connections.new)
         (record { served = C.Server.serving server.old; faults = S.faults supply.old; left = S.left supply.old; wire = W.state wire.old })
         (record { served = C.Server.serving server.new; faults = S.faults supply.new; left = S.left supply.new; wire = W.state wire.new })) }
     ensures stops { IfOk result (λ served. IfSome stop_after (λ most. most ≤ served.connections)) }

@@ -243,10 +243,12 @@ fn close_all<C: Drop, W: Wire>(live: &mut Slab<Live<C>>, wire: &mut W)
 }
 
 impl<C: Converses> Loop<C> {
+    ghost use Rattle.serve_loop.specs.Held.{held, held_count};
+
     /// A loop without connections. It takes no memory.
     pub fn new(alloc: Global) -> Loop<C>
-        ensures len { slab_len result.live ≡ 0 }
-        ensures none { (key : ℕ) → get result.live key ≡ None }
+        ensures len { held_count result ≡ 0 }
+        ensures none { (key : ℕ) → held result key ≡ None }
     {
         Loop {
             alloc,
@@ -262,18 +264,18 @@ impl<C: Converses> Loop<C> {
         _supply: &S,
         _wire: &W,
     )
-        requires { (key : ℕ) → get self.now.live key ≡ None }
+        requires { (key : ℕ) → held self.now key ≡ None }
         ensures { (first : List C.Server.Data) → IsHistory first (C.Server.serving _server.now)
             → Relates C.kind (S.may _supply.now) first
             (record { served = C.Server.serving _server.now; faults = S.faults _supply.now; left = S.left _supply.now; wire = W.state _wire.now })
-            (no_traffic first) (get self.now.live) 0
+            (no_traffic first) (held self.now) 0
             (record { served = C.Server.serving _server.now; faults = S.faults _supply.now; left = S.left _supply.now; wire = W.state _wire.now }) }
     {
     }
 
     /// How many connections are live: at most 256.
     pub fn live(&self) -> usize
-        ensures { result ≡ slab_len self.now.live }
+        ensures { result ≡ held_count self.now }
     {
         self.live.len()
     }
@@ -292,35 +294,35 @@ impl<C: Converses> Loop<C> {
         wire: &mut W,
     ) -> Result<Turned, ServeFault>
         requires listens { (W.state wire.old).listens ≡ true }
-        requires few { slab_len self.old.live ≤ 256 }
-        requires suits { SuitsWire C.Suits server.old (λ key. get self.old.live key) (W.state wire.old) }
+        requires few { held_count self.old ≤ 256 }
+        requires suits { SuitsWire C.Suits server.old (λ key. held self.old key) (W.state wire.old) }
         ensures listens { (W.state wire.new).listens ≡ true }
-        ensures few { slab_len self.new.live ≤ 256 }
-        ensures suits { SuitsWire C.Suits server.new (λ key. get self.new.live key) (W.state wire.new) }
-        ensures turns { IfOk result (λ turned. (first : List C.Server.Data) (since : Moment C.Server.Data C.Server.Settings) (t : Traffic C C.Server.Data) → Relates C.kind (S.may supply.old) first since t (get self.old.live) (slab_len self.old.live)
+        ensures few { held_count self.new ≤ 256 }
+        ensures suits { SuitsWire C.Suits server.new (λ key. held self.new key) (W.state wire.new) }
+        ensures turns { IfOk result (λ turned. (first : List C.Server.Data) (since : Moment C.Server.Data C.Server.Settings) (t : Traffic C C.Server.Data) → Relates C.kind (S.may supply.old) first since t (held self.old) (held_count self.old)
             (record { served = C.Server.serving server.old; faults = S.faults supply.old; left = S.left supply.old; wire = W.state wire.old })
-            → TurnsTo C.kind (S.may supply.old) first since t turned (get self.new.live) (slab_len self.new.live)
+            → TurnsTo C.kind (S.may supply.old) first since t turned (held self.new) (held_count self.new)
             (record { served = C.Server.serving server.old; faults = S.faults supply.old; left = S.left supply.old; wire = W.state wire.old })
             (record { served = C.Server.serving server.new; faults = S.faults supply.new; left = S.left supply.new; wire = W.state wire.new })) }
-        ensures prefixes { (first : List C.Server.Data) (since : Moment C.Server.Data C.Server.Settings) (t : Traffic C C.Server.Data) → Relates C.kind (S.may supply.old) first since t (get self.old.live) (slab_len self.old.live)
+        ensures prefixes { (first : List C.Server.Data) (since : Moment C.Server.Data C.Server.Settings) (t : Traffic C C.Server.Data) → Relates C.kind (S.may supply.old) first since t (held self.old) (held_count self.old)
             (record { served = C.Server.serving server.old; faults = S.faults supply.old; left = S.left supply.old; wire = W.state wire.old })
             → Sentence C.kind (S.may supply.old) first since
             (record { served = C.Server.serving server.new; faults = S.faults supply.new; left = S.left supply.new; wire = W.state wire.new }) }
-        ensures whole { IfOk result (λ turned. (first : List C.Server.Data) (since : Moment C.Server.Data C.Server.Settings) (t : Traffic C C.Server.Data) → Relates C.kind (S.may supply.old) first since t (get self.old.live) (slab_len self.old.live)
+        ensures whole { IfOk result (λ turned. (first : List C.Server.Data) (since : Moment C.Server.Data C.Server.Settings) (t : Traffic C C.Server.Data) → Relates C.kind (S.may supply.old) first since t (held self.old) (held_count self.old)
             (record { served = C.Server.serving server.old; faults = S.faults supply.old; left = S.left supply.old; wire = W.state wire.old })
             → SpeaksWhole C.kind (S.may supply.old) first since
             (record { served = C.Server.serving server.new; faults = S.faults supply.new; left = S.left supply.new; wire = W.state wire.new })
             (W.state wire.old).faults turned.ended turned.starved) }
-        ensures busy { IfOk result (λ turned. IsBusy 256 turned (get self.old.live) (slab_len self.old.live) (W.state wire.old) (W.state wire.new)) }
+        ensures busy { IfOk result (λ turned. IsBusy 256 turned (held self.old) (held_count self.old) (W.state wire.old) (W.state wire.new)) }
         ensures idle { IfOk result (λ turned. turned.moved ≡ true → (W.state wire.new).idle ≡ 0) }
-        ensures count { IfOk result (λ turned. slab_len self.new.live + turned.ended + (W.state wire.old).given ≡ slab_len self.old.live + (W.state wire.new).given) }
+        ensures count { IfOk result (λ turned. held_count self.new + turned.ended + (W.state wire.old).given ≡ held_count self.old + (W.state wire.new).given) }
         ensures most { IfOk result (λ turned. turned.ended ≤ 256) }
     ensures later { (W.state wire.old).faults ≤ (W.state wire.new).faults }
-    ensures err { OnErr result ((first : List C.Server.Data) (since : Moment C.Server.Data C.Server.Settings) (t : Traffic C C.Server.Data) → Relates C.kind (S.may supply.old) first since t (get self.old.live) (slab_len self.old.live)
+    ensures err { OnErr result ((first : List C.Server.Data) (since : Moment C.Server.Data C.Server.Settings) (t : Traffic C C.Server.Data) → Relates C.kind (S.may supply.old) first since t (held self.old) (held_count self.old)
             (record { served = C.Server.serving server.old; faults = S.faults supply.old; left = S.left supply.old; wire = W.state wire.old })
-            → Relates C.kind (S.may supply.old) first since t (get self.new.live) (slab_len self.new.live)
+            → Relates C.kind (S.may supply.old) first since t (held self.new) (held_count self.new)
             (record { served = C.Server.serving server.new; faults = S.faults supply.new; left = S.left supply.new; wire = W.state wire.new })) }
-        ensures stay { OnErr result ((key : ℕ) → get self.new.live key ≡ get self.old.live key) }
+        ensures stay { OnErr result ((key : ℕ) → held self.new key ≡ held self.old key) }
         ensures wire { IfErr result (λ fault. fault ≡ ServeFault.Wire → Rose (W.state wire.old).faults (W.state wire.new).faults) }
         ensures follows { C.Server.Follows server.old server.new }
         ensures same { (data_set : C.Server.Data) → S.may supply.new data_set ↔ S.may supply.old data_set }
@@ -337,10 +339,10 @@ impl<C: Converses> Loop<C> {
 
     /// Closes the links of all live connections, and forgets them.
     pub fn close<W: Wire>(&mut self, wire: &mut W)
-        requires distinct { (i j : ℕ) (a b : Live C) → get self.old.live i ≡ Some a → get self.old.live j ≡ Some b → a.link ≡ b.link → i ≡ j }
-        requires is_open { (key : ℕ) (l : Live C) → get self.old.live key ≡ Some l → ((W.state wire.old).links l.link).is_open ≡ true }
-        ensures none { (key : ℕ) → get self.new.live key ≡ None }
-        ensures leaves { LeavesAll (get self.old.live) (W.state wire.old) (W.state wire.new) }
+        requires distinct { (i j : ℕ) (a b : Live C) → held self.old i ≡ Some a → held self.old j ≡ Some b → a.link ≡ b.link → i ≡ j }
+        requires is_open { (key : ℕ) (l : Live C) → held self.old key ≡ Some l → ((W.state wire.old).links l.link).is_open ≡ true }
+        ensures none { (key : ℕ) → held self.new key ≡ None }
+        ensures leaves { LeavesAll (held self.old) (W.state wire.old) (W.state wire.new) }
         ensures listens { (W.state wire.new).listens ≡ (W.state wire.old).listens }
     {
         close_all(&mut self.live, wire);
