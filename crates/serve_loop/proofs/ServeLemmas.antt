@@ -1,11 +1,14 @@
 -- Turns, one after another, and the exit.
-use Rattle.std.proofs.Common.{ℕ, ◌≡◌, ◌≢◌, ◌+◌, ◌-◌, ◌<◌, ◌≤◌, List, [], ◌∷◌, ◌++◌, length, replicate, Option, Some, None, refl, sym, ◌∙◌, ap, subst, arith, length-append, length-replicate}
-use Rattle.std.specs.Prelude.{◌↔◌, IfSome, IfOk, OnErr, Result, Ok, Err}
-use Rattle.tpf_base.specs.Causes.{counted_by}
+use Rattle.std.proofs.Common.{ℕ, ◌≡◌, ◌≢◌, ◌+◌, ◌-◌, ◌<◌, ◌≤◌, List, [], ◌∷◌, ◌++◌, length, replicate, Option, Some, None, refl, sym, ◌∙◌, ap, subst, arith, length-append}
+use Rattle.std.proofs.lemmas.List.{length-replicate}
+use Rattle.std.specs.Prelude.{◌↔◌, IfSome, IfOk, IfErr, OnErr, Result, Ok, Err}
+use Rattle.tpf_base.specs.Causes.{Rose, counted_by}
 use Rattle.tpf_base.specs.Links.{WireState}
 use Rattle.connections.specs.Versions.{Serving, IsHistory}
 use Rattle.connections.specs.Kinds.{Kind, BeginsResponse, IsWhole}
 use Rattle.serve_loop.specs.declared.live.Live.{Live}
+use Rattle.serve_loop.specs.declared.live.ServeFault.{ServeFault}
+use Rattle.serve_loop.specs.declared.live.ServeFault.TheVariants as faults
 use Rattle.serve_loop.specs.declared.live.Served.{Served}
 use Rattle.serve_loop.specs.declared.live.Turned.{Turned}
 use Rattle.serve_loop.specs.Traffic.{Traffic, Moment, no_traffic, ended}
@@ -44,6 +47,13 @@ first_if (Some m) x y e is few h = omega (arith, is, few, h)
 pub zero_if : (o : Option ℕ) → IfSome o (λ m. 0 ≤ m - 1)
 zero_if None = tt
 zero_if (Some m) = omega arith
+
+-- a fault of the wire, since an earlier moment
+pub wire_from : {X : Type 0} (r : Result X ServeFault) (f y : ServeFault) (a b c : ℕ) → r ≡ Err y → y ≡ f → a ≤ b → (f ≡ faults.Wire → Rose b c) → IfErr r (λ fault. fault ≡ faults.Wire → Rose a c)
+wire_from {X = X} r f y a b c e i h w = subst (λ (x : Result X ServeFault). IfErr x (λ fault. fault ≡ faults.Wire → Rose a c)) (sym e) (λ q. let v = w (sym i ∙ q) in omega (arith, h, v))
+
+pub later_then : (a b c : ℕ) → a ≤ b → b ≤ c → a ≤ c
+later_then a b c h k = omega (arith, h, k)
 
 pub if_ok_map : {X E : Type 0} (r : Result X E) (P Q : X → Type 0) → ((x : X) → P x → Q x) → IfOk r P → IfOk r Q
 if_ok_map (Ok x) P Q f h = f x h

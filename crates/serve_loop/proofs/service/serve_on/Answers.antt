@@ -1,7 +1,7 @@
 -- Each turn, and each wait, is one more.
-use Rattle.std.proofs.Common.{refl, sym, ◌∙◌, ap}
-use Rattle.serve_loop.proofs.WelcomeLemmas.{on_err}
-use Rattle.serve_loop.proofs.ServeLemmas.{serves_none, serves_turn, serves_rest, serves_carries, serves_fault, suits_rests, less_if, first_if, zero_if}
+use Rattle.std.proofs.Common.{refl, sym, ◌∙◌, ap, arith}
+use Rattle.std.proofs.lemmas.Result.{err_from_is_err_and}
+use Rattle.serve_loop.proofs.ServeLemmas.{serves_none, serves_turn, serves_rest, serves_carries, serves_fault, suits_rests, less_if, first_if, zero_if, wire_from, later_then}
 use Rattle.serve_loop.proofs.service.serve_on.Goals as goal
 
 pub loop-init : goal.loop-init
@@ -11,6 +11,7 @@ loop-init g c = record {
   suits = c.requires.suits;
   serves = λ first since t r. serves_none _ _ _ _ _ _ _ _ r;
   fewer = zero_if c.args.stop_after;
+  later = omega arith;
   follows = g.met.C.Server.Serves.follows_itself c.args.server.now;
   same = λ d. (λ x. x, λ x. x);
 }
@@ -23,6 +24,7 @@ loop-preserved g c = record {
   serves = λ first since t r. serves_rest _ _ _ _ _ _ _ _ _ _ _ _ _ _ c.in_ok-rest.ensures.only
       (serves_turn _ _ _ _ _ _ c.loop.served _ _ _ _ _ _ _ _ _ c.loop.invariant.same c.with-served.ensures (c.loop.invariant.serves first since t r) (λ u q. c.in_ok-turned.ensures.turns first since u q));
   fewer = less_if c.args.stop_after _ (c.is_reached.ensures.fewer c.if-is_reached.false);
+  later = later_then _ _ _ c.loop.invariant.later (later_then _ _ _ c.in_ok-turned.ensures.later c.in_ok-rest.ensures.only.faults);
   follows = g.met.C.Server.Serves.follows_then _ _ _ c.loop.invariant.follows c.in_ok-turned.ensures.follows;
   same = λ d. (λ x. (c.loop.invariant.same d).0 ((c.in_ok-turned.ensures.same d).0 x), λ x. (c.in_ok-turned.ensures.same d).1 ((c.loop.invariant.same d).1 x));
 }
@@ -51,3 +53,13 @@ returns-in_err-rest-clause-suits g c = suits_rests _ _ _ _ _ c.in_err-rest.ensur
 
 pub returns-in_err-rest-clause-follows : goal.returns-in_err-rest-clause-follows
 returns-in_err-rest-clause-follows g c = g.met.C.Server.Serves.follows_then _ _ _ c.loop.invariant.follows c.in_ok-turned.ensures.follows
+
+pub returns-in_err-turned-clause-wire : goal.returns-in_err-turned-clause-wire
+returns-in_err-turned-clause-wire g c =
+    let p = err_from_is_err_and c.from_residual.result c.from_residual.ensures.1 in
+    wire_from _ _ p.0 _ _ _ p.1 p.2 c.loop.invariant.later c.in_err-turned.ensures.wire
+
+pub returns-in_err-rest-clause-wire : goal.returns-in_err-rest-clause-wire
+returns-in_err-rest-clause-wire g c =
+    let p = err_from_is_err_and c.from_residual-in_err-rest.result c.from_residual-in_err-rest.ensures.1 in
+    wire_from _ _ p.0 _ _ _ p.1 p.2 (later_then _ _ _ c.loop.invariant.later c.in_ok-turned.ensures.later) c.in_err-rest.ensures.wire

@@ -18,6 +18,7 @@ invariant-loop g l = record {
       (moment (g.C.Server.Serves.serving l.fn.server) (g.S.Supply.faults l.fn.supply) (g.S.Supply.left l.fn.supply) (g.W.Wire.state l.fn.wire))
       (moment (g.C.Server.Serves.serving l.server) (g.S.Supply.faults l.supply) (g.S.Supply.left l.supply) (g.W.Wire.state l.wire));
   fewer : IfSome l.stop_after (λ most. l.served.connections ≤ most - 1);
+  later : (g.W.Wire.state l.fn.wire).faults ≤ (g.W.Wire.state l.wire).faults;
   follows : g.C.Server.Serves.Follows l.fn.server l.server;
   same : (data_set : _) → g.S.Supply.may l.supply data_set ↔ g.S.Supply.may l.fn.supply data_set;
 }

@@ -1,6 +1,7 @@
 -- What the door did, and then the steps.
 use Rattle.std.proofs.Common.{refl, ◌∙◌}
-use Rattle.serve_loop.proofs.WelcomeLemmas.{welcomed, unwelcomed, turns_after, busy, or_true, or_else, on_err}
+use Rattle.std.proofs.lemmas.Result.{err_from_is_err_and}
+use Rattle.serve_loop.proofs.WelcomeLemmas.{welcomed, unwelcomed, turns_after, busy, or_true, or_else}
 use Rattle.serve_loop.proofs.turn.turn_over.Goals as goal
 
 pub returns-then-accepted-clause-turns : goal.returns-then-accepted-clause-turns
@@ -20,5 +21,5 @@ returns-else-accepted-clause-busy g c = busy _ c.step_all-turned.result _ _ _ _ 
     (or_else _ _ c.if-accepted.false) refl
 
 pub returns-in_err-accepted-clause-err : goal.returns-in_err-accepted-clause-err
-returns-in_err-accepted-clause-err g c = on_err _ _ (λ first since t r. unwelcomed _ _ _ _ _ _ _ _ _ _ _ _ _ _ c.in_err-accepted.ensures.err c.in_err-accepted.ensures.len c.in_err-accepted.ensures.none
+returns-in_err-accepted-clause-err g c = rw (err_from_is_err_and c.from_residual.result c.from_residual.ensures.1).1 (λ first since t r. unwelcomed _ _ _ _ _ _ _ _ _ _ _ _ _ _ c.in_err-accepted.ensures.err c.in_err-accepted.ensures.len c.in_err-accepted.ensures.none
     c.in_err-accepted.ensures.later c.requires.listens c.in_err-accepted.ensures.listens r)
