@@ -26,7 +26,7 @@ only_same : (k : ℕ) (a : WireState) → OnlyOn k a a
 only_same k a = record { others = λ j h. refl; later = omega arith; given = refl; provoked = refl; dials = refl; waits = refl; listens = refl; door_stalls = refl; nature = refl }
 
 excused_now : (since faults faults' version : ℕ) → since ≤ faults → Rose faults faults' ⊎ (version ≡ MOST_VERSIONS) → Rose since faults' ⊎ (version ≡ MOST_VERSIONS)
-excused_now since faults faults' version h e = elim e [ | inl rose ↦ inl (omega (arith, h, rose)) | inr most ↦ inr most ]
+excused_now since faults faults' version h e = elim e [ inl rose ↦ inl (omega (arith, h, rose)) | inr most ↦ inr most ]
 
 pub on_ok : {E : Type 0} (r : Result ⊤ E) (P : Type 0) → OnOk r P → is_ok r ≡ true → P
 on_ok (Ok x) P h e = h
@@ -40,9 +40,13 @@ supplies_up {Data = Data} {Settings = Settings} may outcomes.OutOfMemory old now
 module _ {C : Type 0} where
   goes_lower : (low high : ℕ) (x y : Talk C) → low ≤ high → GoesOn high x y → GoesOn low x y
   goes_lower low high x y h g = record {
-    later = g.later; marks = g.marks;
+    later = g.later;
+    marks = g.marks;
     not_below = all_as _ _ (λ (m : Mark) (p : high ≤ version_at m). omega (arith, h, p)) g.later g.not_below;
-    piece = g.piece; fed = g.fed; part = g.part; taken = g.taken;
+    piece = g.piece;
+    fed = g.fed;
+    part = g.part;
+    taken = g.taken;
   }
 
 module _ {C Data Settings : Type 0} where
@@ -213,12 +217,24 @@ module _ {C Data Settings : Type 0} where
       (λ (y : Talk C). IsTalk kind since t.history t.owner (moment served faults left w) l.link y)
       (λ (y : Talk C). Answered kind since t.history t.owner (moment served faults left w) l.link l'.connection y)
       old.talk l.connection old.connection old.over old.unfed
-      (λ fed taken marks p. (plain fed taken marks l'.connection, (
-      record {
-        answers = fills.answers t.history fed taken marks p.answers; within = omega arith; sent_is = p.sent_is; received_is = p.received_is; excused = p.excused; numbers = p.numbers; rising = p.rising;
-      },
-      record { later = []; marks = sym (append-nil _); not_below = tt; piece = []; fed = sym (append-nil _); part = []; taken = sym (append-nil _) },
-      refl, refl, refl)))
+      (λ fed taken marks p. (
+        plain fed taken marks l'.connection,
+        (
+          record {
+            answers = fills.answers t.history fed taken marks p.answers;
+            within = omega arith;
+            sent_is = p.sent_is;
+            received_is = p.received_is;
+            excused = p.excused;
+            numbers = p.numbers;
+            rising = p.rising;
+          },
+          record { later = []; marks = sym (append-nil _); not_below = tt; piece = []; fed = sym (append-nil _); part = []; taken = sym (append-nil _) },
+          refl,
+          refl,
+          refl,
+        ),
+      ))
       a in
       keeps kind may first since t t at len served served faults faults left left w key l l' old.talk r found link old.is_open (omega arith) refl refl refl refl old.talk_is answer
 
@@ -238,10 +254,18 @@ module _ {C Data Settings : Type 0} where
       (l l' : Live C) (ok : Bool) → l'.link ≡ l.link → (ok ≡ true → Fills kind served l.connection l'.connection)
       → Prepares kind may l l' ok (moment served faults left w) (moment served faults left w)
   prepares_filled kind may served faults left w l l' true link fills = record {
-    link = link; live = l'; link_is = link; live_is = λ e. refl; up = omega arith;
+    link = link;
+    live = l';
+    link_is = link;
+    live_is = λ e. refl;
+    up = omega arith;
     keeps = λ first since t at len key found r. filled kind may first since t at len served faults left w key l l' r found link (fills refl);
   }
   prepares_filled kind may served faults left w l l' false link fills = record {
-    link = link; live = l; link_is = refl; live_is = λ e. absurd cc; up = omega arith;
+    link = link;
+    live = l;
+    link_is = refl;
+    live_is = λ e. absurd cc;
+    up = omega arith;
     keeps = λ first since t at len key found r. kept kind may first since t at len served faults left w key l r found;
   }

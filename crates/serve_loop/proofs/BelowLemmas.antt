@@ -56,7 +56,7 @@ module _ {C : Type 0} where
     rest = λ key l from e. refl;
     moved = λ e. absurd cc;
     still = λ e k is_open. record { sent = refl; received = refl };
-    idle = λ s. elim s [ | inl e ↦ absurd (is_not false e refl) | inr z ↦ z ];
+    idle = λ s. elim s [ inl e ↦ absurd (is_not false e refl) | inr z ↦ z ];
     given = refl;
     listens = refl;
     door_stalls = refl;
@@ -108,7 +108,7 @@ module _ {C : Type 0} where
           | inr ne ↦ let o = calls.only.others k ne in stays_on k a a b c refl o (h.still (still e).0 k (ap (λ (l : Link). l.is_open) (sym o) ∙ is_open))
         ];
         idle = λ s. elim s [
-          | inl e ↦ elim (moved e) [ | inl p ↦ calls.idle (h.idle (inl p)) | inr q ↦ q.1 ]
+          | inl e ↦ elim (moved e) [ inl p ↦ calls.idle (h.idle (inl p)) | inr q ↦ q.1 ]
           | inr z ↦ calls.idle (h.idle (inr z))
         ];
         given = calls.only.given ∙ h.given;

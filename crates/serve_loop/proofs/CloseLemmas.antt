@@ -104,9 +104,17 @@ module _ {C Data Settings : Type 0} where
   ordered_left : (kind : Kind C Data Settings) (since : Moment Data Settings) (talks : ℕ → Option (Talk C)) (a b : WireState) → b.given ≡ a.given → ((k : ℕ) → (a.links k).is_open ≡ false → b.links k ≡ a.links k)
       → (k : ℕ) → IsOrdered kind since talks a k → IsOrdered kind since talks b k
   ordered_left kind since talks a b given same k h = record {
-    later = h.later; given = subst (λ (n : ℕ). k < n) (sym given) h.given; closed = ap (λ (x : Link). x.is_open) (same k h.closed) ∙ h.closed; talk = h.talk; talk_is = h.talk_is; over = h.over; unfed = h.unfed;
-    pending = h.pending; owes = h.owes; wants = h.wants;
-    end_ = elim h.end_ [ | inl c ↦ inl c | inr e ↦ inr (holds_same (a.links k).ended (b.links k).ended true (ap (λ (x : Link). x.ended) (same k h.closed)) e) ];
+    later = h.later;
+    given = subst (λ (n : ℕ). k < n) (sym given) h.given;
+    closed = ap (λ (x : Link). x.is_open) (same k h.closed) ∙ h.closed;
+    talk = h.talk;
+    talk_is = h.talk_is;
+    over = h.over;
+    unfed = h.unfed;
+    pending = h.pending;
+    owes = h.owes;
+    wants = h.wants;
+    end_ = elim h.end_ [ inl c ↦ inl c | inr e ↦ inr (holds_same (a.links k).ended (b.links k).ended true (ap (λ (x : Link). x.ended) (same k h.closed)) e) ];
   }
 
   gone_left : (since : Moment Data Settings) (talks : ℕ → Option (Talk C)) (a b : WireState) → b.given ≡ a.given → ((k : ℕ) → (a.links k).is_open ≡ false → b.links k ≡ a.links k) → (k : ℕ) → IsGone since.wire a k → IsGone since.wire b k
@@ -127,7 +135,9 @@ module _ {C Data Settings : Type 0} where
         lives = λ key l h. absurd (none_some l (sym (none key) ∙ h));
         alone = λ i j x y h g s. absurd (none_some x (sym (none i) ∙ h));
         talks = λ k later given. let x = r.talks k later (subst (λ (n : ℕ). k < n) wg given) in record {
-          talk = x.talk; talk_is = x.talk_is; is = same_talk kind since t.history t.owner served faults left a b k x.talk (w.told k).sent (w.told k).received x.is;
+          talk = x.talk;
+          talk_is = x.talk_is;
+          is = same_talk kind since t.history t.owner served faults left a b k x.talk (w.told k).sent (w.told k).received x.is;
         };
         unseen = λ k above. r.unseen k (subst (λ (n : ℕ). n ≤ k) wg above);
         owned = λ k later given is_open. elim (open_or (a.links k).is_open) [
@@ -141,7 +151,9 @@ module _ {C Data Settings : Type 0} where
           ordered = all_as _ _ (λ (k : ℕ). ordered_left kind since t.talks a b wg same k) t.ordered e.ordered;
           broken = all_as _ _ (λ (k : ℕ). gone_left since t.talks a b wg same k) t.broken e.broken;
           starved = all_as _ _ (λ (k : ℕ). gone_left since t.talks a b wg same k) t.starved e.starved;
-          ordered_once = e.ordered_once; broken_once = e.broken_once; starved_once = e.starved_once;
+          ordered_once = e.ordered_once;
+          broken_once = e.broken_once;
+          starved_once = e.starved_once;
           faults = subst (λ (n : ℕ). RoseBy (length t.broken) since.wire.faults n) (sym w.faults) e.faults;
         };
       }

@@ -8,7 +8,15 @@ module _ {C Data : Type 0} where
   -- none ended
   pub ends_none : (t u : Traffic C Data) (a b : ℕ) → u.ordered ≡ t.ordered → u.broken ≡ t.broken → u.starved ≡ t.starved → a ≤ b → EndsBy t u 0 0 a b
   ends_none t u a b o k s later = record {
-    ordered = []; broken = []; starved = []; ordered_is = o; broken_is = k; starved_is = s; count_is = refl; wanted_is = refl; rose = omega (arith, later);
+    ordered = [];
+    broken = [];
+    starved = [];
+    ordered_is = o;
+    broken_is = k;
+    starved_is = s;
+    count_is = refl;
+    wanted_is = refl;
+    rose = omega (arith, later);
   }
 
   pub ends_same : (t : Traffic C Data) (a b : ℕ) → a ≤ b → EndsBy t t 0 0 a b
@@ -37,13 +45,28 @@ module _ {C Data : Type 0} where
   -- with other names of the counts
   pub ends_as : (t u : Traffic C Data) (m m' p p' a b : ℕ) → m ≡ m' → p ≡ p' → EndsBy t u m p a b → EndsBy t u m' p' a b
   ends_as t u m m' p p' a b e f x = record {
-    ordered = x.ordered; broken = x.broken; starved = x.starved; ordered_is = x.ordered_is; broken_is = x.broken_is; starved_is = x.starved_is;
-    count_is = x.count_is ∙ e; wanted_is = x.wanted_is ∙ f; rose = x.rose;
+    ordered = x.ordered;
+    broken = x.broken;
+    starved = x.starved;
+    ordered_is = x.ordered_is;
+    broken_is = x.broken_is;
+    starved_is = x.starved_is;
+    count_is = x.count_is ∙ e;
+    wanted_is = x.wanted_is ∙ f;
+    rose = x.rose;
   }
 
   -- how many have ended since
   pub ended_more : (t u : Traffic C Data) (m p a b : ℕ) → EndsBy t u m p a b → ended u ≡ ended t + m
   ended_more t u m p a b x =
       let c = x.count_is in
-      omega (arith, c, ap (λ (l : List ℕ). length l) x.ordered_is, ap (λ (l : List ℕ). length l) x.broken_is, ap (λ (l : List ℕ). length l) x.starved_is,
-      length-append x.ordered t.ordered, length-append x.broken t.broken, length-append x.starved t.starved)
+      omega (
+        arith,
+        c,
+        ap (λ (l : List ℕ). length l) x.ordered_is,
+        ap (λ (l : List ℕ). length l) x.broken_is,
+        ap (λ (l : List ℕ). length l) x.starved_is,
+        length-append x.ordered t.ordered,
+        length-append x.broken t.broken,
+        length-append x.starved t.starved,
+      )

@@ -35,7 +35,13 @@ module _ {C Data Settings : Type 0} where
     older = r.older;
     count = r.count;
     ends = let e = r.ends in record {
-      ordered = e.ordered; broken = e.broken; starved = e.starved; ordered_once = e.ordered_once; broken_once = e.broken_once; starved_once = e.starved_once; faults = e.faults;
+      ordered = e.ordered;
+      broken = e.broken;
+      starved = e.starved;
+      ordered_once = e.ordered_once;
+      broken_once = e.broken_once;
+      starved_once = e.starved_once;
+      faults = e.faults;
     };
   }
 
@@ -67,6 +73,12 @@ module _ {C Data Settings : Type 0} where
     older = r.older;
     count = r.count;
     ends = let e = r.ends in record {
-      ordered = e.ordered; broken = e.broken; starved = e.starved; ordered_once = e.ordered_once; broken_once = e.broken_once; starved_once = e.starved_once; faults = e.faults;
+      ordered = e.ordered;
+      broken = e.broken;
+      starved = e.starved;
+      ordered_once = e.ordered_once;
+      broken_once = e.broken_once;
+      starved_once = e.starved_once;
+      faults = e.faults;
     };
   }

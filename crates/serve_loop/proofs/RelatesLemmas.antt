@@ -37,7 +37,13 @@ is_not x t f = cc
 pub versions_on : {Data Settings : Type 0} (may : Data → Type 0) (first : List Data) (since : Moment Data Settings) (history : List Data) (given : List (Given Data)) (served : Serving Data Settings) (faults : ℕ) (left : Option (List Data)) (a b : WireState)
     → Versions may first since history given (moment served faults left a) → Versions may first since history given (moment served faults left b)
 versions_on may first since history given served faults left a b v = record {
-  history_is = v.history_is; serves = v.serves; config = v.config; count = v.count; left = v.left; may_be = v.may_be; faults = v.faults;
+  history_is = v.history_is;
+  serves = v.serves;
+  config = v.config;
+  count = v.count;
+  left = v.left;
+  may_be = v.may_be;
+  faults = v.faults;
 }
 
 pub gone_on : (since a b : WireState) (k : ℕ) → (a.links k).is_open ≡ true → OnlyOn k a b → (j : ℕ) → IsGone since a j → IsGone since b j
@@ -80,7 +86,7 @@ module _ {C Data Settings : Type 0} where
         pending = h.pending;
         owes = h.owes;
         wants = h.wants;
-        end_ = elim h.end_ [ | inl c ↦ inl c | inr e ↦ inr (holds_same (a.links j).ended (b.links j).ended true (ap (λ (l : Link). l.ended) (only.others j n)) e) ];
+        end_ = elim h.end_ [ inl c ↦ inl c | inr e ↦ inr (holds_same (a.links j).ended (b.links j).ended true (ap (λ (l : Link). l.ended) (only.others j n)) e) ];
       }
 
   pub ends_on : (kind : Kind C Data Settings) (since : Moment Data Settings) (t : Traffic C Data) (a b : WireState) (k : ℕ) (o : Option (Talk C)) → (a.links k).is_open ≡ true → OnlyOn k a b
@@ -215,11 +221,22 @@ module _ {C Data Settings : Type 0} where
       let old = r.lives key l found in
       let same = ends_on kind since t a b l.link (Some talk) old.is_open only r.ends in
       ends_live kind may first since t at len rest served faults left a b key l talk (l.link ∷ t.ordered) t.broken t.starved r found only closed is fewer (omega arith) (record {
-        ordered = (record {
-          later = old.later; given = subst (λ (y : ℕ). l.link < y) (sym only.given) old.given; closed = closed;
-          talk = talk; talk_is = here t.talks l.link (Some talk) l.link refl;
-          over = e.over; unfed = e.unfed; pending = e.pending; owes = e.owes; wants = e.wants; end_ = e.end_;
-        }, same.ordered);
+        ordered = (
+          record {
+            later = old.later;
+            given = subst (λ (y : ℕ). l.link < y) (sym only.given) old.given;
+            closed = closed;
+            talk = talk;
+            talk_is = here t.talks l.link (Some talk) l.link refl;
+            over = e.over;
+            unfed = e.unfed;
+            pending = e.pending;
+            owes = e.owes;
+            wants = e.wants;
+            end_ = e.end_;
+          },
+          same.ordered,
+        );
         broken = same.broken;
         starved = same.starved;
         ordered_once = (all_as _ _ (λ (j : ℕ) (h : IsOrdered kind since t.talks a j). closed_apart a l.link old.is_open j h.closed) t.ordered r.ends.ordered, same.ordered_once);

@@ -31,7 +31,7 @@ given_append {Data = Data} (g ∷ gs) hs left = ap (λ (x : Option (List Data)).
 -- a cause stays one
 pub excused_later : (before now later : ℕ) → now ≤ later → (m : Mark) → IsExcused before now m → IsExcused before later m
 excused_later before now later h (Served version) e = tt
-excused_later before now later h (Failed version) e = elim e [ | inl rose ↦ inl (omega (arith, h, rose)) | inr most ↦ inr most ]
+excused_later before now later h (Failed version) e = elim e [ inl rose ↦ inl (omega (arith, h, rose)) | inr most ↦ inr most ]
 excused_later before now later h (Starved version) e = tt
 
 -- numbers that were given are other than the next
@@ -170,24 +170,29 @@ module _ {C Data Settings : Type 0} where
       × (talk.connection ≡ new) × (talk.over ≡ 0) × (talk.unfed ≡ []))
   talk_answered kind since history owner now k outcome old new fed taken marks is_history r mark numbers rising h =
       let reads = r.reads history fed taken marks is_history h.answers in
-      let first = mark_of now.served.version outcome in
-      (plain (fed ++ []) taken (marks ++ (first ∷ [] ++ reads.later)) new, (
-      record {
-        answers = reads.answers;
-        within = omega arith;
-        sent_is = h.sent_is;
-        received_is = holds_as _ _ _ (sym (append-nil (fed ++ []))) h.received_is;
-        excused = all_append _ marks (first ∷ [] ++ reads.later) h.excused (mark, all_as _ _ (λ (m : Mark). served_excused since.faults now.faults now.served.version m) reads.later reads.served);
-        numbers = subst (λ (ns : List ℕ). AllByRecursion (IsNumber owner k since.served.version now.served.version) ns) (sym reads.numbers) (all_append _ (kind.reloads now.served.config fed marks) (numbers_of outcome) h.numbers numbers);
-        rising = subst (λ (ns : List ℕ). IsRising ns) (sym reads.numbers) rising;
-      },
-      record {
-        later = first ∷ [] ++ reads.later;
-        marks = refl;
-        not_below = (level_of now.served.version outcome, all_as _ _ (λ (m : Mark). served_level now.served.version m) reads.later reads.served);
-        piece = [];
-        fed = refl;
-        part = [];
-        taken = sym (append-nil taken);
-      },
-      refl, refl, refl))
+      let first = mark_of now.served.version outcome in (
+        plain (fed ++ []) taken (marks ++ (first ∷ [] ++ reads.later)) new,
+        (
+          record {
+            answers = reads.answers;
+            within = omega arith;
+            sent_is = h.sent_is;
+            received_is = holds_as _ _ _ (sym (append-nil (fed ++ []))) h.received_is;
+            excused = all_append _ marks (first ∷ [] ++ reads.later) h.excused (mark, all_as _ _ (λ (m : Mark). served_excused since.faults now.faults now.served.version m) reads.later reads.served);
+            numbers = subst (λ (ns : List ℕ). AllByRecursion (IsNumber owner k since.served.version now.served.version) ns) (sym reads.numbers) (all_append _ (kind.reloads now.served.config fed marks) (numbers_of outcome) h.numbers numbers);
+            rising = subst (λ (ns : List ℕ). IsRising ns) (sym reads.numbers) rising;
+          },
+          record {
+            later = first ∷ [] ++ reads.later;
+            marks = refl;
+            not_below = (level_of now.served.version outcome, all_as _ _ (λ (m : Mark). served_level now.served.version m) reads.later reads.served);
+            piece = [];
+            fed = refl;
+            part = [];
+            taken = sym (append-nil taken);
+          },
+          refl,
+          refl,
+          refl,
+        ),
+      )

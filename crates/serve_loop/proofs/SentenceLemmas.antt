@@ -81,15 +81,18 @@ module _ {C Data Settings : Type 0} where
       record {
         later = o.later;
         given = o.given;
-        whole = λ sent received told_sent told_received. let f = fed received told_received in (record {
-          marks = o.talk.marks;
-          marked = subst (λ (x : List ℕ). kind.IsMarked t.history now.served.config x o.talk.marks) f w.marked;
-          rest = [];
-          response = ap (λ (x : List ℕ). kind.response t.history now.served.config x o.talk.marks) (sym f) ∙ sym (taken sent told_sent ∙ w.text) ∙ sym (append-nil sent);
-          excused = h.excused;
-          numbers = subst (λ (x : List ℕ). AllByRecursion (IsNumber t.owner k since.served.version now.served.version) (kind.reloads now.served.config x o.talk.marks)) f h.numbers;
-          rising = subst (λ (x : List ℕ). IsRising (kind.reloads now.served.config x o.talk.marks)) f h.rising;
-        }, refl);
+        whole = λ sent received told_sent told_received. let f = fed received told_received in (
+          record {
+            marks = o.talk.marks;
+            marked = subst (λ (x : List ℕ). kind.IsMarked t.history now.served.config x o.talk.marks) f w.marked;
+            rest = [];
+            response = ap (λ (x : List ℕ). kind.response t.history now.served.config x o.talk.marks) (sym f) ∙ sym (taken sent told_sent ∙ w.text) ∙ sym (append-nil sent);
+            excused = h.excused;
+            numbers = subst (λ (x : List ℕ). AllByRecursion (IsNumber t.owner k since.served.version now.served.version) (kind.reloads now.served.config x o.talk.marks)) f h.numbers;
+            rising = subst (λ (x : List ℕ). IsRising (kind.reloads now.served.config x o.talk.marks)) f h.rising;
+          },
+          refl,
+        );
         end_ = λ received told. elim o.end_ [
           | inl c ↦ inl (ap (λ (x : List ℕ). kind.closes now.served.config x) (sym (fed received told)) ∙ sym w.closing ∙ c)
           | inr e ↦ inr e

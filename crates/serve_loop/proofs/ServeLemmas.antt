@@ -28,11 +28,14 @@ counts_more x y z n e p q = omega (arith, p, q)
 
 -- a history with this server at its end
 pub some_history : {Data Settings : Type 0} (server : Serving Data Settings) → 1 ≤ server.version → (first : List Data) × IsHistory first server
-some_history {Data = Data} server one = (replicate (server.version - 1) server.data_set ++ server.data_set ∷ [], record {
-  count = omega (arith, one, length-append (replicate (server.version - 1) server.data_set) (server.data_set ∷ []), length-replicate (server.version - 1) server.data_set);
-  before = replicate (server.version - 1) server.data_set;
-  last = refl;
-})
+some_history {Data = Data} server one = (
+  replicate (server.version - 1) server.data_set ++ server.data_set ∷ [],
+  record {
+    count = omega (arith, one, length-append (replicate (server.version - 1) server.data_set) (server.data_set ∷ []), length-replicate (server.version - 1) server.data_set);
+    before = replicate (server.version - 1) server.data_set;
+    last = refl;
+  },
+)
 
 -- ---- how many are enough
 
@@ -73,7 +76,13 @@ module _ {C Data Settings : Type 0} where
   pub serves_none : (kind : Kind C Data Settings) (may : Data → Type 0) (first : List Data) (since : Moment Data Settings) (t : Traffic C Data) (at : ℕ → Option (Live C)) (len : ℕ) (now : Moment Data Settings)
       → Relates kind may first since t at len now → ServesTo kind may first since t (record { connections = 0; starved = 0 }) at len now now
   serves_none kind may first since t at len now r = record {
-    traffic = t; relates = r; count = 0; wanted = 0; ends = ends_same t now.wire.faults now.wire.faults (omega arith); connections = omega arith; starved = omega arith;
+    traffic = t;
+    relates = r;
+    count = 0;
+    wanted = 0;
+    ends = ends_same t now.wire.faults now.wire.faults (omega arith);
+    connections = omega arith;
+    starved = omega arith;
   }
 
   -- one turn more
@@ -106,7 +115,14 @@ module _ {C Data Settings : Type 0} where
         count = p.count;
         wanted = p.wanted;
         ends = record {
-          ordered = e.ordered; broken = e.broken; starved = e.starved; ordered_is = e.ordered_is; broken_is = e.broken_is; starved_is = e.starved_is; count_is = e.count_is; wanted_is = e.wanted_is;
+          ordered = e.ordered;
+          broken = e.broken;
+          starved = e.starved;
+          ordered_is = e.ordered_is;
+          broken_is = e.broken_is;
+          starved_is = e.starved_is;
+          count_is = e.count_is;
+          wanted_is = e.wanted_is;
           rose = omega (arith, er, wf);
         };
         connections = p.connections;
@@ -146,7 +162,14 @@ module _ {C Data Settings : Type 0} where
       speaks_whole kind begins whole may first since t (record p.traffic { left = p.traffic.left + len }) at' 0 (moment served faults left b) p.count p.wanted old.wire.faults x.connections x.starved
       (relates_left kind may first since p.traffic at at' len served faults left a b w none p.relates)
       (record {
-        ordered = e.ordered; broken = e.broken; starved = e.starved; ordered_is = e.ordered_is; broken_is = e.broken_is; starved_is = e.starved_is; count_is = e.count_is; wanted_is = e.wanted_is;
+        ordered = e.ordered;
+        broken = e.broken;
+        starved = e.starved;
+        ordered_is = e.ordered_is;
+        broken_is = e.broken_is;
+        starved_is = e.starved_is;
+        count_is = e.count_is;
+        wanted_is = e.wanted_is;
         rose = omega (arith, er, wf);
       })
       p.connections p.starved

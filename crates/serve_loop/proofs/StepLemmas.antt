@@ -38,17 +38,41 @@ none_found at key l n s = cc
 -- one more at the front of the list
 one_more : {C Data : Type 0} (t u : Traffic C Data) (k a b : ℕ) → u.ordered ≡ k ∷ t.ordered → u.broken ≡ t.broken → u.starved ≡ t.starved → a ≤ b → EndsBy t u 1 0 a b
 one_more t u k a b o x s later = record {
-  ordered = k ∷ []; broken = []; starved = []; ordered_is = o; broken_is = x; starved_is = s; count_is = refl; wanted_is = refl; rose = omega (arith, later);
+  ordered = k ∷ [];
+  broken = [];
+  starved = [];
+  ordered_is = o;
+  broken_is = x;
+  starved_is = s;
+  count_is = refl;
+  wanted_is = refl;
+  rose = omega (arith, later);
 }
 
 one_broken : {C Data : Type 0} (t u : Traffic C Data) (k a b : ℕ) → u.ordered ≡ t.ordered → u.broken ≡ k ∷ t.broken → u.starved ≡ t.starved → Rose a b → EndsBy t u 1 0 a b
 one_broken t u k a b o x s rose = record {
-  ordered = []; broken = k ∷ []; starved = []; ordered_is = o; broken_is = x; starved_is = s; count_is = refl; wanted_is = refl; rose = rose;
+  ordered = [];
+  broken = k ∷ [];
+  starved = [];
+  ordered_is = o;
+  broken_is = x;
+  starved_is = s;
+  count_is = refl;
+  wanted_is = refl;
+  rose = rose;
 }
 
 one_starved : {C Data : Type 0} (t u : Traffic C Data) (k a b : ℕ) → u.ordered ≡ t.ordered → u.broken ≡ t.broken → u.starved ≡ k ∷ t.starved → a ≤ b → EndsBy t u 1 1 a b
 one_starved t u k a b o x s later = record {
-  ordered = []; broken = []; starved = k ∷ []; ordered_is = o; broken_is = x; starved_is = s; count_is = refl; wanted_is = refl; rose = omega (arith, later);
+  ordered = [];
+  broken = [];
+  starved = k ∷ [];
+  ordered_is = o;
+  broken_is = x;
+  starved_is = s;
+  count_is = refl;
+  wanted_is = refl;
+  rose = omega (arith, later);
 }
 
 module _ {C Data Settings : Type 0} where

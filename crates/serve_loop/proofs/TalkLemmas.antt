@@ -83,8 +83,15 @@ sends_moves k piece a b n s = let m = s.moved n refl in (record { piece = take n
 pub closes_only : (k : ℕ) (a b w : WireState) → CallsOnly k a b → Closes k b w → CallsOnly k a w
 closes_only k a b w c d = let x = c.only in let y = d.only in let xf = x.later in let yf = y.later in record {
   only = record {
-    others = λ j n. y.others j n ∙ x.others j n; later = omega (arith, xf, yf); given = y.given ∙ x.given; provoked = y.provoked ∙ x.provoked;
-    dials = y.dials ∙ x.dials; waits = y.waits ∙ x.waits; listens = y.listens ∙ x.listens; door_stalls = y.door_stalls ∙ x.door_stalls; nature = y.nature ∙ x.nature;
+    others = λ j n. y.others j n ∙ x.others j n;
+    later = omega (arith, xf, yf);
+    given = y.given ∙ x.given;
+    provoked = y.provoked ∙ x.provoked;
+    dials = y.dials ∙ x.dials;
+    waits = y.waits ∙ x.waits;
+    listens = y.listens ∙ x.listens;
+    door_stalls = y.door_stalls ∙ x.door_stalls;
+    nature = y.nature ∙ x.nature;
   };
   idle = λ z. d.idle ∙ c.idle z;
 }

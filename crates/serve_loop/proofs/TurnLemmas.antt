@@ -67,7 +67,11 @@ module _ {C Data Settings : Type 0} where
   pub turns_none : (kind : Kind C Data Settings) (may : Data → Type 0) (first : List Data) (since : Moment Data Settings) (t : Traffic C Data) (at : ℕ → Option (Live C)) (len : ℕ) (now : Moment Data Settings)
       → Relates kind may first since t at len now → TurnsTo kind may first since t nothing at len now now
   turns_none kind may first since t at len now r = record {
-    traffic = t; relates = r; ends = ends_same t now.wire.faults now.wire.faults (omega arith); goes_on = λ k. goes_same now.served.version (t.talks k); up = omega arith;
+    traffic = t;
+    relates = r;
+    ends = ends_same t now.wire.faults now.wire.faults (omega arith);
+    goes_on = λ k. goes_same now.served.version (t.talks k);
+    up = omega arith;
   }
 
   -- the step of a key, where the slab is known key by key
@@ -92,7 +96,14 @@ module _ {C Data Settings : Type 0} where
       → ((d : Data) → may d → may' d) → Relates kind may first since t at len now → Relates kind may' first since t at len now
   relates_may kind may may' first since t at len now f r = let v = r.versions in record {
     versions = record { history_is = v.history_is; serves = v.serves; config = v.config; count = v.count; left = v.left; may_be = all_as may may' f (took t.given) v.may_be; faults = v.faults };
-    lives = r.lives; alone = r.alone; talks = r.talks; unseen = r.unseen; owned = r.owned; older = r.older; count = r.count; ends = r.ends;
+    lives = r.lives;
+    alone = r.alone;
+    talks = r.talks;
+    unseen = r.unseen;
+    owned = r.owned;
+    older = r.older;
+    count = r.count;
+    ends = r.ends;
   }
 
   -- one step more

@@ -71,9 +71,17 @@ module _ {C : Type 0} where
 module _ {C Data Settings : Type 0} where
   ordered_rests : (kind : Kind C Data Settings) (since : Moment Data Settings) (talks : ℕ → Option (Talk C)) (a b : WireState) → RestsWire a b → (k : ℕ) → IsOrdered kind since talks a k → IsOrdered kind since talks b k
   ordered_rests kind since talks a b w k h = record {
-    later = h.later; given = subst (λ (n : ℕ). k < n) (sym w.given) h.given; closed = w.opened k ∙ h.closed; talk = h.talk; talk_is = h.talk_is; over = h.over; unfed = h.unfed;
-    pending = h.pending; owes = h.owes; wants = h.wants;
-    end_ = elim h.end_ [ | inl c ↦ inl c | inr e ↦ inr (holds_same (a.links k).ended (b.links k).ended true (w.told k).ended e) ];
+    later = h.later;
+    given = subst (λ (n : ℕ). k < n) (sym w.given) h.given;
+    closed = w.opened k ∙ h.closed;
+    talk = h.talk;
+    talk_is = h.talk_is;
+    over = h.over;
+    unfed = h.unfed;
+    pending = h.pending;
+    owes = h.owes;
+    wants = h.wants;
+    end_ = elim h.end_ [ inl c ↦ inl c | inr e ↦ inr (holds_same (a.links k).ended (b.links k).ended true (w.told k).ended e) ];
   }
 
   -- no byte moved, and no link was given or closed
@@ -88,11 +96,20 @@ module _ {C Data Settings : Type 0} where
       record {
         versions = versions_on may first since t.history t.given served faults left a b r.versions;
         lives = λ key l h. let x = r.lives key l h in record {
-          later = x.later; given = subst (λ (n : ℕ). l.link < n) (sym wg) x.given; is_open = w.opened l.link ∙ x.is_open; talk = x.talk; talk_is = x.talk_is; connection = x.connection; over = x.over; unfed = x.unfed;
+          later = x.later;
+          given = subst (λ (n : ℕ). l.link < n) (sym wg) x.given;
+          is_open = w.opened l.link ∙ x.is_open;
+          talk = x.talk;
+          talk_is = x.talk_is;
+          connection = x.connection;
+          over = x.over;
+          unfed = x.unfed;
         };
         alone = r.alone;
         talks = λ k later given. let x = r.talks k later (subst (λ (n : ℕ). k < n) wg given) in record {
-          talk = x.talk; talk_is = x.talk_is; is = same_talk kind since t.history t.owner served faults left a b k x.talk (w.told k).sent (w.told k).received x.is;
+          talk = x.talk;
+          talk_is = x.talk_is;
+          is = same_talk kind since t.history t.owner served faults left a b k x.talk (w.told k).sent (w.told k).received x.is;
         };
         unseen = λ k above. r.unseen k (subst (λ (n : ℕ). n ≤ k) wg above);
         owned = λ k later given is_open. r.owned k later (subst (λ (n : ℕ). k < n) wg given) (sym (w.opened k) ∙ is_open);
@@ -103,7 +120,9 @@ module _ {C Data Settings : Type 0} where
           ordered = all_as _ _ (λ (k : ℕ). ordered_rests kind since t.talks a b w k) t.ordered e.ordered;
           broken = all_as _ _ (λ (k : ℕ). gone_rests since.wire a b w k) t.broken e.broken;
           starved = all_as _ _ (λ (k : ℕ). gone_rests since.wire a b w k) t.starved e.starved;
-          ordered_once = e.ordered_once; broken_once = e.broken_once; starved_once = e.starved_once;
+          ordered_once = e.ordered_once;
+          broken_once = e.broken_once;
+          starved_once = e.starved_once;
           faults = omega (arith, ef, wf);
         };
       }
@@ -131,9 +150,17 @@ module _ {C Data Settings : Type 0} where
       let n : k ≢ a.given = λ e. absurd (omega (arith, hg, e)) in
       let same = g.others k n in
       record {
-        later = h.later; given = omega (arith, hg, gm); closed = ap (λ (x : Link). x.is_open) same ∙ h.closed; talk = h.talk; talk_is = there talks a.given o k n ∙ h.talk_is; over = h.over; unfed = h.unfed;
-        pending = h.pending; owes = h.owes; wants = h.wants;
-        end_ = elim h.end_ [ | inl c ↦ inl c | inr e ↦ inr (holds_same (a.links k).ended (b.links k).ended true (ap (λ (x : Link). x.ended) same) e) ];
+        later = h.later;
+        given = omega (arith, hg, gm);
+        closed = ap (λ (x : Link). x.is_open) same ∙ h.closed;
+        talk = h.talk;
+        talk_is = there talks a.given o k n ∙ h.talk_is;
+        over = h.over;
+        unfed = h.unfed;
+        pending = h.pending;
+        owes = h.owes;
+        wants = h.wants;
+        end_ = elim h.end_ [ inl c ↦ inl c | inr e ↦ inr (holds_same (a.links k).ended (b.links k).ended true (ap (λ (x : Link). x.ended) same) e) ];
       }
 
   pub relates_given : (kind : Kind C Data Settings) (may : Data → Type 0) (first : List Data) (since : Moment Data Settings) (t : Traffic C Data) (at at' : ℕ → Option (Live C)) (len after key : ℕ) (served : Serving Data Settings) (faults : ℕ) (left : Option (List Data)) (a b : WireState) (c : C)
@@ -156,12 +183,24 @@ module _ {C Data Settings : Type 0} where
         versions = versions_on may first since t.history t.given served faults left a b r.versions;
         lives = λ i x h. elim (back i x h) [
           | inl p ↦ subst (λ (y : Live C). IsLive since (updated t.talks a.given (Some (plain [] [] [] c))) b y) (sym p.1) (record {
-            later = omega (arith, rc); given = omega (arith, gm); is_open = g.is_open;
-            talk = plain [] [] [] c; talk_is = here t.talks a.given (Some (plain [] [] [] c)) a.given refl; connection = refl; over = refl; unfed = refl;
+            later = omega (arith, rc);
+            given = omega (arith, gm);
+            is_open = g.is_open;
+            talk = plain [] [] [] c;
+            talk_is = here t.talks a.given (Some (plain [] [] [] c)) a.given refl;
+            connection = refl;
+            over = refl;
+            unfed = refl;
           })
           | inr q ↦ let o = r.lives i x q.1 in let og = o.given in let n = fresh i x q.1 in record {
-            later = o.later; given = omega (arith, og, gm); is_open = ap (λ (y : Link). y.is_open) (g.others x.link n) ∙ o.is_open;
-            talk = o.talk; talk_is = there t.talks a.given (Some (plain [] [] [] c)) x.link n ∙ o.talk_is; connection = o.connection; over = o.over; unfed = o.unfed;
+            later = o.later;
+            given = omega (arith, og, gm);
+            is_open = ap (λ (y : Link). y.is_open) (g.others x.link n) ∙ o.is_open;
+            talk = o.talk;
+            talk_is = there t.talks a.given (Some (plain [] [] [] c)) x.link n ∙ o.talk_is;
+            connection = o.connection;
+            over = o.over;
+            unfed = o.unfed;
           }
         ];
         alone = λ i j x y h k s. elim (back i x h) [
@@ -176,11 +215,13 @@ module _ {C Data Settings : Type 0} where
         ];
         talks = λ k later given. elim (same_or k a.given) [
           | inl p ↦ record {
-            talk = plain [] [] [] c; talk_is = here t.talks a.given (Some (plain [] [] [] c)) k p;
+            talk = plain [] [] [] c;
+            talk_is = here t.talks a.given (Some (plain [] [] [] c)) k p;
             is = subst (λ (n : ℕ). IsTalk kind since t.history t.owner (moment served faults left b) n (plain [] [] [] c)) (sym p) (new_talk kind since t.history t.owner served faults left a b c opens g);
           }
           | inr n ↦ let x = r.talks k later (below_other k a.given b.given gm given n) in record {
-            talk = x.talk; talk_is = there t.talks a.given (Some (plain [] [] [] c)) k n ∙ x.talk_is;
+            talk = x.talk;
+            talk_is = there t.talks a.given (Some (plain [] [] [] c)) k n ∙ x.talk_is;
             is = same_talk kind since t.history t.owner served faults left a b k x.talk (ap (λ (y : Link). y.sent) (g.others k n)) (ap (λ (y : Link). y.received) (g.others k n)) x.is;
           }
         ];
@@ -196,7 +237,9 @@ module _ {C Data Settings : Type 0} where
           ordered = all_as _ _ (λ (k : ℕ). ordered_given kind since t.talks a b (Some (plain [] [] [] c)) g k) t.ordered e.ordered;
           broken = all_as _ _ (λ (k : ℕ). gone_given since.wire a b g k) t.broken e.broken;
           starved = all_as _ _ (λ (k : ℕ). gone_given since.wire a b g k) t.starved e.starved;
-          ordered_once = e.ordered_once; broken_once = e.broken_once; starved_once = e.starved_once;
+          ordered_once = e.ordered_once;
+          broken_once = e.broken_once;
+          starved_once = e.starved_once;
           faults = omega (arith, ef, faults_up);
         };
       }
@@ -271,7 +314,7 @@ module _ {C Data Settings : Type 0} where
       let n = w.none refl in
       record {
         links = λ key l h. turned_keeps x y l.link a b c (λ q. m ∙ q) (omega (arith, e)) (n.links l.link) (s.links key l (w.others key (inr refl) ∙ h));
-        door = elim (w.door refl) [ | inl p ↦ inl p | inr q ↦ inr (inr (subst (λ (d : ℕ). Rose a.door_stalls d) (sym s.door_stalls) q)) ];
+        door = elim (w.door refl) [ inl p ↦ inl p | inr q ↦ inr (inr (subst (λ (d : ℕ). Rose a.door_stalls d) (sym s.door_stalls) q)) ];
         moved = λ q. let o = s.moved (sym m ∙ q) in inr (o.0, o.1, sym (w.others o.0 (inr refl)) ∙ o.2, moves_on o.1.link a b c c (n.links o.1.link) refl o.3);
         still = λ q. (s.given ∙ n.given, λ k is_open. stays_on k a b c c (n.links k) refl (s.still (sym m ∙ q) k is_open));
       }

@@ -124,7 +124,10 @@ impl Turned {
         match stepped {
             None => self,
             Some(Stepped::Still) => self,
-            Some(Stepped::Moved) => Turned { moved: true, ..self },
+            Some(Stepped::Moved) => Turned {
+                moved: true,
+                ..self
+            },
             Some(Stepped::Ended) => Turned {
                 ended: self.ended + 1,
                 ..self
@@ -258,20 +261,14 @@ impl<C: Converses> Loop<C> {
     }
 
     /// A loop without connections begins with no traffic, from now on. It does nothing.
-    pub fn begins<S: Supply<C::Server>, W: Wire>(
-        &self,
-        _server: &C::Server,
-        _supply: &S,
-        _wire: &W,
-    )
+    pub fn begins<S: Supply<C::Server>, W: Wire>(&self, _server: &C::Server, _supply: &S, _wire: &W)
         requires { (key : ℕ) → held self.now key ≡ None }
         ensures { (first : List C.Server.Data) → IsHistory first (C.Server.serving _server.now)
             → Relates C.kind (S.may _supply.now) first
             (record { served = C.Server.serving _server.now; faults = S.faults _supply.now; left = S.left _supply.now; wire = W.state _wire.now })
             (no_traffic first) (held self.now) 0
             (record { served = C.Server.serving _server.now; faults = S.faults _supply.now; left = S.left _supply.now; wire = W.state _wire.now }) }
-    {
-    }
+    {}
 
     /// How many connections are live: at most 256.
     pub fn live(&self) -> usize
@@ -317,8 +314,8 @@ impl<C: Converses> Loop<C> {
         ensures idle { IfOk result (λ turned. turned.moved ≡ true → (W.state wire.new).idle ≡ 0) }
         ensures count { IfOk result (λ turned. held_count self.new + turned.ended + (W.state wire.old).given ≡ held_count self.old + (W.state wire.new).given) }
         ensures most { IfOk result (λ turned. turned.ended ≤ 256) }
-    ensures later { (W.state wire.old).faults ≤ (W.state wire.new).faults }
-    ensures err { OnErr result ((first : List C.Server.Data) (since : Moment C.Server.Data C.Server.Settings) (t : Traffic C C.Server.Data) → Relates C.kind (S.may supply.old) first since t (held self.old) (held_count self.old)
+        ensures later { (W.state wire.old).faults ≤ (W.state wire.new).faults }
+        ensures err { OnErr result ((first : List C.Server.Data) (since : Moment C.Server.Data C.Server.Settings) (t : Traffic C C.Server.Data) → Relates C.kind (S.may supply.old) first since t (held self.old) (held_count self.old)
             (record { served = C.Server.serving server.old; faults = S.faults supply.old; left = S.left supply.old; wire = W.state wire.old })
             → Relates C.kind (S.may supply.old) first since t (held self.new) (held_count self.new)
             (record { served = C.Server.serving server.new; faults = S.faults supply.new; left = S.left supply.new; wire = W.state wire.new })) }

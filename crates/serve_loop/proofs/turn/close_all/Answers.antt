@@ -8,9 +8,11 @@ pub loop-key-init : goal.loop-key-init
 loop-key-init g c = record { gone = λ key h. absurd (omega (arith, h)); untouched = λ key h. refl; leaves = leaves_none _ _; listens = refl }
 
 pub close_at-requires : goal.close_at-requires
-close_at-requires g c = record { is_open = λ l e.
-    let found = sym (c.loop-key.invariant.untouched c.loop-key.key (omega arith)) ∙ e in
-    ap (λ x. x.is_open) (not_yet c.loop-key.key _ _ _ l c.requires.distinct c.loop-key.invariant.leaves found) ∙ c.requires.is_open c.loop-key.key l found }
+close_at-requires g c = record {
+  is_open = λ l e.
+      let found = sym (c.loop-key.invariant.untouched c.loop-key.key (omega arith)) ∙ e in
+      ap (λ x. x.is_open) (not_yet c.loop-key.key _ _ _ l c.requires.distinct c.loop-key.invariant.leaves found) ∙ c.requires.is_open c.loop-key.key l found;
+}
 
 pub loop-key-preserved : goal.loop-key-preserved
 loop-key-preserved g c = record {
