@@ -1,0 +1,84 @@
+-- What the supply gave is taken into the traffic.
+use Rattle.std.proofs.Common.{ℕ, ◌≡◌, ◌≢◌, ◌+◌, ◌<◌, ◌≤◌, ◌⊎◌, inl, inr, ◌++◌, List, [], ◌∷◌, length, take, Option, Some, None, Bool, true, false, refl, sym, ◌∙◌, ap, subst, arith, append-nil}
+use Rattle.std.specs.List.{AllByRecursion}
+use Rattle.connections.specs.Marks.{Mark}
+use Rattle.tpf_base.specs.Links.{WireState}
+use Rattle.connections.specs.Versions.{Serving, IsHistory, with_first}
+use Rattle.connections.specs.Kinds.{Kind, Grows}
+use Rattle.connections.specs.declared.reloaded.Reloaded.{Reloaded}
+use Rattle.connections.specs.declared.reloaded.Reloaded.TheVariants as outcomes
+use Rattle.serve_loop.specs.declared.live.Live.{Live}
+use Rattle.serve_loop.specs.Traffic.{Talk, Given, Traffic, Moment, took, with_given, updated, ended}
+use Rattle.serve_loop.specs.Relates.{IsTalk, IsExcused, IsNumber, IsRising, Talks, Relates}
+use Rattle.serve_loop.specs.Steps.{Supplies}
+use Rattle.serve_loop.proofs.TalkLemmas.{moment, all_as}
+use Rattle.serve_loop.proofs.ReloadLemmas.{talk_took, versions_took, versions_none, excused_later}
+
+module _ {C Data Settings : Type 0} where
+  -- a data set that the server took: the next version, which is that of the link that asked
+  pub relates_took : (kind : Kind C Data Settings) → Grows kind → (may : Data → Type 0) (first : List Data) (since : Moment Data Settings) (t : Traffic C Data) (at : ℕ → Option (Live C)) (len : ℕ)
+      (served served' : Serving Data Settings) (faults faults' : ℕ) (left left' : Option (List Data)) (w : WireState) (k : ℕ) (d : Data) (added : List (Given Data))
+      → Relates kind may first since t at len (moment served faults left w) → took added ≡ d ∷ [] → served' ≡ record served { data_set = d; version = served.version + 1 }
+      → left ≡ with_given added left' → AllByRecursion may (took added) → faults ≤ faults'
+      → Relates kind may first since (record t { history = t.history ++ d ∷ []; given = t.given ++ added; owner = updated t.owner (served.version + 1) k }) at len (moment served' faults' left' w)
+  relates_took kind grows may first since t at len served served' faults faults' left left' w k d added r one next told may_be later = record {
+    versions = versions_took may first since t.history t.given added d (moment served faults left w) (moment served' faults' left' w) r.versions one next told may_be later;
+    lives = r.lives;
+    alone = r.alone;
+    talks = λ j from given. let h = r.talks j from given in record {
+      talk = h.talk;
+      talk_is = h.talk_is;
+      is = talk_took kind grows since t.history t.owner d (moment served faults left w) (moment served' faults' left' w) j k h.talk next later refl h.is;
+    };
+    unseen = r.unseen;
+    owned = r.owned;
+    older = r.older;
+    count = r.count;
+    ends = let e = r.ends in record {
+      ordered = e.ordered;
+      broken = e.broken;
+      starved = e.starved;
+      ordered_once = e.ordered_once;
+      broken_once = e.broken_once;
+      starved_once = e.starved_once;
+      faults = e.faults;
+    };
+  }
+
+  -- nothing that the server took
+  pub relates_none : (kind : Kind C Data Settings) (may : Data → Type 0) (first : List Data) (since : Moment Data Settings) (t : Traffic C Data) (at : ℕ → Option (Live C)) (len : ℕ)
+      (served : Serving Data Settings) (faults faults' : ℕ) (left left' : Option (List Data)) (w : WireState) (added : List (Given Data))
+      → Relates kind may first since t at len (moment served faults left w) → took added ≡ []
+      → left ≡ with_given added left' → faults ≤ faults'
+      → Relates kind may first since (record t { given = t.given ++ added }) at len (moment served faults' left' w)
+  relates_none kind may first since t at len served faults faults' left left' w added r none told later = record {
+    versions = versions_none may first since t.history t.given added (moment served faults left w) (moment served faults' left' w) r.versions none refl told later;
+    lives = r.lives;
+    alone = r.alone;
+    talks = λ j from given. let h = r.talks j from given in let i = h.is in record {
+      talk = h.talk;
+      talk_is = h.talk_is;
+      is = record {
+        answers = i.answers;
+        within = i.within;
+        sent_is = i.sent_is;
+        received_is = i.received_is;
+        excused = all_as _ _ (λ (m : Mark). excused_later since.faults faults faults' later m) h.talk.marks i.excused;
+        numbers = i.numbers;
+        rising = i.rising;
+      };
+    };
+    unseen = r.unseen;
+    owned = r.owned;
+    older = r.older;
+    count = r.count;
+    ends = let e = r.ends in record {
+      ordered = e.ordered;
+      broken = e.broken;
+      starved = e.starved;
+      ordered_once = e.ordered_once;
+      broken_once = e.broken_once;
+      starved_once = e.starved_once;
+      faults = e.faults;
+    };
+  }

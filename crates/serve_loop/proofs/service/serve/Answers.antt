@@ -1,0 +1,24 @@
+-- A loop without connections begins, takes its turns, and closes the links that are left.
+use Rattle.std.proofs.Common.{refl, sym, ◌∙◌, ap, subst, ℕ, ◌+◌, ◌≤◌}
+use Rattle.serve_loop.proofs.ServeLemmas.{begins_at, sentence_left, whole_left, closed_left, links_given, some_history, if_ok_map}
+use Rattle.serve_loop.proofs.service.serve.Goals as goal
+
+pub returns-clause-prefixes : goal.returns-clause-prefixes
+returns-clause-prefixes g c = λ first h. sentence_left _ g.met.C.Converses.begins _ _ _ _ _ _ _ _ _ _ _ c.close.ensures.leaves c.close.ensures.none
+    (c.serve_on-served.ensures.carries first _ _ (begins_at _ _ first _ _ _ _ _ _ c.new-connections.ensures.len c.new-connections.ensures.none h))
+
+pub returns-clause-whole : goal.returns-clause-whole
+returns-clause-whole g c = if_ok_map c.serve_on-served.result _ _ (λ served f first h. whole_left _ g.met.C.Converses.begins g.met.C.Converses.whole _ _ _ _ served _ _ _ _ _ _ _ _ _ c.close.ensures.leaves c.close.ensures.none
+    (f first _ _ (begins_at _ _ first _ _ _ _ _ _ c.new-connections.ensures.len c.new-connections.ensures.none h))) c.serve_on-served.ensures.serves
+
+pub returns-clause-closed : goal.returns-clause-closed
+returns-clause-closed g c =
+    let s = some_history (g.C.Server.Serves.serving c.args.server.now) (g.met.C.Server.Serves.numbered c.args.server.now) in
+    closed_left _ _ s.0 _ _ _ _ _ _ _ _ _ c.close.ensures.leaves c.close.ensures.none
+    (c.serve_on-served.ensures.carries s.0 _ _ (begins_at _ _ s.0 _ _ _ _ _ _ c.new-connections.ensures.len c.new-connections.ensures.none s.1))
+
+pub returns-clause-links : goal.returns-clause-links
+returns-clause-links g c =
+    let s = some_history (g.C.Server.Serves.serving c.args.server.now) (g.met.C.Server.Serves.numbered c.args.server.now) in
+    if_ok_map c.serve_on-served.result _ _ (λ served f. subst (λ (n : ℕ). (g.W.Wire.state c.args.wire.now).given + served.connections ≤ n) (sym c.close.ensures.leaves.given)
+    (links_given _ _ s.0 _ served _ _ _ _ (f s.0 _ _ (begins_at _ _ s.0 _ _ _ _ _ _ c.new-connections.ensures.len c.new-connections.ensures.none s.1)))) c.serve_on-served.ensures.serves

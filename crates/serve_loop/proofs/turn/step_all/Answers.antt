@@ -1,0 +1,56 @@
+-- Each key is one step more.
+use Rattle.std.proofs.Common.{refl, sym, ◌∙◌, arith}
+use Rattle.serve_loop.proofs.SlotLemmas.{past_none}
+use Rattle.serve_loop.proofs.BelowLemmas.{below_none, below_more, below_all}
+use Rattle.serve_loop.proofs.TurnLemmas.{turns_none, turns_more, counts_with, fewer_as}
+use Rattle.serve_loop.proofs.turn.step_all.Goals as goal
+
+pub loop-key-init : goal.loop-key-init
+loop-key-init g c = record {
+  room = refl;
+  suits = c.requires.suits;
+  len = omega arith;
+  few = omega arith;
+  untouched = λ key h. refl;
+  turns = λ first since t r. turns_none _ _ _ _ _ _ _ _ r;
+  below = below_none _ _;
+  follows = g.met.C.Server.Serves.follows_itself c.args.server.now;
+  same = λ d. (λ x. x, λ x. x);
+}
+
+pub loop-key-preserved : goal.loop-key-preserved
+loop-key-preserved g c = record {
+  room = c.step_at.ensures.room ∙ c.loop-key.invariant.room;
+  suits = c.step_at.ensures.suits;
+  len = counts_with c.loop-key.turned _ c.step_at.result _ _ _ c.with-turned.ensures c.loop-key.invariant.len c.step_at.ensures.len;
+  few = fewer_as c.loop-key.turned _ c.step_at.result c.with-turned.ensures c.loop-key.invariant.few;
+  untouched = λ key h. c.step_at.ensures.others key (λ e. absurd (omega (arith, h, e))) ∙ c.loop-key.invariant.untouched key (omega (arith, h));
+  turns = λ first since t r. turns_more _ _ _ _ _ _ c.loop-key.turned _ c.step_at.result _ _ _ _ _ _ _ c.loop-key.invariant.same c.with-turned.ensures (c.loop-key.invariant.turns first since t r)
+      (λ u q. c.step_at.ensures.turns first since u q);
+  below = below_more c.loop-key.turned _ c.loop-key.key _ _ _ _ _ c.step_at.result c.requires.suits.distinct c.with-turned.ensures c.loop-key.invariant.below
+      (sym (c.loop-key.invariant.untouched c.loop-key.key (omega arith))) c.step_at.ensures.calls;
+  follows = g.met.C.Server.Serves.follows_then _ _ _ c.loop-key.invariant.follows c.step_at.ensures.follows;
+  same = λ d. (λ x. (c.loop-key.invariant.same d).0 ((c.step_at.ensures.same d).0 x), λ x. (c.step_at.ensures.same d).1 ((c.loop-key.invariant.same d).1 x));
+}
+
+pub returns-clause-all : goal.returns-clause-all
+returns-clause-all g c = let e = c.loop-key-test.false in
+    below_all c.loop-key.turned c.loop-key.key _ _ _ (λ key h. past_none c.args.live.now c.capacity-keys.result key c.capacity-keys.ensures.slots (omega (arith, e, h))) c.loop-key.invariant.below
+
+pub returns-clause-turns : goal.returns-clause-turns
+returns-clause-turns g c = c.loop-key.invariant.turns
+
+pub returns-clause-same : goal.returns-clause-same
+returns-clause-same g c = c.loop-key.invariant.same
+
+pub returns-clause-suits : goal.returns-clause-suits
+returns-clause-suits g c = c.loop-key.invariant.suits
+
+pub returns-clause-len : goal.returns-clause-len
+returns-clause-len g c = c.loop-key.invariant.len
+
+pub returns-clause-follows : goal.returns-clause-follows
+returns-clause-follows g c = c.loop-key.invariant.follows
+
+pub step_at-requires-clause-suits : goal.step_at-requires-clause-suits
+step_at-requires-clause-suits g c = c.loop-key.invariant.suits

@@ -1,0 +1,20 @@
+-- A step of a key is a step of the traffic.
+use Rattle.std.proofs.Common.{refl, sym, ◌∙◌}
+use Rattle.serve_loop.proofs.TurnLemmas.{turns_none, turns_stays, turns_ends, suits_stays}
+use Rattle.serve_loop.proofs.turn.step_at.Goals as goal
+
+pub returns-in-None-clause-turns : goal.returns-in-None-clause-turns
+returns-in-None-clause-turns g c = λ first since t r. turns_none _ _ _ _ _ _ _ _ r
+
+pub returns-then-ends-clause-turns : goal.returns-then-ends-clause-turns
+returns-then-ends-clause-turns g c = λ first since t r. turns_ends _ _ _ _ _ c.args.live.now c.try_remove.new.self c.args.key _ c.step-stepped.new.live c.try_remove.result c.step-stepped.result _ _
+    c.step-stepped.ensures.steps (sym c.in-Some.ensures.value) c.if-ends.ensures c.try_remove.ensures.value c.try_remove.ensures.updates c.try_remove.ensures.len r
+
+pub returns-else-ends-clause-suits : goal.returns-else-ends-clause-suits
+returns-else-ends-clause-suits g c = suits_stays _ _ _ c.args.live.now c.args.key _ c.step-stepped.new.live c.step-stepped.result _ _ c.requires.suits (sym c.in-Some.ensures.value) c.if-ends.ensures
+    c.step-stepped.ensures.kept c.step-stepped.ensures.only.only c.step-stepped.ensures.is_open c.step-stepped.ensures.suits
+    (λ x h. g.met.C.Converses.stays c.args.server.now c.step-stepped.new.server x c.step-stepped.ensures.follows h)
+
+pub returns-else-ends-clause-turns : goal.returns-else-ends-clause-turns
+returns-else-ends-clause-turns g c = λ first since t r. turns_stays _ _ _ _ _ c.args.live.now c.args.key _ c.step-stepped.new.live c.step-stepped.result _ _
+    c.step-stepped.ensures.steps (sym c.in-Some.ensures.value) c.if-ends.ensures r

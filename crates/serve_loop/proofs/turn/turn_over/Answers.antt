@@ -1,0 +1,25 @@
+-- What the door did, and then the steps.
+use Rattle.std.proofs.Common.{refl, ◌∙◌}
+use Rattle.std.proofs.lemmas.Result.{err_from_is_err_and}
+use Rattle.serve_loop.proofs.WelcomeLemmas.{welcomed, unwelcomed, turns_after, busy, or_true, or_else}
+use Rattle.serve_loop.proofs.turn.turn_over.Goals as goal
+
+pub returns-then-accepted-clause-turns : goal.returns-then-accepted-clause-turns
+returns-then-accepted-clause-turns g c = λ first since t r. turns_after _ _ _ _ _ c.step_all-turned.result _ _ _ _ _ _ _ _ refl refl
+    (welcomed _ _ _ _ _ _ _ _ _ _ _ _ _ _ _ c.in_ok-accepted.ensures.welcomes c.requires.listens c.in_ok-accepted.ensures.listens r) (λ u q. c.step_all-turned.ensures.turns first since u q)
+
+pub returns-else-accepted-clause-turns : goal.returns-else-accepted-clause-turns
+returns-else-accepted-clause-turns g c = λ first since t r. turns_after _ _ _ _ _ c.step_all-turned.result _ _ _ _ _ _ _ _ refl refl
+    (welcomed _ _ _ _ _ _ _ _ _ _ _ _ _ _ _ c.in_ok-accepted.ensures.welcomes c.requires.listens c.in_ok-accepted.ensures.listens r) (λ u q. c.step_all-turned.ensures.turns first since u q)
+
+pub returns-then-accepted-clause-busy : goal.returns-then-accepted-clause-busy
+returns-then-accepted-clause-busy g c = busy _ c.step_all-turned.result _ _ _ _ _ _ _ _ _ c.in_ok-accepted.ensures.welcomes c.requires.suits.given c.step_all-turned.ensures.all
+    (c.if-accepted.true ∙ or_true _ _ c.if-accepted.true) refl
+
+pub returns-else-accepted-clause-busy : goal.returns-else-accepted-clause-busy
+returns-else-accepted-clause-busy g c = busy _ c.step_all-turned.result _ _ _ _ _ _ _ _ _ c.in_ok-accepted.ensures.welcomes c.requires.suits.given c.step_all-turned.ensures.all
+    (or_else _ _ c.if-accepted.false) refl
+
+pub returns-in_err-accepted-clause-err : goal.returns-in_err-accepted-clause-err
+returns-in_err-accepted-clause-err g c = rw (err_from_is_err_and c.from_residual.result c.from_residual.ensures.1).1 (λ first since t r. unwelcomed _ _ _ _ _ _ _ _ _ _ _ _ _ _ c.in_err-accepted.ensures.err c.in_err-accepted.ensures.len c.in_err-accepted.ensures.none
+    c.in_err-accepted.ensures.later c.requires.listens c.in_err-accepted.ensures.listens r)

@@ -1,0 +1,247 @@
+// One step of one connection.
+ghost use Rattle.std.specs.Prelude.{ℕ, ◌≡◌, ◌≢◌, ◌+◌, ◌<◌, ◌≤◌, ◌⊎◌, List, [], length, take, OnOk, Option, Some, None, true, false, ◌↔◌, is_ok};
+ghost use Rattle.tpf_base.specs.Links.{WireState};
+ghost use Rattle.tpf_base.specs.Calls.{Sends, OnlyOn};
+ghost use Rattle.tpf_base.specs.Causes.{Rose};
+ghost use Rattle.connections.specs.Versions.{Serving, MOST_VERSIONS};
+ghost use Rattle.connections.specs.Kinds.{Takes, Feeds, IsOutcome};
+ghost use Rattle.serve_loop.specs.Traffic.{Traffic, Moment};
+ghost use Rattle.serve_loop.specs.Relates.{Relates};
+ghost use Rattle.serve_loop.specs.Steps.{Supplies, StepsOn, StepsLink, Prepares, HasCalled, CallsOnly, Hears, IsReady, left_by};
+
+use crate::live::{Live, Stepped};
+use connections::{Converses, Reloaded, Serves, Supply};
+use tpf_base::{Fault, Moved, OutOfMemory, Wire};
+
+/// The number of the last version that a server can have.
+const MOST: u64 = 9999999999999999999;
+
+/// How a receive came out.
+#[derive(Clone, Copy, Debug, PartialEq, Eq)]
+pub enum Received {
+    Fed,
+    End,
+    NotYet,
+    Failed,
+    Starved,
+}
+
+/// Makes the supply's next table the next version.
+fn reload<V: Serves, S: Supply<V>>(server: &mut V, supply: &mut S) -> Reloaded
+    ensures outcome { IsOutcome (V.serving server.new) result }
+    ensures supplies { (wire : WireState) → Supplies (S.may supply.old) result
+        (record { served = V.serving server.old; faults = S.faults supply.old; left = S.left supply.old; wire = wire })
+        (record { served = V.serving server.new; faults = S.faults supply.new; left = S.left supply.new; wire = wire }) }
+    ensures follows { V.Follows server.old server.new }
+    ensures same { (data_set : V.Data) → S.may supply.new data_set ↔ S.may supply.old data_set }
+{
+    if server.version() == MOST {
+        return Reloaded::Failed;
+    }
+    match supply.next() {
+        Ok(table) => match server.reload(table) {
+            Ok(version) => Reloaded::Version(version),
+            Err(_) => Reloaded::OutOfMemory,
+        },
+        Err(Fault::Failed) => Reloaded::Failed,
+        Err(Fault::OutOfMemory) => Reloaded::OutOfMemory,
+    }
+}
+
+/// Sends a front of what is pending.
+fn send_pending<C: Converses, W: Wire>(live: &mut Live<C>, wire: &mut W) -> Moved
+    requires is_open { ((W.state wire.old).links live.old.link).is_open ≡ true }
+    requires some { 0 < length (C.kind.pending live.old.connection) }
+    ensures sends { Sends live.old.link (C.kind.pending live.old.connection) (W.state wire.old) (W.state wire.new) result }
+    ensures moved { (n : ℕ) → result ≡ Moved.Moved n → Takes C.kind n live.old.connection live.new.connection }
+    ensures still { ((n : ℕ) → result ≢ Moved.Moved n) → live.new ≡ live.old }
+    ensures link { live.new.link ≡ live.old.link }
+    ensures suits { (server : C.Server) → C.Suits server live.old.connection → C.Suits server live.new.connection }
+{
+    let moved = wire.send(live.link, live.connection.pending());
+    if let Moved::Moved(n) = moved {
+        live.connection.take(n);
+    }
+    moved
+}
+
+/// Receives bytes by the buffer and feeds them to the connection.
+fn receive<C: Converses, W: Wire>(
+    live: &mut Live<C>,
+    buffer: &mut [u8],
+    server: &C::Server,
+    wire: &mut W,
+) -> Received
+    requires room { 0 < length buffer.old }
+    requires is_open { ((W.state wire.old).links live.old.link).is_open ≡ true }
+    requires suits { C.Suits server.now live.old.connection }
+    requires idle { C.kind.wants live.old.connection ≡ false }
+    ensures room { length buffer.new ≡ length buffer.old }
+    ensures hears { Hears C.kind (C.Server.serving server.now) live.old.link live.old.connection live.new.connection (W.state wire.old) (W.state wire.new) result }
+    ensures link { live.new.link ≡ live.old.link }
+    ensures suits { result ≢ Received.Starved → C.Suits server.now live.new.connection }
+{
+    match wire.recv(live.link, buffer) {
+        Moved::Moved(n) => match live.connection.feed(server, &buffer[..n]) {
+            Ok(()) => Received::Fed,
+            Err(_) => Received::Starved,
+        },
+        Moved::End => Received::End,
+        Moved::NotYet => Received::NotYet,
+        Moved::Failed => Received::Failed,
+        Moved::OutOfMemory => Received::Starved,
+    }
+}
+
+/// Answers a waiting reload request by the supply's next table.
+fn answer_reload<C: Converses, S: Supply<C::Server>>(
+    live: &mut Live<C>,
+    server: &mut C::Server,
+    supply: &mut S,
+) -> Result<(), OutOfMemory>
+    requires suits { C.Suits server.old live.old.connection }
+    requires wants { C.kind.wants live.old.connection ≡ true }
+    ensures prepares { (wire : WireState) → Prepares C.kind (S.may supply.old) live.old live.new (is_ok result)
+        (record { served = C.Server.serving server.old; faults = S.faults supply.old; left = S.left supply.old; wire = wire })
+        (record { served = C.Server.serving server.new; faults = S.faults supply.new; left = S.left supply.new; wire = wire }) }
+    ensures link { live.new.link ≡ live.old.link }
+    ensures owes { OnOk result (C.kind.owes live.new.connection ≡ true) }
+    ensures suits { OnOk result (C.Suits server.new live.new.connection) }
+    ensures follows { C.Server.Follows server.old server.new }
+    ensures same { (data_set : C.Server.Data) → S.may supply.new data_set ↔ S.may supply.old data_set }
+{
+    let outcome = reload(server, supply);
+    live.connection.reloaded(server, outcome)
+}
+
+/// Answers a reload request where one waits, and makes bytes of the response.
+fn prepare<C: Converses, S: Supply<C::Server>>(
+    live: &mut Live<C>,
+    server: &mut C::Server,
+    supply: &mut S,
+) -> Result<(), OutOfMemory>
+    requires suits { C.Suits server.old live.old.connection }
+    ensures prepares { (wire : WireState) → Prepares C.kind (S.may supply.old) live.old live.new (is_ok result)
+        (record { served = C.Server.serving server.old; faults = S.faults supply.old; left = S.left supply.old; wire = wire })
+        (record { served = C.Server.serving server.new; faults = S.faults supply.new; left = S.left supply.new; wire = wire }) }
+    ensures link { live.new.link ≡ live.old.link }
+    ensures ready { OnOk result (IsReady C.kind live.new.connection) }
+    ensures suits { OnOk result (C.Suits server.new live.new.connection) }
+    ensures follows { C.Server.Follows server.old server.new }
+    ensures same { (data_set : C.Server.Data) → S.may supply.new data_set ↔ S.may supply.old data_set }
+{
+    if live.connection.wants_reload() {
+        answer_reload(live, server, supply)?;
+        return live.connection.fill(server);
+    }
+    live.connection.fill(server)
+}
+
+/// Sends what is pending. A link that fails is closed.
+fn send_step<C: Converses, W: Wire>(live: &mut Live<C>, wire: &mut W) -> Stepped
+    requires is_open { ((W.state wire.old).links live.old.link).is_open ≡ true }
+    requires some { 0 < length (C.kind.pending live.old.connection) }
+    ensures steps { (served : Serving C.Server.Data C.Server.Settings) (faults : ℕ) (left : Option (List C.Server.Data)) → StepsLink C.kind live.old.link live.old.connection live.new.connection result
+        (record { served = served; faults = faults; left = left; wire = W.state wire.old })
+        (record { served = served; faults = faults; left = left; wire = W.state wire.new }) }
+    ensures called { HasCalled result live.old.link (W.state wire.old) (W.state wire.new) }
+    ensures only { CallsOnly live.old.link (W.state wire.old) (W.state wire.new) }
+    ensures kept { live.new.link ≡ live.old.link }
+    ensures is_open { left_by result live.new ≡ Some live.new → ((W.state wire.new).links live.old.link).is_open ≡ true }
+    ensures suits { (server : C.Server) → C.Suits server live.old.connection → C.Suits server live.new.connection }
+{
+    match send_pending(live, wire) {
+        Moved::Moved(_) => Stepped::Moved,
+        Moved::NotYet => Stepped::Still,
+        Moved::OutOfMemory => {
+            wire.close(live.link);
+            Stepped::Starved
+        }
+        Moved::Failed => {
+            wire.close(live.link);
+            Stepped::Ended
+        }
+        Moved::End => {
+            wire.close(live.link);
+            Stepped::Ended
+        }
+    }
+}
+
+/// Receives and feeds. A link that fails is closed, and one that has ended too: nothing is owed on it.
+fn receive_step<C: Converses, W: Wire>(
+    live: &mut Live<C>,
+    buffer: &mut [u8],
+    server: &C::Server,
+    wire: &mut W,
+) -> Stepped
+    requires room { 0 < length buffer.old }
+    requires is_open { ((W.state wire.old).links live.old.link).is_open ≡ true }
+    requires suits { C.Suits server.now live.old.connection }
+    requires ready { IsReady C.kind live.old.connection }
+    requires none { C.kind.pending live.old.connection ≡ [] }
+    ensures room { length buffer.new ≡ length buffer.old }
+    ensures steps { (faults : ℕ) (left : Option (List C.Server.Data)) → StepsLink C.kind live.old.link live.old.connection live.new.connection result
+        (record { served = C.Server.serving server.now; faults = faults; left = left; wire = W.state wire.old })
+        (record { served = C.Server.serving server.now; faults = faults; left = left; wire = W.state wire.new }) }
+    ensures called { HasCalled result live.old.link (W.state wire.old) (W.state wire.new) }
+    ensures only { CallsOnly live.old.link (W.state wire.old) (W.state wire.new) }
+    ensures kept { live.new.link ≡ live.old.link }
+    ensures is_open { left_by result live.new ≡ Some live.new → ((W.state wire.new).links live.old.link).is_open ≡ true }
+    ensures suits { left_by result live.new ≡ Some live.new → C.Suits server.now live.new.connection }
+{
+    match receive(live, buffer, server, wire) {
+        Received::Fed => Stepped::Moved,
+        Received::NotYet => Stepped::Still,
+        Received::End => {
+            wire.close(live.link);
+            Stepped::Ended
+        }
+        Received::Failed => {
+            wire.close(live.link);
+            Stepped::Ended
+        }
+        Received::Starved => {
+            wire.close(live.link);
+            Stepped::Starved
+        }
+    }
+}
+
+/// Steps a connection: answers a reload request where one waits, makes bytes of the response, and then
+/// sends what is pending; where nothing is, it ends the connection if that closes, and receives if not.
+pub fn step<C: Converses, S: Supply<C::Server>, W: Wire>(
+    live: &mut Live<C>,
+    buffer: &mut [u8],
+    server: &mut C::Server,
+    supply: &mut S,
+    wire: &mut W,
+) -> Stepped
+    requires room { 0 < length buffer.old }
+    requires is_open { ((W.state wire.old).links live.old.link).is_open ≡ true }
+    requires suits { C.Suits server.old live.old.connection }
+    ensures room { length buffer.new ≡ length buffer.old }
+    ensures steps { StepsOn C.kind (S.may supply.old) live.old live.new result
+        (record { served = C.Server.serving server.old; faults = S.faults supply.old; left = S.left supply.old; wire = W.state wire.old })
+        (record { served = C.Server.serving server.new; faults = S.faults supply.new; left = S.left supply.new; wire = W.state wire.new }) }
+    ensures called { HasCalled result live.old.link (W.state wire.old) (W.state wire.new) }
+    ensures only { CallsOnly live.old.link (W.state wire.old) (W.state wire.new) }
+    ensures kept { live.new.link ≡ live.old.link }
+    ensures is_open { left_by result live.new ≡ Some live.new → ((W.state wire.new).links live.old.link).is_open ≡ true }
+    ensures suits { left_by result live.new ≡ Some live.new → C.Suits server.new live.new.connection }
+    ensures follows { C.Server.Follows server.old server.new }
+    ensures same { (data_set : C.Server.Data) → S.may supply.new data_set ↔ S.may supply.old data_set }
+{
+    if prepare(live, server, supply).is_err() {
+        wire.close(live.link);
+        return Stepped::Starved;
+    }
+    if !live.connection.pending().is_empty() {
+        return send_step(live, wire);
+    }
+    if live.connection.closing() {
+        wire.close(live.link);
+        return Stepped::Ended;
+    }
+    receive_step(live, buffer, server, wire)
+}
