@@ -157,7 +157,7 @@ pub record Chosen (row : Places) (rest : List Pattern) (fs : List First) (made :
   pub within : index < length rest
   pub below : index < length fs
   pub got : Got page ≡ get_or fs index (Got page)
-  pub made_of : MadeOf pattern (remove rest index) row 1 page made rows after
+  pub made_of : MadeOf pattern (remove rest index) row (1) page made rows after
 
 pub is-chosen : (row : Places) (rest : List Pattern) (fs : List First) (made : List NodeData) (rows : List Places) (after : Option NodeData) → 0 < length rest → is_full (node row rest (Asking fs)) ≡ true → IsChosen (node row rest (Asking fs)) made rows after → Chosen row rest fs made rows after
 is-chosen row rest fs made rows after some full chosen =
@@ -174,7 +174,7 @@ is-chosen row rest fs made rows after some full chosen =
 choice-makes-in : (terms : Terms) (row : Places) (rest : List Pattern) (stage : Stage) (made : List NodeData) (rows : List Places) (after : Option NodeData) → KeepsNode terms (node row rest stage) → is_full (node row rest stage) ≡ true → IsChosen (node row rest stage) made rows after → Makes terms made rows after
 choice-makes-in terms row rest (Asking fs) made rows after k full chosen =
     let c = is-chosen row rest fs made rows after k.asking.some full chosen in
-    page-makes terms c.pattern (remove rest c.index) row 1 c.page made rows after k.width (held-home terms.homes fs c.index c.page c.below c.got k.home) c.made_of.opens c.made_of.puts c.made_of.goes
+    page-makes terms c.pattern (remove rest c.index) row (1) c.page made rows after k.width (held-home terms.homes fs c.index c.page c.below c.got k.home) c.made_of.opens c.made_of.puts c.made_of.goes
 choice-makes-in terms row rest (Walking p j next out) made rows after k full chosen = cc
 
 pub choice-makes : (terms : Terms) (n : NodeData) (made : List NodeData) (rows : List Places) (after : Option NodeData) → KeepsNode terms n → is_full n ≡ true → IsChosen n made rows after → Makes terms made rows after

@@ -460,7 +460,7 @@ choice-opens-in : (nn m d : ℕ) (row : Places) (rest : List Pattern) (stage : S
 choice-opens-in nn m d row rest (Asking fs) made rows after h held full chosen =
     let some : 0 < length rest = omega (arith, h.0, h.1) in
     let c = is-chosen row rest fs made rows after some full chosen in
-    page-opens nn m d c.pattern (remove rest c.index) row 1 c.page made after (omega (arith, h.0, length-remove rest c.index c.within)) (held-few m fs c.index c.page c.below c.got held) c.made_of.opens c.made_of.goes
+    page-opens nn m d c.pattern (remove rest c.index) row (1) c.page made after (omega (arith, h.0, length-remove rest c.index c.within)) (held-few m fs c.index c.page c.below c.got held) c.made_of.opens c.made_of.goes
 choice-opens-in nn m d row rest (Walking p k next out) made rows after h held full chosen = cc
 
 -- ---- events
