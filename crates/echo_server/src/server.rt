@@ -1,0 +1,61 @@
+// A server of one number, of which its connections do not speak.
+ghost use Rattle.std.specs.Prelude.{◌≡◌, ◌≤◌, ◌<◌, ◌+◌, Ok};
+ghost use Rattle.connections.specs.Versions.{MOST_VERSIONS};
+
+use connections::Serves;
+use tpf_base::OutOfMemory;
+
+/// A server of numbers: each version is one.
+#[derive(Debug, Drop)]
+pub struct EchoServer {
+    number: u64,
+    version: u64,
+    ghost numbered: { 1 ≤ version },
+    ghost most: { version ≤ MOST_VERSIONS },
+}
+
+impl EchoServer {
+    /// A server of the number as version 1.
+    #[tactic(auto, unfolding(connections::specs::Versions::MOST_VERSIONS))]
+    pub fn new(number: u64) -> EchoServer
+        ensures number { result.number ≡ number }
+        ensures version { result.version ≡ 1 }
+    {
+        EchoServer { number, version: 1 }
+    }
+}
+
+impl Serves for EchoServer {
+    ghost use Rattle.std.proofs.Common.{rules};
+
+    type Data = u64;
+
+    type Settings = ();
+
+    type Table = u64;
+
+    ghost data_of = { λ table. table };
+
+    ghost serving = { λ server. record { data_set = server.number; config = tt; version = server.version } };
+
+    ghost Follows = { λ old new. old.version ≤ new.version };
+
+    fn version(&self) -> u64 {
+        self.version
+    }
+
+    #[tactic(auto, unfolding(connections::specs::Versions::MOST_VERSIONS))]
+    fn reload(&mut self, table: u64) -> Result<u64, OutOfMemory> {
+        *self = EchoServer {
+            number: table,
+            version: self.version + 1,
+        };
+        Ok(self.version)
+    }
+
+    ghost follows_then = { λ a b c p q. Prim.search rules };
+
+    ghost follows_itself = { λ a. Prim.search rules };
+
+    ghost numbered = { λ server. server.numbered };
+}
