@@ -1,2 +1,1 @@
 pub mod LinkLemmas
-pub mod PoolLemmas

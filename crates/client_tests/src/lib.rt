@@ -1,9 +1,6 @@
-//! Tests of the client: requests and their replies over a wire in memory, one by one and in a pool.
+//! Tests of the client: one request and its reply over a wire in memory.
 #![tactic(auto)]
 
 #[cfg(test)]
 mod exchanges;
 pub mod polling;
-#[cfg(test)]
-mod pooling;
-pub mod stepping;
