@@ -1,6 +1,9 @@
-//! Tests of the client: one request and its reply over a wire in memory.
+//! Tests of the client: requests and their replies over a wire in memory, one by one and in a pool.
 #![tactic(auto)]
 
 #[cfg(test)]
 mod exchanges;
 pub mod polling;
+#[cfg(test)]
+mod pooling;
+pub mod stepping;

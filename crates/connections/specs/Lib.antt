@@ -1,3 +1,4 @@
 pub mod Marks
 pub mod Versions
 pub mod Kinds
+pub mod Supplies

@@ -1,6 +1,7 @@
 // A supply that gives nothing.
 ghost use Rattle.std.specs.Prelude.{◌≡◌, Some, [], Err};
-ghost use Rattle.tpf_base.specs.Causes.{counted};
+ghost use Rattle.tpf_base.specs.Causes.{HasCause, counted};
+ghost use Rattle.connections.specs.Supplies.{refusals};
 
 use crate::{Serves, Supply};
 use tpf_base::Fault;
@@ -13,19 +14,26 @@ pub struct NoSupply {
 
 impl NoSupply {
     /// A supply that has not failed yet.
-    pub fn new() -> NoSupply {
+    pub fn new() -> NoSupply
+        ensures faults { refusals result ≡ 0 }
+    {
         NoSupply { faults: 0 }
     }
 }
 
 impl<V: Serves> Supply<V> for NoSupply {
-    ghost faults = { λ supply. supply.faults };
+    ghost faults = { λ supply. refusals supply };
 
     ghost left = { λ supply. Some [] };
 
     ghost may = { λ supply data_set. ⊥ };
 
-    fn next(&mut self) -> Result<V::Table, Fault> {
+    /// `Failed`, always.
+    fn next(&mut self) -> Result<V::Table, Fault>
+        ensures refused { result ≡ Err Fault.Failed }
+        ensures cause { HasCause (refusals self.old) (refusals self.new) result }
+        ensures counts { refusals self.new ≡ counted (refusals self.old) }
+    {
         self.faults = self.faults.saturating_add(1);
         Err(Fault::Failed)
     }

@@ -16,7 +16,7 @@ use Rattle.template_fill.specs.WebAddress.{OneAddress}
 use Rattle.template_fill.specs.declared.form.Form.{Form}
 use Rattle.control_reader.specs.declared.page.PageFault.{PageFault}
 use Rattle.control_reader.specs.declared.page.PageFault.TheVariants as faults
-use Rattle.control_reader.specs.Controls.{IsOnly, HasTwo, IsCountObject, IsNumber, IsCount, HasNoCount, HasBadCount, FormTexts, IsLiteral, IsForm, HasNoForm, IsLeastForm, names_all, IsFormOf, HasBadTemplate, IsLink, IsNextObject, IsNext, HasTwoNext, HasForeignNext, IsHome, IsForeign}
+use Rattle.control_reader.specs.Controls.{IsOnly, HasTwo, IsCountObject, IsNumber, IsCount, HasNoCount, HasBadCount, FormTexts, IsLiteral, IsForm, HasNoForm, IsLeastForm, names_all, IsFormOf, HasBadTemplate, IsLink, IsNextObject, IsNext, HasTwoNext, HasForeignNext, IsHome, IsForeign, IsVersionObject, IsVersion}
 use Rattle.control_reader.specs.Contents.{HasBlankData}
 use Rattle.control_reader.specs.Takes.{FindsForm, HasForeignForm, HasForeignLink, place_of}
 use Rattle.control_reader.specs.Outcomes.{IsFaultOf}
@@ -46,6 +46,13 @@ count_there quads topic n h lacking = lacking h.0 h.1.0
 pub count_good : (quads : List Quad) (topic : List ℕ) (n : ℕ) → IsCount quads topic n → HasBadCount quads topic → ⊥
 count_good quads topic n h (inl two) = only_not_two (IsCountObject quads topic) h.0 h.1 two
 count_good quads topic n h (inr bad) = bad.2 n (subst (λ (o : Term). IsNumber o n) (sym (h.1.1 bad.0 bad.1)) h.2)
+
+pub one_version : (quads : List Quad) (topic : List ℕ) (a b : Option ℕ) → IsVersion quads topic a → IsVersion quads topic b → a ≡ b
+one_version quads topic None None h k = refl
+one_version quads topic None (Some n) h k = absurd (h k.0 k.1)
+one_version quads topic (Some n) None h k = absurd (k h.0 h.1)
+one_version quads topic (Some n) (Some m) h k =
+    ap (λ (x : ℕ). Some x) (number_one k.0 n m (subst (λ (o : Term). IsNumber o n) (only_one (IsVersionObject quads topic) h.0 k.0 h.1 k.1) h.2) k.2)
 
 bad_there : (quads : List Quad) (topic : List ℕ) → HasBadCount quads topic → HasNoCount quads topic → ⊥
 bad_there quads topic (inl two) lacking = lacking two.0 two.2

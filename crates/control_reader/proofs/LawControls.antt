@@ -13,12 +13,13 @@ use Rattle.rdf_terms.specs.declared.term.Quad.{Quad}
 use Rattle.rdf_terms.specs.Order.{term_order}
 use Rattle.rdf_terms.specs.OrderLaws.{term_total}
 use Rattle.tpf_base.specs.Addresses.{Address, IsAddress, authority_of}
+use Rattle.tpf_base.specs.Decimals.{decimal_text}
 use Rattle.template_fill.specs.Metadata.{plain, integer}
 use Rattle.template_fill.specs.Bodies.{in_default_graph}
-use Rattle.control_reader.specs.Vocabulary.{primary_topic, total_items, next_page, search_form, form_template, representation, explicit_representation, form_mapping, mapped_variable, mapped_property, rdf_subject, rdf_predicate, rdf_object}
-use Rattle.control_reader.specs.Controls.{IsAbout, HasTopic, IsTopic, Says, IsCountObject, IsCount, FormTexts, IsLiteral, IsTemplateOf, MapsTo, IsForm, IsLeastForm, IsNextObject, IsNext}
+use Rattle.control_reader.specs.Vocabulary.{primary_topic, total_items, next_page, search_form, form_template, representation, explicit_representation, form_mapping, mapped_variable, mapped_property, rdf_subject, rdf_predicate, rdf_object, version_info}
+use Rattle.control_reader.specs.Controls.{IsAbout, HasTopic, IsTopic, Says, IsCountObject, IsCount, FormTexts, IsLiteral, IsTemplateOf, MapsTo, IsForm, IsLeastForm, IsNextObject, IsNext, IsNumber, IsVersionObject, IsVersion}
 use Rattle.control_reader.proofs.LawAsking.{asks, asks_object, asks_subject, named, one_passes, one_stands, none_passes, asked, asked_object, asked_subject, named_stands, holds_named, same_subject, same_object}
-use Rattle.control_reader.proofs.LawMetadata.{Parts, metadata, node, Said, topic_asked, count_asked, next_asked, no_next_asked, form_asked, template_asked, representation_asked, subject_said, predicate_said, object_said}
+use Rattle.control_reader.proofs.LawMetadata.{Parts, metadata, node, Said, topic_asked, count_asked, version_asked, next_asked, no_next_asked, form_asked, template_asked, representation_asked, subject_said, predicate_said, object_said}
 use Rattle.control_reader.proofs.LawNumbers.{count_text, count_value}
 
 same_text : (a b : List ℕ) → Iri a ≡ Iri b → a ≡ b
@@ -86,6 +87,20 @@ module _ (ts : List Triple) (there back : Bool) (m : Parts) where
   pub count_is : m.count ≤ 9999999999999999999 → IsCount (body ts there back m) m.page m.count
   unfolding integer
   count_is fits = (integer m.count, (inl says_count, count_object), (count_text m.count fits, count_value m.count))
+
+  -- ---- the version
+
+  says_version : Says (body ts there back m) m.page (Iri (m.base ++ codes "#dataset")) version_info (plain (decimal_text m.version))
+  says_version = says_one (asks version_info) (Iri (m.base ++ codes "#dataset")) version_info (plain (decimal_text m.version)) (version_asked there back m)
+
+  version_only : (o : Term) → IsVersionObject (body ts there back m) m.page o → o ≡ plain (decimal_text m.version)
+  version_only o h =
+      (said_one (asks version_info) h.0.0 version_info o (Iri (m.base ++ codes "#dataset")) version_info (plain (decimal_text m.version)) (version_asked there back m) h.0.1 (asked h.0.1.graph h.0.0 version_info o)).1
+
+  pub version_is : m.version ≤ 9999999999999999999 → IsVersion (body ts there back m) m.page (Some m.version)
+  version_is fits =
+      let number : IsNumber (plain (decimal_text m.version)) m.version = (count_text m.version fits, count_value m.version) in
+      (plain (decimal_text m.version), (((Iri (m.base ++ codes "#dataset"), says_version), (m.version, number)), version_only), number)
 
   -- ---- the next page
 

@@ -19,7 +19,8 @@ use Rattle.rdf_terms.specs.declared.term.Quad.{Quad}
 use Rattle.rdf_terms.specs.Valid.{IsValidKind, IsValidTerm, IsValidTriple}
 use Rattle.rdf_terms.specs.Sizes.{HasShortLabel}
 use Rattle.nquads_text.specs.Quads.{IsReadableTerm, IsReadableGraph, IsReadable}
-use Rattle.template_fill.specs.Metadata.{foaf, void, hydra, rdf, plain, integer, statement, topic_quads, form_quads, mapping_quads, count_quads, link_quads}
+use Rattle.tpf_base.specs.Decimals.{decimal_text}
+use Rattle.template_fill.specs.Metadata.{foaf, void, hydra, rdf, plain, integer, statement, topic_quads, form_quads, mapping_quads, count_quads, link_quads, version_quads, owl}
 use Rattle.template_fill.specs.Bodies.{in_default_graph}
 use Rattle.template_fill.proofs.Addresses.{and_left, and_right, utf8-ascii}
 use Rattle.control_reader.specs.Law.{IsShort, IsShortGraph, HasShortTerms}
@@ -214,6 +215,15 @@ unfolding link_quads hydra
 safe_link true graph page name target web own other property = one (safe_statement graph (Iri page) (hydra name) (Iri target) web tt tt (safe_web page own) property (safe_web target other)) none
 safe_link false graph page name target web own other property = none
 
+safe_number : (n : ℕ) → IsSafe (plain (decimal_text n))
+safe_number n = record { valid = (number_utf8 n, tt); label = tt }
+
+safe_version : (m : Parts) → HasSafeTexts m → AreSafe (version_quads m.graph m.base m.version)
+unfolding owl version_quads
+safe_version m h =
+    let data_set = safe_web (m.base ++ codes "#dataset") (web_more m.base (codes "#dataset") h.base refl refl) in
+    one (safe_statement m.graph (Iri (m.base ++ codes "#dataset")) (owl (codes "versionInfo")) (plain (decimal_text m.version)) h.graph tt tt data_set (safe_text _ refl refl) (safe_number m.version)) none
+
 safe_metadata : (there back : Bool) (m : Parts) → HasSafeTexts m → AreSafe (metadata there back m)
 unfolding metadata rdf hydra
 safe_metadata there back m h =
@@ -223,7 +233,8 @@ safe_metadata there back m h =
     let with_object = joined with_predicate (safe_mapping m.graph (codes "o") (codes "object") h.graph safe_o (safe_text _ refl refl) refl) in
     let with_count = joined with_object (safe_count m h) in
     let with_next = joined with_count (safe_link there m.graph m.page (codes "next") m.next h.graph h.page h.next (safe_text _ refl refl)) in
-    joined with_next (safe_link back m.graph m.page (codes "previous") m.previous h.graph h.page h.previous (safe_text _ refl refl))
+    let with_previous = joined with_next (safe_link back m.graph m.page (codes "previous") m.previous h.graph h.page h.previous (safe_text _ refl refl)) in
+    joined with_previous (safe_version m h)
 
 pub safe_body : (ts : List Triple) (there back : Bool) (m : Parts) → AllByRecursion IsGroundTriple ts → AllByRecursion IsValidTriple ts → HasSafeTexts m → AllByRecursion IsSafeQuad (map in_default_graph ts ++ metadata there back m)
 safe_body ts there back m classes valid h = all_append (map in_default_graph ts) (metadata there back m) (safe_data ts classes valid) (safe_metadata there back m h).each

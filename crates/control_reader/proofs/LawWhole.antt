@@ -25,11 +25,12 @@ use Rattle.template_fill.proofs.Histories.{versions}
 use Rattle.template_fill.specs.Bodies.{version_of, in_default_graph, page_quads, page_body}
 use Rattle.control_reader.specs.declared.page.Page.{Page}
 use Rattle.control_reader.specs.Contents.{firsts, page_triples}
-use Rattle.control_reader.specs.Controls.{IsTopic, IsCount, IsLeastForm, IsFormOf, IsNext, IsHome}
+use Rattle.control_reader.specs.Controls.{IsTopic, IsCount, IsLeastForm, IsFormOf, IsNext, IsHome, IsVersion}
 use Rattle.control_reader.specs.Takes.{IsBody, Takes}
-use Rattle.control_reader.specs.Law.{HasShortTerms, IsWithinLimits, IsNextOf, IsServerForm, IsPageOf, IsReadFrom, ControlsReadBack, NothingElseIsRead, PagesAreThere}
+use Rattle.control_reader.specs.Law.{HasShortTerms, IsWithinLimits, IsNextOf, IsServerForm, IsPageOf, IsReadFrom, IsVersionNumber, ControlsReadBack, NothingElseIsRead, PagesAreThere}
+use Rattle.control_reader.proofs.Fine.{one_version}
 use Rattle.control_reader.proofs.LawAddresses.{base_web, web_more, extends_web, page_longer, longer, longer_is, same_authority}
-use Rattle.control_reader.proofs.LawControls.{body, texts_of, topic_is, count_is, next_is, no_next_is, least_is}
+use Rattle.control_reader.proofs.LawControls.{body, texts_of, topic_is, count_is, next_is, no_next_is, least_is, version_is}
 use Rattle.control_reader.proofs.LawData.{page_firsts, page_all, default_data, no_blank_data}
 use Rattle.control_reader.proofs.LawMetadata.{Parts, metadata, parts_for, metadata_is, all_named}
 use Rattle.control_reader.proofs.LawOnly.{topic_taken, count_fits, count_taken, texts_taken, form_taken, home_taken, next_taken}
@@ -39,9 +40,9 @@ use Rattle.control_reader.proofs.LawTemplates.{template_reads, home_is}
 
 -- ---- the parts
 
-safe_texts : (config : Config) (slots : Slots) (k count : ℕ) → IsAddress (address_text config.base) config.base → HasSafeTexts (parts_for config slots k count)
+safe_texts : (config : Config) (slots : Slots) (k count version : ℕ) → IsAddress (address_text config.base) config.base → HasSafeTexts (parts_for config slots k count version)
 unfolding parts_for
-safe_texts config slots k count h =
+safe_texts config slots k count version h =
     let page = extends_web config.base (page_address config.base slots k) h (page_longer config.base slots k) in
     let base = base_web config.base h in
     record {
@@ -54,17 +55,21 @@ safe_texts config slots k count h =
       previous = extends_web config.base (page_address config.base slots (k - 1)) h (page_longer config.base slots (k - 1));
     }
 
-parts_next : (config : Config) (slots : Slots) (k count : ℕ) → (parts_for config slots k count).next ≡ page_address config.base slots (k + 1)
+parts_next : (config : Config) (slots : Slots) (k count version : ℕ) → (parts_for config slots k count version).next ≡ page_address config.base slots (k + 1)
 unfolding parts_for
-parts_next config slots k count = refl
+parts_next config slots k count version = refl
 
-parts_template : (config : Config) (slots : Slots) (k count : ℕ) → (parts_for config slots k count).template ≡ template_text config.base
+parts_template : (config : Config) (slots : Slots) (k count version : ℕ) → (parts_for config slots k count version).template ≡ template_text config.base
 unfolding parts_for
-parts_template config slots k count = refl
+parts_template config slots k count version = refl
 
-parts_count : (config : Config) (slots : Slots) (k count : ℕ) → (parts_for config slots k count).count ≡ count
+parts_count : (config : Config) (slots : Slots) (k count version : ℕ) → (parts_for config slots k count version).count ≡ count
 unfolding parts_for
-parts_count config slots k count = refl
+parts_count config slots k count version = refl
+
+parts_version : (config : Config) (slots : Slots) (k count version : ℕ) → (parts_for config slots k count version).version ≡ version
+unfolding parts_for
+parts_version config slots k count version = refl
 
 -- ---- the form
 
@@ -111,7 +116,7 @@ module _ (history : List (List Triple)) (version : ℕ) (config : Config) (slots
   ts = page_of (version_of history version) slots k config.page_size
 
   abbrev m : Parts
-  m = parts_for config slots k count
+  m = parts_for config slots k count version
 
   abbrev quads : List Quad
   quads = body ts (nat_lt k last) (nat_lt 1 k) m
@@ -127,13 +132,16 @@ module _ (history : List (List Triple)) (version : ℕ) (config : Config) (slots
   classes = page_all IsGroundTriple (version_of history version) slots k config.page_size valid.data_set.classes
 
   safe : AllByRecursion IsSafeQuad quads
-  safe = safe_body ts (nat_lt k last) (nat_lt 1 k) m classes (page_all IsValidTriple (version_of history version) slots k config.page_size valid.terms) (safe_texts config slots k count web)
+  safe = safe_body ts (nat_lt k last) (nat_lt 1 k) m classes (page_all IsValidTriple (version_of history version) slots k config.page_size valid.terms) (safe_texts config slots k count version web)
 
   page_data : page_triples quads ≡ ts
   page_data = triples_are (version_of history version) slots k config.page_size (nat_lt k last) (nat_lt 1 k) m
 
   m_count : m.count ≡ count
-  m_count = parts_count config slots k count
+  m_count = parts_count config slots k count version
+
+  m_version : m.version ≡ version
+  m_version = parts_version config slots k count version
 
   -- the body is read as these quads
   reads : AllByRecursion (HasShortTerms 4194304) (page_quads history version config slots k) → IsBody (page_body history version config slots k) quads
@@ -143,23 +151,24 @@ module _ (history : List (List Triple)) (version : ℕ) (config : Config) (slots
   only_quads : (read : List Quad) → IsBody (page_body history version config slots k) read → read ≡ quads
   only_quads read h = only_reading 4194304 quads read safe (subst (λ (text : List ℕ). Reads text 4194304 read) text_is h)
 
-  taken : (address : Address) (page : Page) → IsWithinLimits history version config slots k → authority_of address ≡ authority_of config.base → IsPageOf (version_of history version) config slots k page → Takes (page_body history version config slots k) address page
-  taken address page limits own is = record {
+  taken : (address : Address) (page : Page) → IsVersionNumber version → IsWithinLimits history version config slots k → authority_of address ≡ authority_of config.base → IsPageOf (version_of history version) version config slots k page → Takes (page_body history version config slots k) address page
+  taken address page numbered limits own is = record {
     quads = quads;
     topic = m.page;
     texts = texts_of m;
     controls = record { body = reads limits.terms; is_topic = topic_is ts (nat_lt k last) (nat_lt 1 k) m (address_text address) };
     count = subst (IsCount quads m.page) (m_count ∙ sym is.count) (count_is ts (nat_lt k last) (nat_lt 1 k) m (rw m_count limits.count));
     least = least_is ts (nat_lt k last) (nat_lt 1 k) m;
-    form = form_given config.base page.form m web (parts_template config slots k count) is.form;
-    next = next_given ts (nat_lt 1 k) m config slots k last (authority_of address) page.next web (parts_next config slots k count) own is.next;
+    form = form_given config.base page.form m web (parts_template config slots k count version) is.form;
+    next = next_given ts (nat_lt 1 k) m config slots k last (authority_of address) page.next web (parts_next config slots k count version) own is.next;
     home = home_given config.base page.form.template (authority_of address) web is.form.template own;
+    version = subst (IsVersion quads m.page) (ap (λ (n : ℕ). Some n) m_version ∙ sym is.version_is) (version_is ts (nat_lt k last) (nat_lt 1 k) m (rw m_version numbered));
     triples = is.triples_are ∙ sym page_data;
     no_blank = no_blank_data quads ts page_data classes;
   }
 
-  only : (address : Address) (page : Page) → Takes (page_body history version config slots k) address page → IsReadFrom history version config slots k address page
-  only address page t =
+  only : (address : Address) (page : Page) → IsVersionNumber version → Takes (page_body history version config slots k) address page → IsReadFrom history version config slots k address page
+  only address page numbered t =
       let there = nat_lt k last in
       let back = nat_lt 1 k in
       let is = only_quads t.quads t.controls.body in
@@ -167,7 +176,8 @@ module _ (history : List (List Triple)) (version : ℕ) (config : Config) (slots
       let counted = moved (λ qs text. IsCount qs text page.count) t.quads quads t.topic m.page is topic t.count in
       let least = moved (λ qs text. IsLeastForm qs text t.texts) t.quads quads t.topic m.page is topic t.least in
       let linked = moved (λ qs text. IsNext qs text (authority_of address) page.next) t.quads quads t.topic m.page is topic t.next in
-      let form = form_taken config.base m t.texts page.form web (parts_template config slots k count) (texts_taken ts there back m t.texts least) t.form in
+      let said = moved (λ qs text. IsVersion qs text page.version) t.quads quads t.topic m.page is topic t.version in
+      let form = form_taken config.base m t.texts page.form web (parts_template config slots k count version) (texts_taken ts there back m t.texts least) t.form in
       let short = all_short 4194304 t.quads (what_is_read (page_body history version config slots k) 4194304 t.quads t.controls.body) in
       record {
         within = record { count = rw (← m_count) (count_fits ts there back m page.count counted); terms = subst (AllByRecursion (HasShortTerms 4194304)) (is ∙ sym quads_are) short };
@@ -175,8 +185,9 @@ module _ (history : List (List Triple)) (version : ℕ) (config : Config) (slots
         is_page = record {
           triples_are = t.triples ∙ ap page_triples is ∙ page_data;
           count = count_taken ts there back m page.count counted ∙ m_count;
-          next = next_taken ts back m config slots k last (authority_of address) page.next (parts_next config slots k count) linked;
+          next = next_taken ts back m config slots k last (authority_of address) page.next (parts_next config slots k count version) linked;
           form = form;
+          version_is = one_version quads m.page page.version (Some m.version) said (version_is ts there back m (rw m_version numbered)) ∙ ap (λ (n : ℕ). Some n) m_version;
         };
       }
 
@@ -189,7 +200,7 @@ module _ (history : List (List Triple)) (version : ℕ) (config : Config) (slots
         | inr past ↦ (None, past)
       ]
 
-  page_there : (page : Page) × IsPageOf (version_of history version) config slots k page
+  page_there : (page : Page) × IsPageOf (version_of history version) version config slots k page
   page_there =
       let next = next_there in (
         record {
@@ -197,17 +208,18 @@ module _ (history : List (List Triple)) (version : ℕ) (config : Config) (slots
           count = count;
           next = next.0;
           form = record { template = server_template config.base; subject = codes "subject"; predicate = codes "predicate"; object = codes "object" };
+          version = Some version;
         },
-        record { triples_are = refl; count = refl; next = next.1; form = record { template = refl; subject = refl; predicate = refl; object = refl } },
+        record { triples_are = refl; count = refl; next = next.1; form = record { template = refl; subject = refl; predicate = refl; object = refl }; version_is = refl },
       )
 
 -- ---- the law
 
 pub controls_read_back : ControlsReadBack
-controls_read_back history version config slots k address page is valid = taken history version config slots k (versions history version is) valid.base address page
+controls_read_back history version config slots k address page is numbered valid = taken history version config slots k (versions history version is) valid.base address page numbered
 
 pub nothing_else_is_read : NothingElseIsRead
-nothing_else_is_read history version config slots k address page is valid = only history version config slots k (versions history version is) valid.base address page
+nothing_else_is_read history version config slots k address page is numbered valid = only history version config slots k (versions history version is) valid.base address page numbered
 
 pub pages_are_there : PagesAreThere
 pages_are_there history version config slots k is valid = page_there history version config slots k (versions history version is) valid.base

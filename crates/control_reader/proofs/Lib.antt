@@ -10,6 +10,7 @@ pub mod Blanks
 pub mod Numbers
 pub mod Counted
 pub mod Fine
+pub mod Versioned
 pub mod Pages
 pub mod LawAddresses
 pub mod LawAsking

@@ -9,14 +9,14 @@ use Rattle.control_reader.specs.declared.read.Told.{Told}
 use Rattle.control_reader.specs.declared.page.Page.{Page}
 use Rattle.control_reader.specs.declared.page.PageFault.{PageFault}
 use Rattle.control_reader.specs.declared.page.PageFault.TheVariants as faults
-use Rattle.control_reader.specs.Controls.{IsTopic, FormTexts, IsCount, IsLeastForm, IsNext, IsFormOf}
+use Rattle.control_reader.specs.Controls.{IsTopic, FormTexts, IsCount, IsLeastForm, IsNext, IsFormOf, IsVersion}
 use Rattle.control_reader.specs.Contents.{page_triples, HasBlankData}
 use Rattle.control_reader.specs.Takes.{IsBody, HasControls, Takes, Finds, HasForeignLink, IsWrong, place_of, Faults}
 use Rattle.control_reader.specs.Outcomes.{Answers, IsFaultOf, IsPageOrMemory, IsFaultOrMemory}
 use Rattle.control_reader.specs.Seen.{TakesTriples}
 use Rattle.control_reader.specs.Stages.{WhyNoBody, IsAmiss, FirstAmiss, TakesPage, WhyNoPage}
 use Rattle.control_reader.proofs.Topics.{one_topic}
-use Rattle.control_reader.proofs.Fine.{one_count, count_there, count_good, one_least, one_form, form_there, form_good, one_next, next_one, next_home, form_home, earlier}
+use Rattle.control_reader.proofs.Fine.{one_count, count_there, count_good, one_least, one_form, form_there, form_good, one_version, one_next, next_one, next_home, form_home, earlier}
 
 ok_same : {E : Type 0} (x y : List Quad) → ◌≡◌ {A = Result (List Quad) E} (Ok x) (Ok y) → x ≡ y
 ok_same x y e = cc
@@ -44,8 +44,9 @@ module _ (bytes : List ℕ) (address : Address) where
       let l = one_least k.quads k.topic h.texts k.texts (subst (λ (x : List ℕ). IsLeastForm k.quads x h.texts) t (subst (λ (x : List Quad). IsLeastForm x h.topic h.texts) q h.least)) k.least in
       let f = one_form k.texts a.form b.form (subst (λ (x : FormTexts). IsFormOf x a.form) l h.form) k.form in
       let x = one_next one_address k.quads k.topic (authority_of address) a.next b.next (subst (λ (x : List ℕ). IsNext k.quads x (authority_of address) a.next) t (subst (λ (x : List Quad). IsNext x h.topic (authority_of address) a.next) q h.next)) k.next in
+      let v = one_version k.quads k.topic a.version b.version (subst (λ (x : List ℕ). IsVersion k.quads x a.version) t (subst (λ (x : List Quad). IsVersion x h.topic a.version) q h.version)) k.version in
       let ts = h.triples ∙ ap page_triples q ∙ sym k.triples in
-      λ i. record { triples = ts i; count = n i; next = x i; form = f i }
+      λ i. record { triples = ts i; count = n i; next = x i; form = f i; version = v i }
 
   -- ---- no page is at fault
 
@@ -162,10 +163,10 @@ module _ (bytes : List ℕ) (address : Address) where
   data_fault quads told fault body page (inr h) =
       inr (subst (Faults bytes address) (sym h.0) (first_fault quads page.topic record { body = body; is_topic = page.is_topic } faults.BlankData record { amiss = h.1; first = fine quads told page }))
 
-  pub takes_page : (quads : List Quad) (told : Told) (page : Page) → IsBody bytes quads → TakesPage quads address told → TakesTriples quads page.triples → page.count ≡ told.count → page.next ≡ told.next → page.form ≡ told.form → Takes bytes address page
-  takes_page quads told page body taken triples n x f =
+  pub takes_page : (quads : List Quad) (told : Told) (page : Page) → IsBody bytes quads → TakesPage quads address told → TakesTriples quads page.triples → page.count ≡ told.count → page.next ≡ told.next → page.form ≡ told.form → page.version ≡ told.version → Takes bytes address page
+  takes_page quads told page body taken triples n x f v =
       let t = taken.controls in let form = t.form in
-      subst (Takes bytes address) (same_page page told page.triples refl n x f) record {
+      subst (Takes bytes address) (same_page page told page.triples refl n x f v) record {
         quads = quads;
         topic = taken.topic;
         texts = form.texts;
@@ -175,13 +176,14 @@ module _ (bytes : List ℕ) (address : Address) where
         form = form.is_form;
         next = t.next;
         home = t.home;
+        version = t.version;
         triples = triples.triples_are;
         no_blank = triples.no_blank;
       }
     where
-      same_page : (page : Page) (told : Told) (triples : List Triple) → page.triples ≡ triples → page.count ≡ told.count → page.next ≡ told.next → page.form ≡ told.form →
-          ◌≡◌ {A = Page} (record { triples = triples; count = told.count; next = told.next; form = told.form }) page
-      same_page page told triples t n x f = sym (λ i. record { triples = t i; count = n i; next = x i; form = f i })
+      same_page : (page : Page) (told : Told) (triples : List Triple) → page.triples ≡ triples → page.count ≡ told.count → page.next ≡ told.next → page.form ≡ told.form → page.version ≡ told.version →
+          ◌≡◌ {A = Page} (record { triples = triples; count = told.count; next = told.next; form = told.form; version = told.version }) page
+      same_page page told triples t n x f v = sym (λ i. record { triples = t i; count = n i; next = x i; form = f i; version = v i })
 
   -- ---- exactly so
 

@@ -11,7 +11,7 @@ use Rattle.rdf_terms.specs.Order.{term_order}
 use Rattle.tpf_base.specs.Addresses.{Address, IsAddress, authority_of}
 use Rattle.template_fill.specs.Templates.{Template, read_template, has_name, expansion}
 use Rattle.template_fill.specs.declared.form.Form.{Form}
-use Rattle.control_reader.specs.Vocabulary.{primary_topic, void_triples, total_items, next_page, search_form, form_template, representation, explicit_representation, form_mapping, mapped_variable, mapped_property, rdf_subject, rdf_predicate, rdf_object}
+use Rattle.control_reader.specs.Vocabulary.{primary_topic, void_triples, total_items, next_page, search_form, form_template, representation, explicit_representation, form_mapping, mapped_variable, mapped_property, rdf_subject, rdf_predicate, rdf_object, version_info}
 
 -- ---- how many
 
@@ -143,6 +143,17 @@ pub record IsFormOf (texts : FormTexts) (form : Form) : Type 0 where
 -- the text is no template, or one that does not name all three
 abbrev pub HasBadTemplate : FormTexts → Type 0
 HasBadTemplate texts = (template : Template) → read_template texts.template ≡ Some template → names_all template texts ≡ false
+
+-- ---- the version
+
+-- a literal of 1 to 19 digits that something has as its version
+abbrev pub IsVersionObject : List Quad → List ℕ → Term → Type 0
+IsVersionObject quads topic object = ((subject : Term) × Says quads topic subject version_info object) × ((n : ℕ) × IsNumber object n)
+
+-- the number of the only such literal; none where there is no such literal, or more than one
+abbrev pub IsVersion : List Quad → List ℕ → Option ℕ → Type 0
+IsVersion quads topic None = (object : Term) → IsOnly (IsVersionObject quads topic) object → ⊥
+IsVersion quads topic (Some n) = (object : Term) × IsOnly (IsVersionObject quads topic) object × IsNumber object n
 
 -- ---- links
 

@@ -11,7 +11,7 @@ use Rattle.tpf_base.specs.Addresses.{Address, IsAddress, authority_of}
 use Rattle.template_fill.specs.declared.form.Form.{Form}
 use Rattle.template_fill.specs.Pages.{page_address, server_template}
 use Rattle.template_fill.specs.Metadata.{Config}
-use Rattle.template_fill.specs.Configurations.{IsConfig, IsHistory}
+use Rattle.template_fill.specs.Configurations.{IsConfig, IsHistory, most_versions}
 use Rattle.template_fill.specs.Bodies.{version_of, page_quads, page_body}
 use Rattle.control_reader.specs.declared.page.Page.{Page}
 use Rattle.control_reader.specs.Takes.{Takes}
@@ -47,35 +47,42 @@ pub record IsServerForm (base : Address) (form : Form) : Type 0 where
   pub predicate : form.predicate ≡ codes "predicate"
   pub object : form.object ≡ codes "object"
 
--- page k of the fragment: its triples, the fragment's length, the next page, and the server's form
-pub record IsPageOf (triples : List Triple) (config : Config) (slots : Slots) (k : ℕ) (page : Page) : Type 0 where
+-- page k of the fragment: its triples, the fragment's length, the next page, the server's form, and the version
+pub record IsPageOf (triples : List Triple) (version : ℕ) (config : Config) (slots : Slots) (k : ℕ) (page : Page) : Type 0 where
   pub triples_are : page.triples ≡ page_of triples slots k config.page_size
   pub count : page.count ≡ length (fragment triples slots)
   pub next : IsNextOf config slots k (last_page triples slots config.page_size) page.next
   pub form : IsServerForm config.base page.form
+  pub version_is : page.version ≡ Some version
+
+-- the version has 1 to 19 digits, as each version of a history has
+abbrev pub IsVersionNumber : ℕ → Type 0
+IsVersionNumber version = version ≤ most_versions
 
 -- within these limits, and under each address of the server's authority, the body of a page is read as that page
 abbrev pub ControlsReadBack : Type 0
 ControlsReadBack =
     (history : List (List Triple)) (version : ℕ) (config : Config) (slots : Slots) (k : ℕ) (address : Address) (page : Page)
     → IsHistory history
+    → IsVersionNumber version
     → IsConfig config
     → IsWithinLimits history version config slots k
     → authority_of address ≡ authority_of config.base
-    → IsPageOf (version_of history version) config slots k page
+    → IsPageOf (version_of history version) version config slots k page
     → Takes (page_body history version config slots k) address page
 
 -- what is read from a body that a server's definition gives
 pub record IsReadFrom (history : List (List Triple)) (version : ℕ) (config : Config) (slots : Slots) (k : ℕ) (address : Address) (page : Page) : Type 0 where
   pub within : IsWithinLimits history version config slots k
   pub authority : authority_of address ≡ authority_of config.base
-  pub is_page : IsPageOf (version_of history version) config slots k page
+  pub is_page : IsPageOf (version_of history version) version config slots k page
 
 -- nothing else is read from it, and nothing at all past the limits or under another authority
 abbrev pub NothingElseIsRead : Type 0
 NothingElseIsRead =
     (history : List (List Triple)) (version : ℕ) (config : Config) (slots : Slots) (k : ℕ) (address : Address) (page : Page)
     → IsHistory history
+    → IsVersionNumber version
     → IsConfig config
     → Takes (page_body history version config slots k) address page
     → IsReadFrom history version config slots k address page
@@ -86,4 +93,4 @@ PagesAreThere =
     (history : List (List Triple)) (version : ℕ) (config : Config) (slots : Slots) (k : ℕ)
     → IsHistory history
     → IsConfig config
-    → (page : Page) × IsPageOf (version_of history version) config slots k page
+    → (page : Page) × IsPageOf (version_of history version) version config slots k page

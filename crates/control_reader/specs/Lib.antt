@@ -13,4 +13,5 @@ pub mod Stages
 pub mod Laws
 pub mod Authorities
 pub mod Law
+pub mod Versions
 pub mod Marks

@@ -7,7 +7,7 @@ use Rattle.tpf_base.specs.Addresses.{Address, address_text, authority_of}
 use Rattle.control_reader.specs.declared.read.Told.{Told}
 use Rattle.control_reader.specs.declared.page.PageFault.{PageFault}
 use Rattle.control_reader.specs.declared.page.PageFault.TheVariants.{Text, NoTopic, NoCount, CountText, NoForm, BadTemplate, TwoNext, ForeignLink, BlankData, OutOfMemory}
-use Rattle.control_reader.specs.Controls.{IsTopic, HasNoTopic, IsCount, HasNoCount, HasBadCount, HasNoForm, HasBadTemplate, IsNext, HasTwoNext, IsHome}
+use Rattle.control_reader.specs.Controls.{IsTopic, HasNoTopic, IsCount, HasNoCount, HasBadCount, HasNoForm, HasBadTemplate, IsNext, HasTwoNext, IsHome, IsVersion}
 use Rattle.control_reader.specs.Takes.{FindsForm, HasForeignLink, place_of}
 use Rattle.control_reader.specs.Contents.{HasBlankData}
 use Rattle.control_reader.specs.Counts.{TakesForm}
@@ -20,6 +20,7 @@ pub record TakesControls (quads : List Quad) (topic authority : List ℕ) (told 
   pub form : TakesForm quads topic told.form
   pub next : IsNext quads topic authority told.next
   pub home : IsHome told.form.template authority
+  pub version : IsVersion quads topic told.version
 
 -- what each fault says of the quads under a topic
 abbrev pub IsAmiss : List Quad → List ℕ → List ℕ → PageFault → Type 0

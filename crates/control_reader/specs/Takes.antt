@@ -8,7 +8,7 @@ use Rattle.template_fill.specs.Templates.{Template, read_template}
 use Rattle.control_reader.specs.declared.page.Page.{Page}
 use Rattle.control_reader.specs.declared.page.PageFault.{PageFault}
 use Rattle.control_reader.specs.declared.page.PageFault.TheVariants.{Text, NoTopic, NoCount, CountText, NoForm, BadTemplate, TwoNext, ForeignLink, BlankData, OutOfMemory}
-use Rattle.control_reader.specs.Controls.{IsTopic, HasNoTopic, IsCount, HasNoCount, HasBadCount, FormTexts, IsLeastForm, HasNoForm, IsFormOf, HasBadTemplate, IsNext, HasTwoNext, HasForeignNext, IsHome, IsForeign}
+use Rattle.control_reader.specs.Controls.{IsTopic, HasNoTopic, IsCount, HasNoCount, HasBadCount, FormTexts, IsLeastForm, HasNoForm, IsFormOf, HasBadTemplate, IsNext, HasTwoNext, HasForeignNext, IsHome, IsForeign, IsVersion}
 use Rattle.control_reader.specs.Contents.{page_triples, HasBlankData}
 
 -- the quads of a body whose terms have canonical texts of at most 4194304 bytes
@@ -31,6 +31,7 @@ pub record Takes (bytes : List ℕ) (address : Address) (page : Page) : Type 0 w
   pub form : IsFormOf texts page.form
   pub next : IsNext quads topic (authority_of address) page.next
   pub home : IsHome page.form.template (authority_of address)
+  pub version : IsVersion quads topic page.version
   pub triples : page.triples ≡ page_triples quads
   pub no_blank : HasBlankData quads → ⊥
 

@@ -1,4 +1,4 @@
--- The IRIs of the controls: FOAF, VoID, RDF and the Hydra core vocabulary.
+-- The IRIs of the controls: FOAF, VoID, RDF, OWL and the Hydra core vocabulary.
 use Rattle.std.specs.Prelude.{codes}
 use Rattle.rdf_terms.specs.declared.term.Term.{Term}
 use Rattle.rdf_terms.specs.declared.term.Term.TheVariants.{Iri}
@@ -44,3 +44,6 @@ rdf_predicate = Iri (codes "http://www.w3.org/1999/02/22-rdf-syntax-ns#predicate
 
 unfoldable pub rdf_object : Term
 rdf_object = Iri (codes "http://www.w3.org/1999/02/22-rdf-syntax-ns#object")
+
+unfoldable pub version_info : Term
+version_info = Iri (codes "http://www.w3.org/2002/07/owl#versionInfo")

@@ -24,7 +24,7 @@ fn are_digits(bytes: &[u8]) -> bool
     bytes.iter().all(|b| b.is_ascii_digit())
 }
 
-fn is_count_text(digits: &[u8]) -> bool
+pub(crate) fn is_count_text(digits: &[u8]) -> bool
     ensures { result ≡ is_count_text digits.now }
 {
     digits.len() >= 1 && (digits.len() <= 19 && are_digits(digits))
@@ -39,7 +39,7 @@ fn value_of(digits: &str) -> Option<u64>
 }
 
 /// The number that a literal of 1 to 19 digits is.
-fn number(term: &Term) -> Option<u64>
+pub(crate) fn number(term: &Term) -> Option<u64>
     ensures { MatchOption result ((n : ℕ) → IsNumber term.now n → ⊥) (λ n. IsNumber term.now n) }
 {
     let Term::Literal { form, .. } = term else {

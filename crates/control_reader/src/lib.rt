@@ -12,6 +12,7 @@ mod page;
 mod read;
 mod topic;
 mod variable;
+mod version;
 mod vocabulary;
 
 pub use law::controls_read_back;

@@ -45,13 +45,14 @@ impl TripleList {
 
 /// A page of a fragment (Triple Pattern Fragments, "Data", "Metadata" and "Controls"): its triples, each once, in the
 /// order of their first lines; the number of triples that the fragment is said to have; the address of the next page, if
-/// there is one; and the form of the server.
+/// there is one; the form of the server; and the version of its data, where exactly one is said, in 1 to 19 digits.
 #[derive(Debug, Drop)]
 pub struct Page {
     pub triples: TripleList,
     pub count: u64,
     pub next: Option<WebAddress>,
     pub form: Form,
+    pub version: Option<u64>,
 }
 
 /// Why a body is no page, in the order in which the first that applies is told.

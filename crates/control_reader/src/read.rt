@@ -15,6 +15,7 @@ use crate::count::read_count;
 use crate::form::find_form;
 use crate::link::{check_home, read_next};
 use crate::topic::{find_topic, read_topics};
+use crate::version::read_version;
 use crate::vocabulary::{iri, primary_topic};
 use crate::{Page, PageFault, TripleList};
 use nquads_text::{TextFault, read_all};
@@ -25,12 +26,13 @@ use template_fill::{Form, WebAddress};
 /// The most bytes that the canonical text of a term may have.
 const LONGEST: usize = 4194304;
 
-/// What the controls tell: the number of triples, the form, and the next page.
+/// What the controls tell: the number of triples, the form, the next page, and the version.
 #[derive(Drop)]
 struct Told {
     count: u64,
     form: Form,
     next: Option<WebAddress>,
+    version: Option<u64>,
 }
 
 /// What the quads of a body tell, and for each quad whether it is the first with its triple in the default graph.
@@ -68,9 +70,16 @@ fn read_told(alloc: Global, controls: &Controls, address: &WebAddress) -> Result
         Err(fault) => return Err(fault),
     };
     match check_home(alloc, &form.template, address) {
-        Ok(()) => Ok(Told { count, form, next }),
-        Err(fault) => Err(fault),
+        Ok(()) => {}
+        Err(fault) => return Err(fault),
     }
+    let version = read_version(alloc, controls)?;
+    Ok(Told {
+        count,
+        form,
+        next,
+        version,
+    })
 }
 
 /// What the quads of a body tell of its topic.
@@ -107,12 +116,18 @@ fn read_exactly(alloc: Global, body: &[u8], address: &WebAddress) -> Result<Page
         Ok(triples) => TripleList::from_vec(triples),
         Err(fault) => return Err(fault),
     };
-    let Told { count, form, next } = told;
+    let Told {
+        count,
+        form,
+        next,
+        version,
+    } = told;
     Ok(Page {
         triples,
         count,
         next,
         form,
+        version,
     })
 }
 

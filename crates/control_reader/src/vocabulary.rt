@@ -1,7 +1,7 @@
 // The IRIs of the controls.
 ghost use Rattle.std.specs.Prelude.{◌≡◌, IsTrue, IfOk};
 ghost use Rattle.rdf_terms.specs.Iri.{is_iri};
-ghost use Rattle.control_reader.specs.Vocabulary.{primary_topic, void_triples, total_items, next_page, search_form, form_template, representation, explicit_representation, form_mapping, mapped_variable, mapped_property, rdf_subject, rdf_predicate, rdf_object};
+ghost use Rattle.control_reader.specs.Vocabulary.{primary_topic, void_triples, total_items, next_page, search_form, form_template, representation, explicit_representation, form_mapping, mapped_variable, mapped_property, rdf_subject, rdf_predicate, rdf_object, version_info};
 
 use rdf_terms::{IriText, Term};
 use std::alloc::Global;
@@ -120,4 +120,11 @@ pub(crate) fn rdf_object(alloc: Global) -> Result<Term, OutOfMemory>
     ensures { IfOk result (λ t. t ≡ rdf_object) }
 {
     iri(alloc, "http://www.w3.org/1999/02/22-rdf-syntax-ns#object")
+}
+
+#[tactic(auto, unfolding(crate::specs::Vocabulary::version_info))]
+pub(crate) fn version_info(alloc: Global) -> Result<Term, OutOfMemory>
+    ensures { IfOk result (λ t. t ≡ version_info) }
+{
+    iri(alloc, "http://www.w3.org/2002/07/owl#versionInfo")
 }

@@ -4,6 +4,7 @@ use Rattle.std.proofs.Common.{refl, sym, ◌∙◌, ap, append_assoc, append-nil
 use Rattle.std.proofs.lemmas.Bool.{eqb-true}
 use Rattle.std.proofs.lemmas.List.{take-append-drop}
 use Rattle.connections.specs.Kinds.{BeginsResponse, IsWhole, Begins, Whole, Takes}
+use Rattle.loop_wire.specs.Response.{BeginsAt}
 use Rattle.echo_server.specs.declared.echo.Echo.{Echo}
 use Rattle.echo_server.specs.Echoes.{echoes}
 
@@ -36,6 +37,10 @@ all_whole {Data = Data} {Settings = Settings} = λ history config fed taken mark
   text = sym (append-nil taken) ∙ ap (λ (x : List ℕ). taken ++ x) (sym (ap (λ (x : List ℕ). x ++ c.owed.items) none ∙ none_owed c.owed.items owes)) ∙ answers.0;
   closing = refl;
 }
+
+-- what was taken and is pending is a front of what was fed
+pub begins_there : {Data Settings : Type 0} → BeginsAt (echoes {Data = Data} {Settings = Settings}) (λ serving fed. fed)
+begins_there {Data = Data} {Settings = Settings} = λ history serving fed taken c past answering. (c.owed.items, sym answering.answers.0)
 
 -- the front that was taken is no longer pending
 pub takes_front : {Data Settings : Type 0} (n : ℕ) (old new : Echo) → new.pending.items ≡ drop n old.pending.items → new.owed ≡ old.owed → Takes (echoes {Data = Data} {Settings = Settings}) n old new

@@ -3,6 +3,7 @@
 #![tactic(auto)]
 
 mod echo;
+mod responds;
 mod server;
 
 pub use echo::Echo;

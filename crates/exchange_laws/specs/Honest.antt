@@ -8,8 +8,8 @@ use Rattle.tpf_base.specs.Links.{All, Link, WireState, IsToldBy, ReceivesOwed}
 use Rattle.http_wire.specs.declared.message.ReplyFault.{ReplyFault}
 use Rattle.http_wire.specs.declared.message.ReplyFault.TheVariants as faults
 use Rattle.template_fill.specs.Metadata.{Config}
-use Rattle.template_fill.specs.Answers.{Mark, answer_to}
-use Rattle.template_fill.specs.Responses.{response, IsMarked, IsServed, IsVersion}
+use Rattle.template_fill.specs.Answers.{Served, answer_to}
+use Rattle.template_fill.specs.Responses.{Owes}
 use Rattle.http_ends.specs.Requests.{request_for, asks}
 use Rattle.http_ends.specs.Cuts.{Answered, IsAnswered, bytes_of, sent_of, received_of}
 use Rattle.exchange.specs.Exchanges.{Exchanging, Stands}
@@ -18,12 +18,12 @@ use Rattle.exchange.specs.Polls.{Refuses}
 -- what is owed on the link is the response to what was sent on it, as the other ends of an honest wire owe it
 abbrev pub OwesResponse : List (List Triple) → Config → Link → Type 0
 OwesResponse history config link =
-    (sent owed : List ℕ) → link.sent ≡ Some sent → link.owed ≡ Some owed → (marks : List Mark) × (IsMarked history sent marks × (owed ≡ response history config sent marks))
+    (sent owed : List ℕ) → link.sent ≡ Some sent → link.owed ≡ Some owed → Owes history config sent owed
 
 -- each version of the data answers the address with status 200
 abbrev pub IsAnsweredByAll : List (List Triple) → Config → Address → Type 0
 IsAnsweredByAll history config address =
-    (mark : Mark) → IsServed mark → IsVersion (length history) mark → (answer_to history mark config (asks address)).status ≡ 200
+    (version : ℕ) → 1 ≤ version → version ≤ length history → (answer_to history (Served version) config (asks address)).status ≡ 200
 
 -- A poll refused its reply: its link is told whole, owes the response to what was sent on it, and held whole replies to whole requests before. Then the reply is too long.
 abbrev pub RefusedAsTooLongAlone : Type 0

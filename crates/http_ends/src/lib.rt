@@ -3,7 +3,7 @@
 //! reads (RFC 9112).
 #![tactic(auto)]
 
-ghost use Rattle.http_ends.specs.Answers.{AnswersAreRead, AnswersHaveStatus, HeadsAreShort, KeptBeforeTheEnd, LongHeadsAreRefused, ReadingsStay, ServerAnswersAreRead};
+ghost use Rattle.http_ends.specs.Answers.{AnswersAreRead, AnswersHaveStatus, HeadsAreShort, KeptBeforeTheEnd, LongHeadsAreRefused, PagesAreNQuads, ReadingsStay, ServerAnswersAreRead};
 ghost use Rattle.http_ends.specs.Cuts.{NextAnswerIsCut, PartsAreNotOwed, RepliesAreCut, RequestIsSent, ResponseIsCut};
 ghost use Rattle.http_ends.specs.Requests.{AddressesArePlain, PartsHaveNone, PiecesAreRequests, RequestIsRead, RequestsAreCut, RequestsDiffer};
 
@@ -26,17 +26,19 @@ pub fn requests_are_cut()
     ensures pieces { PiecesAreRequests }
 {}
 
-/// An answer with status 200 whose body is within the limit is read as its body, of exactly its
-/// length, whatever follows it, and each proper front of it wants more; any other answer is refused
-/// as soon as its head stands, by its status or as too long (`read`, `refused`). A head is within
-/// the limit of heads unless its body's length has tens of thousands of digits (`short`), so each
-/// answer of a server is read so (`server`, `status`).
+/// An answer of N-Quads with status 200 whose body is within the limit is read as its body, of exactly
+/// its length, whatever follows it, and each proper front of it wants more; any other answer is refused
+/// as soon as its head stands, by its status, by its media type or as too long (`read`, `refused`). A
+/// head is within the limit of heads unless its body's length has tens of thousands of digits
+/// (`short`), so each answer of a server is read so (`server`, `status`). An answer with status 200 is
+/// of N-Quads unless a reload was asked for (`pages`).
 pub fn an_answer_is_read()
     ensures read { AnswersAreRead }
     ensures refused { LongHeadsAreRefused }
     ensures short { HeadsAreShort }
     ensures status { AnswersHaveStatus }
     ensures server { ServerAnswersAreRead }
+    ensures pages { PagesAreNQuads }
 {}
 
 /// A whole reply, or a refusal, is read the same with more bytes behind it, and at the end of them

@@ -7,7 +7,7 @@ use Rattle.rdf_terms.specs.Triples.{IsIri, IsIriOrBlank, IsRdfQuad}
 use Rattle.rdf_terms.specs.declared.term.Term.{Term}
 use Rattle.tpf_base.specs.Addresses.{address_text}
 use Rattle.template_fill.specs.Pages.{page_address, template_text}
-use Rattle.template_fill.specs.Metadata.{foaf, void, hydra, statement, topic_quads, form_quads, mapping_quads, count_quads, link_quads, page_metadata}
+use Rattle.template_fill.specs.Metadata.{foaf, void, hydra, owl, statement, topic_quads, form_quads, mapping_quads, count_quads, link_quads, version_quads, metadata_at, page_addresses, page_metadata}
 use Rattle.hydra_controls.specs.Laws.{MetadataIsRdf}
 
 pub all_append : {X : Type 0} (P : X → Type 0) (xs ys : List X) → AllByRecursion P xs → AllByRecursion P ys → AllByRecursion P (xs ++ ys)
@@ -38,8 +38,12 @@ unfolding link_quads hydra
 link_rdf true graph page name target = (rdf_statement graph _ _ _ tt tt, tt)
 link_rdf false graph page name target = tt
 
+version_rdf : (graph base : List ℕ) (version : ℕ) → AllByRecursion IsRdfQuad (version_quads graph base version)
+unfolding version_quads owl
+version_rdf graph base version = (rdf_statement graph _ _ _ tt tt, tt)
+
 pub metadata_is_rdf : MetadataIsRdf
-unfolding page_metadata
+unfolding page_metadata metadata_at page_addresses
 metadata_is_rdf config slots k count version =
     let base = address_text config.base in
     let page = page_address config.base slots k in
@@ -54,10 +58,12 @@ metadata_is_rdf config slots k count version =
     (all_append IsRdfQuad _ _
     (all_append IsRdfQuad _ _
     (all_append IsRdfQuad _ _
+    (all_append IsRdfQuad _ _
     (all_append IsRdfQuad _ _ (topic_rdf graph page first base) (form_rdf graph (template_text config.base)))
     (maps (codes "s") (codes "subject")))
     (maps (codes "p") (codes "predicate")))
     (maps (codes "o") (codes "object")))
     (count_rdf graph page first count))
     next)
-    previous
+    previous)
+    (version_rdf graph base version)

@@ -1,14 +1,15 @@
 -- IRIs that go on, and the datatype of numbers.
-use Rattle.std.proofs.Common.{◌≡◌, ℕ, List, [], ◌∷◌, ◌++◌, Bool, true, false, ◌==◌, ◌&&◌, ◌||◌, refl}
-use Rattle.std.specs.Prelude.{codes}
+use Rattle.std.proofs.Common.{◌≡◌, ℕ, List, [], ◌∷◌, ◌++◌, Bool, true, false, ◌==◌, ◌&&◌, ◌||◌, refl, ap, ◌∙◌}
+use Rattle.std.specs.Prelude.{codes, IfOk, Result, Ok, Err}
 use Rattle.std.specs.List.{list_all}
 use Rattle.std.proofs.lemmas.List.Folds.{list_all-append}
 use Rattle.std.proofs.lemmas.Bool.{and_from}
 use Rattle.tpf_base.specs.Decimals.{decimal_text}
 use Rattle.rdf_terms.specs.Iri.{is_iri, is_iri_byte, is_letter, is_scheme_byte, has_colon, has_scheme}
 use Rattle.rdf_terms.specs.Datatype.{is_datatype, xsd_string, lang_string}
-use Rattle.template_fill.specs.Metadata.{integer}
+use Rattle.template_fill.specs.Metadata.{integer, plain}
 use Rattle.rdf_terms.specs.declared.term.Kind.TheVariants.{Typed}
+use Rattle.rdf_terms.specs.declared.term.Term.{Term}
 use Rattle.rdf_terms.specs.declared.term.Term.TheVariants.{Literal}
 use Rattle.template_fill.proofs.Addresses.{and_left, and_right}
 
@@ -49,3 +50,8 @@ is_datatype-is text e = rw e integer_is_datatype
 pub integer-is : (n : ℕ) (form datatype : List ℕ) → form ≡ decimal_text n → datatype ≡ xsd_integer → Literal form (Typed datatype) ≡ integer n
 unfolding integer xsd_string
 integer-is n form datatype ef ed = rw (ef, ed) refl
+
+-- the plain literal of a text that is the same
+pub plain-is : {E : Type 0} {form wanted : List ℕ} → form ≡ wanted → (r : Result Term E) → IfOk r (λ term. term ≡ plain form) → IfOk r (λ term. term ≡ plain wanted)
+plain-is same (Ok term) is = is ∙ ap plain same
+plain-is same (Err fault) is = tt

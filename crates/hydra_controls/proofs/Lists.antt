@@ -4,7 +4,7 @@ use Rattle.std.specs.Prelude.{Some, codes}
 use Rattle.rdf_terms.specs.declared.term.Term.{Term}
 use Rattle.rdf_terms.specs.declared.term.Term.TheVariants.{Iri, Blank}
 use Rattle.rdf_terms.specs.declared.term.Quad.{Quad}
-use Rattle.template_fill.specs.Metadata.{Config, statement, topic_quads, form_quads, mapping_quads, count_quads, link_quads, page_metadata, foaf, void, hydra}
+use Rattle.template_fill.specs.Metadata.{Config, statement, topic_quads, form_quads, mapping_quads, count_quads, link_quads, version_quads, metadata_at, page_addresses, page_metadata, foaf, void, hydra}
 use Rattle.rdf_terms.specs.declared.slots.Slots.{Slots}
 use Rattle.rdf_terms.specs.Fragments.{last_page_of}
 use Rattle.tpf_base.specs.Addresses.{Address, address_text}
@@ -59,6 +59,6 @@ no_previous page e = rw e refl
 
 -- ---- the whole
 
-pub metadata-is : (config : Config) (slots : Slots) (page first : Address) (k count version : ℕ) (q1 q2 q3 : List Quad) → address_text page ≡ page_address config.base slots k → address_text first ≡ page_address config.base slots 1 → q1 ≡ controls config.base page first count → q2 ≡ q1 ++ next_link config slots page k count → q3 ≡ q2 ++ previous_link config slots page k → q3 ≡ page_metadata config slots k count version
-unfolding page_metadata controls
-metadata-is config slots page first k count version q1 q2 q3 ep ef e1 e2 e3 = rw (e3, e2, e1, ← ep, ← ef) refl
+pub metadata-is : (config : Config) (slots : Slots) (page first : Address) (k count version : ℕ) (q1 q2 q3 q4 : List Quad) → address_text page ≡ page_address config.base slots k → address_text first ≡ page_address config.base slots 1 → q1 ≡ controls config.base page first count → q2 ≡ q1 ++ next_link config slots page k count → q3 ≡ q2 ++ previous_link config slots page k → q4 ≡ q3 ++ version_quads (graph_of page) (address_text config.base) version → q4 ≡ page_metadata config slots k count version
+unfolding page_metadata metadata_at page_addresses controls
+metadata-is config slots page first k count version q1 q2 q3 q4 ep ef e1 e2 e3 e4 = rw (e4, e3, e2, e1, ← ep, ← ef) refl

@@ -1,48 +1,78 @@
 // Where the fragments of a server stand.
-ghost use Rattle.std.specs.Prelude.{◌≡◌, ◌≤◌, ◌↔◌, IsNone, IfSome};
-ghost use Rattle.template_fill.specs.Configurations.{IsConfig};
+ghost use Rattle.std.specs.Prelude.{◌≡◌, ◌≤◌, ◌↔◌, false, None, IsNone, IfSome};
+ghost use Rattle.template_fill.specs.Answers.{is_path_of_reload};
+ghost use Rattle.template_fill.specs.Configurations.{IsConfig, is_reload_path, with_reload};
 
 use std::marker::Model;
-use template_fill::WebAddress;
+use template_fill::{WebAddress, is_written_path};
+use tpf_base::Text;
 
-/// Where the fragments of a server stand, and how many triples a page has at most.
+/// Where the fragments of a server stand, how many triples a page has at most, and the path on which
+/// a request has the data read again, if there is one.
 ///
-/// The base has no query part, and the page size is 1 to 1000. Contracts see it as the record of
-/// the two.
+/// The base has no query part, the page size is 1 to 1000, and the path is written and not that of
+/// the base. Contracts see it as the record of the three.
 #[derive(Debug, Drop)]
 pub struct Config {
     base: WebAddress,
     page_size: u64,
+    reload: Option<Text>,
 }
 
 impl Model for Config {
     ghost use Rattle.std.specs.Prelude.{◌≡◌, ◌≤◌, None};
+    ghost use Rattle.template_fill.specs.Configurations.{HasReloadPath};
     ghost use Rattle.template_fill.specs.Metadata as definitions;
 
     ghost Value = { definitions.Config };
 
-    ghost view = { λ c. record { base = c.base; page_size = c.page_size } };
+    ghost view = { λ c. record { base = c.base; page_size = c.page_size; reload = c.reload } };
 
-    ghost invariant = { λ c. (c.base.query ≡ None) × (1 ≤ c.page_size) × (c.page_size ≤ 1000) };
+    ghost invariant = { λ c. (c.base.query ≡ None) × (1 ≤ c.page_size) × (c.page_size ≤ 1000) × HasReloadPath c.base c.reload };
 }
 
 impl Config {
-    /// Fragments whose template stands after this base, on pages of so many triples. `None` exactly
-    /// where the base has a query part, or the page size is not 1 to 1000.
+    /// Fragments whose template stands after this base, on pages of so many triples, of data that no
+    /// request has read again. `None` exactly where the base has a query part, or the page size is not
+    /// 1 to 1000.
     pub fn new(base: WebAddress, page_size: u64) -> Option<Config>
-        ensures config { IfSome result (λ config. (config.base ≡ base) × (config.page_size ≡ page_size)) }
+        ensures config { IfSome result (λ config. (config.base ≡ base) × (config.page_size ≡ page_size) × (config.reload ≡ None)) }
         ensures valid { IfSome result IsConfig }
-        ensures refused { IsNone result ↔ ¬ (IsConfig (record { base = base; page_size = page_size })) }
+        ensures refused { IsNone result ↔ ¬ (IsConfig (record { base = base; page_size = page_size; reload = None })) }
     {
         base.is_valid();
         if base.has_query() || page_size == 0 || page_size > 1000 {
             return None;
         }
-        Some(Config { base, page_size })
+        Some(Config {
+            base,
+            page_size,
+            reload: None,
+        })
     }
 
-    /// The base is an address without a query part, and the page size is 1 to 1000. The call does
-    /// nothing; it tells a proof of it.
+    /// The same, with a path on which a request by another method than GET and HEAD has the data read
+    /// again. `None` exactly where the text is no written path, which is `/` and characters of a path,
+    /// or is the base's path. It takes no memory.
+    pub fn with_reload(self, path: Text) -> Option<Config>
+        ensures config { IfSome result (λ config. config ≡ with_reload self path) }
+        ensures valid { IfSome result IsConfig }
+        ensures refused { IsNone result ↔ (is_reload_path self.base path ≡ false) }
+    {
+        self.base.is_valid();
+        let bytes = path.as_str().as_bytes();
+        if !is_written_path(bytes) || bytes == self.base.target().as_bytes() {
+            return None;
+        }
+        Some(Config {
+            base: self.base,
+            page_size: self.page_size,
+            reload: Some(path),
+        })
+    }
+
+    /// The base is an address without a query part, the page size is 1 to 1000, and the path of a reload
+    /// is a written one beside the base's. The call does nothing; it tells a proof of it.
     pub fn is_valid(&self)
         ensures { IsConfig self.now }
     {
@@ -66,5 +96,15 @@ impl Config {
     {
         self.base.is_valid();
         self.page_size
+    }
+
+    /// Whether a path is the one on which a request has the data read again.
+    pub fn is_reload(&self, path: &[u8]) -> bool
+        ensures { result ≡ is_path_of_reload self.now.reload path.now }
+    {
+        match &self.reload {
+            Some(reload) => path == reload.as_str().as_bytes(),
+            None => false,
+        }
     }
 }

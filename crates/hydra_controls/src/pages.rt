@@ -1,5 +1,5 @@
 // The addresses and the metadata of pages.
-ghost use Rattle.std.specs.Prelude.{ℕ, ◌≡◌, ◌≤◌, ◌++◌, IfOk, OnOk};
+ghost use Rattle.std.specs.Prelude.{◌≡◌, ◌≤◌, ◌++◌, IfOk, OnOk};
 ghost use Rattle.rdf_terms.specs.Fragments.{last_page_of};
 ghost use Rattle.tpf_base.specs.Addresses.{IsAddress, address_text};
 ghost use Rattle.template_fill.specs.Authorities.{ShareAuthority};
@@ -9,7 +9,7 @@ ghost use Rattle.template_fill.specs.Metadata.{page_metadata};
 ghost use Rattle.hydra_controls.specs.Controls.{controls, next_link, previous_link};
 
 use crate::Config;
-use crate::statements::{add_count, add_form, add_link, add_mapping, add_topic};
+use crate::statements::{add_count, add_form, add_link, add_mapping, add_topic, add_version};
 use rdf_terms::{Quad, Slots};
 use std::alloc::Global;
 use template_fill::{WebAddress, page_address};
@@ -45,7 +45,7 @@ fn controls(
 ) -> Result<Vec<Quad>, OutOfMemory>
     ensures { IfOk result (λ quads. quads.items ≡ controls base.now page.now first.now count) }
 {
-    let mut quads = Vec::with_capacity(alloc, 20)?;
+    let mut quads = Vec::with_capacity(alloc, 21)?;
     add_topic(alloc, &mut quads, base, page, first)?;
     add_form(alloc, &mut quads, base, page)?;
     add_mapping(alloc, &mut quads, page, "s", "subject")?;
@@ -107,11 +107,11 @@ fn add_previous(
     Ok(())
 }
 
-/// The metadata of a page of the fragment with these slots, which has so many triples: 18 to 20
-/// quads of the graph that is named by the page's address and `#metadata` (Triple Pattern
-/// Fragments, "Metadata" and "Controls"; Hydra Core Vocabulary). They say what the page is about,
-/// how many triples its fragment has, where the first, next and previous pages are, and by which
-/// form the other fragments are asked for. The version of the data does not show in them.
+/// The metadata of a page of the fragment with these slots, which has so many triples, in data of
+/// this version: 19 to 21 quads of the graph that is named by the page's address and `#metadata`
+/// (Triple Pattern Fragments, "Metadata" and "Controls"; Hydra Core Vocabulary). They say what the
+/// page is about, how many triples its fragment has, where the first, next and previous pages are, by
+/// which form the other fragments are asked for and, last, the version of the data (OWL 2, section 3.5).
 ///
 /// No fixed place is a blank node, and the page is one of 1 to the fragment's last.
 /// `OutOfMemory` comes for want of memory alone.
@@ -121,16 +121,18 @@ pub fn metadata(
     slots: &Slots,
     page: u64,
     count: u64,
+    version: u64,
 ) -> Result<Vec<Quad>, OutOfMemory>
     requires slots { HasNoBlank slots.now }
     requires page { 1 ≤ page }
     requires last { page ≤ last_page_of count config.now.page_size }
-    ensures { IfOk result (λ quads. (version : ℕ) → quads.items ≡ page_metadata config.now slots.now page count version) }
+    ensures { IfOk result (λ quads. quads.items ≡ page_metadata config.now slots.now page count version) }
 {
     let this = address(alloc, config, slots, page)?;
     let first = address(alloc, config, slots, 1)?;
     let mut quads = controls(alloc, config.base(), &this, &first, count)?;
     add_next(alloc, &mut quads, config, slots, &this, page, count)?;
     add_previous(alloc, &mut quads, config, slots, &this, page)?;
+    add_version(alloc, &mut quads, config.base(), &this, version)?;
     Ok(quads)
 }

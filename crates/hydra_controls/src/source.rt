@@ -3,7 +3,8 @@ ghost use Rattle.std.specs.Prelude.{◌≡◌, ◌++◌, true, IsTrue, IfOk};
 ghost use Rattle.std.specs.List.{list_all};
 ghost use Rattle.rdf_terms.specs.Iri.{is_iri, is_iri_byte};
 ghost use Rattle.rdf_terms.specs.Label.{is_label};
-ghost use Rattle.template_fill.specs.Metadata.{integer};
+ghost use Rattle.template_fill.specs.Metadata.{integer, plain};
+ghost use Rattle.tpf_base.specs.Decimals.{decimal_text};
 ghost use Rattle.template_fill.specs.Pages.{template_text};
 ghost use Rattle.hydra_controls.specs.Sources.{IsSource, term_of};
 
@@ -28,6 +29,8 @@ pub(crate) enum Source<'a> {
     Hydra(&'a str),
     /// A word of RDF.
     Rdf(&'a str),
+    /// A word of the Web Ontology Language.
+    Owl(&'a str),
     /// A blank node with this label.
     Node(&'a str),
     /// A plain literal.
@@ -36,6 +39,8 @@ pub(crate) enum Source<'a> {
     Template(&'a WebAddress),
     /// A number, as a literal of the datatype xsd:integer.
     Count(u64),
+    /// The digits of a number, as a plain literal.
+    Digits(u64),
 }
 
 /// One text after another.
@@ -90,9 +95,17 @@ fn integer(alloc: Global, number: u64) -> Result<Term, OutOfMemory>
     })
 }
 
+/// The digits of a number, as a plain literal.
+fn digits(alloc: Global, number: u64) -> Result<Term, OutOfMemory>
+    ensures { IfOk result (λ term. term ≡ plain (decimal_text number)) }
+{
+    let mut digits = Buffer::new();
+    Term::plain(alloc, digits.format(number))
+}
+
 impl<'a> Source<'a> {
     /// The term that is made of this.
-    #[tactic(auto, unfolding(template_fill::specs::Metadata::foaf, template_fill::specs::Metadata::void, template_fill::specs::Metadata::hydra, template_fill::specs::Metadata::rdf))]
+    #[tactic(auto, unfolding(template_fill::specs::Metadata::foaf, template_fill::specs::Metadata::void, template_fill::specs::Metadata::hydra, template_fill::specs::Metadata::rdf, template_fill::specs::Metadata::owl))]
     pub(crate) fn term(self, alloc: Global) -> Result<Term, OutOfMemory>
         requires { IsSource self }
         ensures { IfOk result (λ term. term ≡ term_of self.entry) }
@@ -104,10 +117,12 @@ impl<'a> Source<'a> {
             Source::Void(name) => iri(alloc, "http://rdfs.org/ns/void#", name),
             Source::Hydra(name) => iri(alloc, "http://www.w3.org/ns/hydra/core#", name),
             Source::Rdf(name) => iri(alloc, "http://www.w3.org/1999/02/22-rdf-syntax-ns#", name),
+            Source::Owl(name) => iri(alloc, "http://www.w3.org/2002/07/owl#", name),
             Source::Node(label) => blank(alloc, label),
             Source::Words(form) => Term::plain(alloc, form),
             Source::Template(base) => template(alloc, base),
             Source::Count(number) => integer(alloc, number),
+            Source::Digits(number) => digits(alloc, number),
         }
     }
 }

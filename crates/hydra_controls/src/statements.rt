@@ -5,7 +5,7 @@ ghost use Rattle.rdf_terms.specs.Iri.{is_iri_byte};
 ghost use Rattle.rdf_terms.specs.Label.{is_label};
 ghost use Rattle.tpf_base.specs.Addresses.{address_text};
 ghost use Rattle.template_fill.specs.Pages.{template_text};
-ghost use Rattle.template_fill.specs.Metadata.{statement, topic_quads, form_quads, mapping_quads, count_quads, link_quads};
+ghost use Rattle.template_fill.specs.Metadata.{statement, topic_quads, form_quads, mapping_quads, count_quads, link_quads, version_quads};
 ghost use Rattle.hydra_controls.specs.Sources.{IsSource, term_of, graph_of};
 
 use crate::source::Source;
@@ -146,4 +146,20 @@ pub(crate) fn add_link(
     let this = Source::Address(page);
     let link = Source::Hydra(name);
     add(alloc, quads, page, this, link, Source::Address(target))
+}
+
+/// Adds the version of the data set.
+#[tactic(auto, unfolding(template_fill::specs::Metadata::version_quads))]
+pub(crate) fn add_version(
+    alloc: Global,
+    quads: &mut Vec<Quad>,
+    base: &WebAddress,
+    page: &WebAddress,
+    version: u64,
+) -> Result<(), OutOfMemory>
+    ensures { OnOk result (quads.new.items ≡ quads.old.items ++ version_quads (graph_of page.now) (address_text base.now) version) }
+{
+    let data_set = Source::Section(base, "#dataset");
+    let word = Source::Owl("versionInfo");
+    add(alloc, quads, page, data_set, word, Source::Digits(version))
 }

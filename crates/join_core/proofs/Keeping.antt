@@ -21,7 +21,7 @@ use Rattle.join_core.specs.declared.first.First.TheVariants.{Out, Got}
 use Rattle.join_core.specs.declared.node.Waits.TheVariants.{First as ForFirst, Next as ForNext}
 use Rattle.join_core.specs.Nodes.{Stage, NodeData, node, fresh, nodes_in, rows_out, opened, put_out, all_askable, is_got, count_of, least, IsAsking, AsksRightly}
 use Rattle.join_core.specs.Nodes.Stage.{Asking, Walking}
-use Rattle.join_core.specs.Events.{CanAsk, CanAskStage, asked, asked_stage, waits_for, first_waiting, with_first_at, is_full, is_full_stage, has_ask, has_ask_in, is_idle, works, next_walk, one_more, opened_by, out_by, after_by, IsChosen, IsChosenIn, MadeOf}
+use Rattle.join_core.specs.Events.{CanAsk, CanAskStage, asked, asked_stage, waits_for, first_waiting, with_first_at, is_full, is_full_stage, has_ask, has_ask_in, is_idle, works, next_walk, one_more, opened_by, out_by, after_by, IsChosen, IsChosenIn, MadeOf, chosen_page, chosen_page_by}
 use Rattle.join_core.specs.Joins.{JoinData, nodes, tickets_of, tickets_out, first_tickets, Replaces, Stands, IsAt, NoneIn, taken_at, with_node, asked_at, walked_at, with_longest, ChoosesAt, TakesFirstAt}
 use Rattle.join_core.specs.Outcomes.{NothingToAsk}
 use Rattle.join_core.specs.Evaluations.{Terms, HasHome, NextAtHome}
@@ -157,7 +157,7 @@ pub record Chosen (row : Places) (rest : List Pattern) (fs : List First) (made :
   pub within : index < length rest
   pub below : index < length fs
   pub got : Got page ≡ get_or fs index (Got page)
-  pub made_of : MadeOf pattern (remove rest index) row (1) page made rows after
+  pub made_of : MadeOf pattern (remove rest index) row (1) (chosen_page page) made rows after
 
 pub is-chosen : (row : Places) (rest : List Pattern) (fs : List First) (made : List NodeData) (rows : List Places) (after : Option NodeData) → 0 < length rest → is_full (node row rest (Asking fs)) ≡ true → IsChosen (node row rest (Asking fs)) made rows after → Chosen row rest fs made rows after
 is-chosen row rest fs made rows after some full chosen =
@@ -171,10 +171,17 @@ is-chosen row rest fs made rows after some full chosen =
     let page = got-at fs i b.1 below in
     record { index = i; pattern = p.0; page = page.0; within = within; below = below; got = page.1; made_of = chosen p.0 page.0 below p.1 page.1 }
 
+counted-home-by : (homes : List Address) (page : Page) (b : Bool) → NextAtHome homes page.next → NextAtHome homes (chosen_page_by b page).next
+counted-home-by homes page true h = tt
+counted-home-by homes page false h = h
+
+counted-home : (homes : List Address) (page : Page) → NextAtHome homes page.next → NextAtHome homes (chosen_page page).next
+counted-home homes page h = counted-home-by homes page (nat_eq page.count 0) h
+
 choice-makes-in : (terms : Terms) (row : Places) (rest : List Pattern) (stage : Stage) (made : List NodeData) (rows : List Places) (after : Option NodeData) → KeepsNode terms (node row rest stage) → is_full (node row rest stage) ≡ true → IsChosen (node row rest stage) made rows after → Makes terms made rows after
 choice-makes-in terms row rest (Asking fs) made rows after k full chosen =
     let c = is-chosen row rest fs made rows after k.asking.some full chosen in
-    page-makes terms c.pattern (remove rest c.index) row (1) c.page made rows after k.width (held-home terms.homes fs c.index c.page c.below c.got k.home) c.made_of.opens c.made_of.puts c.made_of.goes
+    page-makes terms c.pattern (remove rest c.index) row (1) (chosen_page c.page) made rows after k.width (counted-home terms.homes c.page (held-home terms.homes fs c.index c.page c.below c.got k.home)) c.made_of.opens c.made_of.puts c.made_of.goes
 choice-makes-in terms row rest (Walking p j next out) made rows after k full chosen = cc
 
 pub choice-makes : (terms : Terms) (n : NodeData) (made : List NodeData) (rows : List Places) (after : Option NodeData) → KeepsNode terms n → is_full n ≡ true → IsChosen n made rows after → Makes terms made rows after

@@ -14,4 +14,5 @@ pub mod Scans
 pub mod Starts
 pub mod Keeping
 pub mod Small
+pub mod Servers
 pub mod Evaluating

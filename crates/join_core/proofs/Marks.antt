@@ -1,14 +1,16 @@
 -- The events of a node at any stage: their turns, and what they do to the tickets that are out.
-use Rattle.std.proofs.Common.{ℕ, zero, suc, ◌≡◌, ◌+◌, ◌-◌, ◌*◌, ◌/◌, ◌%◌, ◌<◌, ◌≤◌, ◌⊎◌, inl, inr, length-set, max, nat_eq, Bool, true, false, ◌&&◌, if◌then◌else◌, List, [], ◌∷◌, ◌++◌, length, map, get_or, Option, Some, None, refl, ap, sym, subst, ◌∙◌, arith}
+use Rattle.std.proofs.Common.{ℕ, zero, suc, ◌≡◌, ◌+◌, ◌-◌, ◌*◌, ◌/◌, ◌%◌, ◌<◌, ◌≤◌, ◌⊎◌, inl, inr, length-set, max, nat_eq, nat_lt, take, drop, Bool, true, false, ◌&&◌, if◌then◌else◌, List, [], ◌∷◌, ◌++◌, length, map, get_or, Option, Some, None, refl, ap, sym, subst, ◌∙◌, arith}
 use Rattle.std.specs.Prelude.{option_to_list}
 use Rattle.std.specs.List.{remove, list_all, Contains}
 use Rattle.std.specs.List.Sorted.{IsPermutation}
-use Rattle.std.proofs.Math.Nat.{mul_comm, div-add-mod, add-mul}
+use Rattle.std.proofs.Math.Nat.{mul_comm, div-add-mod, div-eq_of_lt, add-mul}
+use Rattle.std.proofs.Math.Seq.{take-nil, drop-nil}
 use Rattle.std.proofs.lemmas.Nat.{mul-le}
 use Rattle.std.proofs.lemmas.Bool.Decides.{nat_tests}
 use Rattle.std.proofs.lemmas.List.{get_or_default}
 use Rattle.std.proofs.lemmas.List.Sorted.{IsPermutation-refl, IsPermutation-sym, Contains-permutation}
 use Rattle.tpf_base.specs.Addresses.{Address}
+use Rattle.rdf_terms.specs.declared.term.Triple.{Triple}
 use Rattle.rdf_terms.specs.declared.slots.Slots.{Slots}
 use Rattle.rdf_terms.specs.Fragments.{last_page_of}
 use Rattle.bgp_core.specs.declared.pattern.Pattern.{Pattern}
@@ -25,7 +27,7 @@ use Rattle.join_core.specs.declared.node.Waits.TheVariants.{First as ForFirst, N
 use Rattle.join_core.specs.Worlds.{World, IsWorld, HasForm, last, IsPageAfter, IsPageAt}
 use Rattle.join_core.specs.Nodes.{Stage, NodeData, node, Holds, FirstsHold, opened, walk_on, put_out, least, counts, is_got, count_of}
 use Rattle.join_core.specs.Nodes.Stage.{Asking, Walking}
-use Rattle.join_core.specs.Events.{CanAsk, CanAskStage, asked, IsNextAddress, IsNextAddressOf, first_waiting, waits_for, with_first_at, is_full, one_more, next_walk, opened_by, out_by, after_by, MadeOf, IsChosen, IsFirstOf, made_of}
+use Rattle.join_core.specs.Events.{CanAsk, CanAskStage, asked, IsNextAddress, IsNextAddressOf, first_waiting, waits_for, with_first_at, is_full, one_more, next_walk, opened_by, out_by, after_by, MadeOf, chosen_page, chosen_page_by, IsChosen, IsFirstOf, made_of}
 use Rattle.join_core.specs.Joins.{outs, first_outs, tickets_of, first_tickets, Turn}
 use Rattle.join_core.proofs.Valid.{askable-at, instance-valid, every-at, pattern-at}
 use Rattle.join_core.proofs.Over.{least-counts}
@@ -229,6 +231,30 @@ least-within : (w : World) (row : Places) (ps : List Pattern) → 0 < length ps 
 least-within w row [] h = absurd (omega arith)
 least-within w row (p ∷ ps) h = omega (arith, least-counts w row p ps)
 
+none-in : (l : List Triple) (n k : ℕ) → length l ≡ 0 → take n (drop k l) ≡ []
+none-in [] n k h = ap (take n) (drop-nil k) ∙ take-nil n
+none-in (t ∷ l) n k h = absurd (omega (arith, h))
+
+empty-first : (size n : ℕ) → n ≡ 0 → 0 < size → nat_lt 1 (last_page_of n size) ≡ false
+empty-first size n h some =
+    let low : n + (size - 1) < size = omega (arith, h, some) in
+    ap (λ (m : ℕ). nat_lt 1 (max 1 m)) (div-eq_of_lt low)
+
+counted-true-by : (w : World) → IsWorld w → (s : Slots) (page : Page) (b : Bool) → nat_eq page.count 0 ≡ b → IsPageAfter w s 0 page → IsPageAfter w s 0 (chosen_page_by b page)
+counted-true-by w is s page false e h = h
+counted-true-by w is s page true e h =
+    let zeros : page.count ≡ 0 = grind (arith, nat_tests) in
+    let empty : length (w.fragment s) ≡ 0 = sym h.count ∙ zeros in
+    record {
+      triples = sym (none-in (w.fragment s) w.size (0 * w.size) empty);
+      count = h.count;
+      next = ap (λ (b : Bool). let r : Option Address = if b then Some (w.address s 2) else None in r) (sym (empty-first w.size (length (w.fragment s)) empty is.sized));
+    }
+
+-- the page that a node takes of a true one is true
+counted-true : (w : World) → IsWorld w → (s : Slots) (page : Page) → IsPageAfter w s 0 page → IsPageAfter w s 0 (chosen_page page)
+counted-true w is s page h = counted-true-by w is s page (nat_eq page.count 0) refl h
+
 choice-in : (w : World) → IsWorld w → (row : Places) (ps : List Pattern) (fs : List First) (made : List NodeData) (rows : List Places) (after : Option NodeData) → Holds w (node row ps (Asking fs)) → length fs ≡ length ps → list_all is_got fs ≡ true → IsChosen (node row ps (Asking fs)) made rows after → Turn w (node row ps (Asking fs)) rows [] (made ++ option_to_list after)
 choice-in w is row ps fs made rows after holds l g chosen =
     let i = least (counts w row ps) in
@@ -236,12 +262,13 @@ choice-in w is row ps fs made rows after holds l g chosen =
     let within : i < length ps = least-within w row ps holds.asking.some in
     let p = pattern-at ps i within in
     let page = got-at fs i g (omega (arith, l)) in
-    let m : MadeOf p.0 (remove ps i) row (1) page.0 made rows after =
-    (subst (λ (k : ℕ). (q : Pattern) (x : Page) → k < length fs → q ≡ get_or ps k q → Got x ≡ get_or fs k (Got x) → MadeOf q (remove ps k) row (1) x made rows after) told chosen) p.0 page.0 (omega (arith, l, within)) p.1 page.1 in
-    let t = choice-turn w is row ps fs p.0 page.0 holds l p.1 within (first-true w row ps fs i p.0 page.0 holds.stage (omega (arith, l)) page.1 p.1) in
-    let e : made_of p.0 (remove ps i) row (0) page.0 ≡ made ++ option_to_list after =
-    ap (λ (x : List NodeData). x ++ walk_on p.0 (remove ps i) row (1) page.0.next) (sym m.opens) ∙ ap (λ (x : List NodeData). made ++ x) (sym (walk-list p.0 (remove ps i) row (1) page.0.next)) ∙ ap (λ (o : Option NodeData). made ++ option_to_list o) (sym m.goes) in
-    subst (λ (x : List NodeData). Turn w (node row ps (Asking fs)) rows [] x) e (subst (λ (x : List Places). Turn w (node row ps (Asking fs)) x [] (made_of p.0 (remove ps i) row (0) page.0)) (sym m.puts) t)
+    let taken = chosen_page page.0 in
+    let m : MadeOf p.0 (remove ps i) row (1) taken made rows after =
+    (subst (λ (k : ℕ). (q : Pattern) (x : Page) → k < length fs → q ≡ get_or ps k q → Got x ≡ get_or fs k (Got x) → MadeOf q (remove ps k) row (1) (chosen_page x) made rows after) told chosen) p.0 page.0 (omega (arith, l, within)) p.1 page.1 in
+    let t = choice-turn w is row ps fs p.0 taken holds l p.1 within (counted-true w is (instance p.0 row) page.0 (first-true w row ps fs i p.0 page.0 holds.stage (omega (arith, l)) page.1 p.1)) in
+    let e : made_of p.0 (remove ps i) row (0) taken ≡ made ++ option_to_list after =
+    ap (λ (x : List NodeData). x ++ walk_on p.0 (remove ps i) row (1) taken.next) (sym m.opens) ∙ ap (λ (x : List NodeData). made ++ x) (sym (walk-list p.0 (remove ps i) row (1) taken.next)) ∙ ap (λ (o : Option NodeData). made ++ option_to_list o) (sym m.goes) in
+    subst (λ (x : List NodeData). Turn w (node row ps (Asking fs)) rows [] x) e (subst (λ (x : List Places). Turn w (node row ps (Asking fs)) x [] (made_of p.0 (remove ps i) row (0) taken)) (sym m.puts) t)
 
 Choice : World → NodeData → List NodeData → List Places → Option NodeData → Type 0
 Choice w n made rows after = Turn w n rows [] (made ++ option_to_list after)

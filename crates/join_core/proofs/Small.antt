@@ -21,7 +21,7 @@ use Rattle.join_core.specs.declared.first.First.TheVariants.{Out, Got}
 use Rattle.join_core.specs.declared.node.Waits.TheVariants.{First as ForFirst, Next as ForNext}
 use Rattle.join_core.specs.Nodes.{Stage, NodeData, node, fresh, nodes_in, rows_out, opened, all_askable, is_got}
 use Rattle.join_core.specs.Nodes.Stage.{Asking, Walking}
-use Rattle.join_core.specs.Events.{CanAsk, CanAskStage, asked, waits_for, first_waiting, with_first, with_first_at, is_full, has_ask, has_ask_in, is_idle, idle_in, works, next_walk, one_more, opened_by, out_by, after_by, IsChosen}
+use Rattle.join_core.specs.Events.{CanAsk, CanAskStage, asked, waits_for, first_waiting, with_first, with_first_at, is_full, has_ask, has_ask_in, is_idle, idle_in, works, next_walk, one_more, opened_by, out_by, after_by, IsChosen, chosen_page, chosen_page_by}
 use Rattle.join_core.specs.Joins.{JoinData, nodes, Replaces, Stands, IsAt, NoneIn, settled, levels_after, taken_at, with_node, asked_at, walked_at, with_longest, ChoosesAt, TakesFirstAt, MayAsk, StartsAt, level_at, open_at, working_at, IsBounded}
 use Rattle.join_core.specs.Sound.{FirstAtMost, StageAtMost, unmatched, IsOfDepth, IsKeptSmall}
 use Rattle.join_core.proofs.Replacing.{all-after, holds-before}
@@ -456,11 +456,18 @@ next-opens-in nn m d row rest (Walking p k next out) page h few = page-opens nn 
 held-few : (m : ℕ) (fs : List First) (i : ℕ) (page : Page) → i < length fs → Got page ≡ get_or fs i (Got page) → All (FirstAtMost m) fs → length page.triples ≤ m
 held-few m fs i page h e a = subst (λ (f : First). FirstAtMost m f) (sym e) (All-get_or (FirstAtMost m) fs i (Got page) h a)
 
+counted-few-by : (m : ℕ) (page : Page) (b : Bool) → length page.triples ≤ m → length (chosen_page_by b page).triples ≤ m
+counted-few-by m page true h = omega arith
+counted-few-by m page false h = h
+
+counted-few : (m : ℕ) (page : Page) → length page.triples ≤ m → length (chosen_page page).triples ≤ m
+counted-few m page h = counted-few-by m page (nat_eq page.count 0) h
+
 choice-opens-in : (nn m d : ℕ) (row : Places) (rest : List Pattern) (stage : Stage) (made : List NodeData) (rows : List Places) (after : Option NodeData) → IsOfDepth nn d (node row rest stage) → StageAtMost m stage → is_full (node row rest stage) ≡ true → IsChosen (node row rest stage) made rows after → Opens nn m d made after
 choice-opens-in nn m d row rest (Asking fs) made rows after h held full chosen =
     let some : 0 < length rest = omega (arith, h.0, h.1) in
     let c = is-chosen row rest fs made rows after some full chosen in
-    page-opens nn m d c.pattern (remove rest c.index) row (1) c.page made after (omega (arith, h.0, length-remove rest c.index c.within)) (held-few m fs c.index c.page c.below c.got held) c.made_of.opens c.made_of.goes
+    page-opens nn m d c.pattern (remove rest c.index) row (1) (chosen_page c.page) made after (omega (arith, h.0, length-remove rest c.index c.within)) (counted-few m c.page (held-few m fs c.index c.page c.below c.got held)) c.made_of.opens c.made_of.goes
 choice-opens-in nn m d row rest (Walking p k next out) made rows after h held full chosen = cc
 
 -- ---- events

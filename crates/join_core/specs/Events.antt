@@ -115,8 +115,16 @@ pub record MadeOf (p : Pattern) (others : List Pattern) (row : Places) (k : ℕ)
   pub puts : rows ≡ put_out p others row page.triples
   pub goes : after ≡ next_walk p others row k page.next
 
+abbrev pub chosen_page_by : Bool → Page → Page
+chosen_page_by true page = record { triples = []; count = page.count; next = None; form = page.form }
+chosen_page_by false page = page
+
+-- what a node takes of the page that it chose: nothing where its count is 0
+abbrev pub chosen_page : Page → Page
+chosen_page page = chosen_page_by (page.count == 0) page
+
 abbrev pub IsChosenIn : Places → List Pattern → Stage → List NodeData → List Places → Option NodeData → Type 0
-IsChosenIn row rest (Asking fs) made rows after = (p : Pattern) (page : Page) → least (map count_of fs) < length fs → p ≡ slice_index_or rest (least (map count_of fs)) p → Got page ≡ slice_index_or fs (least (map count_of fs)) (Got page) → MadeOf p (remove rest (least (map count_of fs))) row (1) page made rows after
+IsChosenIn row rest (Asking fs) made rows after = (p : Pattern) (page : Page) → least (map count_of fs) < length fs → p ≡ slice_index_or rest (least (map count_of fs)) p → Got page ≡ slice_index_or fs (least (map count_of fs)) (Got page) → MadeOf p (remove rest (least (map count_of fs))) row (1) (chosen_page page) made rows after
 IsChosenIn row rest (Walking p k next out) made rows after = ⊤
 
 -- what the first page with the least count makes of the node

@@ -14,4 +14,4 @@ mod pattern_list;
 
 pub use evaluation::{Answered, Ask, Evaluates};
 pub use join::Join;
-pub use laws::{a_run_asks_the_plan, a_run_gives_the_solutions};
+pub use laws::{a_run_asks_the_plan, a_run_gives_the_solutions, a_server_is_a_world};

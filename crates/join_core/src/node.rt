@@ -11,7 +11,7 @@ ghost use Rattle.template_fill.specs.Forms.{form_text};
 ghost use Rattle.template_fill.specs.Authorities.{ShareAuthority};
 ghost use Rattle.join_core.specs.Sound.{IsAskedBy};
 ghost use Rattle.join_core.specs.Nodes.{Stage, NodeData, all_askable, fresh, opened, put_out, is_got, count_of};
-ghost use Rattle.join_core.specs.Events.{CanAsk, asked, IsNextAddress, waits_for, first_waiting, with_first_at, is_full, next_walk, one_more};
+ghost use Rattle.join_core.specs.Events.{CanAsk, asked, IsNextAddress, waits_for, first_waiting, with_first_at, is_full, next_walk, one_more, chosen_page};
 ghost use Rattle.join_core.specs.Events.{IsFirstOf, opened_by, out_by, after_by, IsChosen, has_ask, is_idle};
 
 use crate::choice::least_count;
@@ -286,6 +286,7 @@ fn made_of(
     })
 }
 
+/// What becomes of a node that makes nothing and does not go on.
 fn nothing(alloc: Global) -> Made
     ensures opened { result.opened.items ≡ [] }
     ensures rows { result.rows.items ≡ [] }
@@ -297,6 +298,27 @@ fn nothing(alloc: Global) -> Made
         rows: Vec::new(alloc),
         after: None,
     }
+}
+
+/// What the first page of the chosen pattern makes of a row: nothing where its count is 0.
+fn made_first(
+    alloc: Global,
+    row: &Row,
+    rest: Rc<PatternList>,
+    chosen: &Rc<Pattern>,
+    page: &Page,
+) -> Result<Made, OutOfMemory>
+    requires places { AllByRecursion (HasPlacesFor (length row.now)) rest.value }
+    requires chosen { HasPlacesFor (length row.now) chosen.now.value }
+    ensures opened { IfOk result (λ m. m.opened.items ≡ opened chosen.now.value rest.value row.now (chosen_page page.now).triples) }
+    ensures rows { IfOk result (λ m. m.rows.items ≡ put_out chosen.now.value rest.value row.now (chosen_page page.now).triples) }
+    ensures after { IfOk result (λ m. m.after ≡ next_walk chosen.now.value rest.value row.now 1 (chosen_page page.now).next) }
+    ensures idle { IfOk result (λ m. All (λ n. is_idle n ≡ true) (m.opened.items ++ option_to_list m.after)) }
+{
+    if page.count == 0 {
+        return Ok(nothing(alloc));
+    }
+    made_of(alloc, row, rest, chosen, 1, page)
 }
 
 impl Node {
@@ -321,7 +343,7 @@ impl Node {
         )
     }
 
-    /// What the held first page of the pattern with the least count makes of the node.
+    /// What the held first page of the pattern with the least count makes of the node: nothing where the count is 0.
     pub(crate) fn choose(&self, alloc: Global) -> Result<Made, OutOfMemory>
         requires { is_full self.now ≡ true }
         ensures chosen { IfOk result (λ m. IsChosen self.now m.opened.items m.rows.items m.after) }
@@ -338,6 +360,6 @@ impl Node {
             return Ok(nothing(alloc));
         };
         let rest = Rc::new(alloc, self.rest.without(alloc, index)?)?;
-        made_of(alloc, &self.row, rest, self.rest.at(index), 1, page)
+        made_first(alloc, &self.row, rest, self.rest.at(index), page)
     }
 }

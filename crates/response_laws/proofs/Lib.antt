@@ -1,1 +1,4 @@
+pub mod Lists
 pub mod Responses
+pub mod Marks
+pub mod Longer

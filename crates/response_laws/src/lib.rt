@@ -1,14 +1,26 @@
 //! The laws of the response to the bytes of a connection.
 #![tactic(auto)]
 
-ghost use Rattle.template_fill.specs.Responses.{FirstMarksAlone, ResponseGoesOn, ResponseOverGoesOn, ResponseBegins};
+ghost use Rattle.template_fill.specs.Responses.{LongerHistoriesAgree, MarksAreJoined, MarksArePadded, OneVersionIsMarked, ResponseAtGoesOn, ResponseBegins, ResponseGoesOn};
 
 /// The response to the bytes of a connection only grows with them (RFC 9112, section 9.3): the
 /// answers to the heads at the front stay, and after them, unless one closes, come those to the
-/// bytes that were not read and the bytes that came.
+/// bytes that were not read and the bytes that came (`goes_on`, `at` over one version). So the
+/// response to more bytes begins with that to fewer (`begins`).
 pub fn response_goes_on()
     ensures goes_on { ResponseGoesOn }
-    ensures over { ResponseOverGoesOn }
+    ensures at { ResponseAtGoesOn }
     ensures begins { ResponseBegins }
-    ensures marks { FirstMarksAlone }
+{}
+
+/// Marks of bytes and of what is behind them are marks of the whole, where no version falls between
+/// them (`joined`). Marks of the first heads are padded to marks of all, by one version and, for a
+/// request of a reload, want of memory; the response begins with the same answers, and no further
+/// reload is answered (`padded`). A longer history changes neither the marks nor the response
+/// (`longer`). Over one version each head has that version as its mark (`one`).
+pub fn marks_go_on()
+    ensures joined { MarksAreJoined }
+    ensures padded { MarksArePadded }
+    ensures longer { LongerHistoriesAgree }
+    ensures one { OneVersionIsMarked }
 {}

@@ -8,6 +8,8 @@ mod generated;
 #[cfg(test)]
 mod plain;
 #[cfg(test)]
+mod reloads;
+#[cfg(test)]
 mod serving;
 #[cfg(test)]
 mod tables;

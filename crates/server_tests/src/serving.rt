@@ -1,8 +1,7 @@
 // `tpf_server`: worked exchanges over one connection, each fed whole and byte by byte.
-ghost use Rattle.std.specs.Prelude.{◌≡◌, ◌<◌, All, IfOk, length, OnOk};
+ghost use Rattle.std.specs.Prelude.{◌<◌, All, IfOk};
 ghost use Rattle.rdf_terms.specs.Triples.{IsRdfQuad};
 ghost use Rattle.tpf_base.specs.Addresses.{IsAuthority};
-ghost use Rattle.tpf_server.specs.Conversation.{Suits};
 
 use hydra_controls::Config;
 use nquads_text::read_all;
@@ -40,7 +39,7 @@ fn quads_of(alloc: Global, text: &str) -> Result<Vec<Quad>, Fail>
     }
 }
 
-fn config_of(alloc: Global, page_size: u64) -> Result<Config, Fail> {
+pub(crate) fn config_of(alloc: Global, page_size: u64) -> Result<Config, Fail> {
     let base = WebAddress::read(alloc, "http://localhost/data")?;
     match Config::new(base, page_size) {
         Some(config) => Ok(config),
@@ -60,25 +59,27 @@ fn data_of(alloc: Global, subjects: u32) -> Result<String, Fail> {
     Ok(text)
 }
 
-/// A server of so many triples.
-fn server_of(alloc: Global, subjects: u32, page_size: u64) -> Result<Server, Fail> {
+/// A table of so many triples.
+pub(crate) fn table_of(alloc: Global, subjects: u32) -> Result<Table, Fail> {
     let text = data_of(alloc, subjects)?;
     let quads = quads_of(alloc, text.as_str())?;
-    let table = Table::build(alloc, quads.as_slice(), &Choice::Union, host(), 100000)?;
-    Ok(Server::new(table, config_of(alloc, page_size)?))
+    Ok(Table::build(alloc, quads.as_slice(), &Choice::Union, host(), 100000)?)
+}
+
+/// A server of so many triples.
+fn server_of(alloc: Global, subjects: u32, page_size: u64) -> Result<Server, Fail> {
+    let table = table_of(alloc, subjects)?;
+    Ok(Server::new(alloc, table, config_of(alloc, page_size)?)?)
 }
 
 /// Takes all that is pending, at most so many times, and so many bytes a time.
-fn drained(
+pub(crate) fn drained(
     connection: &mut Connection,
     server: &Server,
     step: usize,
     out: &mut Vec<u8>,
-) -> Result<(), OutOfMemory>
-    requires { Suits server.now connection.old }
-    ensures { OnOk result (Suits server.now connection.new) }
-{
-    'turns: for _ in 0..200 {
+) -> Result<(), OutOfMemory> {
+    for _ in 0..200 {
         connection.fill(server)?;
         let n = connection.pending().len().min(step);
         out.extend_from_slice(&connection.pending()[..n])?;
@@ -99,7 +100,7 @@ fn response(
 {
     let mut connection = Connection::new(alloc);
     let mut out = Vec::new(alloc);
-    'pieces: for piece in bytes.chunks(cut) {
+    for piece in bytes.chunks(cut) {
         connection.feed(server, piece)?;
     }
     drained(&mut connection, server, 100000, &mut out)?;
@@ -118,12 +119,12 @@ fn whole_response(alloc: Global, server: &Server, bytes: &[u8]) -> Result<(Vec<u
 }
 
 /// Whether a text stands at the front of the response.
-fn starts(response: &[u8], wanted: &str) -> bool {
+pub(crate) fn starts(response: &[u8], wanted: &str) -> bool {
     response.starts_with(wanted.as_bytes())
 }
 
 /// Whether a text stands in the response.
-fn has(response: &[u8], wanted: &str) -> bool {
+pub(crate) fn has(response: &[u8], wanted: &str) -> bool {
     str::from_utf8(response).unwrap_or("").contains(wanted)
 }
 
@@ -221,20 +222,20 @@ const TWO: &str =
     "GET /data HTTP/1.1\r\nHost: localhost\r\n\r\nGET /data HTTP/1.1\r\nHost: localhost\r\nConnection: close\r\n\r\nGET /x HTTP/1.1\r\nHost: localhost\r\n\r\n";
 
 const FIRST: &str =
-    "HTTP/1.1 200 OK\r\nContent-Type: application/n-quads\r\nContent-Length: 2143\r\n\r\n<http://localhost/data#metadata> <http://xmlns.com/foaf/0.1/primaryTopic> <http://localhost/data> <http://localhost/data#metadata> .\n";
+    "HTTP/1.1 200 OK\r\nContent-Type: application/n-quads\r\nContent-Length: 2258\r\n\r\n<http://localhost/data#metadata> <http://xmlns.com/foaf/0.1/primaryTopic> <http://localhost/data> <http://localhost/data#metadata> .\n";
 
 const SECOND: &str =
-    "HTTP/1.1 200 OK\r\nContent-Type: application/n-quads\r\nContent-Length: 2143\r\nConnection: close\r\n\r\n<http://localhost/data#metadata> ";
+    "HTTP/1.1 200 OK\r\nContent-Type: application/n-quads\r\nContent-Length: 2258\r\nConnection: close\r\n\r\n<http://localhost/data#metadata> ";
 
 #[test]
 fn two_requests_in_one_piece_have_two_answers(rt: HostRuntime) -> Result<(), Fail> {
     let server = server_of(rt.alloc(), 0, 100)?;
     let (answer, ended) = whole_response(rt.alloc(), &server, TWO.as_bytes())?;
     assert!(rt; ended);
-    assert_eq!(rt; answer.len(), 76 + 2143 + 95 + 2143);
+    assert_eq!(rt; answer.len(), 76 + 2258 + 95 + 2258);
     assert!(rt; starts(&answer, FIRST));
-    if answer.len() > 76 + 2143 {
-        assert!(rt; starts(&answer[76 + 2143..], SECOND));
+    if answer.len() > 76 + 2258 {
+        assert!(rt; starts(&answer[76 + 2258..], SECOND));
     }
     Ok(())
 }
@@ -242,7 +243,7 @@ fn two_requests_in_one_piece_have_two_answers(rt: HostRuntime) -> Result<(), Fai
 const HEAD: &str = "HEAD /data HTTP/1.1\r\nHost: localhost\r\n\r\n";
 
 const HEAD_ANSWER: &str =
-    "HTTP/1.1 200 OK\r\nContent-Type: application/n-quads\r\nContent-Length: 2143\r\n\r\n";
+    "HTTP/1.1 200 OK\r\nContent-Type: application/n-quads\r\nContent-Length: 2258\r\n\r\n";
 
 const POST: &str = "POST /data HTTP/1.1\r\nHost: localhost\r\n\r\n";
 
@@ -292,18 +293,19 @@ fn a_body_that_is_announced_is_not_read(rt: HostRuntime) -> Result<(), Fail> {
     let server = server_of(rt.alloc(), 0, 100)?;
     let (answer, ended) = whole_response(rt.alloc(), &server, ANNOUNCED.as_bytes())?;
     assert!(rt; ended);
-    assert_eq!(rt; answer.len(), 95 + 2143);
+    assert_eq!(rt; answer.len(), 95 + 2258);
     Ok(())
 }
 
 /// The most bytes that are pending while they are taken a thousand at a time, and how many there are
 /// in all.
-fn pending_bytes(connection: &mut Connection, server: &Server) -> Result<(usize, u64), OutOfMemory>
-    requires { Suits server.now connection.old }
-{
+fn pending_bytes(
+    connection: &mut Connection,
+    server: &Server,
+) -> Result<(usize, u64), OutOfMemory> {
     let mut most = 0;
     let mut all: u64 = 0;
-    'turns: for _ in 0..1000 {
+    for _ in 0..1000 {
         connection.fill(server)?;
         let pending = connection.pending().len();
         most = most.max(pending);
@@ -315,11 +317,8 @@ fn pending_bytes(connection: &mut Connection, server: &Server) -> Result<(usize,
 }
 
 /// Feeds eight requests for the first page.
-fn fed_often(connection: &mut Connection, server: &Server) -> Result<(), OutOfMemory>
-    requires { Suits server.now connection.old }
-    ensures { OnOk result (Suits server.now connection.new) }
-{
-    'requests: for _ in 0..8 {
+fn fed_often(connection: &mut Connection, server: &Server) -> Result<(), OutOfMemory> {
+    for _ in 0..8 {
         connection.feed(server, REQUEST.as_bytes())?;
     }
     Ok(())

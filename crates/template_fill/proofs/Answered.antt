@@ -7,15 +7,15 @@ use Rattle.std.specs.Str.Parse.{digits_value}
 use Rattle.std.proofs.lemmas.Bool.Decides.{nat_tests}
 use Rattle.std.proofs.lemmas.Slice.Eq.{bytes_eq-Decides}
 use Rattle.tpf_base.specs.Addresses.{Address, target_of}
-use Rattle.tpf_base.specs.HttpAnswer.{Answer}
 use Rattle.rdf_terms.specs.declared.term.Triple.{Triple}
 use Rattle.rdf_terms.specs.declared.slots.Slot.{Slot}
 use Rattle.rdf_terms.specs.declared.slots.Slots.{Slots}
 use Rattle.rdf_terms.specs.Fragments.{last_page}
 use Rattle.template_fill.specs.ReadAddress.{path_of, ◌>>=◌}
+use Rattle.template_fill.specs.HttpAnswer.{Answer, NQuads, refusal}
 use Rattle.template_fill.specs.Metadata.{Config}
 use Rattle.template_fill.specs.Bodies.{version_of, page_body}
-use Rattle.template_fill.specs.Answers.{Question, Mark, version_at, values_under, one_value, slot_under, page_number, asked_by, parameters, question_of, refusal, page_answer, answer_if, answer_to, AsksFor}
+use Rattle.template_fill.specs.Answers.{Question, Mark, version_at, values_under, one_value, slot_under, page_number, asked_by, parameters, question_of, page_answer, answer_if, is_reload, version_answer, answer_to, AsksFor}
 use Rattle.template_fill.specs.Answered.{address_answer, is_answered, GivesPage, GivesSomePage, IsSamePage, PagesAreGiven, AnsweredGivePages, OnePageIsAsked}
 use Rattle.template_fill.proofs.Addresses.{and_right}
 use Rattle.template_fill.proofs.Reading.{when-inv, bind-inv}
@@ -30,14 +30,14 @@ within : (k last : ℕ) → k ≤ last → nat_le k last ≡ true
 within k last high = grind (arith, nat_tests)
 
 page_there : (history : List (List Triple)) (version : ℕ) (config : Config) (question : Question) → question.page ≤ last_page (version_of history version) question.slots config.page_size
-    → page_answer history version config question ≡ record { status = 200; body = page_body history version config question.slots question.page }
+    → page_answer history version config question ≡ record { status = 200; media_type = NQuads; body = page_body history version config question.slots question.page }
 page_there history version config question high =
-    ap (λ (b : Bool). if b then record { status = 200; body = page_body history version config question.slots question.page } else refusal 404) (within question.page (last_page (version_of history version) question.slots config.page_size) high)
+    ap (λ (b : Bool). if b then record { status = 200; media_type = NQuads; body = page_body history version config question.slots question.page } else refusal 404) (within question.page (last_page (version_of history version) question.slots config.page_size) high)
 
 answered : (history : List (List Triple)) (mark : Mark) (config : Config) (address : Address) (question : Question) → path_of (target_of address) ≡ config.base.path → question_of (target_of address) ≡ Some question
     → question.page ≤ last_page (version_of history (version_at mark)) question.slots config.page_size
-    → address_answer history mark config address ≡ record { status = 200; body = page_body history (version_at mark) config question.slots question.page }
-unfolding answer_to
+    → address_answer history mark config address ≡ record { status = 200; media_type = NQuads; body = page_body history (version_at mark) config question.slots question.page }
+unfolding answer_to version_answer is_reload
 answered history mark config address question path is high =
     let same : bytes_eq (path_of (target_of address)) config.base.path ≡ true = ap (λ (bytes : List ℕ). bytes_eq bytes config.base.path) path ∙ bytes_same config.base.path in
     ap (λ (b : Bool). if not b then refusal 404 else answer_if history (version_at mark) config (question_of (target_of address))) same
@@ -97,7 +97,7 @@ asks_something : (history : List (List Triple)) (version : ℕ) (config : Config
 asks_something history version config None is = absurd (cc)
 asks_something history version config (Some question) is = (question, refl, is)
 
-there : (t : Bool) (body : List ℕ) → (if t then record { status = 200; body = body } else refusal 404).status == 200 ≡ true → t ≡ true
+there : (t : Bool) (body : List ℕ) → (if t then record { status = 200; media_type = NQuads; body = body } else refusal 404).status == 200 ≡ true → t ≡ true
 there true body is = refl
 there false body is = absurd (cc)
 
@@ -109,7 +109,7 @@ has_page history version config question is =
     at_most k last is = grind (arith, nat_tests)
 
 some_page : (history : List (List Triple)) (mark : Mark) (config : Config) (address : Address) → is_answered history mark config address ≡ true → GivesSomePage history mark config address
-unfolding answer_to
+unfolding answer_to version_answer is_reload
 some_page history mark config address is =
     let path = on_path (bytes_eq (path_of (target_of address)) config.base.path) (answer_if history (version_at mark) config (question_of (target_of address))) is in
     let asked = asks_something history (version_at mark) config (question_of (target_of address)) path.1 in
@@ -121,7 +121,7 @@ some_page history mark config address is =
       gives = gives history mark config address asked.0.slots asked.0.page (record { path = same; question = asked.1 }) (question_low (target_of address) asked.0 asked.1) high;
     }
 
-is_200 : (answer : Answer) (body : List ℕ) → answer ≡ record { status = 200; body = body } → answer.status == 200 ≡ true
+is_200 : (answer : Answer) (body : List ℕ) → answer ≡ record { status = 200; media_type = NQuads; body = body } → answer.status == 200 ≡ true
 is_200 answer body is = ap (λ (a : Answer). a.status == 200) is
 
 pub answered_give_pages : AnsweredGivePages

@@ -10,6 +10,7 @@ pub mod PageTexts
 pub mod Written
 pub mod Questions
 pub mod WorkedAnswers
+pub mod WorkedResponses
 pub mod Authorities
 pub mod Answered
 pub mod Histories

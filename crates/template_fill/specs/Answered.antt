@@ -2,11 +2,11 @@
 use Rattle.std.specs.Prelude.{ℕ, ◌≡◌, ◌≤◌, Bool, true, false, ◌==◌, List, codes}
 use Rattle.tpf_base.specs.Addresses.{Address, IsAddress, target_of}
 use Rattle.tpf_base.specs.HttpHeads.{Request}
-use Rattle.tpf_base.specs.HttpAnswer.{Answer}
 use Rattle.rdf_terms.specs.declared.term.Triple.{Triple}
 use Rattle.rdf_terms.specs.declared.slots.Slots.{Slots}
 use Rattle.rdf_terms.specs.Fragments.{last_page}
 use Rattle.rdf_terms.specs.Kept.{AreKept}
+use Rattle.template_fill.specs.HttpAnswer.{Answer, NQuads}
 use Rattle.template_fill.specs.Metadata.{Config}
 use Rattle.template_fill.specs.Configurations.{IsConfig}
 use Rattle.template_fill.specs.Pages.{page_address}
@@ -30,7 +30,7 @@ pub record GivesPage (history : List (List Triple)) (mark : Mark) (config : Conf
   pub asks : AsksFor config.base slots k (target_of address)
   pub low : 1 ≤ k
   pub high : k ≤ last_page (version_of history (version_at mark)) slots config.page_size
-  pub answer : address_answer history mark config address ≡ record { status = 200; body = page_body history (version_at mark) config slots k }
+  pub answer : address_answer history mark config address ≡ record { status = 200; media_type = NQuads; body = page_body history (version_at mark) config slots k }
 
 -- a page that the address gives
 pub record GivesSomePage (history : List (List Triple)) (mark : Mark) (config : Config) (address : Address) : Type 0 where

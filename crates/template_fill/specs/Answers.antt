@@ -1,5 +1,5 @@
--- The answer to a request head (Triple Pattern Fragments, "Controls" and "Paging"; RFC 9110, 9.3, 15.3 and 15.5).
-use Rattle.std.specs.Prelude.{ℕ, ◌≡◌, ◌≤◌, Bool, true, ◌&&◌, not, nat_le, List, [], ◌∷◌, ◌++◌, map, filter, codes, bytes_eq, Option, Some, None, unwrap_or, Result, Ok, Err, if◌then◌else◌}
+-- The answer to a request head (Triple Pattern Fragments, "Controls" and "Paging"; RFC 9110, 9.3, 15.3, 15.5 and 15.6).
+use Rattle.std.specs.Prelude.{ℕ, ◌≡◌, ◌≤◌, Bool, true, false, ◌&&◌, not, nat_le, List, [], ◌∷◌, ◌++◌, map, filter, codes, bytes_eq, Option, Some, None, unwrap_or, Result, Ok, Err, if◌then◌else◌}
 use Rattle.std.specs.List.{list_all}
 use Rattle.std.specs.Char.{is_ascii_digit}
 use Rattle.std.specs.Str.Parse.{digits_value}
@@ -8,12 +8,12 @@ use Rattle.form_urlencoded.specs.Form.{raw_pairs, decode}
 use Rattle.tpf_base.specs.Addresses.{Address, IsAddress, target_of}
 use Rattle.tpf_base.specs.HttpHeads.{Request}
 use Rattle.tpf_base.specs.Decimals.{decimal_text}
-use Rattle.tpf_base.specs.HttpAnswer.{Answer, phrase}
 use Rattle.rdf_terms.specs.declared.term.Triple.{Triple}
 use Rattle.rdf_terms.specs.declared.slots.Slot.{Slot}
 use Rattle.rdf_terms.specs.declared.slots.Slots.{Slots}
 use Rattle.rdf_terms.specs.Fragments.{last_page}
 use Rattle.rdf_terms.specs.Kept.{AreKept}
+use Rattle.template_fill.specs.HttpAnswer.{Answer, NQuads, refusal, text_answer}
 use Rattle.template_fill.specs.ReadAddress.{path_of, query_of, when, ◌>>=◌}
 use Rattle.template_fill.specs.Explicit.{slot_of}
 use Rattle.template_fill.specs.Metadata.{Config}
@@ -74,29 +74,13 @@ asked_by pairs = do
 unfoldable pub question_of : List ℕ → Option Question
 question_of target = asked_by (parameters target)
 
--- ---- answers
-
--- the status, its phrase and LF as body
-abbrev pub refusal : ℕ → Answer
-refusal status = record { status = status; body = decimal_text status ++ 32 ∷ (phrase status ++ 10 ∷ []) }
-
--- how an answer stands: over the data of a version; a reload that failed, or that met want of memory
-pub data Mark : Type 0 where
-  Served : ℕ → Mark
-  Failed : ℕ → Mark
-  Starved : ℕ → Mark
-
--- the version of a mark
-abbrev pub version_at : Mark → ℕ
-version_at (Served version) = version
-version_at (Failed version) = version
-version_at (Starved version) = version
+-- ---- answers over a version
 
 -- the page that is asked for, or that it is past the last
 abbrev pub page_answer : List (List Triple) → ℕ → Config → Question → Answer
 page_answer history version config question =
     if nat_le question.page (last_page (version_of history version) question.slots config.page_size)
-    then record { status = 200; body = page_body history version config question.slots question.page }
+    then record { status = 200; media_type = NQuads; body = page_body history version config question.slots question.page }
     else refusal 404
 
 abbrev pub answer_if : List (List Triple) → ℕ → Config → Option Question → Answer
@@ -108,11 +92,44 @@ abbrev pub is_read : List ℕ → Bool
 is_read method = if bytes_eq method (codes "GET") then true else bytes_eq method (codes "HEAD")
 
 -- the first that applies: another method than GET and HEAD; another path than the base's; parameters that ask for nothing; a page past the last; the page
-unfoldable pub answer_to : List (List Triple) → Mark → Config → Request → Answer
-answer_to history mark config request =
+unfoldable pub version_answer : List (List Triple) → ℕ → Config → Request → Answer
+version_answer history version config request =
     if not (is_read request.method) then refusal 405
     else (if not (bytes_eq (path_of request.target) config.base.path) then refusal 404
-    else answer_if history (version_at mark) config (question_of request.target))
+    else answer_if history version config (question_of request.target))
+
+-- ---- reloads
+
+-- how an answer stands: over the data of a version; a reload that failed, or that met want of memory, where this version goes on
+pub data Mark : Type 0 where
+  Served : ℕ → Mark
+  Failed : ℕ → Mark
+  Starved : ℕ → Mark
+
+-- the version of a mark
+abbrev pub version_at : Mark → ℕ
+version_at (Served version) = version
+version_at (Failed version) = version
+version_at (Starved version) = version
+
+abbrev pub is_path_of_reload : Option (List ℕ) → List ℕ → Bool
+is_path_of_reload None path = false
+is_path_of_reload (Some reload) path = bytes_eq path reload
+
+-- a request on the path of a reload by another method than GET and HEAD
+unfoldable pub is_reload : Config → Request → Bool
+is_reload config request = not (is_read request.method) && is_path_of_reload config.reload (path_of request.target)
+
+-- the version that the data have from here on; or that they could not be read, or that memory was wanting
+unfoldable pub reload_answer : Mark → Answer
+reload_answer (Served version) = text_answer 200 (codes "version " ++ decimal_text version ++ 10 ∷ [])
+reload_answer (Failed version) = refusal 500
+reload_answer (Starved version) = refusal 503
+
+-- a reload request is answered by how the reload went, each other request over the version of its mark
+unfoldable pub answer_to : List (List Triple) → Mark → Config → Request → Answer
+answer_to history mark config request =
+    if is_reload config request then reload_answer mark else version_answer history (version_at mark) config request
 
 -- ---- the law
 

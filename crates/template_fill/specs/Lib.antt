@@ -7,6 +7,7 @@ pub mod Values
 pub mod WebAddress
 pub mod Pages
 pub mod Metadata
+pub mod HttpAnswer
 pub mod Bodies
 pub mod Answers
 pub mod Responses

@@ -1,5 +1,5 @@
 -- The metadata of a page (Triple Pattern Fragments, "Metadata" and "Controls"; Hydra core vocabulary; VoID): quads of one graph.
-use Rattle.std.specs.Prelude.{ℕ, ◌+◌, ◌-◌, Bool, ◌&&◌, nat_lt, nat_le, is_none, List, [], ◌∷◌, ◌++◌, codes, Some, if◌then◌else◌}
+use Rattle.std.specs.Prelude.{ℕ, ◌+◌, ◌-◌, Bool, nat_lt, List, [], ◌∷◌, ◌++◌, codes, Option, Some, if◌then◌else◌}
 use Rattle.rdf_terms.specs.Fragments.{last_page_of}
 use Rattle.rdf_terms.specs.Kinds.{typed_kind}
 use Rattle.rdf_terms.specs.declared.term.Term.{Term}
@@ -11,14 +11,11 @@ use Rattle.tpf_base.specs.Addresses.{Address, address_text}
 use Rattle.tpf_base.specs.Decimals.{decimal_text}
 use Rattle.template_fill.specs.Pages.{page_address, template_text}
 
--- where the fragments of a server stand, and the triples of a page
+-- where the fragments of a server stand, the triples of a page, and the path on which its data are read again, if there is one
 pub record Config : Type 0 where
   pub base : Address
   pub page_size : ℕ
-
--- the base has no query part, and a page has 1 to 1000 triples
-abbrev pub is_config : Address → ℕ → Bool
-is_config base page_size = is_none base.query && (nat_le 1 page_size && nat_le page_size 1000)
+  pub reload : Option (List ℕ)
 
 -- ---- terms
 
@@ -33,6 +30,9 @@ hydra name = Iri (codes "http://www.w3.org/ns/hydra/core#" ++ name)
 
 unfoldable pub rdf : List ℕ → Term
 rdf name = Iri (codes "http://www.w3.org/1999/02/22-rdf-syntax-ns#" ++ name)
+
+unfoldable pub owl : List ℕ → Term
+owl name = Iri (codes "http://www.w3.org/2002/07/owl#" ++ name)
 
 abbrev pub plain : List ℕ → Term
 plain form = Literal form Plain
@@ -81,18 +81,46 @@ count_quads graph page first count =
 unfoldable pub link_quads : Bool → List ℕ → List ℕ → List ℕ → List ℕ → List Quad
 link_quads there graph page name target = if there then statement graph (Iri page) (hydra name) (Iri target) ∷ [] else []
 
--- the metadata of page k of a fragment with so many triples; the version of the data is passed over
+-- the data set has this version (OWL 2, section 3.5)
+unfoldable pub version_quads : List ℕ → List ℕ → ℕ → List Quad
+version_quads graph base version = statement graph (Iri (base ++ codes "#dataset")) (owl (codes "versionInfo")) (plain (decimal_text version)) ∷ []
+
+-- ---- the metadata of a page
+
+-- the texts of four addresses: of a page, of page 1, and of the pages behind and before it
+pub record PageAddresses : Type 0 where
+  pub page : List ℕ
+  pub first : List ℕ
+  pub next : List ℕ
+  pub previous : List ℕ
+
+-- the graph of a page's metadata
+abbrev pub graph_at : PageAddresses → List ℕ
+graph_at addresses = addresses.page ++ codes "#metadata"
+
+-- the metadata of a page with these addresses, whether it has a next and a previous page, of a fragment with so many triples, in data of this version
+unfoldable pub metadata_at : Address → PageAddresses → Bool → Bool → ℕ → ℕ → List Quad
+metadata_at base addresses has_next has_previous count version =
+    topic_quads (graph_at addresses) addresses.page addresses.first (address_text base)
+    ++ form_quads (graph_at addresses) (template_text base)
+    ++ mapping_quads (graph_at addresses) (codes "s") (codes "subject")
+    ++ mapping_quads (graph_at addresses) (codes "p") (codes "predicate")
+    ++ mapping_quads (graph_at addresses) (codes "o") (codes "object")
+    ++ count_quads (graph_at addresses) addresses.page addresses.first count
+    ++ link_quads has_next (graph_at addresses) addresses.page (codes "next") addresses.next
+    ++ link_quads has_previous (graph_at addresses) addresses.page (codes "previous") addresses.previous
+    ++ version_quads (graph_at addresses) (address_text base) version
+
+-- the addresses of page k of the fragment of these slots
+unfoldable pub page_addresses : Address → Slots → ℕ → PageAddresses
+page_addresses base slots k = record {
+  page = page_address base slots k;
+  first = page_address base slots 1;
+  next = page_address base slots (k + 1);
+  previous = page_address base slots (k - 1);
+}
+
+-- the metadata of page k of a fragment with so many triples, in data of this version
 unfoldable pub page_metadata : Config → Slots → ℕ → ℕ → ℕ → List Quad
 page_metadata config slots k count version =
-    let base = address_text config.base in
-    let page = page_address config.base slots k in
-    let first = page_address config.base slots 1 in
-    let graph = page ++ codes "#metadata" in
-    topic_quads graph page first base
-    ++ form_quads graph (template_text config.base)
-    ++ mapping_quads graph (codes "s") (codes "subject")
-    ++ mapping_quads graph (codes "p") (codes "predicate")
-    ++ mapping_quads graph (codes "o") (codes "object")
-    ++ count_quads graph page first count
-    ++ link_quads (nat_lt k (last_page_of count config.page_size)) graph page (codes "next") (page_address config.base slots (k + 1))
-    ++ link_quads (nat_lt 1 k) graph page (codes "previous") (page_address config.base slots (k - 1))
+    metadata_at config.base (page_addresses config.base slots k) (nat_lt k (last_page_of count config.page_size)) (nat_lt 1 k) count version

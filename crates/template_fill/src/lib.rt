@@ -22,7 +22,8 @@ pub use explicit_form::{
 };
 pub use fault::{AddressFault, TemplateFault, ValueFault};
 pub use form::Form;
-pub use history::versions_are_valid;
+pub use history::{versions_are_numbered, versions_are_valid};
 pub use page::{address_reads_back, first_page_is_expansion, page_address, pages_are_answered};
+pub use spelled::is_written_path;
 pub use template::Template;
 pub use value::Value;

@@ -3,7 +3,8 @@ ghost use Rattle.std.specs.Prelude.{ℕ, ◌≡◌, ◌<◌, ◌≤◌, ◌++◌
 ghost use Rattle.std.specs.List.{list_all, prefix_len};
 ghost use Rattle.std.specs.Str.Parse.{digits_value};
 ghost use Rattle.std.specs.Char.{is_ascii_digit};
-ghost use Rattle.tpf_base.specs.Addresses.{is_host_byte, is_address_byte, is_host};
+ghost use Rattle.tpf_base.specs.Addresses.{is_host_byte, is_address_byte, is_path_byte, is_host};
+ghost use Rattle.template_fill.specs.Configurations.{is_written_path};
 ghost use Rattle.template_fill.specs.ReadAddress.{IsSpelled, Spells, SpellsPort, SpellsDigits, opened, port_digits, is_rest, is_port_text, after_scheme, port_part, read_spelled};
 ghost use Rattle.template_fill.specs.Spelled.{spelled_of};
 
@@ -32,6 +33,29 @@ pub fn is_address_byte(b: u8) -> bool
             b,
             b'"' | b'#' | b'<' | b'>' | b'\\' | b'^' | b'`' | b'{' | b'|' | b'}'
         )
+}
+
+fn is_path_byte(b: u8) -> bool
+    ensures { result ≡ is_path_byte b }
+{
+    is_address_byte(b) && b != b'?'
+}
+
+fn are_path_bytes(bytes: &[u8]) -> bool
+    ensures { result ≡ list_all is_path_byte bytes.now }
+{
+    bytes.iter().all(|b| is_path_byte(*b))
+}
+
+/// Whether bytes are a path of an address that is written: `/` and characters of a path (RFC 3986,
+/// section 3.3, with the characters that an address may have here).
+pub fn is_written_path(bytes: &[u8]) -> bool
+    ensures { result ≡ is_written_path bytes.now }
+{
+    match bytes {
+        [b'/', ..] => are_path_bytes(&bytes[1..]),
+        _ => false,
+    }
 }
 
 pub fn are_address_bytes(bytes: &[u8]) -> bool

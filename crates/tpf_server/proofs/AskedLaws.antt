@@ -13,15 +13,15 @@ use Rattle.rdf_terms.specs.Slots.{matches, order_of}
 use Rattle.rdf_terms.specs.Fragments.{fragment, last_page, last_page_of, put, put_by, sorted}
 use Rattle.template_fill.specs.ReadAddress.{path_of, query_of, ◌>>=◌}
 use Rattle.template_fill.specs.Forms.{HasNoBlank}
-use Rattle.template_fill.specs.Bodies.{page_body}
-use Rattle.template_fill.specs.Answers.{Question, answer_if, asked_by, parameters, question_of, refusal}
+use Rattle.template_fill.specs.HttpAnswer.{NQuads, refusal}
+use Rattle.template_fill.specs.Answers.{Question, asked_by, parameters, question_of}
 use Rattle.tpf_server.specs.declared.parameters.Parameters.{Parameters}
 use Rattle.tpf_server.specs.declared.status.Status.TheVariants.{BadRequest, NotFound}
 use Rattle.tpf_server.specs.declared.asked.Asking.{Asking}
 use Rattle.tpf_server.specs.declared.asked.Asking.TheVariants.{Refused, Page}
-use Rattle.tpf_server.specs.Serving.{Serving, data_of}
+use Rattle.tpf_server.specs.Serving.{Serving, Version, current, data_of}
 use Rattle.tpf_server.specs.Parameters.{decoded, found_in, page_in, question_in, slots_in}
-use Rattle.tpf_server.specs.Asked.{answer_at, answer_for_target, answer_of}
+use Rattle.tpf_server.specs.Asked.{answer_at, answer_by, answer_for_target, answer_of, body_at}
 use Rattle.tpf_server.proofs.Questions.{question_is, slots_fit}
 
 -- ---- what the parameters ask for
@@ -39,17 +39,18 @@ no_page (Some s) = refl
 question_parts : (p : Parameters) (slots : Option Slots) (k : Option ℕ) → slots_in p ≡ slots → page_in p.page ≡ k → question_in p ≡ with_page slots k
 question_parts p slots k a b = ap₂ with_page a b
 
-pub no_page_answer : (server : Serving) (p : Parameters) → page_in p.page ≡ None → answer_of server (Refused BadRequest) ≡ answer_at server (question_in p)
+pub no_page_answer : (server : Serving) (p : Parameters) → page_in p.page ≡ None → answer_of server.config (Refused BadRequest) ≡ answer_at server (question_in p)
 unfolding answer_of answer_at
-no_page_answer server p none = ap (answer_if (data_of server ∷ []) 1 server.config) (sym (question_parts p (slots_in p) None refl none ∙ no_page (slots_in p)))
+no_page_answer server p none = ap (answer_by server) (sym (question_parts p (slots_in p) None refl none ∙ no_page (slots_in p)))
 
-pub no_slots_answer : (server : Serving) (p : Parameters) → None ≡ slots_in p → answer_of server (Refused BadRequest) ≡ answer_at server (question_in p)
+pub no_slots_answer : (server : Serving) (p : Parameters) → None ≡ slots_in p → answer_of server.config (Refused BadRequest) ≡ answer_at server (question_in p)
 unfolding answer_of answer_at
-no_slots_answer server p none = ap (answer_if (data_of server ∷ []) 1 server.config) (sym (question_parts p None (page_in p.page) (sym none) refl))
+no_slots_answer server p none = ap (answer_by server) (sym (question_parts p None (page_in p.page) (sym none) refl))
 
-pub numbered_answer : (server : Serving) (p : Parameters) (slots : Slots) (k : ℕ) → Some slots ≡ slots_in p → page_in p.page ≡ Some k → answer_of server (Page slots k) ≡ answer_at server (question_in p)
-unfolding answer_of answer_at
-numbered_answer server p slots k some page = ap (answer_if (data_of server ∷ []) 1 server.config) (sym (question_parts p (Some slots) (Some k) (sym some) page))
+pub numbered_answer : (server : Serving) (p : Parameters) (slots : Slots) (k : ℕ) (version : Version) → version ≡ current server → Some slots ≡ slots_in p → page_in p.page ≡ Some k
+    → answer_of server.config (Page slots k version) ≡ answer_at server (question_in p)
+unfolding answer_of answer_at body_at
+numbered_answer server p slots k version is some page = ap (λ (v : Version). answer_of server.config (Page slots k v)) is ∙ ap (answer_by server) (sym (question_parts p (Some slots) (Some k) (sym some) page))
 
 -- ---- no fragment has more triples than the data
 
@@ -95,18 +96,18 @@ past_all triples slots size n some fits big = not_within n (last_page triples sl
     not_within m n h = grind (arith, h)
 
 pub past_answer : (server : Serving) (p : Parameters) (slots : Slots) (n : ℕ) → slots_in p ≡ Some slots → page_in p.page ≡ Some n
-    → 1 ≤ server.config.page_size → length (data_of server) < 2 ^ 64 → 2 ^ 64 ≤ n → answer_of server (Refused NotFound) ≡ answer_at server (question_in p)
+    → 1 ≤ server.config.page_size → length (data_of server) < 2 ^ 64 → 2 ^ 64 ≤ n → answer_of server.config (Refused NotFound) ≡ answer_at server (question_in p)
 unfolding answer_of answer_at
 past_answer server p slots n some page size fits big =
-    sym (ap (answer_if (data_of server ∷ []) 1 server.config) (question_parts p (Some slots) (Some n) some page)
-    ∙ ap (λ (b : Bool). if b then record { status = 200; body = page_body (data_of server ∷ []) 1 server.config slots n } else refusal 404) (past_all (data_of server) slots server.config.page_size n size fits big))
+    sym (ap (answer_by server) (question_parts p (Some slots) (Some n) some page)
+    ∙ ap (λ (b : Bool). if b then record { status = 200; media_type = NQuads; body = body_at server slots n } else refusal 404) (past_all (data_of server) slots server.config.page_size n size fits big))
 
 pub given_answer : (server : Serving) (p : Parameters) (slots : Option Slots) (n : ℕ) → slots ≡ slots_in p → is_some slots ≡ true → page_in p.page ≡ Some n
-    → 1 ≤ server.config.page_size → length (data_of server) < 2 ^ 64 → 2 ^ 64 ≤ n → answer_of server (Refused NotFound) ≡ answer_at server (question_in p)
+    → 1 ≤ server.config.page_size → length (data_of server) < 2 ^ 64 → 2 ^ 64 ≤ n → answer_of server.config (Refused NotFound) ≡ answer_at server (question_in p)
 given_answer server p None n is some page size fits big = absurd (true≢false (sym some))
 given_answer server p (Some slots) n is some page size fits big = past_answer server p slots n (sym is) page size fits big
 
-pub none_answer : (server : Serving) (p : Parameters) (slots : Option Slots) → slots ≡ slots_in p → is_some slots ≡ false → answer_of server (Refused BadRequest) ≡ answer_at server (question_in p)
+pub none_answer : (server : Serving) (p : Parameters) (slots : Option Slots) → slots ≡ slots_in p → is_some slots ≡ false → answer_of server.config (Refused BadRequest) ≡ answer_at server (question_in p)
 none_answer server p None is none = no_slots_answer server p is
 none_answer server p (Some slots) is none = absurd (true≢false none)
 
@@ -115,13 +116,13 @@ some_fit p slots is = subst (λ (o : Option Slots). IfSome o HasNoBlank) (sym is
 
 -- ---- targets
 
-pub other_path : (server : Serving) (target path : List ℕ) → path ≡ path_of target → bytes_eq path server.config.base.path ≡ false → answer_of server (Refused NotFound) ≡ answer_for_target server target
+pub other_path : (server : Serving) (target path : List ℕ) → path ≡ path_of target → bytes_eq path server.config.base.path ≡ false → answer_of server.config (Refused NotFound) ≡ answer_for_target server target
 unfolding answer_of answer_for_target
 other_path server target path is other =
     sym (ap (λ (b : Bool). if not b then refusal 404 else answer_at server (question_of target)) (ap (λ (l : List ℕ). bytes_eq l server.config.base.path) (sym is) ∙ other))
 
 pub base_path : (server : Serving) (target path query : List ℕ) (found : Parameters) (asking : Asking) → path ≡ path_of target → bytes_eq path server.config.base.path ≡ true → query ≡ unwrap_or (query_of target) []
-    → found ≡ found_in (decoded (raw_pairs query)) → answer_of server asking ≡ answer_at server (question_in found) → answer_of server asking ≡ answer_for_target server target
+    → found ≡ found_in (decoded (raw_pairs query)) → answer_of server.config asking ≡ answer_at server (question_in found) → answer_of server.config asking ≡ answer_for_target server target
 unfolding answer_for_target question_of parameters
 base_path server target path query found asking is same of_query of_pairs answer =
     answer

@@ -3,14 +3,13 @@ use Rattle.std.proofs.Common.{◌≡◌, ℕ, ◌+◌, ◌-◌, ◌<◌, ◌≤�
 use Rattle.std.specs.Prelude.{nat_lt, ◌||◌, OnOk}
 use Rattle.std.specs.List.{AllByRecursion, concat}
 use Rattle.std.proofs.lemmas.Bool.{or_parts, true≢false}
-use Rattle.tpf_base.specs.HttpAnswer.{head_text}
-use Rattle.triple_table.specs.Stored.{Stored}
+use Rattle.template_fill.specs.Metadata.{Config}
+use Rattle.template_fill.specs.HttpAnswer.{MediaType, head_text}
 use Rattle.tpf_server.specs.declared.asked.Queued.{Queued}
 use Rattle.tpf_server.specs.declared.pages.Opened.{Opened}
 use Rattle.tpf_server.specs.declared.rest.Rest.{Rest}
 use Rattle.tpf_server.specs.declared.rest.Rest.TheVariants.{Nothing}
-use Rattle.tpf_server.specs.Statuses.{code}
-use Rattle.tpf_server.specs.Serving.{Serving}
+use Rattle.tpf_server.specs.Statuses.{code, media_of}
 use Rattle.tpf_server.specs.Asked.{IsAsked}
 use Rattle.tpf_server.specs.Given.{IsGiven, IsSmall}
 use Rattle.tpf_server.specs.Rests.{IsWithin, is_left, rest_pieces}
@@ -25,67 +24,66 @@ on_ok (Err e) f p = p
 
 -- ---- an answer is begun
 
-wanted_pieces : (table : Stored) (without : Bool) (body : Rest) → rest_pieces table (if without then Nothing else body) ≡ (if without then [] else rest_pieces table body)
+wanted_pieces : (without : Bool) (body : Rest) → rest_pieces (if without then Nothing else body) ≡ (if without then [] else rest_pieces body)
 unfolding rest_pieces
-wanted_pieces table true body = refl
-wanted_pieces table false body = refl
+wanted_pieces true body = refl
+wanted_pieces false body = refl
 
-wanted_within : (table : Stored) (without : Bool) (body : Rest) → IsWithin table body → IsWithin table (if without then Nothing else body)
-wanted_within table true body h = tt
-wanted_within table false body h = h
+wanted_within : (without : Bool) (body : Rest) → IsWithin body → IsWithin (if without then Nothing else body)
+wanted_within true body h = tt
+wanted_within false body h = h
 
-pub begun : (server : Serving) (queued : Queued) (o : Opened) (rest : Rest) (before after : List ℕ) → Opens server queued.asking o → after ≡ before ++ head_text (code o.status) o.length queued.closes
-    → rest ≡ (if queued.without_body then Nothing else o.body) → IsGiven (answer_pieces server queued) (rest_pieces server.table rest) before after
+head_is : (s n : ℕ) (m : MediaType) (status length : ℕ) (media : MediaType) (closes : Bool) → s ≡ status → n ≡ length → m ≡ media → head_text status media length closes ≡ head_text s m n closes
+head_is s n m status length media closes a b c = sym (ap₂ (λ (x y : ℕ). head_text x m y closes) a b ∙ ap (λ (x : MediaType). head_text status x length closes) c)
+
+pub begun : (config : Config) (queued : Queued) (o : Opened) (rest : Rest) (before after : List ℕ) → Opens config queued.asking o → after ≡ before ++ head_text (code o.status) (media_of o.media) o.length queued.closes
+    → rest ≡ (if queued.without_body then Nothing else o.body) → IsGiven (answer_pieces config queued) (rest_pieces rest) before after
 unfolding answer_pieces
-begun server queued o rest before after opens appended is = record {
-  piece = head_text (code o.status) o.length queued.closes;
+begun config queued o rest before after opens appended is = record {
+  piece = head_text (code o.status) (media_of o.media) o.length queued.closes;
   pieces =
-      ap₂ (λ (s n : ℕ). head_text s n queued.closes ∷ (if queued.without_body then [] else body_pieces server queued.asking)) (sym opens.status) (sym opens.length)
-      ∙ ap (λ (l : List (List ℕ)). head_text (code o.status) o.length queued.closes ∷ (if queued.without_body then [] else l)) (sym opens.body)
-      ∙ ap (λ (l : List (List ℕ)). head_text (code o.status) o.length queued.closes ∷ l) (sym (ap (rest_pieces server.table) is ∙ wanted_pieces server.table queued.without_body o.body));
+      ap₂ (λ (h : List ℕ) (l : List (List ℕ)). h ∷ (if queued.without_body then [] else l)) (head_is (code o.status) o.length (media_of o.media) _ _ _ queued.closes opens.status opens.length opens.media) (sym opens.body)
+      ∙ ap (λ (l : List (List ℕ)). head_text (code o.status) (media_of o.media) o.length queued.closes ∷ l) (sym (ap rest_pieces is ∙ wanted_pieces queued.without_body o.body));
   appended = appended;
 }
 
-pub begun_within : (server : Serving) (queued : Queued) (o : Opened) (rest : Rest) → Opens server queued.asking o → rest ≡ (if queued.without_body then Nothing else o.body) → IsWithin server.table rest
-begun_within server queued o rest opens is = subst (IsWithin server.table) (sym is) (wanted_within server.table queued.without_body o.body opens.range)
+pub begun_within : (config : Config) (queued : Queued) (o : Opened) (rest : Rest) → Opens config queued.asking o → rest ≡ (if queued.without_body then Nothing else o.body) → IsWithin rest
+begun_within config queued o rest opens is = subst IsWithin (sym is) (wanted_within queued.without_body o.body opens.range)
 
 -- ---- the next piece
 
-pub rest_given : (server : Serving) (table : Stored) (rest new : Rest) (waiting : List Queued) (before after : List ℕ) → table ≡ server.table → IsGiven (rest_pieces table rest) (rest_pieces table new) before after
-    → IsGiven (debt_pieces server rest waiting) (debt_pieces server new waiting) before after
+pub rest_given : (config : Config) (rest new : Rest) (waiting : List Queued) (before after : List ℕ) → IsGiven (rest_pieces rest) (rest_pieces new) before after
+    → IsGiven (debt_pieces config rest waiting) (debt_pieces config new waiting) before after
 unfolding debt_pieces
-rest_given server table rest new waiting before after is given = record {
+rest_given config rest new waiting before after given = record {
   piece = given.piece;
-  pieces = ap (λ (l : List (List ℕ)). l ++ queue_pieces server waiting) (subst (λ (t : Stored). rest_pieces t rest ≡ given.piece ∷ rest_pieces t new) is given.pieces);
+  pieces = ap (λ (l : List (List ℕ)). l ++ queue_pieces config waiting) given.pieces;
   appended = given.appended;
 }
 
-none_left : (server : Serving) (rest : Rest) → is_left rest ≡ false → rest_pieces server.table rest ≡ []
+none_left : (rest : Rest) → is_left rest ≡ false → rest_pieces rest ≡ []
 unfolding rest_pieces
-none_left server rest none = rest_done server.table rest none
+none_left rest none = rest_done rest none
 
-pub answer_given : (server : Serving) (rest new : Rest) (waiting later : List Queued) (queued : Queued) (before after : List ℕ) → is_left rest ≡ false → waiting ≡ queued ∷ later
-    → IsGiven (answer_pieces server queued) (rest_pieces server.table new) before after → IsGiven (debt_pieces server rest waiting) (debt_pieces server new later) before after
+pub answer_given : (config : Config) (rest new : Rest) (waiting later : List Queued) (queued : Queued) (before after : List ℕ) → is_left rest ≡ false → waiting ≡ queued ∷ later
+    → IsGiven (answer_pieces config queued) (rest_pieces new) before after → IsGiven (debt_pieces config rest waiting) (debt_pieces config new later) before after
 unfolding debt_pieces
-answer_given server rest new waiting later queued before after none is given = record {
+answer_given config rest new waiting later queued before after none is given = record {
   piece = given.piece;
   pieces =
-      ap₂ (λ (l : List (List ℕ)) (q : List Queued). l ++ queue_pieces server q) (none_left server rest none) is
-      ∙ ap (λ (l : List (List ℕ)). l ++ queue_pieces server later) given.pieces;
+      ap₂ (λ (l : List (List ℕ)) (q : List Queued). l ++ queue_pieces config q) (none_left rest none) is
+      ∙ ap (λ (l : List (List ℕ)). l ++ queue_pieces config later) given.pieces;
   appended = given.appended;
 }
-
-pub rest_fits : (server : Serving) (table : Stored) (rest new : Rest) (waiting : List Queued) → table ≡ server.table → Fits server rest waiting → IsWithin table new → Fits server new waiting
-rest_fits server table rest new waiting is fits within = record { range = subst (λ (t : Stored). IsWithin t new) is within; asked = fits.asked }
 
 abbrev AllAsked : List Queued → Type 0
 AllAsked waiting = AllByRecursion (λ (queued : Queued). IsAsked queued.asking) waiting
 
-pub first_asked : (server : Serving) (rest : Rest) (waiting later : List Queued) (queued : Queued) → waiting ≡ queued ∷ later → Fits server rest waiting → IsAsked queued.asking
-first_asked server rest waiting later queued is fits = (subst AllAsked is fits.asked).0
+pub first_asked : (rest : Rest) (waiting later : List Queued) (queued : Queued) → waiting ≡ queued ∷ later → Fits rest waiting → IsAsked queued.asking
+first_asked rest waiting later queued is fits = (subst AllAsked is fits.asked).0
 
-pub answer_fits : (server : Serving) (rest new : Rest) (waiting later : List Queued) (queued : Queued) → waiting ≡ queued ∷ later → Fits server rest waiting → IsWithin server.table new → Fits server new later
-answer_fits server rest new waiting later queued is fits within = record { range = within; asked = (subst AllAsked is fits.asked).1 }
+pub answer_fits : (rest new : Rest) (waiting later : List Queued) (queued : Queued) → waiting ≡ queued ∷ later → Fits rest waiting → IsWithin new → Fits new later
+answer_fits rest new waiting later queued is fits within = record { range = within; asked = (subst AllAsked is fits.asked).1 }
 
 pub nothing_waits : (rest : Rest) (waiting : List Queued) → is_left rest ≡ false → debt_left rest waiting ≡ true → waiting ≡ [] → ⊥
 nothing_waits rest waiting none left empty = true≢false (sym left ∙ ap₂ (λ (b : Bool) (q : List Queued). b || nat_lt 0 (length q)) none empty)
@@ -119,15 +117,18 @@ no_queue : (waiting : List Queued) → nat_lt 0 (length waiting) ≡ false → w
 no_queue [] h = refl
 no_queue (q ∷ waiting) h = absurd (no_length (length waiting) h)
 
-pub debt_done : (server : Serving) (rest : Rest) (waiting : List Queued) → debt_left rest waiting ≡ false → debt_pieces server rest waiting ≡ []
+pub debt_done : (config : Config) (rest : Rest) (waiting : List Queued) → debt_left rest waiting ≡ false → debt_pieces config rest waiting ≡ []
 unfolding debt_pieces
-debt_done server rest waiting none =
+debt_done config rest waiting none =
     let p = or_parts (is_left rest) (nat_lt 0 (length waiting)) none in
-    ap₂ (λ (l : List (List ℕ)) (q : List Queued). l ++ queue_pieces server q) (none_left server rest p.0) (no_queue waiting p.1)
+    ap₂ (λ (l : List (List ℕ)) (q : List Queued). l ++ queue_pieces config q) (none_left rest p.0) (no_queue waiting p.1)
 
-pub debt_settled : (server : Serving) (rest new : Rest) (waiting : List Queued) → rest_pieces server.table new ≡ rest_pieces server.table rest → debt_pieces server new waiting ≡ debt_pieces server rest waiting
+pub debt_settled : (config : Config) (rest new : Rest) (waiting : List Queued) → rest_pieces new ≡ rest_pieces rest → debt_pieces config new waiting ≡ debt_pieces config rest waiting
 unfolding debt_pieces
-debt_settled server rest new waiting same = ap (λ (l : List (List ℕ)). l ++ queue_pieces server waiting) same
+debt_settled config rest new waiting same = ap (λ (l : List (List ℕ)). l ++ queue_pieces config waiting) same
 
 pub fills_settled : (debt left new : List (List ℕ)) (taken : ℕ) (before after : List ℕ) → new ≡ left → Fills debt left taken before after → Fills debt new taken before after
 fills_settled debt left new taken before after same fills = subst (λ (l : List (List ℕ)). Fills debt l taken before after) (sym same) fills
+
+pub left_settled : (rest new : Rest) (waiting : List Queued) → is_left new ≡ is_left rest → debt_left rest waiting ≡ false → debt_left new waiting ≡ false
+left_settled rest new waiting same none = ap (λ (b : Bool). b || nat_lt 0 (length waiting)) same ∙ none

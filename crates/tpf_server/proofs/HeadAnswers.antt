@@ -5,66 +5,100 @@ use Rattle.std.specs.List.{concat}
 use Rattle.std.proofs.lemmas.Bool.{true≢false}
 use Rattle.tpf_base.specs.HttpHeads.{Request, Verdict, Accepted, Rejected, NextRequest, Incomplete, Taken, Refused, next_request, next_at, with_length, judged, judged_head, head_limit, blank_length, head_length, field_lines, taken_whole, names_host, is_target}
 use Rattle.tpf_base.specs.HttpReader.{read_request}
-use Rattle.http_wire.specs.Requests.{Held, asked_of, holding}
+use Rattle.http_wire.specs.Requests.{Held, asked_of, head_of, holding}
 use Rattle.http_wire.specs.declared.message.Asked.{Asked}
 use Rattle.http_wire.specs.declared.message.Asked.TheVariants.{Get, Head, Other}
 use Rattle.http_wire.proofs.StayLemmas.{taken_within}
-use Rattle.tpf_base.specs.HttpAnswer.{Answer, answer_text, head_text}
-use Rattle.template_fill.specs.Answers.{Served, answer_to, refusal}
+use Rattle.rdf_terms.specs.declared.term.Triple.{Triple}
+use Rattle.rdf_terms.specs.Canon.{canon}
+use Rattle.rdf_terms.specs.Fragments.{fragment, last_page, page_of}
+use Rattle.template_fill.specs.ReadAddress.{path_of}
+use Rattle.template_fill.specs.Metadata.{Config, page_metadata}
+use Rattle.template_fill.specs.Bodies.{in_default_graph, page_body, version_of}
+use Rattle.template_fill.specs.HttpAnswer.{Answer, NQuads, answer_text, head_text, refusal}
+use Rattle.template_fill.specs.Answers.{Question, Served, answer_if, answer_to, is_path_of_reload, is_read, is_reload, page_answer, question_of, reload_answer, version_answer}
+use Rattle.template_fill.proofs.Histories.{last_served}
 use Rattle.tpf_base.specs.HttpConnection.{Heads, after_taken, closes, heads_from, heads_of, last_head, unread_of, with_head}
-use Rattle.template_fill.specs.Responses.{answers, head_answer, response, response_over}
+use Rattle.template_fill.specs.Responses.{answering, head_answer}
 use Rattle.http_wire.proofs.ConnectionLemmas.{heads_read}
 use Rattle.tpf_server.specs.declared.asked.Asking.{Asking}
 use Rattle.tpf_server.specs.declared.asked.Asking.TheVariants as asks
 use Rattle.tpf_server.specs.declared.asked.Queued.{Queued}
-use Rattle.tpf_server.specs.Statuses.{code}
-use Rattle.tpf_server.specs.Serving.{Serving, data_of}
-use Rattle.tpf_server.specs.Asked.{IsAsked, answer_at, answer_for, answer_for_target, answer_of, is_head, refused_with}
+use Rattle.tpf_server.specs.Statuses.{code, version_line}
+use Rattle.tpf_server.specs.Serving.{Serving, IsHistoryOf, data_of, served}
+use Rattle.tpf_server.specs.Asked.{IsAsked, answer_at, answer_by, answer_for, answer_for_target, answer_of, body_at, is_head, is_other, page_answer_at, refused_with}
 use Rattle.tpf_server.specs.Opened.{body_pieces, page_lines}
-use Rattle.tpf_server.specs.Owed.{ReadsHead, answer_pieces}
+use Rattle.tpf_server.specs.Owed.{answer_pieces}
+use Rattle.tpf_server.specs.Read.{IsAnswered, asks_for}
 use Rattle.triple_table.proofs.Bytes.{bytes_eq_same}
 use Rattle.tpf_server.proofs.PageLaws.{body_is_lines}
 
 -- ---- the pieces of an answer are its text
 
-body_if : (server : Serving) (page : Bool) (lines : List (List ℕ)) (body : List ℕ) → body ≡ concat lines
-    → concat (if page then lines else (refusal 404).body ∷ []) ≡ (if page then record { status = 200; body = body } else refusal 404).body
-body_if server true lines body is = sym is
-body_if server false lines body is = append-nil (refusal 404).body
+body_if : (page : Bool) (lines : List (List ℕ)) (body : List ℕ) → body ≡ concat lines
+    → concat (if page then lines else (refusal 404).body ∷ []) ≡ (if page then record { status = 200; media_type = NQuads; body = body } else refusal 404).body
+body_if true lines body is = sym is
+body_if false lines body is = append-nil (refusal 404).body
 
-body_text_is : (server : Serving) (asking : Asking) → concat (body_pieces server asking) ≡ (answer_of server asking).body
+body_text_is : (config : Config) (asking : Asking) → concat (body_pieces config asking) ≡ (answer_of config asking).body
 unfolding body_pieces answer_of
-body_text_is server (asks.Refused status) = append-nil (refusal (code status)).body
-body_text_is server (asks.Page slots page) = body_if server _ (page_lines server slots page) _ (body_is_lines server slots page)
+body_text_is config (asks.Refused status) = append-nil (refusal (code status)).body
+body_text_is config (asks.Reloaded number) = append-nil (version_line number)
+body_text_is config (asks.Page slots page version) = body_if _ (page_lines (served version config) slots page) _ (body_is_lines (served version config) slots page)
 
 left_out : (without : Bool) (pieces : List (List ℕ)) (body : List ℕ) → concat pieces ≡ body → concat (if without then [] else pieces) ≡ (if without then [] else body)
 left_out true pieces body is = refl
 left_out false pieces body is = is
 
-pub answer_text_is : (server : Serving) (queued : Queued) → concat (answer_pieces server queued) ≡ answer_text (answer_of server queued.asking) queued.without_body queued.closes
+pub answer_text_is : (config : Config) (queued : Queued) → concat (answer_pieces config queued) ≡ answer_text (answer_of config queued.asking) queued.without_body queued.closes
 unfolding answer_pieces answer_text
-answer_text_is server queued =
-    ap (λ (l : List ℕ). head_text (answer_of server queued.asking).status (length (answer_of server queued.asking).body) queued.closes ++ l)
-    (left_out queued.without_body (body_pieces server queued.asking) (answer_of server queued.asking).body (body_text_is server queued.asking))
+answer_text_is config queued =
+    ap (λ (l : List ℕ). head_text (answer_of config queued.asking).status (answer_of config queued.asking).media_type (length (answer_of config queued.asking).body) queued.closes ++ l)
+    (left_out queued.without_body (body_pieces config queued.asking) (answer_of config queued.asking).body (body_text_is config queued.asking))
 
--- ---- a request
+-- ---- a request over a history whose last version is served
+
+module _ (history : List (List Triple)) (server : Serving) where
+  page_is : (question : Question) → version_of history server.version ≡ data_of server → page_answer_at server question.slots question.page ≡ page_answer history server.version server.config question
+  unfolding body_at page_body
+  page_is question same =
+      sym (ap (λ (triples : List Triple). if nat_le question.page (last_page triples question.slots server.config.page_size)
+      then record { status = 200; media_type = NQuads; body = canon (map in_default_graph (page_of triples question.slots question.page server.config.page_size) ++ page_metadata server.config question.slots question.page (length (fragment triples question.slots)) server.version) }
+      else refusal 404) same)
+
+  asked_is : (question : Option Question) → version_of history server.version ≡ data_of server → answer_by server question ≡ answer_if history server.version server.config question
+  asked_is None same = refl
+  asked_is (Some question) same = page_is question same
+
+  target_is : (target : List ℕ) → version_of history server.version ≡ data_of server
+      → answer_for_target server target ≡ (if not (bytes_eq (path_of target) server.config.base.path) then refusal 404 else answer_if history server.version server.config (question_of target))
+  unfolding answer_for_target answer_at
+  target_is target same = ap (λ (a : Answer). if not (bytes_eq (path_of target) server.config.base.path) then refusal 404 else a) (asked_is (question_of target) same)
 
 abbrev known : Bool → Bool → Asked
 known get head = if get then Get else (if head then Head else Other)
 
-abbrev answer_known : Serving → Bool → Bool → List ℕ → Answer
-answer_known server get head target =
-    if not (if get then true else head) then refusal 405 else answer_for_target server target
-
-known_answer : (server : Serving) (get head : Bool) (target : List ℕ) → answer_for server (known get head) target ≡ answer_known server get head target
+known_answer : (server : Serving) (get head : Bool) (target : List ℕ) → answer_for server (known get head) target ≡ (if not (if get then true else head) then refusal 405 else answer_for_target server target)
 unfolding answer_for
 known_answer server true head target = refl
 known_answer server false true target = refl
 known_answer server false false target = refl
 
-pub request_answer : (server : Serving) (request : Request) → answer_for server (asked_of request.method) request.target ≡ answer_to (data_of server ∷ []) (Served 1) server.config request
-unfolding answer_to answer_for_target answer_at
-request_answer server request = known_answer server (bytes_eq request.method (codes "GET")) (bytes_eq request.method (codes "HEAD")) request.target
+version_is : (history : List (List Triple)) (server : Serving) (request : Request) → version_of history server.version ≡ data_of server
+    → answer_for server (asked_of request.method) request.target ≡ version_answer history server.version server.config request
+unfolding version_answer
+version_is history server request same =
+    known_answer server (bytes_eq request.method (codes "GET")) (bytes_eq request.method (codes "HEAD")) request.target
+    ∙ ap (λ (a : Answer). if not (is_read request.method) then refusal 405 else a) (target_is history server request.target same)
+
+pub request_answer : (history : List (List Triple)) (server : Serving) (request : Request) → IsHistoryOf history server → is_reload server.config request ≡ false
+    → answer_for server (asked_of request.method) request.target ≡ answer_to history (Served server.version) server.config request
+unfolding answer_to
+request_answer history server request last plain =
+    version_is history server request (last_served history server.version (data_of server) last)
+    ∙ sym (ap (λ (b : Bool). if b then reload_answer (Served server.version) else version_answer history server.version server.config request) plain)
+
+-- ---- methods
 
 not_both : (m : List ℕ) → bytes_eq m (codes "GET") ≡ true → bytes_eq m (codes "HEAD") ≡ false
 not_both m get = ap (λ (l : List ℕ). bytes_eq l (codes "HEAD")) (bytes_eq_same m (codes "GET") get)
@@ -77,13 +111,23 @@ known_head false false other = refl
 pub head_alone : (m : List ℕ) → is_head (asked_of m) ≡ bytes_eq m (codes "HEAD")
 head_alone m = known_head (bytes_eq m (codes "GET")) (bytes_eq m (codes "HEAD")) (not_both m)
 
-pub request_pieces : (server : Serving) (request : Request) (queued : Queued)
-    → answer_of server queued.asking ≡ answer_for server (asked_of request.method) request.target → queued.without_body ≡ is_head (asked_of request.method) → queued.closes ≡ request.closes
-    → concat (answer_pieces server queued) ≡ head_answer (data_of server ∷ []) server.config (Accepted request) (Served 1)
-request_pieces server request queued answer body last =
-    answer_text_is server queued
-    ∙ ap (λ (a : Answer). answer_text a queued.without_body queued.closes) (answer ∙ request_answer server request)
-    ∙ ap₂ (λ (w l : Bool). answer_text (answer_to (data_of server ∷ []) (Served 1) server.config request) w l) (body ∙ head_alone request.method) last
+known_other : (get head : Bool) → is_other (known get head) ≡ not (if get then true else head)
+known_other true head = refl
+known_other false true = refl
+known_other false false = refl
+
+pub reload_is : (server : Serving) (request : Request) → asks_for server (head_of request) ≡ is_reload server.config request
+unfolding is_reload
+reload_is server request =
+    ap (λ (b : Bool). b && is_path_of_reload server.config.reload (path_of request.target)) (known_other (bytes_eq request.method (codes "GET")) (bytes_eq request.method (codes "HEAD")))
+
+pub request_pieces : (history : List (List Triple)) (server : Serving) (request : Request) (queued : Queued) → IsHistoryOf history server → is_reload server.config request ≡ false
+    → answer_of server.config queued.asking ≡ answer_for server (asked_of request.method) request.target → queued.without_body ≡ is_head (asked_of request.method) → queued.closes ≡ request.closes
+    → concat (answer_pieces server.config queued) ≡ head_answer (answering history server.config) (Accepted request) (Served server.version)
+request_pieces history server request queued last plain answer body ends =
+    answer_text_is server.config queued
+    ∙ ap (λ (a : Answer). answer_text a queued.without_body queued.closes) (answer ∙ request_answer history server request last plain)
+    ∙ ap₂ (λ (w l : Bool). answer_text (answer_to history (Served server.version) server.config request) w l) (body ∙ head_alone request.method) ends
 
 -- ---- a refusal
 
@@ -134,79 +178,47 @@ fault_code status (inr is) = ap (λ (n : ℕ). code (refused_with n)) is ∙ sym
 abbrev pub refusing_with : ℕ → Queued
 refusing_with status = record { asking = asks.Refused (refused_with status); without_body = false; closes = true }
 
-refused_pieces : (server : Serving) (bytes : List ℕ) (status : ℕ) → next_request bytes ≡ Refused status
-    → concat (answer_pieces server (refusing_with status)) ≡ head_answer (data_of server ∷ []) server.config (Rejected status) (Served 1)
+refused_pieces : (history : List (List Triple)) (server : Serving) (bytes : List ℕ) (status : ℕ) → next_request bytes ≡ Refused status
+    → concat (answer_pieces server.config (refusing_with status)) ≡ head_answer (answering history server.config) (Rejected status) (Served server.version)
 unfolding answer_of
-refused_pieces server bytes status is =
-    answer_text_is server (refusing_with status)
+refused_pieces history server bytes status is =
+    answer_text_is server.config (refusing_with status)
     ∙ ap (λ (n : ℕ). answer_text (refusal n) false true) (fault_code status (subst FaultOf is (next_fault bytes)))
 
 -- ---- one head
 
-abbrev pub over_heads : Serving → List Verdict → List ℕ
-over_heads server heads = answers (data_of server ∷ []) server.config heads (map (λ (head : Verdict). Served 1) heads)
-
 pub heads_at : (bytes : List ℕ) (next : NextRequest) → next_request bytes ≡ next → heads_of bytes ≡ heads_from bytes next (heads_of (after_taken bytes next))
 heads_at bytes next is = heads_read bytes ∙ ap (λ (n : NextRequest). heads_from bytes n (heads_of (after_taken bytes n))) is
 
-pub over_is : (server : Serving) (bytes : List ℕ) → response_over (data_of server) server.config bytes ≡ over_heads server (heads_of bytes).heads
-unfolding response
-over_is server bytes = refl
-
-pub closes_is : (bytes : List ℕ) → closes bytes ≡ (heads_of bytes).closed
-unfolding closes
-closes_is bytes = refl
-
-pub unread_is : (bytes : List ℕ) → unread_of bytes ≡ (heads_of bytes).unread
-unfolding unread_of
-unread_is bytes = refl
-
 pub refused_reads : (server : Serving) (bytes : List ℕ) (status : ℕ) (before after : List Queued) (held : Held) → next_request bytes ≡ Refused status → after ≡ before ++ refusing_with status ∷ []
-    → ReadsHead server bytes before after true held
-refused_reads server bytes status before after held is waiting =
-    let heads = heads_at bytes (Refused status) is in
-    record {
-      queued = refusing_with status;
-      waiting = waiting;
-      asked = tt;
-      text = over_is server bytes ∙ ap (λ (h : Heads). over_heads server h.heads) heads ∙ ap (λ (l : List ℕ). l ++ []) (sym (refused_pieces server bytes status is));
-      closing = closes_is bytes ∙ ap (λ (h : Heads). h.closed) heads;
-      unread = unread_is bytes ∙ ap (λ (h : Heads). h.unread) heads;
-      open_ = λ other. absurd (true≢false other);
-      shorter = λ other. absurd (true≢false other);
-    }
-
-taken_text : (server : Serving) (last : Bool) (request : Request) (rest : List ℕ)
-    → over_heads server (if last then last_head (Accepted request) else with_head (Accepted request) (heads_of rest)).heads
-    ≡ head_answer (data_of server ∷ []) server.config (Accepted request) (Served 1) ++ (if last then [] else response_over (data_of server) server.config rest)
-taken_text server true request rest = refl
-taken_text server false request rest = ap (λ (l : List ℕ). head_answer (data_of server ∷ []) server.config (Accepted request) (Served 1) ++ l) (sym (over_is server rest))
-
-taken_closing : (last : Bool) (request : Request) (rest : List ℕ) → (if last then last_head (Accepted request) else with_head (Accepted request) (heads_of rest)).closed ≡ (if last then true else closes rest)
-taken_closing true request rest = refl
-taken_closing false request rest = sym (closes_is rest)
-
-taken_unread : (last : Bool) (request : Request) (rest : List ℕ) → (if last then last_head (Accepted request) else with_head (Accepted request) (heads_of rest)).unread ≡ (if last then [] else unread_of rest)
-taken_unread true request rest = refl
-taken_unread false request rest = sym (unread_is rest)
+    → IsAnswered server bytes before after true held
+refused_reads server bytes status before after held is waiting = record {
+  head = Rejected status;
+  queued = refusing_with status;
+  waiting = waiting;
+  asked = tt;
+  plain = λ history. refl;
+  text = λ history last. refused_pieces history server bytes status is;
+  heads = heads_at bytes (Refused status) is;
+  open_ = λ other. absurd (true≢false other);
+  shorter = λ other. absurd (true≢false other);
+}
 
 pub taken_reads : (server : Serving) (bytes : List ℕ) (request : Request) (n : ℕ) (before after : List Queued) (queued : Queued) (held : Held)
-    → next_request bytes ≡ Taken request n → held ≡ holding (drop n bytes) → after ≡ before ++ queued ∷ [] → IsAsked queued.asking
-    → answer_of server queued.asking ≡ answer_for server (asked_of request.method) request.target → queued.without_body ≡ is_head (asked_of request.method) → queued.closes ≡ request.closes
-    → ReadsHead server bytes before after request.closes held
-taken_reads server bytes request n before after queued held is holds waiting asked answer body last =
-    let heads = heads_at bytes (Taken request n) is in
+    → next_request bytes ≡ Taken request n → held ≡ holding (drop n bytes) → is_reload server.config request ≡ false → after ≡ before ++ queued ∷ [] → IsAsked queued.asking
+    → answer_of server.config queued.asking ≡ answer_for server (asked_of request.method) request.target → queued.without_body ≡ is_head (asked_of request.method) → queued.closes ≡ request.closes
+    → IsAnswered server bytes before after request.closes held
+taken_reads server bytes request n before after queued held is holds plain waiting asked answer body ends =
     let rest : held.bytes ≡ drop n bytes = ap (λ (h : Held). h.bytes) holds in
     let within = taken_within bytes request n is in
     record {
+      head = Accepted request;
       queued = queued;
       waiting = waiting;
       asked = asked;
-      text =
-          over_is server bytes ∙ ap (λ (h : Heads). over_heads server h.heads) heads ∙ taken_text server request.closes request (drop n bytes)
-          ∙ ap₂ (λ (l r : List ℕ). l ++ (if request.closes then [] else response_over (data_of server) server.config r)) (sym (request_pieces server request queued answer body last)) (sym rest);
-      closing = closes_is bytes ∙ ap (λ (h : Heads). h.closed) heads ∙ taken_closing request.closes request (drop n bytes) ∙ ap (λ (r : List ℕ). if request.closes then true else closes r) (sym rest);
-      unread = unread_is bytes ∙ ap (λ (h : Heads). h.unread) heads ∙ taken_unread request.closes request (drop n bytes) ∙ ap (λ (r : List ℕ). if request.closes then [] else unread_of r) (sym rest);
+      plain = λ history. plain;
+      text = λ history last. request_pieces history server request queued last plain answer body ends;
+      heads = heads_at bytes (Taken request n) is ∙ ap (λ (l : List ℕ). if request.closes then last_head (Accepted request) else with_head (Accepted request) (heads_of l)) (sym rest);
       open_ = λ other. ap (λ (h : Held). h.refused) holds;
       shorter = λ other. omega (arith, within, ap (λ (l : List ℕ). length l) rest, length-drop n bytes);
     }

@@ -4,9 +4,9 @@ use Rattle.std.specs.Prelude.{unwrap_or}
 use Rattle.http.specs.StatusCode.{code_digits, reason_phrase}
 use Rattle.tpf_base.specs.Decimals.{digits_up_to, decimal_text}
 use Rattle.tpf_base.specs.HttpText.{answer_head}
-use Rattle.tpf_base.specs.HttpAnswer.{answer_fields, head_text, phrase}
+use Rattle.template_fill.specs.HttpAnswer.{MediaType, answer_fields, head_text, phrase}
 use Rattle.tpf_server.specs.declared.status.Status.{Status}
-use Rattle.tpf_server.specs.declared.status.Status.TheVariants.{Success, BadRequest, NotFound, MethodNotAllowed, HeaderFieldsTooLarge}
+use Rattle.tpf_server.specs.declared.status.Status.TheVariants.{Success, BadRequest, NotFound, MethodNotAllowed, HeaderFieldsTooLarge, InternalServerError, ServiceUnavailable}
 use Rattle.tpf_server.specs.Statuses.{code}
 
 pub digits_are : (status : Status) → code_digits (code status) ≡ decimal_text (code status)
@@ -16,6 +16,8 @@ digits_are BadRequest = refl
 digits_are NotFound = refl
 digits_are MethodNotAllowed = refl
 digits_are HeaderFieldsTooLarge = refl
+digits_are InternalServerError = refl
+digits_are ServiceUnavailable = refl
 
 pub phrase_is : (status : Status) → unwrap_or (reason_phrase (code status)) [] ≡ phrase (code status)
 unfolding phrase
@@ -24,10 +26,12 @@ phrase_is BadRequest = refl
 phrase_is NotFound = refl
 phrase_is MethodNotAllowed = refl
 phrase_is HeaderFieldsTooLarge = refl
+phrase_is InternalServerError = refl
+phrase_is ServiceUnavailable = refl
 
-pub head_is : (status : Status) (n body_length : ℕ) (closes : Bool) (fields : List (List ℕ × List ℕ)) → n ≡ code status → fields ≡ answer_fields (code status) body_length closes
-    → answer_head (code_digits n) (unwrap_or (reason_phrase n) []) fields ≡ head_text (code status) body_length closes
+pub head_is : (status : Status) (media : MediaType) (n body_length : ℕ) (closes : Bool) (fields : List (List ℕ × List ℕ)) → n ≡ code status → fields ≡ answer_fields (code status) media body_length closes
+    → answer_head (code_digits n) (unwrap_or (reason_phrase n) []) fields ≡ head_text (code status) media body_length closes
 unfolding head_text
-head_is status n body_length closes fields is same =
+head_is status media n body_length closes fields is same =
     ap₂ (λ (m : ℕ) (fs : List (List ℕ × List ℕ)). answer_head (code_digits m) (unwrap_or (reason_phrase m) []) fs) is same
-    ∙ ap₂ (λ (d p : List ℕ). answer_head d p (answer_fields (code status) body_length closes)) (digits_are status) (phrase_is status)
+    ∙ ap₂ (λ (d p : List ℕ). answer_head d p (answer_fields (code status) media body_length closes)) (digits_are status) (phrase_is status)

@@ -13,4 +13,7 @@ pub mod AskedLaws
 pub mod HeadAnswers
 pub mod Readings
 pub mod DebtLaws
+pub mod HeadsLaws
+pub mod MarkLaws
 pub mod ConversationLaws
+pub mod KeptLaws

@@ -1,6 +1,6 @@
 -- The answer to what was asked, as it is found before its body is made.
-use Rattle.std.proofs.Common.{◌≡◌, ℕ, ◌+◌, ◌≤◌, Bool, true, false, List, [], ◌∷◌, length, Result, Ok, Err, refl, ap, sym, subst, ◌∙◌, arith, if◌then◌else◌, le-leb}
-use Rattle.std.specs.Prelude.{nat_le, IfOk}
+use Rattle.std.proofs.Common.{◌≡◌, ℕ, ◌+◌, ◌<◌, ◌≤◌, ◌++◌, Bool, true, false, List, [], ◌∷◌, length, Result, Ok, Err, refl, ap, sym, subst, ◌∙◌, arith, if◌then◌else◌, le-leb, length-append}
+use Rattle.std.specs.Prelude.{nat_le, IfOk, codes}
 use Rattle.std.specs.List.{concat}
 use Rattle.rdf_terms.specs.declared.term.Quad.{Quad}
 use Rattle.rdf_terms.specs.declared.slots.Slots.{Slots}
@@ -10,54 +10,73 @@ use Rattle.triple_table.specs.Stored.{Stored, listed}
 use Rattle.fragment_pages.specs.declared.view.PageView.{PageView}
 use Rattle.fragment_pages.specs.Pages.{IsPage, IsPageNumber, shown}
 use Rattle.template_fill.specs.Metadata.{Config, page_metadata}
-use Rattle.template_fill.specs.Bodies.{page_body}
-use Rattle.tpf_base.specs.HttpAnswer.{Answer}
-use Rattle.template_fill.specs.Answers.{page_answer, refusal}
+use Rattle.tpf_base.specs.Decimals.{decimal_text}
+use Rattle.template_fill.specs.HttpAnswer as definitions
+use Rattle.template_fill.specs.HttpAnswer.{Answer, refusal}
 use Rattle.tpf_server.specs.declared.status.Status.{Status}
 use Rattle.tpf_server.specs.declared.status.Status.TheVariants.{Success, NotFound}
+use Rattle.tpf_server.specs.declared.head.MediaType.TheVariants.{NQuads, PlainText}
 use Rattle.tpf_server.specs.declared.asked.Asking.{Asking}
-use Rattle.tpf_server.specs.declared.asked.Asking.TheVariants.{Refused, Page}
+use Rattle.tpf_server.specs.declared.asked.Asking.TheVariants.{Refused, Reloaded, Page}
 use Rattle.tpf_server.specs.declared.pages.Opened.{Opened}
 use Rattle.tpf_server.specs.declared.rest.Rest.{Rest}
 use Rattle.tpf_server.specs.declared.rest.Rest.TheVariants as rests
-use Rattle.tpf_server.specs.Statuses.{body_text, code}
+use Rattle.tpf_server.specs.Statuses.{body_text, code, media_of, version_line}
 use Rattle.tpf_server.specs.Lines.{quad_lines, triple_lines}
-use Rattle.tpf_server.specs.Serving.{Serving, data_of}
-use Rattle.tpf_server.specs.Asked.{IsAsked, answer_of}
+use Rattle.tpf_server.specs.Serving.{Serving, Version, served, data_of}
+use Rattle.tpf_server.specs.Asked.{answer_of, body_at}
 use Rattle.tpf_server.specs.PageRests.{IsPart, PageLines, page_pieces}
 use Rattle.tpf_server.specs.Rests.{IsWithin, rest_pieces}
-use Rattle.tpf_server.specs.Opened.{Opens, OpensPage, body_pieces, page_lines}
+use Rattle.tpf_server.specs.Opened.{Opens, OpensNumber, OpensPage, body_pieces, page_lines}
 use Rattle.tpf_server.proofs.StatusLaws.{body_is}
 use Rattle.tpf_server.proofs.PageLaws.{page_length, page_lines_are}
 
-pub opens_page : (server : Serving) (slots : Slots) (page : ℕ) (view : PageView) (table : Stored) (config : Config) (range : Range) (quads slice : List Quad) (p : PageLines) (a b : ℕ)
-    → table ≡ server.table → config ≡ server.config → IsPage server.table slots page server.config.page_size view
+pub opens_page : (server : Serving) (slots : Slots) (page : ℕ) (view : PageView) (table shared : Stored) (number : ℕ) (range : Range) (quads slice : List Quad) (p : PageLines) (a b : ℕ)
+    → table ≡ server.table → shared ≡ server.table → number ≡ server.version → IsPage server.table slots page server.config.page_size view
     → IsPart table range → listed table range ≡ shown table view
-    → quads ≡ page_metadata config slots page view.count 1 → slice ≡ quads
+    → quads ≡ page_metadata server.config slots page view.count number → slice ≡ quads
     → a ≡ length (concat (triple_lines (listed table range))) → b ≡ length (concat (quad_lines slice))
-    → p ≡ record { triples = range; quads = quads }
-    → OpensPage server slots page (record { status = Success; length = a + b; body = rests.Page p })
+    → p ≡ record { table = shared; triples = range; quads = quads }
+    → OpensPage server slots page (record { status = Success; media = NQuads; length = a + b; body = rests.Page p })
 unfolding rest_pieces
-opens_page server slots page view table config range quads slice p a b of_table of_config is within lists meta whole of_triples of_quads parts =
+opens_page server slots page view table shared number range quads slice p a b of_table of_shared of_number is within lists meta whole of_triples of_quads parts =
     let same = subst (λ (t : Stored). listed t range ≡ shown t view) of_table lists ∙ is.triples in
-    let about = meta ∙ ap (λ (c : Config). page_metadata c slots page view.count 1) of_config ∙ ap (λ (n : ℕ). page_metadata server.config slots page n 1) is.count in
+    let about = meta ∙ ap (λ (n : ℕ). page_metadata server.config slots page view.count n) of_number ∙ ap (λ (n : ℕ). page_metadata server.config slots page n server.version) is.count in
+    let own : p ≡ record { table = server.table; triples = range; quads = quads } = parts ∙ ap (λ (t : Stored). record { table = t; triples = range; quads = quads }) of_shared in
     record {
       status = refl;
+      media = refl;
       length = page_length server slots page range quads a b same about (of_triples ∙ ap (λ (t : Stored). length (concat (triple_lines (listed t range)))) of_table) (of_quads ∙ ap (λ (q : List Quad). length (concat (quad_lines q))) whole);
-      body = ap (page_pieces server.table) parts ∙ page_lines_are server slots page range quads same about;
-      range = subst (λ (q : PageLines). IsPart server.table q.triples) (sym parts) (subst (λ (t : Stored). IsPart t range) of_table within);
+      body = ap page_pieces own ∙ page_lines_are server slots page range quads same about;
+      range = subst (λ (q : PageLines). IsPart q.table q.triples) (sym own) (subst (λ (t : Stored). IsPart t range) of_table within);
     }
 
 -- an answer without a page
 abbrev pub status_opened : Status → Opened
-status_opened status = record { status = status; length = length (body_text status); body = rests.Line status }
+status_opened status = record { status = status; media = PlainText; length = length (body_text status); body = rests.Line status }
 
-refused : (server : Serving) (status : Status) → Opens server (Refused status) (status_opened status)
+refused : (config : Config) (status : Status) → Opens config (Refused status) (status_opened status)
 unfolding rest_pieces body_pieces answer_of
-refused server status = record { status = refl; length = ap (λ (l : List ℕ). length l) (body_is status); body = refl; range = tt }
+refused config status = record { status = refl; media = refl; length = ap (λ (l : List ℕ). length l) (body_is status); body = refl; range = tt }
 
-pub opens_refused : (server : Serving) (status : Status) (asking : Asking) (o : Opened) → asking ≡ Refused status → o ≡ status_opened status → Opens server asking o
-opens_refused server status asking o is opened = subst (λ (a : Asking). Opens server a o) (sym is) (subst (Opens server (Refused status)) (sym opened) (refused server status))
+pub opens_refused : (config : Config) (status : Status) (asking : Asking) (o : Opened) → asking ≡ Refused status → o ≡ status_opened status → Opens config asking o
+opens_refused config status asking o is opened = subst (λ (a : Asking). Opens config a o) (sym is) (subst (Opens config (Refused status)) (sym opened) (refused config status))
+
+-- ---- a reload
+
+long_line : (number : ℕ) → 0 < length (version_line number)
+unfolding version_line
+long_line number = omega (arith, length-append (codes "version ") (decimal_text number ++ 10 ∷ []))
+
+version_opened : (config : Config) (number : ℕ) (o : Opened) → o ≡ record { status = Success; media = PlainText; length = length (version_line number); body = rests.Words (version_line number) } → Opens config (Reloaded number) o
+unfolding rest_pieces body_pieces answer_of
+version_opened config number o opened =
+    subst (Opens config (Reloaded number)) (sym opened) (record { status = refl; media = refl; length = refl; body = refl; range = long_line number })
+
+pub opens_version : {E : Type 0} (config : Config) (number : ℕ) (asking : Asking) (r : Result Opened E) → asking ≡ Reloaded number
+    → IfOk r (λ (o : Opened). o ≡ record { status = Success; media = PlainText; length = length (version_line number); body = rests.Words (version_line number) }) → IfOk r (Opens config asking)
+opens_version config number asking (Ok o) is opened = subst (λ (a : Asking). Opens config a o) (sym is) (version_opened config number o opened)
+opens_version config number asking (Err e) is opened = tt
 
 -- ---- a page
 
@@ -65,28 +84,28 @@ page_test : (server : Serving) (slots : Slots) (page : ℕ) → IsPageNumber ser
 page_test server slots page number = le-leb page (last_page (data_of server) slots server.config.page_size) number.last
 
 by_test : (server : Serving) (slots : Slots) (page : ℕ) (o : Opened) (test : Bool) → nat_le page (last_page (data_of server) slots server.config.page_size) ≡ test
-    → code o.status ≡ (if test then record { status = 200; body = page_body (data_of server ∷ []) 1 server.config slots page } else refusal 404).status
-    → o.length ≡ length (if test then record { status = 200; body = page_body (data_of server ∷ []) 1 server.config slots page } else refusal 404).body
-    → rest_pieces server.table o.body ≡ (if test then page_lines server slots page else (refusal 404).body ∷ [])
-    → IsWithin server.table o.body
-    → Opens server (Page slots page) o
-unfolding answer_of body_pieces
-by_test server slots page o test is status size body within = record {
-  status = status ∙ sym (ap (λ (t : Bool). (if t then record { status = 200; body = page_body (data_of server ∷ []) 1 server.config slots page } else refusal 404).status) is);
-  length = size ∙ sym (ap (λ (t : Bool). length (if t then record { status = 200; body = page_body (data_of server ∷ []) 1 server.config slots page } else refusal 404).body) is);
+    → code o.status ≡ (if test then record { status = 200; media_type = definitions.NQuads; body = body_at server slots page } else refusal 404).status
+    → media_of o.media ≡ (if test then record { status = 200; media_type = definitions.NQuads; body = body_at server slots page } else refusal 404).media_type
+    → o.length ≡ length (if test then record { status = 200; media_type = definitions.NQuads; body = body_at server slots page } else refusal 404).body
+    → rest_pieces o.body ≡ (if test then page_lines server slots page else (refusal 404).body ∷ [])
+    → IsWithin o.body
+    → OpensNumber server slots page o
+by_test server slots page o test is status media size body within = record {
+  status = status ∙ sym (ap (λ (t : Bool). (if t then record { status = 200; media_type = definitions.NQuads; body = body_at server slots page } else refusal 404).status) is);
+  media = media ∙ sym (ap (λ (t : Bool). (if t then record { status = 200; media_type = definitions.NQuads; body = body_at server slots page } else refusal 404).media_type) is);
+  length = size ∙ sym (ap (λ (t : Bool). length (if t then record { status = 200; media_type = definitions.NQuads; body = body_at server slots page } else refusal 404).body) is);
   body = body ∙ sym (ap (λ (t : Bool). if t then page_lines server slots page else (refusal 404).body ∷ []) is);
   range = within;
 }
 
-given_page : (server : Serving) (slots : Slots) (page : ℕ) (o : Opened) → IsPageNumber server.table slots page server.config.page_size → OpensPage server slots page o → Opens server (Page slots page) o
-given_page server slots page o number opens = by_test server slots page o true (page_test server slots page number) opens.status opens.length opens.body opens.range
+given_page : (server : Serving) (slots : Slots) (page : ℕ) (o : Opened) → IsPageNumber server.table slots page server.config.page_size → OpensPage server slots page o → OpensNumber server slots page o
+given_page server slots page o number opens = by_test server slots page o true (page_test server slots page number) opens.status opens.media opens.length opens.body opens.range
 
-pub opens_given : {E : Type 0} (server : Serving) (slots : Slots) (page : ℕ) (asking : Asking) (table : Stored) (size : ℕ) (r : Result Opened E) → asking ≡ Page slots page → table ≡ server.table → size ≡ server.config.page_size
-    → IsPageNumber table slots page size → IfOk r (OpensPage server slots page) → IfOk r (Opens server asking)
-opens_given server slots page asking table size (Ok o) is of_table of_size number opens =
-    subst (λ (a : Asking). Opens server a o) (sym is)
-    (given_page server slots page o (subst (λ (t : Stored). IsPageNumber t slots page server.config.page_size) of_table (subst (IsPageNumber table slots page) of_size number)) opens)
-opens_given server slots page asking table size (Err e) is of_table of_size number opens = tt
+pub opens_given : {E : Type 0} (server : Serving) (slots : Slots) (page : ℕ) (table : Stored) (size : ℕ) (r : Result Opened E) → table ≡ server.table → size ≡ server.config.page_size
+    → IsPageNumber table slots page size → IfOk r (OpensPage server slots page) → IfOk r (OpensNumber server slots page)
+opens_given server slots page table size (Ok o) of_table of_size number opens =
+    given_page server slots page o (subst (λ (t : Stored). IsPageNumber t slots page server.config.page_size) of_table (subst (IsPageNumber table slots page) of_size number)) opens
+opens_given server slots page table size (Err e) of_table of_size number opens = tt
 
 past_last : (server : Serving) (slots : Slots) (page : ℕ) → 1 ≤ page → (IsPageNumber server.table slots page server.config.page_size → ⊥) → nat_le page (last_page (data_of server) slots server.config.page_size) ≡ false
 past_last server slots page some none = not_within page (last_page (data_of server) slots server.config.page_size) (λ h. none (record { first = some; last = h }))
@@ -94,14 +113,22 @@ past_last server slots page some none = not_within page (last_page (data_of serv
     not_within : (m n : ℕ) → (m ≤ n → ⊥) → nat_le m n ≡ false
     not_within m n h = grind (arith, h)
 
-past_opened : (server : Serving) (slots : Slots) (page : ℕ) → 1 ≤ page → (IsPageNumber server.table slots page server.config.page_size → ⊥) → Opens server (Page slots page) (status_opened NotFound)
+past_opened : (server : Serving) (slots : Slots) (page : ℕ) → 1 ≤ page → (IsPageNumber server.table slots page server.config.page_size → ⊥) → OpensNumber server slots page (status_opened NotFound)
 unfolding rest_pieces
 past_opened server slots page some none =
-    by_test server slots page (status_opened NotFound) false (past_last server slots page some none) refl (ap (λ (l : List ℕ). length l) (body_is NotFound)) refl tt
+    by_test server slots page (status_opened NotFound) false (past_last server slots page some none) refl refl (ap (λ (l : List ℕ). length l) (body_is NotFound)) refl tt
 
-pub opens_past : (server : Serving) (slots : Slots) (page : ℕ) (asking : Asking) (table : Stored) (size : ℕ) (o : Opened) → asking ≡ Page slots page → table ≡ server.table → size ≡ server.config.page_size
-    → IsAsked asking → (IsPageNumber table slots page size → ⊥) → o ≡ status_opened NotFound → Opens server asking o
-opens_past server slots page asking table size o is of_table of_size asked none opened =
-    let some = (subst IsAsked is asked).1 in
+pub opens_past : (server : Serving) (slots : Slots) (page : ℕ) (table : Stored) (size : ℕ) (o : Opened) → table ≡ server.table → size ≡ server.config.page_size
+    → 1 ≤ page → (IsPageNumber table slots page size → ⊥) → o ≡ status_opened NotFound → OpensNumber server slots page o
+opens_past server slots page table size o of_table of_size some none opened =
     let no = subst (λ (n : ℕ). IsPageNumber server.table slots page n → ⊥) of_size (subst (λ (t : Stored). IsPageNumber t slots page size → ⊥) of_table none) in
-    subst (λ (a : Asking). Opens server a o) (sym is) (subst (Opens server (Page slots page)) (sym opened) (past_opened server slots page some no))
+    subst (OpensNumber server slots page) (sym opened) (past_opened server slots page some no)
+
+number_opened : (config : Config) (version : Version) (slots : Slots) (page : ℕ) (o : Opened) → OpensNumber (served version config) slots page o → Opens config (Page slots page version) o
+unfolding answer_of body_pieces
+number_opened config version slots page o opens = record { status = opens.status; media = opens.media; length = opens.length; body = opens.body; range = opens.range }
+
+pub opens_number : {E : Type 0} (config : Config) (version : Version) (slots : Slots) (page : ℕ) (asking : Asking) (r : Result Opened E) → asking ≡ Page slots page version
+    → IfOk r (OpensNumber (served version config) slots page) → IfOk r (Opens config asking)
+opens_number config version slots page asking (Ok o) is opens = subst (λ (a : Asking). Opens config a o) (sym is) (number_opened config version slots page o opens)
+opens_number config version slots page asking (Err e) is opens = tt

@@ -14,13 +14,12 @@ use Rattle.triple_table.specs.Rows.{id_triple_of}
 use Rattle.triple_table.specs.Stored.{Stored, IsRange, listed, rows_in, triple_at, triples_in}
 use Rattle.fragment_pages.specs.declared.view.PageView.{PageView}
 use Rattle.fragment_pages.specs.Pages.{IsPage, IsPageNumber, shown}
-use Rattle.template_fill.specs.Metadata.{Config, page_metadata, topic_quads, form_quads, mapping_quads, count_quads, link_quads}
-use Rattle.template_fill.specs.Bodies.{in_default_graph, page_body, page_quads}
-use Rattle.tpf_base.specs.HttpAnswer.{Answer}
-use Rattle.template_fill.specs.Answers.{page_answer, refusal}
+use Rattle.template_fill.specs.Metadata.{Config, page_metadata, topic_quads, form_quads, mapping_quads, count_quads, link_quads, version_quads, metadata_at, page_addresses}
+use Rattle.template_fill.specs.Bodies.{in_default_graph}
 use Rattle.tpf_server.specs.Lines.{quad_lines, triple_lines}
 use Rattle.tpf_server.specs.PageRests.{IsPart, page_pieces}
 use Rattle.tpf_server.specs.Serving.{Serving, data_of}
+use Rattle.tpf_server.specs.Asked.{body_at, quads_at}
 use Rattle.tpf_server.specs.Opened.{page_lines}
 
 -- ---- a part of a range
@@ -96,24 +95,24 @@ lines_join triples quads = map-append canonical_line (map in_default_graph tripl
 
 module _ (server : Serving) (slots : Slots) (page : ℕ) where
   pub page_lines_are : (range : Range) (quads : List Quad) → listed server.table range ≡ page_of (data_of server) slots page server.config.page_size
-      → quads ≡ page_metadata server.config slots page (length (fragment (data_of server) slots)) 1
-      → page_pieces server.table (record { triples = range; quads = quads }) ≡ page_lines server slots page
+      → quads ≡ page_metadata server.config slots page (length (fragment (data_of server) slots)) server.version
+      → page_pieces (record { table = server.table; triples = range; quads = quads }) ≡ page_lines server slots page
   unfolding page_pieces page_lines
   page_lines_are range quads same meta =
       ap₂ (λ (l : List Triple) (qs : List Quad). triple_lines l ++ quad_lines qs) same meta
-      ∙ sym (lines_join (page_of (data_of server) slots page server.config.page_size) (page_metadata server.config slots page (length (fragment (data_of server) slots)) 1))
+      ∙ sym (lines_join (page_of (data_of server) slots page server.config.page_size) (page_metadata server.config slots page (length (fragment (data_of server) slots)) server.version))
 
-  pub body_is_lines : page_body (data_of server ∷ []) 1 server.config slots page ≡ concat (page_lines server slots page)
-  unfolding page_body page_lines
-  body_is_lines = canon_is (page_quads (data_of server ∷ []) 1 server.config slots page)
+  pub body_is_lines : body_at server slots page ≡ concat (page_lines server slots page)
+  unfolding body_at page_lines
+  body_is_lines = canon_is (quads_at server slots page)
 
   pub page_length : (range : Range) (quads : List Quad) (a b : ℕ) → listed server.table range ≡ page_of (data_of server) slots page server.config.page_size
-      → quads ≡ page_metadata server.config slots page (length (fragment (data_of server) slots)) 1
+      → quads ≡ page_metadata server.config slots page (length (fragment (data_of server) slots)) server.version
       → a ≡ length (concat (triple_lines (listed server.table range))) → b ≡ length (concat (quad_lines quads))
-      → a + b ≡ length (page_body (data_of server ∷ []) 1 server.config slots page)
+      → a + b ≡ length (body_at server slots page)
   unfolding page_pieces
   page_length range quads a b same meta of_triples of_quads =
-      let whole : concat (triple_lines (listed server.table range)) ++ concat (quad_lines quads) ≡ page_body (data_of server ∷ []) 1 server.config slots page =
+      let whole : concat (triple_lines (listed server.table range)) ++ concat (quad_lines quads) ≡ body_at server slots page =
       sym (concat_more (triple_lines (listed server.table range)) (quad_lines quads)) ∙ ap concat (page_lines_are range quads same meta) ∙ sym body_is_lines in
       omega (arith, of_triples, of_quads, length-append (concat (triple_lines (listed server.table range))) (concat (quad_lines quads)), ap (λ (l : List ℕ). length l) whole)
 
@@ -140,12 +139,16 @@ count_few : (graph page first : List ℕ) (count : ℕ) → length (count_quads 
 unfolding count_quads
 count_few graph page first count = refl
 
-joined_few : (a b c d e f g h : List Quad) → length a ≡ 3 → length b ≡ 2 → length c ≡ 3 → length d ≡ 3 → length e ≡ 3 → length f ≡ 4 → length g ≤ 1 → length h ≤ 1
-    → length (a ++ b ++ c ++ d ++ e ++ f ++ g ++ h) ≤ 20
-joined_few a b c d e f g h ha hb hc hd he hf hg hh =
-    omega (arith, ha, hb, hc, hd, he, hf, hg, hh, length-append a b, length-append (a ++ b) c, length-append (a ++ b ++ c) d, length-append (a ++ b ++ c ++ d) e, length-append (a ++ b ++ c ++ d ++ e) f, length-append (a ++ b ++ c ++ d ++ e ++ f) g, length-append (a ++ b ++ c ++ d ++ e ++ f ++ g) h)
+version_few : (graph base : List ℕ) (version : ℕ) → length (version_quads graph base version) ≡ 1
+unfolding version_quads
+version_few graph base version = refl
 
-pub metadata_few : (config : Config) (slots : Slots) (k count version : ℕ) → length (page_metadata config slots k count version) ≤ 20
-unfolding page_metadata
+joined_few : (a b c d e f g h i : List Quad) → length a ≡ 3 → length b ≡ 2 → length c ≡ 3 → length d ≡ 3 → length e ≡ 3 → length f ≡ 4 → length g ≤ 1 → length h ≤ 1 → length i ≡ 1
+    → length (a ++ b ++ c ++ d ++ e ++ f ++ g ++ h ++ i) ≤ 21
+joined_few a b c d e f g h i ha hb hc hd he hf hg hh hi =
+    omega (arith, ha, hb, hc, hd, he, hf, hg, hh, hi, length-append a b, length-append (a ++ b) c, length-append (a ++ b ++ c) d, length-append (a ++ b ++ c ++ d) e, length-append (a ++ b ++ c ++ d ++ e) f, length-append (a ++ b ++ c ++ d ++ e ++ f) g, length-append (a ++ b ++ c ++ d ++ e ++ f ++ g) h, length-append (a ++ b ++ c ++ d ++ e ++ f ++ g ++ h) i)
+
+pub metadata_few : (config : Config) (slots : Slots) (k count version : ℕ) → length (page_metadata config slots k count version) ≤ 21
+unfolding page_metadata metadata_at page_addresses
 metadata_few config slots k count version =
-    joined_few _ _ _ _ _ _ _ _ (topic_few _ _ _ _) (form_few _ _) (mapping_few _ _ _) (mapping_few _ _ _) (mapping_few _ _ _) (count_few _ _ _ _) (link_few _ _ _ _ _) (link_few _ _ _ _ _)
+    joined_few _ _ _ _ _ _ _ _ _ (topic_few _ _ _ _) (form_few _ _) (mapping_few _ _ _) (mapping_few _ _ _) (mapping_few _ _ _) (count_few _ _ _ _) (link_few _ _ _ _ _) (link_few _ _ _ _ _) (version_few _ _ _)

@@ -11,14 +11,14 @@ use Rattle.triple_table.specs.declared.ids.Range.{Range}
 use Rattle.triple_table.specs.Rows.{id_triple_of}
 use Rattle.triple_table.specs.Stored.{Stored, listed, rows_in, triple_at}
 use Rattle.template_fill.specs.Bodies.{in_default_graph}
-use Rattle.template_fill.specs.Answers.{refusal}
+use Rattle.template_fill.specs.HttpAnswer.{refusal}
 use Rattle.tpf_server.specs.declared.status.Status.{Status}
 use Rattle.tpf_server.specs.Statuses.{code}
 use Rattle.tpf_server.specs.Lines.{quad_lines, triple_line, triple_lines}
 use Rattle.tpf_server.specs.Given.{IsGiven}
 use Rattle.tpf_server.specs.PageRests.{IsPart, PageLines, page_left, page_pieces}
 use Rattle.tpf_server.specs.declared.rest.Rest.{Rest}
-use Rattle.tpf_server.specs.declared.rest.Rest.TheVariants.{Nothing, Line, Page}
+use Rattle.tpf_server.specs.declared.rest.Rest.TheVariants.{Nothing, Line, Words, Page}
 use Rattle.tpf_server.specs.Rests.{is_left, rest_pieces}
 use Rattle.tpf_server.proofs.LineLengths.{drop_at}
 
@@ -69,29 +69,29 @@ part_passed s range part some =
       lists = omega (arith, next, part.lists, some);
     }
 
-pub page_passed : (s : Stored) (range : Range) (quads : List Quad) (p : PageLines) → record { triples = range; quads = quads } ≡ p → IsPart s p.triples → p.triples.from < p.triples.to → IsPart s (passed range)
+pub page_passed : (s : Stored) (range : Range) (quads : List Quad) (p : PageLines) → record { table = s; triples = range; quads = quads } ≡ p → IsPart p.table p.triples → p.triples.from < p.triples.to → IsPart s (passed range)
 page_passed s range quads p same part some =
-    part_passed s range (subst (λ (x : PageLines). IsPart s x.triples) (sym same) part) (subst (λ (x : PageLines). x.triples.from < x.triples.to) (sym same) some)
+    part_passed s range (subst (λ (x : PageLines). IsPart x.table x.triples) (sym same) part) (subst (λ (x : PageLines). x.triples.from < x.triples.to) (sym same) some)
 
-pub given_triple : (s : Stored) (range : Range) (quads : List Quad) (p : PageLines) (t : Triple) (before after : List ℕ) → record { triples = range; quads = quads } ≡ p
-    → p.triples.from < p.triples.to → length (listed s p.triples) ≡ p.triples.to - p.triples.from
+pub given_triple : (s : Stored) (range : Range) (quads : List Quad) (p : PageLines) (t : Triple) (before after : List ℕ) → record { table = s; triples = range; quads = quads } ≡ p
+    → p.triples.from < p.triples.to → length (listed p.table p.triples) ≡ p.triples.to - p.triples.from
     → ((d : Triple) → slice_index_or (listed s range) 0 d ≡ t) → after ≡ before ++ canonical_line (in_default_graph t)
-    → IsGiven (page_pieces s p) (page_pieces s (record { triples = passed range; quads = quads })) before after
+    → IsGiven (page_pieces p) (page_pieces (record { table = s; triples = passed range; quads = quads })) before after
 unfolding page_pieces
 given_triple s range quads p t before after same some count is appended = record {
   piece = triple_line t;
   pieces =
-      ap (λ (x : PageLines). triple_lines (listed s x.triples) ++ quad_lines x.quads) (sym same)
+      ap (λ (x : PageLines). triple_lines (listed x.table x.triples) ++ quad_lines x.quads) (sym same)
       ∙ ap (λ (l : List Triple). triple_lines l ++ quad_lines quads)
-      (next_listed s range t (subst (λ (x : PageLines). x.triples.from < x.triples.to) (sym same) some) (subst (λ (x : PageLines). length (listed s x.triples) ≡ x.triples.to - x.triples.from) (sym same) count)
+      (next_listed s range t (subst (λ (x : PageLines). x.triples.from < x.triples.to) (sym same) some) (subst (λ (x : PageLines). length (listed x.table x.triples) ≡ x.triples.to - x.triples.from) (sym same) count)
       ∙ ap (λ (x : Triple). x ∷ listed s (passed range)) (is t));
   appended = appended;
 }
 
-pub given_quad : (s : Stored) (range : Range) (quads : List Quad) (i : ℕ) (p : PageLines) (q : Quad) (before after : List ℕ) → record { triples = range; quads = drop i quads } ≡ p
+pub given_quad : (s : Stored) (range : Range) (quads : List Quad) (i : ℕ) (p : PageLines) (q : Quad) (before after : List ℕ) → record { table = s; triples = range; quads = drop i quads } ≡ p
     → p.triples.to ≤ p.triples.from → 0 < length p.quads
     → q ≡ slice_index_or quads i q → after ≡ before ++ canonical_line q
-    → IsGiven (page_pieces s p) (page_pieces s (record { triples = range; quads = drop (i + 1) quads })) before after
+    → IsGiven (page_pieces p) (page_pieces (record { table = s; triples = range; quads = drop (i + 1) quads })) before after
 unfolding page_pieces
 given_quad s range quads i p q before after same none some is appended =
     let over : range.to ≤ range.from = subst (λ (x : PageLines). x.triples.to ≤ x.triples.from) (sym same) none in
@@ -101,22 +101,26 @@ given_quad s range quads i p q before after same none some is appended =
     record {
       piece = canonical_line q;
       pieces =
-          ap (λ (x : PageLines). triple_lines (listed s x.triples) ++ quad_lines x.quads) (sym same)
+          ap (λ (x : PageLines). triple_lines (listed x.table x.triples) ++ quad_lines x.quads) (sym same)
           ∙ ap (λ (l : List Triple). triple_lines l ++ quad_lines (drop i quads)) (none_listed s range over)
           ∙ ap quad_lines (drop_at quads i q within ∙ ap₂ (λ (x : Quad) (n : ℕ). x ∷ drop n quads) (sym is) e)
           ∙ ap (λ (l : List Triple). canonical_line q ∷ (triple_lines l ++ quad_lines (drop (i + 1) quads))) (sym (none_listed s range over));
       appended = appended;
     }
 
-pub given_line : (s : Stored) (rest : Rest) (status : Status) (before after : List ℕ) → rest ≡ Line status → after ≡ before ++ (refusal (code status)).body
-    → IsGiven (rest_pieces s rest) (rest_pieces s Nothing) before after
+pub given_line : (rest : Rest) (status : Status) (before after : List ℕ) → rest ≡ Line status → after ≡ before ++ (refusal (code status)).body
+    → IsGiven (rest_pieces rest) (rest_pieces Nothing) before after
 unfolding rest_pieces
-given_line s rest status before after is appended = record { piece = (refusal (code status)).body; pieces = ap (rest_pieces s) is; appended = appended }
+given_line rest status before after is appended = record { piece = (refusal (code status)).body; pieces = ap rest_pieces is; appended = appended }
 
-pub given_page : (s : Stored) (rest : Rest) (p q : PageLines) (before after : List ℕ) → rest ≡ Page p → IsGiven (page_pieces s p) (page_pieces s q) before after
-    → IsGiven (rest_pieces s rest) (rest_pieces s (Page q)) before after
+pub given_words : (rest : Rest) (text : List ℕ) (before after : List ℕ) → rest ≡ Words text → after ≡ before ++ text → IsGiven (rest_pieces rest) (rest_pieces Nothing) before after
 unfolding rest_pieces
-given_page s rest p q before after is given = record { piece = given.piece; pieces = ap (rest_pieces s) is ∙ given.pieces; appended = given.appended }
+given_words rest text before after is appended = record { piece = text; pieces = ap rest_pieces is; appended = appended }
+
+pub given_page : (rest : Rest) (p q : PageLines) (before after : List ℕ) → rest ≡ Page p → IsGiven (page_pieces p) (page_pieces q) before after
+    → IsGiven (rest_pieces rest) (rest_pieces (Page q)) before after
+unfolding rest_pieces
+given_page rest p q before after is given = record { piece = given.piece; pieces = ap rest_pieces is ∙ given.pieces; appended = given.appended }
 
 -- ---- nothing left
 
@@ -127,17 +131,18 @@ no_quads : (quads : List Quad) → nat_lt 0 (length quads) ≡ false → quads �
 no_quads [] h = refl
 no_quads (q ∷ quads) h = absurd (grind (arith, h))
 
-pub page_done : (s : Stored) (page : PageLines) → page_left page ≡ false → page_pieces s page ≡ []
+pub page_done : (page : PageLines) → page_left page ≡ false → page_pieces page ≡ []
 unfolding page_pieces
-page_done s page h =
+page_done page h =
     let p = or_parts (nat_lt page.triples.from page.triples.to) (nat_lt 0 (length page.quads)) h in
-    ap₂ (λ (l : List Triple) (quads : List Quad). triple_lines l ++ quad_lines quads) (none_listed s page.triples (ltb-false page.triples.from page.triples.to p.0)) (no_quads page.quads p.1)
+    ap₂ (λ (l : List Triple) (quads : List Quad). triple_lines l ++ quad_lines quads) (none_listed page.table page.triples (ltb-false page.triples.from page.triples.to p.0)) (no_quads page.quads p.1)
 
-pub rest_done : (s : Stored) (rest : Rest) → is_left rest ≡ false → rest_pieces s rest ≡ rest_pieces s Nothing
+pub rest_done : (rest : Rest) → is_left rest ≡ false → rest_pieces rest ≡ rest_pieces Nothing
 unfolding rest_pieces
-rest_done s Nothing h = refl
-rest_done s (Line status) h = absurd (true≢false h)
-rest_done s (Page page) h = page_done s page h
+rest_done Nothing h = refl
+rest_done (Line status) h = absurd (true≢false h)
+rest_done (Words text) h = absurd (true≢false h)
+rest_done (Page page) h = page_done page h
 
 below_none : (i : ℕ) → nat_lt i 0 ≡ false
 below_none i = grind arith
@@ -150,9 +155,9 @@ left_is quads zero = refl
 left_is [] (suc i) = below_none (suc i)
 left_is (q ∷ quads) (suc i) = below_suc i (length quads) ∙ left_is quads i
 
-pub left_else : (range : Range) (quads : List Quad) (i : ℕ) (p : PageLines) → record { triples = range; quads = drop i quads } ≡ p → nat_lt range.from range.to ≡ false → nat_lt i (length quads) ≡ page_left p
-left_else range quads i p same none =
+pub left_else : (s : Stored) (range : Range) (quads : List Quad) (i : ℕ) (p : PageLines) → record { table = s; triples = range; quads = drop i quads } ≡ p → nat_lt range.from range.to ≡ false → nat_lt i (length quads) ≡ page_left p
+left_else s range quads i p same none =
     left_is quads i ∙ ap (λ (b : Bool). b || nat_lt 0 (length (drop i quads))) (sym none) ∙ ap page_left same
 
-pub left_then : (range : Range) (quads : List Quad) (p : PageLines) → record { triples = range; quads = quads } ≡ p → nat_lt range.from range.to ≡ true → true ≡ page_left p
-left_then range quads p same some = ap (λ (b : Bool). b || nat_lt 0 (length quads)) (sym some) ∙ ap page_left same
+pub left_then : (s : Stored) (range : Range) (quads : List Quad) (p : PageLines) → record { table = s; triples = range; quads = quads } ≡ p → nat_lt range.from range.to ≡ true → true ≡ page_left p
+left_then s range quads p same some = ap (λ (b : Bool). b || nat_lt 0 (length quads)) (sym some) ∙ ap page_left same

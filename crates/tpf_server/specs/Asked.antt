@@ -1,34 +1,62 @@
 -- What is to be answered, and the answer.
-use Rattle.std.specs.Prelude.{ℕ, ◌≤◌, ◌==◌, Bool, true, false, List, [], ◌∷◌, not, bytes_eq, Option, if◌then◌else◌}
+use Rattle.std.specs.Prelude.{ℕ, ◌≤◌, ◌==◌, Bool, true, false, List, [], ◌∷◌, ◌++◌, not, nat_le, map, length, bytes_eq, Option, Some, None, if◌then◌else◌}
+use Rattle.rdf_terms.specs.declared.term.Quad.{Quad}
+use Rattle.rdf_terms.specs.declared.slots.Slots.{Slots}
+use Rattle.rdf_terms.specs.Canon.{canon}
+use Rattle.rdf_terms.specs.Fragments.{fragment, last_page, page_of}
 use Rattle.template_fill.specs.ReadAddress.{path_of}
 use Rattle.template_fill.specs.Forms.{HasNoBlank}
-use Rattle.tpf_base.specs.HttpAnswer.{Answer}
-use Rattle.template_fill.specs.Answers.{Question, answer_if, page_answer, question_of, refusal}
+use Rattle.template_fill.specs.Metadata.{Config, page_metadata}
+use Rattle.template_fill.specs.Bodies.{in_default_graph}
+use Rattle.template_fill.specs.HttpAnswer.{Answer, NQuads, refusal, text_answer}
+use Rattle.template_fill.specs.Answers.{Question, question_of}
 use Rattle.http_wire.specs.declared.message.Asked.{Asked}
 use Rattle.http_wire.specs.declared.message.Asked.TheVariants.{Get, Head, Other}
 use Rattle.tpf_server.specs.declared.status.Status.{Status}
 use Rattle.tpf_server.specs.declared.status.Status.TheVariants.{BadRequest, HeaderFieldsTooLarge}
 use Rattle.tpf_server.specs.declared.asked.Asking.{Asking}
-use Rattle.tpf_server.specs.declared.asked.Asking.TheVariants.{Refused, Page}
+use Rattle.tpf_server.specs.declared.asked.Asking.TheVariants.{Refused, Reloaded, Page}
 use Rattle.tpf_server.specs.declared.asked.Queued.{Queued}
-use Rattle.tpf_server.specs.Statuses.{code}
-use Rattle.tpf_server.specs.Serving.{Serving, data_of}
+use Rattle.tpf_server.specs.Statuses.{code, version_line}
+use Rattle.tpf_server.specs.Serving.{Serving, served, data_of}
+
+-- the quads of a page, over the data that are served
+abbrev pub quads_at : Serving → Slots → ℕ → List Quad
+quads_at server slots page =
+    map in_default_graph (page_of (data_of server) slots page server.config.page_size)
+    ++ page_metadata server.config slots page (length (fragment (data_of server) slots)) server.version
+
+-- the body of a page
+unfoldable pub body_at : Serving → Slots → ℕ → List ℕ
+body_at server slots page = canon (quads_at server slots page)
+
+-- the page that is asked for, or that it is past the last
+abbrev pub page_answer_at : Serving → Slots → ℕ → Answer
+page_answer_at server slots page =
+    if nat_le page (last_page (data_of server) slots server.config.page_size)
+    then record { status = 200; media_type = NQuads; body = body_at server slots page }
+    else refusal 404
+
+abbrev pub answer_by : Serving → Option Question → Answer
+answer_by server None = refusal 400
+answer_by server (Some question) = page_answer_at server question.slots question.page
 
 -- the answer to what parameters ask for
 unfoldable pub answer_at : Serving → Option Question → Answer
-answer_at server question = answer_if (data_of server ∷ []) 1 server.config question
+answer_at server question = answer_by server question
 
--- the answer of a status, or of a page
-unfoldable pub answer_of : Serving → Asking → Answer
-answer_of server (Refused status) = refusal (code status)
-answer_of server (Page slots page) = page_answer (data_of server ∷ []) 1 server.config (record { slots = slots; page = page })
+-- the answer of a status, of a reload, or of a page of a version
+unfoldable pub answer_of : Config → Asking → Answer
+answer_of config (Refused status) = refusal (code status)
+answer_of config (Reloaded number) = text_answer 200 (version_line number)
+answer_of config (Page slots page snapshot) = page_answer_at (served snapshot config) slots page
 
 -- the answer to a GET or HEAD for a target
 unfoldable pub answer_for_target : Serving → List ℕ → Answer
 answer_for_target server target =
     if not (bytes_eq (path_of target) server.config.base.path) then refusal 404 else answer_at server (question_of target)
 
--- the answer to a request of a method for a target
+-- the answer to a request of a method for a target, that is not a reload
 unfoldable pub answer_for : Serving → Asked → List ℕ → Answer
 answer_for server Other target = refusal 405
 answer_for server Get target = answer_for_target server target
@@ -40,6 +68,12 @@ is_head Get = false
 is_head Head = true
 is_head Other = false
 
+-- another method than GET and HEAD
+abbrev pub is_other : Asked → Bool
+is_other Get = false
+is_other Head = false
+is_other Other = true
+
 -- the status with which a head is refused
 abbrev pub refused_with : ℕ → Status
 refused_with status = if status == 431 then HeaderFieldsTooLarge else BadRequest
@@ -47,4 +81,5 @@ refused_with status = if status == 431 then HeaderFieldsTooLarge else BadRequest
 -- the page has a number above 0, and slots without a blank node
 abbrev pub IsAsked : Asking → Type 0
 IsAsked (Refused status) = Unit {0}
-IsAsked (Page slots page) = HasNoBlank slots × (1 ≤ page)
+IsAsked (Reloaded number) = Unit {0}
+IsAsked (Page slots page snapshot) = HasNoBlank slots × (1 ≤ page)

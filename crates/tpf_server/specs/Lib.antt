@@ -6,6 +6,9 @@ pub mod Opened
 pub mod Owed
 pub mod PageRests
 pub mod Parameters
+pub mod Read
+pub mod Reading
+pub mod Reloads
 pub mod Rests
 pub mod Serving
 pub mod Statuses

@@ -5,14 +5,15 @@ use Rattle.triple_table.specs.declared.ids.Range.{Range}
 use Rattle.triple_table.specs.Stored.{Stored, IsRange, listed}
 use Rattle.tpf_server.specs.Lines.{quad_lines, triple_lines}
 
--- the triples of a page that are left, and the quads of its metadata
+-- the table, its triples on the page that are left, and the quads of the page's metadata
 pub record PageLines : Type 0 where
+  pub table : Stored
   pub triples : Range
   pub quads : List Quad
 
 -- their lines
-unfoldable pub page_pieces : Stored → PageLines → List (List ℕ)
-page_pieces table page = triple_lines (listed table page.triples) ++ quad_lines page.quads
+unfoldable pub page_pieces : PageLines → List (List ℕ)
+page_pieces page = triple_lines (listed page.table page.triples) ++ quad_lines page.quads
 
 abbrev pub page_left : PageLines → Bool
 page_left page = nat_lt page.triples.from page.triples.to || nat_lt 0 (length page.quads)

@@ -1,25 +1,36 @@
 // What a request asks for.
-ghost use Rattle.std.specs.Prelude.{◌≡◌, ◌≤◌, ◌+◌, ◌^◌, ℕ, Some, None, bytes_eq, drop, length, is_some, IfOk, [], true, false};
+ghost use Rattle.std.specs.Prelude.{◌≡◌, ◌≤◌, ◌+◌, ◌^◌, ◌&&◌, ℕ, Some, None, bytes_eq, drop, length, is_some, IfOk, [], true, false};
+ghost use Rattle.template_fill.specs.ReadAddress.{path_of};
+ghost use Rattle.template_fill.specs.Answers.{is_path_of_reload};
 ghost use Rattle.tpf_server.specs.Parameters.{page_in, question_in};
-ghost use Rattle.tpf_server.specs.Asked.{IsAsked, answer_at, answer_for, answer_for_target, answer_of, is_head, refused_with};
+ghost use Rattle.tpf_server.specs.Asked.{IsAsked, answer_at, answer_for, answer_for_target, answer_of, is_head, is_other, refused_with};
+ghost use Rattle.tpf_server.specs.Reloads.{outcome_queued};
 
 use crate::Server;
+use crate::outcome::Reloaded;
 use crate::parameters::{PageNumber, Parameters, found_in, page, path_length, slots};
+use crate::snapshot::Snapshot;
 use crate::status::Status;
 use http_wire::{Asked, RequestHead};
 use rdf_terms::Slots;
 use std::alloc::Global;
 use tpf_base::OutOfMemory;
 
-/// What is to be answered: a status without a page, or a page, which may be past the last.
-#[derive(Debug, Drop)]
+/// What is to be answered: a status without a page, the number of the version that a reload reached, or
+/// a page of a version of the data, which may be past the last.
+#[derive(Drop)]
 pub enum Asking {
     Refused(Status),
-    Page { slots: Slots, page: u64 },
+    Reloaded(u64),
+    Page {
+        slots: Slots,
+        page: u64,
+        snapshot: Snapshot,
+    },
 }
 
 /// An answer that is not yet begun.
-#[derive(Debug, Drop)]
+#[derive(Drop)]
 pub struct Queued {
     pub asking: Asking,
     /// The head alone is asked for.
@@ -39,10 +50,14 @@ fn numbered(
     requires number { page_in found.now.page ≡ Some page }
     requires some { 1 ≤ page }
     ensures asked { IfOk result IsAsked }
-    ensures answer { IfOk result (λ asking. answer_of server.now asking ≡ answer_at server.now (question_in found.now)) }
+    ensures answer { IfOk result (λ asking. answer_of server.now.config asking ≡ answer_at server.now (question_in found.now)) }
 {
     match slots(alloc, found)? {
-        Some(slots) => Ok(Asking::Page { slots, page }),
+        Some(slots) => Ok(Asking::Page {
+            slots,
+            page,
+            snapshot: server.share()?,
+        }),
         None => Ok(Asking::Refused(Status::BadRequest)),
     }
 }
@@ -58,7 +73,7 @@ fn are_some(slots: Option<Slots>) -> bool
 fn beyond(alloc: Global, server: &Server, found: &Parameters) -> Result<Asking, OutOfMemory>
     requires { (n : ℕ) × ((page_in found.now.page ≡ Some n) × (2 ^ 64 ≤ n)) }
     ensures asked { IfOk result IsAsked }
-    ensures answer { IfOk result (λ asking. answer_of server.now asking ≡ answer_at server.now (question_in found.now)) }
+    ensures answer { IfOk result (λ asking. answer_of server.now.config asking ≡ answer_at server.now (question_in found.now)) }
 {
     let _triples = server.table().len();
     let _size = server.config().page_size();
@@ -78,7 +93,7 @@ fn asked_by_parameters(
     found: &Parameters,
 ) -> Result<Asking, OutOfMemory>
     ensures asked { IfOk result IsAsked }
-    ensures answer { IfOk result (λ asking. answer_of server.now asking ≡ answer_at server.now (question_in found.now)) }
+    ensures answer { IfOk result (λ asking. answer_of server.now.config asking ≡ answer_at server.now (question_in found.now)) }
 {
     match page(&found.page) {
         PageNumber::Number(page) => numbered(alloc, server, found, page),
@@ -110,7 +125,7 @@ fn query_after(target: &[u8], path: usize) -> &[u8]
 #[tactic(auto, using(crate::proofs::AskedLaws::other_path, crate::proofs::AskedLaws::base_path))]
 fn asked_by_target(alloc: Global, server: &Server, target: &[u8]) -> Result<Asking, OutOfMemory>
     ensures asked { IfOk result IsAsked }
-    ensures answer { IfOk result (λ asking. answer_of server.now asking ≡ answer_for_target server.now target.now) }
+    ensures answer { IfOk result (λ asking. answer_of server.now.config asking ≡ answer_for_target server.now target.now) }
 {
     let path = path_length(target);
     if !is_base(server, &target[..path]) {
@@ -129,7 +144,7 @@ fn asked_for(
     target: &[u8],
 ) -> Result<Asking, OutOfMemory>
     ensures asked { IfOk result IsAsked }
-    ensures answer { IfOk result (λ asking. answer_of server.now asking ≡ answer_for server.now method target.now) }
+    ensures answer { IfOk result (λ asking. answer_of server.now.config asking ≡ answer_for server.now method target.now) }
 {
     match method {
         Asked::Other => Ok(Asking::Refused(Status::MethodNotAllowed)),
@@ -138,10 +153,29 @@ fn asked_for(
     }
 }
 
-/// What a request asks for.
+/// Whether a target has the path of a reload.
+fn is_reload_target(server: &Server, target: &[u8]) -> bool
+    ensures { result ≡ is_path_of_reload server.now.config.reload (path_of target.now) }
+{
+    let path = path_length(target);
+    server.config().is_reload(&target[..path])
+}
+
+/// Whether a request asks for a reload.
+pub fn asks_reload(server: &Server, head: &RequestHead) -> bool
+    ensures { result ≡ (is_other head.now.method && is_path_of_reload server.now.config.reload (path_of head.now.target)) }
+{
+    match head.method {
+        Asked::Get => false,
+        Asked::Head => false,
+        Asked::Other => is_reload_target(server, head.target.as_str().as_bytes()),
+    }
+}
+
+/// What a request asks for that asks for no reload.
 pub fn asked_by(alloc: Global, server: &Server, head: &RequestHead) -> Result<Queued, OutOfMemory>
     ensures asked { IfOk result (λ queued. IsAsked queued.asking) }
-    ensures answer { IfOk result (λ queued. answer_of server.now queued.asking ≡ answer_for server.now head.now.method head.now.target) }
+    ensures answer { IfOk result (λ queued. answer_of server.now.config queued.asking ≡ answer_for server.now head.now.method head.now.target) }
     ensures body { IfOk result (λ queued. queued.without_body ≡ is_head head.now.method) }
     ensures closes { IfOk result (λ queued. queued.closes ≡ head.now.closes) }
 {
@@ -166,5 +200,21 @@ pub fn refused(status: u16) -> Queued
         asking: Asking::Refused(status),
         without_body: false,
         closes: true,
+    }
+}
+
+/// The answer to a request for a reload that came out so.
+pub fn reload_answer(outcome: Reloaded, closes: bool) -> Queued
+    ensures { result ≡ outcome_queued outcome closes }
+{
+    let asking = match outcome {
+        Reloaded::Version(number) => Asking::Reloaded(number),
+        Reloaded::Failed => Asking::Refused(Status::InternalServerError),
+        Reloaded::OutOfMemory => Asking::Refused(Status::ServiceUnavailable),
+    };
+    Queued {
+        asking,
+        without_body: false,
+        closes,
     }
 }

@@ -1,13 +1,19 @@
 // One connection: from the bytes that come to the bytes of the response.
-ghost use Rattle.std.specs.Prelude.{ℕ, ◌≡◌, ◌↔◌, ◌≤◌, ◌+◌, ◌++◌, [], List, true, false, length, take, drop, IsTrue, IsErr, OnOk, OnErr};
+ghost use Rattle.std.specs.Prelude.{ℕ, ◌≡◌, ◌≤◌, ◌<◌, ◌+◌, ◌++◌, [], List, None, true, false, length, take, drop, IsErr, OnOk, OnErr};
 ghost use Rattle.std.specs.List.{AllByRecursion};
+ghost use Rattle.rdf_terms.specs.declared.term.Triple.{Triple};
 ghost use Rattle.list_laws.specs.Begins.{Begins};
 ghost use Rattle.http_wire.specs.Requests.{holding};
-ghost use Rattle.tpf_server.specs.Serving.{Serving};
-ghost use Rattle.tpf_server.specs.Conversation.{Answers, Conversation, Feeds, Makes, Suits, opening, owed_pieces, owed_text, starved_at};
+ghost use Rattle.template_fill.specs.Metadata.{Config};
+ghost use Rattle.template_fill.specs.Answers.{Mark};
+ghost use Rattle.tpf_server.specs.Reading.{is_ended};
+ghost use Rattle.tpf_server.specs.Reloads.{IsOutcome};
+ghost use Rattle.tpf_server.specs.Conversation.{Answers, Conversation, Feeds, Makes, Reloads, closing, opening, owed_pieces, owed_text, owes, starved_at, wants_reload};
 
 use crate::Server;
+use crate::outcome::Reloaded;
 use crate::owed::{Debt, FULL};
+use crate::reading::Reading;
 use http_wire::RequestFeed;
 use std::alloc::Global;
 use std::marker::Model;
@@ -17,60 +23,77 @@ use tpf_base::OutOfMemory;
 /// One connection of a server: it takes the bytes that come and gives those of the response in
 /// pieces. A piece is the head of an answer or one line of a body; no body is made whole.
 ///
-/// Contracts see the bytes of which no head is made yet, what is owed, the bytes that are pending,
-/// whether the connection ends with what is answered, and whether memory was wanting. Each call has
-/// the same server.
+/// A head is answered over the version that the server has when the head is read, also where the
+/// server is reloaded before the answer is made. A request for a reload is not answered, and nothing
+/// behind it is read, until its outcome is told.
+///
+/// Contracts see the bytes of which no head is made yet, what becomes of the heads that come, what is
+/// owed, the bytes that are pending, and whether memory was wanting.
 #[derive(Drop)]
 pub struct Connection {
     alloc: Global,
     requests: RequestFeed,
+    reading: Reading,
     debt: Debt,
     /// Bytes of the response that are made.
     bytes: Vec<u8>,
-    /// How many of them were taken.
+    /// How many of them were taken: at most half.
     given: usize,
-    closing: bool,
     starved: bool,
 }
 
 /// The feed, or a new one that holds no memory: where nothing is held, and where nothing more is read.
-fn kept(alloc: Global, requests: RequestFeed, closes: bool) -> RequestFeed
-    requires { closes ≡ false → requests.refused ≡ None }
-    ensures closed { closes ≡ true → result ≡ holding [] }
-    ensures open_ { closes ≡ false → result ≡ requests }
+fn kept(alloc: Global, requests: RequestFeed, ended: bool) -> RequestFeed
+    requires { ended ≡ false → requests.refused ≡ None }
+    ensures ended { ended ≡ true → result ≡ holding [] }
+    ensures open_ { ended ≡ false → result ≡ requests }
 {
-    if closes || requests.held() == 0 {
+    if ended || requests.held() == 0 {
         RequestFeed::new(alloc)
     } else {
         requests
     }
 }
 
+/// Drops the bytes that were given, where they are more than the others, and tells how many given ones
+/// are left.
+fn compact(bytes: &mut Vec<u8>, given: usize) -> usize
+    requires { given ≤ length bytes.old.items }
+    ensures pending { drop result bytes.new.items ≡ drop given bytes.old.items }
+    ensures half { result + result ≤ length bytes.new.items }
+{
+    if given > bytes.len() - given {
+        bytes.drain(..given);
+        return 0;
+    }
+    given
+}
+
 impl Model for Connection {
-    ghost use Rattle.std.specs.Prelude.{◌≡◌, ◌≤◌, length, drop, None};
+    ghost use Rattle.std.specs.Prelude.{◌≡◌, ◌≤◌, ◌+◌, length, drop, None};
+    ghost use Rattle.tpf_server.specs.Owed.{Fits};
     ghost use Rattle.tpf_server.specs.Conversation as conversations;
 
     ghost Value = { conversations.Conversation };
 
-    ghost view = { λ c. record { unread = c.requests.bytes; rest = c.debt.rest; waiting = c.debt.waiting.items; pending = drop c.given c.bytes.items; closing = c.closing; starved = c.starved } };
+    ghost view = { λ c. record { unread = c.requests.bytes; reading = c.reading; rest = c.debt.rest; waiting = c.debt.waiting.items; pending = drop c.given c.bytes.items; starved = c.starved } };
 
-    ghost invariant = { λ c. (c.given ≤ length c.bytes.items) × (c.requests.refused ≡ None) };
+    ghost invariant = { λ c. (c.given + c.given ≤ length c.bytes.items) × (c.requests.refused ≡ None) × Fits c.debt.rest c.debt.waiting.items };
 }
 
 impl Connection {
     /// A connection on which no byte came. It takes no memory.
     pub fn new(alloc: Global) -> Connection
         ensures opening { result ≡ opening }
-        ensures suits { (server : Serving) → Suits server result }
-        ensures answers { (server : Serving) → Answers server [] [] result }
+        ensures answers { (history : List (List Triple)) (config : Config) → Answers history config [] [] [] result }
     {
         Connection {
             alloc,
             requests: RequestFeed::new(alloc),
+            reading: Reading::Reads,
             debt: Debt::new(alloc),
             bytes: Vec::new(alloc),
             given: 0,
-            closing: false,
             starved: false,
         }
     }
@@ -81,54 +104,67 @@ impl Connection {
         ensures { self.new ≡ record (starved_at self.old) { pending = take pending self.old.pending } }
     {
         self.bytes.truncate(self.given + pending);
+        self.given = compact(&mut self.bytes, self.given);
         self.requests = RequestFeed::new(self.alloc);
+        self.reading = self.reading.when_starved();
         self.debt = Debt::new(self.alloc);
         self.starved = true;
     }
 
-    /// Reads the heads that stand whole.
+    /// Reads the heads that stand whole. Where memory is wanting, what is owed is dropped.
     fn read_on(&mut self, server: &Server, piece: &[u8]) -> Result<(), OutOfMemory>
-        requires open_ { self.old.closing ≡ false }
+        requires reads { self.old.reading ≡ Reading.Reads }
         requires fed { self.old.starved ≡ false }
         ensures ok { OnOk result (Feeds server.now piece.now self.old self.new) }
-        ensures suits { OnOk result (Suits server.now self.old → Suits server.now self.new) }
         ensures pending { self.new.pending ≡ self.old.pending }
-        ensures closing { OnErr result (self.new.closing ≡ self.old.closing) }
+        ensures reading { OnErr result (self.new.reading ≡ self.old.reading) }
     {
         let mut requests = mem::replace(&mut self.requests, RequestFeed::new(self.alloc));
+        let mut debt = mem::replace(&mut self.debt, Debt::new(self.alloc));
         requests.feed(piece)?;
-        let closes = self.debt.read_heads(self.alloc, server, &mut requests)?;
-        self.requests = kept(self.alloc, requests, closes);
-        self.closing = closes;
+        let reading = debt.read_heads(self.alloc, server, &mut requests)?;
+        self.requests = kept(self.alloc, requests, reading.is_ended());
+        self.debt = debt;
+        self.reading = reading;
         Ok(())
+    }
+
+    /// Keeps bytes that are read when the outcome of a reload is known.
+    fn keep(&mut self, server: &Server, piece: &[u8]) -> Result<(), OutOfMemory>
+        requires waits { wants_reload self.old ≡ true }
+        requires fed { self.old.starved ≡ false }
+        ensures ok { OnOk result (Feeds server.now piece.now self.old self.new) }
+        ensures pending { self.new.pending ≡ self.old.pending }
+        ensures reading { OnErr result (self.new.reading ≡ self.old.reading) }
+    {
+        self.requests.feed(piece)
     }
 
     fn read(&mut self, server: &Server, piece: &[u8]) -> Result<(), OutOfMemory>
         ensures ok { OnOk result (Feeds server.now piece.now self.old self.new) }
-        ensures suits { OnOk result (Suits server.now self.old → Suits server.now self.new) }
         ensures pending { self.new.pending ≡ self.old.pending }
-        ensures closing { OnErr result (self.new.closing ≡ self.old.closing) }
+        ensures reading { OnErr result (self.new.reading ≡ self.old.reading) }
         ensures starved { self.old.starved ≡ true → IsErr result }
     {
         if self.starved {
             return Err(OutOfMemory);
         }
-        if self.closing {
-            return Ok(());
+        match self.reading {
+            Reading::Reads => self.read_on(server, piece),
+            Reading::Waits(_) => self.keep(server, piece),
+            Reading::Ended => Ok(()),
         }
-        self.read_on(server, piece)
     }
 
     /// Takes the next bytes of the connection, reads the heads that stand whole, and owes an answer
-    /// to each, up to the first that ends the connection (RFC 9112, section 9.6); what follows that
-    /// head is not read. No body is made.
+    /// to each over the version that is served, up to the first that ends the connection (RFC 9112,
+    /// section 9.6) or asks for a reload. What follows a head that ends the connection is not read;
+    /// what follows a request for a reload is kept until its outcome is told. No body is made.
     ///
     /// `OutOfMemory` comes for want of memory alone. The pending bytes are then as before, all else is
     /// dropped, and each later `feed` and `fill` answers `OutOfMemory`.
     pub fn feed(&mut self, server: &Server, piece: &[u8]) -> Result<(), OutOfMemory>
         ensures ok { OnOk result (Feeds server.now piece.now self.old self.new) }
-        ensures answers { OnOk result ((fed taken : List ℕ) → Answers server.now fed taken self.old → Answers server.now (fed ++ piece.now) taken self.new) }
-        ensures suits { Suits server.now self.old → Suits server.now self.new }
         ensures err { OnErr result (self.new ≡ starved_at self.old) }
         ensures starved { self.old.starved ≡ true → IsErr result }
     {
@@ -140,27 +176,95 @@ impl Connection {
         read
     }
 
-    fn make_on(&mut self, server: &Server) -> Result<(), OutOfMemory>
-        requires suits { Suits server.now self.old }
-        requires fed { self.old.starved ≡ false }
-        ensures ok { OnOk result (Makes server.now self.old self.new) }
-        ensures suits { OnOk result (Suits server.now self.new) }
-        ensures pending { Begins self.old.pending self.new.pending }
-        ensures closing { OnErr result (self.new.closing ≡ self.old.closing) }
+    /// Whether the first head that is not read asks for a reload: its outcome is to be told to
+    /// `reloaded`.
+    pub fn wants_reload(&self) -> bool
+        ensures { result ≡ wants_reload self.now }
     {
-        self.debt
-            .fill(self.alloc, server, self.given, &mut self.bytes)?;
-        self.debt.give_back(self.alloc);
+        self.reading.waits()
+    }
+
+    /// Answers the reload request, and reads the heads behind it. Where memory is wanting, what is owed
+    /// is dropped.
+    fn answer(
+        &mut self,
+        server: &Server,
+        outcome: Reloaded,
+        closes: bool,
+    ) -> Result<(), OutOfMemory>
+        requires waits { self.old.reading ≡ Reading.Waits closes }
+        requires outcome { IsOutcome server.now.version outcome }
+        requires fed { self.old.starved ≡ false }
+        ensures ok { OnOk result (Reloads server.now outcome self.old self.new) }
+        ensures pending { self.new.pending ≡ self.old.pending }
+        ensures reading { OnErr result (self.new.reading ≡ self.old.reading) }
+    {
+        let mut requests = mem::replace(&mut self.requests, RequestFeed::new(self.alloc));
+        let mut debt = mem::replace(&mut self.debt, Debt::new(self.alloc));
+        let reading = debt.read_on(self.alloc, server, outcome, closes, &mut requests)?;
+        self.requests = kept(self.alloc, requests, reading.is_ended());
+        self.debt = debt;
+        self.reading = reading;
+        Ok(())
+    }
+
+    fn answer_reload(&mut self, server: &Server, outcome: Reloaded) -> Result<(), OutOfMemory>
+        requires waits { wants_reload self.old ≡ true }
+        requires outcome { IsOutcome server.now.version outcome }
+        ensures ok { OnOk result (Reloads server.now outcome self.old self.new) }
+        ensures pending { self.new.pending ≡ self.old.pending }
+        ensures reading { OnErr result (self.new.reading ≡ self.old.reading) }
+    {
+        if self.starved {
+            return Err(OutOfMemory);
+        }
+        match self.reading {
+            Reading::Reads => Ok(()),
+            Reading::Waits(closes) => self.answer(server, outcome, closes),
+            Reading::Ended => Ok(()),
+        }
+    }
+
+    /// Answers the reload request that waits by how the reload came out, and reads on over the version
+    /// that is served. A version that was reached is that of the server.
+    ///
+    /// `OutOfMemory` comes for want of memory alone. The pending bytes are then as before, all else is
+    /// dropped, and each later `feed` and `fill` answers `OutOfMemory`.
+    pub fn reloaded(&mut self, server: &Server, outcome: Reloaded) -> Result<(), OutOfMemory>
+        requires waits { wants_reload self.old ≡ true }
+        requires outcome { IsOutcome server.now.version outcome }
+        ensures ok { OnOk result (Reloads server.now outcome self.old self.new) }
+        ensures err { OnErr result (self.new ≡ starved_at self.old) }
+    {
+        let pending = self.pending().len();
+        let answered = self.answer_reload(server, outcome);
+        if answered.is_err() {
+            self.starve(pending);
+        }
+        answered
+    }
+
+    /// Makes pieces. Where memory is wanting, what is owed is dropped.
+    fn make_on(&mut self, server: &Server) -> Result<(), OutOfMemory>
+        requires fed { self.old.starved ≡ false }
+        ensures ok { OnOk result (Makes server.now.config self.old self.new) }
+        ensures pending { Begins self.old.pending self.new.pending }
+        ensures some { OnOk result (owes self.old ≡ true → 0 < length self.new.pending) }
+        ensures reading { OnErr result (self.new.reading ≡ self.old.reading) }
+    {
+        let mut debt = mem::replace(&mut self.debt, Debt::new(self.alloc));
+        debt.fill(self.alloc, server.config(), self.given, &mut self.bytes)?;
+        debt.give_back(self.alloc);
+        self.debt = debt;
         Ok(())
     }
 
     fn make(&mut self, server: &Server) -> Result<(), OutOfMemory>
-        requires { Suits server.now self.old }
-        ensures ok { OnOk result (Makes server.now self.old self.new) }
+        ensures ok { OnOk result (Makes server.now.config self.old self.new) }
         ensures full { 65536 ≤ length self.old.pending → OnOk result (self.new ≡ self.old) }
-        ensures suits { OnOk result (Suits server.now self.new) }
         ensures pending { Begins self.old.pending self.new.pending }
-        ensures closing { OnErr result (self.new.closing ≡ self.old.closing) }
+        ensures some { OnOk result (owes self.old ≡ true → 0 < length self.new.pending) }
+        ensures reading { OnErr result (self.new.reading ≡ self.old.reading) }
         ensures starved { self.old.starved ≡ true → IsErr result }
     {
         if self.starved {
@@ -174,17 +278,17 @@ impl Connection {
 
     /// Makes further bytes of the response, a head or a line of a body at a time, until at least 65536
     /// are pending or nothing is owed. Where as many are pending it changes nothing, so never more are
-    /// pending than 65535 and one head or line (`bounded`).
+    /// pending than 65535 and one head or line (`bounded`). Each answer is made over the version by
+    /// which its head was read; of the server only the configuration is used.
     ///
     /// `OutOfMemory` comes for want of memory alone. The pending bytes are then as before, all else is
     /// dropped, and each later `feed` and `fill` answers `OutOfMemory`.
     pub fn fill(&mut self, server: &Server) -> Result<(), OutOfMemory>
-        requires { Suits server.now self.old }
-        ensures ok { OnOk result (Makes server.now self.old self.new) }
+        ensures ok { OnOk result (Makes server.now.config self.old self.new) }
         ensures full { 65536 ≤ length self.old.pending → OnOk result (self.new ≡ self.old) }
-        ensures answers { OnOk result ((fed taken : List ℕ) → Answers server.now fed taken self.old → Answers server.now fed taken self.new) }
-        ensures bounded { OnOk result ((longest : ℕ) → AllByRecursion (λ piece. length piece ≤ longest) (owed_pieces server.now self.old) → length self.old.pending ≤ 65535 + longest → length self.new.pending ≤ 65535 + longest) }
-        ensures suits { Suits server.now self.new }
+        ensures answers { OnOk result ((history : List (List Triple)) (fed taken : List ℕ) (marks : List Mark) → Answers history server.now.config fed taken marks self.old → Answers history server.now.config fed taken marks self.new) }
+        ensures some { OnOk result (owes self.old ≡ true → 0 < length self.new.pending) }
+        ensures bounded { OnOk result ((longest : ℕ) → AllByRecursion (λ piece. length piece ≤ longest) (owed_pieces server.now.config self.old) → length self.old.pending ≤ 65535 + longest → length self.new.pending ≤ 65535 + longest) }
         ensures err { OnErr result (self.new ≡ starved_at self.old) }
         ensures starved { self.old.starved ≡ true → IsErr result }
     {
@@ -197,10 +301,11 @@ impl Connection {
     }
 
     /// Whether bytes of the response are still to be made: false exactly where what was taken and what
-    /// is pending are the whole response to the bytes that were fed. After want of memory it is true.
+    /// is pending are the whole response to the heads that were read. After want of memory it is true.
     pub fn owes(&self) -> bool
-        ensures owes { (server : Serving) → Suits server self.now → self.now.starved ≡ false → (IsTrue result ↔ (owed_text server self.now ≡ [] → ⊥)) }
-        ensures starved { self.now.starved ≡ true → IsTrue result }
+        ensures owes { result ≡ owes self.now }
+        ensures nothing { result ≡ false → (config : Config) → owed_text config self.now ≡ [] }
+        ensures some { result ≡ true → self.now.starved ≡ false → (config : Config) → owed_text config self.now ≡ [] → ⊥ }
     {
         self.starved || self.debt.is_left()
     }
@@ -225,43 +330,23 @@ impl Connection {
         self.given = 0;
     }
 
-    /// Moves the pending bytes to the front, where they are fewer than those that were taken.
-    fn compact(&mut self)
-        ensures { self.new ≡ self.old }
-    {
-        if self.given > self.bytes.len() - self.given {
-            self.bytes.drain(..self.given);
-            self.given = 0;
-        }
-    }
-
-    fn pass(&mut self, n: usize)
-        requires { n ≤ length self.old.pending }
-        ensures { self.new ≡ record self.old { pending = drop n self.old.pending } }
-    {
-        self.given += n;
-        if self.given == self.bytes.len() {
-            self.release();
-        } else {
-            self.compact();
-        }
-    }
-
     /// Takes the first `n` of the pending bytes, of which there are as many.
-    #[tactic(auto, using(crate::proofs::ConversationLaws::take_answer, crate::proofs::ConversationLaws::take_suits))]
+    #[tactic(auto, using(crate::proofs::ConversationLaws::take_answer))]
     pub fn take(&mut self, n: usize)
         requires { n ≤ length self.old.pending }
         ensures rest { self.new ≡ record self.old { pending = drop n self.old.pending } }
-        ensures answers { (server : Serving) (fed taken : List ℕ) → Answers server fed taken self.old → Answers server fed (taken ++ take n self.old.pending) self.new }
-        ensures suits { (server : Serving) → Suits server self.old → Suits server self.new }
+        ensures answers { (history : List (List Triple)) (config : Config) (fed taken : List ℕ) (marks : List Mark) → Answers history config fed taken marks self.old → Answers history config fed (taken ++ take n self.old.pending) marks self.new }
     {
-        self.pass(n);
+        self.given = compact(&mut self.bytes, self.given + n);
+        if self.given == self.bytes.len() {
+            self.release();
+        }
     }
 
     /// Whether an answer with which the connection ends was given: what is fed later changes nothing.
     pub fn closing(&self) -> bool
-        ensures { result ≡ self.now.closing }
+        ensures { result ≡ closing self.now }
     {
-        self.closing
+        self.reading.is_ended()
     }
 }

@@ -3,20 +3,27 @@ ghost use Rattle.std.specs.Prelude.{ℕ, ◌≡◌, ◌==◌, ◌++◌, codes, O
 ghost use Rattle.http_wire.specs.Fields.{pair_of, pairs_of};
 ghost use Rattle.list_laws.specs.Begins.{Begins};
 ghost use Rattle.tpf_base.specs.Decimals.{decimal_text};
-ghost use Rattle.tpf_base.specs.HttpAnswer.{answer_fields, field_if, head_text, media_type};
-ghost use Rattle.tpf_server.specs.Statuses.{code};
+ghost use Rattle.template_fill.specs.HttpAnswer.{answer_fields, field_if, head_text, media_text};
+ghost use Rattle.tpf_server.specs.Statuses.{code, media_of};
 
 use crate::status::Status;
 use http_wire::{Field, write_head};
 use std::alloc::Global;
 use tpf_base::{OutOfMemory, Text};
 
-fn media_type(status: Status) -> &'static str
-    ensures { result.now ≡ media_type (code status) }
+/// What a body is (RFC 9110, section 8.3.1).
+#[derive(Clone, Copy, Debug, PartialEq, Eq)]
+pub enum MediaType {
+    NQuads,
+    PlainText,
+}
+
+fn media_text(media: MediaType) -> &'static str
+    ensures { result.now ≡ media_text (media_of media) }
 {
-    match status {
-        Status::Success => "application/n-quads",
-        _ => "text/plain",
+    match media {
+        MediaType::NQuads => "application/n-quads",
+        MediaType::PlainText => "text/plain",
     }
 }
 
@@ -57,17 +64,18 @@ fn push_if(
 }
 
 /// The fields of an answer whose body has this length.
-#[tactic(auto, unfolding(tpf_base::specs::HttpAnswer::answer_fields))]
+#[tactic(auto, unfolding(template_fill::specs::HttpAnswer::answer_fields))]
 fn fields(
     alloc: Global,
     status: Status,
+    media: MediaType,
     length: u128,
     closes: bool,
 ) -> Result<Vec<Field>, OutOfMemory>
-    ensures { IfOk result (λ fields. pairs_of fields.items ≡ answer_fields (code status) length closes) }
+    ensures { IfOk result (λ fields. pairs_of fields.items ≡ answer_fields (code status) (media_of media) length closes) }
 {
     let mut fields = Vec::with_capacity(alloc, 4)?;
-    fields.push(field(alloc, "Content-Type", media_type(status))?)?;
+    fields.push(field(alloc, "Content-Type", media_text(media))?)?;
     fields.push(length_field(alloc, length)?)?;
     push_if(
         &mut fields,
@@ -85,13 +93,14 @@ fn fields(
 pub fn write_answer_head(
     alloc: Global,
     status: Status,
+    media: MediaType,
     length: u128,
     closes: bool,
     out: &mut Vec<u8>,
 ) -> Result<(), OutOfMemory>
-    ensures ok { OnOk result (out.new.items ≡ out.old.items ++ head_text (code status) length closes) }
+    ensures ok { OnOk result (out.new.items ≡ out.old.items ++ head_text (code status) (media_of media) length closes) }
     ensures front { Begins out.old.items out.new.items }
 {
-    let fields = fields(alloc, status, length, closes)?;
+    let fields = fields(alloc, status, media, length, closes)?;
     write_head(status.code(), fields.as_slice(), out)
 }

@@ -1,20 +1,22 @@
 // What is owed on a connection: the rest of an answer that was begun, and the answers behind it.
-ghost use Rattle.std.specs.Prelude.{ℕ, ◌≡◌, ◌⊎◌, ◌-◌, ◌≤◌, [], true, None, length, IfOk, OnOk, MatchOption, if◌then◌else◌};
+ghost use Rattle.std.specs.Prelude.{ℕ, ◌≡◌, ◌⊎◌, ◌-◌, ◌≤◌, [], true, false, None, length, IfOk, OnOk, if◌then◌else◌};
 ghost use Rattle.list_laws.specs.Begins.{Begins};
-ghost use Rattle.tpf_base.specs.HttpHeads.{Incomplete, next_request};
-ghost use Rattle.triple_table.specs.Stored.{Stored};
-ghost use Rattle.tpf_server.specs.Serving.{Serving};
 ghost use Rattle.tpf_server.specs.Asked.{IsAsked};
 ghost use Rattle.tpf_server.specs.Given.{IsGiven};
 ghost use Rattle.tpf_server.specs.Rests.{IsWithin, rest_pieces};
-ghost use Rattle.tpf_server.specs.Owed.{Fits, Fills, ReadsHead, ReadsHeads, answer_pieces, debt_left, debt_pieces};
+ghost use Rattle.tpf_server.specs.Owed.{Fits, Fills, answer_pieces, debt_left, debt_pieces};
+ghost use Rattle.tpf_server.specs.Read.{IsQueued, ReadsHead, ReadsHeads};
+ghost use Rattle.tpf_server.specs.Reloads.{ReadsOn};
 
 use crate::Server;
-use crate::asked::{Queued, asked_by, refused};
+use crate::asked::{Queued, asked_by, asks_reload, refused, reload_answer};
 use crate::head::write_answer_head;
+use crate::outcome::Reloaded;
 use crate::pages::open_answer;
+use crate::reading::{HeadRead, Reading};
 use crate::rest::Rest;
-use http_wire::{NextHead, RequestFeed};
+use http_wire::{NextHead, RequestFeed, RequestHead};
+use hydra_controls::Config;
 use std::alloc::Global;
 use std::collections::VecDeque;
 use tpf_base::OutOfMemory;
@@ -40,17 +42,24 @@ fn wanted(without_body: bool, body: Rest) -> Rest
 #[tactic(auto, using(crate::proofs::DebtLaws::begun, crate::proofs::DebtLaws::begun_within, list_laws::proofs::Begins::same_begins))]
 fn begin(
     alloc: Global,
-    server: &Server,
+    config: &Config,
     queued: &Queued,
     out: &mut Vec<u8>,
 ) -> Result<Rest, OutOfMemory>
     requires { IsAsked queued.now.asking }
-    ensures ok { IfOk result (λ rest. IsGiven (answer_pieces server.now queued.now) (rest_pieces server.now.table rest) out.old.items out.new.items) }
-    ensures range { IfOk result (IsWithin server.now.table) }
+    ensures ok { IfOk result (λ rest. IsGiven (answer_pieces config.now queued.now) (rest_pieces rest) out.old.items out.new.items) }
+    ensures range { IfOk result IsWithin }
     ensures front { Begins out.old.items out.new.items }
 {
-    let answer = open_answer(alloc, server, &queued.asking)?;
-    write_answer_head(alloc, answer.status, answer.length, queued.closes, out)?;
+    let answer = open_answer(alloc, config, &queued.asking)?;
+    write_answer_head(
+        alloc,
+        answer.status,
+        answer.media,
+        answer.length,
+        queued.closes,
+        out,
+    )?;
     Ok(wanted(queued.without_body, answer.body))
 }
 
@@ -82,67 +91,103 @@ impl Debt {
         self.rest.is_left() || !self.waiting.is_empty()
     }
 
-    /// Puts the answer to the next head behind the others, and tells whether the connection ends with
-    /// it; `None` where no whole head stands next.
+    /// Puts the answer to a head behind the others, unless it asks for a reload.
+    fn queue(
+        &mut self,
+        alloc: Global,
+        server: &Server,
+        head: &RequestHead,
+    ) -> Result<HeadRead, OutOfMemory>
+        ensures rest { self.new.rest ≡ self.old.rest }
+        ensures ok { IfOk result (IsQueued server.now head.now self.old.waiting.items self.new.waiting.items) }
+    {
+        if asks_reload(server, head) {
+            return Ok(HeadRead::Reload(head.closes));
+        }
+        let answer = asked_by(alloc, server, head)?;
+        self.waiting.push_back(answer)?;
+        Ok(HeadRead::Answered(head.closes))
+    }
+
+    /// Reads the head that stands next, if it stands whole, and puts the answer to it behind the
+    /// others, unless it asks for a reload.
     fn read_head(
         &mut self,
         alloc: Global,
         server: &Server,
         requests: &mut RequestFeed,
-    ) -> Result<Option<bool>, OutOfMemory>
+    ) -> Result<HeadRead, OutOfMemory>
         requires { requests.old.refused ≡ None }
         ensures rest { self.new.rest ≡ self.old.rest }
-        ensures ok { IfOk result (λ read. MatchOption read ((next_request requests.old.bytes ≡ Incomplete) × (requests.new ≡ requests.old) × (self.new.waiting.items ≡ self.old.waiting.items)) (λ last. ReadsHead server.now requests.old.bytes self.old.waiting.items self.new.waiting.items last requests.new)) }
+        ensures ok { IfOk result (λ read. ReadsHead server.now requests.old self.old.waiting.items self.new.waiting.items read requests.new) }
     {
         match requests.next()? {
-            NextHead::More => Ok(None),
+            NextHead::More => Ok(HeadRead::Nothing),
             NextHead::Bad(status) => {
                 self.waiting.push_back(refused(status))?;
-                Ok(Some(true))
+                Ok(HeadRead::Answered(true))
             }
-            NextHead::Head(head) => {
-                let answer = asked_by(alloc, server, &head)?;
-                self.waiting.push_back(answer)?;
-                Ok(Some(head.closes))
-            }
+            NextHead::Head(head) => self.queue(alloc, server, &head),
         }
     }
 
     /// Puts the answers to the heads that stand whole behind the others, up to the first with which
-    /// the connection ends, and tells whether there is one.
+    /// the connection ends or that asks for a reload, and tells how the reading stands.
     pub fn read_heads(
         &mut self,
         alloc: Global,
         server: &Server,
         requests: &mut RequestFeed,
-    ) -> Result<bool, OutOfMemory>
+    ) -> Result<Reading, OutOfMemory>
         requires { requests.old.refused ≡ None }
         ensures rest { self.new.rest ≡ self.old.rest }
-        ensures ok { IfOk result (λ closed. ReadsHeads server.now requests.old.bytes self.old.waiting.items self.new.waiting.items closed requests.new) }
+        ensures ok { IfOk result (λ reading. ReadsHeads server.now requests.old.bytes self.old.waiting.items self.new.waiting.items reading requests.new) }
     {
         loop {
             match self.read_head(alloc, server, requests)? {
-                None => return Ok(false),
-                Some(true) => return Ok(true),
-                Some(false) => {}
+                HeadRead::Nothing => return Ok(Reading::Reads),
+                HeadRead::Reload(closes) => return Ok(Reading::Waits(closes)),
+                HeadRead::Answered(true) => return Ok(Reading::Ended),
+                HeadRead::Answered(false) => {}
             }
         }
     }
 
+    /// Puts the answer to a reload request behind the others, and then those to the heads behind it,
+    /// unless the connection ends with it.
+    pub fn read_on(
+        &mut self,
+        alloc: Global,
+        server: &Server,
+        outcome: Reloaded,
+        closes: bool,
+        requests: &mut RequestFeed,
+    ) -> Result<Reading, OutOfMemory>
+        requires { requests.old.refused ≡ None }
+        ensures rest { self.new.rest ≡ self.old.rest }
+        ensures ok { IfOk result (λ reading. ReadsOn server.now outcome closes requests.old.bytes self.old.waiting.items self.new.waiting.items reading requests.new) }
+    {
+        self.waiting.push_back(reload_answer(outcome, closes))?;
+        if closes {
+            return Ok(Reading::Ended);
+        }
+        self.read_heads(alloc, server, requests)
+    }
+
     /// Appends the next piece.
-    fn give(&mut self, alloc: Global, server: &Server, out: &mut Vec<u8>) -> Result<(), OutOfMemory>
-        requires fits { Fits server.now self.old.rest self.old.waiting.items }
+    fn give(&mut self, alloc: Global, config: &Config, out: &mut Vec<u8>) -> Result<(), OutOfMemory>
+        requires fits { Fits self.old.rest self.old.waiting.items }
         requires left { debt_left self.old.rest self.old.waiting.items ≡ true }
-        ensures ok { OnOk result (IsGiven (debt_pieces server.now self.old.rest self.old.waiting.items) (debt_pieces server.now self.new.rest self.new.waiting.items) out.old.items out.new.items) }
-        ensures fits { OnOk result (Fits server.now self.new.rest self.new.waiting.items) }
+        ensures ok { OnOk result (IsGiven (debt_pieces config.now self.old.rest self.old.waiting.items) (debt_pieces config.now self.new.rest self.new.waiting.items) out.old.items out.new.items) }
+        ensures fits { OnOk result (Fits self.new.rest self.new.waiting.items) }
         ensures front { Begins out.old.items out.new.items }
     {
         if self.rest.is_left() {
-            return self.rest.give(server.table(), out);
+            return self.rest.give(out);
         }
         match self.waiting.pop_front() {
             Some(queued) => {
-                self.rest = begin(alloc, server, &queued, out)?;
+                self.rest = begin(alloc, config, &queued, out)?;
                 Ok(())
             }
             None => Ok(()),
@@ -153,19 +198,19 @@ impl Debt {
     pub fn fill(
         &mut self,
         alloc: Global,
-        server: &Server,
+        config: &Config,
         given: usize,
         out: &mut Vec<u8>,
     ) -> Result<(), OutOfMemory>
-        requires fits { Fits server.now self.old.rest self.old.waiting.items }
+        requires fits { Fits self.old.rest self.old.waiting.items }
         requires given { given ≤ length out.old.items }
-        ensures ok { OnOk result (Fills (debt_pieces server.now self.old.rest self.old.waiting.items) (debt_pieces server.now self.new.rest self.new.waiting.items) given out.old.items out.new.items) }
-        ensures enough { OnOk result ((65536 ≤ length out.new.items - given) ⊎ (debt_pieces server.now self.new.rest self.new.waiting.items ≡ [])) }
-        ensures fits { OnOk result (Fits server.now self.new.rest self.new.waiting.items) }
+        ensures ok { OnOk result (Fills (debt_pieces config.now self.old.rest self.old.waiting.items) (debt_pieces config.now self.new.rest self.new.waiting.items) given out.old.items out.new.items) }
+        ensures enough { OnOk result ((65536 ≤ length out.new.items - given) ⊎ (debt_left self.new.rest self.new.waiting.items ≡ false)) }
+        ensures fits { OnOk result (Fits self.new.rest self.new.waiting.items) }
         ensures front { Begins out.old.items out.new.items }
     {
         while out.len() - given < FULL && self.is_left() {
-            self.give(alloc, server, out)?;
+            self.give(alloc, config, out)?;
         }
         self.rest.settle();
         Ok(())

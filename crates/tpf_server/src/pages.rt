@@ -1,31 +1,35 @@
 // What an answer says, found before any of its body is made.
-ghost use Rattle.std.specs.Prelude.{◌≡◌, ◌-◌, ◌<◌, ◌≤◌, length, IfOk, MatchOption};
+ghost use Rattle.std.specs.Prelude.{ℕ, ◌≡◌, ◌-◌, ◌<◌, ◌≤◌, length, IfOk, MatchOption};
 ghost use Rattle.triple_table.specs.Stored.{listed};
 ghost use Rattle.fragment_pages.specs.Pages.{IsPage, IsPageNumber, shown};
 ghost use Rattle.template_fill.specs.Forms.{HasNoBlank};
-ghost use Rattle.tpf_server.specs.Statuses.{body_text};
+ghost use Rattle.tpf_server.specs.Statuses.{body_text, version_line};
+ghost use Rattle.tpf_server.specs.Serving.{served};
 ghost use Rattle.tpf_server.specs.Asked.{IsAsked};
 ghost use Rattle.tpf_server.specs.PageRests.{IsPart};
-ghost use Rattle.tpf_server.specs.Opened.{Opens, OpensPage};
+ghost use Rattle.tpf_server.specs.Opened.{Opens, OpensNumber, OpensPage};
 
-use crate::Server;
 use crate::asked::Asking;
+use crate::head::MediaType;
 use crate::lines::{quads_length, triples_length};
 use crate::rest::{PageRest, Rest};
+use crate::snapshot::Snapshot;
 use crate::status::Status;
 use fragment_pages::{PageView, page};
-use hydra_controls::metadata;
+use hydra_controls::{Config, metadata};
+use itoa::Buffer;
 use rdf_terms::Slots;
 use std::alloc::Global;
 use std::marker::Brand;
 use std::sync::ledger::{Blank, Ledger};
-use tpf_base::{OutOfMemory, Steps};
+use tpf_base::{OutOfMemory, Steps, Text};
 use triple_table::{Range, Table};
 
-/// The status of an answer, the length of its body, and the body.
-#[derive(Debug, Drop)]
+/// The status of an answer, what its body is, how long it is, and the body.
+#[derive(Drop)]
 pub struct Opened {
     pub status: Status,
+    pub media: MediaType,
     pub length: u128,
     pub body: Rest,
 }
@@ -73,54 +77,100 @@ fn shown(table: &Table, slots: &Slots, number: u64, size: u64, view: &PageView) 
     }
 }
 
-/// The answer that is this page.
+/// The answer that is this page of a version of the data.
 fn open_page(
     alloc: Global,
-    server: &Server,
+    config: &Config,
+    snapshot: &Snapshot,
     slots: &Slots,
     number: u64,
     view: &PageView,
 ) -> Result<Opened, OutOfMemory>
     requires slots { HasNoBlank slots.now }
-    requires number { IsPageNumber server.now.table slots.now number server.now.config.page_size }
-    requires page { IsPage server.now.table slots.now number server.now.config.page_size view.now }
-    ensures { IfOk result (OpensPage server.now slots.now number) }
+    requires number { IsPageNumber snapshot.now.table slots.now number config.now.page_size }
+    requires page { IsPage snapshot.now.table slots.now number config.now.page_size view.now }
+    ensures { IfOk result (OpensPage (served snapshot.now config.now) slots.now number) }
 {
-    let config = server.config();
-    let table = server.table();
+    let table = snapshot.table();
     let triples = shown(table, slots, number, config.page_size(), view);
-    let metadata = metadata(alloc, config, slots, number, view.count)?;
+    let metadata = metadata(alloc, config, slots, number, view.count, snapshot.number())?;
     let length = triples_length(table, &triples) + quads_length(metadata.as_slice());
     Ok(Opened {
         status: Status::Success,
+        media: MediaType::NQuads,
         length,
-        body: Rest::Page(PageRest::new(triples, metadata)),
+        body: Rest::Page(PageRest::new(snapshot.share()?, triples, metadata)),
     })
+}
+
+/// The answer that is this page of a version of the data, or that it is past the last.
+fn open_numbered(
+    alloc: Global,
+    config: &Config,
+    snapshot: &Snapshot,
+    slots: &Slots,
+    number: u64,
+) -> Result<Opened, OutOfMemory>
+    requires slots { HasNoBlank slots.now }
+    requires number { 1 ≤ number }
+    ensures { IfOk result (OpensNumber (served snapshot.now config.now) slots.now number) }
+{
+    match page_view(snapshot.table(), slots, number, config.page_size()) {
+        Some(view) => open_page(alloc, config, snapshot, slots, number, &view),
+        None => Ok(open_status(Status::NotFound)),
+    }
 }
 
 /// The answer of a status without a page.
 fn open_status(status: Status) -> Opened
-    ensures { result ≡ record { status = status; length = length (body_text status); body = Rest.Line status } }
+    ensures { result ≡ record { status = status; media = MediaType.PlainText; length = length (body_text status); body = Rest.Line status } }
 {
     Opened {
         status,
+        media: MediaType::PlainText,
         length: status.body().len() as u128,
         body: Rest::Line(status),
     }
 }
 
+/// The words that tell the number of a version.
+#[tactic(auto, unfolding(crate::specs::Statuses::version_line))]
+fn version_text(alloc: Global, number: u64) -> Result<Text, OutOfMemory>
+    ensures { IfOk result (λ text. text ≡ version_line number) }
+{
+    let mut digits = Buffer::new();
+    let mut words = String::from_str(alloc, "version ")?;
+    words.push_str(digits.format(number))?;
+    words.push_str("\n")?;
+    Ok(Text::from_string(words))
+}
+
+/// The answer to a reload that reached this version.
+fn open_version(alloc: Global, number: u64) -> Result<Opened, OutOfMemory>
+    ensures { IfOk result (λ o. o ≡ record { status = Status.Success; media = MediaType.PlainText; length = length (version_line number); body = Rest.Words (version_line number) }) }
+{
+    let text = version_text(alloc, number)?;
+    Ok(Opened {
+        status: Status::Success,
+        media: MediaType::PlainText,
+        length: text.as_str().len() as u128,
+        body: Rest::Words(text),
+    })
+}
+
 /// The answer to what is asked for.
-pub fn open_answer(alloc: Global, server: &Server, asking: &Asking) -> Result<Opened, OutOfMemory>
+#[tactic(auto, using(crate::proofs::OpenLaws::opens_refused, crate::proofs::OpenLaws::opens_version, crate::proofs::OpenLaws::opens_number))]
+pub fn open_answer(alloc: Global, config: &Config, asking: &Asking) -> Result<Opened, OutOfMemory>
     requires { IsAsked asking.now }
-    ensures { IfOk result (Opens server.now asking.now) }
+    ensures { IfOk result (Opens config.now asking.now) }
 {
     match asking {
         Asking::Refused(status) => Ok(open_status(*status)),
-        Asking::Page { slots, page } => {
-            match page_view(server.table(), slots, *page, server.config().page_size()) {
-                Some(view) => open_page(alloc, server, slots, *page, &view),
-                None => Ok(open_status(Status::NotFound)),
-            }
-        }
+        Asking::Reloaded(number) => open_version(alloc, *number),
+        Asking::Page {
+            slots,
+            page,
+            snapshot,
+        } => open_numbered(alloc, config, snapshot, slots, *page),
     }
 }

@@ -1,23 +1,24 @@
 // What is left of the body of an answer that was begun.
 ghost use Rattle.std.specs.Prelude.{ℕ, ◌≡◌, ◌++◌, ◌∷◌, [], ◌<◌, ◌≤◌, length, drop, false, true, IsTrue, OnOk, ◌↔◌};
 ghost use Rattle.list_laws.specs.Begins.{Begins};
-ghost use Rattle.triple_table.specs.Stored.{Stored};
 ghost use Rattle.tpf_server.specs.Lines.{quad_lines, triple_lines};
 ghost use Rattle.tpf_server.specs.Given.{IsGiven};
 ghost use Rattle.tpf_server.specs.PageRests.{IsPart, page_left, page_pieces};
 ghost use Rattle.tpf_server.specs.Rests.{IsWithin, is_left, rest_pieces};
 
 use crate::lines::write_triple;
+use crate::snapshot::Snapshot;
 use crate::status::Status;
 use nquads_text::write_quad;
 use rdf_terms::Quad;
 use std::marker::Model;
-use tpf_base::OutOfMemory;
-use triple_table::{Range, Table};
+use tpf_base::{OutOfMemory, Text};
+use triple_table::Range;
 
 /// The lines of a page that are left: a range of the table, and then the metadata from a place on.
-#[derive(Debug, Drop)]
+#[derive(Drop)]
 pub struct PageRest {
+    snapshot: Snapshot,
     triples: Range,
     metadata: Vec<Quad>,
     next: usize,
@@ -29,14 +30,15 @@ impl Model for PageRest {
 
     ghost Value = { rests.PageLines };
 
-    ghost view = { λ p. record { triples = p.triples; quads = drop p.next p.metadata.items } };
+    ghost view = { λ p. record { table = p.snapshot.table; triples = p.triples; quads = drop p.next p.metadata.items } };
 }
 
 impl PageRest {
-    pub fn new(triples: Range, metadata: Vec<Quad>) -> PageRest
-        ensures { result ≡ record { triples = triples; quads = metadata.items } }
+    pub fn new(snapshot: Snapshot, triples: Range, metadata: Vec<Quad>) -> PageRest
+        ensures { result ≡ record { table = snapshot.table; triples = triples; quads = metadata.items } }
     {
         PageRest {
+            snapshot,
             triples,
             metadata,
             next: 0,
@@ -52,25 +54,30 @@ impl PageRest {
 
     /// Appends the next line of a triple.
     #[tactic(auto, using(crate::proofs::RestLaws::page_passed, list_laws::proofs::Begins::same_begins))]
-    fn give_triple(&mut self, table: &Table, out: &mut Vec<u8>) -> Result<(), OutOfMemory>
-        requires part { IsPart table.now self.old.triples }
+    fn give_triple(&mut self, out: &mut Vec<u8>) -> Result<(), OutOfMemory>
+        requires part { IsPart self.old.table self.old.triples }
         requires some { self.old.triples.from < self.old.triples.to }
-        ensures ok { OnOk result (IsGiven (page_pieces table.now self.old) (page_pieces table.now self.new) out.old.items out.new.items) }
-        ensures part { IsPart table.now self.new.triples }
+        ensures ok { OnOk result (IsGiven (page_pieces self.old) (page_pieces self.new) out.old.items out.new.items) }
+        ensures part { IsPart self.new.table self.new.triples }
         ensures front { Begins out.old.items out.new.items }
     {
         let _end = self.triples.to;
-        write_triple(table, table.at(&self.triples, 0), out)?;
+        write_triple(
+            self.snapshot.table(),
+            self.snapshot.table().at(&self.triples, 0),
+            out,
+        )?;
         self.triples.from += 1;
         Ok(())
     }
 
     /// Appends the next line of the metadata.
-    fn give_quad(&mut self, table: &Table, out: &mut Vec<u8>) -> Result<(), OutOfMemory>
+    fn give_quad(&mut self, out: &mut Vec<u8>) -> Result<(), OutOfMemory>
         requires none { self.old.triples.to ≤ self.old.triples.from }
         requires some { 0 < length self.old.quads }
-        ensures ok { OnOk result (IsGiven (page_pieces table.now self.old) (page_pieces table.now self.new) out.old.items out.new.items) }
+        ensures ok { OnOk result (IsGiven (page_pieces self.old) (page_pieces self.new) out.old.items out.new.items) }
         ensures range { self.new.triples ≡ self.old.triples }
+        ensures table { self.new.table ≡ self.old.table }
         ensures front { Begins out.old.items out.new.items }
     {
         write_quad(&self.metadata[self.next], out)?;
@@ -79,27 +86,29 @@ impl PageRest {
     }
 
     /// Appends the next line.
-    fn give(&mut self, table: &Table, out: &mut Vec<u8>) -> Result<(), OutOfMemory>
-        requires part { IsPart table.now self.old.triples }
+    fn give(&mut self, out: &mut Vec<u8>) -> Result<(), OutOfMemory>
+        requires part { IsPart self.old.table self.old.triples }
         requires some { page_left self.old ≡ true }
-        ensures ok { OnOk result (IsGiven (page_pieces table.now self.old) (page_pieces table.now self.new) out.old.items out.new.items) }
-        ensures part { IsPart table.now self.new.triples }
+        ensures ok { OnOk result (IsGiven (page_pieces self.old) (page_pieces self.new) out.old.items out.new.items) }
+        ensures part { IsPart self.new.table self.new.triples }
         ensures front { Begins out.old.items out.new.items }
     {
         if self.triples.from < self.triples.to {
-            self.give_triple(table, out)
+            self.give_triple(out)
         } else {
-            self.give_quad(table, out)
+            self.give_quad(out)
         }
     }
 }
 
 /// What is left of a body.
-#[derive(Debug, Drop)]
+#[derive(Drop)]
 pub enum Rest {
     Nothing,
     /// The body of an answer without a page.
     Line(Status),
+    /// The body of the answer to a reload.
+    Words(Text),
     Page(PageRest),
 }
 
@@ -110,17 +119,18 @@ impl Rest {
         match self {
             Rest::Nothing => false,
             Rest::Line(_) => true,
+            Rest::Words(_) => true,
             Rest::Page(page) => page.is_left(),
         }
     }
 
     /// Appends the next line.
     #[tactic(auto, using(crate::proofs::RestLaws::given_page))]
-    pub fn give(&mut self, table: &Table, out: &mut Vec<u8>) -> Result<(), OutOfMemory>
-        requires range { IsWithin table.now self.old }
+    pub fn give(&mut self, out: &mut Vec<u8>) -> Result<(), OutOfMemory>
+        requires range { IsWithin self.old }
         requires some { is_left self.old ≡ true }
-        ensures ok { OnOk result (IsGiven (rest_pieces table.now self.old) (rest_pieces table.now self.new) out.old.items out.new.items) }
-        ensures range { IsWithin table.now self.new }
+        ensures ok { OnOk result (IsGiven (rest_pieces self.old) (rest_pieces self.new) out.old.items out.new.items) }
+        ensures range { IsWithin self.new }
         ensures front { Begins out.old.items out.new.items }
     {
         match self {
@@ -130,15 +140,21 @@ impl Rest {
                 *self = Rest::Nothing;
                 Ok(())
             }
-            Rest::Page(page) => page.give(table, out),
+            Rest::Words(text) => {
+                out.extend_from_slice(text.as_str().as_bytes())?;
+                *self = Rest::Nothing;
+                Ok(())
+            }
+            Rest::Page(page) => page.give(out),
         }
     }
 
     /// Gives the memory of a body back of which nothing is left.
     #[tactic(auto, using(crate::proofs::RestLaws::rest_done))]
     pub fn settle(&mut self)
-        ensures pieces { (table : Stored) → rest_pieces table self.new ≡ rest_pieces table self.old }
-        ensures range { (table : Stored) → IsWithin table self.old → IsWithin table self.new }
+        ensures pieces { rest_pieces self.new ≡ rest_pieces self.old }
+        ensures left { is_left self.new ≡ is_left self.old }
+        ensures range { IsWithin self.old → IsWithin self.new }
     {
         if !self.is_left() {
             *self = Rest::Nothing;

@@ -17,6 +17,10 @@ pub enum Status {
     MethodNotAllowed,
     /// 431
     HeaderFieldsTooLarge,
+    /// 500
+    InternalServerError,
+    /// 503
+    ServiceUnavailable,
 }
 
 impl Status {
@@ -29,6 +33,8 @@ impl Status {
             Status::NotFound => StatusCode::NOT_FOUND,
             Status::MethodNotAllowed => StatusCode::METHOD_NOT_ALLOWED,
             Status::HeaderFieldsTooLarge => StatusCode::REQUEST_HEADER_FIELDS_TOO_LARGE,
+            Status::InternalServerError => StatusCode::INTERNAL_SERVER_ERROR,
+            Status::ServiceUnavailable => StatusCode::SERVICE_UNAVAILABLE,
         }
     }
 
@@ -43,6 +49,8 @@ impl Status {
             Status::NotFound => "404 Not Found\n",
             Status::MethodNotAllowed => "405 Method Not Allowed\n",
             Status::HeaderFieldsTooLarge => "431 Request Header Fields Too Large\n",
+            Status::InternalServerError => "500 Internal Server Error\n",
+            Status::ServiceUnavailable => "503 Service Unavailable\n",
         }
     }
 }

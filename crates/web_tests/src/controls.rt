@@ -12,8 +12,8 @@ use std::test::Fail;
 use template_fill::WebAddress;
 use tpf_base::OutOfMemory;
 
-const LENGTHS: [usize; 18] = [
-    133, 124, 115, 136, 156, 88, 92, 135, 88, 94, 137, 88, 91, 134, 116, 152, 141, 123,
+const LENGTHS: [usize; 19] = [
+    133, 124, 115, 136, 156, 88, 92, 135, 88, 94, 137, 88, 91, 134, 116, 152, 141, 123, 115,
 ];
 
 const FIRST: &[u8] =
@@ -21,6 +21,9 @@ const FIRST: &[u8] =
 
 const SIXTEENTH: &[u8] =
     b"<http://localhost/data> <http://www.w3.org/ns/hydra/core#totalItems> \"0\"^^<http://www.w3.org/2001/XMLSchema#integer> <http://localhost/data#metadata> .\n";
+
+const NINETEENTH: &[u8] =
+    b"<http://localhost/data#dataset> <http://www.w3.org/2002/07/owl#versionInfo> \"1\" <http://localhost/data#metadata> .\n";
 
 fn config(rt: &impl Abort, alloc: Global, base: &str, page_size: u64) -> Result<Config, Fail>
     ensures { IfOk result (λ config. config.page_size ≡ page_size) }
@@ -46,9 +49,9 @@ fn line(alloc: Global, quad: &Quad) -> Result<Vec<u8>, OutOfMemory> {
 }
 
 #[test]
-fn the_first_page_of_no_triples_has_18_lines(rt: HostRuntime) -> Result<(), Fail> {
+fn the_first_page_of_no_triples_has_19_lines(rt: HostRuntime) -> Result<(), Fail> {
     let config = config(&rt, rt.alloc(), "http://localhost/data", 100)?;
-    let quads = metadata(rt.alloc(), &config, &free(), 1, 0)?;
+    let quads = metadata(rt.alloc(), &config, &free(), 1, 0, 1)?;
     assert_eq!(rt; quads.len(), LENGTHS.len());
     for (i, (quad, wanted)) in quads.iter().zip(LENGTHS).enumerate() {
         let text = line(rt.alloc(), quad)?;
@@ -59,11 +62,16 @@ fn the_first_page_of_no_triples_has_18_lines(rt: HostRuntime) -> Result<(), Fail
         if i == 15 {
             assert_eq!(rt; text.as_slice(), SIXTEENTH);
         }
+        if i == 18 {
+            assert_eq!(rt; text.as_slice(), NINETEENTH);
+        }
     }
+    let body = text_of(rt.alloc(), quads.as_slice())?;
+    assert_eq!(rt; body.len(), 2258);
     Ok(())
 }
 
-/// The lines after the first 18: links to other pages.
+/// The lines after the first 18: links to other pages, and the version.
 fn links(alloc: Global, quads: &[Quad]) -> Result<Vec<u8>, OutOfMemory> {
     let mut text = Vec::new(alloc);
     for quad in quads.iter().skip(18) {
@@ -73,20 +81,23 @@ fn links(alloc: Global, quads: &[Quad]) -> Result<Vec<u8>, OutOfMemory> {
 }
 
 const LINKS_OF_1: &[u8] =
-    b"<http://localhost/data> <http://www.w3.org/ns/hydra/core#next> <http://localhost/data?page=2> <http://localhost/data#metadata> .\n";
+    b"<http://localhost/data> <http://www.w3.org/ns/hydra/core#next> <http://localhost/data?page=2> <http://localhost/data#metadata> .\n\
+<http://localhost/data#dataset> <http://www.w3.org/2002/07/owl#versionInfo> \"1\" <http://localhost/data#metadata> .\n";
 
 const LINKS_OF_2: &[u8] =
     b"<http://localhost/data?page=2> <http://www.w3.org/ns/hydra/core#next> <http://localhost/data?page=3> <http://localhost/data?page=2#metadata> .\n\
-<http://localhost/data?page=2> <http://www.w3.org/ns/hydra/core#previous> <http://localhost/data> <http://localhost/data?page=2#metadata> .\n";
+<http://localhost/data?page=2> <http://www.w3.org/ns/hydra/core#previous> <http://localhost/data> <http://localhost/data?page=2#metadata> .\n\
+<http://localhost/data#dataset> <http://www.w3.org/2002/07/owl#versionInfo> \"1\" <http://localhost/data?page=2#metadata> .\n";
 
 const LINKS_OF_3: &[u8] =
-    b"<http://localhost/data?page=3> <http://www.w3.org/ns/hydra/core#previous> <http://localhost/data?page=2> <http://localhost/data?page=3#metadata> .\n";
+    b"<http://localhost/data?page=3> <http://www.w3.org/ns/hydra/core#previous> <http://localhost/data?page=2> <http://localhost/data?page=3#metadata> .\n\
+<http://localhost/data#dataset> <http://www.w3.org/2002/07/owl#versionInfo> \"1\" <http://localhost/data?page=3#metadata> .\n";
 
 #[test]
 fn seven_triples_by_three_have_links_among_three_pages(rt: HostRuntime) -> Result<(), Fail> {
     let config = config(&rt, rt.alloc(), "http://localhost/data", 3)?;
     for (page, wanted) in [(1u64, LINKS_OF_1), (2, LINKS_OF_2), (3, LINKS_OF_3)] {
-        let quads = metadata(rt.alloc(), &config, &free(), page, 7)?;
+        let quads = metadata(rt.alloc(), &config, &free(), page, 7, 1)?;
         let text = links(rt.alloc(), quads.as_slice())?;
         assert_eq!(rt; text.as_slice(), wanted, "page {page}");
     }
@@ -106,13 +117,14 @@ fn text_of(alloc: Global, quads: &[Quad]) -> Result<Vec<u8>, OutOfMemory> {
 fn controls_are_read_back(rt: HostRuntime) -> Result<(), Fail> {
     let config = config(&rt, rt.alloc(), "http://localhost/data", 3)?;
     let address = WebAddress::read(rt.alloc(), "http://localhost/data?page=2")?;
-    let quads = metadata(rt.alloc(), &config, &free(), 2, 7)?;
+    let quads = metadata(rt.alloc(), &config, &free(), 2, 7, 12)?;
     let body = text_of(rt.alloc(), quads.as_slice())?;
     let page = match read_page(rt.alloc(), body.as_slice(), &address) {
         Ok(page) => page,
         Err(_) => return Err(Fail::new("no page")),
     };
     assert_eq!(rt; page.count, 7);
+    assert_eq!(rt; page.version, Some(12));
     assert_eq!(rt; page.triples.as_slice().len(), 0);
     let next = page.next.as_ref().map(|next| next.text());
     assert_eq!(rt; next, Some("http://localhost/data?page=3"));
@@ -133,7 +145,7 @@ fn a_triple_of_the_data_gives_no_count(rt: HostRuntime) -> Result<(), Fail> {
     let config = config(&rt, rt.alloc(), "http://localhost/data", 100)?;
     let address = WebAddress::read(rt.alloc(), "http://localhost/data")?;
     let data = read_all(rt.alloc(), CLAIM, 4194304)?;
-    let controls = metadata(rt.alloc(), &config, &free(), 1, 1)?;
+    let controls = metadata(rt.alloc(), &config, &free(), 1, 1, 1)?;
     let mut body = text_of(rt.alloc(), data.as_slice())?;
     assert_eq!(rt; body.as_slice(), CLAIM);
     body.extend_from_slice(text_of(rt.alloc(), controls.as_slice())?.as_slice())?;
@@ -213,7 +225,7 @@ fn a_hundred_thousand_controls_without_a_form_are_refused(rt: HostRuntime) -> Re
 fn a_form_among_a_hundred_thousand_controls_is_read(rt: HostRuntime) -> Result<(), Fail> {
     let config = config(&rt, rt.alloc(), "http://localhost/data", 100)?;
     let address = WebAddress::read(rt.alloc(), "http://localhost/data")?;
-    let controls = metadata(rt.alloc(), &config, &free(), 1, 0)?;
+    let controls = metadata(rt.alloc(), &config, &free(), 1, 0, 1)?;
     let mut body = text_of(rt.alloc(), controls.as_slice())?;
     body.extend_from_slice(nodes_text(rt.alloc(), NODES)?.as_bytes())?;
     let page = match read_page(rt.alloc(), body.as_slice(), &address) {
@@ -222,5 +234,43 @@ fn a_form_among_a_hundred_thousand_controls_is_read(rt: HostRuntime) -> Result<(
     };
     assert_eq!(rt; page.count, 0);
     assert_eq!(rt; page.form.subject.as_str(), "subject");
+    Ok(())
+}
+
+/// The lines of so many triples.
+fn triples_text(alloc: Global, triples: u32) -> Result<String, Fail> {
+    let mut out = String::new(alloc);
+    for number in 0..triples {
+        let line = format!(in alloc;
+            "<u:{number}> <u:p> \"a longer literal, so that the page is large\" .\n"
+        )?;
+        out.push_str(line.as_str())?;
+    }
+    Ok(out)
+}
+
+#[test]
+fn a_page_of_a_thousand_triples_is_read_back(rt: HostRuntime) -> Result<(), Fail> {
+    let config = config(&rt, rt.alloc(), "http://localhost/data", 1000)?;
+    let address = WebAddress::read(rt.alloc(), "http://localhost/data?page=7000000")?;
+    let controls = metadata(
+        rt.alloc(),
+        &config,
+        &free(),
+        7000000,
+        7000000000,
+        9999999999999999999,
+    )?;
+    let mut body = Vec::new(rt.alloc());
+    body.extend_from_slice(triples_text(rt.alloc(), 1000)?.as_bytes())?;
+    body.extend_from_slice(text_of(rt.alloc(), controls.as_slice())?.as_slice())?;
+    let page = match read_page(rt.alloc(), body.as_slice(), &address) {
+        Ok(page) => page,
+        Err(_) => return Err(Fail::new("no page")),
+    };
+    assert_eq!(rt; page.triples.as_slice().len(), 1000);
+    assert_eq!(rt; page.count, 7000000000);
+    assert!(rt; page.next.is_none());
+    assert_eq!(rt; page.version, Some(9999999999999999999));
     Ok(())
 }

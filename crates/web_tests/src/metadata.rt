@@ -28,10 +28,10 @@ fn free() -> Slots
 }
 
 #[test]
-fn metadata_have_18_to_20_quads(rt: HostRuntime) -> Result<(), Fail> {
+fn metadata_have_19_to_21_quads(rt: HostRuntime) -> Result<(), Fail> {
     let config = config(&rt, rt.alloc(), "http://localhost/data", 3)?;
-    for (page, count, wanted) in [(1u64, 0u64, 18), (1, 7, 19), (2, 7, 20), (3, 7, 19)] {
-        let quads = metadata(rt.alloc(), &config, &free(), page, count)?;
+    for (page, count, wanted) in [(1u64, 0u64, 19), (1, 7, 20), (2, 7, 21), (3, 7, 20)] {
+        let quads = metadata(rt.alloc(), &config, &free(), page, count, 1)?;
         assert_eq!(rt; quads.len(), wanted, "page {page}");
     }
     metadata_is_rdf();
@@ -88,5 +88,41 @@ fn a_config_has_1_to_1000_triples_a_page_and_no_query(rt: HostRuntime) -> Result
             assert_eq!(rt; config.base().text(), "http://localhost/data");
         }
     }
+    Ok(())
+}
+
+#[test]
+fn a_reload_has_a_written_path_beside_that_of_the_base(rt: HostRuntime) -> Result<(), Fail> {
+    let cases = [
+        ("/reload", true),
+        ("/", true),
+        ("/data/", true),
+        ("/data", false),
+        ("reload", false),
+        ("", false),
+        ("/re load", false),
+        ("/reload?", false),
+        ("/reload#", false),
+        ("/re{load}", false),
+        ("/rel\u{e9}ad", false),
+    ];
+    for (path, wanted) in cases {
+        let config = config(&rt, rt.alloc(), "http://localhost/data", 100)?;
+        let config = config.with_reload(Text::copy(rt.alloc(), path)?);
+        assert_eq!(rt; config.is_some(), wanted, "{path}");
+        if let Some(config) = config {
+            assert!(rt; config.is_reload(path.as_bytes()), "{path}");
+            assert!(rt; !config.is_reload(b"/data"), "{path}");
+            assert_eq!(rt; config.page_size(), 100);
+        }
+    }
+    Ok(())
+}
+
+#[test]
+fn without_a_path_nothing_is_a_reload(rt: HostRuntime) -> Result<(), Fail> {
+    let config = config(&rt, rt.alloc(), "http://localhost/data", 100)?;
+    assert!(rt; !config.is_reload(b"/reload"));
+    assert!(rt; !config.is_reload(b""));
     Ok(())
 }

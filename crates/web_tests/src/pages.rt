@@ -6,7 +6,7 @@ use template_fill::WebAddress;
 
 /// The prefixes of the words in the tests.
 const PREFIXES: &str =
-    "hydra:=http://www.w3.org/ns/hydra/core#;void:=http://rdfs.org/ns/void#;rdf:=http://www.w3.org/1999/02/22-rdf-syntax-ns#;foaf:=http://xmlns.com/foaf/0.1/";
+    "hydra:=http://www.w3.org/ns/hydra/core#;void:=http://rdfs.org/ns/void#;rdf:=http://www.w3.org/1999/02/22-rdf-syntax-ns#;foaf:=http://xmlns.com/foaf/0.1/;owl:=http://www.w3.org/2002/07/owl#";
 
 /// A form with the node `_:f`, without its template.
 const FORM: &str =
@@ -51,6 +51,17 @@ fn lines_of(letter: char) -> &'static str {
         'N' => "<http://h/d> hydra:next <http://h/d?page=3> <g:1>",
         'e' => "<http://h/d> hydra:next <http://e/d?page=2> <g:1>",
         'L' => "<http://h/d> hydra:next \"http://h/d?page=2\" <g:1>",
+        // The version: 1, the same in other digits, by another subject and with a datatype, 20 digits, no number, 2 in no
+        // control graph, and 0.
+        '1' => "<d:s> owl:versionInfo \"1\" <g:1>",
+        '2' => "<d:s> owl:versionInfo \"01\" <g:1>",
+        '3' => "<d:t> owl:versionInfo \"1\" <g:1>",
+        '4' => "<d:s> owl:versionInfo \"1\"^^<u:number> <g:1>",
+        '5' => "<d:s> owl:versionInfo \"10000000000000000000\" <g:1>",
+        '6' =>
+            "<d:s> owl:versionInfo \"one\" <g:1>;<d:s> owl:versionInfo <u:1> <g:1>;<d:s> owl:versionInfo \"\" <g:1>",
+        '7' => "<d:s> owl:versionInfo \"2\" <g:2>;<d:s> owl:versionInfo \"2\"",
+        '8' => "<d:s> owl:versionInfo \"0\" <g:1>",
         // Data, data that hold a blank node, and what is no line.
         'd' => "<u:b> <u:p> \"x\";<u:a> <u:p> <u:o>;<u:b> <u:p> \"x\"",
         'b' => "<u:b> <u:p> _:b",
@@ -249,5 +260,24 @@ fn many_forms_with_one_mapping_are_read(rt: HostRuntime) -> Result<(), Fail> {
     let text = shared_mapping(alloc, 2000)?;
     let page = page_of(alloc, text.as_str())?.ok().ok_or("a page")?;
     assert_eq!(rt; page.form.subject.as_str(), "s");
+    Ok(())
+}
+
+/// Bodies by the letters of their lines, and the version that is read.
+const VERSIONS: &str =
+    "tcfm none;tcfm1 1;tcfm2 1;tcfm13 1;tcfm4 1;tcfm8 0;tcfm5 none;tcfm6 none;tcfm7 none;
+tcfm12 none;tcfm14 none;tcfm18 none;tcfm15 1;tcfm16 1;tcfm17 1;tcfm124 none";
+
+#[test]
+fn the_version_is_that_of_the_only_number(rt: HostRuntime) -> Result<(), Fail> {
+    let alloc = rt.alloc();
+    for row in VERSIONS.split(';') {
+        let mut words = row.trim().split(' ');
+        let letters = words.next().ok_or("a row has letters")?;
+        let wanted = words.next().ok_or("a row has a version")?;
+        let text = body_of(alloc, letters)?;
+        let page = page_of(alloc, text.as_str())?.ok().ok_or("a page")?;
+        assert_eq!(rt; page.version, wanted.parse::<u64>().ok(), "{row}");
+    }
     Ok(())
 }

@@ -258,38 +258,50 @@ fn heads_of_replies_over_any_cuts(rt: HostRuntime) -> Result<(), Fail> {
     Ok(())
 }
 
+/// Replies whose peer then sends no more, the bytes behind the media type or the whole, and the answer.
+const CLOSED: [(&str, &str); 3] = [
+    (
+        "HTTP/1.1 200 OK\r\nContent-Type: application/n-quads\r\n\r\nab",
+        "56 ab ends",
+    ),
+    (
+        "HTTP/1.1 200 OK\r\nContent-Type: application/n-quads\r\nContent-Length: 2\r\n\r\na",
+        "more",
+    ),
+    ("HTTP/1.1 2", "more"),
+];
+
 #[test]
 fn a_body_that_runs_to_the_close(rt: HostRuntime) -> Result<(), Fail> {
-    let alloc = rt.alloc();
-    let text = with_ok(alloc, "\r\nab")?;
-    assert_eq!(rt;
-        fed(alloc, 2, &[text.as_bytes()], true)?.as_str(),
-        "56 ab ends"
-    );
-    assert_eq!(rt;
-        by_bytes(alloc, 2, text.as_bytes(), true)?.as_str(),
-        "56 ab ends"
-    );
-    let cut = with_ok(alloc, "Content-Length: 2\r\n\r\na")?;
-    assert_eq!(rt; fed(alloc, 2, &[cut.as_bytes()], true)?.as_str(), "more");
-    assert_eq!(rt; fed(alloc, 2, &[b"HTTP/1.1 2"], true)?.as_str(), "more");
+    for (reply, answer) in CLOSED {
+        let whole = fed(rt.alloc(), 2, &[reply.as_bytes()], true)?;
+        assert_eq!(rt; whole.as_str(), answer);
+        let bytewise = by_bytes(rt.alloc(), 2, reply.as_bytes(), true)?;
+        assert_eq!(rt; bytewise.as_str(), answer);
+    }
     Ok(())
+}
+
+fn is_done_once(alloc: Global, text: &[u8]) -> Result<bool, Fail> {
+    let mut feed = ReplyFeed::new(alloc, 9);
+    let first = feed.feed(text)? == Fed::Done { used: 74 };
+    let later = feed.feed(b"z")? == Fed::Done { used: 0 };
+    Ok(first && later && feed.end() == Fed::Done { used: 0 } && feed.take().is_some())
+}
+
+fn is_refused_for_good(alloc: Global, text: &[u8]) -> Result<bool, Fail> {
+    let bad = Fed::Bad(ReplyFault::Head);
+    let mut feed = ReplyFeed::new(alloc, 9);
+    let first = feed.feed(b"x\n\n")? == bad;
+    let later = feed.feed(text)? == bad;
+    Ok(first && later && feed.end() == bad && feed.take().is_none())
 }
 
 #[test]
 fn answers_stay(rt: HostRuntime) -> Result<(), Fail> {
-    let alloc = rt.alloc();
-    let text = with_ok(alloc, "Content-Length: 1\r\n\r\nxy")?;
-    let mut feed = ReplyFeed::new(alloc, 9);
-    assert_eq!(rt; feed.feed(text.as_bytes())?, Fed::Done { used: 74 });
-    assert_eq!(rt; feed.feed(b"z")?, Fed::Done { used: 0 });
-    assert_eq!(rt; feed.end(), Fed::Done { used: 0 });
-    assert!(rt; feed.take().is_some());
-    let mut bad = ReplyFeed::new(alloc, 9);
-    assert_eq!(rt; bad.feed(b"x\n\n")?, Fed::Bad(ReplyFault::Head));
-    assert_eq!(rt; bad.feed(text.as_bytes())?, Fed::Bad(ReplyFault::Head));
-    assert_eq!(rt; bad.end(), Fed::Bad(ReplyFault::Head));
-    assert!(rt; bad.take().is_none());
+    let text = with_ok(rt.alloc(), "Content-Length: 1\r\n\r\nxy")?;
+    assert!(rt; is_done_once(rt.alloc(), text.as_bytes())?);
+    assert!(rt; is_refused_for_good(rt.alloc(), text.as_bytes())?);
     Ok(())
 }
 
@@ -309,37 +321,44 @@ fn with_run(
     Ok(text)
 }
 
+/// What stands in front of a run of `x`, how long that is, and the answer where an empty line follows.
+const RUNS: [(&str, usize, &str); 7] = [
+    // chunk lines of 1024 and of 1025 bytes
+    (
+        "HTTP/1.1 200 OK\r\nContent-Type: application/n-quads\r\nTransfer-Encoding: chunked\r\n\r\n0;",
+        1020,
+        "1108  keeps",
+    ),
+    (
+        "HTTP/1.1 200 OK\r\nContent-Type: application/n-quads\r\nTransfer-Encoding: chunked\r\n\r\n0;",
+        1021,
+        "framing",
+    ),
+    // trailers of 65536 and of 65537 bytes
+    (
+        "HTTP/1.1 200 OK\r\nContent-Type: application/n-quads\r\nTransfer-Encoding: chunked\r\n\r\n0\r\n",
+        65532,
+        "65621  keeps",
+    ),
+    (
+        "HTTP/1.1 200 OK\r\nContent-Type: application/n-quads\r\nTransfer-Encoding: chunked\r\n\r\n0\r\n",
+        65533,
+        "long",
+    ),
+    // heads of 65536 and of 65537 bytes
+    ("HTTP/1.1 404 x\r\na: ", 65513, "404"),
+    ("HTTP/1.1 404 x\r\na: ", 65514, "long"),
+    // what is no head, of 65536 bytes
+    ("x", 65531, "head"),
+];
+
 #[test]
 fn lines_and_heads_at_their_limits(rt: HostRuntime) -> Result<(), Fail> {
-    let alloc = rt.alloc();
-    let chunked = with_ok(alloc, "Transfer-Encoding: chunked\r\n\r\n")?;
-    // a chunk line of 1024 and of 1025 bytes
-    let line = with_run(alloc, chunked.as_str(), ' ', 0, "0;")?;
-    let most = with_run(alloc, line.as_str(), 'x', 1020, "\r\n\r\n")?;
-    assert_eq!(rt;
-        fed(alloc, 9, &[most.as_bytes()], false)?.as_str(),
-        "1108  keeps"
-    );
-    let more = with_run(alloc, line.as_str(), 'x', 1021, "\r\n\r\n")?;
-    assert_eq!(rt;
-        fed(alloc, 9, &[more.as_bytes()], false)?.as_str(),
-        "framing"
-    );
-    // trailers of 65536 and of 65537 bytes
-    let end = with_run(alloc, chunked.as_str(), ' ', 0, "0\r\n")?;
-    let most = with_run(alloc, end.as_str(), 'x', 65532, "\r\n\r\n")?;
-    assert_eq!(rt;
-        fed(alloc, 9, &[most.as_bytes()], false)?.as_str(),
-        "65621  keeps"
-    );
-    let more = with_run(alloc, end.as_str(), 'x', 65533, "\r\n\r\n")?;
-    assert_eq!(rt; fed(alloc, 9, &[more.as_bytes()], false)?.as_str(), "long");
-    // heads of 65536 and of 65537 bytes
-    let head = "HTTP/1.1 404 x\r\na: ";
-    let most = with_run(alloc, head, 'x', 65536 - 23, "\r\n\r\n")?;
-    assert_eq!(rt; fed(alloc, 9, &[most.as_bytes()], false)?.as_str(), "404");
-    let more = with_run(alloc, head, 'x', 65537 - 23, "\r\n\r\n")?;
-    assert_eq!(rt; fed(alloc, 9, &[more.as_bytes()], false)?.as_str(), "long");
+    for (front, count, answer) in RUNS {
+        let reply = with_run(rt.alloc(), front, 'x', count, "\r\n\r\n")?;
+        let got = fed(rt.alloc(), 9, &[reply.as_bytes()], false)?;
+        assert_eq!(rt; got.as_str(), answer, "{count}");
+    }
     Ok(())
 }
 
@@ -353,20 +372,21 @@ fn padded(alloc: Global, chunks: usize, extension: usize) -> Result<String, Fail
     Ok(text)
 }
 
+/// Two heads that are passed over, the first of 32768 bytes, and the second with so many in its field.
+fn two_interim(alloc: Global, second: usize) -> Result<String, Fail> {
+    let front = "HTTP/1.1 100 x\r\na: ";
+    let first = with_run(alloc, front, 'x', 32745, "\r\n\r\n")?;
+    let later = with_run(alloc, front, 'x', second, "\r\n\r\n")?;
+    fed(alloc, 9, &[first.as_bytes(), later.as_bytes()], false)
+}
+
 #[test]
 fn heads_that_end_at_the_limit(rt: HostRuntime) -> Result<(), Fail> {
-    let alloc = rt.alloc();
-    // what is no head, of 65536 bytes
-    let bad = with_run(alloc, "", 'x', 65534, "\n\n")?;
-    assert_eq!(rt; fed(alloc, 9, &[bad.as_bytes()], false)?.as_str(), "head");
-    // two heads that are passed over, together of 65536 and of 65535 bytes
-    let interim = "HTTP/1.1 100 x\r\na: ";
-    let half = with_run(alloc, interim, 'x', 32768 - 23, "\r\n\r\n")?;
-    let less = with_run(alloc, interim, 'x', 32767 - 23, "\r\n\r\n")?;
-    let both = &[half.as_bytes(), half.as_bytes()];
-    assert_eq!(rt; fed(alloc, 9, both, false)?.as_str(), "long");
-    let fewer = &[half.as_bytes(), less.as_bytes()];
-    assert_eq!(rt; fed(alloc, 9, fewer, false)?.as_str(), "more");
+    // together of 65536 and of 65535 bytes
+    for (second, answer) in [(32745, "long"), (32744, "more")] {
+        let got = two_interim(rt.alloc(), second)?;
+        assert_eq!(rt; got.as_str(), answer);
+    }
     Ok(())
 }
 
@@ -377,37 +397,40 @@ fn answer_to(alloc: Global, chunks: usize, extension: usize, piece: &str) -> Res
     fed(alloc, 9999, &[text.as_bytes(), piece.as_bytes()], false)
 }
 
+/// How many chunks of one byte, how many bytes each has beside it but for its first six, and the answer.
+const CHUNKS: [(usize, usize, &str); 4] = [
+    // each chunk has 1024 bytes beside the one of the body: 1048576 + 8 * n bytes allow 1032
+    (1032, 1018, "more"),
+    (1033, 1018, "long"),
+    // lines of 1000 bytes: 1054 chunks have 1056108 bytes beside the body, where 1057008 are allowed
+    (1054, 996, "more"),
+    (1055, 996, "long"),
+];
+
 #[test]
 fn chunk_lines_are_no_longer_than_the_body_allows(rt: HostRuntime) -> Result<(), Fail> {
-    let alloc = rt.alloc();
-    // each chunk has 1024 bytes beside the one of the body: 1048576 + 8 * n bytes allow 1032
-    assert_eq!(rt; answer_to(alloc, 1032, 1018, "")?.as_str(), "more");
-    assert_eq!(rt; answer_to(alloc, 1033, 1018, "")?.as_str(), "long");
-    // lines of 1000 bytes: 1054 chunks have 1056108 bytes beside the body, where 1057008 are allowed
-    assert_eq!(rt; answer_to(alloc, 1054, 996, "")?.as_str(), "more");
-    assert_eq!(rt; answer_to(alloc, 1055, 996, "")?.as_str(), "long");
+    for (count, extension, answer) in CHUNKS {
+        let got = answer_to(rt.alloc(), count, extension, "")?;
+        assert_eq!(rt; got.as_str(), answer);
+    }
     Ok(())
 }
 
+/// The front of a chunk line, how many `x` follow, and the answer: 900 more bytes are allowed behind 1054 chunks of 996
+/// bytes beside the body.
+const LAST_LINES: [(&str, usize, &str); 3] = [
+    ("1;", 896, "more"),
+    ("1;", 897, "long"),
+    ("g;", 897, "framing"),
+];
+
 #[test]
 fn a_fault_of_a_line_comes_before_its_length(rt: HostRuntime) -> Result<(), Fail> {
-    let alloc = rt.alloc();
-    // 900 more bytes are allowed behind 1054 such chunks
-    let most = with_run(alloc, "1;", 'x', 896, "\r\n")?;
-    assert_eq!(rt;
-        answer_to(alloc, 1054, 996, most.as_str())?.as_str(),
-        "more"
-    );
-    let more = with_run(alloc, "1;", 'x', 897, "\r\n")?;
-    assert_eq!(rt;
-        answer_to(alloc, 1054, 996, more.as_str())?.as_str(),
-        "long"
-    );
-    let bad = with_run(alloc, "g;", 'x', 897, "\r\n")?;
-    assert_eq!(rt;
-        answer_to(alloc, 1054, 996, bad.as_str())?.as_str(),
-        "framing"
-    );
+    for (front, count, answer) in LAST_LINES {
+        let line = with_run(rt.alloc(), front, 'x', count, "\r\n")?;
+        let got = answer_to(rt.alloc(), 1054, 996, line.as_str())?;
+        assert_eq!(rt; got.as_str(), answer);
+    }
     Ok(())
 }
 
@@ -426,20 +449,31 @@ fn has_body(alloc: Global, head: &str, body: &[u8], end: &str) -> Result<bool, F
     Ok(reply.body.as_slice() == body)
 }
 
-#[test]
-fn long_bodies_in_pieces(rt: HostRuntime) -> Result<(), Fail> {
-    let alloc = rt.alloc();
+fn long_body(alloc: Global) -> Result<Vec<u8>, Fail> {
     let mut body = Vec::new(alloc);
     for i in 0..100000u32 {
         body.push((i % 251) as u8)?;
     }
-    let body = body.as_slice();
-    let sized = with_ok(alloc, "Content-Length: 100000\r\n\r\n")?;
-    assert!(rt; has_body(alloc, sized.as_str(), body, "")?);
-    let chunked = with_ok(alloc, "Transfer-Encoding: chunked\r\n\r\n186a0\r\n")?;
-    assert!(rt; has_body(alloc, chunked.as_str(), body, "\r\n0\r\n\r\n")?);
-    let unsized_ = with_ok(alloc, "\r\n")?;
-    assert!(rt; has_body(alloc, unsized_.as_str(), body, "")?);
+    Ok(body)
+}
+
+/// What stands before and behind a body of 100000 bytes that comes by its length, in a chunk, and up to the close.
+const LONG: [(&str, &str); 3] = [
+    ("Content-Length: 100000\r\n\r\n", ""),
+    (
+        "Transfer-Encoding: chunked\r\n\r\n186a0\r\n",
+        "\r\n0\r\n\r\n",
+    ),
+    ("\r\n", ""),
+];
+
+#[test]
+fn long_bodies_in_pieces(rt: HostRuntime) -> Result<(), Fail> {
+    let body = long_body(rt.alloc())?;
+    for (front, end) in LONG {
+        let head = with_ok(rt.alloc(), front)?;
+        assert!(rt; has_body(rt.alloc(), head.as_str(), body.as_slice(), end)?);
+    }
     Ok(())
 }
 
@@ -455,13 +489,10 @@ fn with_fields(alloc: Global, count: usize) -> Result<String, Fail> {
 
 #[test]
 fn replies_with_sixty_four_fields(rt: HostRuntime) -> Result<(), Fail> {
-    let alloc = rt.alloc();
-    let most = with_fields(alloc, 64)?;
-    assert_eq!(rt;
-        fed(alloc, 9, &[most.as_bytes()], false)?.as_str(),
-        "446 x keeps"
-    );
-    let more = with_fields(alloc, 65)?;
-    assert_eq!(rt; fed(alloc, 9, &[more.as_bytes()], false)?.as_str(), "head");
+    for (count, answer) in [(64, "446 x keeps"), (65, "head")] {
+        let reply = with_fields(rt.alloc(), count)?;
+        let got = fed(rt.alloc(), 9, &[reply.as_bytes()], false)?;
+        assert_eq!(rt; got.as_str(), answer);
+    }
     Ok(())
 }

@@ -1,4 +1,4 @@
-use Rattle.http_ends.proofs.Answers.{answers_are_read, answers_have_status, heads_are_short, long_heads_are_refused, server_answers_are_read}
+use Rattle.http_ends.proofs.Answers.{answers_are_read, answers_have_status, heads_are_short, long_heads_are_refused, pages_are_nquads, server_answers_are_read}
 use Rattle.http_ends.proofs.an_answer_is_read.Goals as goal
 
 pub returns-clause-read : goal.returns-clause-read
@@ -15,3 +15,6 @@ returns-clause-status c = answers_have_status
 
 pub returns-clause-server : goal.returns-clause-server
 returns-clause-server c = server_answers_are_read
+
+pub returns-clause-pages : goal.returns-clause-pages
+returns-clause-pages c = pages_are_nquads

@@ -1,11 +1,12 @@
 use Rattle.std.proofs.Common.{◌≡◌, List, ℕ, ◌++◌, ◌∙◌, ap, subst}
 use Rattle.std.specs.Prelude.{OnOk}
 use Rattle.http_wire.specs.Fields.{pairs_of}
+use Rattle.tpf_server.specs.Statuses.{media_of}
 use Rattle.tpf_server.proofs.HeadLaws.{head_is}
 use Rattle.tpf_server.proofs.head.write_answer_head.Goals as goal
 
 pub returns-clause-ok : goal.returns-clause-ok
 returns-clause-ok c =
     subst (λ (x : List ℕ). OnOk c.write_head.result (c.write_head.new.out.items ≡ c.args.out.now.items ++ x))
-    (head_is c.args.status c.code.result c.args.length c.args.closes (pairs_of c.as_slice.result.now) c.code.ensures (ap pairs_of c.as_slice.ensures.value ∙ c.in_ok-fields.ensures))
+    (head_is c.args.status (media_of c.args.media) c.code.result c.args.length c.args.closes (pairs_of c.as_slice.result.now) c.code.ensures (ap pairs_of c.as_slice.ensures.value ∙ c.in_ok-fields.ensures))
     c.write_head.ensures.ok

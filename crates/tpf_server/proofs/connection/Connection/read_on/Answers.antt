@@ -1,8 +1,31 @@
-use Rattle.std.proofs.Common.{drop, ◌∙◌}
-use Rattle.tpf_server.proofs.ConversationLaws.{fed_open, feeds}
+use Rattle.std.proofs.Common.{ap, drop, ◌∙◌}
+use Rattle.http_wire.specs.Requests.{Held}
+use Rattle.tpf_server.specs.declared.owed.Debt.{Debt}
+use Rattle.tpf_server.proofs.ConversationLaws.{conversation, fed_open, feeds}
+use Rattle.tpf_server.proofs.KeptLaws.{heads_fit, heads_open, kept_open, same_fits}
 use Rattle.tpf_server.proofs.connection.Connection.read_on.Goals as goal
+
+pub read_heads-requires : goal.read_heads-requires
+read_heads-requires c =
+    ap (λ (h : Held). h.refused) (c.in_ok-feed.ensures.ok ∙ fed_open c.self.inside.requests c.replace-requests.result c.args.piece.now c.replace-requests.ensures.value c.self.invariant.1)
+
+pub kept-requires : goal.kept-requires
+kept-requires c =
+    heads_open c.args.server.now c.feed.new.self.bytes c.replace-debt.result.waiting.items c.read_heads.new.self.waiting.items c.in_ok-reading.reading c.read_heads.new.requests c.is_ended.result c.is_ended.ensures c.in_ok-reading.ensures.ok
+
+pub invariant_of-self : goal.invariant_of-self
+invariant_of-self c = (
+  c.self.invariant.0,
+  kept_open c.is_ended.result c.kept.result c.read_heads.new.requests c.kept.ensures.ended c.kept.ensures.open_
+      (heads_open c.args.server.now c.feed.new.self.bytes c.replace-debt.result.waiting.items c.read_heads.new.self.waiting.items c.in_ok-reading.reading c.read_heads.new.requests c.is_ended.result c.is_ended.ensures c.in_ok-reading.ensures.ok),
+  heads_fit c.args.server.now c.feed.new.self.bytes c.replace-debt.result.rest c.read_heads.new.self.rest c.replace-debt.result.waiting.items c.read_heads.new.self.waiting.items c.in_ok-reading.reading c.read_heads.new.requests
+      (same_fits c.self.inside.debt.rest c.replace-debt.result.rest c.self.inside.debt.waiting.items c.replace-debt.result.waiting.items (ap (λ (d : Debt). d.rest) c.replace-debt.ensures.value) (ap (λ (d : Debt). d.waiting.items) c.replace-debt.ensures.value) c.self.invariant.2)
+      c.in_ok-reading.ensures.rest c.in_ok-reading.ensures.ok,
+)
 
 pub returns-clause-ok : goal.returns-clause-ok
 returns-clause-ok c =
-    feeds c.args.server.now c.args.piece.now c.self.inside.requests.bytes c.self.inside.debt.rest c.read_heads.new.self.rest c.self.inside.debt.waiting.items c.read_heads.new.self.waiting.items (drop c.self.inside.given c.self.inside.bytes.items) c.self.inside.closing c.self.inside.starved c.in_ok-closes.closes c.feed.new.self c.read_heads.new.requests c.kept.result c.args.self.now
-    c.self.view_is c.requires.open_ c.requires.fed (c.in_ok-feed.ensures.ok ∙ fed_open c.self.inside.requests c.replace-requests.result c.args.piece.now c.replace-requests.ensures.value c.self.invariant.1) c.in_ok-closes.ensures.rest c.in_ok-closes.ensures.ok c.kept.ensures.closed c.kept.ensures.open_
+    feeds c.args.server.now c.args.piece.now c.self.inside.requests.bytes c.replace-debt.result.rest c.read_heads.new.self.rest c.replace-debt.result.waiting.items c.read_heads.new.self.waiting.items (drop c.self.inside.given c.self.inside.bytes.items) c.self.inside.starved
+    c.self.inside.reading c.in_ok-reading.reading c.feed.new.self c.read_heads.new.requests c.kept.result c.args.self.now
+    (ap (λ (d : Debt). conversation c.self.inside.requests.bytes c.self.inside.reading d.rest d.waiting.items (drop c.self.inside.given c.self.inside.bytes.items) c.self.inside.starved) c.replace-debt.ensures.value ∙ c.self.view_is)
+    c.requires.reads c.requires.fed (c.in_ok-feed.ensures.ok ∙ fed_open c.self.inside.requests c.replace-requests.result c.args.piece.now c.replace-requests.ensures.value c.self.invariant.1) c.in_ok-reading.ensures.rest c.in_ok-reading.ensures.ok (λ h. c.kept.ensures.open_ (c.is_ended.ensures ∙ h))

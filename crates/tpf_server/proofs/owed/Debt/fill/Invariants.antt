@@ -5,9 +5,9 @@ use Rattle.tpf_server.proofs.owed.Debt.fill.Given as goal
 
 abbrev pub invariant-loop-self : goal.invariant-loop-self
 invariant-loop-self l =
-    Fills (debt_pieces l.fn.server l.fn.self.rest l.fn.self.waiting.items) (debt_pieces l.fn.server l.self.rest l.self.waiting.items) l.fn.given l.fn.out.items l.out.items
-    × Fits l.fn.server l.self.rest l.self.waiting.items
+    Fills (debt_pieces l.fn.config l.fn.self.rest l.fn.self.waiting.items) (debt_pieces l.fn.config l.self.rest l.self.waiting.items) l.fn.given l.fn.out.items l.out.items
+    × Fits l.self.rest l.self.waiting.items
     × Begins l.fn.out.items l.out.items
 
 abbrev pub decreases-loop-self : goal.decreases-loop-self
-decreases-loop-self l = length (debt_pieces l.fn.server l.self.rest l.self.waiting.items)
+decreases-loop-self l = length (debt_pieces l.fn.config l.self.rest l.self.waiting.items)

@@ -4,9 +4,9 @@ use Rattle.tpf_server.proofs.owed.Debt.give.Goals as goal
 
 pub returns-then-is_left-clause-ok : goal.returns-then-is_left-clause-ok
 returns-then-is_left-clause-ok c =
-    on_ok c.give.result (rest_given c.args.server.now c.table.result.now c.args.self.now.rest c.give.new.self c.args.self.now.waiting.items c.args.out.now.items c.give.new.out.items c.table.ensures) c.give.ensures.ok
+    on_ok c.give.result (rest_given c.args.config.now c.args.self.now.rest c.give.new.self c.args.self.now.waiting.items c.args.out.now.items c.give.new.out.items) c.give.ensures.ok
 
 pub returns-in_ok-self-in-Some-clause-ok : goal.returns-in_ok-self-in-Some-clause-ok
 returns-in_ok-self-in-Some-clause-ok c =
-    answer_given c.args.server.now c.args.self.now.rest c.in_ok-self-in-Some.field-0 c.args.self.now.waiting.items c.pop_front.new.self.items c.in-Some.queued c.args.out.now.items c.begin.new.out.items
+    answer_given c.args.config.now c.args.self.now.rest c.in_ok-self-in-Some.field-0 c.args.self.now.waiting.items c.pop_front.new.self.items c.in-Some.queued c.args.out.now.items c.begin.new.out.items
     (sym c.is_left.ensures ∙ c.if-is_left.false) c.in-Some.ensures.items c.in_ok-self-in-Some.ensures.ok

@@ -1,0 +1,5 @@
+//! Tests of the loop over many connections.
+#![tactic(auto)]
+
+#[cfg(test)]
+mod served;

@@ -1,0 +1,5 @@
+pub mod Talks
+pub mod Lists
+pub mod Calls
+pub mod Wires
+pub mod Waits

@@ -1,0 +1,111 @@
+-- A wire's links behind a slice of them, its counts, and what a call needs.
+use Rattle.std.proofs.Common.{ℕ, zero, suc, ◌≡◌, ◌<◌, ◌≤◌, ◌+◌, ◌++◌, ◌&&◌, ◌==◌, ◌%◌, not, Bool, true, false, List, [], ◌∷◌, length, take, drop, set, get_or, min, Some, refl, ap, sym, subst, ◌∙◌, arith}
+use Rattle.std.specs.List.{AllByRecursion}
+use Rattle.std.proofs.lemmas.List.{append-nil}
+use Rattle.std.proofs.Math.ListN.{drop_of_length-le}
+use Rattle.std.proofs.Math.Seq.{take-length}
+use Rattle.tpf_base.specs.Causes.{counted}
+use Rattle.tpf_base.specs.Failures.{CallCounts, room}
+use Rattle.tpf_base.specs.declared.failing.Failing.{Failing}
+use Rattle.tpf_base.specs.Links.{Receiving, IsRipe, ToSend, ToReceive, is_short}
+use Rattle.tpf_base.specs.declared.wire.Moved.{Moved}
+use Rattle.connections.specs.Kinds.{Kind}
+use Rattle.connections.specs.Versions.{Serving}
+use Rattle.loop_wire.specs.declared.link.LoopLink.{LoopLink}
+use Rattle.loop_wire.specs.Held.{Held, no_link, told, IsHeld, IsKept, Hears, Gives}
+use Rattle.loop_wire.specs.Looped.{held_of, AreKept, IsWire}
+use Rattle.loop_wire.proofs.Calls.{CountsOn}
+use Rattle.loop_wire.proofs.Lists.{length_held}
+
+-- an open link was given
+pub open_below : (links : List Held) (k : ℕ) → (get_or links k no_link).is_open ≡ true → k < length links
+open_below [] k is = absurd cc
+open_below (held ∷ links) zero is = omega (arith)
+open_below (held ∷ links) (suc k) is = omega (arith, open_below links k is)
+
+-- a slice of all items, put back
+pub put_back : {X : Type 0} (items new : List X) (len : ℕ) → length new ≡ length items → len ≡ length items → take len (new ++ drop (length new) items) ≡ new
+put_back items new len same all =
+    let none : drop (length new) items ≡ [] = drop_of_length-le items (omega (arith, same)) in
+    let len' : len ≡ length new = omega (arith, same, all) in
+    rw (none, append-nil, len') (take-length new)
+
+-- ---- counts
+
+pub counts_fine : (old new : CallCounts) (m : ℕ) → new ≡ record old { calls = m } → CountsOn old new
+counts_fine old new m is = rw (is) (record { failing = refl; dials = refl; later = omega arith })
+
+pub faults_fine : (old new : CallCounts) (m : ℕ) → new ≡ record old { calls = m } → new.faults ≡ old.faults
+faults_fine old new m is = ap (λ (c : CallCounts). c.faults) is
+
+pub counts_due : (old mid new : CallCounts) (m : ℕ) → mid ≡ record old { calls = m } → new ≡ record mid { faults = counted mid.faults } → mid.faults ≤ new.faults → CountsOn old new
+counts_due old mid new m is fails later = record {
+  failing = ap (λ (c : CallCounts). c.failing) fails ∙ ap (λ (c : CallCounts). c.failing) is;
+  dials = ap (λ (c : CallCounts). c.dials) fails ∙ ap (λ (c : CallCounts). c.dials) is;
+  later = let same : mid.faults ≡ old.faults = ap (λ (c : CallCounts). c.faults) is in omega (arith, same, later);
+}
+
+pub faults_due : (old mid new : CallCounts) (m : ℕ) → mid ≡ record old { calls = m } → new ≡ record mid { faults = counted mid.faults } → new.faults ≡ counted old.faults
+faults_due old mid new m is fails = ap (λ (c : CallCounts). c.faults) fails ∙ ap (λ (c : CallCounts). counted c.faults) is
+
+-- ---- how many bytes may move
+
+pub some_room : (failing failing' : Failing) (moved there n : ℕ) → failing' ≡ failing → n ≡ room failing' moved there → 0 < room failing moved there → 0 < n
+some_room failing failing' moved there n same is some = let e : n ≡ room failing moved there = is ∙ ap (λ f. room f moved there) same in omega (arith, e, some)
+
+-- ---- stalls
+
+-- a call that stalls was not woken
+pub asleep_as : (stalls woken fourth : Bool) → stalls ≡ (not woken && fourth) → stalls ≡ true → woken ≡ false
+asleep_as stalls true fourth is stalling = absurd cc
+asleep_as stalls false fourth is stalling = refl
+
+pub awake_as : (stalls woken fourth : Bool) → stalls ≡ (not woken && fourth) → woken ≡ true → stalls ≡ false
+awake_as stalls true fourth is woken = is
+awake_as stalls false fourth is woken = absurd cc
+
+-- a link that a wait answered and whose receive stalled is short, since it is ripe
+pub ripe_short : (owes : List ℕ → List ℕ) (h : Held) → IsHeld owes h → h.ripe ≡ true → h.stalled ≡ Some Receiving → is_short (told owes h) ≡ true
+ripe_short owes h held ripe way = elim (held.ripe ripe) [ ToSend up s ↦ absurd cc | ToReceive up s short ↦ short ]
+
+module _ {C Data Settings : Type 0} where
+  pub is_held_at : (kind : Kind C Data Settings) (suits : C → Type 0) (serving : Serving Data Settings) (owes : List ℕ → List ℕ) (links : List (LoopLink C)) (k : ℕ)
+      → AreKept kind suits serving owes links → k < length (held_of links) → IsHeld owes (get_or (held_of links) k no_link)
+  is_held_at kind suits serving owes [] k kept below = absurd (omega arith)
+  is_held_at kind suits serving owes (l ∷ links) zero kept below = kept.0.is_held
+  is_held_at kind suits serving owes (l ∷ links) (suc k) kept below = is_held_at kind suits serving owes links k kept.1 (omega arith)
+
+  pub kept_along : (kind : Kind C Data Settings) (suits : C → Type 0) (serving : Serving Data Settings) (owes : List ℕ → List ℕ) (links seen : List (LoopLink C)) → seen ≡ links
+      → AreKept kind suits serving owes links → AreKept kind suits serving owes seen
+  kept_along kind suits serving owes links seen is kept = let P : List (LoopLink C) → Type 0 = λ ls. AreKept kind suits serving owes ls in subst P (sym is) kept
+
+  pub is_wire_put : (kind : Kind C Data Settings) (suits : C → Type 0) (serving : Serving Data Settings) (owes : List ℕ → List ℕ) (links seen new : List (LoopLink C)) (len : ℕ)
+      → IsWire kind suits serving owes links → seen ≡ links → length new ≡ length seen → len ≡ length links → (AreKept kind suits serving owes seen → AreKept kind suits serving owes new)
+      → IsWire kind suits serving owes (take len (new ++ drop (length new) links))
+  is_wire_put kind suits serving owes links seen new len wire is same all keeps =
+      let P : List (LoopLink C) → Type 0 = λ ls. IsWire kind suits serving owes ls in
+      subst P (sym (put_back links new len (same ∙ ap length is) all)) (record { version = wire.version; kept = keeps (kept_along kind suits serving owes links seen is wire.kept) })
+
+module _ {C : Type 0} where
+  -- what is held, after a call that changed one link by this function
+  pub held_put_by : (f : Held → Held) (k : ℕ) (links seen new : List (LoopLink C)) (len : ℕ) → seen ≡ links → length new ≡ length seen → len ≡ length links
+      → held_of new ≡ set (held_of seen) k (f (get_or (held_of seen) k no_link))
+      → held_of (take len (new ++ drop (length new) links)) ≡ set (held_of links) k (f (get_or (held_of links) k no_link))
+  held_put_by f k links seen new len is same all held =
+      ap held_of (put_back links new len (same ∙ ap length is) all) ∙ held ∙ ap (λ (ls : List (LoopLink C)). set (held_of ls) k (f (get_or (held_of ls) k no_link))) is
+
+  pub held_put : (h : Held) (k : ℕ) (links seen new : List (LoopLink C)) (len : ℕ) → seen ≡ links → length new ≡ length seen → len ≡ length links
+      → held_of new ≡ set (held_of seen) k h → held_of (take len (new ++ drop (length new) links)) ≡ set (held_of links) k h
+  held_put h k links seen new len is same all held =
+      ap held_of (put_back links new len (same ∙ ap length is) all) ∙ held ∙ ap (λ (ls : List (LoopLink C)). set (held_of ls) k h) is
+
+  pub hears_along : (k : ℕ) (links seen : List (LoopLink C)) (h : Held) (stalls : Bool) (front front' : List ℕ) (answer : Moved) → seen ≡ links → front ≡ front'
+      → Hears stalls front (get_or (held_of seen) k no_link) h answer → Hears stalls front' (get_or (held_of links) k no_link) h answer
+  hears_along k links seen h stalls front front' answer is same hears =
+      let P : List (LoopLink C) → List ℕ → Type 0 = λ ls f. Hears stalls f (get_or (held_of ls) k no_link) h answer in
+      subst (λ f. P links f) same (subst (λ ls. P ls front) is hears)
+
+  pub gives_along : (k : ℕ) (links seen : List (LoopLink C)) (h : Held) (owes : List ℕ → List ℕ) (most : ℕ) (stalls : Bool) (to : List ℕ) (answer : Moved) → seen ≡ links
+      → Gives owes most stalls to (get_or (held_of seen) k no_link) h answer → Gives owes most stalls to (get_or (held_of links) k no_link) h answer
+  gives_along k links seen h owes most stalls to answer is gives =
+      let P : List (LoopLink C) → Type 0 = λ ls. Gives owes most stalls to (get_or (held_of ls) k no_link) h answer in subst P is gives

@@ -1,0 +1,109 @@
+-- What a wire in one process tells.
+use Rattle.std.specs.Prelude.{ℕ, ◌≡◌, ◌≤◌, Bool, true, false, List, [], map, length, get_or, Option, Some, None, if◌then◌else◌}
+use Rattle.std.specs.List.{AllByRecursion}
+use Rattle.tpf_base.specs.Causes.{counted, counted_by}
+use Rattle.tpf_base.specs.Failures.{CallCounts, no_calls}
+use Rattle.tpf_base.specs.Links.{All, Nature, WireState}
+use Rattle.tpf_base.specs.declared.failing.Failing.{Failing}
+use Rattle.tpf_base.specs.declared.failing.Failing.TheVariants.{Never, Every, At, AfterBytes, Dials}
+use Rattle.tpf_base.specs.declared.wire.Moved.{Moved}
+use Rattle.tpf_base.specs.declared.wire.Moved.TheVariants as answers
+use Rattle.rand_pcg.specs.Lcg.{Lcg}
+use Rattle.connections.specs.Kinds.{Kind}
+use Rattle.connections.specs.Versions.{Serving}
+use Rattle.loop_wire.specs.declared.link.LoopLink.{LoopLink}
+use Rattle.loop_wire.specs.Held.{Held, no_link, told, IsKept}
+
+-- a wire that fails no call, or dials alone, is steady
+abbrev pub is_steady : Failing → Bool
+is_steady Never = true
+is_steady (Every n) = false
+is_steady (At calls) = false
+is_steady (AfterBytes most) = false
+is_steady (Dials n) = true
+
+-- which dials are due, where nothing else is
+abbrev pub every_of : Failing → Option ℕ
+every_of Never = Some 0
+every_of (Every n) = None
+every_of (At calls) = None
+every_of (AfterBytes most) = None
+every_of (Dials n) = Some n
+
+abbrev pub nature_of : Failing → Nature
+nature_of failing = record { tells = All; lively = true; steady = is_steady failing; every = every_of failing }
+
+-- how many waits succeeded, one after another, since a byte moved: at most one
+abbrev pub idle_of : Bool → ℕ
+idle_of woke = if woke then 1 else 0
+
+-- these links and counts as a wire, where this is owed to what was sent
+abbrev pub wire_of : (List ℕ → List ℕ) → List Held → CallCounts → ℕ → ℕ → Bool → WireState
+wire_of owes links counts provoked waits woke = record {
+  links = λ k. told owes (get_or links k no_link);
+  given = length links;
+  faults = counts.faults;
+  provoked = provoked;
+  dials = counts.dials;
+  waits = waits;
+  idle = idle_of woke;
+  listens = false;
+  door_stalls = 0;
+  nature = nature_of counts.failing;
+}
+
+-- a call that is no dial was counted, and as a fault where it failed
+abbrev pub called : Bool → CallCounts → CallCounts
+called fails counts = record counts { calls = counted counts.calls; faults = if fails then counted counts.faults else counts.faults }
+
+-- a dial was counted, and as a fault where it failed
+abbrev pub dialled : Bool → CallCounts → CallCounts
+dialled fails counts = record counts { calls = counted counts.calls; dials = counted counts.dials; faults = if fails then counted counts.faults else counts.faults }
+
+-- A wire in one process: its server, its links, its counts, the state of its generator, how many bytes moved, how many faults were provoked, how many waits there were, and whether the last one succeeded with no byte moved since.
+pub record Looped (Server : Type 0) : Type 0 where
+  pub server : Server
+  pub links : List Held
+  pub counts : CallCounts
+  pub generator : Lcg
+  pub moved : ℕ
+  pub provoked : ℕ
+  pub waits : ℕ
+  pub woke : Bool
+
+-- a wire that has given no link yet
+abbrev pub new_wire : {Server : Type 0} → Server → Lcg → Failing → Looped Server
+new_wire server generator failing = record { server = server; links = []; counts = no_calls failing; generator = generator; moved = 0; provoked = 0; waits = 0; woke = false }
+
+-- where this is owed to what was sent
+abbrev pub state_of : {Server : Type 0} → (List ℕ → List ℕ) → Looped Server → WireState
+state_of owes wire = wire_of owes wire.links wire.counts wire.provoked wire.waits wire.woke
+
+-- whether the last wait succeeded and no byte moved since, after a call with this answer
+abbrev pub woke_after : Moved → Bool → Bool
+woke_after (answers.Moved n) woke = false
+woke_after answers.End woke = false
+woke_after answers.NotYet woke = woke
+woke_after answers.Failed woke = woke
+woke_after answers.OutOfMemory woke = woke
+
+-- the bytes that moved, after a call with this answer
+abbrev pub moved_by : Moved → ℕ → ℕ
+moved_by (answers.Moved n) moved = counted_by n moved
+moved_by answers.End moved = moved
+moved_by answers.NotYet moved = moved
+moved_by answers.Failed moved = moved
+moved_by answers.OutOfMemory moved = moved
+
+module _ {C : Type 0} where
+  -- what is held of each link
+  abbrev pub held_of : List (LoopLink C) → List Held
+  held_of links = map (λ (l : LoopLink C). l.held) links
+
+  abbrev pub AreKept : {Data Settings : Type 0} → Kind C Data Settings → (C → Type 0) → Serving Data Settings → (List ℕ → List ℕ) → List (LoopLink C) → Type 0
+  AreKept kind Suits serving owes links = AllByRecursion (λ (l : LoopLink C). IsKept kind Suits serving owes l.held l.connection) links
+
+  -- what is true of a wire: a version is served, and each link and its connection are as they should be
+  pub record IsWire {Data Settings : Type 0} (kind : Kind C Data Settings) (Suits : C → Type 0) (serving : Serving Data Settings) (owes : List ℕ → List ℕ) (links : List (LoopLink C)) : Type 0 where
+    pub version : 1 ≤ serving.version
+    pub kept : AreKept kind Suits serving owes links

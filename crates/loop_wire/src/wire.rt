@@ -1,0 +1,197 @@
+// A wire in one process.
+ghost use Rattle.std.specs.Prelude.{ℕ, ◌≡◌, ◌≢◌, ◌+◌, ◌<◌, ◌≤◌, List, [], ◌∷◌, ◌++◌, length, take, min, set, map, get_or, Option, Some, None, Ok, Err, Bool, true, false, IfOk, OnOk, OnErr, IfSome, IfNone, IsErrOf, is_err, ◌↔◌};
+ghost use Rattle.tpf_base.specs.Causes.{HasCause, counted};
+ghost use Rattle.tpf_base.specs.Failures.{no_calls, is_next_due, is_next_dial_due, room};
+ghost use Rattle.tpf_base.specs.Links.{WireState, SameAllowed, IsRipe};
+ghost use Rattle.tpf_base.specs.Calls.{Sends, Receives, Closes, GivesDialled, GivesNone, OnlyDials, OnlyWaits, Wakes};
+ghost use Rattle.loop_wire.specs.Held.{Held, told, no_link, new_link};
+ghost use Rattle.loop_wire.specs.Looped.{Looped, new_wire, state_of, wire_of, held_of, IsWire};
+ghost use Rattle.rand_pcg.specs.Pcg.{multiplier_64};
+ghost use Rattle.rand_pcg.specs.Lcg.{started, increment_of};
+
+use crate::RespondsAt;
+use crate::cuts::{cut, is_woke_after, moved_after, place, stalls};
+use crate::held::HeldLink;
+use crate::link::LoopLink;
+use crate::links::{close, next_ripe, receive, send, settle, wake};
+use rand_pcg::Pcg32;
+use std::alloc::Global;
+use std::marker::Model;
+use tpf_base::{Dial, Failing, Failures, Fault, Moved, Ready, Text, Wire};
+
+/// The stream of the generator: any one serves.
+const STREAM: u64 = 54;
+
+/// A wire in one process: each link that is dialled, to whatever host and port, is answered by a
+/// connection of one server.
+///
+/// It tells all of each link. What is owed is the response to what was sent; a reload request is
+/// answered as one that failed, since this wire has no other data. A call moves 1 to 4096 bytes,
+/// each fourth stalls, and a wait answers some ripe link: sizes, stalls and order come from the seed.
+///
+/// The calls of `send`, `recv`, `dial` and `wait` count, also one that ends in out of memory, and
+/// fail where its `Failing` says so; a dial counts among the dials too. A wait fails too where no
+/// link is ripe, or where the wait before it succeeded and no byte moved since: the caller
+/// provoked that.
+///
+/// Where a connection meets want of memory, each further call on its link that is not failed answers
+/// `OutOfMemory`, and nothing that is told of it changes from then on.
+#[derive(Drop)]
+pub struct LoopWire<C: RespondsAt> {
+    server: C::Server,
+    links: Vec<LoopLink<C>>,
+    failures: Failures,
+    generator: Pcg32,
+    moved: u64,
+    provoked: u64,
+    waits: u64,
+    /// Whether the last wait succeeded and no byte moved since.
+    woke: bool,
+}
+
+impl<C: RespondsAt> Model for LoopWire<C> {
+    ghost Value = { Looped C.Server };
+
+    ghost view = { λ w. record {
+      server = w.server;
+      links = held_of w.links.items;
+      counts = w.failures;
+      generator = w.generator;
+      moved = w.moved;
+      provoked = w.provoked;
+      waits = w.waits;
+      woke = w.woke;
+    } };
+
+    ghost invariant = { λ w. IsWire C.kind (C.Suits w.server) (C.Server.serving w.server) (C.response_at (C.Server.serving w.server)) w.links.items };
+}
+
+impl<C: RespondsAt> LoopWire<C> {
+    /// A wire to this server that has given no link yet. It takes no memory.
+    pub fn new(alloc: Global, server: C::Server, seed: u64, failing: Failing) -> LoopWire<C>
+        ensures { result ≡ new_wire server (started 64 multiplier_64 seed (increment_of 64 54)) failing }
+    {
+        LoopWire {
+            server,
+            links: Vec::new(alloc),
+            failures: Failures::new(failing),
+            generator: Pcg32::new(seed, STREAM),
+            moved: 0,
+            provoked: 0,
+            waits: 0,
+            woke: false,
+        }
+    }
+
+    /// How many links were given.
+    pub fn links(&self) -> usize
+        ensures { result ≡ length self.now.links }
+    {
+        self.links.len()
+    }
+
+    /// The bytes sent on the link with this number.
+    pub fn sent_on(&self, i: usize) -> &[u8]
+        requires { i < length self.now.links }
+        ensures { result.now ≡ (get_or self.now.links i no_link).sent }
+    {
+        self.links[i].held.sent()
+    }
+}
+
+impl<C: RespondsAt> Wire for LoopWire<C> {
+    ghost use Rattle.loop_wire.specs.Laws.{all_told, none_open, front_received, front_owed, is_calm};
+
+    ghost state = { λ wire. state_of (C.response_at (C.Server.serving wire.server)) wire };
+
+    ghost allows = { λ wire host port sent owed. owed ≡ C.response_at (C.Server.serving wire.server) sent };
+
+    ghost told = { λ wire k. all_told (C.response_at (C.Server.serving wire.server)) wire.links k };
+
+    ghost given_alone = { λ wire. none_open (C.response_at (C.Server.serving wire.server)) wire.links };
+
+    ghost received_is_owed = { λ wire k. front_received (C.response_at (C.Server.serving wire.server)) wire.links k };
+
+    ghost owed_is_allowed = { λ wire k. front_owed (C.response_at (C.Server.serving wire.server)) wire.links k };
+
+    ghost is_lively = { λ wire. is_calm (C.response_at (C.Server.serving wire.server)) wire.links wire.counts wire.provoked wire.waits wire.woke };
+
+    fn send(&mut self, link: u64, piece: &[u8]) -> Moved {
+        let k = link as usize;
+        if self.failures.is_next_due(self.moved) {
+            self.failures.fail();
+            settle(&mut self.links, k);
+            return Moved::Failed;
+        }
+        let stalling = stalls(&mut self.generator, self.links[k].held.is_woken());
+        let most = cut(&mut self.generator).min(piece.len());
+        let n = self.failures.room(self.moved, most);
+        let answer = send(&mut self.links, k, &self.server, stalling, &piece[..n]);
+        self.moved = moved_after(answer, self.moved);
+        self.woke = is_woke_after(answer, self.woke);
+        answer
+    }
+
+    fn recv(&mut self, link: u64, to: &mut [u8]) -> Moved {
+        let k = link as usize;
+        if self.failures.is_next_due(self.moved) {
+            self.failures.fail();
+            settle(&mut self.links, k);
+            return Moved::Failed;
+        }
+        let stalling = stalls(&mut self.generator, self.links[k].held.is_woken());
+        let most = self.failures.room(self.moved, cut(&mut self.generator));
+        let answer = receive(&mut self.links, k, &self.server, stalling, most, to);
+        self.moved = moved_after(answer, self.moved);
+        self.woke = is_woke_after(answer, self.woke);
+        answer
+    }
+
+    fn close(&mut self, link: u64) {
+        close(&mut self.links, link as usize);
+    }
+
+    fn wait(&mut self) -> Result<Ready, Fault> {
+        self.waits = self.waits.saturating_add(1);
+        if self.failures.is_next_due(self.moved) {
+            self.failures.fail();
+            return Err(Fault::Failed);
+        }
+        let start = place(&mut self.generator, self.links.len());
+        let Some(k) = next_ripe(&self.links, start, self.woke) else {
+            self.failures.fail();
+            self.provoked = self.provoked.saturating_add(1);
+            return Err(Fault::Failed);
+        };
+        wake(&mut self.links, k);
+        self.woke = true;
+        Ok(Ready::Link(k as u64))
+    }
+
+    fn idle(&self) -> u64 {
+        if self.woke { 1 } else { 0 }
+    }
+}
+
+impl<C: RespondsAt> Dial for LoopWire<C> {
+    fn dial(&mut self, host: &str, port: u16) -> Result<u64, Fault> {
+        if self.failures.is_next_dial_due(self.moved) {
+            self.failures.fail();
+            return Err(Fault::Failed);
+        }
+        let alloc = *self.links.allocator();
+        let Ok(host) = Text::copy(alloc, host) else {
+            return Err(Fault::OutOfMemory);
+        };
+        let number = self.links.len() as u64;
+        let link = LoopLink {
+            held: HeldLink::new(alloc, host, port),
+            connection: Some(C::new(alloc)),
+        };
+        if self.links.push(link).is_err() {
+            return Err(Fault::OutOfMemory);
+        }
+        self.woke = false;
+        Ok(number)
+    }
+}

@@ -1,0 +1,35 @@
+use Rattle.std.proofs.Common.{ap, drop, subst, ◌∙◌}
+use Rattle.tpf_server.specs.declared.owed.Debt.{Debt}
+use Rattle.tpf_server.specs.Owed.{Fits}
+use Rattle.tpf_server.specs.Conversation.{Conversation}
+use Rattle.tpf_server.proofs.ConversationLaws.{conversation, makes_some}
+use Rattle.tpf_server.proofs.KeptLaws.{half_on, makes_kept, same_fits}
+use Rattle.tpf_server.proofs.connection.Connection.make_on.Goals as goal
+
+pub fill-requires-clause-fits : goal.fill-requires-clause-fits
+fill-requires-clause-fits c =
+    same_fits c.self.inside.debt.rest c.replace-debt.result.rest c.self.inside.debt.waiting.items c.replace-debt.result.waiting.items (ap (λ (d : Debt). d.rest) c.replace-debt.ensures.value) (ap (λ (d : Debt). d.waiting.items) c.replace-debt.ensures.value) c.self.invariant.2
+
+pub invariant_of-self : goal.invariant_of-self
+invariant_of-self c = (
+  half_on c.self.inside.given c.self.inside.bytes.items c.fill.new.out.items c.self.invariant.0 c.in_ok-fill.ensures.front,
+  c.self.invariant.1,
+  same_fits c.fill.new.self.rest c.give_back.new.self.rest c.fill.new.self.waiting.items c.give_back.new.self.waiting.items c.give_back.ensures.rest c.give_back.ensures.waiting c.in_ok-fill.ensures.fits,
+)
+
+pub returns-clause-ok : goal.returns-clause-ok
+returns-clause-ok c =
+    makes_kept c.args.server.now.config c.config.result.now c.self.inside.requests.bytes c.replace-debt.result.rest c.fill.new.self.rest c.give_back.new.self.rest c.replace-debt.result.waiting.items c.fill.new.self.waiting.items c.give_back.new.self.waiting.items c.self.inside.bytes.items c.fill.new.out.items c.self.inside.given c.self.inside.reading c.self.inside.starved c.args.self.now
+    c.config.ensures
+    (ap (λ (d : Debt). conversation c.self.inside.requests.bytes c.self.inside.reading d.rest d.waiting.items (drop c.self.inside.given c.self.inside.bytes.items) c.self.inside.starved) c.replace-debt.ensures.value ∙ c.self.view_is)
+    c.self.invariant.0 c.requires.fed c.in_ok-fill.ensures.ok c.in_ok-fill.ensures.enough c.give_back.ensures.rest c.give_back.ensures.waiting
+
+pub returns-clause-some : goal.returns-clause-some
+returns-clause-some c =
+    λ left.
+    makes_some c.args.server.now.config c.args.self.now _
+    (makes_kept c.args.server.now.config c.config.result.now c.self.inside.requests.bytes c.replace-debt.result.rest c.fill.new.self.rest c.give_back.new.self.rest c.replace-debt.result.waiting.items c.fill.new.self.waiting.items c.give_back.new.self.waiting.items c.self.inside.bytes.items c.fill.new.out.items c.self.inside.given c.self.inside.reading c.self.inside.starved c.args.self.now
+    c.config.ensures
+    (ap (λ (d : Debt). conversation c.self.inside.requests.bytes c.self.inside.reading d.rest d.waiting.items (drop c.self.inside.given c.self.inside.bytes.items) c.self.inside.starved) c.replace-debt.ensures.value ∙ c.self.view_is)
+    c.self.invariant.0 c.requires.fed c.in_ok-fill.ensures.ok c.in_ok-fill.ensures.enough c.give_back.ensures.rest c.give_back.ensures.waiting)
+    (subst (λ (x : Conversation). Fits x.rest x.waiting) c.self.view_is c.self.invariant.2) c.requires.fed left
