@@ -3,7 +3,7 @@ use Rattle.std.specs.Prelude.{ℕ, ◌≡◌, ◌⊎◌, ◌≤◌, ◌<◌, Boo
 use Rattle.std.specs.List.{AllByRecursion}
 use Rattle.connections.specs.declared.reloaded.Reloaded.{Reloaded}
 use Rattle.connections.specs.declared.reloaded.Reloaded.TheVariants as outcomes
-use Rattle.connections.specs.Marks.{Mark, Served, Failed, Starved}
+use Rattle.tpf_base.specs.Marks.{Mark, Served, Failed, Starved}
 use Rattle.connections.specs.Versions.{Serving, IsHistory}
 
 -- A kind of connection. The first four are of its value; `Answers history config fed taken marks c` ties it to all that came and went: `marks` has one mark for each head that was read. The last four are the kind's definitions.

@@ -1,4 +1,3 @@
-pub mod Marks
 pub mod Versions
 pub mod Kinds
 pub mod Supplies

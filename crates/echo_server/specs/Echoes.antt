@@ -1,6 +1,6 @@
 -- What a connection means that gives back what it gets.
 use Rattle.std.specs.Prelude.{ℕ, ◌≡◌, ◌≤◌, List, [], ◌++◌, ◌==◌, length, take, drop, Bool, true, false, not}
-use Rattle.connections.specs.Marks.{Mark}
+use Rattle.tpf_base.specs.Marks.{Mark}
 use Rattle.connections.specs.Kinds.{Kind}
 use Rattle.echo_server.specs.declared.echo.Echo.{Echo}
 

@@ -9,7 +9,7 @@ use Rattle.http_wire.specs.declared.message.Fed.TheVariants as feds
 use Rattle.http_wire.specs.declared.message.Reply.{Reply}
 use Rattle.http_wire.specs.declared.message.ReplyFault.{ReplyFault}
 use Rattle.exchange.specs.Incoming.{Coming, IsComing, none_yet, concluded}
-use Rattle.exchange.proofs.KeepingLemmas.{KeepsNothing, bytes_keep_nothing}
+use Rattle.http_wire.proofs.KeepingLemmas.{KeepsNothing, bytes_keep_nothing}
 
 -- an open reply is not whole
 pub open_gives_none : (place : Place) → is_open place ≡ true → reply_at place ≡ None

@@ -1,4 +1,3 @@
-pub mod KeepingLemmas
 pub mod IncomingLemmas
 pub mod ReceivingLemmas
 pub mod ConcludeLemmas

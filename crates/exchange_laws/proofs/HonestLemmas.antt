@@ -8,7 +8,8 @@ use Rattle.tpf_base.specs.HttpReply.{reply_of}
 use Rattle.http_wire.specs.Replies.{shown_fault}
 use Rattle.template_fill.specs.HttpAnswer.{Answer, NQuads, answer_text, head_text}
 use Rattle.template_fill.specs.Metadata.{Config}
-use Rattle.template_fill.specs.Answers.{Mark, Served, version_at, is_reload, version_answer, answer_to}
+use Rattle.tpf_base.specs.Marks.{Mark, Served, version_at}
+use Rattle.template_fill.specs.Answers.{is_reload, version_answer, answer_to}
 use Rattle.template_fill.specs.Responses.{answering, response, IsMarked, IsVersion}
 use Rattle.http_ends.specs.Requests.{request_for, asks}
 use Rattle.http_ends.specs.Answers.{AnswerIsRead, AnswersHaveStatus, PagesAreNQuads, ServerAnswersAreRead, ReadingsStay}

@@ -8,7 +8,8 @@ use Rattle.tpf_base.specs.Links.{All, Link, WireState, IsToldBy, ReceivesOwed}
 use Rattle.http_wire.specs.declared.message.ReplyFault.{ReplyFault}
 use Rattle.http_wire.specs.declared.message.ReplyFault.TheVariants as faults
 use Rattle.template_fill.specs.Metadata.{Config}
-use Rattle.template_fill.specs.Answers.{Served, answer_to}
+use Rattle.tpf_base.specs.Marks.{Served}
+use Rattle.template_fill.specs.Answers.{answer_to}
 use Rattle.template_fill.specs.Responses.{Owes}
 use Rattle.http_ends.specs.Requests.{request_for, asks}
 use Rattle.http_ends.specs.Cuts.{Answered, IsAnswered, bytes_of, sent_of, received_of}

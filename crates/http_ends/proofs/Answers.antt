@@ -23,7 +23,8 @@ use Rattle.http_wire.proofs.JudgeLemmas.{feeds}
 use Rattle.rdf_terms.specs.declared.term.Triple.{Triple}
 use Rattle.template_fill.specs.Metadata.{Config}
 use Rattle.template_fill.specs.HttpAnswer.{Answer, MediaType, NQuads, PlainText, refusal, answer_text, head_text, answer_fields, media_text, field_if, phrase}
-use Rattle.template_fill.specs.Answers.{Question, Mark, Served, Failed, Starved, is_reload, reload_answer, version_answer, answer_to, answer_if, is_read, question_of, version_at}
+use Rattle.tpf_base.specs.Marks.{Mark, Served, Failed, Starved, version_at}
+use Rattle.template_fill.specs.Answers.{Question, is_reload, reload_answer, version_answer, answer_to, answer_if, is_read, question_of}
 use Rattle.template_fill.specs.ReadAddress.{path_of}
 use Rattle.std.specs.Prelude.{bytes_eq}
 use Rattle.template_fill.proofs.Passing.{list_all-wider}

@@ -8,7 +8,7 @@ use Rattle.tpf_base.specs.HttpHeads.{Request, Verdict, Accepted, NextRequest, Ta
 use Rattle.tpf_base.specs.HttpReply.{Whole, Bad, TooLong, BadStatus, BadMediaType, ReplyFault, reply_of}
 use Rattle.http_wire.proofs.StayLemmas.{taken_stays}
 use Rattle.template_fill.specs.HttpAnswer.{Answer, MediaType, NQuads, PlainText, answer_text, head_text}
-use Rattle.template_fill.specs.Answers.{Mark}
+use Rattle.tpf_base.specs.Marks.{Mark}
 use Rattle.tpf_base.specs.HttpConnection.{Heads, with_head, last_head, heads_from, after_taken, heads_up_to, heads_of, closes, unread_of}
 use Rattle.template_fill.specs.Responses.{Answering, asks_head, FitsHead, head_answer, answers, response_by}
 use Rattle.http_wire.proofs.ConnectionLemmas.{heads_read}

@@ -5,7 +5,8 @@ use Rattle.tpf_base.specs.HttpHeads.{Request}
 use Rattle.tpf_base.specs.HttpReply.{ReplyFault, More, Whole, Bad, TooLong, BadStatus, BadMediaType, heads_limit, reply_of}
 use Rattle.template_fill.specs.Metadata.{Config}
 use Rattle.template_fill.specs.HttpAnswer.{Answer, MediaType, NQuads, PlainText, answer_text, head_text}
-use Rattle.template_fill.specs.Answers.{Mark, is_reload, answer_to}
+use Rattle.tpf_base.specs.Marks.{Mark}
+use Rattle.template_fill.specs.Answers.{is_reload, answer_to}
 use Rattle.template_fill.specs.Responses.{Answering, answering}
 
 -- the status of an answer

@@ -5,7 +5,7 @@ use Rattle.tpf_base.specs.Addresses.{Address, IsAddress}
 use Rattle.tpf_base.specs.HttpHeads.{Request, Verdict, Accepted, Taken, next_request, head_limit}
 use Rattle.tpf_base.specs.HttpReply.{Whole, reply_of}
 use Rattle.template_fill.specs.HttpAnswer.{NQuads, answer_text}
-use Rattle.template_fill.specs.Answers.{Mark}
+use Rattle.tpf_base.specs.Marks.{Mark}
 use Rattle.tpf_base.specs.HttpConnection.{heads_of, closes, unread_of}
 use Rattle.template_fill.specs.Responses.{Answering, asks_head, response_by, IsMarkedBy}
 use Rattle.http_ends.specs.Requests.{request_for, asks}

@@ -12,3 +12,4 @@ pub mod BodyLemmas
 pub mod LawLemmas
 pub mod GivenLemmas
 pub mod StayLemmas
+pub mod KeepingLemmas

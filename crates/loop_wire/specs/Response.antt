@@ -2,7 +2,7 @@
 use Rattle.std.specs.Prelude.{ℕ, ◌≡◌, List, [], ◌++◌}
 use Rattle.std.specs.List.{AllByRecursion}
 use Rattle.connections.specs.Kinds.{Kind}
-use Rattle.connections.specs.Marks.{Mark, Served, Failed, Starved}
+use Rattle.tpf_base.specs.Marks.{Mark, Served, Failed, Starved}
 use Rattle.connections.specs.Versions.{Serving, IsHistory}
 
 -- answered over this version, or as a reload that failed at it

@@ -1,7 +1,7 @@
 -- What holds of each item of lists that are appended.
 use Rattle.std.proofs.Common.{◌≡◌, ◌≤◌, List, [], ◌∷◌, ◌++◌, length, refl, arith}
 use Rattle.std.specs.List.{AllByRecursion, AllZip}
-use Rattle.template_fill.specs.Answers.{Mark, version_at}
+use Rattle.tpf_base.specs.Marks.{Mark, version_at}
 use Rattle.template_fill.specs.Responses.{IsRising}
 
 pub all_append : {A : Type 0} (P : A → Type 0) (xs ys : List A) → AllByRecursion P xs → AllByRecursion P ys → AllByRecursion P (xs ++ ys)

@@ -12,7 +12,8 @@ use Rattle.template_fill.specs.HttpAnswer.{Answer, NQuads, answer_text, refusal}
 use Rattle.template_fill.specs.ReadAddress.{path_of}
 use Rattle.template_fill.specs.Metadata.{Config, page_metadata}
 use Rattle.template_fill.specs.Bodies.{version_of, in_default_graph, page_body}
-use Rattle.template_fill.specs.Answers.{Question, question_of, Mark, Served, Failed, Starved, version_at, page_answer, answer_if, is_read, version_answer, is_reload, reload_answer, answer_to}
+use Rattle.tpf_base.specs.Marks.{Mark, Served, Failed, Starved, version_at}
+use Rattle.template_fill.specs.Answers.{Question, question_of, page_answer, answer_if, is_read, version_answer, is_reload, reload_answer, answer_to}
 use Rattle.template_fill.specs.Responses.{answering, asks_head, head_answer, answers, response_by, FitsHead, IsVersion, LongerHistoriesAgree}
 use Rattle.template_fill.proofs.Histories.{versions_stay}
 

@@ -4,7 +4,7 @@ use Rattle.std.specs.List.{AllByRecursion, AllZip}
 use Rattle.tpf_base.specs.HttpHeads.{Verdict}
 use Rattle.tpf_base.specs.HttpConnection.{Heads, heads_of, closes, unread_of, with_more}
 use Rattle.http_wire.proofs.ConnectionLemmas.{more_heads}
-use Rattle.template_fill.specs.Answers.{Mark, Served, Starved, version_at}
+use Rattle.tpf_base.specs.Marks.{Mark, Served, Starved, version_at}
 use Rattle.template_fill.specs.Responses.{Answering, answering, answers, response_by, marks_at, asks_reload, FitsHead, IsVersion, IsRising, AreMarks, padding_mark, padding, reload_version, reload_versions, MarksAreJoined, MarksArePadded, OneVersionIsMarked}
 use Rattle.response_laws.proofs.Lists.{all_append, zip_append, zip_length, rising_append}
 use Rattle.response_laws.proofs.Responses.{answers_append}

@@ -5,7 +5,7 @@ use Rattle.std.proofs.lemmas.List.{take-append-drop, map-append, length-map}
 use Rattle.tpf_base.specs.HttpHeads.{Verdict}
 use Rattle.tpf_base.specs.HttpConnection.{Heads, heads_of, closes, unread_of, with_more}
 use Rattle.http_wire.proofs.ConnectionLemmas.{more_heads, left_of}
-use Rattle.template_fill.specs.Answers.{Mark, Served}
+use Rattle.tpf_base.specs.Marks.{Mark, Served}
 use Rattle.template_fill.specs.Responses.{Answering, answering, head_answer, answers, response_by, marks_at, FitsHead, IsVersion, IsRising, AreMarks, ResponseGoesOn, ResponseAtGoesOn, ResponseBegins}
 use Rattle.response_laws.proofs.Lists.{all_front, zip_front, zip_length, rising_front}
 

@@ -2,7 +2,7 @@
 use Rattle.std.proofs.Common.{ℕ, ◌≡◌, ◌≢◌, ◌+◌, ◌<◌, ◌≤◌, ◌⊎◌, inl, inr, ◌++◌, List, [], ◌∷◌, length, Option, Some, None, Bool, true, false, refl, sym, ◌∙◌, ap, subst, arith, append-nil, append_assoc}
 use Rattle.std.specs.Prelude.{Result, Ok, Err, IsErr, is_ok, ⊤}
 use Rattle.std.specs.List.{AllByRecursion}
-use Rattle.connections.specs.Marks.{Mark, version_at}
+use Rattle.tpf_base.specs.Marks.{Mark, version_at}
 use Rattle.connections.specs.Kinds.{Kind}
 use Rattle.serve_loop.specs.declared.live.Live.{Live}
 use Rattle.serve_loop.specs.Traffic.{Talk, Traffic, Moment, updated}

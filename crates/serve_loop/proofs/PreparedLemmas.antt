@@ -4,7 +4,7 @@ use Rattle.std.proofs.lemmas.Bool.{eqb-true}
 use Rattle.std.specs.Prelude.{Result, Ok, Err, is_ok, is_err, ⊤}
 use Rattle.tpf_base.specs.Links.{WireState}
 use Rattle.tpf_base.specs.Calls.{OnlyOn, Closes}
-use Rattle.connections.specs.Marks.{Mark}
+use Rattle.tpf_base.specs.Marks.{Mark}
 use Rattle.connections.specs.Versions.{Serving}
 use Rattle.connections.specs.Kinds.{Kind}
 use Rattle.serve_loop.specs.declared.live.Live.{Live}

@@ -1,7 +1,7 @@
 -- A reload: the history grows, and the link that asked for it owns the new number.
 use Rattle.std.proofs.Common.{ℕ, ◌≡◌, ◌≢◌, ◌+◌, ◌<◌, ◌≤◌, ◌==◌, ◌⊎◌, inl, inr, ◌++◌, List, [], ◌∷◌, length, take, Option, Some, None, Bool, true, false, refl, sym, ◌∙◌, ap, subst, arith, append-nil, append_assoc, length-append, if◌then◌else◌}
 use Rattle.std.specs.List.{AllByRecursion}
-use Rattle.connections.specs.Marks.{Mark, Served, Failed, Starved, version_at}
+use Rattle.tpf_base.specs.Marks.{Mark, Served, Failed, Starved, version_at}
 use Rattle.tpf_base.specs.Causes.{Rose, counted}
 use Rattle.tpf_base.specs.Links.{WireState}
 use Rattle.connections.specs.declared.reloaded.Reloaded.{Reloaded}

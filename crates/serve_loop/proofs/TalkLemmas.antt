@@ -9,7 +9,7 @@ use Rattle.tpf_base.specs.declared.wire.Moved.TheVariants as answers
 use Rattle.tpf_base.specs.Links.{WireState, Tells, CountsAlone, SentAndReceived, All, told_by}
 use Rattle.tpf_base.specs.Calls.{OnlyOn, SameWire, Sends, Receives, Closes}
 use Rattle.link_calls.specs.Sending.{Holds}
-use Rattle.connections.specs.Marks.{Mark, Served, Failed, Starved, version_at}
+use Rattle.tpf_base.specs.Marks.{Mark, Served, Failed, Starved, version_at}
 use Rattle.connections.specs.Versions.{Serving, IsHistory}
 use Rattle.connections.specs.Kinds.{Kind, Takes, Feeds, Reads, AreServed}
 use Rattle.serve_loop.specs.declared.live.Stepped.{Stepped}

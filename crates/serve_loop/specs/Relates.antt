@@ -1,7 +1,7 @@
 -- How a loop's connections, its server, its supply and its wire stand to the traffic since some moment.
 use Rattle.std.specs.Prelude.{ℕ, ◌≡◌, ◌≢◌, ◌⊎◌, ◌+◌, ◌<◌, ◌≤◌, true, false, List, [], ◌∷◌, ◌++◌, length, take, Option, Some, None}
 use Rattle.std.specs.List.{AllByRecursion}
-use Rattle.connections.specs.Marks.{Mark, Served, Failed, Starved}
+use Rattle.tpf_base.specs.Marks.{Mark, Served, Failed, Starved}
 use Rattle.tpf_base.specs.Causes.{Rose, RoseBy}
 use Rattle.tpf_base.specs.Links.{Link, WireState}
 use Rattle.link_calls.specs.Sending.{Holds}

@@ -4,7 +4,7 @@ use Rattle.std.specs.List.{AllByRecursion}
 use Rattle.tpf_base.specs.Causes.{RoseBy, counted_by}
 use Rattle.tpf_base.specs.Links.{WireState}
 use Rattle.link_calls.specs.Sending.{Holds}
-use Rattle.connections.specs.Marks.{Mark}
+use Rattle.tpf_base.specs.Marks.{Mark}
 use Rattle.connections.specs.Kinds.{Kind}
 use Rattle.serve_loop.specs.Traffic.{Given, Moment}
 use Rattle.serve_loop.specs.Relates.{Versions, AreDistinct, IsExcused, IsNumber, IsRising}

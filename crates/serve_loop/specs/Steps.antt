@@ -6,7 +6,7 @@ use Rattle.tpf_base.specs.Causes.{Rose, RoseBy, counted_by}
 use Rattle.tpf_base.specs.Links.{WireState}
 use Rattle.tpf_base.specs.Calls.{OnlyOn, Closes, GivesAccepted, GivesNone}
 use Rattle.link_calls.specs.Sending.{Holds}
-use Rattle.connections.specs.Marks.{Mark, version_at}
+use Rattle.tpf_base.specs.Marks.{Mark, version_at}
 use Rattle.connections.specs.Kinds.{Kind, Feeds, Opens}
 use Rattle.connections.specs.Versions.{Serving, IsHistory, MOST_VERSIONS}
 use Rattle.connections.specs.declared.reloaded.Reloaded.{Reloaded}

@@ -1,7 +1,7 @@
 -- What happened on the links of a loop since some moment. Values of contracts alone: no program keeps them.
 use Rattle.std.specs.Prelude.{ℕ, ◌==◌, ◌+◌, Bool, List, [], ◌∷◌, length, Option, None, if◌then◌else◌}
 use Rattle.tpf_base.specs.Links.{WireState}
-use Rattle.connections.specs.Marks.{Mark}
+use Rattle.tpf_base.specs.Marks.{Mark}
 use Rattle.connections.specs.Versions.{Serving, with_first}
 
 -- What came and went on one link.

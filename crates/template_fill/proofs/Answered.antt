@@ -15,7 +15,8 @@ use Rattle.template_fill.specs.ReadAddress.{path_of, ◌>>=◌}
 use Rattle.template_fill.specs.HttpAnswer.{Answer, NQuads, refusal}
 use Rattle.template_fill.specs.Metadata.{Config}
 use Rattle.template_fill.specs.Bodies.{version_of, page_body}
-use Rattle.template_fill.specs.Answers.{Question, Mark, version_at, values_under, one_value, slot_under, page_number, asked_by, parameters, question_of, page_answer, answer_if, is_reload, version_answer, answer_to, AsksFor}
+use Rattle.tpf_base.specs.Marks.{Mark, version_at}
+use Rattle.template_fill.specs.Answers.{Question, values_under, one_value, slot_under, page_number, asked_by, parameters, question_of, page_answer, answer_if, is_reload, version_answer, answer_to, AsksFor}
 use Rattle.template_fill.specs.Answered.{address_answer, is_answered, GivesPage, GivesSomePage, IsSamePage, PagesAreGiven, AnsweredGivePages, OnePageIsAsked}
 use Rattle.template_fill.proofs.Addresses.{and_right}
 use Rattle.template_fill.proofs.Reading.{when-inv, bind-inv}

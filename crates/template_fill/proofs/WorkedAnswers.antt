@@ -18,7 +18,8 @@ use Rattle.template_fill.specs.Pages.{page_address, places_text}
 use Rattle.template_fill.specs.Bodies.{page_body}
 use Rattle.tpf_base.specs.Decimals.{digits_up_to, decimal_text}
 use Rattle.template_fill.specs.HttpAnswer.{PlainText, phrase, refusal, answer_fields, head_text, answer_text}
-use Rattle.template_fill.specs.Answers.{Served, parameters, question_of, is_reload, reload_answer, version_answer, answer_to}
+use Rattle.tpf_base.specs.Marks.{Served}
+use Rattle.template_fill.specs.Answers.{parameters, question_of, is_reload, reload_answer, version_answer, answer_to}
 use Rattle.template_fill.specs.Responses.{answering, head_answer}
 
 -- what reading a target unfolds

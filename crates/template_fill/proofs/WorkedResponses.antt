@@ -7,7 +7,7 @@ use Rattle.tpf_base.specs.HttpHeads.{Verdict, Accepted}
 use Rattle.tpf_base.specs.HttpConnection.{heads_up_to}
 use Rattle.template_fill.specs.HttpAnswer.{NQuads, text_answer, answer_text}
 use Rattle.template_fill.specs.Bodies.{page_body}
-use Rattle.template_fill.specs.Answers.{Mark, Served, Failed, Starved}
+use Rattle.tpf_base.specs.Marks.{Mark, Served, Failed, Starved}
 use Rattle.template_fill.specs.Responses.{Answering, answering, head_answer, answers, response_by, AreMarks, IsHonest, OwesBy, padding, reload_versions}
 use Rattle.template_fill.proofs.WorkedAnswers as worked
 use Rattle.template_fill.proofs.WorkedAnswers.{config, anything, line}

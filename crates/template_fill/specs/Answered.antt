@@ -11,7 +11,8 @@ use Rattle.template_fill.specs.Metadata.{Config}
 use Rattle.template_fill.specs.Configurations.{IsConfig}
 use Rattle.template_fill.specs.Pages.{page_address}
 use Rattle.template_fill.specs.Bodies.{version_of, page_body}
-use Rattle.template_fill.specs.Answers.{Mark, version_at, answer_to, AsksFor}
+use Rattle.tpf_base.specs.Marks.{Mark, version_at}
+use Rattle.template_fill.specs.Answers.{answer_to, AsksFor}
 
 -- the request for an address: GET of its target, on a connection that goes on
 abbrev pub request_for : Address → Request

@@ -8,6 +8,7 @@ use Rattle.form_urlencoded.specs.Form.{raw_pairs, decode}
 use Rattle.tpf_base.specs.Addresses.{Address, IsAddress, target_of}
 use Rattle.tpf_base.specs.HttpHeads.{Request}
 use Rattle.tpf_base.specs.Decimals.{decimal_text}
+use Rattle.tpf_base.specs.Marks.{Mark, Served, Failed, Starved, version_at}
 use Rattle.rdf_terms.specs.declared.term.Triple.{Triple}
 use Rattle.rdf_terms.specs.declared.slots.Slot.{Slot}
 use Rattle.rdf_terms.specs.declared.slots.Slots.{Slots}
@@ -99,18 +100,6 @@ version_answer history version config request =
     else answer_if history version config (question_of request.target))
 
 -- ---- reloads
-
--- how an answer stands: over the data of a version; a reload that failed, or that met want of memory, where this version goes on
-pub data Mark : Type 0 where
-  Served : ℕ → Mark
-  Failed : ℕ → Mark
-  Starved : ℕ → Mark
-
--- the version of a mark
-abbrev pub version_at : Mark → ℕ
-version_at (Served version) = version
-version_at (Failed version) = version
-version_at (Starved version) = version
 
 abbrev pub is_path_of_reload : Option (List ℕ) → List ℕ → Bool
 is_path_of_reload None path = false

@@ -6,7 +6,8 @@ use Rattle.tpf_base.specs.HttpConnection.{heads_of, closes, unread_of}
 use Rattle.rdf_terms.specs.declared.term.Triple.{Triple}
 use Rattle.template_fill.specs.HttpAnswer.{Answer, answer_text, refusal}
 use Rattle.template_fill.specs.Metadata.{Config}
-use Rattle.template_fill.specs.Answers.{Mark, Served, Failed, Starved, version_at, is_reload, answer_to}
+use Rattle.tpf_base.specs.Marks.{Mark, Served, Failed, Starved, version_at}
+use Rattle.template_fill.specs.Answers.{is_reload, answer_to}
 
 -- ---- what a server answers
 

@@ -15,5 +15,5 @@ pub mod HttpReader
 pub mod HttpHeads
 pub mod HttpText
 pub mod HttpConnection
-pub mod HttpAnswer
+pub mod Marks
 pub mod HttpReply

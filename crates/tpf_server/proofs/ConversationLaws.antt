@@ -15,7 +15,8 @@ use Rattle.http_wire.specs.Requests.{Held, fed, fed_to, holding}
 use Rattle.template_fill.specs.Metadata.{Config}
 use Rattle.template_fill.specs.Bodies.{in_default_graph}
 use Rattle.template_fill.specs.HttpAnswer.{Answer, MediaType, answer_text, head_text, phrase, refusal}
-use Rattle.template_fill.specs.Answers.{Mark, Served, Failed, Starved, answer_to, is_path_of_reload, is_read, is_reload, reload_answer, version_answer, version_at}
+use Rattle.tpf_base.specs.Marks.{Mark, Served, Failed, Starved, version_at}
+use Rattle.template_fill.specs.Answers.{answer_to, is_path_of_reload, is_read, is_reload, reload_answer, version_answer}
 use Rattle.template_fill.specs.Responses.{AreMarks, FitsHead, answering, answers, asks_reload, head_answer, reload_version, reload_versions}
 use Rattle.response_laws.proofs.Lists.{zip_length}
 use Rattle.response_laws.proofs.Responses.{answers_append}

@@ -16,7 +16,8 @@ use Rattle.template_fill.specs.ReadAddress.{path_of}
 use Rattle.template_fill.specs.Metadata.{Config, page_metadata}
 use Rattle.template_fill.specs.Bodies.{in_default_graph, page_body, version_of}
 use Rattle.template_fill.specs.HttpAnswer.{Answer, NQuads, answer_text, head_text, refusal}
-use Rattle.template_fill.specs.Answers.{Question, Served, answer_if, answer_to, is_path_of_reload, is_read, is_reload, page_answer, question_of, reload_answer, version_answer}
+use Rattle.tpf_base.specs.Marks.{Served}
+use Rattle.template_fill.specs.Answers.{Question, answer_if, answer_to, is_path_of_reload, is_read, is_reload, page_answer, question_of, reload_answer, version_answer}
 use Rattle.template_fill.proofs.Histories.{last_served}
 use Rattle.tpf_base.specs.HttpConnection.{Heads, after_taken, closes, heads_from, heads_of, last_head, unread_of, with_head}
 use Rattle.template_fill.specs.Responses.{answering, head_answer}

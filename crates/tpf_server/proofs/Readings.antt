@@ -11,7 +11,8 @@ use Rattle.http_wire.specs.declared.message.NextHead.TheVariants as nexts
 use Rattle.http_wire.specs.Requests.{Held, after_answer, after_if, after_next, head_of, holding, next_for, next_of, shown}
 use Rattle.tpf_base.specs.HttpConnection.{Heads, heads_of, last_head, with_head}
 use Rattle.template_fill.specs.Metadata.{Config}
-use Rattle.template_fill.specs.Answers.{Served, is_reload}
+use Rattle.tpf_base.specs.Marks.{Served}
+use Rattle.template_fill.specs.Answers.{is_reload}
 use Rattle.template_fill.specs.Responses.{Answering, answering, answers, asks_reload, head_answer}
 use Rattle.response_laws.proofs.Lists.{all_append}
 use Rattle.tpf_server.specs.declared.asked.Queued.{Queued}

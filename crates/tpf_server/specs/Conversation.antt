@@ -5,7 +5,7 @@ use Rattle.rdf_terms.specs.declared.term.Triple.{Triple}
 use Rattle.tpf_base.specs.HttpHeads.{Verdict}
 use Rattle.tpf_base.specs.HttpConnection.{heads_of}
 use Rattle.template_fill.specs.Metadata.{Config}
-use Rattle.template_fill.specs.Answers.{Mark, Served}
+use Rattle.tpf_base.specs.Marks.{Mark, Served}
 use Rattle.template_fill.specs.Responses.{AreMarks, answering, answers, reload_versions}
 use Rattle.tpf_server.specs.declared.asked.Queued.{Queued}
 use Rattle.tpf_server.specs.declared.outcome.Reloaded.{Reloaded}

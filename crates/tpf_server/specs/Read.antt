@@ -8,7 +8,8 @@ use Rattle.rdf_terms.specs.declared.term.Triple.{Triple}
 use Rattle.tpf_base.specs.HttpHeads.{Request, Verdict, Incomplete, Taken, next_request}
 use Rattle.tpf_base.specs.HttpConnection.{Heads, heads_of, last_head, with_head}
 use Rattle.template_fill.specs.Metadata.{Config}
-use Rattle.template_fill.specs.Answers.{Mark, Served, is_path_of_reload, is_reload}
+use Rattle.tpf_base.specs.Marks.{Mark, Served}
+use Rattle.template_fill.specs.Answers.{is_path_of_reload, is_reload}
 use Rattle.template_fill.specs.Responses.{answering, answers, asks_reload, head_answer}
 use Rattle.tpf_server.specs.declared.asked.Queued.{Queued}
 use Rattle.tpf_server.specs.declared.reading.Reading.{Reading}

@@ -5,7 +5,7 @@ ghost use Rattle.rdf_terms.specs.declared.term.Triple.{Triple};
 ghost use Rattle.list_laws.specs.Begins.{Begins};
 ghost use Rattle.http_wire.specs.Requests.{holding};
 ghost use Rattle.template_fill.specs.Metadata.{Config};
-ghost use Rattle.template_fill.specs.Answers.{Mark};
+ghost use Rattle.tpf_base.specs.Marks.{Mark};
 ghost use Rattle.tpf_server.specs.Reading.{is_ended};
 ghost use Rattle.tpf_server.specs.Reloads.{IsOutcome};
 ghost use Rattle.tpf_server.specs.Conversation.{Answers, Conversation, Feeds, Makes, Reloads, closing, opening, owed_pieces, owed_text, owes, starved_at, wants_reload};

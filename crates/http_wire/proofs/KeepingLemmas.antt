@@ -134,26 +134,26 @@ module _ (limit : ℕ) where
       nothing_if (nat_lt heads_limit (length lines)) (Failed TooLong) (if ends_empty (10 ∷ lines) (length lines + 1) then Finished g else InTrailer lines g) (failed TooLong)
       (nothing_if (ends_empty (10 ∷ lines) (length lines + 1)) (Finished g) (InTrailer lines g) (finished g) (in_trailer lines g))
 
-  byte : (place : Place) (b : ℕ) → KeepsNothing place → KeepsNothing (after_byte limit place b)
-  byte (InHeads passed head) b is = head_byte passed (head ++ b ∷ [])
-  byte (InSized wanted g) b is = nothing_if (nat_le wanted 1) (Finished (with_byte g b)) (InSized (wanted - 1) (with_byte g b)) (finished (with_byte g b)) (in_sized (wanted - 1) (with_byte g b))
-  byte (InUnsized g) b is = unless_nothing (is_over limit (with_byte g b)) (InUnsized (with_byte g b)) (in_unsized g b is)
-  byte (InLine line g) b is = line_byte (line ++ b ∷ []) b (with_extra g)
-  byte (InChunk wanted g) b is =
+  pub byte_keeps_nothing : (place : Place) (b : ℕ) → KeepsNothing place → KeepsNothing (after_byte limit place b)
+  byte_keeps_nothing (InHeads passed head) b is = head_byte passed (head ++ b ∷ [])
+  byte_keeps_nothing (InSized wanted g) b is = nothing_if (nat_le wanted 1) (Finished (with_byte g b)) (InSized (wanted - 1) (with_byte g b)) (finished (with_byte g b)) (in_sized (wanted - 1) (with_byte g b))
+  byte_keeps_nothing (InUnsized g) b is = unless_nothing (is_over limit (with_byte g b)) (InUnsized (with_byte g b)) (in_unsized g b is)
+  byte_keeps_nothing (InLine line g) b is = line_byte (line ++ b ∷ []) b (with_extra g)
+  byte_keeps_nothing (InChunk wanted g) b is =
       unless_nothing (is_over limit (with_byte g b)) (if nat_le wanted 1 then AtReturn (with_byte g b) else InChunk (wanted - 1) (with_byte g b))
       (nothing_if (nat_le wanted 1) (AtReturn (with_byte g b)) (InChunk (wanted - 1) (with_byte g b)) (at_return (with_byte g b)) (in_chunk (wanted - 1) (with_byte g b)))
-  byte (AtReturn g) b is =
+  byte_keeps_nothing (AtReturn g) b is =
       nothing_if (b == 13) (unless (is_padded (with_extra g)) (AtNewline (with_extra g))) (Failed BadFraming) (unless_nothing (is_padded (with_extra g)) (AtNewline (with_extra g)) (at_newline (with_extra g))) (failed BadFraming)
-  byte (AtNewline g) b is =
+  byte_keeps_nothing (AtNewline g) b is =
       nothing_if (b == 10) (unless (is_padded (with_extra g)) (InLine [] (with_extra g))) (Failed BadFraming) (unless_nothing (is_padded (with_extra g)) (InLine [] (with_extra g)) (in_line [] (with_extra g))) (failed BadFraming)
-  byte (InTrailer lines g) b is = trailer_byte (lines ++ b ∷ []) g
-  byte (Finished g) b is = finished g
-  byte (Failed fault) b is = failed fault
+  byte_keeps_nothing (InTrailer lines g) b is = trailer_byte (lines ++ b ∷ []) g
+  byte_keeps_nothing (Finished g) b is = finished g
+  byte_keeps_nothing (Failed fault) b is = failed fault
 
   all_bytes : (place : Place) (bytes : List ℕ) → KeepsNothing place → KeepsNothing (after_bytes limit place bytes)
   unfolding after_bytes
   all_bytes place [] is = is
-  all_bytes place (b ∷ bs) is = all_bytes (after_byte limit place b) bs (byte place b is)
+  all_bytes place (b ∷ bs) is = all_bytes (after_byte limit place b) bs (byte_keeps_nothing place b is)
 
 pub bytes_keep_nothing : (limit : ℕ) (bytes : List ℕ) → KeepsNothing (after_bytes limit begun bytes)
 unfolding KeepsNothing
