@@ -34,7 +34,7 @@ pub enum PoolFault {
 
 /// What a poll of one exchange in flight came to.
 #[derive(Drop)]
-pub(crate) enum Polled {
+pub enum Polled {
     /// It is still in flight.
     Pending,
     /// Its reply came.

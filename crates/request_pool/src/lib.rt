@@ -6,5 +6,5 @@ mod fault;
 mod links;
 mod pool;
 
-pub use fault::{PoolFault, Stepped};
+pub use fault::{Polled, PoolFault, Stepped};
 pub use pool::Pool;

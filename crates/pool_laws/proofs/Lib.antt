@@ -1,0 +1,10 @@
+pub mod Lists
+pub mod Following
+pub mod KeptBySteps
+pub mod Running
+pub mod Kept
+pub mod LongHeads
+pub mod WholeReplies
+pub mod LongRequests
+pub mod Came
+pub mod Answers

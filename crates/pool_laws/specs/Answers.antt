@@ -1,0 +1,47 @@
+-- What a reply that comes is, where the other end of its link answers as a server does.
+use Rattle.std.specs.Prelude.{ℕ, ◌≡◌, ◌<◌, ◌^◌, false, List, length, Ok}
+use Rattle.rdf_terms.specs.declared.term.Triple.{Triple}
+use Rattle.tpf_base.specs.Addresses.{Address}
+use Rattle.tpf_base.specs.Links.{All, WireState, IsToldBy, ReceivesOwed, OwesAllowed, OpensGiven}
+use Rattle.tpf_base.specs.Marks.{Mark, Served, version_at}
+use Rattle.http_wire.specs.declared.message.Reply.{Reply}
+use Rattle.template_fill.specs.HttpAnswer.{NQuads}
+use Rattle.template_fill.specs.Metadata.{Config}
+use Rattle.template_fill.specs.Answers.{is_reload, answer_to}
+use Rattle.template_fill.specs.Responses.{answering, IsVersion, IsHonestAt}
+use Rattle.http_ends.specs.Requests.{asks}
+use Rattle.request_pool.specs.declared.fault.Stepped.TheVariants.{Came}
+use Rattle.request_pool.specs.Pools.{Pooled}
+use Rattle.request_pool.specs.Owned.{SuitsWire}
+use Rattle.request_pool.specs.Steps.{StepsTo, HandsOut}
+use Rattle.pool_laws.specs.Following.{AnswersSoFar}
+
+-- The wire tells all, and of its links this holds, as by the laws of every wire at each moment.
+pub record TellsAll (allows : List ℕ → ℕ → List ℕ → List ℕ → Type 0) (wire : WireState) : Type 0 where
+  pub all : wire.nature.tells ≡ All
+  pub told : (k : ℕ) → IsToldBy wire.nature.tells (wire.links k)
+  pub received : (k : ℕ) → ReceivesOwed (wire.links k)
+  pub owed : (k : ℕ) → OwesAllowed allows (wire.links k)
+
+-- The bytes are the body of the server's answer to the request for the address, over one of the versions: a page of N-Quads with status 200, and no answer to a reload.
+pub record IsBodyOf (history : List (List Triple)) (config : Config) (address : Address) (body : List ℕ) : Type 0 where
+  pub mark : Mark
+  pub version : IsVersion (length history) mark
+  pub no_reload : is_reload config (asks address) ≡ false
+  pub served : answer_to history mark config (asks address) ≡ answer_to history (Served (version_at mark)) config (asks address)
+  pub status : (answer_to history mark config (asks address)).status ≡ 200
+  pub media_type : (answer_to history mark config (asks address)).media_type ≡ NQuads
+  pub body_is : body ≡ (answer_to history mark config (asks address)).body
+
+-- A reply came: an ask with its ticket was held, and, over an honest other end at the host and the port of its address, the reply is the body of the answer to the request for it.
+pub record Brings (allows : List ℕ → ℕ → List ℕ → List ℕ → Type 0) (ticket : ℕ) (reply : Reply) (old new : Pooled) : Type 0 where
+  pub hands : HandsOut ticket old new
+  pub body : (history : List (List Triple)) (config : Config) → IsHonestAt allows hands.ask.address.host hands.ask.address.port (answering history config)
+      → IsBodyOf history config hands.ask.address reply.body
+
+-- Each reply of a step is such a body, where the wire tells all after the step. No address is too long for this: a request past the limit of heads is refused, and its refusal is no reply.
+abbrev pub RepliesAreAnswers : (List ℕ → ℕ → List ℕ → List ℕ → Type 0) → WireState → Type 0
+RepliesAreAnswers allows after =
+    (ticket : ℕ) (reply : Reply) (old new : Pooled) (before : WireState)
+    → OpensGiven before → SuitsWire old before → AnswersSoFar old before → old.limit < 2 ^ 64 → TellsAll allows after
+    → StepsTo (Ok (Came ticket reply)) old new before after → Brings allows ticket reply old new

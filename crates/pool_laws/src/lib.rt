@@ -1,0 +1,44 @@
+//! What the steps of a pool come to over honest wires.
+#![tactic(auto)]
+
+ghost use Rattle.std.specs.Prelude.{◌≡◌};
+ghost use Rattle.tpf_base.specs.Links.{All};
+ghost use Rattle.pool_laws.specs.Answers.{RepliesAreAnswers, TellsAll};
+ghost use Rattle.pool_laws.specs.Following.{ClosedPoolsFollow, EmptyPoolsFollow, FaultsFollow, FlightsFollow, OthersFollow, PollsFollow, PutsFollow, RunningFollows, RunsFollow, StartsFollow, StepsFollow, TurnsFollow};
+
+use http_ends::{a_response_is_cut, an_answer_is_read, requests_are_cut};
+use template_fill::authorities_are_hosts_and_ports;
+use tpf_base::Wire;
+
+/// On each link that a pool holds, whole requests for addresses stand, each with one whole reply,
+/// before what an exchange moves there itself. So it is of a new pool, and so it stays with each
+/// ask that is put, each step, whatever it answers, and each call on a link that it does not hold.
+pub fn whole_replies_come_first()
+    ensures empty { EmptyPoolsFollow }
+    ensures put { PutsFollow }
+    ensures close { ClosedPoolsFollow }
+    ensures fault { FaultsFollow }
+    ensures others { OthersFollow }
+    ensures flight { FlightsFollow }
+    ensures start { StartsFollow }
+    ensures poll { PollsFollow }
+    ensures turn { TurnsFollow }
+    ensures running { RunningFollows }
+    ensures run { RunsFollow }
+    ensures step { StepsFollow }
+{
+    authorities_are_hosts_and_ports();
+}
+
+/// Each reply that comes with a step, after which the wire is this one, is the body of the answer
+/// that an honest other end gives to the request for the address of its ticket (`replies`), where
+/// the wire tells all (`tells`).
+pub fn a_reply_is_an_answer<W: Wire>(wire: &W)
+    ensures replies { RepliesAreAnswers (W.allows wire.now) (W.state wire.now) }
+    ensures tells { (W.state wire.now).nature.tells ≡ All → TellsAll (W.allows wire.now) (W.state wire.now) }
+{
+    requests_are_cut();
+    an_answer_is_read();
+    a_response_is_cut();
+    authorities_are_hosts_and_ports();
+}
