@@ -8,3 +8,6 @@ pub mod WholeReplies
 pub mod LongRequests
 pub mod Came
 pub mod Answers
+pub mod Owning
+pub mod OwningPool
+pub mod OwningLaws

@@ -4,6 +4,7 @@
 ghost use Rattle.std.specs.Prelude.{◌≡◌};
 ghost use Rattle.tpf_base.specs.Links.{All};
 ghost use Rattle.pool_laws.specs.Answers.{RepliesAreAnswers, TellsAll};
+ghost use Rattle.pool_laws.specs.Owning.{ClosingCloses, EmptyPoolsOwn, FaultsOwn, PutsOwn, StepsOwn};
 ghost use Rattle.pool_laws.specs.Following.{ClosedPoolsFollow, EmptyPoolsFollow, FaultsFollow, FlightsFollow, OthersFollow, PollsFollow, PutsFollow, RunningFollows, RunsFollow, StartsFollow, StepsFollow, TurnsFollow};
 
 use http_ends::{a_response_is_cut, an_answer_is_read, requests_are_cut};
@@ -42,3 +43,14 @@ pub fn a_reply_is_an_answer<W: Wire>(wire: &W)
     a_response_is_cut();
     authorities_are_hosts_and_ports();
 }
+
+/// Where the asks of a pool are for one host and port, each link that was given since the pool was
+/// empty was dialled for them, and is held or closed, whatever the steps answer; the links before
+/// are as they were. So after its close each link that was given since is closed (`close`).
+pub fn links_are_closed()
+    ensures empty { EmptyPoolsOwn }
+    ensures put { PutsOwn }
+    ensures fault { FaultsOwn }
+    ensures step { StepsOwn }
+    ensures close { ClosingCloses }
+{}
