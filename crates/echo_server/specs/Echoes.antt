@@ -1,6 +1,5 @@
 -- What a connection means that gives back what it gets.
-use Rattle.std.specs.Prelude.{ℕ, ◌≡◌, ◌≤◌, List, [], ◌++◌, ◌==◌, length, take, drop, Bool, true, false, not}
-use Rattle.tpf_base.specs.Marks.{Mark}
+use Rattle.std.specs.Prelude.{◌≡◌, [], ◌++◌, ◌==◌, length, false, not}
 use Rattle.connections.specs.Kinds.{Kind}
 use Rattle.echo_server.specs.declared.echo.Echo.{Echo}
 

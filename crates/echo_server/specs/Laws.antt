@@ -1,9 +1,9 @@
 -- Serves proofs alone: the laws of a connection that gives back what it gets.
-use Rattle.std.specs.Prelude.{ℕ, ◌≡◌, ◌≤◌, List, [], ◌∷◌, ◌++◌, length, take, drop, Bool, true, false, not, ◌==◌}
+use Rattle.std.specs.Prelude.{ℕ, ◌≡◌, List, [], ◌∷◌, ◌++◌, length, take, drop, Bool, true, false, not, ◌==◌}
 use Rattle.std.proofs.Common.{refl, sym, ◌∙◌, ap, append_assoc, append-nil, arith}
 use Rattle.std.proofs.lemmas.Bool.{eqb-true}
 use Rattle.std.proofs.lemmas.List.{take-append-drop}
-use Rattle.connections.specs.Kinds.{BeginsResponse, IsWhole, Begins, Whole, Takes}
+use Rattle.connections.specs.Kinds.{BeginsResponse, IsWhole, Takes}
 use Rattle.loop_wire.specs.Response.{BeginsAt}
 use Rattle.echo_server.specs.declared.echo.Echo.{Echo}
 use Rattle.echo_server.specs.Echoes.{echoes}

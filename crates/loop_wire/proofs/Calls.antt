@@ -1,19 +1,15 @@
 -- What a call does to a wire, from what it does to its link.
-use Rattle.std.proofs.Common.{ℕ, zero, suc, ◌≡◌, ◌≢◌, ◌<◌, ◌≤◌, ◌+◌, ◌++◌, ◌||◌, Bool, true, false, List, [], ◌∷◌, length, take, set, get_or, nat_lt, Option, Some, None, Result, Ok, Err, refl, ap, sym, subst, ◌∙◌, length-set, length-append, arith}
-use Rattle.std.proofs.lemmas.List.{get_or-set_same, get_or-set_other, set-get_or, get_or_append_left, get_or_past, append-nil, length-take-le}
+use Rattle.std.proofs.Common.{ℕ, zero, suc, ◌≡◌, ◌≢◌, ◌<◌, ◌≤◌, ◌+◌, ◌++◌, ◌||◌, Bool, true, false, List, [], ◌∷◌, length, take, set, get_or, Option, Some, refl, ap, sym, subst, ◌∙◌, length-set, length-append, arith}
+use Rattle.std.proofs.lemmas.List.{get_or-set_same, get_or-set_other, set-get_or, append-nil, length-take-le}
 use Rattle.std.proofs.Math.Seq.{get_or-append_seam}
-use Rattle.tpf_base.specs.Causes.{counted, DoesNotFail}
-use Rattle.tpf_base.specs.Failures.{CallCounts, is_due, is_dial_due, is_next_due, is_next_dial_due, is_nth}
-use Rattle.tpf_base.specs.Links.{Sending, Receiving, All, Link, IsRipe, ToSend, ToReceive, is_short, WireState}
-use Rattle.tpf_base.specs.Calls.{OnlyOn, SameWire, Sends, Receives, Closes, Gives, GivesNone, DialsSteadily, Wakes, WaitsSteadily, WakesRipe}
-use Rattle.tpf_base.specs.declared.fault.Fault.{Fault}
-use Rattle.tpf_base.specs.declared.fault.Fault.TheVariants as fault
+use Rattle.tpf_base.specs.Causes.{counted}
+use Rattle.tpf_base.specs.Failures.{CallCounts, is_due, is_dial_due, is_nth}
+use Rattle.tpf_base.specs.Links.{Sending, Receiving, All, Link, is_short, WireState}
+use Rattle.tpf_base.specs.Calls.{OnlyOn, SameWire, Sends, Receives, Closes, Gives}
 use Rattle.tpf_base.specs.declared.failing.Failing.{Failing}
 use Rattle.tpf_base.specs.declared.failing.Failing.TheVariants.{Never, Every, At, AfterBytes, Dials}
 use Rattle.tpf_base.specs.declared.wire.Moved.{Moved}
 use Rattle.tpf_base.specs.declared.wire.Moved.TheVariants as answers
-use Rattle.tpf_base.specs.declared.wire.Ready.{Ready}
-use Rattle.tpf_base.specs.declared.wire.Ready.TheVariants as ready
 use Rattle.loop_wire.specs.Held as held
 use Rattle.loop_wire.specs.Held.{Held, no_link, new_link, told, settled, stalled_at, sent_more, received_more, ended_now, closed, woken_now, IsHeld, Hears}
 use Rattle.loop_wire.specs.Looped.{wire_of, nature_of, is_steady, every_of, woke_after}

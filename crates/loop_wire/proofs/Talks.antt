@@ -1,7 +1,7 @@
 -- A link, its connection and what is owed.
-use Rattle.std.proofs.Common.{ℕ, zero, suc, ◌≡◌, ◌<◌, ◌≤◌, ◌+◌, ◌-◌, ◌++◌, Bool, true, false, List, [], ◌∷◌, length, take, replicate, nat_lt, ◌==◌, if◌then◌else◌, Option, Some, None, Result, Ok, Err, OnOk, is_err, refl, ap, sym, subst, ◌∙◌, append_assoc, length-append, arith}
+use Rattle.std.proofs.Common.{ℕ, zero, suc, ◌≡◌, ◌<◌, ◌≤◌, ◌+◌, ◌-◌, ◌++◌, Bool, true, false, List, [], ◌∷◌, length, take, replicate, nat_lt, ◌==◌, if◌then◌else◌, Option, Some, Result, Ok, Err, OnOk, is_err, refl, ap, sym, subst, ◌∙◌, length-append, arith}
 use Rattle.std.proofs.lemmas.List.{append-nil, take-append-le, length-take-le, length-replicate}
-use Rattle.std.proofs.Math.Seq.{take-append-add, take-append_seam, take-length}
+use Rattle.std.proofs.Math.Seq.{take-append-add}
 use Rattle.std.proofs.lemmas.Grind.{common_steps}
 use Rattle.std.proofs.lemmas.Bool.Decides.{nat_tests}
 use Rattle.tpf_base.specs.Links.{Sending, Receiving, IsRipe, ToSend, ToReceive, is_short}

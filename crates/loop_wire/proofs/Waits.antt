@@ -1,11 +1,9 @@
 -- A wait, and a link that was just given.
-use Rattle.std.proofs.Common.{ℕ, zero, suc, ◌≡◌, ◌<◌, ◌≤◌, ◌++◌, Bool, true, false, List, [], ◌∷◌, length, set, get_or, Option, Some, None, Result, Ok, Err, if◌then◌else◌, is_ok, is_err, refl, ap, sym, subst, ◌∙◌, arith}
-use Rattle.std.proofs.lemmas.List.{get_or-set_same, get_or-set_other, length-set, map-append}
-use Rattle.tpf_base.specs.Causes.{counted}
+use Rattle.std.proofs.Common.{ℕ, ◌≡◌, ◌<◌, ◌++◌, Bool, true, false, List, [], ◌∷◌, length, set, get_or, Option, Some, Result, Ok, Err, if◌then◌else◌, is_ok, is_err, refl, ap, sym, subst, ◌∙◌, arith}
+use Rattle.std.proofs.lemmas.List.{get_or-set_same, get_or-set_other, map-append}
 use Rattle.tpf_base.specs.Failures.{CallCounts}
 use Rattle.tpf_base.specs.Links.{IsRipe, ToSend, ToReceive, WireState}
-use Rattle.tpf_base.specs.Calls.{OnlyWaits, Wakes, WakesRipe, WaitsSteadily}
-use Rattle.tpf_base.specs.declared.fault.Fault.{Fault}
+use Rattle.tpf_base.specs.Calls.{Wakes, WakesRipe, WaitsSteadily}
 use Rattle.tpf_base.specs.declared.fault.Fault.TheVariants as fault
 use Rattle.tpf_base.specs.declared.wire.Ready.{Ready}
 use Rattle.tpf_base.specs.declared.wire.Ready.TheVariants as ready
@@ -13,8 +11,7 @@ use Rattle.connections.specs.Kinds.{Kind, Opens}
 use Rattle.connections.specs.Versions.{Serving}
 use Rattle.loop_wire.specs.declared.link.LoopLink.{LoopLink}
 use Rattle.loop_wire.specs.Held.{Held, no_link, new_link, told, woken_now, IsHeld, IsKept}
-use Rattle.loop_wire.specs.Looped.{wire_of, nature_of, idle_of, held_of, AreKept, IsWire}
-use Rattle.loop_wire.proofs.Calls.{CountsOn}
+use Rattle.loop_wire.specs.Looped.{wire_of, idle_of, held_of, IsWire}
 use Rattle.loop_wire.proofs.Lists.{kept_push, length_held}
 use Rattle.loop_wire.proofs.Wires.{open_below}
 
@@ -31,13 +28,12 @@ asleep false none = refl
 pub wakes_as : (owes : List ℕ → List ℕ) (k : ℕ) (links links' : List Held) (counts counts' : CallCounts) (provoked waits waits' : ℕ) (woke : Bool)
     → k < length links → (get_or links k no_link).ripe ≡ true → IsHeld owes (get_or links k no_link) → links' ≡ set links k (woken_now (get_or links k no_link)) → woke ≡ false
     → Wakes (ready.Link k) (wire_of owes links counts provoked waits woke) (wire_of owes links' counts' provoked waits' true)
-wakes_as owes k links links' counts counts' provoked waits waits' woke below ripe held is none =
-    (
-        ripe_is_open owes (get_or links k no_link) (held.ripe ripe),
-        ap (λ (ls : List Held). told owes (get_or ls k no_link)) is ∙ ap (told owes) (get_or-set_same links k (woken_now (get_or links k no_link)) no_link below),
-        (λ j other. ap (λ (ls : List Held). told owes (get_or ls j no_link)) is ∙ ap (told owes) (get_or-set_other links k j (woken_now (get_or links k no_link)) no_link other)),
-        rw (none) refl,
-    )
+wakes_as owes k links links' counts counts' provoked waits waits' woke below ripe held is none = (
+  ripe_is_open owes (get_or links k no_link) (held.ripe ripe),
+  ap (λ (ls : List Held). told owes (get_or ls k no_link)) is ∙ ap (told owes) (get_or-set_same links k (woken_now (get_or links k no_link)) no_link below),
+  (λ j other. ap (λ (ls : List Held). told owes (get_or ls j no_link)) is ∙ ap (told owes) (get_or-set_other links k j (woken_now (get_or links k no_link)) no_link other)),
+  rw (none) refl,
+)
 
 pub waits_found : (owes : List ℕ → List ℕ) (k : ℕ) (links links' : List Held) (counts counts' : CallCounts) (provoked waits waits' : ℕ) (woke woke' : Bool)
     → (get_or links k no_link).ripe ≡ true → IsHeld owes (get_or links k no_link) → counts'.faults ≡ counts.faults
@@ -48,20 +44,6 @@ waits_found owes k links links' counts counts' provoked waits waits' woke woke' 
       ripe = λ answer same. let e : ready.Link k ≡ answer = cc in subst (λ (a : Ready). WakesRipe a old) e (held.ripe ripe);
       unprovoked = λ j up idle. (refl, λ e every. record { same = faults; answer = λ f. absurd cc });
     }
-
--- a wait that answers a link changes nothing else
-pub waits_only : (owes : List ℕ → List ℕ) (k : ℕ) (links links' : List Held) (h : Held) (counts counts' : CallCounts) (provoked waits : ℕ) (woke woke' : Bool)
-    → links' ≡ set links k h → CountsOn counts counts' → OnlyWaits (wire_of owes links counts provoked waits woke) (wire_of owes links' counts' provoked (counted waits) woke')
-waits_only owes k links links' h counts counts' provoked waits woke woke' is on = record {
-  count = refl;
-  given = ap length is ∙ length-set links k h;
-  later = on.later;
-  provoked = omega arith;
-  dials = on.dials;
-  listens = refl;
-  door_stalls = refl;
-  nature = ap nature_of on.failing;
-}
 
 module _ {C : Type 0} where
   -- the same of the links behind a slice of them

@@ -1,21 +1,19 @@
 -- A wire's links behind a slice of them, its counts, and what a call needs.
-use Rattle.std.proofs.Common.{ℕ, zero, suc, ◌≡◌, ◌<◌, ◌≤◌, ◌+◌, ◌++◌, ◌&&◌, ◌==◌, ◌%◌, not, Bool, true, false, List, [], ◌∷◌, length, take, drop, set, get_or, min, Some, refl, ap, sym, subst, ◌∙◌, arith}
-use Rattle.std.specs.List.{AllByRecursion}
+use Rattle.std.proofs.Common.{ℕ, zero, suc, ◌≡◌, ◌<◌, ◌≤◌, ◌++◌, ◌&&◌, not, Bool, true, false, List, [], ◌∷◌, length, take, drop, set, get_or, Some, refl, ap, sym, subst, ◌∙◌, arith}
 use Rattle.std.proofs.lemmas.List.{append-nil}
 use Rattle.std.proofs.Math.ListN.{drop_of_length-le}
 use Rattle.std.proofs.Math.Seq.{take-length}
 use Rattle.tpf_base.specs.Causes.{counted}
 use Rattle.tpf_base.specs.Failures.{CallCounts, room}
 use Rattle.tpf_base.specs.declared.failing.Failing.{Failing}
-use Rattle.tpf_base.specs.Links.{Receiving, IsRipe, ToSend, ToReceive, is_short}
+use Rattle.tpf_base.specs.Links.{Receiving, ToSend, ToReceive, is_short}
 use Rattle.tpf_base.specs.declared.wire.Moved.{Moved}
 use Rattle.connections.specs.Kinds.{Kind}
 use Rattle.connections.specs.Versions.{Serving}
 use Rattle.loop_wire.specs.declared.link.LoopLink.{LoopLink}
-use Rattle.loop_wire.specs.Held.{Held, no_link, told, IsHeld, IsKept, Hears, Gives}
+use Rattle.loop_wire.specs.Held.{Held, no_link, told, IsHeld, Hears, Gives}
 use Rattle.loop_wire.specs.Looped.{held_of, AreKept, IsWire}
 use Rattle.loop_wire.proofs.Calls.{CountsOn}
-use Rattle.loop_wire.proofs.Lists.{length_held}
 
 -- an open link was given
 pub open_below : (links : List Held) (k : ℕ) → (get_or links k no_link).is_open ≡ true → k < length links

@@ -1,9 +1,9 @@
 -- Serves proofs alone: what a wire in one process keeps.
-use Rattle.std.specs.Prelude.{ℕ, ◌≡◌, ◌≤◌, ◌<◌, ◌++◌, Bool, true, false, List, length, take, drop, get_or, Some}
+use Rattle.std.specs.Prelude.{ℕ, ◌≡◌, ◌≤◌, Bool, true, false, List, length, take, drop, get_or}
 use Rattle.std.proofs.Common.{refl, ap, sym, lit<}
 use Rattle.std.proofs.lemmas.List.{get_or_past, take-append-drop}
 use Rattle.tpf_base.specs.Failures.{CallCounts}
-use Rattle.tpf_base.specs.Links.{All, Link, IsToldBy, ReceivesOwed, OwesAllowed, OpensGiven, IsLively}
+use Rattle.tpf_base.specs.Links.{All, IsToldBy, ReceivesOwed, OwesAllowed, IsLively}
 use Rattle.loop_wire.specs.Held.{Held, no_link, told}
 use Rattle.loop_wire.specs.Looped.{wire_of}
 

@@ -1,5 +1,5 @@
 -- What a wire in one process tells.
-use Rattle.std.specs.Prelude.{ℕ, ◌≡◌, ◌≤◌, Bool, true, false, List, [], map, length, get_or, Option, Some, None, if◌then◌else◌}
+use Rattle.std.specs.Prelude.{ℕ, ◌≤◌, Bool, true, false, List, [], map, length, get_or, Option, Some, None, if◌then◌else◌}
 use Rattle.std.specs.List.{AllByRecursion}
 use Rattle.tpf_base.specs.Causes.{counted, counted_by}
 use Rattle.tpf_base.specs.Failures.{CallCounts, no_calls}

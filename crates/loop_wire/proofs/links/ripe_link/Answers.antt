@@ -1,4 +1,4 @@
-use Rattle.std.proofs.Common.{ℕ, ◌≡◌, ◌<◌, ◌≤◌, false, Option, Some, None, IfNone, length, get_or, List, arith}
+use Rattle.std.proofs.Common.{ℕ, ◌≡◌, ◌<◌, ◌≤◌, false, Option, Some, None, IfNone, get_or, List, arith}
 use Rattle.loop_wire.specs.Held.{Held, no_link}
 use Rattle.loop_wire.proofs.Talks.{two_sides}
 use Rattle.loop_wire.proofs.links.ripe_link.Goals as goal
