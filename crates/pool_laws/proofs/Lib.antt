@@ -11,3 +11,5 @@ pub mod Answers
 pub mod Owning
 pub mod OwningPool
 pub mod OwningLaws
+pub mod Dialling
+pub mod Trying

@@ -19,7 +19,6 @@ use Rattle.pool_laws.proofs.OwningPool.{AsksAt, Owning, owning_is_kept}
 module _ (host : List ℕ) (port : ℕ) where
   asks_in : (p : Pooled) → AllByRecursion (λ ask. IsAt host port ask.address) (held p) → AsksAt host port p
   asks_in p all =
-      let at = λ (ask : Ask). IsAt host port ask.address in
       let flying = all_unmap (λ (ask : Ask). IsAt host port ask.address) ask_flying (in_flight p) (all_behind (λ (ask : Ask). IsAt host port ask.address) (map ask_waiting p.waiting) (map ask_flying (in_flight p)) all) in
       record {
         waiting = all_unmap (λ (ask : Ask). IsAt host port ask.address) ask_waiting p.waiting (all_front (λ (ask : Ask). IsAt host port ask.address) (map ask_waiting p.waiting) (map ask_flying (in_flight p)) all);

@@ -1,3 +1,4 @@
 pub mod Following
 pub mod Answers
 pub mod Owning
+pub mod Counting

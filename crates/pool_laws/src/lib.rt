@@ -5,6 +5,7 @@ ghost use Rattle.std.specs.Prelude.{◌≡◌};
 ghost use Rattle.tpf_base.specs.Links.{All};
 ghost use Rattle.pool_laws.specs.Answers.{RepliesAreAnswers, TellsAll};
 ghost use Rattle.pool_laws.specs.Owning.{ClosingCloses, EmptyPoolsOwn, FaultsOwn, PutsOwn, StepsOwn};
+ghost use Rattle.pool_laws.specs.Counting.{ClosingDials, EmptyPoolsDial, EmptyPoolsFewFailed, FaultsDial, PutsDial, PutsFewFailed, StepsCountTries, StepsDial, StepsFewFailed};
 ghost use Rattle.pool_laws.specs.Following.{ClosedPoolsFollow, EmptyPoolsFollow, FaultsFollow, FlightsFollow, OthersFollow, PollsFollow, PutsFollow, RunningFollows, RunsFollow, StartsFollow, StepsFollow, TurnsFollow};
 
 use http_ends::{a_response_is_cut, an_answer_is_read, requests_are_cut};
@@ -53,4 +54,19 @@ pub fn links_are_closed()
     ensures fault { FaultsOwn }
     ensures step { StepsOwn }
     ensures close { ClosingCloses }
+{}
+
+/// An exchange is started for each try of an ask, of which there are at most one more than it may be
+/// tried again (`empty`, `put`, `step`, `tries`); and no link is dialled but for an exchange that is
+/// started (`dials_empty`, `dials_put`, `dials_fault`, `dials_step`, `dials_close`).
+pub fn exchanges_are_counted()
+    ensures empty { EmptyPoolsFewFailed }
+    ensures put { PutsFewFailed }
+    ensures step { StepsFewFailed }
+    ensures tries { StepsCountTries }
+    ensures dials_empty { EmptyPoolsDial }
+    ensures dials_put { PutsDial }
+    ensures dials_fault { FaultsDial }
+    ensures dials_step { StepsDial }
+    ensures dials_close { ClosingDials }
 {}
