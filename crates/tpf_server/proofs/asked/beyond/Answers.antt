@@ -1,4 +1,4 @@
-use Rattle.std.proofs.Common.{◌≡◌, ℕ, ◌<◌, ◌≤◌, ◌^◌, length, ap, sym, subst, ◌∙◌, arith}
+use Rattle.std.proofs.Common.{◌<◌, ◌≤◌, ◌^◌, length, ap, sym, ◌∙◌, arith}
 use Rattle.triple_table.specs.Stored.{Stored, triples_in}
 use Rattle.template_fill.specs.Metadata.{Config}
 use Rattle.tpf_server.proofs.AskedLaws.{given_answer, none_answer}

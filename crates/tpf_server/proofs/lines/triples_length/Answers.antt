@@ -1,4 +1,4 @@
-use Rattle.std.proofs.Common.{◌≡◌, ◌*◌, ◌^◌, ap, sym, ◌∙◌, length, arith}
+use Rattle.std.proofs.Common.{◌≡◌, ap, sym, ◌∙◌, length, arith}
 use Rattle.std.specs.Prelude.{slice_index_or}
 use Rattle.rdf_terms.specs.declared.term.Triple.{Triple}
 use Rattle.triple_table.specs.Stored.{held_terms, listed, triple_at}

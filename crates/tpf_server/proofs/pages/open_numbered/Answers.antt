@@ -1,4 +1,3 @@
-use Rattle.std.proofs.Common.{refl}
 use Rattle.tpf_server.specs.Serving.{served}
 use Rattle.tpf_server.proofs.OpenLaws.{opens_given, opens_past}
 use Rattle.tpf_server.proofs.pages.open_numbered.Goals as goal

@@ -1,4 +1,4 @@
-use Rattle.std.proofs.Common.{◌≡◌, List, ap, ◌∙◌, length, arith}
+use Rattle.std.proofs.Common.{List, ap, ◌∙◌, length, arith}
 use Rattle.rdf_terms.specs.declared.term.Quad.{Quad}
 use Rattle.tpf_server.specs.Serving.{Version, served}
 use Rattle.tpf_server.proofs.PageLaws.{metadata_few}

@@ -3,15 +3,23 @@ use Rattle.tpf_server.specs.declared.owed.Debt.{Debt}
 use Rattle.tpf_server.specs.Owed.{Fits}
 use Rattle.tpf_server.specs.Conversation.{Conversation}
 use Rattle.tpf_server.proofs.ConversationLaws.{conversation, makes_some}
-use Rattle.tpf_server.proofs.KeptLaws.{half_on, makes_kept, same_fits}
+use Rattle.tpf_server.proofs.KeptLaws.{half_on, makes_kept, nothing_fits, same_fits}
 use Rattle.tpf_server.proofs.connection.Connection.make_on.Goals as goal
 
 pub fill-requires-clause-fits : goal.fill-requires-clause-fits
 fill-requires-clause-fits c =
     same_fits c.self.inside.debt.rest c.replace-debt.result.rest c.self.inside.debt.waiting.items c.replace-debt.result.waiting.items (ap (λ (d : Debt). d.rest) c.replace-debt.ensures.value) (ap (λ (d : Debt). d.waiting.items) c.replace-debt.ensures.value) c.self.invariant.2
 
+-- after want of memory nothing is owed
 pub invariant_of-self : goal.invariant_of-self
 invariant_of-self c = (
+  half_on c.self.inside.given c.self.inside.bytes.items c.fill.new.out.items c.self.invariant.0 c.fill.ensures.front,
+  c.self.invariant.1,
+  nothing_fits c.replace-debt.new.dest.rest c.replace-debt.new.dest.waiting.items (ap (λ (d : Debt). d.rest) c.replace-debt.ensures.after ∙ c.new.ensures.rest) (ap (λ (d : Debt). d.waiting.items) c.replace-debt.ensures.after ∙ c.new.ensures.waiting),
+)
+
+pub invariant_of-self-2 : goal.invariant_of-self-2
+invariant_of-self-2 c = (
   half_on c.self.inside.given c.self.inside.bytes.items c.fill.new.out.items c.self.invariant.0 c.in_ok-fill.ensures.front,
   c.self.invariant.1,
   same_fits c.fill.new.self.rest c.give_back.new.self.rest c.fill.new.self.waiting.items c.give_back.new.self.waiting.items c.give_back.ensures.rest c.give_back.ensures.waiting c.in_ok-fill.ensures.fits,

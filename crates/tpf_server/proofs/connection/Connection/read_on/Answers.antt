@@ -2,7 +2,7 @@ use Rattle.std.proofs.Common.{ap, drop, ◌∙◌}
 use Rattle.http_wire.specs.Requests.{Held}
 use Rattle.tpf_server.specs.declared.owed.Debt.{Debt}
 use Rattle.tpf_server.proofs.ConversationLaws.{conversation, fed_open, feeds}
-use Rattle.tpf_server.proofs.KeptLaws.{heads_fit, heads_open, kept_open, same_fits}
+use Rattle.tpf_server.proofs.KeptLaws.{heads_fit, heads_open, kept_open, nothing_fits, same_fits}
 use Rattle.tpf_server.proofs.connection.Connection.read_on.Goals as goal
 
 pub read_heads-requires : goal.read_heads-requires
@@ -13,8 +13,23 @@ pub kept-requires : goal.kept-requires
 kept-requires c =
     heads_open c.args.server.now c.feed.new.self.bytes c.replace-debt.result.waiting.items c.read_heads.new.self.waiting.items c.in_ok-reading.reading c.read_heads.new.requests c.is_ended.result c.is_ended.ensures c.in_ok-reading.ensures.ok
 
+-- after want of memory nothing is owed
 pub invariant_of-self : goal.invariant_of-self
 invariant_of-self c = (
+  c.self.invariant.0,
+  ap (λ (h : Held). h.refused) (c.replace-requests.ensures.after ∙ c.new.ensures),
+  nothing_fits c.replace-debt.new.dest.rest c.replace-debt.new.dest.waiting.items (ap (λ (d : Debt). d.rest) c.replace-debt.ensures.after ∙ c.new-2.ensures.rest) (ap (λ (d : Debt). d.waiting.items) c.replace-debt.ensures.after ∙ c.new-2.ensures.waiting),
+)
+
+pub invariant_of-self-in_err-reading : goal.invariant_of-self-in_err-reading
+invariant_of-self-in_err-reading c = (
+  c.self.invariant.0,
+  ap (λ (h : Held). h.refused) (c.replace-requests.ensures.after ∙ c.new.ensures),
+  nothing_fits c.replace-debt.new.dest.rest c.replace-debt.new.dest.waiting.items (ap (λ (d : Debt). d.rest) c.replace-debt.ensures.after ∙ c.new-2.ensures.rest) (ap (λ (d : Debt). d.waiting.items) c.replace-debt.ensures.after ∙ c.new-2.ensures.waiting),
+)
+
+pub invariant_of-self-2 : goal.invariant_of-self-2
+invariant_of-self-2 c = (
   c.self.invariant.0,
   kept_open c.is_ended.result c.kept.result c.read_heads.new.requests c.kept.ensures.ended c.kept.ensures.open_
       (heads_open c.args.server.now c.feed.new.self.bytes c.replace-debt.result.waiting.items c.read_heads.new.self.waiting.items c.in_ok-reading.reading c.read_heads.new.requests c.is_ended.result c.is_ended.ensures c.in_ok-reading.ensures.ok),

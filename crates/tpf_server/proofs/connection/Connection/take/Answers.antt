@@ -1,4 +1,3 @@
-use Rattle.std.proofs.Common.{drop}
 use Rattle.tpf_server.proofs.ConversationLaws.{take_answer, taken_is}
 use Rattle.tpf_server.proofs.connection.Connection.take.Goals as goal
 

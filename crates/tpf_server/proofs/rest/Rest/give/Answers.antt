@@ -1,4 +1,4 @@
-use Rattle.std.proofs.Common.{◌≡◌, ◌∙◌, ap, List, ℕ, ◌++◌}
+use Rattle.std.proofs.Common.{◌∙◌, ap, List, ℕ, ◌++◌}
 use Rattle.tpf_server.proofs.RestLaws.{given_line, given_words}
 use Rattle.tpf_server.proofs.StatusLaws.{body_is}
 use Rattle.tpf_server.proofs.rest.Rest.give.Goals as goal
