@@ -104,12 +104,12 @@ module _ (laws : EndsAreTrue) (history : List (List Triple)) (config : Config) (
 -- ---- a link that is left as it is, or closed
 
 -- the same is told of it
-record SameWhole (old new : Link) : Type 0 where
-  peer : new.peer ≡ old.peer
-  sent : new.sent ≡ old.sent
-  received : new.received ≡ old.received
-  owed : new.owed ≡ old.owed
-  ended : new.ended ≡ old.ended
+pub record SameWhole (old new : Link) : Type 0 where
+  pub peer : new.peer ≡ old.peer
+  pub sent : new.sent ≡ old.sent
+  pub received : new.received ≡ old.received
+  pub owed : new.owed ≡ old.owed
+  pub ended : new.ended ≡ old.ended
 
 whole_same : (old new : Link) → new ≡ old → SameWhole old new
 whole_same old new e = record {
@@ -139,12 +139,12 @@ closed_whole i a b c k = elim (at_or_off k i) [
   | inr n ↦ whole_same (a.links k) (b.links k) (c.only.others k n)
 ]
 
-settles_whole : (o : Option ℕ) (address : Address) (p q : Pooled) (a b : WireState) → Settles o address p q a b → (k : ℕ) → SameWhole (a.links k) (b.links k)
+pub settles_whole : (o : Option ℕ) (address : Address) (p q : Pooled) (a b : WireState) → Settles o address p q a b → (k : ℕ) → SameWhole (a.links k) (b.links k)
 settles_whole o address p q a b (NoLink e f h) k = whole_same (a.links k) (b.links k) (ap (λ (w : WireState). w.links k) h)
 settles_whole o address p q a b (Kept i e room f h) k = whole_same (a.links k) (b.links k) (ap (λ (w : WireState). w.links k) h)
 settles_whole o address p q a b (Shut i e f c) k = closed_whole i a b c k
 
-settles_nature : (o : Option ℕ) (address : Address) (p q : Pooled) (a b : WireState) → Settles o address p q a b → b.nature ≡ a.nature
+pub settles_nature : (o : Option ℕ) (address : Address) (p q : Pooled) (a b : WireState) → Settles o address p q a b → b.nature ≡ a.nature
 settles_nature o address p q a b (NoLink e f h) = ap (λ (w : WireState). w.nature) h
 settles_nature o address p q a b (Kept i e room f h) = ap (λ (w : WireState). w.nature) h
 settles_nature o address p q a b (Shut i e f c) = c.only.nature

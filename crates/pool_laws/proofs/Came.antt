@@ -67,7 +67,7 @@ flight_came ticket answer f p q a b h s was from = record {
   others = IsPermutation-trans _ _ _ from (subst (λ (l : List Ask). IsPermutation (held_with f p) (ask_flying f ∷ l)) (sym (settles_held (left_link h.1.now) h.1.now.address p q h.0 b h.3)) (held_out f p));
 }
 
-begun_holds : (p q : Pooled) (f : Flight) → Begins p q f → IsPermutation (held p) (held_with f q)
+pub begun_holds : (p q : Pooled) (f : Flight) → Begins p q f → IsPermutation (held p) (held_with f q)
 begun_holds p q f b =
     let r : Pooled = record p { waiting = b.rest; spare = b.spare; started = p.started + 1 } in
     let first : held p ≡ ask_waiting b.first ∷ held r = ap (λ (l : List Waiting). map ask_waiting l ++ map ask_flying (in_flight p)) b.is_first in
@@ -92,7 +92,7 @@ last_came : AuthoritiesAreHostsAndPorts → (ticket : ℕ) (answer : Reply) (p q
 last_came one ticket answer p q a b h (OfStart s) = starts_came one ticket answer p q a b h s
 last_came one ticket answer p q a b h (OfPoll s) = next_came ticket answer p q a b h s
 
-gathered_held : (p : Pooled) → held (record p { polled = in_flight p; due = [] }) ≡ held p
+pub gathered_held : (p : Pooled) → held (record p { polled = in_flight p; due = [] }) ≡ held p
 gathered_held p = ap (λ (l : List Flight). map ask_waiting p.waiting ++ map ask_flying l) (append-nil (in_flight p))
 
 first_asks : (limit ticket : ℕ) (answer : Reply) (was now is : List Ask) (b : WireState) → IsPermutation was now → CameBy limit ticket answer now is b → CameBy limit ticket answer was is b

@@ -198,7 +198,7 @@ sent_more before x =
 pub received_more : (before : List Answered) (x : Answered) → received_of (before ++ x ∷ []) ≡ received_of before ++ x.received
 received_more before x = flat-append (λ (k : Answered). k.received) before (x ∷ []) ∙ ap (λ (t : List ℕ). received_of before ++ t) (append-nil x.received)
 
-holds_is : {T : Type 0} (x : Option T) (v w : T) → w ≡ v → Holds x v → Holds x w
+pub holds_is : {T : Type 0} (x : Option T) (v w : T) → w ≡ v → Holds x v → Holds x w
 holds_is x v w e h = subst (λ (t : _). Holds x t) (sym e) h
 
 -- the link of a reply that keeps it

@@ -13,3 +13,5 @@ pub mod OwningPool
 pub mod OwningLaws
 pub mod Dialling
 pub mod Trying
+pub mod Faults
+pub mod Causes

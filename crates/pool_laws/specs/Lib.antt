@@ -2,3 +2,4 @@ pub mod Following
 pub mod Answers
 pub mod Owning
 pub mod Counting
+pub mod Causes

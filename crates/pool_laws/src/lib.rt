@@ -5,6 +5,7 @@ ghost use Rattle.std.specs.Prelude.{◌≡◌};
 ghost use Rattle.tpf_base.specs.Links.{All};
 ghost use Rattle.pool_laws.specs.Answers.{RepliesAreAnswers, TellsAll};
 ghost use Rattle.pool_laws.specs.Owning.{ClosingCloses, EmptyPoolsOwn, FaultsOwn, PutsOwn, StepsOwn};
+ghost use Rattle.pool_laws.specs.Causes.{FaultsHaveCauses, RepliesAreRead};
 ghost use Rattle.pool_laws.specs.Counting.{ClosingDials, EmptyPoolsDial, EmptyPoolsFewFailed, FaultsDial, PutsDial, PutsFewFailed, StepsCountTries, StepsDial, StepsFewFailed};
 ghost use Rattle.pool_laws.specs.Following.{ClosedPoolsFollow, EmptyPoolsFollow, FaultsFollow, FlightsFollow, OthersFollow, PollsFollow, PutsFollow, RunningFollows, RunsFollow, StartsFollow, StepsFollow, TurnsFollow};
 
@@ -70,3 +71,14 @@ pub fn exchanges_are_counted()
     ensures dials_step { StepsDial }
     ensures dials_close { ClosingDials }
 {}
+
+/// A reply that comes was read, whole, on a link on which the whole request for its ticket's address
+/// was sent (`reply`). Each fault with which a step ends has a cause (`fault`): a rise of the wire's
+/// faults; 1000 waits with nothing moved; the budget; or what was received in reply to a request, as
+/// it is kept, which is refused or was cut.
+pub fn a_step_has_a_cause()
+    ensures reply { RepliesAreRead }
+    ensures fault { FaultsHaveCauses }
+{
+    authorities_are_hosts_and_ports();
+}

@@ -1,0 +1,240 @@
+-- Where a reply was read, and why a step ends with a fault.
+use Rattle.std.proofs.Common.{ℕ, ◌≡◌, ◌≤◌, ◌⊎◌, inl, inr, ◌++◌, List, [], ◌∷◌, map, Option, Some, None, true, false, Result, Ok, Err, refl, sym, ◌∙◌, ap, subst, arith}
+use Rattle.std.specs.List.{AllByRecursion}
+use Rattle.std.specs.List.Sorted.{IsPermutation}
+use Rattle.std.proofs.lemmas.List.Sorted.{IsPermutation-refl, IsPermutation-trans}
+use Rattle.futures.specs.declared.task.Poll.{Poll}
+use Rattle.futures.specs.declared.task.Poll.TheVariants as poll
+use Rattle.tpf_base.specs.Addresses.{Address}
+use Rattle.tpf_base.specs.Causes.{Rose}
+use Rattle.tpf_base.specs.HttpReply.{reply_of}
+use Rattle.tpf_base.specs.Links.{Nature, WireState, OpensGiven, told_by}
+use Rattle.http_wire.specs.declared.message.Reply.{Reply}
+use Rattle.template_fill.specs.Authorities.{AuthoritiesAreHostsAndPorts}
+use Rattle.link_calls.specs.Sending.{Holds}
+use Rattle.http_ends.specs.Requests.{request_for}
+use Rattle.http_ends.specs.Cuts.{bytes_of, sent_of, received_of}
+use Rattle.exchange.specs.Exchanges.{request_of, left_link}
+use Rattle.exchange.specs.Polls.{Ends}
+use Rattle.exchange.specs.declared.fault.ExchangeFault.{ExchangeFault}
+use Rattle.exchange.specs.declared.fault.ExchangeFault.TheVariants as exchanges
+use Rattle.request_pool.specs.declared.asks.Flight.{Flight}
+use Rattle.request_pool.specs.declared.fault.Polled.{Polled}
+use Rattle.request_pool.specs.declared.fault.PoolFault.{PoolFault}
+use Rattle.request_pool.specs.declared.fault.PoolFault.TheVariants as faults
+use Rattle.request_pool.specs.declared.fault.Stepped.{Stepped}
+use Rattle.request_pool.specs.declared.fault.Stepped.TheVariants.{Came}
+use Rattle.request_pool.specs.Pools.{Pooled, Ask, ask_waiting, ask_flying, held, in_flight}
+use Rattle.request_pool.specs.Owned.{SuitsWire}
+use Rattle.request_pool.specs.Polls.{Shuts, Polls, FailsTo, FlightTo}
+use Rattle.request_pool.specs.Runs.{Starts, Overruns, Flies, Starves, PollsNext, Last, OfStart, OfPoll, Ended}
+use Rattle.request_pool.specs.Steps.{WaitsTo, Passes, Stalls, Misses, Lacks, EndsInWait, Breaks, AtOnce, InRun, InWait}
+use Rattle.request_pool.proofs.Holding.{held_with, held_out, running_holds}
+use Rattle.request_pool.proofs.Steps.{suits_gathered}
+use Rattle.request_pool.proofs.Bounds.{step_bounds}
+use Rattle.pool_laws.specs.Following.{IsReplied, HasPeer, Follows, AnswersSoFar}
+use Rattle.pool_laws.specs.Causes.{RepliedOn, RepliesAreRead, IsCauseOf, FaultsHaveCauses}
+use Rattle.pool_laws.proofs.Following.{begun, polled_peer, request_is, holds_is}
+use Rattle.pool_laws.proofs.KeptBySteps.{by_running}
+use Rattle.pool_laws.proofs.Running.{answers_are_kept}
+use Rattle.pool_laws.proofs.Faults.{faults_are_kept, shut_faults}
+use Rattle.pool_laws.proofs.Came.{step_came, begun_holds, gathered_held}
+use Rattle.pool_laws.proofs.Answers.{settles_whole, settles_nature}
+
+-- ---- a reply
+
+holds_back : {T : Type 0} (x y : Option T) (v : T) → y ≡ x → Holds x v → Holds y v
+holds_back x y v e h = λ fact is. h fact (sym e ∙ is)
+
+same_request : (x : Option (List ℕ)) (s : List ℕ) (address other : Address) → other ≡ address → Holds x (s ++ request_of other) → Holds x (s ++ request_for address)
+same_request x s address other e h = holds_is x (s ++ request_of other) (s ++ request_for address) (ap (λ (t : List ℕ). s ++ t) (sym (ap request_of e ∙ request_is address))) h
+
+told_nature : (a b : WireState) (peer : List ℕ × ℕ) → b.nature ≡ a.nature → told_by a.nature.tells peer ≡ told_by b.nature.tells peer
+told_nature a b peer e = ap (λ (x : Nature). told_by x.tells peer) (sym e)
+
+pub replies_are_read : AuthoritiesAreHostsAndPorts → RepliesAreRead
+replies_are_read one ticket answer old new before after given suits so_far steps =
+    let c = step_came one ticket answer old new before after given suits so_far steps in
+    let r = c.poll.answers in
+    let t = c.poll.touches in
+    let same = settles_whole (left_link c.poll.now) c.poll.now.address c.old c.new c.to after c.settles r.k in
+    let nature = settles_nature (left_link c.poll.now) c.poll.now.address c.old c.new c.to after c.settles in
+    let limit : c.poll.now.limit ≡ old.limit = t.limit ∙ c.follows.is_limit ∙ ap (λ (x : Pooled). x.limit) (step_bounds (Ok (Came ticket answer)) old new before after steps) in
+    let peer : HasPeer c.f.exchange.address (Some r.k) c.to =
+    subst (λ (x : Address). HasPeer x (Some r.k) c.to) t.address (subst (λ (o : Option ℕ). HasPeer c.poll.now.address o c.to) r.link (polled_peer c.f.exchange c.poll.now c.from c.to t c.follows.peer)) in
+    record {
+      hands = record { ask = ask_flying c.f; is_ticket = c.is_ticket; others = c.others };
+      received = r.received;
+      on = record {
+        k = r.k;
+        peer = same.peer ∙ peer ∙ told_nature c.to after (c.f.exchange.address.host, c.f.exchange.address.port) nature;
+        before = c.follows.before;
+        replied = subst (λ (n : ℕ). AllByRecursion (IsReplied n) c.follows.before) (ap (λ (x : Pooled). x.limit) (step_bounds (Ok (Came ticket answer)) old new before after steps)) c.follows.replied;
+        sent_is = holds_back (c.to.links r.k).sent (after.links r.k).sent (bytes_of (sent_of c.follows.before) ++ request_for c.f.exchange.address) same.sent
+            (same_request (c.to.links r.k).sent (bytes_of (sent_of c.follows.before)) c.f.exchange.address c.poll.now.address t.address (r.sent_is _ _ c.follows.stands));
+        received_is = holds_back (c.to.links r.k).received (after.links r.k).received (received_of c.follows.before ++ r.received) same.received (r.received_is _ _ c.follows.stands);
+      };
+      n = r.n;
+      at_end = r.at_end;
+      whole = ap (λ (l : ℕ). reply_of r.received r.at_end l) (sym limit) ∙ r.whole;
+      ended = λ e. (holds_back (c.to.links r.k).ended (after.links r.k).ended true same.ended (r.ended e).0, (r.ended e).1);
+    }
+
+-- ---- the end of a run with a fault
+
+-- an exchange that was taken out, and the poll that ended the run
+record Flown (fault : PoolFault) (was : List Ask) (q : Pooled) (n : ℕ) (b : WireState) : Type 0 where
+  f : Flight
+  p : Pooled
+  from : WireState
+  follows : Follows p.limit from f.exchange
+  to : FlightTo (Err fault) f p q from b
+  others : IsPermutation was (held_with f p)
+  later : n ≤ from.faults
+
+data FaultBy (fault : PoolFault) (was : List Ask) (q : Pooled) (n : ℕ) (b : WireState) : Type 0 where
+  ByBudget : fault ≡ faults.Budget → q.budget ≤ q.started → FaultBy fault was q n b
+  ByMemory : fault ≡ faults.OutOfMemory → FaultBy fault was q n b
+  ByFlight : Flown fault was q n b → FaultBy fault was q n b
+  ByStall : (fault ≡ faults.OutOfMemory) ⊎ (fault ≡ faults.Stalled) → 1000 ≤ b.idle → FaultBy fault was q n b
+  ByWait : (fault ≡ faults.OutOfMemory) ⊎ (fault ≡ faults.Exchange) → Rose n b.faults → FaultBy fault was q n b
+
+same_fault : (fault other : PoolFault) → ◌≡◌ {A = Result Polled PoolFault} (Err fault) (Err other) → fault ≡ other
+same_fault fault other e = cc
+
+module _ (one : AuthoritiesAreHostsAndPorts) where
+  starts_by : (fault : PoolFault) (p q : Pooled) (n : ℕ) (a b : WireState) → AnswersSoFar p a → n ≤ a.faults → Starts (Err fault) p q a b → FaultBy fault (held p) q n b
+  starts_by fault p q n a b h l (Overruns e budget f g) = ByBudget (same_fault fault faults.Budget e) (subst (λ (x : Pooled). x.budget ≤ x.started) (sym f) budget)
+  starts_by fault p q n a b h l (Flies mid f budget begins to) =
+      ByFlight (record { f = f; p = mid; from = a; follows = (begun one p mid f a h begins).follows; to = to; others = begun_holds p mid f begins; later = l })
+  starts_by fault p q n a b h l (Starves e mid f begins is shuts) = ByMemory (same_fault fault faults.OutOfMemory e)
+
+  next_by : (fault : PoolFault) (p q : Pooled) (n : ℕ) (a b : WireState) → AnswersSoFar p a → n ≤ a.faults → PollsNext (Err fault) p q a b → FaultBy fault (held p) q n b
+  next_by fault p q n a b h l x =
+      let d = subst (λ (fs : List Flight). AllByRecursion (λ f. Follows p.limit a f.exchange) fs) x.is_next h.due in
+      let same : held p ≡ held_with x.f (record p { due = x.rest }) = ap (λ (fs : List Flight). map ask_waiting p.waiting ++ map ask_flying (p.polled ++ fs)) x.is_next in
+      ByFlight (record { f = x.f; p = record p { due = x.rest }; from = a; follows = d.0; to = x.to; others = subst (λ (asks : List Ask). IsPermutation (held p) asks) same (IsPermutation-refl (held p)); later = l })
+
+  last_by : (fault : PoolFault) (p q : Pooled) (n : ℕ) (a b : WireState) → AnswersSoFar p a → n ≤ a.faults → Last (Err fault) p q a b → FaultBy fault (held p) q n b
+  last_by fault p q n a b h l (OfStart s) = starts_by fault p q n a b h l s
+  last_by fault p q n a b h l (OfPoll s) = next_by fault p q n a b h l s
+
+  first_asks : (fault : PoolFault) (was now : List Ask) (q : Pooled) (n : ℕ) (b : WireState) → IsPermutation was now → FaultBy fault now q n b → FaultBy fault was q n b
+  first_asks fault was now q n b h (ByBudget e l) = ByBudget e l
+  first_asks fault was now q n b h (ByMemory e) = ByMemory e
+  first_asks fault was now q n b h (ByFlight x) =
+      ByFlight (record { f = x.f; p = x.p; from = x.from; follows = x.follows; to = x.to; others = IsPermutation-trans _ _ _ h x.others; later = x.later })
+  first_asks fault was now q n b h (ByStall e l) = ByStall e l
+  first_asks fault was now q n b h (ByWait e l) = ByWait e l
+
+  in_run : (fault : PoolFault) (p q : Pooled) (a b : WireState) → OpensGiven a → SuitsWire p a → AnswersSoFar p a → Ended (Err fault) (record p { polled = in_flight p; due = [] }) q a b → FaultBy fault (held p) q a.faults b
+  in_run fault p q a b g s h e =
+      let r : Pooled = record p { polled = in_flight p; due = [] } in
+      let suits = suits_gathered p (record p { polled = in_flight p; due = [] }) a refl s in
+      let kept = answers_are_kept one in
+      let mid = by_running AnswersSoFar kept r e.mid a e.between g suits (kept.gathers p a h) e.running in
+      let later = by_running (λ x w. a.faults ≤ w.faults) (faults_are_kept a.faults) r e.mid a e.between g suits (omega arith) e.running in
+      first_asks fault (held p) (held e.mid) q a.faults b (subst (λ (l : List Ask). IsPermutation l (held e.mid)) (gathered_held p) (running_holds r e.mid a e.between e.running))
+      (last_by fault e.mid q a.faults e.between b mid later e.last)
+
+  shut_idle : (o : Option ℕ) (a b : WireState) → Shuts o a b → b.idle ≡ a.idle
+  shut_idle None a b s = ap (λ (w : WireState). w.idle) s
+  shut_idle (Some i) a b c = c.idle
+
+  fails_by : (reason fault : PoolFault) (f : Flight) (p q : Pooled) → FailsTo {T = Stepped} reason (Err fault) f p q → (fault ≡ faults.OutOfMemory) ⊎ (fault ≡ reason)
+  fails_by reason fault f p q (same, inl e) = inl e
+  fails_by reason fault f p q (same, inr e) = inr e.0
+
+  no_ok : (fault : PoolFault) (s : Stepped) → ◌≡◌ {A = Result Stepped PoolFault} (Err fault) (Ok s) → ⊥
+  no_ok fault s e = cc
+
+  same_stepped : (fault other : PoolFault) → ◌≡◌ {A = Result Stepped PoolFault} (Err fault) (Err other) → fault ≡ other
+  same_stepped fault other e = cc
+
+  rose_later : (n m k l : ℕ) → n ≤ m → Rose m k → k ≤ l → Rose n l
+  rose_later n m k l h r i = omega (arith, h, r, i)
+
+  wait_by : (fault : PoolFault) (was : List Ask) (p q : Pooled) (n : ℕ) (a b : WireState) → n ≤ a.faults → WaitsTo (Err fault) p q a b → FaultBy fault was q n b
+  wait_by fault was p q n a b l (Passes ready e w i f) = absurd (no_ok fault _ e)
+  wait_by fault was p q n a b l (Stalls ready mid w i u) = ByStall (fails_by faults.Stalled fault u.f _ q u.to) (omega (arith, i, shut_idle u.f.exchange.link mid b u.shuts))
+  wait_by fault was p q n a b l (Misses mid w u) = ByWait (fails_by faults.Exchange fault u.f _ q u.to) (rose_later n a.faults mid.faults b.faults l (w.cause.failed refl) (shut_faults u.f.exchange.link mid b u.shuts))
+  wait_by fault was p q n a b l (Lacks w e f) = ByMemory (same_stepped fault faults.OutOfMemory e)
+
+  in_wait : (fault : PoolFault) (p q : Pooled) (a b : WireState) → OpensGiven a → SuitsWire p a → EndsInWait (Err fault) p q a b → FaultBy fault (held p) q a.faults b
+  in_wait fault p q a b g s e =
+      let r : Pooled = record p { polled = in_flight p; due = [] } in
+      let suits = suits_gathered p (record p { polled = in_flight p; due = [] }) a refl s in
+      wait_by fault (held p) e.mid q a.faults e.between b (by_running (λ x w. a.faults ≤ w.faults) (faults_are_kept a.faults) r e.mid a e.between g suits (omega arith) e.running) e.waits
+
+  break_by : (fault : PoolFault) (p q : Pooled) (a b : WireState) → OpensGiven a → SuitsWire p a → AnswersSoFar p a → Breaks fault p q a b → FaultBy fault (held p) q a.faults b
+  break_by fault p q a b g s h (AtOnce e f i) = ByMemory e
+  break_by fault p q a b g s h (InRun e) = in_run fault p q a b g s h e
+  break_by fault p q a b g s h (InWait e) = in_wait fault p q a b g s e
+
+-- ---- each fault
+
+lost_ask : (f : Flight) (p q : Pooled) (was : List Ask) → q ≡ p → IsPermutation was (held_with f p) → IsPermutation was (ask_flying f ∷ held q)
+lost_ask f p q was e h = subst (λ (x : Pooled). IsPermutation was (ask_flying f ∷ held x)) (sym e) (IsPermutation-trans _ _ _ h (held_out f p))
+
+module _ (limit : ℕ) (f : Flight) (a b : WireState) (s : Follows limit a f.exchange) (answer : Poll (Result Reply ExchangeFault)) (h : Polls answer f a b) (received : List ℕ) (e : Ends f.exchange h.now a b received) where
+  -- what was received in reply to the request of an exchange that is over
+  abbrev over_on : RepliedOn limit f.exchange.address received b
+  over_on =
+      record {
+        k = e.k;
+        peer = subst (λ (x : Address). HasPeer x (Some e.k) b) h.touches.address (subst (λ (o : Option ℕ). HasPeer h.now.address o b) e.link (polled_peer f.exchange h.now a b h.touches s.peer));
+        before = s.before;
+        replied = s.replied;
+        sent_is = same_request (b.links e.k).sent (bytes_of (sent_of s.before)) f.exchange.address h.now.address h.touches.address (e.sent_is _ _ s.stands);
+        received_is = e.received_is _ _ s.stands;
+      }
+
+flown_cause : (fault : PoolFault) (old q : Pooled) (a b : WireState) → q.limit ≡ old.limit → Flown fault (held old) q a.faults b → IsCauseOf fault old q a b
+flown_cause faults.Exchange old q a b limit x = rose_from a.faults x.from.faults b.faults x.later x.to.0.answers.rose
+  where
+    rose_from : (n m l : ℕ) → n ≤ m → Rose m l → Rose n l
+    rose_from n m l h r = omega (arith, h, r)
+flown_cause (faults.Reply fault received) old q a b limit x =
+    let r = x.to.0.answers in
+    let same : x.p.limit ≡ old.limit = sym (ap (λ (y : Pooled). y.limit) x.to.1) ∙ limit in
+    record {
+      loses = record {
+        ask = ask_flying x.f;
+        others = lost_ask x.f x.p q (held old) x.to.1 x.others;
+        on = over_on old.limit x.f x.from b (subst (λ (n : ℕ). Follows n x.from x.f.exchange) same x.follows) (poll.Ready (Err (exchanges.Bad fault received))) x.to.0 received r.ends;
+      };
+      why = r.why;
+      is_fault = r.is_fault;
+      bad = ap (λ (n : ℕ). reply_of received false n) (sym (x.to.0.touches.limit ∙ x.follows.is_limit ∙ same)) ∙ r.bad;
+    }
+flown_cause (faults.Cut received) old q a b limit x =
+    let r = x.to.0.answers in
+    let same : x.p.limit ≡ old.limit = sym (ap (λ (y : Pooled). y.limit) x.to.2) ∙ limit in
+    record {
+      loses = record {
+        ask = ask_flying x.f;
+        others = lost_ask x.f x.p q (held old) x.to.2 x.others;
+        on = over_on old.limit x.f x.from b (subst (λ (n : ℕ). Follows n x.from x.f.exchange) same x.follows) (poll.Ready (Err (exchanges.Cut received))) x.to.0 received r.ends;
+      };
+      ended = r.ended;
+      more = ap (λ (n : ℕ). reply_of received true n) (sym (x.to.0.touches.limit ∙ x.follows.is_limit ∙ same)) ∙ r.more;
+    }
+flown_cause faults.OutOfMemory old q a b limit x = tt
+flown_cause faults.Stalled old q a b limit x = absurd x.to
+flown_cause faults.Budget old q a b limit x = absurd x.to
+
+cause_as : (fault other : PoolFault) (old q : Pooled) (a b : WireState) → fault ≡ other → IsCauseOf other old q a b → IsCauseOf fault old q a b
+cause_as fault other old q a b e h = subst (λ (x : PoolFault). IsCauseOf x old q a b) (sym e) h
+
+cause_by : (fault : PoolFault) (old q : Pooled) (a b : WireState) → q.limit ≡ old.limit → FaultBy fault (held old) q a.faults b → IsCauseOf fault old q a b
+cause_by fault old q a b limit (ByBudget e l) = cause_as fault faults.Budget old q a b e l
+cause_by fault old q a b limit (ByMemory e) = cause_as fault faults.OutOfMemory old q a b e tt
+cause_by fault old q a b limit (ByFlight x) = flown_cause fault old q a b limit x
+cause_by fault old q a b limit (ByStall (inl e) l) = cause_as fault faults.OutOfMemory old q a b e tt
+cause_by fault old q a b limit (ByStall (inr e) l) = cause_as fault faults.Stalled old q a b e l
+cause_by fault old q a b limit (ByWait (inl e) l) = cause_as fault faults.OutOfMemory old q a b e tt
+cause_by fault old q a b limit (ByWait (inr e) l) = cause_as fault faults.Exchange old q a b e l
+
+pub faults_have_causes : AuthoritiesAreHostsAndPorts → FaultsHaveCauses
+faults_have_causes one fault old new before after given suits so_far steps =
+    cause_by fault old new before after (ap (λ (x : Pooled). x.limit) (step_bounds (Err fault) old new before after steps)) (break_by one fault old new before after given suits so_far steps)

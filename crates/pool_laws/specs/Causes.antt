@@ -1,0 +1,83 @@
+-- Where the reply of a step was read, and why a step ends with a fault.
+use Rattle.std.specs.Prelude.{ℕ, ◌≡◌, ◌≤◌, ◌++◌, Bool, true, false, List, ◌∷◌, Ok, Err}
+use Rattle.std.specs.List.{AllByRecursion}
+use Rattle.std.specs.List.Sorted.{IsPermutation}
+use Rattle.tpf_base.specs.Addresses.{Address}
+use Rattle.tpf_base.specs.Causes.{Rose}
+use Rattle.tpf_base.specs.HttpReply as reply
+use Rattle.tpf_base.specs.HttpReply.{reply_of}
+use Rattle.tpf_base.specs.Links.{WireState, OpensGiven, told_by}
+use Rattle.http_wire.specs.Replies.{shown_fault}
+use Rattle.http_wire.specs.declared.message.Reply.{Reply}
+use Rattle.http_wire.specs.declared.message.ReplyFault.{ReplyFault}
+use Rattle.link_calls.specs.Sending.{Holds}
+use Rattle.http_ends.specs.Requests.{request_for}
+use Rattle.http_ends.specs.Cuts.{Answered, bytes_of, sent_of, received_of}
+use Rattle.request_pool.specs.declared.fault.PoolFault.{PoolFault}
+use Rattle.request_pool.specs.declared.fault.PoolFault.TheVariants as faults
+use Rattle.request_pool.specs.declared.fault.Stepped.TheVariants.{Came}
+use Rattle.request_pool.specs.Pools.{Pooled, Ask, held}
+use Rattle.request_pool.specs.Owned.{SuitsWire}
+use Rattle.request_pool.specs.Steps.{StepsTo, HandsOut}
+use Rattle.pool_laws.specs.Following.{IsReplied, AnswersSoFar}
+
+-- On a link that was dialled for the address the whole request for it was sent, and this was received in reply; where the wire tells, whole requests and a whole reply to each stand before both.
+pub record RepliedOn (limit : ℕ) (address : Address) (received : List ℕ) (wire : WireState) : Type 0 where
+  pub k : ℕ
+  pub peer : (wire.links k).peer ≡ told_by wire.nature.tells (address.host, address.port)
+  pub before : List Answered
+  pub replied : AllByRecursion (IsReplied limit) before
+  pub sent_is : Holds (wire.links k).sent (bytes_of (sent_of before) ++ request_for address)
+  pub received_is : Holds (wire.links k).received (received_of before ++ received)
+
+-- ---- a reply
+
+-- An ask with the ticket was held, and what was received in reply to its request is read as the reply, whole.
+pub record IsRead (ticket : ℕ) (answer : Reply) (old new : Pooled) (after : WireState) : Type 0 where
+  pub hands : HandsOut ticket old new
+  pub received : List ℕ
+  pub on : RepliedOn old.limit hands.ask.address received after
+  pub n : ℕ
+  pub at_end : Bool
+  pub whole : reply_of received at_end old.limit ≡ reply.Whole answer.body n answer.keeps
+  pub ended : at_end ≡ true → Holds (after.links on.k).ended true × (answer.keeps ≡ false)
+
+abbrev pub RepliesAreRead : Type 0
+RepliesAreRead =
+    (ticket : ℕ) (answer : Reply) (old new : Pooled) (before after : WireState) → OpensGiven before → SuitsWire old before → AnswersSoFar old before
+    → StepsTo (Ok (Came ticket answer)) old new before after → IsRead ticket answer old new after
+
+-- ---- faults
+
+-- An ask was held that is held no longer, and this was received in reply to its request.
+pub record LosesAsk (received : List ℕ) (old new : Pooled) (after : WireState) : Type 0 where
+  pub ask : Ask
+  pub others : IsPermutation (held old) (ask ∷ held new)
+  pub on : RepliedOn old.limit ask.address received after
+
+-- what was received has this fault
+pub record IsRefused (fault : ReplyFault) (received : List ℕ) (old new : Pooled) (after : WireState) : Type 0 where
+  pub loses : LosesAsk received old new after
+  pub why : reply.ReplyFault
+  pub is_fault : fault ≡ shown_fault why
+  pub bad : reply_of received false old.limit ≡ reply.Bad why
+
+-- the link ended, and what was received is no whole reply at its end
+pub record IsCut (received : List ℕ) (old new : Pooled) (after : WireState) : Type 0 where
+  pub loses : LosesAsk received old new after
+  pub ended : Holds (after.links loses.on.k).ended true
+  pub more : reply_of received true old.limit ≡ reply.More
+
+-- Each fault: the wire's faults rose; 1000 waits followed one another; as many exchanges were started as the budget allows; a reply is refused; a link was cut. Want of memory needs no cause.
+abbrev pub IsCauseOf : PoolFault → Pooled → Pooled → WireState → WireState → Type 0
+IsCauseOf faults.Exchange old new before after = Rose before.faults after.faults
+IsCauseOf faults.Stalled old new before after = 1000 ≤ after.idle
+IsCauseOf faults.Budget old new before after = new.budget ≤ new.started
+IsCauseOf (faults.Reply fault received) old new before after = IsRefused fault received old new after
+IsCauseOf (faults.Cut received) old new before after = IsCut received old new after
+IsCauseOf faults.OutOfMemory old new before after = Unit {0}
+
+abbrev pub FaultsHaveCauses : Type 0
+FaultsHaveCauses =
+    (fault : PoolFault) (old new : Pooled) (before after : WireState) → OpensGiven before → SuitsWire old before → AnswersSoFar old before
+    → StepsTo (Err fault) old new before after → IsCauseOf fault old new before after
