@@ -1,0 +1,5 @@
+pub mod Fragments
+pub mod Alike
+pub mod Laws
+pub mod Failing
+pub mod FailingLaws
