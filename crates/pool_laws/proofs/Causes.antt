@@ -39,7 +39,7 @@ use Rattle.pool_laws.proofs.KeptBySteps.{by_running}
 use Rattle.pool_laws.proofs.Running.{answers_are_kept}
 use Rattle.pool_laws.proofs.Faults.{faults_are_kept, shut_faults}
 use Rattle.pool_laws.proofs.Came.{step_came, begun_holds, gathered_held}
-use Rattle.pool_laws.proofs.Answers.{settles_whole, settles_nature}
+use Rattle.pool_laws.proofs.Settled.{settles_whole, settles_nature}
 
 -- ---- a reply
 
@@ -67,6 +67,7 @@ replies_are_read one ticket answer old new before after given suits so_far steps
       received = r.received;
       on = record {
         k = r.k;
+        is_address = c.follows.is_address;
         peer = same.peer ∙ peer ∙ told_nature c.to after (c.f.exchange.address.host, c.f.exchange.address.port) nature;
         before = c.follows.before;
         replied = subst (λ (n : ℕ). AllByRecursion (IsReplied n) c.follows.before) (ap (λ (x : Pooled). x.limit) (step_bounds (Ok (Came ticket answer)) old new before after steps)) c.follows.replied;
@@ -182,6 +183,7 @@ module _ (limit : ℕ) (f : Flight) (a b : WireState) (s : Follows limit a f.exc
   over_on =
       record {
         k = e.k;
+        is_address = s.is_address;
         peer = subst (λ (x : Address). HasPeer x (Some e.k) b) h.touches.address (subst (λ (o : Option ℕ). HasPeer h.now.address o b) e.link (polled_peer f.exchange h.now a b h.touches s.peer));
         before = s.before;
         replied = s.replied;
@@ -189,11 +191,11 @@ module _ (limit : ℕ) (f : Flight) (a b : WireState) (s : Follows limit a f.exc
         received_is = e.received_is _ _ s.stands;
       }
 
+rose_from : (n m l : ℕ) → n ≤ m → Rose m l → Rose n l
+rose_from n m l h r = omega (arith, h, r)
+
 flown_cause : (fault : PoolFault) (old q : Pooled) (a b : WireState) → q.limit ≡ old.limit → Flown fault (held old) q a.faults b → IsCauseOf fault old q a b
 flown_cause faults.Exchange old q a b limit x = rose_from a.faults x.from.faults b.faults x.later x.to.0.answers.rose
-  where
-    rose_from : (n m l : ℕ) → n ≤ m → Rose m l → Rose n l
-    rose_from n m l h r = omega (arith, h, r)
 flown_cause (faults.Reply fault received) old q a b limit x =
     let r = x.to.0.answers in
     let same : x.p.limit ≡ old.limit = sym (ap (λ (y : Pooled). y.limit) x.to.1) ∙ limit in
@@ -217,6 +219,7 @@ flown_cause (faults.Cut received) old q a b limit x =
         on = over_on old.limit x.f x.from b (subst (λ (n : ℕ). Follows n x.from x.f.exchange) same x.follows) (poll.Ready (Err (exchanges.Cut received))) x.to.0 received r.ends;
       };
       ended = r.ended;
+      short = λ left. rose_from a.faults x.from.faults b.faults x.later (r.short left);
       more = ap (λ (n : ℕ). reply_of received true n) (sym (x.to.0.touches.limit ∙ x.follows.is_limit ∙ same)) ∙ r.more;
     }
 flown_cause faults.OutOfMemory old q a b limit x = tt

@@ -15,3 +15,4 @@ pub mod Dialling
 pub mod Trying
 pub mod Faults
 pub mod Causes
+pub mod Settled

@@ -1,7 +1,8 @@
 -- A whole reply at the front of what a server answers is the answer.
-use Rattle.std.proofs.Common.{append-nil, ◌≡◌, ◌≢◌, ℕ, ◌+◌, ◌<◌, ◌≤◌, Bool, true, false, List, [], ◌∷◌, ◌++◌, length, refl, sym, ap, ◌∙◌, arith, length-append, inl, inr}
+use Rattle.std.proofs.Common.{append-nil, ◌≡◌, ◌≢◌, ℕ, ◌+◌, ◌<◌, ◌≤◌, Bool, true, false, List, [], ◌∷◌, ◌++◌, length, refl, sym, ap, ◌∙◌, arith, length-append, inl, inr, Option, Some}
 use Rattle.std.specs.Prelude.{◌⊎◌, ◌^◌}
-use Rattle.std.proofs.lemmas.Bool.{cases_lt}
+use Rattle.std.proofs.lemmas.Bool.{cases_lt, lt-ltb}
+use Rattle.tpf_base.specs.Links.{some_left}
 use Rattle.tpf_base.specs.Decimals.{decimal_text, digits_up_to}
 use Rattle.tpf_base.specs.HttpReply.{Reading, More, Whole, Bad, ReplyFault, TooLong, BadStatus, reply_of, reading_from}
 use Rattle.template_fill.specs.HttpAnswer.{Answer, MediaType, NQuads, PlainText, answer_text, head_text, refusal, phrase}
@@ -97,6 +98,42 @@ module _ (limit : ℕ) (received body : List ℕ) (n : ℕ) (keeps at_end : Bool
   status_is refused answer rest is read same (inl ok) = ok
   status_is refused answer rest is read same (inr other) =
       absurd (no_refusal answer false rest read other (short_case refused answer false is read other (cases_lt 65536 (length (head_text answer.status answer.media_type (length answer.body) false)))) same)
+
+-- ---- a whole answer
+
+same_fault : (r : Reading) (why other : ReplyFault) → r ≡ Bad why → r ≡ Bad other → why ≡ other
+same_fault r why other b c = cc
+
+-- a page is refused as too long alone
+pub page_refusal : (limit : ℕ) (answer : Answer) (text : List ℕ) (why : ReplyFault) → AnswerIsRead limit answer false → answer.status ≡ 200 → answer.media_type ≡ NQuads
+    → text ≡ answer_text answer false false → reply_of text false limit ≡ Bad why → why ≡ TooLong
+page_refusal limit answer text why read ok page is bad = elim (cases_lt limit (length answer.body)) [
+  | inr few ↦ absurd (bad_whole _ why answer.body _ true bad (ap (λ (t : List ℕ). reply_of t false limit) (is ∙ sym (append-nil (answer_text answer false false))) ∙ read.whole ok page few [] false))
+  | inl many ↦ same_fault _ why TooLong bad (ap (λ (t : List ℕ). reply_of t false limit) (is ∙ text_is answer false) ∙ read.long ok page many answer.body false)
+]
+
+more_bad : (r : Reading) (fault : ReplyFault) → r ≡ More → r ≡ Bad fault → ⊥
+more_bad r fault m b = cc
+
+-- a whole answer is no part of a reply
+module _ (limit : ℕ) (answer : Answer) (received : List ℕ) (read : AnswerIsRead limit answer false) (is : received ≡ answer_text answer false false) (more : reply_of received true limit ≡ More) where
+  no_page : answer.status ≡ 200 → answer.media_type ≡ NQuads → (limit < length answer.body) ⊎ (length answer.body ≤ limit) → ⊥
+  no_page ok page (inr few) = more_whole _ answer.body _ true more (ap (λ (t : List ℕ). reply_of t true limit) (is ∙ sym (append-nil (answer_text answer false false))) ∙ read.whole ok page few [] true)
+  no_page ok page (inl many) = more_bad _ TooLong more (ap (λ (t : List ℕ). reply_of t true limit) (is ∙ text_is answer false) ∙ read.long ok page many answer.body true)
+
+  no_answer : (answer.status ≡ 200 → answer.media_type ≡ NQuads) → (answer.status ≡ 200) ⊎ (answer.status ≡ 200 → ⊥) → ⊥
+  no_answer page (inl ok) = no_page ok (page ok) (cases_lt limit (length answer.body))
+  no_answer page (inr other) = more_bad _ (BadStatus answer.status) more (ap (λ (t : List ℕ). reply_of t true limit) (is ∙ text_is answer false) ∙ read.other other answer.body true)
+
+pub rest_some : (limit : ℕ) (received rest : List ℕ) (answer : Answer) → AnswerIsRead limit answer false → (answer.status ≡ 200 → answer.media_type ≡ NQuads) → received ++ rest ≡ answer_text answer false false
+    → reply_of received true limit ≡ More → (answer.status ≡ 200) ⊎ (answer.status ≡ 200 → ⊥) → 0 < length rest
+rest_some limit received [] answer read page is more which = absurd (no_answer limit answer received read (sym (append-nil received) ∙ is) more page which)
+rest_some limit received (b ∷ rest) answer read page is more which = omega arith
+
+pub left_some : (owed had : Option (List ℕ)) (all rest : List ℕ) → had ≡ Some all → owed ≡ Some (all ++ rest) → 0 < length rest → some_left had owed ≡ true
+left_some owed had all rest is_had is_owed some =
+    ap (λ (o : Option (List ℕ)). some_left o owed) is_had ∙ ap (λ (o : Option (List ℕ)). some_left (Some all) o) is_owed
+    ∙ lt-ltb (length all) (length (all ++ rest)) (omega (arith, length-append all rest, some))
 
 -- ---- the refusal of a request that is too long
 

@@ -1,5 +1,11 @@
 -- What a reply that comes is, where the other end of its link answers as a server does.
-use Rattle.std.specs.Prelude.{ℕ, ◌≡◌, ◌<◌, ◌^◌, false, List, length, Ok}
+use Rattle.std.specs.Prelude.{ℕ, ◌≡◌, ◌<◌, ◌≤◌, ◌^◌, false, List, length, Ok, Err}
+use Rattle.tpf_base.specs.Causes.{Rose}
+use Rattle.tpf_base.specs.HttpHeads.{head_limit}
+use Rattle.http_wire.specs.declared.message.ReplyFault.{ReplyFault}
+use Rattle.http_wire.specs.declared.message.ReplyFault.TheVariants.{TooLong}
+use Rattle.exchange_laws.specs.Honest.{IsAnsweredByAll}
+use Rattle.request_pool.specs.declared.fault.PoolFault.TheVariants as faults
 use Rattle.rdf_terms.specs.declared.term.Triple.{Triple}
 use Rattle.tpf_base.specs.Addresses.{Address}
 use Rattle.tpf_base.specs.Links.{All, WireState, IsToldBy, ReceivesOwed, OwesAllowed, OpensGiven}
@@ -9,12 +15,13 @@ use Rattle.template_fill.specs.HttpAnswer.{NQuads}
 use Rattle.template_fill.specs.Metadata.{Config}
 use Rattle.template_fill.specs.Answers.{is_reload, answer_to}
 use Rattle.template_fill.specs.Responses.{answering, IsVersion, IsHonestAt}
-use Rattle.http_ends.specs.Requests.{asks}
+use Rattle.http_ends.specs.Requests.{asks, request_for}
 use Rattle.request_pool.specs.declared.fault.Stepped.TheVariants.{Came}
 use Rattle.request_pool.specs.Pools.{Pooled}
 use Rattle.request_pool.specs.Owned.{SuitsWire}
 use Rattle.request_pool.specs.Steps.{StepsTo, HandsOut}
 use Rattle.pool_laws.specs.Following.{AnswersSoFar}
+use Rattle.pool_laws.specs.Causes.{IsRefused, IsCut}
 
 -- The wire tells all, and of its links this holds, as by the laws of every wire at each moment.
 pub record TellsAll (allows : List ℕ → ℕ → List ℕ → List ℕ → Type 0) (wire : WireState) : Type 0 where
@@ -45,3 +52,29 @@ RepliesAreAnswers allows after =
     (ticket : ℕ) (reply : Reply) (old new : Pooled) (before : WireState)
     → OpensGiven before → SuitsWire old before → AnswersSoFar old before → old.limit < 2 ^ 64 → TellsAll allows after
     → StepsTo (Ok (Came ticket reply)) old new before after → Brings allows ticket reply old new
+
+-- ---- faults
+
+-- A reply was refused: over an honest other end whose versions all answer the address with status 200, it is too long.
+pub record IsTooLong (allows : List ℕ → ℕ → List ℕ → List ℕ → Type 0) (fault : ReplyFault) (received : List ℕ) (old new : Pooled) (after : WireState) : Type 0 where
+  pub refused : IsRefused fault received old new after
+  pub too_long : (history : List (List Triple)) (config : Config) → IsHonestAt allows refused.loses.ask.address.host refused.loses.ask.address.port (answering history config)
+      → length (request_for refused.loses.ask.address) ≤ head_limit → IsAnsweredByAll history config refused.loses.ask.address → fault ≡ TooLong
+
+abbrev pub RefusalsAreTooLong : (List ℕ → ℕ → List ℕ → List ℕ → Type 0) → WireState → Type 0
+RefusalsAreTooLong allows after =
+    (fault : ReplyFault) (received : List ℕ) (old new : Pooled) (before : WireState)
+    → OpensGiven before → SuitsWire old before → AnswersSoFar old before → old.limit < 2 ^ 64 → TellsAll allows after
+    → StepsTo (Err (faults.Reply fault received)) old new before after → IsTooLong allows fault received old new after
+
+-- A link was cut: over an honest other end the wire's faults rose, since a part of the answer was not received.
+pub record IsFaulty (allows : List ℕ → ℕ → List ℕ → List ℕ → Type 0) (received : List ℕ) (old new : Pooled) (before after : WireState) : Type 0 where
+  pub cut : IsCut received old new before after
+  pub rose : (history : List (List Triple)) (config : Config) → IsHonestAt allows cut.loses.ask.address.host cut.loses.ask.address.port (answering history config)
+      → length (request_for cut.loses.ask.address) ≤ head_limit → Rose before.faults after.faults
+
+abbrev pub CutsAreFaults : (List ℕ → ℕ → List ℕ → List ℕ → Type 0) → WireState → Type 0
+CutsAreFaults allows after =
+    (received : List ℕ) (old new : Pooled) (before : WireState)
+    → OpensGiven before → SuitsWire old before → AnswersSoFar old before → old.limit < 2 ^ 64 → TellsAll allows after
+    → StepsTo (Err (faults.Cut received)) old new before after → IsFaulty allows received old new before after

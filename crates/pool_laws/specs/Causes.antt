@@ -6,7 +6,7 @@ use Rattle.tpf_base.specs.Addresses.{Address}
 use Rattle.tpf_base.specs.Causes.{Rose}
 use Rattle.tpf_base.specs.HttpReply as reply
 use Rattle.tpf_base.specs.HttpReply.{reply_of}
-use Rattle.tpf_base.specs.Links.{WireState, OpensGiven, told_by}
+use Rattle.tpf_base.specs.Links.{WireState, OpensGiven, told_by, is_short}
 use Rattle.http_wire.specs.Replies.{shown_fault}
 use Rattle.http_wire.specs.declared.message.Reply.{Reply}
 use Rattle.http_wire.specs.declared.message.ReplyFault.{ReplyFault}
@@ -19,11 +19,12 @@ use Rattle.request_pool.specs.declared.fault.Stepped.TheVariants.{Came}
 use Rattle.request_pool.specs.Pools.{Pooled, Ask, held}
 use Rattle.request_pool.specs.Owned.{SuitsWire}
 use Rattle.request_pool.specs.Steps.{StepsTo, HandsOut}
-use Rattle.pool_laws.specs.Following.{IsReplied, AnswersSoFar}
+use Rattle.pool_laws.specs.Following.{IsWebAddress, IsReplied, AnswersSoFar}
 
 -- On a link that was dialled for the address the whole request for it was sent, and this was received in reply; where the wire tells, whole requests and a whole reply to each stand before both.
 pub record RepliedOn (limit : ℕ) (address : Address) (received : List ℕ) (wire : WireState) : Type 0 where
   pub k : ℕ
+  pub is_address : IsWebAddress address
   pub peer : (wire.links k).peer ≡ told_by wire.nature.tells (address.host, address.port)
   pub before : List Answered
   pub replied : AllByRecursion (IsReplied limit) before
@@ -62,10 +63,11 @@ pub record IsRefused (fault : ReplyFault) (received : List ℕ) (old new : Poole
   pub is_fault : fault ≡ shown_fault why
   pub bad : reply_of received false old.limit ≡ reply.Bad why
 
--- the link ended, and what was received is no whole reply at its end
-pub record IsCut (received : List ℕ) (old new : Pooled) (after : WireState) : Type 0 where
+-- The link ended, and what was received is no whole reply at its end. Where a part of what is owed was not received, the wire's faults rose.
+pub record IsCut (received : List ℕ) (old new : Pooled) (before after : WireState) : Type 0 where
   pub loses : LosesAsk received old new after
   pub ended : Holds (after.links loses.on.k).ended true
+  pub short : is_short (after.links loses.on.k) ≡ true → Rose before.faults after.faults
   pub more : reply_of received true old.limit ≡ reply.More
 
 -- Each fault: the wire's faults rose; 1000 waits followed one another; as many exchanges were started as the budget allows; a reply is refused; a link was cut. Want of memory needs no cause.
@@ -74,7 +76,7 @@ IsCauseOf faults.Exchange old new before after = Rose before.faults after.faults
 IsCauseOf faults.Stalled old new before after = 1000 ≤ after.idle
 IsCauseOf faults.Budget old new before after = new.budget ≤ new.started
 IsCauseOf (faults.Reply fault received) old new before after = IsRefused fault received old new after
-IsCauseOf (faults.Cut received) old new before after = IsCut received old new after
+IsCauseOf (faults.Cut received) old new before after = IsCut received old new before after
 IsCauseOf faults.OutOfMemory old new before after = Unit {0}
 
 abbrev pub FaultsHaveCauses : Type 0

@@ -3,13 +3,13 @@
 
 ghost use Rattle.std.specs.Prelude.{◌≡◌};
 ghost use Rattle.tpf_base.specs.Links.{All};
-ghost use Rattle.pool_laws.specs.Answers.{RepliesAreAnswers, TellsAll};
+ghost use Rattle.pool_laws.specs.Answers.{CutsAreFaults, RefusalsAreTooLong, RepliesAreAnswers, TellsAll};
 ghost use Rattle.pool_laws.specs.Owning.{ClosingCloses, EmptyPoolsOwn, FaultsOwn, PutsOwn, StepsOwn};
 ghost use Rattle.pool_laws.specs.Causes.{FaultsHaveCauses, RepliesAreRead};
 ghost use Rattle.pool_laws.specs.Counting.{ClosingDials, EmptyPoolsDial, EmptyPoolsFewFailed, FaultsDial, PutsDial, PutsFewFailed, StepsCountTries, StepsDial, StepsFewFailed};
 ghost use Rattle.pool_laws.specs.Following.{ClosedPoolsFollow, EmptyPoolsFollow, FaultsFollow, FlightsFollow, OthersFollow, PollsFollow, PutsFollow, RunningFollows, RunsFollow, StartsFollow, StepsFollow, TurnsFollow};
 
-use http_ends::{a_response_is_cut, an_answer_is_read, requests_are_cut};
+use http_ends::{a_reading_stays, a_response_is_cut, an_answer_is_read, requests_are_cut};
 use template_fill::authorities_are_hosts_and_ports;
 use tpf_base::Wire;
 
@@ -35,13 +35,18 @@ pub fn whole_replies_come_first()
 
 /// Each reply that comes with a step, after which the wire is this one, is the body of the answer
 /// that an honest other end gives to the request for the address of its ticket (`replies`), where
-/// the wire tells all (`tells`).
+/// the wire tells all (`tells`). A reply that is refused is then too long, where each version of the
+/// data answers the address with status 200 (`refused`), and a link is cut only with a rise of the
+/// wire's faults (`cut`).
 pub fn a_reply_is_an_answer<W: Wire>(wire: &W)
     ensures replies { RepliesAreAnswers (W.allows wire.now) (W.state wire.now) }
+    ensures refused { RefusalsAreTooLong (W.allows wire.now) (W.state wire.now) }
+    ensures cut { CutsAreFaults (W.allows wire.now) (W.state wire.now) }
     ensures tells { (W.state wire.now).nature.tells ≡ All → TellsAll (W.allows wire.now) (W.state wire.now) }
 {
     requests_are_cut();
     an_answer_is_read();
+    a_reading_stays();
     a_response_is_cut();
     authorities_are_hosts_and_ports();
 }
