@@ -128,11 +128,11 @@ next-is w base config s k (Some next) true e one a n = ap (λ (x : Address). let
 next-is w base config s k (Some next) false e one a n = let h = n.0 in absurd (grind (arith, nat_tests))
 
 pub pages-of : PagesAreAddresses → OneAddress → NothingElseIsRead → ServersPagesAreTrue
-pages-of addresses one only history version config address page h c read = record {
+pages-of addresses one only history version config address page h number_is c read = record {
   stands = λ s k valid ask at below.
       let triples = version_of history version in
       let w = server_world triples config in
-      let is : IsPageOf triples config s (suc k) page = (only history version config s (suc k) address page h c (read s k valid ask at below)).is_page in
+      let is : IsPageOf triples version config s (suc k) page = (only history version config s (suc k) address page h number_is c (read s k valid ask at below)).is_page in
       let number : suc k + 1 ≡ suc (suc k) = omega arith in
       let there : IsAddress (page_address config.base s (suc k + 1)) (address_of_page config.base s (suc (suc k))) = subst (λ (n : ℕ). IsAddress (page_address config.base s n) (address_of_page config.base s (suc (suc k)))) (sym number) (addresses config.base s (suc (suc k)) c.base) in
       record {

@@ -116,7 +116,7 @@ pub record MadeOf (p : Pattern) (others : List Pattern) (row : Places) (k : ℕ)
   pub goes : after ≡ next_walk p others row k page.next
 
 abbrev pub chosen_page_by : Bool → Page → Page
-chosen_page_by true page = record { triples = []; count = page.count; next = None; form = page.form }
+chosen_page_by true page = record { triples = []; count = page.count; next = None; form = page.form; version = page.version }
 chosen_page_by false page = page
 
 -- what a node takes of the page that it chose: nothing where its count is 0

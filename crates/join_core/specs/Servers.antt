@@ -13,7 +13,7 @@ use Rattle.template_fill.specs.Configurations.{IsConfig, IsHistory}
 use Rattle.template_fill.specs.Bodies.{version_of, page_body}
 use Rattle.control_reader.specs.declared.page.Page.{Page}
 use Rattle.control_reader.specs.Takes.{Takes}
-use Rattle.control_reader.specs.Law.{IsServerForm}
+use Rattle.control_reader.specs.Law.{IsServerForm, IsVersionNumber}
 use Rattle.join_core.specs.Worlds.{World, IsWorld, HasForm, IsPageAt, last}
 
 -- what a server of these triples has
@@ -38,4 +38,4 @@ IsReadAt history version config address page =
 abbrev pub ServersPagesAreTrue : Type 0
 ServersPagesAreTrue =
     (history : List (List Triple)) (version : ℕ) (config : Config) (address : Address) (page : Page)
-    → IsHistory history → IsConfig config → IsReadAt history version config address page → IsPageAt (server_world (version_of history version) config) address page
+    → IsHistory history → IsVersionNumber version → IsConfig config → IsReadAt history version config address page → IsPageAt (server_world (version_of history version) config) address page
