@@ -1,9 +1,11 @@
 -- Tickets that are put in order.
-use Rattle.std.proofs.Common.{ℕ, ◌≡◌, ◌≢◌, ◌+◌, ◌<◌, ◌≤◌, ◌++◌, List, [], ◌∷◌, map, sym, subst, ap, arith}
+use Rattle.std.proofs.Common.{ℕ, ◌≡◌, ◌≢◌, ◌+◌, ◌<◌, ◌++◌, List, [], ◌∷◌, map, sym, subst, ap, arith}
 use Rattle.std.proofs.lemmas.List.{map-append}
 use Rattle.std.specs.List.{AllByRecursion}
 use Rattle.request_pool.specs.declared.asks.Waiting.{Waiting}
+use Rattle.tpf_base.specs.Links.{WireState}
 use Rattle.request_pool.specs.Pools.{Pooled, Ask, ask_waiting, ask_flying, held, in_flight}
+use Rattle.request_pool.specs.Owned.{SuitsWire}
 
 abbrev pub AreBelow : ℕ → List Ask → Type 0
 AreBelow n asks = AllByRecursion (λ ask. ask.ticket < n) asks
@@ -30,3 +32,10 @@ put_below n p q w h e t =
     let now : held q ≡ (map ask_waiting p.waiting ++ ask_waiting w ∷ []) ++ map ask_flying (in_flight p) = subst (λ (l : List Ask). held q ≡ l ++ map ask_flying (in_flight p)) (map-append ask_waiting p.waiting (w ∷ [])) (ap held e) in
     subst (AreBelow (n + 1)) (sym now) (joined (n + 1) (map ask_waiting p.waiting ++ ask_waiting w ∷ []) (map ask_flying (in_flight p))
     (joined (n + 1) (map ask_waiting p.waiting) (ask_waiting w ∷ []) (more n (map ask_waiting p.waiting) s.0) (omega (arith, t), tt)) (more n (map ask_flying (in_flight p)) s.1))
+
+-- a pool that was closed holds no ask, and no link
+pub closed_holds : (p q : Pooled) → q ≡ record p { waiting = []; polled = []; due = []; spare = [] } → held q ≡ []
+closed_holds p q e = ap held e
+
+pub closed_suits : (p q : Pooled) (wire : WireState) → q ≡ record p { waiting = []; polled = []; due = []; spare = [] } → SuitsWire q wire
+closed_suits p q wire e = subst (λ (x : Pooled). SuitsWire x wire) (sym e) (record { polled = tt; due = tt; owned = λ k. omega arith })

@@ -1,6 +1,8 @@
 // One request and its reply over a wire of scripts.
 ghost use Rattle.std.specs.Prelude.{◌≡◌, IfOk, None};
+ghost use Rattle.exchange.specs.Exchanges.{IsLinked, left_link};
 ghost use Rattle.exchange.specs.declared.exchange.Standing.TheVariants.{Underway};
+ghost use Rattle.script_wire.specs.Held.{state_of};
 
 use crate::polling::{asked_behind, polled};
 use exchange::{Exchange, ExchangeFault, ReceiveBuffer};
@@ -31,11 +33,22 @@ fn script(alloc: Global, pieces: &[&[u8]], ends: bool, most: usize) -> Result<Sc
     })
 }
 
-/// A wire with one link on which these pieces come.
-fn wire(alloc: Global, pieces: &[&[u8]], ends: bool, most: usize) -> Result<ScriptWire, Fail> {
+/// A wire with one link on which these pieces come, and which fails these calls.
+fn failing_wire(
+    alloc: Global,
+    pieces: &[&[u8]],
+    ends: bool,
+    most: usize,
+    failing: Failing,
+) -> Result<ScriptWire, Fail> {
     let mut scripts = Vec::new(alloc);
     scripts.push(script(alloc, pieces, ends, most)?)?;
-    Ok(ScriptWire::new(alloc, scripts, Failing::Never))
+    Ok(ScriptWire::new(alloc, scripts, failing))
+}
+
+/// A wire with one link on which these pieces come.
+fn wire(alloc: Global, pieces: &[&[u8]], ends: bool, most: usize) -> Result<ScriptWire, Fail> {
+    failing_wire(alloc, pieces, ends, most, Failing::Never)
 }
 
 fn address(alloc: Global) -> Result<WebAddress, Fail> {
@@ -67,38 +80,65 @@ fn fault_name(fault: ReplyFault) -> &'static str {
     }
 }
 
+/// A name and bytes behind it.
+fn with_bytes(alloc: Global, name: &str, bytes: &Bytes) -> Result<String, Fail> {
+    let text = text(bytes)?;
+    Ok(format!(in alloc; "{name} {text}")?)
+}
+
+/// A fault and the bytes that it keeps.
+fn fault_told(alloc: Global, fault: ExchangeFault) -> Result<String, Fail> {
+    match fault {
+        ExchangeFault::Failed => Ok(String::from_str(alloc, "failed")?),
+        ExchangeFault::OutOfMemory => Ok(String::from_str(alloc, "out of memory")?),
+        ExchangeFault::Cut { received } => with_bytes(alloc, "cut", &received),
+        ExchangeFault::Bad { fault, received } => with_bytes(alloc, fault_name(fault), &received),
+    }
+}
+
+/// What became of the link.
+fn link_name(exchange: &Exchange) -> &'static str {
+    match exchange.leave() {
+        Some(_) => "left",
+        None => "closed",
+    }
+}
+
 /// The answer as text: what became of the link and the body, or the fault and the bytes kept.
 fn told(
     alloc: Global,
-    exchange: Exchange,
+    exchange: &Exchange,
     answer: Result<Reply, ExchangeFault>,
 ) -> Result<String, Fail> {
     match answer {
-        Ok(reply) => {
-            let end = if exchange.leave().is_some() {
-                "left"
-            } else {
-                "closed"
-            };
-            Ok(format!(in alloc; "{end} {}", text(&reply.body)?)?)
-        }
-        Err(ExchangeFault::Failed) => Ok(String::from_str(alloc, "failed")?),
-        Err(ExchangeFault::OutOfMemory) => Ok(String::from_str(alloc, "out of memory")?),
-        Err(ExchangeFault::Cut { received }) => {
-            Ok(format!(in alloc; "cut {}", text(&received)?)?)
-        }
-        Err(ExchangeFault::Bad { fault, received }) => {
-            Ok(format!(in alloc; "{} {}", fault_name(fault), text(&received)?)?)
-        }
+        Ok(reply) => with_bytes(alloc, link_name(exchange), &reply.body),
+        Err(fault) => fault_told(alloc, fault),
+    }
+}
+
+/// An exchange that was polled up to its answer.
+#[derive(Drop)]
+struct Outcome {
+    exchange: Exchange,
+    answer: Result<Reply, ExchangeFault>,
+}
+
+/// A first exchange on the wire.
+fn ended(alloc: Global, limit: u64, wire: &mut ScriptWire) -> Result<Outcome, Fail>
+    ensures left { IfOk result (λ e. IsLinked (left_link e.exchange) (state_of wire.new)) }
+{
+    let mut buffer = ReceiveBuffer::new(alloc)?;
+    let mut exchange = started(alloc, limit)?;
+    match polled(&mut exchange, wire, &mut buffer, 10_000) {
+        Some(answer) => Ok(Outcome { exchange, answer }),
+        None => Err(Fail::new("it is never ready")),
     }
 }
 
 /// What a first exchange on the wire comes to.
 fn first(alloc: Global, limit: u64, mut wire: ScriptWire) -> Result<String, Fail> {
-    let mut buffer = ReceiveBuffer::new(alloc)?;
-    let mut exchange = started(alloc, limit)?;
-    let answer = polled(&mut exchange, &mut wire, &mut buffer, 10_000).ok_or("it is never ready")?;
-    told(alloc, exchange, answer)
+    let Outcome { exchange, answer } = ended(alloc, limit, &mut wire)?;
+    told(alloc, &exchange, answer)
 }
 
 /// The text behind the begin of a good head.
@@ -193,37 +233,47 @@ fn each_fault_keeps_what_was_received(rt: HostRuntime) -> Result<(), Fail> {
     Ok(())
 }
 
-#[test]
-fn a_second_request_goes_over_the_link_that_was_left(rt: HostRuntime) -> Result<(), Fail> {
-    let alloc = rt.alloc();
-    let one = with_ok(alloc, "Content-Length: 3\r\n\r\nabc")?;
-    let two = with_ok(alloc, "Content-Length: 2\r\n\r\nde")?;
-    let mut wire = wire(alloc, &[one.as_bytes(), two.as_bytes()], true, 1)?;
+/// What a second exchange comes to, over the link that the first left or over another.
+fn second(alloc: Global, limit: u64, first: Exchange, wire: &mut ScriptWire) -> Result<String, Fail>
+    requires left { IsLinked (left_link first) (state_of wire.old) }
+{
     let mut buffer = ReceiveBuffer::new(alloc)?;
-    let mut exchange = started(alloc, 9)?;
-    let answer = polled(&mut exchange, &mut wire, &mut buffer, 10_000).ok_or("it is never ready")?;
-    let Ok(reply) = answer else {
-        return Err("no reply".into());
-    };
-    assert_eq!(rt; text(&reply.body)?, "abc");
-    assert_eq!(rt; exchange.link(), Some(0));
     let address = address(alloc)?;
-    let (again, answer) = asked_behind(
-        alloc,
-        address,
-        9,
-        exchange,
-        &mut wire,
-        &mut buffer,
-        10_000,
-    )?;
-    let answer = answer.ok_or("it is never ready")?;
-    assert_eq!(rt; told(alloc, again, answer)?.as_str(), "left de");
+    let (again, answer) = asked_behind(alloc, address, limit, first, wire, &mut buffer, 10_000)?;
+    match answer {
+        Some(answer) => told(alloc, &again, answer),
+        None => Err(Fail::new("it is never ready")),
+    }
+}
+
+/// Whether one link was given, and the request sent on it twice.
+fn asked_twice(alloc: Global, wire: &ScriptWire) -> Result<bool, Fail> {
     if wire.links() != 1 {
-        return Err("another link was dialled".into());
+        return Ok(false);
     }
     let requests = format!(in alloc; "{REQUEST}{REQUEST}")?;
-    assert_eq!(rt; wire.sent_on(0), requests.as_bytes());
+    Ok(wire.sent_on(0) == requests.as_bytes())
+}
+
+/// What two exchanges come to, of which the second goes over the link that the first left.
+fn both(alloc: Global, mut wire: ScriptWire) -> Result<String, Fail> {
+    let Outcome { exchange, answer } = ended(alloc, 9, &mut wire)?;
+    let link = exchange.link();
+    let before = told(alloc, &exchange, answer)?;
+    let after = second(alloc, 9, exchange, &mut wire)?;
+    if link != Some(0) || !asked_twice(alloc, &wire)? {
+        return Err(Fail::new("another link was dialled"));
+    }
+    Ok(format!(in alloc; "{before}, {after}")?)
+}
+
+#[test]
+fn a_second_request_goes_over_the_link_that_was_left(rt: HostRuntime) -> Result<(), Fail> {
+    let one = with_ok(rt.alloc(), "Content-Length: 3\r\n\r\nabc")?;
+    let two = with_ok(rt.alloc(), "Content-Length: 2\r\n\r\nde")?;
+    let wire = wire(rt.alloc(), &[one.as_bytes(), two.as_bytes()], true, 1)?;
+    let told = both(rt.alloc(), wire)?;
+    assert_eq!(rt; told.as_str(), "left abc, left de");
     Ok(())
 }
 
@@ -236,34 +286,40 @@ fn a_byte_behind_the_reply_closes_the_link(rt: HostRuntime) -> Result<(), Fail> 
     Ok(())
 }
 
+/// What an exchange comes to whose dial fails, its link, and how many links were given.
+fn undialled(alloc: Global) -> Result<(String, Option<u64>, usize), Fail> {
+    let mut wire = failing_wire(alloc, &[OK.as_bytes()], true, 65536, Failing::Dials(1))?;
+    let Outcome { exchange, answer } = ended(alloc, 3, &mut wire)?;
+    let link = exchange.link();
+    let told = told(alloc, &exchange, answer)?;
+    Ok((told, link, wire.links()))
+}
+
 #[test]
 fn a_dial_that_fails_gives_no_link(rt: HostRuntime) -> Result<(), Fail> {
-    let alloc = rt.alloc();
-    let mut scripts = Vec::new(alloc);
-    scripts.push(script(alloc, &[OK.as_bytes()], true, 65536)?)?;
-    let mut wire = ScriptWire::new(alloc, scripts, Failing::Dials(1));
-    let mut buffer = ReceiveBuffer::new(alloc)?;
-    let mut exchange = started(alloc, 3)?;
-    let answer = polled(&mut exchange, &mut wire, &mut buffer, 10_000).ok_or("it is never ready")?;
-    assert_eq!(rt; exchange.link(), None);
-    assert_eq!(rt; told(alloc, exchange, answer)?.as_str(), "failed");
-    assert_eq!(rt; wire.links(), 0);
+    let (told, link, links) = undialled(rt.alloc())?;
+    assert_eq!(rt; told.as_str(), "failed");
+    assert_eq!(rt; (link, links), (None, 0));
     Ok(())
+}
+
+/// What an exchange comes to of whose calls the one with this number fails.
+fn failed_at(alloc: Global, reply: &str, call: u64) -> Result<String, Fail> {
+    let mut calls = Vec::new(alloc);
+    calls.push(call)?;
+    let failing = Failing::At(calls);
+    let wire = failing_wire(alloc, &[reply.as_bytes()], true, 65536, failing)?;
+    first(alloc, 3, wire)
 }
 
 /// The calls of the wire in order: a dial, a send, and two receives, of which the first answers
 /// `NotYet`.
 #[test]
 fn each_call_that_fails_ends_the_exchange(rt: HostRuntime) -> Result<(), Fail> {
-    let alloc = rt.alloc();
-    let reply = with_ok(alloc, "Content-Length: 3\r\n\r\nabc")?;
+    let reply = with_ok(rt.alloc(), "Content-Length: 3\r\n\r\nabc")?;
     for call in 1..=4 {
-        let mut scripts = Vec::new(alloc);
-        scripts.push(script(alloc, &[reply.as_bytes()], true, 65536)?)?;
-        let mut calls = Vec::new(alloc);
-        calls.push(call)?;
-        let wire = ScriptWire::new(alloc, scripts, Failing::At(calls));
-        assert_eq!(rt; first(alloc, 3, wire)?.as_str(), "failed", "{call}");
+        let told = failed_at(rt.alloc(), reply.as_str(), call)?;
+        assert_eq!(rt; told.as_str(), "failed", "{call}");
     }
     Ok(())
 }
@@ -281,36 +337,51 @@ fn padded(alloc: Global, chunks: usize) -> Result<String, Fail> {
     Ok(reply)
 }
 
+/// The answer where a reply comes in one piece, and the link ends.
+fn answer_to(alloc: Global, limit: u64, reply: &str) -> Result<Result<Reply, ExchangeFault>, Fail> {
+    let mut wire = wire(alloc, &[reply.as_bytes()], true, 65536)?;
+    Ok(ended(alloc, limit, &mut wire)?.answer)
+}
+
+/// Whether the link ended, and all bytes are kept.
+fn is_cut(answer: Result<Reply, ExchangeFault>, bytes: &[u8]) -> bool {
+    match answer {
+        Err(ExchangeFault::Cut { received }) => received.as_slice() == bytes,
+        _ => false,
+    }
+}
+
+/// Whether the reply is too long, and no more than so many bytes are kept.
+fn is_too_long(answer: Result<Reply, ExchangeFault>, most: usize) -> bool {
+    match answer {
+        Err(ExchangeFault::Bad { fault, received }) => {
+            fault == ReplyFault::TooLong && received.as_slice().len() <= most
+        }
+        _ => false,
+    }
+}
+
+#[test]
+fn an_exchange_keeps_nothing_at_its_start(rt: HostRuntime) -> Result<(), Fail> {
+    let exchange = started(rt.alloc(), 2000)?;
+    assert_eq!(rt; exchange.kept(), 0);
+    Ok(())
+}
+
 #[test]
 fn a_reply_padded_as_much_as_it_may_be_is_cut_at_its_end(rt: HostRuntime) -> Result<(), Fail> {
-    let alloc = rt.alloc();
     // 1002 bytes for each of 1054 chunks are 1056108, and 1048576 and eight for each byte 1057008
-    let reply = padded(alloc, 1054)?;
-    let mut wire = wire(alloc, &[reply.as_bytes()], true, 65536)?;
-    let mut buffer = ReceiveBuffer::new(alloc)?;
-    let mut exchange = started(alloc, 2000)?;
-    assert_eq!(rt; exchange.kept(), 0);
-    let answer = polled(&mut exchange, &mut wire, &mut buffer, 10_000).ok_or("it is never ready")?;
-    let Err(ExchangeFault::Cut { received }) = answer else {
-        return Err("not cut".into());
-    };
-    assert!(rt; received.as_slice() == reply.as_bytes());
+    let reply = padded(rt.alloc(), 1054)?;
+    let answer = answer_to(rt.alloc(), 2000, reply.as_str())?;
+    assert!(rt; is_cut(answer, reply.as_bytes()));
     Ok(())
 }
 
 #[test]
 fn a_reply_padded_too_much_is_too_long(rt: HostRuntime) -> Result<(), Fail> {
-    let alloc = rt.alloc();
-    let reply = padded(alloc, 1055)?;
-    let mut wire = wire(alloc, &[reply.as_bytes()], true, 65536)?;
-    let mut buffer = ReceiveBuffer::new(alloc)?;
-    let mut exchange = started(alloc, 2000)?;
-    let answer = polled(&mut exchange, &mut wire, &mut buffer, 10_000).ok_or("it is never ready")?;
-    let Err(ExchangeFault::Bad { fault, received }) = answer else {
-        return Err("not refused".into());
-    };
-    assert_eq!(rt; fault, ReplyFault::TooLong);
-    assert!(rt; received.as_slice().len() <= reply.len());
+    let reply = padded(rt.alloc(), 1055)?;
+    let answer = answer_to(rt.alloc(), 2000, reply.as_str())?;
+    assert!(rt; is_too_long(answer, reply.len()));
     Ok(())
 }
 

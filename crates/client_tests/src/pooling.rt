@@ -1,5 +1,5 @@
 // A pool over a wire of scripts.
-ghost use Rattle.std.specs.Prelude.{◌≡◌, []};
+ghost use Rattle.std.specs.Prelude.{◌≡◌, [], IfOk};
 ghost use Rattle.tpf_base.specs.Links.{WireState};
 ghost use Rattle.request_pool.specs.Pools.{held};
 ghost use Rattle.request_pool.specs.Owned.{SuitsWire};
@@ -9,7 +9,7 @@ use request_pool::{Pool, PoolFault};
 use script_wire::{Script, ScriptWire};
 use std::alloc::Global;
 use std::test::Fail;
-use tpf_base::{Bytes, Failing};
+use tpf_base::{Bytes, Dial, Failing};
 
 const KEPT: &str =
     "HTTP/1.1 200 OK\r\nContent-Type: application/n-quads\r\nContent-Length: 1\r\n\r\nx";
@@ -17,167 +17,415 @@ const KEPT: &str =
 const CLOSED: &str =
     "HTTP/1.1 200 OK\r\nContent-Type: application/n-quads\r\nConnection: close\r\nContent-Length: 1\r\n\r\nx";
 
+const FRONT: &str =
+    "HTTP/1.1 200 OK\r\nContent-Type: application/n-quads\r\nContent-Length: 1\r\n\r\n";
+
 const REFUSED: &str = "HTTP/1.1 404 Not Found\r\nContent-Length: 0\r\n\r\n";
 
-const FOUR: [&str; 4] = ["http://e/1", "http://e/2", "http://e/3", "http://e/4"];
+/// A pool that asks over a wire of scripts.
+#[derive(Drop)]
+struct Case {
+    links: u32,
+    retries: u32,
+    budget: u64,
+    /// A letter for the host of each ask.
+    hosts: &'static str,
+    /// The numbers of the calls of the wire that fail.
+    failing: &'static str,
+    /// A word for each link of the wire, with letters for what comes on it.
+    wire: &'static str,
+}
 
-/// A link on which this piece comes so many times, once so many links had a byte sent.
-fn script(alloc: Global, after: u64, piece: &str, times: u32, ends: bool) -> Result<Script, Fail> {
+/// The piece that a letter stands for: a reply that keeps the link, one that closes it, the front of
+/// one, one that is refused, and no byte.
+fn piece_of(letter: char) -> &'static str {
+    match letter {
+        'k' => KEPT,
+        'c' => CLOSED,
+        'f' => FRONT,
+        'x' => REFUSED,
+        _ => "",
+    }
+}
+
+/// How many pieces a letter stands for.
+fn times_of(letter: char) -> u32 {
+    match letter {
+        '4' | '.' => 0,
+        'w' => 499,
+        _ => 1,
+    }
+}
+
+/// The script of a link. It begins with a `4` where its first piece comes once four links had a byte
+/// sent, and ends with a point where the link ends.
+fn script(alloc: Global, word: &str) -> Result<Script, Fail> {
     let mut pieces = Vec::new(alloc);
-    for _ in 0..times {
-        pieces.push(Bytes::copy(alloc, piece.as_bytes())?)?;
+    for letter in word.chars() {
+        for _ in 0..times_of(letter) {
+            pieces.push(Bytes::copy(alloc, piece_of(letter).as_bytes())?)?;
+        }
     }
     Ok(Script {
-        after,
+        after: if word.starts_with('4') { 4 } else { 0 },
         pieces,
-        ends,
+        ends: word.ends_with('.'),
         most: 65536,
     })
 }
 
-/// So many links on each of which this piece comes so many times.
-fn scripts(alloc: Global, links: u32, piece: &str, times: u32) -> Result<Vec<Script>, Fail> {
-    let mut all = Vec::new(alloc);
-    for _ in 0..links {
-        all.push(script(alloc, 0, piece, times, false)?)?;
+fn wire_of(alloc: Global, case: &Case) -> Result<ScriptWire, Fail> {
+    let mut scripts = Vec::new(alloc);
+    for word in case.wire.split(' ') {
+        scripts.push(script(alloc, word)?)?;
     }
-    Ok(all)
+    let mut calls = Vec::new(alloc);
+    for word in case.failing.split_whitespace() {
+        calls.push(word.parse::<u64>()?)?;
+    }
+    Ok(ScriptWire::new(alloc, scripts, Failing::At(calls)))
 }
 
-/// What a pool comes to that asks for the addresses, and how many links were given.
-fn told(alloc: Global, pool: Pool, addresses: &[&str], wire: ScriptWire) -> Result<String, Fail>
-    requires none { held pool ≡ [] }
-    requires suits { (wire : WireState) → SuitsWire pool wire }
+/// A pool that holds the asks.
+fn pool_of(alloc: Global, case: &Case) -> Result<Pool, Fail>
+    ensures suits { IfOk result (λ pool. (wire : WireState) → SuitsWire pool wire) }
 {
-    let mut pool = pool;
-    let mut wire = wire;
-    put_all(alloc, &mut pool, addresses)?;
-    let told = steps(alloc, &mut pool, &mut wire, 10_000)?;
-    pool.close(&mut wire);
-    let links = wire.links();
-    let held = pool.held();
-    Ok(format!(in alloc; "{told}, {links} links, {held} held")?)
+    let links = case.links.clamp(1, 256);
+    let mut pool = Pool::new(alloc, links, case.retries, case.budget, 100);
+    put_all(alloc, &mut pool, case.hosts.as_bytes())?;
+    Ok(pool)
 }
 
-#[test]
-fn all_come_where_the_first_reply_waits_for_four_requests(rt: HostRuntime) -> Result<(), Fail> {
-    let alloc = rt.alloc();
-    let mut scripts = scripts(alloc, 3, CLOSED, 1)?;
-    scripts.insert(0, script(alloc, 4, CLOSED, 1, false)?)?;
-    let wire = ScriptWire::new(alloc, scripts, Failing::Never);
-    let told = told(alloc, Pool::new(alloc, 4, 0, 9, 100), &FOUR, wire)?;
-    assert_eq!(rt; told.as_str(), "0 1 2 3 idle, 4 links, 0 held");
-    Ok(())
+/// The paths of the requests that were sent on each link.
+fn requests(alloc: Global, wire: &ScriptWire) -> Result<String, Fail> {
+    let mut out = String::new(alloc);
+    for link in 0..wire.links() {
+        out.push_str(" [")?;
+        for word in str::from_utf8(wire.sent_on(link))?.split(' ') {
+            if word.starts_with('/') {
+                out.push_str(word)?;
+            }
+        }
+        out.push(']')?;
+    }
+    Ok(out)
 }
 
-#[test]
-fn one_dial_serves_four_asks_to_one_authority(rt: HostRuntime) -> Result<(), Fail> {
-    let alloc = rt.alloc();
-    let wire = ScriptWire::new(alloc, scripts(alloc, 1, KEPT, 4)?, Failing::Never);
-    let told = told(alloc, Pool::new(alloc, 1, 0, 9, 100), &FOUR, wire)?;
-    assert_eq!(rt; told.as_str(), "0 1 2 3 idle, 1 links, 0 held");
-    Ok(())
+/// What comes of a case: the tickets in the order of their replies, the end, and the paths that were
+/// asked for on each link. The end is told again at each later step.
+fn told(alloc: Global, case: &Case) -> Result<String, Fail> {
+    let mut wire = wire_of(alloc, case)?;
+    let mut pool = pool_of(alloc, case)?;
+    let mut told = steps(alloc, &mut pool, &mut wire, 10_000)?;
+    let again = steps(alloc, &mut pool, &mut wire, 1)?;
+    if !told.ends_with(again.as_str()) {
+        return Err(Fail::new("another end at a later step"));
+    }
+    told.push_str(requests(alloc, &wire)?.as_str())?;
+    Ok(told)
 }
 
-#[test]
-fn a_kept_link_serves_its_own_authority_alone(rt: HostRuntime) -> Result<(), Fail> {
-    let alloc = rt.alloc();
-    let wire = ScriptWire::new(alloc, scripts(alloc, 2, KEPT, 2)?, Failing::Never);
-    let addresses = ["http://e/1", "http://f/2", "http://e/3"];
-    let told = told(alloc, Pool::new(alloc, 1, 0, 9, 100), &addresses, wire)?;
-    assert_eq!(rt; told.as_str(), "0 1 2 idle, 2 links, 0 held");
-    Ok(())
-}
-
-/// Calls by number, how often a ticket may be tried again, and what comes of one ask: a dial, a send
-/// and two receives, of which the first answers `NotYet`.
-const FAILING: [(u64, u32, &str); 10] = [
-    (1, 0, "exchange, 0 links, 0 held"),
-    (2, 0, "exchange, 1 links, 0 held"),
-    (3, 0, "exchange, 1 links, 0 held"),
-    (4, 0, "exchange, 1 links, 0 held"),
-    (5, 0, "0 idle, 1 links, 0 held"),
-    (1, 1, "0 idle, 1 links, 0 held"),
-    (2, 1, "0 idle, 2 links, 0 held"),
-    (3, 1, "0 idle, 2 links, 0 held"),
-    (4, 1, "0 idle, 2 links, 0 held"),
-    (1, 2, "0 idle, 1 links, 0 held"),
+/// How many exchanges may be in flight, and what comes of four asks where the first reply comes once
+/// four links had a byte sent.
+const WAITING: [(u32, &str); 3] = [
+    (4, "0 1 2 3 idle [/0] [/1] [/2] [/3]"),
+    (2, "1 2 0 3 idle [/0] [/1] [/2] [/3]"),
+    (1, "exchange [/0]"),
 ];
 
 #[test]
-fn a_call_that_fails_is_a_failure_of_its_ticket(rt: HostRuntime) -> Result<(), Fail> {
-    let alloc = rt.alloc();
-    for (call, retries, wanted) in &FAILING {
-        let mut calls = Vec::new(alloc);
-        calls.push(*call)?;
-        let wire = ScriptWire::new(alloc, scripts(alloc, 3, KEPT, 1)?, Failing::At(calls));
-        let told = told(
-            alloc,
-            Pool::new(alloc, 1, *retries, 9, 100),
-            &FOUR[..1],
-            wire,
-        )?;
-        assert_eq!(rt; told.as_str(), *wanted, "{call} {retries}");
+fn all_come_where_the_first_reply_waits_for_four_requests(rt: HostRuntime) -> Result<(), Fail> {
+    for (links, wanted) in WAITING {
+        let case = Case {
+            links,
+            retries: 0,
+            budget: 9,
+            hosts: "eeee",
+            failing: "",
+            wire: "4c c c c",
+        };
+        assert_eq!(rt; told(rt.alloc(), &case)?.as_str(), wanted);
     }
     Ok(())
 }
 
-/// The budget, and what comes of four asks over one link at a time.
-const BUDGETS: [(u64, &str); 6] = [
-    (0, "budget, 0 links, 0 held"),
-    (1, "0 budget, 1 links, 0 held"),
-    (2, "0 1 budget, 2 links, 0 held"),
-    (3, "0 1 2 budget, 3 links, 0 held"),
-    (4, "0 1 2 3 idle, 4 links, 0 held"),
-    (5, "0 1 2 3 idle, 4 links, 0 held"),
+/// How many links are kept, the hosts of the asks, the wire, and what comes of it.
+const KEEPING: [(u32, &str, &str, &str); 5] = [
+    (1, "eeee", "kkkk", "0 1 2 3 idle [/0/1/2/3]"),
+    (1, "ee", "c c", "0 1 idle [/0] [/1]"),
+    (1, "efe", "kk k", "0 1 2 idle [/0/2] [/1]"),
+    (2, "efef", "kk kk", "0 1 2 3 idle [/0/2] [/1/3]"),
+    (1, "eff", "k k k", "0 1 2 idle [/0] [/1] [/2]"),
+];
+
+#[test]
+fn a_kept_link_serves_the_asks_to_its_authority(rt: HostRuntime) -> Result<(), Fail> {
+    for (links, hosts, wire, wanted) in KEEPING {
+        let case = Case {
+            links,
+            retries: 0,
+            budget: 9,
+            hosts,
+            failing: "",
+            wire,
+        };
+        assert_eq!(rt; told(rt.alloc(), &case)?.as_str(), wanted);
+    }
+    Ok(())
+}
+
+/// Calls by number that fail, how often an ask may be tried again, and what comes of one ask. Without
+/// a failure the calls are a dial, a send and two receives, of which the first answers `NotYet`.
+const FAILING: [(&str, u32, &str); 27] = [
+    ("1", 0, "exchange"),
+    ("2", 0, "exchange []"),
+    ("3", 0, "exchange [/0]"),
+    ("4", 0, "exchange [/0]"),
+    ("5", 0, "0 idle [/0]"),
+    ("1", 1, "0 idle [/0]"),
+    ("2", 1, "0 idle [] [/0]"),
+    ("3", 1, "0 idle [/0] [/0]"),
+    ("4", 1, "0 idle [/0] [/0]"),
+    ("5", 1, "0 idle [/0]"),
+    ("1 2", 1, "exchange"),
+    ("2 4", 1, "exchange [] []"),
+    ("3 6", 1, "exchange [/0] [/0]"),
+    ("4 8", 1, "exchange [/0] [/0]"),
+    ("1", 2, "0 idle [/0]"),
+    ("2", 2, "0 idle [] [/0]"),
+    ("3", 2, "0 idle [/0] [/0]"),
+    ("4", 2, "0 idle [/0] [/0]"),
+    ("5", 2, "0 idle [/0]"),
+    ("1 2", 2, "0 idle [/0]"),
+    ("2 4", 2, "0 idle [] [] [/0]"),
+    ("3 6", 2, "0 idle [/0] [/0] [/0]"),
+    ("4 8", 2, "0 idle [/0] [/0] [/0]"),
+    ("1 2 3", 2, "exchange"),
+    ("2 4 6", 2, "exchange [] [] []"),
+    ("3 6 9", 2, "exchange [/0] [/0] [/0]"),
+    ("4 8 12", 2, "exchange [/0] [/0] [/0]"),
+];
+
+#[test]
+fn a_call_that_fails_is_a_failure_of_its_ask(rt: HostRuntime) -> Result<(), Fail> {
+    for (failing, retries, wanted) in FAILING {
+        let case = Case {
+            links: 1,
+            retries,
+            budget: 9,
+            hosts: "e",
+            failing,
+            wire: "k k k",
+        };
+        assert_eq!(rt; told(rt.alloc(), &case)?.as_str(), wanted, "{failing}");
+    }
+    Ok(())
+}
+
+/// How often an ask may be tried again, the hosts, calls by number that fail, the wire, and what comes
+/// of it: links that end, that hang, that ended behind a reply, and a reply that is refused.
+const ENDING: [(u32, &str, &str, &str, &str); 9] = [
+    (0, "e", "", "f.", "cut [/0]"),
+    (1, "e", "", "f. k", "0 idle [/0] [/0]"),
+    (1, "e", "", "f. f.", "cut [/0] [/0]"),
+    (0, "e", "", "f", "exchange [/0]"),
+    (1, "e", "", "f k", "0 idle [/0] [/0]"),
+    (0, "ee", "", "k. k", "0 cut [/0/1]"),
+    (1, "ee", "", "k. k", "0 1 idle [/0/1] [/1]"),
+    (2, "e", "", "x k", "reply [/0]"),
+    (1, "ee", "2", "c c c", "0 1 idle [] [/0] [/1]"),
+];
+
+#[test]
+fn an_ask_that_failed_is_asked_again_before_others(rt: HostRuntime) -> Result<(), Fail> {
+    for (retries, hosts, failing, wire, wanted) in ENDING {
+        let case = Case {
+            links: 1,
+            retries,
+            budget: 9,
+            hosts,
+            failing,
+            wire,
+        };
+        assert_eq!(rt; told(rt.alloc(), &case)?.as_str(), wanted, "{wire}");
+    }
+    Ok(())
+}
+
+/// The budget, how many exchanges may be in flight, calls by number that fail, the wire, and what
+/// comes of five asks that may be tried again.
+const BUDGETS: [(u64, u32, &str, &str, &str); 10] = [
+    (0, 1, "", "c c c c c", "budget"),
+    (1, 1, "", "c c c c c", "0 budget [/0]"),
+    (2, 1, "", "c c c c c", "0 1 budget [/0] [/1]"),
+    (3, 1, "", "c c c c c", "0 1 2 budget [/0] [/1] [/2]"),
+    (4, 1, "", "c c c c c", "0 1 2 3 budget [/0] [/1] [/2] [/3]"),
+    (
+        5,
+        1,
+        "",
+        "c c c c c",
+        "0 1 2 3 4 idle [/0] [/1] [/2] [/3] [/4]",
+    ),
+    (3, 1, "", "kkkkk", "0 1 2 budget [/0/1/2]"),
+    (2, 4, "", "c c c c c", "budget [/0] [/1]"),
+    (1, 1, "1", "c c c c c", "budget"),
+    (2, 1, "1", "c c c c c", "0 budget [/0]"),
 ];
 
 #[test]
 fn no_more_is_started_than_the_budget_allows(rt: HostRuntime) -> Result<(), Fail> {
-    let alloc = rt.alloc();
-    for (budget, wanted) in &BUDGETS {
-        let wire = ScriptWire::new(alloc, scripts(alloc, 4, CLOSED, 1)?, Failing::Never);
-        let told = told(alloc, Pool::new(alloc, 1, 0, *budget, 100), &FOUR, wire)?;
-        assert_eq!(rt; told.as_str(), *wanted, "{budget}");
+    for (budget, links, failing, wire, wanted) in BUDGETS {
+        let case = Case {
+            links,
+            retries: 2,
+            budget,
+            hosts: "eeeee",
+            failing,
+            wire,
+        };
+        assert_eq!(rt; told(rt.alloc(), &case)?.as_str(), wanted, "{budget}");
     }
     Ok(())
 }
 
+/// How often an ask may be tried again, the wire, and what comes of one ask: 998 waits follow one
+/// another with nothing moved before the first reply, and 1000 before the others that come behind
+/// pieces without a byte.
+const STALLING: [(u32, &str, &str); 5] = [
+    (0, "wk", "0 idle [/0]"),
+    (0, "w-k", "stalled [/0]"),
+    (1, "w-k k", "0 idle [/0] [/0]"),
+    (1, "w-k w-k k", "stalled [/0] [/0]"),
+    (2, "w-k w-k k", "0 idle [/0] [/0] [/0]"),
+];
+
 #[test]
 fn a_thousand_waits_with_nothing_moved_are_a_stall(rt: HostRuntime) -> Result<(), Fail> {
-    let alloc = rt.alloc();
-    let wire = ScriptWire::new(alloc, scripts(alloc, 1, "", 1100)?, Failing::Never);
-    let told = told(alloc, Pool::new(alloc, 1, 0, 9, 100), &FOUR[..1], wire)?;
-    assert_eq!(rt; told.as_str(), "stalled, 1 links, 0 held");
+    for (retries, wire, wanted) in STALLING {
+        let case = Case {
+            links: 1,
+            retries,
+            budget: 9,
+            hosts: "e",
+            failing: "",
+            wire,
+        };
+        assert_eq!(rt; told(rt.alloc(), &case)?.as_str(), wanted, "{wire}");
+    }
     Ok(())
+}
+
+/// The bytes that a fault keeps.
+fn kept_by(fault: PoolFault) -> Option<Bytes> {
+    match fault {
+        PoolFault::Cut { received } => Some(received),
+        PoolFault::Reply { received, .. } => Some(received),
+        _ => None,
+    }
+}
+
+/// Whether three steps tell a fault that keeps the bytes.
+fn tells_again<W: Dial>(pool: &mut Pool, wire: &mut W, bytes: &[u8]) -> bool
+    requires suits { SuitsWire pool.old (W.state wire.old) }
+{
+    'times: for _ in 0..3 {
+        let kept = match pool.step(wire) {
+            Ok(_) => None,
+            Err(fault) => kept_by(fault),
+        };
+        match kept {
+            Some(kept) => {
+                if kept.as_slice() != bytes {
+                    return false;
+                }
+            }
+            None => return false,
+        }
+    }
+    true
+}
+
+/// Whether one ask ends with a fault that keeps the bytes, which is told again.
+fn keeps(alloc: Global, wire: &'static str, bytes: &str) -> Result<bool, Fail> {
+    let case = Case {
+        links: 1,
+        retries: 0,
+        budget: 9,
+        hosts: "e",
+        failing: "",
+        wire,
+    };
+    let mut wire = wire_of(alloc, &case)?;
+    let mut pool = pool_of(alloc, &case)?;
+    let _told = steps(alloc, &mut pool, &mut wire, 10)?;
+    Ok(tells_again(&mut pool, &mut wire, bytes.as_bytes()))
 }
 
 #[test]
 fn the_bytes_of_a_fault_are_told_again(rt: HostRuntime) -> Result<(), Fail> {
-    let alloc = rt.alloc();
-    let mut wire = ScriptWire::new(alloc, scripts(alloc, 1, REFUSED, 1)?, Failing::Never);
-    let mut pool = Pool::new(alloc, 1, 2, 9, 100);
-    put_all(alloc, &mut pool, &FOUR[..1])?;
-    let _told = steps(alloc, &mut pool, &mut wire, 10)?;
-    for _ in 0..3 {
-        let Err(PoolFault::Reply { received, .. }) = pool.step(&mut wire) else {
-            return Err("another answer".into());
-        };
-        assert!(rt; received.as_slice() == REFUSED.as_bytes());
+    for (wire, bytes) in [("f.", FRONT), ("x", REFUSED), (".", "")] {
+        assert!(rt; keeps(rt.alloc(), wire, bytes)?, "{wire}");
     }
     Ok(())
 }
 
+/// Closes a pool, and says whether it holds nothing then.
+fn emptied<W: Dial>(pool: &mut Pool, wire: &mut W) -> bool
+    requires suits { SuitsWire pool.old (W.state wire.old) }
+    ensures none { held pool.new ≡ [] }
+    ensures suits { (wire : WireState) → SuitsWire pool.new wire }
+{
+    pool.close(wire);
+    pool.held() == 0 && pool.in_flight() == 0
+}
+
+/// What comes of one ask that is put into a pool that holds nothing.
+fn one_more<W: Dial>(alloc: Global, pool: &mut Pool, wire: &mut W) -> Result<String, Fail>
+    requires none { held pool.old ≡ [] }
+    requires suits { (wire : WireState) → SuitsWire pool.old wire }
+{
+    put_all(alloc, pool, b"e")?;
+    steps(alloc, pool, wire, 10)
+}
+
+/// What comes of a case after so many steps and a close, and of an ask that is put then.
+fn closed(alloc: Global, case: &Case, most: u32) -> Result<String, Fail> {
+    let mut wire = wire_of(alloc, case)?;
+    let mut pool = pool_of(alloc, case)?;
+    let told = steps(alloc, &mut pool, &mut wire, most)?;
+    if !emptied(&mut pool, &mut wire) {
+        return Err(Fail::new("something is held"));
+    }
+    let later = one_more(alloc, &mut pool, &mut wire)?;
+    let requests = requests(alloc, &wire)?;
+    Ok(format!(in alloc; "{told}| {later}{requests}")?)
+}
+
+/// After how many steps of four asks over two links the pool is closed, the wire, and what comes of
+/// them and of an ask that is put then: no link that was held is used again, and a fault stays.
+const CLOSING: [(u32, &str, &str); 7] = [
+    (0, "kk kk kk", "| 0 idle [/0]"),
+    (1, "kk kk kk", "0 | 0 idle [/0] [/1] [/0]"),
+    (2, "kk kk kk", "0 1 | 0 idle [/0/2] [/1] [/0]"),
+    (3, "kk kk kk", "0 1 2 | 0 idle [/0/2] [/1/3] [/0]"),
+    (4, "kk kk kk", "0 1 2 3 | 0 idle [/0/2] [/1/3] [/0]"),
+    (5, "kk kk kk", "0 1 2 3 idle| 0 idle [/0/2] [/1/3] [/0]"),
+    (1, "f. kk kk", "cut| cut [/0] [/1]"),
+];
+
 #[test]
-fn nothing_is_held_after_a_close_whenever_it_comes(rt: HostRuntime) -> Result<(), Fail> {
-    let alloc = rt.alloc();
-    for most in 0..7u32 {
-        let mut wire = ScriptWire::new(alloc, scripts(alloc, 4, KEPT, 2)?, Failing::Never);
-        let mut pool = Pool::new(alloc, 2, 0, 9, 100);
-        put_all(alloc, &mut pool, &FOUR)?;
-        let _told = steps(alloc, &mut pool, &mut wire, most)?;
-        pool.close(&mut wire);
-        assert_eq!(rt; (pool.held(), pool.in_flight()), (0, 0));
+fn a_pool_can_be_closed_at_every_state(rt: HostRuntime) -> Result<(), Fail> {
+    for (most, wire, wanted) in CLOSING {
+        let case = Case {
+            links: 2,
+            retries: 0,
+            budget: 9,
+            hosts: "eeee",
+            failing: "",
+            wire,
+        };
+        assert_eq!(rt; closed(rt.alloc(), &case, most)?.as_str(), wanted);
     }
     Ok(())
 }

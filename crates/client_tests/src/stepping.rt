@@ -10,13 +10,22 @@ use std::test::Fail;
 use template_fill::WebAddress;
 use tpf_base::Dial;
 
-/// Puts asks for the addresses, under the tickets 0, 1, 2 and so on.
-pub fn put_all(alloc: Global, pool: &mut Pool, addresses: &[&str]) -> Result<(), Fail>
+/// The address of a path with this number, at a host with this letter.
+fn address(alloc: Global, host: u8, number: usize) -> Result<WebAddress, Fail> {
+    let text = format!(in alloc; "http://{}/{number}", host as char)?;
+    match WebAddress::read(alloc, text.as_str()) {
+        Ok(address) => Ok(address),
+        Err(_) => Err(Fail::new("no address")),
+    }
+}
+
+/// Puts an ask for each host, under the tickets 0, 1, 2 and so on, which its path has too.
+pub fn put_all(alloc: Global, pool: &mut Pool, hosts: &[u8]) -> Result<(), Fail>
     requires none { held pool.old ≡ [] }
     ensures suits { (wire : WireState) → SuitsWire pool.old wire → SuitsWire pool.new wire }
 {
-    for (place, text) in addresses.iter().enumerate() {
-        let address = WebAddress::read(alloc, text).map_err(|_| "no address")?;
+    for (place, host) in hosts.iter().enumerate() {
+        let address = address(alloc, *host, place)?;
         pool.put(place as u64, address)?;
     }
     Ok(())

@@ -1,8 +1,7 @@
 // Joins over the pages that a server in memory gives.
-ghost use Rattle.std.specs.Prelude.{◌≡◌, ◌<◌, ◌+◌, ◌*◌, ◌≤◌, ◌^◌, ℕ, All, IfOk, OnOk, length};
+ghost use Rattle.std.specs.Prelude.{◌≡◌, ◌<◌, ◌+◌, ◌*◌, ◌≤◌, ◌^◌, ◌-◌, All, IfOk, OnOk};
 ghost use Rattle.rdf_terms.specs.Triples.{IsRdfQuad};
 ghost use Rattle.tpf_base.specs.Addresses.{IsAuthority};
-ghost use Rattle.tpf_server.specs.Conversation.{Suits};
 
 use bgp_core::Query;
 use control_reader::{Page, read_page};
@@ -41,7 +40,7 @@ fn server_of(alloc: Global, text: &str, page_size: u64) -> Result<Server, Fail> 
     let table = Table::build(alloc, quads.as_slice(), &Choice::Union, host(), 100000)?;
     let base = WebAddress::read(alloc, BASE)?;
     match Config::new(base, page_size) {
-        Some(config) => Ok(Server::new(table, config)),
+        Some(config) => Ok(Server::new(alloc, table, config)?),
         None => Err(Fail::new("no configuration")),
     }
 }
@@ -51,11 +50,8 @@ fn drained(
     connection: &mut Connection,
     server: &Server,
     out: &mut Vec<u8>,
-) -> Result<(), OutOfMemory>
-    requires { Suits server.now connection.old }
-    ensures { OnOk result (Suits server.now connection.new) }
-{
-    'turns: for _ in 0..20 {
+) -> Result<(), OutOfMemory> {
+    for _ in 0..20 {
         connection.fill(server)?;
         let n = connection.pending().len();
         out.extend_from_slice(connection.pending())?;

@@ -1,8 +1,9 @@
 // The lines of worked metadata and of their links, and a page that is read back.
-ghost use Rattle.std.specs.Prelude.{◌≡◌, IfOk};
+ghost use Rattle.std.specs.Prelude.{◌≡◌, ◌≤◌, IfOk};
+ghost use Rattle.rdf_terms.specs.Fragments.{last_page_of};
 ghost use Rattle.template_fill.specs.Forms.{HasNoBlank};
 
-use control_reader::{PageFault, read_page};
+use control_reader::{Page, PageFault, read_page};
 use hydra_controls::{Config, metadata};
 use nquads_text::{read_all, write_quad};
 use rdf_terms::{Quad, Slot, Slots};
@@ -42,6 +43,31 @@ fn free() -> Slots
     }
 }
 
+/// The metadata of a page of the fragment with nothing fixed, which has so many triples.
+fn controls(
+    rt: &impl Abort,
+    alloc: Global,
+    page_size: u64,
+    page: u64,
+    count: u64,
+    version: u64,
+) -> Result<Vec<Quad>, Fail>
+    requires page { 1 ≤ page }
+    requires last { page ≤ last_page_of count page_size }
+{
+    let config = config(rt, alloc, "http://localhost/data", page_size)?;
+    Ok(metadata(alloc, &config, &free(), page, count, version)?)
+}
+
+/// The page with this address that is read of a text.
+fn page_of(alloc: Global, body: &[u8], address: &str) -> Result<Page, Fail> {
+    let address = WebAddress::read(alloc, address)?;
+    match read_page(alloc, body, &address) {
+        Ok(page) => Ok(page),
+        Err(_) => Err(Fail::new("no page")),
+    }
+}
+
 fn line(alloc: Global, quad: &Quad) -> Result<Vec<u8>, OutOfMemory> {
     let mut text = Vec::new(alloc);
     write_quad(quad, &mut text)?;
@@ -50,22 +76,36 @@ fn line(alloc: Global, quad: &Quad) -> Result<Vec<u8>, OutOfMemory> {
 
 #[test]
 fn the_first_page_of_no_triples_has_19_lines(rt: HostRuntime) -> Result<(), Fail> {
-    let config = config(&rt, rt.alloc(), "http://localhost/data", 100)?;
-    let quads = metadata(rt.alloc(), &config, &free(), 1, 0, 1)?;
+    let quads = controls(&rt, rt.alloc(), 100, 1, 0, 1)?;
     assert_eq!(rt; quads.len(), LENGTHS.len());
     for (i, (quad, wanted)) in quads.iter().zip(LENGTHS).enumerate() {
         let text = line(rt.alloc(), quad)?;
         assert_eq!(rt; text.len(), wanted, "line {i}");
-        if i == 0 {
-            assert_eq!(rt; text.as_slice(), FIRST);
-        }
-        if i == 15 {
-            assert_eq!(rt; text.as_slice(), SIXTEENTH);
-        }
-        if i == 18 {
-            assert_eq!(rt; text.as_slice(), NINETEENTH);
-        }
     }
+    Ok(())
+}
+
+/// The line with this number, from 0.
+fn line_at(alloc: Global, quads: &[Quad], number: usize) -> Result<Vec<u8>, Fail> {
+    match quads.get(number) {
+        Some(quad) => Ok(line(alloc, quad)?),
+        None => Err(Fail::new("no such line")),
+    }
+}
+
+#[test]
+fn the_lines_of_topic_count_and_version_are_as_worked(rt: HostRuntime) -> Result<(), Fail> {
+    let quads = controls(&rt, rt.alloc(), 100, 1, 0, 1)?;
+    for (number, wanted) in [(0usize, FIRST), (15, SIXTEENTH), (18, NINETEENTH)] {
+        let text = line_at(rt.alloc(), quads.as_slice(), number)?;
+        assert_eq!(rt; text.as_slice(), wanted, "line {number}");
+    }
+    Ok(())
+}
+
+#[test]
+fn the_first_page_of_no_triples_has_2258_bytes(rt: HostRuntime) -> Result<(), Fail> {
+    let quads = controls(&rt, rt.alloc(), 100, 1, 0, 1)?;
     let body = text_of(rt.alloc(), quads.as_slice())?;
     assert_eq!(rt; body.len(), 2258);
     Ok(())
@@ -114,25 +154,28 @@ fn text_of(alloc: Global, quads: &[Quad]) -> Result<Vec<u8>, OutOfMemory> {
 }
 
 #[test]
-fn controls_are_read_back(rt: HostRuntime) -> Result<(), Fail> {
-    let config = config(&rt, rt.alloc(), "http://localhost/data", 3)?;
-    let address = WebAddress::read(rt.alloc(), "http://localhost/data?page=2")?;
-    let quads = metadata(rt.alloc(), &config, &free(), 2, 7, 12)?;
+fn counts_versions_and_links_are_read_back(rt: HostRuntime) -> Result<(), Fail> {
+    let quads = controls(&rt, rt.alloc(), 3, 2, 7, 12)?;
     let body = text_of(rt.alloc(), quads.as_slice())?;
-    let page = match read_page(rt.alloc(), body.as_slice(), &address) {
-        Ok(page) => page,
-        Err(_) => return Err(Fail::new("no page")),
-    };
+    let page = page_of(rt.alloc(), body.as_slice(), "http://localhost/data?page=2")?;
     assert_eq!(rt; page.count, 7);
     assert_eq!(rt; page.version, Some(12));
     assert_eq!(rt; page.triples.as_slice().len(), 0);
     let next = page.next.as_ref().map(|next| next.text());
     assert_eq!(rt; next, Some("http://localhost/data?page=3"));
-    let all = page.form.address(rt.alloc(), &free())?;
-    assert_eq!(rt; all.text(), "http://localhost/data");
+    Ok(())
+}
+
+#[test]
+fn forms_are_read_back(rt: HostRuntime) -> Result<(), Fail> {
+    let quads = controls(&rt, rt.alloc(), 3, 2, 7, 12)?;
+    let body = text_of(rt.alloc(), quads.as_slice())?;
+    let page = page_of(rt.alloc(), body.as_slice(), "http://localhost/data?page=2")?;
     assert_eq!(rt; page.form.subject.as_str(), "subject");
     assert_eq!(rt; page.form.predicate.as_str(), "predicate");
     assert_eq!(rt; page.form.object.as_str(), "object");
+    let all = page.form.address(rt.alloc(), &free())?;
+    assert_eq!(rt; all.text(), "http://localhost/data");
     Ok(())
 }
 
@@ -140,25 +183,34 @@ fn controls_are_read_back(rt: HostRuntime) -> Result<(), Fail> {
 const CLAIM: &[u8] =
     b"<http://localhost/data> <http://www.w3.org/ns/hydra/core#totalItems> \"99\"^^<http://www.w3.org/2001/XMLSchema#integer> .\n";
 
+/// A text and the lines of quads behind it.
+fn with_quads(alloc: Global, text: &[u8], quads: &[Quad]) -> Result<Vec<u8>, OutOfMemory> {
+    let mut body = Vec::new(alloc);
+    body.extend_from_slice(text)?;
+    for quad in quads {
+        write_quad(quad, &mut body)?;
+    }
+    Ok(body)
+}
+
+/// Whether the page has the one triple of the claim, whose line is written as it is read.
+fn has_the_claim_alone(alloc: Global, page: &Page) -> Result<bool, Fail> {
+    let data = read_all(alloc, CLAIM, 4194304)?;
+    let text = text_of(alloc, data.as_slice())?;
+    let ([triple], [claim]) = (page.triples.as_slice(), data.as_slice()) else {
+        return Ok(false);
+    };
+    Ok(text.as_slice() == CLAIM && triple.same(&claim.triple))
+}
+
 #[test]
 fn a_triple_of_the_data_gives_no_count(rt: HostRuntime) -> Result<(), Fail> {
-    let config = config(&rt, rt.alloc(), "http://localhost/data", 100)?;
-    let address = WebAddress::read(rt.alloc(), "http://localhost/data")?;
-    let data = read_all(rt.alloc(), CLAIM, 4194304)?;
-    let controls = metadata(rt.alloc(), &config, &free(), 1, 1, 1)?;
-    let mut body = text_of(rt.alloc(), data.as_slice())?;
-    assert_eq!(rt; body.as_slice(), CLAIM);
-    body.extend_from_slice(text_of(rt.alloc(), controls.as_slice())?.as_slice())?;
-    let page = match read_page(rt.alloc(), body.as_slice(), &address) {
-        Ok(page) => page,
-        Err(_) => return Err(Fail::new("no page")),
-    };
+    let quads = controls(&rt, rt.alloc(), 100, 1, 1, 1)?;
+    let body = with_quads(rt.alloc(), CLAIM, quads.as_slice())?;
+    let page = page_of(rt.alloc(), body.as_slice(), "http://localhost/data")?;
     assert_eq!(rt; page.count, 1);
     assert!(rt; page.next.is_none());
-    let ([triple], [claim]) = (page.triples.as_slice(), data.as_slice()) else {
-        return Err(Fail::new("no single triple"));
-    };
-    assert!(rt; triple.same(&claim.triple));
+    assert!(rt; has_the_claim_alone(rt.alloc(), &page)?);
     Ok(())
 }
 
@@ -208,30 +260,31 @@ fn nodes_text(alloc: Global, nodes: u32) -> Result<String, Fail> {
     Ok(out)
 }
 
+/// Why a text is no page.
+fn refused(alloc: Global, body: &[u8]) -> Result<Option<PageFault>, Fail> {
+    let address = WebAddress::read(alloc, "http://localhost/data")?;
+    Ok(read_page(alloc, body, &address).err())
+}
+
 #[test]
 fn a_hundred_thousand_controls_without_a_form_are_refused(rt: HostRuntime) -> Result<(), Fail> {
     let nodes = nodes_text(rt.alloc(), NODES)?;
-    let address = WebAddress::read(rt.alloc(), "http://localhost/data")?;
     let mut body = Vec::new(rt.alloc());
     body.extend_from_slice(FIRST)?;
     body.extend_from_slice(SIXTEENTH)?;
     body.extend_from_slice(nodes.as_bytes())?;
-    let refused = read_page(rt.alloc(), body.as_slice(), &address).err();
+    let refused = refused(rt.alloc(), body.as_slice())?;
     assert_eq!(rt; refused, Some(PageFault::NoForm));
     Ok(())
 }
 
 #[test]
 fn a_form_among_a_hundred_thousand_controls_is_read(rt: HostRuntime) -> Result<(), Fail> {
-    let config = config(&rt, rt.alloc(), "http://localhost/data", 100)?;
-    let address = WebAddress::read(rt.alloc(), "http://localhost/data")?;
-    let controls = metadata(rt.alloc(), &config, &free(), 1, 0, 1)?;
-    let mut body = text_of(rt.alloc(), controls.as_slice())?;
-    body.extend_from_slice(nodes_text(rt.alloc(), NODES)?.as_bytes())?;
-    let page = match read_page(rt.alloc(), body.as_slice(), &address) {
-        Ok(page) => page,
-        Err(_) => return Err(Fail::new("no page")),
-    };
+    let quads = controls(&rt, rt.alloc(), 100, 1, 0, 1)?;
+    let nodes = nodes_text(rt.alloc(), NODES)?;
+    let mut body = text_of(rt.alloc(), quads.as_slice())?;
+    body.extend_from_slice(nodes.as_bytes())?;
+    let page = page_of(rt.alloc(), body.as_slice(), "http://localhost/data")?;
     assert_eq!(rt; page.count, 0);
     assert_eq!(rt; page.form.subject.as_str(), "subject");
     Ok(())
@@ -251,23 +304,21 @@ fn triples_text(alloc: Global, triples: u32) -> Result<String, Fail> {
 
 #[test]
 fn a_page_of_a_thousand_triples_is_read_back(rt: HostRuntime) -> Result<(), Fail> {
-    let config = config(&rt, rt.alloc(), "http://localhost/data", 1000)?;
-    let address = WebAddress::read(rt.alloc(), "http://localhost/data?page=7000000")?;
-    let controls = metadata(
+    let quads = controls(
+        &rt,
         rt.alloc(),
-        &config,
-        &free(),
+        1000,
         7000000,
         7000000000,
         9999999999999999999,
     )?;
-    let mut body = Vec::new(rt.alloc());
-    body.extend_from_slice(triples_text(rt.alloc(), 1000)?.as_bytes())?;
-    body.extend_from_slice(text_of(rt.alloc(), controls.as_slice())?.as_slice())?;
-    let page = match read_page(rt.alloc(), body.as_slice(), &address) {
-        Ok(page) => page,
-        Err(_) => return Err(Fail::new("no page")),
-    };
+    let triples = triples_text(rt.alloc(), 1000)?;
+    let body = with_quads(rt.alloc(), triples.as_bytes(), quads.as_slice())?;
+    let page = page_of(
+        rt.alloc(),
+        body.as_slice(),
+        "http://localhost/data?page=7000000",
+    )?;
     assert_eq!(rt; page.triples.as_slice().len(), 1000);
     assert_eq!(rt; page.count, 7000000000);
     assert!(rt; page.next.is_none());

@@ -213,47 +213,35 @@ fn with_ok(alloc: Global, rest: &str) -> Result<String, Fail> {
     Ok(text)
 }
 
+/// The answer to a reply, which is the same where its bytes come one by one and over any cut.
+fn over_cuts(alloc: Global, limit: u64, reply: &str) -> Result<String, Fail> {
+    let bytes = reply.as_bytes();
+    let answer = by_bytes(alloc, limit, bytes, false)?;
+    for at in 0..=bytes.len() {
+        let (first, second) = bytes.split_at(at);
+        let other = fed(alloc, limit, &[first, second], false)?;
+        if other.as_str() != answer.as_str() {
+            return Err(Fail::new("another answer over another cut"));
+        }
+    }
+    Ok(answer)
+}
+
 #[test]
 fn bodies_over_any_cuts(rt: HostRuntime) -> Result<(), Fail> {
-    let alloc = rt.alloc();
     for (rest, limit, wanted) in &BODIES {
-        let text = with_ok(alloc, rest)?;
-        let bytes = text.as_bytes();
-        assert_eq!(rt;
-            by_bytes(alloc, *limit, bytes, false)?.as_str(),
-            *wanted,
-            "{rest}"
-        );
-        for at in 0..=bytes.len() {
-            let (first, second) = bytes.split_at(at);
-            assert_eq!(rt;
-                fed(alloc, *limit, &[first, second], false)?.as_str(),
-                *wanted,
-                "{rest}"
-            );
-        }
+        let reply = with_ok(rt.alloc(), rest)?;
+        let answer = over_cuts(rt.alloc(), *limit, reply.as_str())?;
+        assert_eq!(rt; answer.as_str(), *wanted, "{rest}");
     }
     Ok(())
 }
 
 #[test]
 fn heads_of_replies_over_any_cuts(rt: HostRuntime) -> Result<(), Fail> {
-    let alloc = rt.alloc();
-    for (text, wanted) in &HEADS {
-        let bytes = text.as_bytes();
-        assert_eq!(rt;
-            by_bytes(alloc, 9, bytes, false)?.as_str(),
-            *wanted,
-            "{text}"
-        );
-        for at in 0..=bytes.len() {
-            let (first, second) = bytes.split_at(at);
-            assert_eq!(rt;
-                fed(alloc, 9, &[first, second], false)?.as_str(),
-                *wanted,
-                "{text}"
-            );
-        }
+    for (reply, wanted) in &HEADS {
+        let answer = over_cuts(rt.alloc(), 9, reply)?;
+        assert_eq!(rt; answer.as_str(), *wanted, "{reply}");
     }
     Ok(())
 }
@@ -321,43 +309,69 @@ fn with_run(
     Ok(text)
 }
 
-/// What stands in front of a run of `x`, how long that is, and the answer where an empty line follows.
-const RUNS: [(&str, usize, &str); 7] = [
+/// A reply that has a run of `x` in it, and the answer.
+struct Run {
+    front: &'static str,
+    count: usize,
+    end: &'static str,
+    answer: &'static str,
+}
+
+const RUNS: [Run; 7] = [
     // chunk lines of 1024 and of 1025 bytes
-    (
-        "HTTP/1.1 200 OK\r\nContent-Type: application/n-quads\r\nTransfer-Encoding: chunked\r\n\r\n0;",
-        1020,
-        "1108  keeps",
-    ),
-    (
-        "HTTP/1.1 200 OK\r\nContent-Type: application/n-quads\r\nTransfer-Encoding: chunked\r\n\r\n0;",
-        1021,
-        "framing",
-    ),
+    Run {
+        front: "HTTP/1.1 200 OK\r\nContent-Type: application/n-quads\r\nTransfer-Encoding: chunked\r\n\r\n0;",
+        count: 1020,
+        end: "\r\n\r\n",
+        answer: "1108  keeps",
+    },
+    Run {
+        front: "HTTP/1.1 200 OK\r\nContent-Type: application/n-quads\r\nTransfer-Encoding: chunked\r\n\r\n0;",
+        count: 1021,
+        end: "\r\n\r\n",
+        answer: "framing",
+    },
     // trailers of 65536 and of 65537 bytes
-    (
-        "HTTP/1.1 200 OK\r\nContent-Type: application/n-quads\r\nTransfer-Encoding: chunked\r\n\r\n0\r\n",
-        65532,
-        "65621  keeps",
-    ),
-    (
-        "HTTP/1.1 200 OK\r\nContent-Type: application/n-quads\r\nTransfer-Encoding: chunked\r\n\r\n0\r\n",
-        65533,
-        "long",
-    ),
+    Run {
+        front: "HTTP/1.1 200 OK\r\nContent-Type: application/n-quads\r\nTransfer-Encoding: chunked\r\n\r\n0\r\n",
+        count: 65532,
+        end: "\r\n\r\n",
+        answer: "65621  keeps",
+    },
+    Run {
+        front: "HTTP/1.1 200 OK\r\nContent-Type: application/n-quads\r\nTransfer-Encoding: chunked\r\n\r\n0\r\n",
+        count: 65533,
+        end: "\r\n\r\n",
+        answer: "long",
+    },
     // heads of 65536 and of 65537 bytes
-    ("HTTP/1.1 404 x\r\na: ", 65513, "404"),
-    ("HTTP/1.1 404 x\r\na: ", 65514, "long"),
+    Run {
+        front: "HTTP/1.1 404 x\r\na: ",
+        count: 65513,
+        end: "\r\n\r\n",
+        answer: "404",
+    },
+    Run {
+        front: "HTTP/1.1 404 x\r\na: ",
+        count: 65514,
+        end: "\r\n\r\n",
+        answer: "long",
+    },
     // what is no head, of 65536 bytes
-    ("x", 65531, "head"),
+    Run {
+        front: "",
+        count: 65534,
+        end: "\n\n",
+        answer: "head",
+    },
 ];
 
 #[test]
 fn lines_and_heads_at_their_limits(rt: HostRuntime) -> Result<(), Fail> {
-    for (front, count, answer) in RUNS {
-        let reply = with_run(rt.alloc(), front, 'x', count, "\r\n\r\n")?;
+    for run in &RUNS {
+        let reply = with_run(rt.alloc(), run.front, 'x', run.count, run.end)?;
         let got = fed(rt.alloc(), 9, &[reply.as_bytes()], false)?;
-        assert_eq!(rt; got.as_str(), answer, "{count}");
+        assert_eq!(rt; got.as_str(), run.answer, "{}", run.count);
     }
     Ok(())
 }
