@@ -16,7 +16,7 @@ use Rattle.request_pool.specs.declared.fault.Polled.TheVariants as polls
 use Rattle.request_pool.specs.declared.fault.PoolFault.{PoolFault}
 use Rattle.request_pool.specs.declared.fault.PoolFault.TheVariants as faults
 use Rattle.request_pool.specs.Pools.{Pooled, Ask, ask_waiting, ask_flying, held, in_flight}
-use Rattle.request_pool.specs.Owned.{SuitsWire}
+use Rattle.request_pool.specs.Owned.{SuitsWire, on_link, held_on}
 use Rattle.request_pool.specs.Polls.{Settles, NoLink, Kept, Shut, Polls, FlightTo}
 use Rattle.request_pool.specs.Runs.{Begins, Starts, Overruns, Flies, Starves, PollsNext, Last, OfStart, OfPoll, Ended}
 use Rattle.request_pool.proofs.Holding.{held_with, held_out, running_holds}
@@ -25,9 +25,11 @@ use Rattle.pool_laws.specs.Following.{Follows, AnswersSoFar}
 use Rattle.pool_laws.proofs.Following.{begun}
 use Rattle.pool_laws.proofs.KeptBySteps.{by_running}
 use Rattle.pool_laws.proofs.Running.{answers_are_kept}
+use Rattle.pool_laws.specs.Causes.{HoldsNoneBelow}
+use Rattle.pool_laws.proofs.Fresh.{NoneBelow, Below, below_in, below_is_kept, begun_below, next_below}
 
--- The exchange, which followed whole replies, and its last poll; its ask was held, and is held no longer; nothing but the link that it left changed since.
-pub record CameBy (limit ticket : ℕ) (answer : Reply) (was is : List Ask) (b : WireState) : Type 0 where
+-- The exchange, which followed whole replies, and its last poll; its ask was held, and is held no longer; nothing but the link that it left changed since. Where none below a number was held at the start, none was then.
+pub record CameBy (start : ℕ → Type 0) (limit ticket : ℕ) (answer : Reply) (was is : List Ask) (b : WireState) : Type 0 where
   pub f : Flight
   pub from : WireState
   pub to : WireState
@@ -35,6 +37,7 @@ pub record CameBy (limit ticket : ℕ) (answer : Reply) (was is : List Ask) (b :
   pub poll : Polls (poll.Ready (Ok answer)) f from to
   pub old : Pooled
   pub new : Pooled
+  pub fresh : (n : ℕ) → start n → NoneBelow n (λ k. on_link f.exchange.link k + held_on old k) from
   pub settles : Settles (left_link poll.now) poll.now.address old new to b
   pub is_ticket : f.ticket ≡ ticket
   pub others : IsPermutation was (ask_flying f ∷ is)
@@ -52,9 +55,9 @@ settles_limit o address p q a b (NoLink e f h) = sym (ap (λ (x : Pooled). x.lim
 settles_limit o address p q a b (Kept k e room f h) = sym (ap (λ (x : Pooled). x.limit) f)
 settles_limit o address p q a b (Shut k e f c) = sym (ap (λ (x : Pooled). x.limit) f)
 
-flight_came : (ticket : ℕ) (answer : Reply) (f : Flight) (p q : Pooled) (a b : WireState) → FlightTo (Ok (polls.Came ticket answer)) f p q a b → Follows p.limit a f.exchange → (was : List Ask)
-    → IsPermutation was (held_with f p) → CameBy q.limit ticket answer was (held q) b
-flight_came ticket answer f p q a b h s was from = record {
+flight_came : (start : ℕ → Type 0) (ticket : ℕ) (answer : Reply) (f : Flight) (p q : Pooled) (a b : WireState) → FlightTo (Ok (polls.Came ticket answer)) f p q a b → Follows p.limit a f.exchange → ((n : ℕ) → start n → NoneBelow n (λ k. on_link f.exchange.link k + held_on p k) a) → (was : List Ask)
+    → IsPermutation was (held_with f p) → CameBy start q.limit ticket answer was (held q) b
+flight_came start ticket answer f p q a b h s fresh was from = record {
   f = f;
   from = a;
   to = h.0;
@@ -62,6 +65,7 @@ flight_came ticket answer f p q a b h s was from = record {
   poll = h.1;
   old = p;
   new = q;
+  fresh = fresh;
   settles = h.3;
   is_ticket = sym h.2;
   others = IsPermutation-trans _ _ _ from (subst (λ (l : List Ask). IsPermutation (held_with f p) (ask_flying f ∷ l)) (sym (settles_held (left_link h.1.now) h.1.now.address p q h.0 b h.3)) (held_out f p));
@@ -77,26 +81,26 @@ begun_holds p q f b =
 no_came : (ticket : ℕ) (answer : Reply) (fault : PoolFault) → ◌≡◌ {A = Result Polled PoolFault} (Ok (polls.Came ticket answer)) (Err fault) → ⊥
 no_came ticket answer fault e = cc
 
-starts_came : AuthoritiesAreHostsAndPorts → (ticket : ℕ) (answer : Reply) (p q : Pooled) (a b : WireState) → AnswersSoFar p a → Starts (Ok (polls.Came ticket answer)) p q a b → CameBy q.limit ticket answer (held p) (held q) b
+starts_came : AuthoritiesAreHostsAndPorts → (ticket : ℕ) (answer : Reply) (p q : Pooled) (a b : WireState) → AnswersSoFar p a → Starts (Ok (polls.Came ticket answer)) p q a b → CameBy (λ n. Below n p a) q.limit ticket answer (held p) (held q) b
 starts_came one ticket answer p q a b h (Overruns r budget f i) = absurd (no_came ticket answer faults.Budget r)
 starts_came one ticket answer p q a b h (Starves r mid f begins is shuts) = absurd (no_came ticket answer faults.OutOfMemory r)
-starts_came one ticket answer p q a b h (Flies mid f budget begins to) = flight_came ticket answer f mid q a b to (begun one p mid f a h begins).follows (held p) (begun_holds p mid f begins)
+starts_came one ticket answer p q a b h (Flies mid f budget begins to) = flight_came (λ n. Below n p a) ticket answer f mid q a b to (begun one p mid f a h begins).follows (λ n x. begun_below n p mid f a x begins) (held p) (begun_holds p mid f begins)
 
-next_came : (ticket : ℕ) (answer : Reply) (p q : Pooled) (a b : WireState) → AnswersSoFar p a → PollsNext (Ok (polls.Came ticket answer)) p q a b → CameBy q.limit ticket answer (held p) (held q) b
+next_came : (ticket : ℕ) (answer : Reply) (p q : Pooled) (a b : WireState) → AnswersSoFar p a → PollsNext (Ok (polls.Came ticket answer)) p q a b → CameBy (λ n. Below n p a) q.limit ticket answer (held p) (held q) b
 next_came ticket answer p q a b h n =
     let d = subst (λ (l : List Flight). AllByRecursion (λ x. Follows p.limit a x.exchange) l) n.is_next h.due in
     let same : held p ≡ held_with n.f (record p { due = n.rest }) = ap (λ (l : List Flight). map ask_waiting p.waiting ++ map ask_flying (p.polled ++ l)) n.is_next in
-    flight_came ticket answer n.f (record p { due = n.rest }) q a b n.to d.0 (held p) (subst (λ (l : List Ask). IsPermutation (held p) l) same (IsPermutation-refl (held p)))
+    flight_came (λ i. Below i p a) ticket answer n.f (record p { due = n.rest }) q a b n.to d.0 (λ i x. next_below i p n.f n.rest a x n.is_next) (held p) (subst (λ (l : List Ask). IsPermutation (held p) l) same (IsPermutation-refl (held p)))
 
-last_came : AuthoritiesAreHostsAndPorts → (ticket : ℕ) (answer : Reply) (p q : Pooled) (a b : WireState) → AnswersSoFar p a → Last (Ok (polls.Came ticket answer)) p q a b → CameBy q.limit ticket answer (held p) (held q) b
+last_came : AuthoritiesAreHostsAndPorts → (ticket : ℕ) (answer : Reply) (p q : Pooled) (a b : WireState) → AnswersSoFar p a → Last (Ok (polls.Came ticket answer)) p q a b → CameBy (λ n. Below n p a) q.limit ticket answer (held p) (held q) b
 last_came one ticket answer p q a b h (OfStart s) = starts_came one ticket answer p q a b h s
 last_came one ticket answer p q a b h (OfPoll s) = next_came ticket answer p q a b h s
 
 pub gathered_held : (p : Pooled) → held (record p { polled = in_flight p; due = [] }) ≡ held p
 gathered_held p = ap (λ (l : List Flight). map ask_waiting p.waiting ++ map ask_flying l) (append-nil (in_flight p))
 
-first_asks : (limit ticket : ℕ) (answer : Reply) (was now is : List Ask) (b : WireState) → IsPermutation was now → CameBy limit ticket answer now is b → CameBy limit ticket answer was is b
-first_asks limit ticket answer was now is b h c = record {
+first_asks : (first then_ : ℕ → Type 0) (limit ticket : ℕ) (answer : Reply) (was now is : List Ask) (b : WireState) → IsPermutation was now → ((n : ℕ) → first n → then_ n) → CameBy then_ limit ticket answer now is b → CameBy first limit ticket answer was is b
+first_asks first then_ limit ticket answer was now is b h goes c = record {
   f = c.f;
   from = c.from;
   to = c.to;
@@ -104,18 +108,20 @@ first_asks limit ticket answer was now is b h c = record {
   poll = c.poll;
   old = c.old;
   new = c.new;
+  fresh = λ n x. c.fresh n (goes n x);
   settles = c.settles;
   is_ticket = c.is_ticket;
   others = IsPermutation-trans _ _ _ h c.others;
 }
 
 pub step_came : AuthoritiesAreHostsAndPorts → (ticket : ℕ) (answer : Reply) (p q : Pooled) (a b : WireState) → OpensGiven a → SuitsWire p a → AnswersSoFar p a
-    → Ended (Ok (polls.Came ticket answer)) (record p { polled = in_flight p; due = [] }) q a b → CameBy q.limit ticket answer (held p) (held q) b
+    → Ended (Ok (polls.Came ticket answer)) (record p { polled = in_flight p; due = [] }) q a b → CameBy (λ n. HoldsNoneBelow n p a) q.limit ticket answer (held p) (held q) b
 step_came one ticket answer p q a b g s h e =
     let r : Pooled = record p { polled = in_flight p; due = [] } in
     let suits = suits_gathered p (record p { polled = in_flight p; due = [] }) a refl s in
     let kept = answers_are_kept one in
     let mid = by_running AnswersSoFar kept r e.mid a e.between g suits (kept.gathers p a h) e.running in
-    first_asks q.limit ticket answer (held p) (held e.mid) (held q) b
+    first_asks (λ n. HoldsNoneBelow n p a) (λ n. Below n e.mid e.between) q.limit ticket answer (held p) (held e.mid) (held q) b
     (subst (λ (l : List Ask). IsPermutation l (held e.mid)) (gathered_held p) (running_holds r e.mid a e.between e.running))
+    (λ n x. by_running (Below n) (below_is_kept n) r e.mid a e.between g suits ((below_is_kept n).gathers p a (below_in n p a x)) e.running)
     (last_came one ticket answer e.mid q e.between b mid e.last)

@@ -1,5 +1,5 @@
 -- Where a reply was read, and why a step ends with a fault.
-use Rattle.std.proofs.Common.{ℕ, ◌≡◌, ◌≤◌, ◌⊎◌, inl, inr, ◌++◌, List, [], ◌∷◌, map, Option, Some, None, true, false, Result, Ok, Err, refl, sym, ◌∙◌, ap, subst, arith}
+use Rattle.std.proofs.Common.{ℕ, ◌≡◌, ◌+◌, ◌≤◌, ◌⊎◌, inl, inr, ◌++◌, List, [], ◌∷◌, map, Option, Some, None, true, false, Result, Ok, Err, refl, sym, ◌∙◌, ap, subst, arith}
 use Rattle.std.specs.List.{AllByRecursion}
 use Rattle.std.specs.List.Sorted.{IsPermutation}
 use Rattle.std.proofs.lemmas.List.Sorted.{IsPermutation-refl, IsPermutation-trans}
@@ -25,7 +25,7 @@ use Rattle.request_pool.specs.declared.fault.PoolFault.TheVariants as faults
 use Rattle.request_pool.specs.declared.fault.Stepped.{Stepped}
 use Rattle.request_pool.specs.declared.fault.Stepped.TheVariants.{Came}
 use Rattle.request_pool.specs.Pools.{Pooled, Ask, ask_waiting, ask_flying, held, in_flight}
-use Rattle.request_pool.specs.Owned.{SuitsWire}
+use Rattle.request_pool.specs.Owned.{SuitsWire, on_link, held_on}
 use Rattle.request_pool.specs.Polls.{Shuts, Polls, FailsTo, FlightTo}
 use Rattle.request_pool.specs.Runs.{Starts, Overruns, Flies, Starves, PollsNext, Last, OfStart, OfPoll, Ended}
 use Rattle.request_pool.specs.Steps.{WaitsTo, Passes, Stalls, Misses, Lacks, EndsInWait, Breaks, AtOnce, InRun, InWait}
@@ -33,11 +33,12 @@ use Rattle.request_pool.proofs.Holding.{held_with, held_out, running_holds}
 use Rattle.request_pool.proofs.Steps.{suits_gathered}
 use Rattle.request_pool.proofs.Bounds.{step_bounds}
 use Rattle.pool_laws.specs.Following.{IsReplied, HasPeer, Follows, AnswersSoFar}
-use Rattle.pool_laws.specs.Causes.{RepliedOn, RepliesAreRead, IsCauseOf, FaultsHaveCauses}
+use Rattle.pool_laws.specs.Causes.{HoldsNoneBelow, RepliedOn, RepliesAreRead, IsCauseOf, FaultsHaveCauses}
 use Rattle.pool_laws.proofs.Following.{begun, polled_peer, request_is, holds_is}
 use Rattle.pool_laws.proofs.KeptBySteps.{by_running}
 use Rattle.pool_laws.proofs.Running.{answers_are_kept}
 use Rattle.pool_laws.proofs.Faults.{faults_are_kept, shut_faults}
+use Rattle.pool_laws.proofs.Fresh.{NoneBelow, Below, below_in, below_is_kept, begun_below, next_below, polled_above}
 use Rattle.pool_laws.proofs.Came.{step_came, begun_holds, gathered_held}
 use Rattle.pool_laws.proofs.Settled.{settles_whole, settles_nature}
 
@@ -75,6 +76,7 @@ replies_are_read one ticket answer old new before after given suits so_far steps
             (same_request (c.to.links r.k).sent (bytes_of (sent_of c.follows.before)) c.f.exchange.address c.poll.now.address t.address (r.sent_is _ _ c.follows.stands));
         received_is = holds_back (c.to.links r.k).received (after.links r.k).received (received_of c.follows.before ++ r.received) same.received (r.received_is _ _ c.follows.stands);
       };
+      fresh = λ n h. polled_above n c.f.exchange c.poll.now (held_on c.old) c.from c.to r.k c.poll.touches r.link (c.fresh n h);
       n = r.n;
       at_end = r.at_end;
       whole = ap (λ (l : ℕ). reply_of r.received r.at_end l) (sym limit) ∙ r.whole;
@@ -84,7 +86,7 @@ replies_are_read one ticket answer old new before after given suits so_far steps
 -- ---- the end of a run with a fault
 
 -- an exchange that was taken out, and the poll that ended the run
-record Flown (fault : PoolFault) (was : List Ask) (q : Pooled) (n : ℕ) (b : WireState) : Type 0 where
+record Flown (start : ℕ → Type 0) (fault : PoolFault) (was : List Ask) (q : Pooled) (n : ℕ) (b : WireState) : Type 0 where
   f : Flight
   p : Pooled
   from : WireState
@@ -92,50 +94,52 @@ record Flown (fault : PoolFault) (was : List Ask) (q : Pooled) (n : ℕ) (b : Wi
   to : FlightTo (Err fault) f p q from b
   others : IsPermutation was (held_with f p)
   later : n ≤ from.faults
+  fresh : (i : ℕ) → start i → NoneBelow i (λ k. on_link f.exchange.link k + held_on p k) from
 
-data FaultBy (fault : PoolFault) (was : List Ask) (q : Pooled) (n : ℕ) (b : WireState) : Type 0 where
-  ByBudget : fault ≡ faults.Budget → q.budget ≤ q.started → FaultBy fault was q n b
-  ByMemory : fault ≡ faults.OutOfMemory → FaultBy fault was q n b
-  ByFlight : Flown fault was q n b → FaultBy fault was q n b
-  ByStall : (fault ≡ faults.OutOfMemory) ⊎ (fault ≡ faults.Stalled) → 1000 ≤ b.idle → FaultBy fault was q n b
-  ByWait : (fault ≡ faults.OutOfMemory) ⊎ (fault ≡ faults.Exchange) → Rose n b.faults → FaultBy fault was q n b
+data FaultBy (start : ℕ → Type 0) (fault : PoolFault) (was : List Ask) (q : Pooled) (n : ℕ) (b : WireState) : Type 0 where
+  ByBudget : fault ≡ faults.Budget → q.budget ≤ q.started → FaultBy start fault was q n b
+  ByMemory : fault ≡ faults.OutOfMemory → FaultBy start fault was q n b
+  ByFlight : Flown start fault was q n b → FaultBy start fault was q n b
+  ByStall : (fault ≡ faults.OutOfMemory) ⊎ (fault ≡ faults.Stalled) → 1000 ≤ b.idle → FaultBy start fault was q n b
+  ByWait : (fault ≡ faults.OutOfMemory) ⊎ (fault ≡ faults.Exchange) → Rose n b.faults → FaultBy start fault was q n b
 
 same_fault : (fault other : PoolFault) → ◌≡◌ {A = Result Polled PoolFault} (Err fault) (Err other) → fault ≡ other
 same_fault fault other e = cc
 
 module _ (one : AuthoritiesAreHostsAndPorts) where
-  starts_by : (fault : PoolFault) (p q : Pooled) (n : ℕ) (a b : WireState) → AnswersSoFar p a → n ≤ a.faults → Starts (Err fault) p q a b → FaultBy fault (held p) q n b
+  starts_by : (fault : PoolFault) (p q : Pooled) (n : ℕ) (a b : WireState) → AnswersSoFar p a → n ≤ a.faults → Starts (Err fault) p q a b → FaultBy (λ i. Below i p a) fault (held p) q n b
   starts_by fault p q n a b h l (Overruns e budget f g) = ByBudget (same_fault fault faults.Budget e) (subst (λ (x : Pooled). x.budget ≤ x.started) (sym f) budget)
   starts_by fault p q n a b h l (Flies mid f budget begins to) =
-      ByFlight (record { f = f; p = mid; from = a; follows = (begun one p mid f a h begins).follows; to = to; others = begun_holds p mid f begins; later = l })
+      ByFlight (record { f = f; p = mid; from = a; follows = (begun one p mid f a h begins).follows; to = to; others = begun_holds p mid f begins; later = l; fresh = λ i y. begun_below i p mid f a y begins })
   starts_by fault p q n a b h l (Starves e mid f begins is shuts) = ByMemory (same_fault fault faults.OutOfMemory e)
 
-  next_by : (fault : PoolFault) (p q : Pooled) (n : ℕ) (a b : WireState) → AnswersSoFar p a → n ≤ a.faults → PollsNext (Err fault) p q a b → FaultBy fault (held p) q n b
+  next_by : (fault : PoolFault) (p q : Pooled) (n : ℕ) (a b : WireState) → AnswersSoFar p a → n ≤ a.faults → PollsNext (Err fault) p q a b → FaultBy (λ i. Below i p a) fault (held p) q n b
   next_by fault p q n a b h l x =
       let d = subst (λ (fs : List Flight). AllByRecursion (λ f. Follows p.limit a f.exchange) fs) x.is_next h.due in
       let same : held p ≡ held_with x.f (record p { due = x.rest }) = ap (λ (fs : List Flight). map ask_waiting p.waiting ++ map ask_flying (p.polled ++ fs)) x.is_next in
-      ByFlight (record { f = x.f; p = record p { due = x.rest }; from = a; follows = d.0; to = x.to; others = subst (λ (asks : List Ask). IsPermutation (held p) asks) same (IsPermutation-refl (held p)); later = l })
+      ByFlight (record { f = x.f; p = record p { due = x.rest }; from = a; follows = d.0; to = x.to; others = subst (λ (asks : List Ask). IsPermutation (held p) asks) same (IsPermutation-refl (held p)); later = l; fresh = λ i y. next_below i p x.f x.rest a y x.is_next })
 
-  last_by : (fault : PoolFault) (p q : Pooled) (n : ℕ) (a b : WireState) → AnswersSoFar p a → n ≤ a.faults → Last (Err fault) p q a b → FaultBy fault (held p) q n b
+  last_by : (fault : PoolFault) (p q : Pooled) (n : ℕ) (a b : WireState) → AnswersSoFar p a → n ≤ a.faults → Last (Err fault) p q a b → FaultBy (λ i. Below i p a) fault (held p) q n b
   last_by fault p q n a b h l (OfStart s) = starts_by fault p q n a b h l s
   last_by fault p q n a b h l (OfPoll s) = next_by fault p q n a b h l s
 
-  first_asks : (fault : PoolFault) (was now : List Ask) (q : Pooled) (n : ℕ) (b : WireState) → IsPermutation was now → FaultBy fault now q n b → FaultBy fault was q n b
-  first_asks fault was now q n b h (ByBudget e l) = ByBudget e l
-  first_asks fault was now q n b h (ByMemory e) = ByMemory e
-  first_asks fault was now q n b h (ByFlight x) =
-      ByFlight (record { f = x.f; p = x.p; from = x.from; follows = x.follows; to = x.to; others = IsPermutation-trans _ _ _ h x.others; later = x.later })
-  first_asks fault was now q n b h (ByStall e l) = ByStall e l
-  first_asks fault was now q n b h (ByWait e l) = ByWait e l
+  first_asks : (first then_ : ℕ → Type 0) (fault : PoolFault) (was now : List Ask) (q : Pooled) (n : ℕ) (b : WireState) → IsPermutation was now → ((i : ℕ) → first i → then_ i) → FaultBy then_ fault now q n b → FaultBy first fault was q n b
+  first_asks first then_ fault was now q n b h goes (ByBudget e l) = ByBudget e l
+  first_asks first then_ fault was now q n b h goes (ByMemory e) = ByMemory e
+  first_asks first then_ fault was now q n b h goes (ByFlight x) =
+      ByFlight (record { f = x.f; p = x.p; from = x.from; follows = x.follows; to = x.to; others = IsPermutation-trans _ _ _ h x.others; later = x.later; fresh = λ i y. x.fresh i (goes i y) })
+  first_asks first then_ fault was now q n b h goes (ByStall e l) = ByStall e l
+  first_asks first then_ fault was now q n b h goes (ByWait e l) = ByWait e l
 
-  in_run : (fault : PoolFault) (p q : Pooled) (a b : WireState) → OpensGiven a → SuitsWire p a → AnswersSoFar p a → Ended (Err fault) (record p { polled = in_flight p; due = [] }) q a b → FaultBy fault (held p) q a.faults b
+  in_run : (fault : PoolFault) (p q : Pooled) (a b : WireState) → OpensGiven a → SuitsWire p a → AnswersSoFar p a → Ended (Err fault) (record p { polled = in_flight p; due = [] }) q a b → FaultBy (λ i. HoldsNoneBelow i p a) fault (held p) q a.faults b
   in_run fault p q a b g s h e =
       let r : Pooled = record p { polled = in_flight p; due = [] } in
       let suits = suits_gathered p (record p { polled = in_flight p; due = [] }) a refl s in
       let kept = answers_are_kept one in
       let mid = by_running AnswersSoFar kept r e.mid a e.between g suits (kept.gathers p a h) e.running in
       let later = by_running (λ x w. a.faults ≤ w.faults) (faults_are_kept a.faults) r e.mid a e.between g suits (omega arith) e.running in
-      first_asks fault (held p) (held e.mid) q a.faults b (subst (λ (l : List Ask). IsPermutation l (held e.mid)) (gathered_held p) (running_holds r e.mid a e.between e.running))
+      first_asks (λ i. HoldsNoneBelow i p a) (λ i. Below i e.mid e.between) fault (held p) (held e.mid) q a.faults b (subst (λ (l : List Ask). IsPermutation l (held e.mid)) (gathered_held p) (running_holds r e.mid a e.between e.running))
+      (λ i x. by_running (Below i) (below_is_kept i) r e.mid a e.between g suits ((below_is_kept i).gathers p a (below_in i p a x)) e.running)
       (last_by fault e.mid q a.faults e.between b mid later e.last)
 
   shut_idle : (o : Option ℕ) (a b : WireState) → Shuts o a b → b.idle ≡ a.idle
@@ -155,19 +159,19 @@ module _ (one : AuthoritiesAreHostsAndPorts) where
   rose_later : (n m k l : ℕ) → n ≤ m → Rose m k → k ≤ l → Rose n l
   rose_later n m k l h r i = omega (arith, h, r, i)
 
-  wait_by : (fault : PoolFault) (was : List Ask) (p q : Pooled) (n : ℕ) (a b : WireState) → n ≤ a.faults → WaitsTo (Err fault) p q a b → FaultBy fault was q n b
-  wait_by fault was p q n a b l (Passes ready e w i f) = absurd (no_ok fault _ e)
-  wait_by fault was p q n a b l (Stalls ready mid w i u) = ByStall (fails_by faults.Stalled fault u.f _ q u.to) (omega (arith, i, shut_idle u.f.exchange.link mid b u.shuts))
-  wait_by fault was p q n a b l (Misses mid w u) = ByWait (fails_by faults.Exchange fault u.f _ q u.to) (rose_later n a.faults mid.faults b.faults l (w.cause.failed refl) (shut_faults u.f.exchange.link mid b u.shuts))
-  wait_by fault was p q n a b l (Lacks w e f) = ByMemory (same_stepped fault faults.OutOfMemory e)
+  wait_by : (start : ℕ → Type 0) (fault : PoolFault) (was : List Ask) (p q : Pooled) (n : ℕ) (a b : WireState) → n ≤ a.faults → WaitsTo (Err fault) p q a b → FaultBy start fault was q n b
+  wait_by start fault was p q n a b l (Passes ready e w i f) = absurd (no_ok fault _ e)
+  wait_by start fault was p q n a b l (Stalls ready mid w i u) = ByStall (fails_by faults.Stalled fault u.f _ q u.to) (omega (arith, i, shut_idle u.f.exchange.link mid b u.shuts))
+  wait_by start fault was p q n a b l (Misses mid w u) = ByWait (fails_by faults.Exchange fault u.f _ q u.to) (rose_later n a.faults mid.faults b.faults l (w.cause.failed refl) (shut_faults u.f.exchange.link mid b u.shuts))
+  wait_by start fault was p q n a b l (Lacks w e f) = ByMemory (same_stepped fault faults.OutOfMemory e)
 
-  in_wait : (fault : PoolFault) (p q : Pooled) (a b : WireState) → OpensGiven a → SuitsWire p a → EndsInWait (Err fault) p q a b → FaultBy fault (held p) q a.faults b
+  in_wait : (fault : PoolFault) (p q : Pooled) (a b : WireState) → OpensGiven a → SuitsWire p a → EndsInWait (Err fault) p q a b → FaultBy (λ i. HoldsNoneBelow i p a) fault (held p) q a.faults b
   in_wait fault p q a b g s e =
       let r : Pooled = record p { polled = in_flight p; due = [] } in
       let suits = suits_gathered p (record p { polled = in_flight p; due = [] }) a refl s in
-      wait_by fault (held p) e.mid q a.faults e.between b (by_running (λ x w. a.faults ≤ w.faults) (faults_are_kept a.faults) r e.mid a e.between g suits (omega arith) e.running) e.waits
+      wait_by (λ i. HoldsNoneBelow i p a) fault (held p) e.mid q a.faults e.between b (by_running (λ x w. a.faults ≤ w.faults) (faults_are_kept a.faults) r e.mid a e.between g suits (omega arith) e.running) e.waits
 
-  break_by : (fault : PoolFault) (p q : Pooled) (a b : WireState) → OpensGiven a → SuitsWire p a → AnswersSoFar p a → Breaks fault p q a b → FaultBy fault (held p) q a.faults b
+  break_by : (fault : PoolFault) (p q : Pooled) (a b : WireState) → OpensGiven a → SuitsWire p a → AnswersSoFar p a → Breaks fault p q a b → FaultBy (λ i. HoldsNoneBelow i p a) fault (held p) q a.faults b
   break_by fault p q a b g s h (AtOnce e f i) = ByMemory e
   break_by fault p q a b g s h (InRun e) = in_run fault p q a b g s h e
   break_by fault p q a b g s h (InWait e) = in_wait fault p q a b g s e
@@ -194,7 +198,7 @@ module _ (limit : ℕ) (f : Flight) (a b : WireState) (s : Follows limit a f.exc
 rose_from : (n m l : ℕ) → n ≤ m → Rose m l → Rose n l
 rose_from n m l h r = omega (arith, h, r)
 
-flown_cause : (fault : PoolFault) (old q : Pooled) (a b : WireState) → q.limit ≡ old.limit → Flown fault (held old) q a.faults b → IsCauseOf fault old q a b
+flown_cause : (fault : PoolFault) (old q : Pooled) (a b : WireState) → q.limit ≡ old.limit → Flown (λ i. HoldsNoneBelow i old a) fault (held old) q a.faults b → IsCauseOf fault old q a b
 flown_cause faults.Exchange old q a b limit x = rose_from a.faults x.from.faults b.faults x.later x.to.0.answers.rose
 flown_cause (faults.Reply fault received) old q a b limit x =
     let r = x.to.0.answers in
@@ -204,6 +208,7 @@ flown_cause (faults.Reply fault received) old q a b limit x =
         ask = ask_flying x.f;
         others = lost_ask x.f x.p q (held old) x.to.1 x.others;
         on = over_on old.limit x.f x.from b (subst (λ (n : ℕ). Follows n x.from x.f.exchange) same x.follows) (poll.Ready (Err (exchanges.Bad fault received))) x.to.0 received r.ends;
+        fresh = λ n h. polled_above n x.f.exchange x.to.0.now (held_on x.p) x.from b r.ends.k x.to.0.touches r.ends.link (x.fresh n h);
       };
       why = r.why;
       is_fault = r.is_fault;
@@ -217,6 +222,7 @@ flown_cause (faults.Cut received) old q a b limit x =
         ask = ask_flying x.f;
         others = lost_ask x.f x.p q (held old) x.to.2 x.others;
         on = over_on old.limit x.f x.from b (subst (λ (n : ℕ). Follows n x.from x.f.exchange) same x.follows) (poll.Ready (Err (exchanges.Cut received))) x.to.0 received r.ends;
+        fresh = λ n h. polled_above n x.f.exchange x.to.0.now (held_on x.p) x.from b r.ends.k x.to.0.touches r.ends.link (x.fresh n h);
       };
       ended = r.ended;
       short = λ left. rose_from a.faults x.from.faults b.faults x.later (r.short left);
@@ -229,7 +235,7 @@ flown_cause faults.Budget old q a b limit x = absurd x.to
 cause_as : (fault other : PoolFault) (old q : Pooled) (a b : WireState) → fault ≡ other → IsCauseOf other old q a b → IsCauseOf fault old q a b
 cause_as fault other old q a b e h = subst (λ (x : PoolFault). IsCauseOf x old q a b) (sym e) h
 
-cause_by : (fault : PoolFault) (old q : Pooled) (a b : WireState) → q.limit ≡ old.limit → FaultBy fault (held old) q a.faults b → IsCauseOf fault old q a b
+cause_by : (fault : PoolFault) (old q : Pooled) (a b : WireState) → q.limit ≡ old.limit → FaultBy (λ i. HoldsNoneBelow i old a) fault (held old) q a.faults b → IsCauseOf fault old q a b
 cause_by fault old q a b limit (ByBudget e l) = cause_as fault faults.Budget old q a b e l
 cause_by fault old q a b limit (ByMemory e) = cause_as fault faults.OutOfMemory old q a b e tt
 cause_by fault old q a b limit (ByFlight x) = flown_cause fault old q a b limit x

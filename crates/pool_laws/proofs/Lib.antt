@@ -9,7 +9,8 @@ pub mod LongRequests
 pub mod Came
 pub mod Answers
 pub mod Owning
-pub mod OwningPool
+pub mod HeldLinks
+pub mod Fresh
 pub mod OwningLaws
 pub mod Dialling
 pub mod Trying

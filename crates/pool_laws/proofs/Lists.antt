@@ -21,3 +21,7 @@ all_map P f (x ∷ xs) all = (all.0, all_map P f xs all.1)
 pub all_unmap : {A B : Type 0} (P : B → Type 0) (f : A → B) (xs : List A) → AllByRecursion P (map f xs) → AllByRecursion (λ x. P (f x)) xs
 all_unmap P f [] all = tt
 all_unmap P f (x ∷ xs) all = (all.0, all_unmap P f xs all.1)
+
+pub all_any : {A : Type 0} (xs : List A) → AllByRecursion (λ x. Unit {0}) xs
+all_any [] = tt
+all_any (x ∷ xs) = (tt, all_any xs)

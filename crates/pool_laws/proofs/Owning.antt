@@ -22,17 +22,17 @@ some_is : (i k : ℕ) → Some i ≡ Some k → i ≡ k
 some_is i k e = cc
 
 -- from the link before to the link after it
-record After (address : Address) (o p : Option ℕ) (a b : WireState) : Type 0 where
-  given : a.given ≤ b.given
-  same : (k : ℕ) → on_link p k ≡ 0 → b.links k ≡ a.links k
-  peer_old : (k : ℕ) → k < a.given → (b.links k).peer ≡ (a.links k).peer
-  is_new : (k : ℕ) → a.given ≤ k → k < b.given → ((b.links k).peer ≡ told_by a.nature.tells (address.host, address.port)) × (on_link p k ≡ 1)
-  same_old : (k : ℕ) → k < a.given → on_link p k ≡ on_link o k
+pub record After (address : Address) (o p : Option ℕ) (a b : WireState) : Type 0 where
+  pub given : a.given ≤ b.given
+  pub same : (k : ℕ) → on_link p k ≡ 0 → b.links k ≡ a.links k
+  pub peer_old : (k : ℕ) → k < a.given → (b.links k).peer ≡ (a.links k).peer
+  pub is_new : (k : ℕ) → a.given ≤ k → k < b.given → ((b.links k).peer ≡ told_by a.nature.tells (address.host, address.port)) × (on_link p k ≡ 1)
+  pub same_old : (k : ℕ) → k < a.given → on_link p k ≡ on_link o k
 
 same_peer : (a b : WireState) (k : ℕ) → b.links k ≡ a.links k → (b.links k).peer ≡ (a.links k).peer
 same_peer a b k e = ap (λ (x : Link). x.peer) e
 
-after_link : (address : Address) (o p : Option ℕ) (a b : WireState) → LinkAfter address o p a b → ((k : ℕ) → p ≢ Some k → b.links k ≡ a.links k) → After address o p a b
+pub after_link : (address : Address) (o p : Option ℕ) (a b : WireState) → LinkAfter address o p a b → ((k : ℕ) → p ≢ Some k → b.links k ≡ a.links k) → After address o p a b
 after_link address (Some j) (Some i) a b l same = record {
   given = omega (arith, l.1);
   same = λ k z. same k (off_link (Some i) k z);

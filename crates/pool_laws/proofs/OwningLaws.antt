@@ -12,12 +12,13 @@ use Rattle.request_pool.proofs.Owned.{closed_none}
 use Rattle.pool_laws.specs.Owning.{IsAt, IsAsBefore, Same, GivesAt, OwnsSince, EmptyPoolsOwn, PutsOwn, FaultsOwn, StepsOwn, ClosesAll, ClosingCloses}
 use Rattle.pool_laws.proofs.Lists.{all_append, all_front, all_behind, all_map, all_unmap}
 use Rattle.pool_laws.proofs.KeptBySteps.{by_step}
-use Rattle.pool_laws.proofs.OwningPool.{AsksAt, Owning, owning_is_kept}
+use Rattle.pool_laws.proofs.Owning.{Keeps, keeps_as, poll_keeps, drop_keeps, shut_keeps, woken_keeps}
+use Rattle.pool_laws.proofs.HeldLinks.{LinksKept, AsksAt, Owning, owning_is_kept}
 
 -- ---- the asks
 
 module _ (host : List ℕ) (port : ℕ) where
-  asks_in : (p : Pooled) → AllByRecursion (λ ask. IsAt host port ask.address) (held p) → AsksAt host port p
+  asks_in : (p : Pooled) → AllByRecursion (λ ask. IsAt host port ask.address) (held p) → AsksAt (IsAt host port) p
   asks_in p all =
       let flying = all_unmap (λ (ask : Ask). IsAt host port ask.address) ask_flying (in_flight p) (all_behind (λ (ask : Ask). IsAt host port ask.address) (map ask_waiting p.waiting) (map ask_flying (in_flight p)) all) in
       record {
@@ -26,17 +27,26 @@ module _ (host : List ℕ) (port : ℕ) where
         due = all_behind (λ (f : Flight). IsAt host port f.exchange.address) p.polled p.due flying;
       }
 
-  asks_out : (p : Pooled) → AsksAt host port p → AllByRecursion (λ ask. IsAt host port ask.address) (held p)
+  asks_out : (p : Pooled) → AsksAt (IsAt host port) p → AllByRecursion (λ ask. IsAt host port ask.address) (held p)
   asks_out p h =
       all_append (λ (ask : Ask). IsAt host port ask.address) (map ask_waiting p.waiting) (map ask_flying (in_flight p))
       (all_map (λ (ask : Ask). IsAt host port ask.address) ask_waiting p.waiting h.waiting)
       (all_map (λ (ask : Ask). IsAt host port ask.address) ask_flying (in_flight p) (all_append (λ (f : Flight). IsAt host port f.exchange.address) p.polled p.due h.polled h.due))
 
-  owns_in : (since : WireState) (p : Pooled) (a : WireState) → OwnsSince host port since p a → Owning host port since p a
-  owns_in since p a h = record { asks = asks_in p h.asks; keeps = record { gives = h.gives; owned = h.owned; none = h.none_before } }
+  owns_in : (since : WireState) (p : Pooled) (a : WireState) → OwnsSince host port since p a → Owning (IsAt host port) (Keeps host port since) p a
+  owns_in since p a h = record { asks = asks_in p h.asks; known = record { gives = h.gives; owned = h.owned; none = h.none_before } }
 
-  owns_out : (since : WireState) (p : Pooled) (a : WireState) → Owning host port since p a → OwnsSince host port since p a
-  owns_out since p a h = record { asks = asks_out p h.asks; gives = h.keeps.gives; owned = h.keeps.owned; none_before = h.keeps.none }
+  owns_out : (since : WireState) (p : Pooled) (a : WireState) → Owning (IsAt host port) (Keeps host port since) p a → OwnsSince host port since p a
+  owns_out since p a h = record { asks = asks_out p h.asks; gives = h.known.gives; owned = h.known.owned; none_before = h.known.none }
+
+links_kept : (host : List ℕ) (port : ℕ) (since : WireState) → LinksKept (IsAt host port) (Keeps host port since)
+links_kept host port since = record {
+  same = keeps_as host port since;
+  poll = poll_keeps host port since;
+  drop = drop_keeps host port since;
+  shut = shut_keeps host port since;
+  woken = woken_keeps host port since;
+}
 
 pub empty_owns : EmptyPoolsOwn
 empty_owns host port links retries budget limit wire = record {
@@ -55,7 +65,7 @@ put_owns host port since ticket address pool wire is h =
         polled = o.asks.polled;
         due = o.asks.due;
       };
-      keeps = record { gives = h.gives; owned = h.owned; none = h.none_before };
+      known = record { gives = h.gives; owned = h.owned; none = h.none_before };
     })
 
 pub fault_owns : FaultsOwn
@@ -63,7 +73,7 @@ fault_owns host port since pool wire h = record { asks = h.asks; gives = h.gives
 
 pub step_owns : StepsOwn
 step_owns host port since result old new wire wire' given suits h to =
-    owns_out host port since new wire' (by_step (Owning host port since) (owning_is_kept host port since) result old new wire wire' given suits (owns_in host port since old wire h) to)
+    owns_out host port since new wire' (by_step (Owning (IsAt host port) (Keeps host port since)) (owning_is_kept (IsAt host port) (Keeps host port since) (links_kept host port since)) result old new wire wire' given suits (owns_in host port since old wire h) to)
 
 -- ---- the close
 

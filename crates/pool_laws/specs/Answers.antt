@@ -56,8 +56,8 @@ RepliesAreAnswers allows after =
 -- ---- faults
 
 -- A reply was refused: over an honest other end whose versions all answer the address with status 200, it is too long.
-pub record IsTooLong (allows : List ℕ → ℕ → List ℕ → List ℕ → Type 0) (fault : ReplyFault) (received : List ℕ) (old new : Pooled) (after : WireState) : Type 0 where
-  pub refused : IsRefused fault received old new after
+pub record IsTooLong (allows : List ℕ → ℕ → List ℕ → List ℕ → Type 0) (fault : ReplyFault) (received : List ℕ) (old new : Pooled) (before after : WireState) : Type 0 where
+  pub refused : IsRefused fault received old new before after
   pub too_long : (history : List (List Triple)) (config : Config) → IsHonestAt allows refused.loses.ask.address.host refused.loses.ask.address.port (answering history config)
       → length (request_for refused.loses.ask.address) ≤ head_limit → IsAnsweredByAll history config refused.loses.ask.address → fault ≡ TooLong
 
@@ -65,7 +65,7 @@ abbrev pub RefusalsAreTooLong : (List ℕ → ℕ → List ℕ → List ℕ → 
 RefusalsAreTooLong allows after =
     (fault : ReplyFault) (received : List ℕ) (old new : Pooled) (before : WireState)
     → OpensGiven before → SuitsWire old before → AnswersSoFar old before → old.limit < 2 ^ 64 → TellsAll allows after
-    → StepsTo (Err (faults.Reply fault received)) old new before after → IsTooLong allows fault received old new after
+    → StepsTo (Err (faults.Reply fault received)) old new before after → IsTooLong allows fault received old new before after
 
 -- A link was cut: over an honest other end the wire's faults rose, since a part of the answer was not received.
 pub record IsFaulty (allows : List ℕ → ℕ → List ℕ → List ℕ → Type 0) (received : List ℕ) (old new : Pooled) (before after : WireState) : Type 0 where

@@ -1,5 +1,5 @@
 -- Where the reply of a step was read, and why a step ends with a fault.
-use Rattle.std.specs.Prelude.{ℕ, ◌≡◌, ◌≤◌, ◌++◌, Bool, true, false, List, ◌∷◌, Ok, Err}
+use Rattle.std.specs.Prelude.{ℕ, ◌≡◌, ◌≤◌, ◌<◌, ◌++◌, Bool, true, false, List, ◌∷◌, Ok, Err}
 use Rattle.std.specs.List.{AllByRecursion}
 use Rattle.std.specs.List.Sorted.{IsPermutation}
 use Rattle.tpf_base.specs.Addresses.{Address}
@@ -17,7 +17,7 @@ use Rattle.request_pool.specs.declared.fault.PoolFault.{PoolFault}
 use Rattle.request_pool.specs.declared.fault.PoolFault.TheVariants as faults
 use Rattle.request_pool.specs.declared.fault.Stepped.TheVariants.{Came}
 use Rattle.request_pool.specs.Pools.{Pooled, Ask, held}
-use Rattle.request_pool.specs.Owned.{SuitsWire}
+use Rattle.request_pool.specs.Owned.{SuitsWire, held_on}
 use Rattle.request_pool.specs.Steps.{StepsTo, HandsOut}
 use Rattle.pool_laws.specs.Following.{IsWebAddress, IsReplied, AnswersSoFar}
 
@@ -31,13 +31,19 @@ pub record RepliedOn (limit : ℕ) (address : Address) (received : List ℕ) (wi
   pub sent_is : Holds (wire.links k).sent (bytes_of (sent_of before) ++ request_for address)
   pub received_is : Holds (wire.links k).received (received_of before ++ received)
 
+-- so many links were given, and none of them is held
+pub record HoldsNoneBelow (n : ℕ) (pool : Pooled) (wire : WireState) : Type 0 where
+  pub given : n ≤ wire.given
+  pub none : (k : ℕ) → k < n → held_on pool k ≡ 0
+
 -- ---- a reply
 
--- An ask with the ticket was held, and what was received in reply to its request is read as the reply, whole.
-pub record IsRead (ticket : ℕ) (answer : Reply) (old new : Pooled) (after : WireState) : Type 0 where
+-- An ask with the ticket was held, and what was received in reply to its request is read as the reply, whole. The link is none of those given before a moment at which none was held.
+pub record IsRead (ticket : ℕ) (answer : Reply) (old new : Pooled) (before after : WireState) : Type 0 where
   pub hands : HandsOut ticket old new
   pub received : List ℕ
   pub on : RepliedOn old.limit hands.ask.address received after
+  pub fresh : (n : ℕ) → HoldsNoneBelow n old before → n ≤ on.k
   pub n : ℕ
   pub at_end : Bool
   pub whole : reply_of received at_end old.limit ≡ reply.Whole answer.body n answer.keeps
@@ -46,26 +52,27 @@ pub record IsRead (ticket : ℕ) (answer : Reply) (old new : Pooled) (after : Wi
 abbrev pub RepliesAreRead : Type 0
 RepliesAreRead =
     (ticket : ℕ) (answer : Reply) (old new : Pooled) (before after : WireState) → OpensGiven before → SuitsWire old before → AnswersSoFar old before
-    → StepsTo (Ok (Came ticket answer)) old new before after → IsRead ticket answer old new after
+    → StepsTo (Ok (Came ticket answer)) old new before after → IsRead ticket answer old new before after
 
 -- ---- faults
 
--- An ask was held that is held no longer, and this was received in reply to its request.
-pub record LosesAsk (received : List ℕ) (old new : Pooled) (after : WireState) : Type 0 where
+-- An ask was held that is held no longer, and this was received in reply to its request, on a link that is none of those given before a moment at which none was held.
+pub record LosesAsk (received : List ℕ) (old new : Pooled) (before after : WireState) : Type 0 where
   pub ask : Ask
   pub others : IsPermutation (held old) (ask ∷ held new)
   pub on : RepliedOn old.limit ask.address received after
+  pub fresh : (n : ℕ) → HoldsNoneBelow n old before → n ≤ on.k
 
 -- what was received has this fault
-pub record IsRefused (fault : ReplyFault) (received : List ℕ) (old new : Pooled) (after : WireState) : Type 0 where
-  pub loses : LosesAsk received old new after
+pub record IsRefused (fault : ReplyFault) (received : List ℕ) (old new : Pooled) (before after : WireState) : Type 0 where
+  pub loses : LosesAsk received old new before after
   pub why : reply.ReplyFault
   pub is_fault : fault ≡ shown_fault why
   pub bad : reply_of received false old.limit ≡ reply.Bad why
 
 -- The link ended, and what was received is no whole reply at its end. Where a part of what is owed was not received, the wire's faults rose.
 pub record IsCut (received : List ℕ) (old new : Pooled) (before after : WireState) : Type 0 where
-  pub loses : LosesAsk received old new after
+  pub loses : LosesAsk received old new before after
   pub ended : Holds (after.links loses.on.k).ended true
   pub short : is_short (after.links loses.on.k) ≡ true → Rose before.faults after.faults
   pub more : reply_of received true old.limit ≡ reply.More
@@ -75,7 +82,7 @@ abbrev pub IsCauseOf : PoolFault → Pooled → Pooled → WireState → WireSta
 IsCauseOf faults.Exchange old new before after = Rose before.faults after.faults
 IsCauseOf faults.Stalled old new before after = 1000 ≤ after.idle
 IsCauseOf faults.Budget old new before after = new.budget ≤ new.started
-IsCauseOf (faults.Reply fault received) old new before after = IsRefused fault received old new after
+IsCauseOf (faults.Reply fault received) old new before after = IsRefused fault received old new before after
 IsCauseOf (faults.Cut received) old new before after = IsCut received old new before after
 IsCauseOf faults.OutOfMemory old new before after = Unit {0}
 
