@@ -1,18 +1,18 @@
 -- A reload that was answered keeps the relation.
-use Rattle.std.proofs.Common.{ℕ, ◌≡◌, ◌≢◌, ◌+◌, ◌<◌, ◌≤◌, ◌⊎◌, inl, inr, ◌++◌, List, [], ◌∷◌, length, take, Option, Some, None, Bool, true, false, refl, sym, ◌∙◌, ap, subst, arith, append-nil}
+use Rattle.std.proofs.Common.{ℕ, ◌≡◌, ◌+◌, ◌<◌, ◌≤◌, ◌⊎◌, inl, inr, ◌++◌, List, [], ◌∷◌, Option, Some, Bool, true, false, refl, sym, ◌∙◌, ap, subst, arith, append-nil}
 use Rattle.std.specs.Prelude.{Result, Ok, Err, OnOk, is_ok, ⊤}
 use Rattle.std.specs.List.{AllByRecursion}
 use Rattle.tpf_base.specs.Marks.{Mark, version_at}
 use Rattle.tpf_base.specs.Causes.{Rose}
 use Rattle.tpf_base.specs.Links.{WireState}
 use Rattle.tpf_base.specs.Calls.{OnlyOn}
-use Rattle.connections.specs.Versions.{Serving, IsHistory, MOST_VERSIONS}
+use Rattle.connections.specs.Versions.{Serving, MOST_VERSIONS}
 use Rattle.connections.specs.Kinds.{Kind, Grows, Reloads, Fills, mark_of, numbers_of}
 use Rattle.connections.specs.declared.reloaded.Reloaded.{Reloaded}
 use Rattle.connections.specs.declared.reloaded.Reloaded.TheVariants as outcomes
 use Rattle.serve_loop.specs.declared.live.Live.{Live}
-use Rattle.serve_loop.specs.Traffic.{Talk, Given, Traffic, Moment, took, with_given, updated, ended}
-use Rattle.serve_loop.specs.Relates.{IsTalk, IsExcused, IsNumber, IsRising, Talks, Relates}
+use Rattle.serve_loop.specs.Traffic.{Talk, Given, Traffic, Moment, took, with_given, updated}
+use Rattle.serve_loop.specs.Relates.{IsTalk, IsExcused, IsNumber, IsRising, Relates}
 use Rattle.serve_loop.specs.Steps.{Supplies, Keeps, Prepares, GoesOn, GoesOnAt}
 use Rattle.serve_loop.proofs.TalkLemmas.{moment, plain, on_plain, all_as, goes_nowhere}
 use Rattle.serve_loop.proofs.SentenceLemmas.{some_same}

@@ -1,5 +1,5 @@
 -- One step after another.
-use Rattle.std.proofs.Common.{ℕ, ◌≡◌, ◌≢◌, ◌+◌, ◌<◌, ◌≤◌, ◌⊎◌, inl, inr, ◌++◌, List, [], ◌∷◌, length, Option, Some, None, Bool, true, false, refl, sym, ◌∙◌, ap, subst, arith, append-nil, append_assoc}
+use Rattle.std.proofs.Common.{ℕ, ◌≡◌, ◌≤◌, inl, inr, ◌++◌, List, Option, Some, None, Bool, true, false, refl, sym, ◌∙◌, ap, subst, arith, append_assoc}
 use Rattle.std.specs.Prelude.{Result, Ok, Err, IsErr, is_ok, ⊤}
 use Rattle.std.specs.List.{AllByRecursion}
 use Rattle.tpf_base.specs.Marks.{Mark, version_at}

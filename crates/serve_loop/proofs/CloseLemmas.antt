@@ -1,13 +1,12 @@
 -- The links of all live connections are closed, one after another, and what the traffic is then.
-use Rattle.std.proofs.Common.{ℕ, ◌≡◌, ◌≢◌, ◌+◌, ◌<◌, ◌≤◌, ◌⊎◌, inl, inr, List, [], ◌∷◌, length, Option, Some, None, Bool, true, false, refl, sym, ◌∙◌, ap, subst, arith}
+use Rattle.std.proofs.Common.{ℕ, ◌≡◌, ◌≢◌, ◌+◌, ◌<◌, ◌≤◌, ◌⊎◌, inl, inr, List, length, Option, Some, None, Bool, true, false, refl, sym, ◌∙◌, ap, subst, arith}
 use Rattle.tpf_base.specs.Causes.{RoseBy}
 use Rattle.tpf_base.specs.Links.{Link, WireState}
-use Rattle.tpf_base.specs.Calls.{Closes}
 use Rattle.connections.specs.Versions.{Serving}
 use Rattle.connections.specs.Kinds.{Kind}
 use Rattle.serve_loop.specs.declared.live.Live.{Live}
-use Rattle.serve_loop.specs.Traffic.{Talk, Traffic, Moment, ended}
-use Rattle.serve_loop.specs.Relates.{IsOrdered, IsGone, IsOwned, Relates, TellsSame}
+use Rattle.serve_loop.specs.Traffic.{Talk, Traffic, Moment}
+use Rattle.serve_loop.specs.Relates.{IsOrdered, IsGone, Relates, TellsSame}
 use Rattle.serve_loop.specs.Sentence.{AllClosed}
 use Rattle.serve_loop.specs.Steps.{ClosesAt, LeavesBelow, LeavesAll}
 use Rattle.serve_loop.proofs.TalkLemmas.{moment, same_talk, all_as, holds_same}
@@ -32,6 +31,7 @@ module _ {C : Type 0} where
     told = λ k. told_same (w.links k) (w.links k) refl;
     others = λ k f. refl;
     given = refl;
+    waits = refl;
     faults = refl;
   }
 
@@ -52,6 +52,7 @@ module _ {C : Type 0} where
     told = h.told;
     others = λ k f. h.others k (λ key l below e. f key l (omega (arith, below)) e);
     given = h.given;
+    waits = h.waits;
     faults = h.faults;
   })
   leaves_more n at a b c (Some m) alone h found d = record {
@@ -65,6 +66,7 @@ module _ {C : Type 0} where
     ];
     others = λ k f. d.only.others k (λ s. f n m (omega arith) found (sym s)) ∙ h.others k (λ key l below e. f key l (omega (arith, below)) e);
     given = d.only.given ∙ h.given;
+    waits = d.only.waits ∙ h.waits;
     faults = d.faults ∙ h.faults;
   }
 
@@ -79,6 +81,7 @@ module _ {C : Type 0} where
         told = h.told;
         others = λ k f. h.others k (λ key l below e. f key l e);
         given = h.given;
+        waits = h.waits;
         faults = h.faults;
       }
 

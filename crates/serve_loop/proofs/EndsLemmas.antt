@@ -1,6 +1,5 @@
 -- Which connections ended, one step after another.
-use Rattle.std.proofs.Common.{ℕ, ◌≡◌, ◌+◌, ◌≤◌, ◌++◌, List, [], ◌∷◌, length, refl, sym, ◌∙◌, ap, arith, append_assoc, length-append}
-use Rattle.tpf_base.specs.Causes.{Rose, RoseBy}
+use Rattle.std.proofs.Common.{ℕ, ◌≡◌, ◌+◌, ◌≤◌, ◌++◌, List, [], length, refl, sym, ◌∙◌, ap, arith, append_assoc, length-append}
 use Rattle.serve_loop.specs.Traffic.{Traffic, ended}
 use Rattle.serve_loop.specs.Steps.{EndsBy}
 

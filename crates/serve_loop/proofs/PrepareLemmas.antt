@@ -1,16 +1,13 @@
 -- What the supply gave is taken into the traffic.
-use Rattle.std.proofs.Common.{ℕ, ◌≡◌, ◌≢◌, ◌+◌, ◌<◌, ◌≤◌, ◌⊎◌, inl, inr, ◌++◌, List, [], ◌∷◌, length, take, Option, Some, None, Bool, true, false, refl, sym, ◌∙◌, ap, subst, arith, append-nil}
+use Rattle.std.proofs.Common.{ℕ, ◌≡◌, ◌+◌, ◌≤◌, ◌++◌, List, [], ◌∷◌, Option, refl}
 use Rattle.std.specs.List.{AllByRecursion}
 use Rattle.tpf_base.specs.Marks.{Mark}
 use Rattle.tpf_base.specs.Links.{WireState}
-use Rattle.connections.specs.Versions.{Serving, IsHistory, with_first}
+use Rattle.connections.specs.Versions.{Serving}
 use Rattle.connections.specs.Kinds.{Kind, Grows}
-use Rattle.connections.specs.declared.reloaded.Reloaded.{Reloaded}
-use Rattle.connections.specs.declared.reloaded.Reloaded.TheVariants as outcomes
 use Rattle.serve_loop.specs.declared.live.Live.{Live}
-use Rattle.serve_loop.specs.Traffic.{Talk, Given, Traffic, Moment, took, with_given, updated, ended}
-use Rattle.serve_loop.specs.Relates.{IsTalk, IsExcused, IsNumber, IsRising, Talks, Relates}
-use Rattle.serve_loop.specs.Steps.{Supplies}
+use Rattle.serve_loop.specs.Traffic.{Given, Traffic, Moment, took, with_given, updated}
+use Rattle.serve_loop.specs.Relates.{Relates}
 use Rattle.serve_loop.proofs.TalkLemmas.{moment, all_as}
 use Rattle.serve_loop.proofs.ReloadLemmas.{talk_took, versions_took, versions_none, excused_later}
 

@@ -1,19 +1,18 @@
 -- A whole step: what was made ready, and then the call on the link.
-use Rattle.std.proofs.Common.{ℕ, ◌≡◌, ◌≢◌, ◌+◌, ◌<◌, ◌≤◌, ◌==◌, inl, List, [], ◌∷◌, length, Option, Some, None, Bool, true, false, refl, sym, ◌∙◌, ap, subst, arith}
+use Rattle.std.proofs.Common.{ℕ, ◌≡◌, ◌+◌, ◌<◌, ◌≤◌, ◌==◌, inl, List, [], ◌∷◌, length, Option, Some, None, Bool, true, false, refl, sym, ◌∙◌, subst, arith}
 use Rattle.std.proofs.lemmas.Bool.{eqb-true}
 use Rattle.std.specs.Prelude.{Result, Ok, Err, is_ok, is_err, ⊤}
 use Rattle.tpf_base.specs.Links.{WireState}
 use Rattle.tpf_base.specs.Calls.{OnlyOn, Closes}
-use Rattle.tpf_base.specs.Marks.{Mark}
 use Rattle.connections.specs.Versions.{Serving}
 use Rattle.connections.specs.Kinds.{Kind}
 use Rattle.serve_loop.specs.declared.live.Live.{Live}
 use Rattle.serve_loop.specs.declared.live.Stepped.{Stepped}
 use Rattle.serve_loop.specs.declared.live.Stepped.TheVariants as stepped
 use Rattle.serve_loop.specs.Traffic.{Talk, Traffic, Moment, updated}
-use Rattle.serve_loop.specs.Relates.{IsTalk, Relates}
-use Rattle.serve_loop.specs.Steps.{HasCalled, CallsOnly, StepsLink, StepsOn, StepsTo, Keeps, Prepares, TalksTo, IsReady, left_by, ended_by, starved_by}
-use Rattle.serve_loop.proofs.TalkLemmas.{moment, on_plain, still_talk, closes_as}
+use Rattle.serve_loop.specs.Relates.{IsTalk}
+use Rattle.serve_loop.specs.Steps.{HasCalled, StepsLink, StepsOn, StepsTo, Keeps, Prepares, TalksTo, IsReady, left_by, ended_by, starved_by}
+use Rattle.serve_loop.proofs.TalkLemmas.{moment, on_plain, still_talk, closes_as, closes_alone}
 use Rattle.serve_loop.proofs.RelatesLemmas.{here}
 use Rattle.serve_loop.proofs.StepLemmas.{steps_to}
 use Rattle.serve_loop.proofs.EndsLemmas.{ends_then, ends_as}
@@ -94,4 +93,4 @@ module _ {C Data Settings : Type 0} where
       let same : m.link ≡ p.live.link = p.link ∙ sym p.link_is in
       let d = closes_as p.live.link m.link a b same closes in
       step_then kind may first since t at len key p.live m stepped.Starved old served faults left a b some p.up (p.keeps first since t at len key found r)
-      same d.only d.is_open (λ e. absurd (none_live m e)) (wanting_step kind served faults left a b p.live.link p.live.connection m.connection d)
+      same d.only (closes_alone p.live.link a b d) (λ e. absurd (none_live m e)) (wanting_step kind served faults left a b p.live.link p.live.connection m.connection d)

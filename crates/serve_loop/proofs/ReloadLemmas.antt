@@ -1,19 +1,18 @@
 -- A reload: the history grows, and the link that asked for it owns the new number.
-use Rattle.std.proofs.Common.{ℕ, ◌≡◌, ◌≢◌, ◌+◌, ◌<◌, ◌≤◌, ◌==◌, ◌⊎◌, inl, inr, ◌++◌, List, [], ◌∷◌, length, take, Option, Some, None, Bool, true, false, refl, sym, ◌∙◌, ap, subst, arith, append-nil, append_assoc, length-append, if◌then◌else◌}
+use Rattle.std.proofs.Common.{ℕ, ◌≡◌, ◌≢◌, ◌+◌, ◌<◌, ◌≤◌, ◌⊎◌, inl, inr, ◌++◌, List, [], ◌∷◌, length, Option, Bool, true, false, refl, sym, ◌∙◌, ap, subst, arith, append-nil, append_assoc, length-append, if◌then◌else◌}
 use Rattle.std.specs.List.{AllByRecursion}
 use Rattle.tpf_base.specs.Marks.{Mark, Served, Failed, Starved, version_at}
-use Rattle.tpf_base.specs.Causes.{Rose, counted}
+use Rattle.tpf_base.specs.Causes.{Rose}
 use Rattle.tpf_base.specs.Links.{WireState}
 use Rattle.connections.specs.declared.reloaded.Reloaded.{Reloaded}
 use Rattle.connections.specs.declared.reloaded.Reloaded.TheVariants as outcomes
 use Rattle.connections.specs.Versions.{Serving, IsHistory, MOST_VERSIONS, with_first}
-use Rattle.connections.specs.Kinds.{Kind, Grows, Reloads, AreServed, mark_of, numbers_of}
-use Rattle.serve_loop.specs.declared.live.Live.{Live}
-use Rattle.serve_loop.specs.Traffic.{Talk, Given, Traffic, Moment, took, with_given, updated, ended}
-use Rattle.serve_loop.specs.Relates.{IsTalk, IsExcused, IsNumber, IsRising, Versions, Talks, Relates}
-use Rattle.serve_loop.specs.Steps.{Supplies, GoesOn, GoesOnAt}
-use Rattle.serve_loop.proofs.TalkLemmas.{moment, all_append, all_as, plain, on_plain, holds_as, served_excused, served_level}
-use Rattle.serve_loop.proofs.RelatesLemmas.{here, there}
+use Rattle.connections.specs.Kinds.{Kind, Grows, Reloads, mark_of, numbers_of}
+use Rattle.serve_loop.specs.Traffic.{Talk, Given, Moment, took, with_given, updated}
+use Rattle.serve_loop.specs.Relates.{IsTalk, IsExcused, IsNumber, IsRising, Versions}
+use Rattle.serve_loop.specs.Steps.{Supplies, GoesOn}
+use Rattle.serve_loop.proofs.TalkLemmas.{all_append, all_as, plain, holds_as, served_excused, served_level}
+use Rattle.serve_loop.proofs.RelatesLemmas.{there}
 
 took_both : {Data : Type 0} (b : Bool) (d : Data) (gs hs : List (Given Data)) → took (gs ++ hs) ≡ took gs ++ took hs
     → (if b then d ∷ took (gs ++ hs) else took (gs ++ hs)) ≡ (if b then d ∷ took gs else took gs) ++ took hs

@@ -1,5 +1,5 @@
 -- The server's sentence follows from the relation alone.
-use Rattle.std.proofs.Common.{ℕ, ◌≡◌, ◌≢◌, ◌+◌, ◌<◌, ◌≤◌, ◌⊎◌, inl, inr, ◌++◌, List, [], ◌∷◌, length, take, Option, Some, None, Bool, true, false, refl, sym, ◌∙◌, ap, subst, arith, append-nil, length-append}
+use Rattle.std.proofs.Common.{ℕ, ◌≡◌, ◌≢◌, ◌+◌, ◌≤◌, inl, inr, ◌++◌, List, [], ◌∷◌, length, take, Option, Some, refl, sym, ◌∙◌, ap, subst, arith, append-nil, length-append}
 use Rattle.std.specs.List.{AllByRecursion}
 use Rattle.tpf_base.specs.Marks.{Mark, Served, Failed, Starved}
 use Rattle.tpf_base.specs.Causes.{counted_by}

@@ -1,5 +1,5 @@
 -- Turns, one after another, and the exit.
-use Rattle.std.proofs.Common.{ℕ, ◌≡◌, ◌≢◌, ◌+◌, ◌-◌, ◌<◌, ◌≤◌, List, [], ◌∷◌, ◌++◌, length, replicate, Option, Some, None, refl, sym, ◌∙◌, ap, subst, arith, length-append}
+use Rattle.std.proofs.Common.{ℕ, ◌≡◌, ◌+◌, ◌-◌, ◌<◌, ◌≤◌, List, [], ◌∷◌, ◌++◌, replicate, Option, Some, None, refl, sym, ◌∙◌, ap, subst, arith, length-append}
 use Rattle.std.proofs.lemmas.List.{length-replicate}
 use Rattle.std.specs.Prelude.{◌↔◌, IfSome, IfOk, IfErr, OnErr, Result, Ok, Err}
 use Rattle.tpf_base.specs.Causes.{Rose, counted_by}
@@ -11,10 +11,10 @@ use Rattle.serve_loop.specs.declared.live.ServeFault.{ServeFault}
 use Rattle.serve_loop.specs.declared.live.ServeFault.TheVariants as faults
 use Rattle.serve_loop.specs.declared.live.Served.{Served}
 use Rattle.serve_loop.specs.declared.live.Turned.{Turned}
-use Rattle.serve_loop.specs.Traffic.{Traffic, Moment, no_traffic, ended}
+use Rattle.serve_loop.specs.Traffic.{Traffic, Moment, no_traffic}
 use Rattle.serve_loop.specs.Relates.{Relates, SuitsWire}
 use Rattle.serve_loop.specs.Sentence.{Sentence, SpeaksWhole, AllClosed}
-use Rattle.serve_loop.specs.Steps.{EndsBy, TurnsTo, ServesTo, Carries, RestsWire, LeavesAll, served_with}
+use Rattle.serve_loop.specs.Steps.{TurnsTo, ServesTo, Carries, RestsWire, LeavesAll, served_with}
 use Rattle.serve_loop.proofs.TalkLemmas.{moment}
 use Rattle.serve_loop.proofs.SentenceLemmas.{sentence, speaks_whole}
 use Rattle.serve_loop.proofs.EndsLemmas.{ends_same, ends_then, ended_more}

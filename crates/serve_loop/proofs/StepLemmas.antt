@@ -1,5 +1,5 @@
 -- A step on a link is a step of the traffic; and a loop without connections begins with no traffic.
-use Rattle.std.proofs.Common.{ℕ, ◌≡◌, ◌≢◌, ◌+◌, ◌-◌, ◌<◌, ◌≤◌, ◌⊎◌, inl, inr, ◌++◌, List, [], ◌∷◌, length, Option, Some, None, Bool, true, false, refl, sym, ◌∙◌, ap, subst, arith, append-nil}
+use Rattle.std.proofs.Common.{ℕ, ◌≡◌, ◌-◌, ◌<◌, ◌≤◌, inl, inr, List, [], ◌∷◌, Option, Some, None, true, refl, sym, ◌∙◌, ap, subst, arith, append-nil}
 use Rattle.tpf_base.specs.Causes.{Rose}
 use Rattle.tpf_base.specs.Links.{WireState}
 use Rattle.tpf_base.specs.Calls.{OnlyOn}
@@ -10,11 +10,11 @@ use Rattle.serve_loop.specs.declared.live.Stepped.{Stepped}
 use Rattle.serve_loop.specs.declared.live.Stepped.TheVariants as stepped
 use Rattle.serve_loop.specs.Traffic.{Talk, Traffic, Moment, updated, no_traffic}
 use Rattle.serve_loop.specs.Relates.{IsTalk, Relates}
-use Rattle.serve_loop.specs.Steps.{GoesOn, GoesOnAt, HasCalled, EndsInOrder, EndsBy, TalksTo, StepsLink, StepsTo, left_by}
+use Rattle.serve_loop.specs.Steps.{GoesOn, GoesOnAt, HasCalled, EndsBy, TalksTo, StepsLink, StepsTo, left_by}
 use Rattle.serve_loop.proofs.TalkLemmas.{moment, goes_nowhere}
 use Rattle.serve_loop.proofs.SentenceLemmas.{some_same}
 use Rattle.serve_loop.proofs.RelatesLemmas.{here, there, same_or, stays_live, ends_ordered, ends_broken, ends_starved}
-use Rattle.serve_loop.proofs.EndsLemmas.{ends_same, ends_none}
+use Rattle.serve_loop.proofs.EndsLemmas.{ends_none}
 
 module _ {C : Type 0} where
   pub goes_same : (version : ℕ) (o : Option (Talk C)) → GoesOnAt version o o
@@ -107,7 +107,7 @@ module _ {C Data Settings : Type 0} where
       len_is = omega (arith, some);
       up = omega arith;
       ends = one_more _ _ l.link _ _ refl refl refl only.later;
-      relates = ends_ordered kind may first since t at len (len - 1) served faults left a b key l s.talk' r found only called s.is (omega (arith, some)) e;
+      relates = ends_ordered kind may first since t at len (len - 1) served faults left a b key l s.talk' r found only called.closed s.is (omega (arith, some)) e;
       goes_on = goes_on served.version t.talks l.link old s.talk' old_is s.goes_on;
     }
     | inr rose ↦ record {
@@ -116,7 +116,7 @@ module _ {C Data Settings : Type 0} where
       len_is = omega (arith, some);
       up = omega arith;
       ends = one_broken _ _ l.link _ _ refl refl refl rose;
-      relates = ends_broken kind may first since t at len (len - 1) served faults left a b key l s.talk' r found only called s.is (omega (arith, some)) rose;
+      relates = ends_broken kind may first since t at len (len - 1) served faults left a b key l s.talk' r found only called.closed s.is (omega (arith, some)) rose;
       goes_on = goes_on served.version t.talks l.link old s.talk' old_is s.goes_on;
     }
   ]
@@ -126,7 +126,7 @@ module _ {C Data Settings : Type 0} where
     len_is = omega (arith, some);
     up = omega arith;
     ends = one_starved _ _ l.link _ _ refl refl refl only.later;
-    relates = ends_starved kind may first since t at len (len - 1) served faults left a b key l s.talk' r found only called s.is (omega (arith, some));
+    relates = ends_starved kind may first since t at len (len - 1) served faults left a b key l s.talk' r found only called.closed s.is (omega (arith, some));
     goes_on = goes_on served.version t.talks l.link old s.talk' old_is s.goes_on;
   }
 

@@ -1,24 +1,23 @@
 -- What a call on a link does to its talk.
-use Rattle.std.proofs.Common.{ℕ, ◌≡◌, ◌≢◌, ◌+◌, ◌<◌, ◌≤◌, ◌⊎◌, inl, inr, ◌++◌, List, [], ◌∷◌, length, take, Option, Some, None, Bool, true, false, refl, sym, ◌∙◌, ap, subst, arith, append-nil, length-append, if◌then◌else◌, ◌==◌}
+use Rattle.std.proofs.Common.{ℕ, ◌≡◌, ◌<◌, ◌≤◌, inl, inr, ◌++◌, List, [], ◌∷◌, length, take, Option, Some, None, Bool, true, false, refl, sym, ◌∙◌, ap, subst, arith, append-nil, if◌then◌else◌, ◌==◌}
 use Rattle.std.specs.List.{AllByRecursion}
 use Rattle.std.proofs.lemmas.List.{length-take-le}
 use Rattle.std.specs.Io.KnownBytes.{append_known}
 use Rattle.tpf_base.specs.Causes.{Rose}
 use Rattle.tpf_base.specs.declared.wire.Moved.{Moved}
 use Rattle.tpf_base.specs.declared.wire.Moved.TheVariants as answers
-use Rattle.tpf_base.specs.Links.{WireState, Tells, CountsAlone, SentAndReceived, All, told_by}
-use Rattle.tpf_base.specs.Calls.{OnlyOn, SameWire, Sends, Receives, Closes}
+use Rattle.tpf_base.specs.Links.{Link, WireState, Tells, CountsAlone, SentAndReceived, All, told_by}
+use Rattle.tpf_base.specs.Calls.{Sends, Receives, Closes}
 use Rattle.link_calls.specs.Sending.{Holds}
-use Rattle.tpf_base.specs.Marks.{Mark, Served, Failed, Starved, version_at}
+use Rattle.tpf_base.specs.Marks.{Mark, Served, version_at}
 use Rattle.connections.specs.Versions.{Serving, IsHistory}
-use Rattle.connections.specs.Kinds.{Kind, Takes, Feeds, Reads, AreServed}
+use Rattle.connections.specs.Kinds.{Kind, Takes, Feeds}
 use Rattle.serve_loop.specs.declared.live.Stepped.{Stepped}
 use Rattle.serve_loop.specs.declared.live.Stepped.TheVariants as stepped
-use Rattle.serve_loop.specs.declared.step.Received.{Received}
 use Rattle.serve_loop.specs.declared.step.Received.TheVariants as received
 use Rattle.serve_loop.specs.Traffic.{Talk, Moment}
 use Rattle.serve_loop.specs.Relates.{IsTalk, IsExcused, IsNumber, IsRising}
-use Rattle.serve_loop.specs.Steps.{GoesOn, EndsInOrder, EndsAs, TalksTo, StepsLink, Hears, IsReady, CallsOnly, MovesOn}
+use Rattle.serve_loop.specs.Steps.{GoesOn, EndsAs, TalksTo, StepsLink, Hears, IsReady, CallsOnly, GoesOut, ComesIn, MovesOn, StallsOn, ClosesOn}
 
 pub holds_as : (told : Option (List ℕ)) (x y : List ℕ) → x ≡ y → Holds told x → Holds told y
 holds_as told x y e h = λ bytes b. h bytes b ∙ e
@@ -76,8 +75,25 @@ receives_idle k to a b answers.OutOfMemory r z = (r.memory refl).idle ∙ z
 pub receives_only : (k : ℕ) (to : List ℕ) (a b : WireState) (answer : Moved) → Receives k to a b answer → CallsOnly k a b
 receives_only k to a b answer r = record { only = r.only; idle = receives_idle k to a b answer r }
 
-pub sends_moves : (k : ℕ) (piece : List ℕ) (a b : WireState) (n : ℕ) → Sends k piece a b (answers.Moved n) → MovesOn k a b × (b.idle ≡ 0)
-sends_moves k piece a b n s = let m = s.moved n refl in (record { piece = take n piece; some = omega (arith, m.0, length-take-le n piece m.1); way = inl m.2 }, m.3)
+pub sends_moves : (k : ℕ) (piece : List ℕ) (a b : WireState) (n : ℕ) → (a.links k).is_open ≡ true → Sends k piece a b (answers.Moved n) → MovesOn k a b × (b.idle ≡ 0)
+sends_moves k piece a b n up s = let m = s.moved n refl in (record { piece = take n piece; some = omega (arith, m.0, length-take-le n piece m.1); way = GoesOut m.2 s.received; is_open = s.is_open ∙ up }, m.3)
+
+pub sends_stalls : (k : ℕ) (piece : List ℕ) (a b : WireState) → (a.links k).is_open ≡ true → Sends k piece a b answers.NotYet → StallsOn k a b
+sends_stalls k piece a b up s = let m = s.not_yet refl in record { stays = record { sent = m.0; received = s.received }; rose = m.2; is_open = s.is_open ∙ up }
+
+-- a send after which the link was closed
+pub sends_wants : (k : ℕ) (piece : List ℕ) (a b w : WireState) → Sends k piece a b answers.OutOfMemory → Closes k b w → ClosesOn k a w
+sends_wants k piece a b w s c = let m = (s.memory refl).links k in record {
+  closed = c.is_open;
+  way = inl (record { sent = c.sent ∙ ap (λ (l : Link). l.sent) m; received = c.received ∙ ap (λ (l : Link). l.received) m });
+}
+
+pub sends_fails : (k : ℕ) (piece : List ℕ) (a b w : WireState) → Sends k piece a b answers.Failed → Closes k b w → ClosesOn k a w
+sends_fails k piece a b w s c = let f = s.failed refl in record { closed = c.is_open; way = inr (take f.0 piece, GoesOut (c.sent ∙ f.2) (c.received ∙ s.received)) }
+
+-- only that
+pub closes_alone : (k : ℕ) (a w : WireState) → Closes k a w → ClosesOn k a w
+closes_alone k a w c = record { closed = c.is_open; way = inl (record { sent = c.sent; received = c.received }) }
 
 -- and the link was closed behind it
 pub closes_only : (k : ℕ) (a b w : WireState) → CallsOnly k a b → Closes k b w → CallsOnly k a w
@@ -357,12 +373,12 @@ module _ {C Data Settings : Type 0} where
   -- ---- what a receive did
 
   pub hears_fed : (kind : Kind C Data Settings) (served : Serving Data Settings) (k : ℕ) (old new : C) (a b : WireState) (buffer : List ℕ) (n : ℕ)
-      → Receives k buffer a b (answers.Moved n) → Feeds kind served (take n buffer) old new → Hears kind served k old new a b received.Fed
-  hears_fed kind served k old new a b buffer n r feeds = let m = r.moved n refl in record {
+      → length buffer ≤ 8192 → Receives k buffer a b (answers.Moved n) → Feeds kind served (take n buffer) old new → Hears kind served k old new a b received.Fed
+  hears_fed kind served k old new a b buffer n few r feeds = let m = r.moved n refl in record {
     only = receives_only k buffer a b (answers.Moved n) r;
     sent = r.sent;
     is_open = r.is_open;
-    fed = λ e. (take n buffer, omega (arith, m.0, length-take-le n buffer m.1), m.2, feeds, m.4);
+    fed = λ e. (take n buffer, omega (arith, m.0, length-take-le n buffer m.1), m.2, feeds, m.4, omega (arith, m.1, few, length-take-le n buffer m.1));
     end_ = λ e. absurd cc;
     not_yet = λ e. absurd cc;
     failed = λ e. absurd cc;
@@ -370,8 +386,8 @@ module _ {C Data Settings : Type 0} where
   }
 
   pub hears_unfed : (kind : Kind C Data Settings) (served : Serving Data Settings) (k : ℕ) (old new : C) (a b : WireState) (buffer : List ℕ) (n : ℕ)
-      → Receives k buffer a b (answers.Moved n) → Hears kind served k old new a b received.Starved
-  hears_unfed kind served k old new a b buffer n r = let m = r.moved n refl in record {
+      → length buffer ≤ 8192 → Receives k buffer a b (answers.Moved n) → Hears kind served k old new a b received.Starved
+  hears_unfed kind served k old new a b buffer n few r = let m = r.moved n refl in record {
     only = receives_only k buffer a b (answers.Moved n) r;
     sent = r.sent;
     is_open = r.is_open;
@@ -379,5 +395,25 @@ module _ {C Data Settings : Type 0} where
     end_ = λ e. absurd cc;
     not_yet = λ e. absurd cc;
     failed = λ e. absurd cc;
-    starved = λ e. (take n buffer, m.2);
+    starved = λ e. (take n buffer, m.2, omega (arith, m.1, few, length-take-le n buffer m.1));
   }
+
+  -- ---- what a receive did to its link
+
+  pub hears_moves : (kind : Kind C Data Settings) (served : Serving Data Settings) (k : ℕ) (old new : C) (a b : WireState) → (a.links k).is_open ≡ true
+      → Hears kind served k old new a b received.Fed → MovesOn k a b × (b.idle ≡ 0)
+  hears_moves kind served k old new a b up h = let f = h.fed refl in (record { piece = f.0; some = f.1; way = ComesIn f.5 f.2 h.sent; is_open = h.is_open ∙ up }, f.4)
+
+  pub hears_stalls : (kind : Kind C Data Settings) (served : Serving Data Settings) (k : ℕ) (old new : C) (a b : WireState) → (a.links k).is_open ≡ true
+      → Hears kind served k old new a b received.NotYet → StallsOn k a b
+  hears_stalls kind served k old new a b up h = let f = h.not_yet refl in record { stays = record { sent = h.sent; received = f.0 }; rose = f.1; is_open = h.is_open ∙ up }
+
+  -- and the link was closed behind it
+  pub hears_end : (kind : Kind C Data Settings) (served : Serving Data Settings) (k : ℕ) (old new : C) (a b w : WireState) → Hears kind served k old new a b received.End → Closes k b w → ClosesOn k a w
+  hears_end kind served k old new a b w h c = record { closed = c.is_open; way = inl (record { sent = c.sent ∙ h.sent; received = c.received ∙ (h.end_ refl).0 }) }
+
+  pub hears_fails : (kind : Kind C Data Settings) (served : Serving Data Settings) (k : ℕ) (old new : C) (a b w : WireState) → Hears kind served k old new a b received.Failed → Closes k b w → ClosesOn k a w
+  hears_fails kind served k old new a b w h c = record { closed = c.is_open; way = inl (record { sent = c.sent ∙ h.sent; received = c.received ∙ (h.failed refl).0 }) }
+
+  pub hears_wants : (kind : Kind C Data Settings) (served : Serving Data Settings) (k : ℕ) (old new : C) (a b w : WireState) → Hears kind served k old new a b received.Starved → Closes k b w → ClosesOn k a w
+  hears_wants kind served k old new a b w h c = let f = h.starved refl in record { closed = c.is_open; way = inr (f.0, ComesIn f.2 (c.received ∙ f.1) (c.sent ∙ h.sent)) }

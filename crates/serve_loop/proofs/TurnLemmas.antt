@@ -1,8 +1,7 @@
 -- Steps of the keys are steps of the traffic; and which connections suit the wire after them.
-use Rattle.std.proofs.Common.{ℕ, ◌≡◌, ◌≢◌, ◌+◌, ◌<◌, ◌≤◌, ◌⊎◌, inl, inr, List, [], Option, Some, None, Bool, true, false, refl, sym, ◌∙◌, ap, subst, arith}
+use Rattle.std.proofs.Common.{ℕ, ◌≡◌, ◌≢◌, ◌+◌, ◌<◌, ◌≤◌, ◌⊎◌, inl, inr, List, Option, Some, None, true, false, refl, sym, ◌∙◌, ap, subst, arith}
 use Rattle.tpf_base.specs.Links.{Link, WireState}
 use Rattle.tpf_base.specs.Calls.{OnlyOn}
-use Rattle.connections.specs.Versions.{Serving}
 use Rattle.connections.specs.Kinds.{Kind}
 use Rattle.serve_loop.specs.declared.live.Live.{Live}
 use Rattle.serve_loop.specs.declared.live.Stepped.{Stepped}
@@ -10,10 +9,9 @@ use Rattle.serve_loop.specs.declared.live.Stepped.TheVariants as stepped
 use Rattle.serve_loop.specs.declared.live.Turned.{Turned}
 use Rattle.serve_loop.specs.Traffic.{Traffic, Moment, took, updated}
 use Rattle.serve_loop.specs.Relates.{Relates, SuitsWire}
-use Rattle.serve_loop.specs.Steps.{StepsTo, StepsOn, TurnsTo, EndsBy, ended_by, starved_by, left_by, ends, turned_by, turned_with}
+use Rattle.serve_loop.specs.Steps.{StepsOn, TurnsTo, ended_by, starved_by, left_by, ends, turned_by, turned_with}
 use Rattle.serve_loop.proofs.TalkLemmas.{all_as}
 use Rattle.serve_loop.proofs.RelatesLemmas.{here, there, same_or, none_some}
-use Rattle.serve_loop.proofs.SentenceLemmas.{some_same}
 use Rattle.serve_loop.proofs.StepLemmas.{goes_same}
 use Rattle.serve_loop.proofs.EndsLemmas.{ends_same, ends_then, ends_as}
 use Rattle.serve_loop.proofs.ChainLemmas.{relates_same, goes_on_then}
@@ -224,6 +222,14 @@ module _ {C : Type 0} where
       → SuitsWire Suits new (λ k. get (with_value s key l') k) b
   suits_stays Suits old new s key l l' answer a b suits found e link only is_open connection stays =
       suits_step Suits old new (λ k. get s k) (λ k. get (with_value s key l') k) key l l' answer a b suits found link (written_by s key l l' answer found e) only is_open connection stays
+
+  -- the same, where it was removed
+  pub suits_ends : {Server : Type 0} (Suits : Server → C → Type 0) (old new : Server) (s u : Slab (Live C)) (key : ℕ) (l l' : Live C) (answer : Stepped) (a b : WireState)
+      → SuitsWire Suits old (λ k. get s k) a → get s key ≡ Some l → true ≡ ends answer → Updates (with_value s key l') u key None → l'.link ≡ l.link → OnlyOn l.link a b
+      → (left_by answer l' ≡ Some l' → (b.links l.link).is_open ≡ true) → (left_by answer l' ≡ Some l' → Suits new l'.connection) → ((c : C) → Suits old c → Suits new c)
+      → SuitsWire Suits new (λ k. get u k) b
+  suits_ends Suits old new s u key l l' answer a b suits found e updates link only is_open connection stays =
+      suits_step Suits old new (λ k. get s k) (λ k. get u k) key l l' answer a b suits found link (taken_by s u key l l' answer found e updates) only is_open connection stays
 
 module _ {C Data Settings : Type 0} where
   -- a step after which the connection stays in the slab

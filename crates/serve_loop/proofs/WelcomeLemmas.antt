@@ -1,23 +1,23 @@
 -- A new connection begins its talk; and what is the same on a wire is the same of the traffic.
-use Rattle.std.proofs.Common.{ℕ, ◌≡◌, ◌≢◌, ◌+◌, ◌<◌, ◌≤◌, ◌⊎◌, inl, inr, ◌++◌, List, [], ◌∷◌, length, take, Option, Some, None, Bool, true, false, refl, sym, ◌∙◌, ap, subst, arith}
+use Rattle.std.proofs.Common.{ℕ, ◌≡◌, ◌≢◌, ◌+◌, ◌<◌, ◌≤◌, ◌⊎◌, inl, inr, List, [], Option, Some, None, Bool, true, false, refl, sym, ◌∙◌, ap, subst, arith}
 use Rattle.std.specs.List.{AllByRecursion}
 use Rattle.tpf_base.specs.Links.{Link, WireState, Tells, CountsAlone, SentAndReceived, All, told_by}
 use Rattle.tpf_base.specs.Calls.{GivesAccepted, GivesNone}
 use Rattle.link_calls.specs.Sending.{Holds}
-use Rattle.connections.specs.Versions.{Serving, IsHistory}
+use Rattle.connections.specs.Versions.{Serving}
 use Rattle.connections.specs.Kinds.{Kind, Opens}
 use Rattle.serve_loop.specs.declared.live.Live.{Live}
 use Rattle.serve_loop.specs.declared.live.Turned.{Turned}
-use Rattle.serve_loop.specs.Traffic.{Talk, Traffic, Moment, updated, ended}
-use Rattle.serve_loop.specs.Relates.{IsTalk, IsLive, IsOrdered, IsGone, IsOwned, IsNumber, IsRising, Talks, Ends, Relates, SuitsWire}
+use Rattle.serve_loop.specs.Traffic.{Talk, Traffic, Moment, updated}
+use Rattle.serve_loop.specs.Relates.{IsTalk, IsLive, IsOrdered, IsGone, IsNumber, IsRising, Relates}
 use Rattle.serve_loop.specs.Steps.{GoesOnAt, RestsWire, Welcomes, TurnsTo, StepsAll, IsBusy}
 use Rattle.serve_loop.proofs.BelowLemmas.{nothing, turned_keeps, moves_on, stays_on}
 use Rattle.tpf_base.specs.Causes.{Rose}
 use Rattle.std.specs.Prelude.{◌||◌, Result, Ok, Err, OnErr}
-use Rattle.serve_loop.proofs.TalkLemmas.{moment, same_talk, all_as, holds_same, holds_as, plain}
+use Rattle.serve_loop.proofs.TalkLemmas.{moment, same_talk, all_as, holds_same, plain}
 use Rattle.serve_loop.proofs.RelatesLemmas.{here, there, same_or, none_some, is_not, versions_on, older_as}
 use Rattle.serve_loop.proofs.SentenceLemmas.{some_same}
-use Rattle.serve_loop.proofs.StepLemmas.{goes_same, goes_at}
+use Rattle.serve_loop.proofs.StepLemmas.{goes_same}
 use Rattle.serve_loop.proofs.EndsLemmas.{ends_same, ends_none, ends_then, ends_as}
 use Rattle.serve_loop.proofs.ChainLemmas.{relates_same, goes_on_then}
 
@@ -309,6 +309,16 @@ module _ {C Data Settings : Type 0} where
         door = inr (inl (m, more));
         moved = λ q. inl more;
         still = λ q. absurd (is_not y.moved m q);
+        ended = λ q. let o = s.ended (omega (arith, q, e)) in (
+          o.1.link,
+          o.3.closed,
+          elim (same_or o.0 w.key) [
+            | inl p ↦ let same = some_same (at' w.key) o.1 (record { link = a.given; connection = (w.found refl).0 }) (ap at' (sym p) ∙ o.2) (w.found refl).1.1 in
+                let link : o.1.link ≡ a.given = ap (λ (l : Live C). l.link) same in inl (record { later = omega (arith, link); given = omega (arith, link, more) })
+            | inr n ↦ inr (record { key = o.0; live = o.1; found = sym (w.others o.0 (inl n)) ∙ o.2; link = refl })
+          ],
+        );
+        waits = s.waits ∙ w.waits;
       }
   busy kind x y at at' false len after a b c w given s m e =
       let n = w.none refl in
@@ -317,4 +327,6 @@ module _ {C Data Settings : Type 0} where
         door = elim (w.door refl) [ inl p ↦ inl p | inr q ↦ inr (inr (subst (λ (d : ℕ). Rose a.door_stalls d) (sym s.door_stalls) q)) ];
         moved = λ q. let o = s.moved (sym m ∙ q) in inr (o.0, o.1, sym (w.others o.0 (inr refl)) ∙ o.2, moves_on o.1.link a b c c (n.links o.1.link) refl o.3);
         still = λ q. (s.given ∙ n.given, λ k is_open. stays_on k a b c c (n.links k) refl (s.still (sym m ∙ q) k is_open));
+        ended = λ q. let o = s.ended (omega (arith, q, e)) in (o.1.link, o.3.closed, inr (record { key = o.0; live = o.1; found = sym (w.others o.0 (inr refl)) ∙ o.2; link = refl }));
+        waits = s.waits ∙ w.waits;
       }

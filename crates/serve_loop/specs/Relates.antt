@@ -5,7 +5,7 @@ use Rattle.tpf_base.specs.Marks.{Mark, Served, Failed, Starved}
 use Rattle.tpf_base.specs.Causes.{Rose, RoseBy}
 use Rattle.tpf_base.specs.Links.{Link, WireState}
 use Rattle.link_calls.specs.Sending.{Holds}
-use Rattle.connections.specs.Versions.{Serving, IsHistory, MOST_VERSIONS}
+use Rattle.connections.specs.Versions.{IsHistory, MOST_VERSIONS}
 use Rattle.connections.specs.Kinds.{Kind}
 use Rattle.serve_loop.specs.declared.live.Live.{Live}
 use Rattle.serve_loop.specs.Traffic.{Talk, Given, Traffic, Moment, ended, took, with_given}

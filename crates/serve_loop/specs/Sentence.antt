@@ -1,5 +1,5 @@
 -- The server's sentence: on each link its own response.
-use Rattle.std.specs.Prelude.{ℕ, ◌≡◌, ◌⊎◌, ◌+◌, ◌<◌, ◌≤◌, Bool, true, false, List, [], ◌++◌, length, Some}
+use Rattle.std.specs.Prelude.{ℕ, ◌≡◌, ◌⊎◌, ◌+◌, ◌<◌, ◌≤◌, true, false, List, [], ◌++◌, length, Some}
 use Rattle.std.specs.List.{AllByRecursion}
 use Rattle.tpf_base.specs.Causes.{RoseBy, counted_by}
 use Rattle.tpf_base.specs.Links.{WireState}

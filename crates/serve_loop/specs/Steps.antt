@@ -1,9 +1,9 @@
 -- What a step and a turn do.
-use Rattle.std.specs.Prelude.{ℕ, ◌≡◌, ◌≢◌, ◌⊎◌, ◌+◌, ◌<◌, ◌≤◌, ◌||◌, Bool, true, false, List, [], ◌∷◌, ◌++◌, length, Option, Some, None}
+use Rattle.std.specs.Prelude.{ℕ, ◌≡◌, ◌≢◌, ◌⊎◌, ◌+◌, ◌<◌, ◌≤◌, Bool, true, false, List, [], ◌∷◌, ◌++◌, length, Option, Some, None}
 use Rattle.std.specs.List.{AllByRecursion}
 use Rattle.std.specs.Io.KnownBytes.{append_known}
 use Rattle.tpf_base.specs.Causes.{Rose, RoseBy, counted_by}
-use Rattle.tpf_base.specs.Links.{WireState}
+use Rattle.tpf_base.specs.Links.{Link, WireState}
 use Rattle.tpf_base.specs.Calls.{OnlyOn, Closes, GivesAccepted, GivesNone}
 use Rattle.link_calls.specs.Sending.{Holds}
 use Rattle.tpf_base.specs.Marks.{Mark, version_at}
@@ -18,8 +18,8 @@ use Rattle.serve_loop.specs.declared.live.Stepped.TheVariants as stepped
 use Rattle.serve_loop.specs.declared.live.Turned.{Turned}
 use Rattle.serve_loop.specs.declared.step.Received.{Received}
 use Rattle.serve_loop.specs.declared.step.Received.TheVariants as received
-use Rattle.serve_loop.specs.Traffic.{Talk, Given, Traffic, Moment, ended, updated, took, with_given}
-use Rattle.serve_loop.specs.Relates.{Relates, IsTalk, TellsSame}
+use Rattle.serve_loop.specs.Traffic.{Talk, Given, Traffic, Moment, updated, took, with_given}
+use Rattle.serve_loop.specs.Relates.{Relates, IsTalk, IsOwned, TellsSame}
 
 -- how many connections ended with a step, and how many of them for want of memory
 abbrev pub ended_by : Stepped → ℕ
@@ -54,29 +54,51 @@ pub record CallsOnly (k : ℕ) (old new : WireState) : Type 0 where
   pub only : OnlyOn k old new
   pub idle : old.idle ≡ 0 → new.idle ≡ 0
 
--- bytes moved on a link, one way
+-- a link that was given between the two
+pub record IsFresh (k : ℕ) (old new : WireState) : Type 0 where
+  pub later : old.given ≤ k
+  pub given : k < new.given
+
+-- These bytes moved on a link, one way alone: they were sent, or they were received, at most 8192 of them.
+pub data OneWay (piece : List ℕ) (old new : Link) : Type 0 where
+  GoesOut : new.sent ≡ append_known old.sent piece → new.received ≡ old.received → OneWay piece old new
+  ComesIn : length piece ≤ 8192 → new.received ≡ append_known old.received piece → new.sent ≡ old.sent → OneWay piece old new
+
+-- bytes moved on a link, one way, and it is open
 pub record MovesOn (k : ℕ) (old new : WireState) : Type 0 where
   pub piece : List ℕ
   pub some : 0 < length piece
-  pub way : ((new.links k).sent ≡ append_known (old.links k).sent piece) ⊎ ((new.links k).received ≡ append_known (old.links k).received piece)
+  pub way : OneWay piece (old.links k) (new.links k)
+  pub is_open : (new.links k).is_open ≡ true
 
 -- no byte moved on a link
 pub record StaysOn (k : ℕ) (old new : WireState) : Type 0 where
   pub sent : (new.links k).sent ≡ (old.links k).sent
   pub received : (new.links k).received ≡ (old.links k).received
 
--- The step of a connection called on its link: bytes moved; or none did, and the link's stalls rose; or it was closed.
+-- no byte moved on a link, its stalls rose, and it is open
+pub record StallsOn (k : ℕ) (old new : WireState) : Type 0 where
+  pub stays : StaysOn k old new
+  pub rose : Rose (old.links k).stalls (new.links k).stalls
+  pub is_open : (new.links k).is_open ≡ true
+
+-- a link was closed, and before that bytes moved on it one way, or none did
+pub record ClosesOn (k : ℕ) (old new : WireState) : Type 0 where
+  pub closed : (new.links k).is_open ≡ false
+  pub way : StaysOn k old new ⊎ ((piece : List ℕ) × OneWay piece (old.links k) (new.links k))
+
+-- The step of a connection called on its link once: bytes moved; or none did, and the link's stalls rose; or it was closed, behind that call or in its place.
 abbrev pub HasCalled : Stepped → ℕ → WireState → WireState → Type 0
 HasCalled stepped.Moved k old new = MovesOn k old new × (new.idle ≡ 0)
-HasCalled stepped.Still k old new = StaysOn k old new × Rose (old.links k).stalls (new.links k).stalls
-HasCalled stepped.Ended k old new = (new.links k).is_open ≡ false
-HasCalled stepped.Starved k old new = (new.links k).is_open ≡ false
+HasCalled stepped.Still k old new = StallsOn k old new
+HasCalled stepped.Ended k old new = ClosesOn k old new
+HasCalled stepped.Starved k old new = ClosesOn k old new
 
--- Of a link that was live before the turn: bytes moved on it, its stalls rose, or it was closed.
+-- Of a link that was live before the turn: bytes moved on it one way, its stalls rose, or it was closed.
 pub data HasTurned (turned : Turned) (k : ℕ) (old new : WireState) : Type 0 where
   Moved : turned.moved ≡ true → MovesOn k old new → HasTurned turned k old new
-  Stalled : Rose (old.links k).stalls (new.links k).stalls → HasTurned turned k old new
-  Closed : 0 < turned.ended → (new.links k).is_open ≡ false → HasTurned turned k old new
+  Stalled : StallsOn k old new → HasTurned turned k old new
+  Closed : 0 < turned.ended → ClosesOn k old new → HasTurned turned k old new
 
 -- a step after which the connection is no longer live
 abbrev pub ends : Stepped → Bool
@@ -177,11 +199,11 @@ module _ {C Data Settings : Type 0} where
     pub only : CallsOnly k a b
     pub sent : (b.links k).sent ≡ (a.links k).sent
     pub is_open : (b.links k).is_open ≡ (a.links k).is_open
-    pub fed : answer ≡ received.Fed → (piece : List ℕ) × (0 < length piece) × ((b.links k).received ≡ append_known (a.links k).received piece) × Feeds kind server piece old new × (b.idle ≡ 0)
+    pub fed : answer ≡ received.Fed → (piece : List ℕ) × (0 < length piece) × ((b.links k).received ≡ append_known (a.links k).received piece) × Feeds kind server piece old new × (b.idle ≡ 0) × (length piece ≤ 8192)
     pub end_ : answer ≡ received.End → ((b.links k).received ≡ (a.links k).received) × Holds (b.links k).ended true × (new ≡ old)
     pub not_yet : answer ≡ received.NotYet → ((b.links k).received ≡ (a.links k).received) × Rose (a.links k).stalls (b.links k).stalls × (new ≡ old)
     pub failed : answer ≡ received.Failed → ((b.links k).received ≡ (a.links k).received) × Rose a.faults b.faults × (new ≡ old)
-    pub starved : answer ≡ received.Starved → (piece : List ℕ) × ((b.links k).received ≡ append_known (a.links k).received piece)
+    pub starved : answer ≡ received.Starved → (piece : List ℕ) × ((b.links k).received ≡ append_known (a.links k).received piece) × (length piece ≤ 8192)
 
   -- all was sent, and the connection closes, or the link has ended
   pub record EndsInOrder (kind : Kind C Data Settings) (k : ℕ) (talk : Talk C) (wire : WireState) : Type 0 where
@@ -262,6 +284,7 @@ module _ {C Data Settings : Type 0} where
     pub same : accepted ≡ false → after ≡ len
     pub given : accepted ≡ true → GivesAccepted a.given a b
     pub none : accepted ≡ false → GivesNone a b
+    pub waits : b.waits ≡ a.waits
     pub faults : a.faults ≤ b.faults
     pub door : accepted ≡ false → (256 ≤ len) ⊎ Rose a.door_stalls b.door_stalls
 
@@ -278,9 +301,11 @@ module _ {C : Type 0} where
     pub links : (key : ℕ) (l : Live C) → key < n → at key ≡ Some l → HasTurned turned l.link old new
     pub rest : (key : ℕ) (l : Live C) → n ≤ key → at key ≡ Some l → new.links l.link ≡ old.links l.link
     pub moved : turned.moved ≡ true → (key : ℕ) × (l : Live C) × (key < n) × (at key ≡ Some l) × MovesOn l.link old new
+    pub ended : 0 < turned.ended → (key : ℕ) × (l : Live C) × (key < n) × (at key ≡ Some l) × ClosesOn l.link old new
     pub still : turned.moved ≡ false → (k : ℕ) → (new.links k).is_open ≡ true → StaysOn k old new
     pub idle : (turned.moved ≡ true) ⊎ (old.idle ≡ 0) → new.idle ≡ 0
     pub given : new.given ≡ old.given
+    pub waits : new.waits ≡ old.waits
     pub listens : new.listens ≡ old.listens
     pub door_stalls : new.door_stalls ≡ old.door_stalls
     pub faults : old.faults ≤ new.faults
@@ -289,19 +314,23 @@ module _ {C : Type 0} where
   pub record StepsAll (turned : Turned) (at : ℕ → Option (Live C)) (old new : WireState) : Type 0 where
     pub links : (key : ℕ) (l : Live C) → at key ≡ Some l → HasTurned turned l.link old new
     pub moved : turned.moved ≡ true → (key : ℕ) × (l : Live C) × (at key ≡ Some l) × MovesOn l.link old new
+    pub ended : 0 < turned.ended → (key : ℕ) × (l : Live C) × (at key ≡ Some l) × ClosesOn l.link old new
     pub still : turned.moved ≡ false → (k : ℕ) → (new.links k).is_open ≡ true → StaysOn k old new
     pub idle : (turned.moved ≡ true) ⊎ (old.idle ≡ 0) → new.idle ≡ 0
     pub given : new.given ≡ old.given
+    pub waits : new.waits ≡ old.waits
     pub listens : new.listens ≡ old.listens
     pub door_stalls : new.door_stalls ≡ old.door_stalls
     pub faults : old.faults ≤ new.faults
 
-  -- No idling: each live link was called on, and the door, unless enough connections are live. And what the answer says of moves: bytes moved on a live link or a link was accepted; or nothing was accepted, and no byte moved on a link that is still open.
+  -- No idling: each live link was called on, and the door, unless enough connections are live; and nothing waited. And what the answer says: bytes moved on a live link or a link was accepted; or nothing was accepted, and no byte moved on a link that is still open; and where it counts an end, a link was closed that was live or was accepted.
   pub record IsBusy (most : ℕ) (turned : Turned) (at : ℕ → Option (Live C)) (live : ℕ) (old new : WireState) : Type 0 where
     pub links : (key : ℕ) (l : Live C) → at key ≡ Some l → HasTurned turned l.link old new
     pub door : (most ≤ live) ⊎ (((turned.moved ≡ true) × (new.given ≡ old.given + 1)) ⊎ Rose old.door_stalls new.door_stalls)
     pub moved : turned.moved ≡ true → (new.given ≡ old.given + 1) ⊎ ((key : ℕ) × (l : Live C) × (at key ≡ Some l) × MovesOn l.link old new)
     pub still : turned.moved ≡ false → (new.given ≡ old.given) × ((k : ℕ) → (new.links k).is_open ≡ true → StaysOn k old new)
+    pub ended : 0 < turned.ended → (k : ℕ) × ((new.links k).is_open ≡ false) × (IsFresh k old new ⊎ IsOwned at k)
+    pub waits : new.waits ≡ old.waits
 
   -- the link of a connection was closed, and no other was touched; or nothing was called
   abbrev pub ClosesAt : Option (Live C) → WireState → WireState → Type 0
@@ -314,6 +343,7 @@ module _ {C : Type 0} where
     pub told : (k : ℕ) → TellsSame (a.links k) (b.links k)
     pub others : (k : ℕ) → ((key : ℕ) (l : Live C) → key < n → at key ≡ Some l → l.link ≢ k) → b.links k ≡ a.links k
     pub given : b.given ≡ a.given
+    pub waits : b.waits ≡ a.waits
     pub faults : b.faults ≡ a.faults
 
   -- the links of all live connections were closed, and no other was touched
@@ -322,4 +352,5 @@ module _ {C : Type 0} where
     pub told : (k : ℕ) → TellsSame (a.links k) (b.links k)
     pub others : (k : ℕ) → ((key : ℕ) (l : Live C) → at key ≡ Some l → l.link ≢ k) → b.links k ≡ a.links k
     pub given : b.given ≡ a.given
+    pub waits : b.waits ≡ a.waits
     pub faults : b.faults ≡ a.faults

@@ -1,11 +1,12 @@
 // A service: turns, and waits where a turn did nothing.
-ghost use Rattle.std.specs.Prelude.{ℕ, ◌≡◌, ◌+◌, ◌-◌, ◌≤◌, ◌<◌, ◌⊎◌, List, IfOk, OnOk, OnErr, IfErr, IfSome, None, Some, true, false, ◌↔◌};
+ghost use Rattle.std.specs.Prelude.{ℕ, ◌≡◌, ◌+◌, ◌-◌, ◌≤◌, ◌<◌, ◌^◌, ◌⊎◌, List, IfOk, OnOk, OnErr, IfErr, IfSome, None, Some, true, false, ◌↔◌};
 ghost use Rattle.tpf_base.specs.Causes.{Rose, counted};
 ghost use Rattle.connections.specs.Versions.{IsHistory};
 ghost use Rattle.serve_loop.specs.Traffic.{Traffic, Moment};
 ghost use Rattle.serve_loop.specs.Held.{held, held_count};
 ghost use Rattle.serve_loop.specs.Relates.{Relates, SuitsWire};
 ghost use Rattle.serve_loop.specs.Sentence.{Sentence, SpeaksWhole, AllClosed};
+ghost use Rattle.serve_loop.specs.Service.{ServesTurns, FailsTurns};
 ghost use Rattle.serve_loop.specs.Steps.{Carries, ServesTo, RestsWire, served_with};
 
 use crate::live::{ServeFault, Served, Turned};
@@ -20,6 +21,7 @@ fn rest<W: Wire>(wire: &mut W, turned: Turned) -> Result<(), ServeFault>
     ensures only { RestsWire (W.state wire.old) (W.state wire.new) }
     ensures busy { (turned.moved ≡ true) ⊎ (0 < turned.ended) → W.state wire.new ≡ W.state wire.old }
     ensures waits { turned.moved ≡ false → turned.ended ≡ 0 → (W.state wire.new).waits ≡ counted (W.state wire.old).waits }
+    ensures idle { OnErr result ((turned.moved ≡ false) × (turned.ended ≡ 0)) }
     ensures wire { IfErr result (λ fault. fault ≡ ServeFault.Wire → Rose (W.state wire.old).faults (W.state wire.new).faults) }
 {
     if turned.moved || turned.ended > 0 {
@@ -37,6 +39,7 @@ fn is_reached(stop_after: Option<u64>, connections: u64) -> bool
     ensures reached { result ≡ true → IfSome stop_after (λ most. most ≤ connections) }
     ensures some { result ≡ true → stop_after ≡ None → ⊥ }
     ensures fewer { result ≡ false → IfSome stop_after (λ most. connections < most) }
+    ensures fits { IfSome stop_after (λ most. most < 2 ^ 64) }
 {
     match stop_after {
         None => false,
@@ -66,7 +69,8 @@ fn serve_on<R: Wait, C: Converses, S: Supply<C::Server>, W: Accept>(
     stop_after: Option<u64>,
 ) -> Result<Served, ServeFault>
     requires listens { (W.state wire.old).listens ≡ true }
-    requires few { held_count connections.old ≤ 256 }
+    requires empty { held_count connections.old ≡ 0 }
+    requires none { (key : ℕ) → held connections.old key ≡ None }
     requires suits { SuitsWire C.Suits server.old (λ key. held connections.old key) (W.state wire.old) }
     ensures listens { (W.state wire.new).listens ≡ true }
     ensures suits { SuitsWire C.Suits server.new (λ key. held connections.new key) (W.state wire.new) }
@@ -79,6 +83,8 @@ fn serve_on<R: Wait, C: Converses, S: Supply<C::Server>, W: Accept>(
         → ServesTo C.kind (S.may supply.old) first since t served (held connections.new) (held_count connections.new)
         (record { served = C.Server.serving server.old; faults = S.faults supply.old; left = S.left supply.old; wire = W.state wire.old })
         (record { served = C.Server.serving server.new; faults = S.faults supply.new; left = S.left supply.new; wire = W.state wire.new })) }
+    ensures turns { IfOk result (λ served. ServesTurns stop_after served.connections (W.state wire.old) (W.state wire.new)) }
+    ensures fails { OnErr result (FailsTurns stop_after (W.state wire.old) (W.state wire.new)) }
     ensures stops { IfOk result (λ served. IfSome stop_after (λ most. most ≤ served.connections)) }
     ensures first { IfOk result (λ served. IfSome stop_after (λ most. served.connections ≤ (most - 1) + 256)) }
     ensures never { OnOk result (stop_after ≡ None → ⊥) }
@@ -128,6 +134,8 @@ pub fn serve<R: Wait, C: Converses, S: Supply<C::Server>, W: Accept>(
         (record { served = C.Server.serving server.new; faults = S.faults supply.new; left = S.left supply.new; wire = W.state wire.new })
         (W.state wire.old).faults served.connections served.starved) }
     ensures closed { AllClosed (W.state wire.old) (W.state wire.new) }
+    ensures turns { IfOk result (λ served. ServesTurns stop_after served.connections (W.state wire.old) (W.state wire.new)) }
+    ensures fails { OnErr result (FailsTurns stop_after (W.state wire.old) (W.state wire.new)) }
     ensures stops { IfOk result (λ served. IfSome stop_after (λ most. most ≤ served.connections)) }
     ensures first { IfOk result (λ served. IfSome stop_after (λ most. served.connections ≤ (most - 1) + 256)) }
     ensures never { OnOk result (stop_after ≡ None → ⊥) }

@@ -7,6 +7,7 @@ ghost use Rattle.connections.specs.Versions.{Serving, MOST_VERSIONS};
 ghost use Rattle.connections.specs.Kinds.{Takes, Feeds, IsOutcome};
 ghost use Rattle.serve_loop.specs.Traffic.{Traffic, Moment};
 ghost use Rattle.serve_loop.specs.Relates.{Relates};
+ghost use Rattle.serve_loop.specs.Asks.{AnswersAt};
 ghost use Rattle.serve_loop.specs.Steps.{Supplies, StepsOn, StepsLink, Prepares, HasCalled, CallsOnly, Hears, IsReady, left_by};
 
 use crate::live::{Live, Stepped};
@@ -73,6 +74,7 @@ fn receive<C: Converses, W: Wire>(
     wire: &mut W,
 ) -> Received
     requires room { 0 < length buffer.old }
+    requires most { length buffer.old ≤ 8192 }
     requires is_open { ((W.state wire.old).links live.old.link).is_open ≡ true }
     requires suits { C.Suits server.now live.old.connection }
     requires idle { C.kind.wants live.old.connection ≡ false }
@@ -104,6 +106,9 @@ fn answer_reload<C: Converses, S: Supply<C::Server>>(
     ensures prepares { (wire : WireState) → Prepares C.kind (S.may supply.old) live.old live.new (is_ok result)
         (record { served = C.Server.serving server.old; faults = S.faults supply.old; left = S.left supply.old; wire = wire })
         (record { served = C.Server.serving server.new; faults = S.faults supply.new; left = S.left supply.new; wire = wire }) }
+    ensures asks { (wire : WireState) → AnswersAt C.kind (S.may supply.old) (Some live.old)
+        (record { served = C.Server.serving server.old; faults = S.faults supply.old; left = S.left supply.old; wire = wire })
+        (record { served = C.Server.serving server.new; faults = S.faults supply.new; left = S.left supply.new; wire = wire }) }
     ensures link { live.new.link ≡ live.old.link }
     ensures owes { OnOk result (C.kind.owes live.new.connection ≡ true) }
     ensures suits { OnOk result (C.Suits server.new live.new.connection) }
@@ -122,6 +127,9 @@ fn prepare<C: Converses, S: Supply<C::Server>>(
 ) -> Result<(), OutOfMemory>
     requires suits { C.Suits server.old live.old.connection }
     ensures prepares { (wire : WireState) → Prepares C.kind (S.may supply.old) live.old live.new (is_ok result)
+        (record { served = C.Server.serving server.old; faults = S.faults supply.old; left = S.left supply.old; wire = wire })
+        (record { served = C.Server.serving server.new; faults = S.faults supply.new; left = S.left supply.new; wire = wire }) }
+    ensures asks { (wire : WireState) → AnswersAt C.kind (S.may supply.old) (Some live.old)
         (record { served = C.Server.serving server.old; faults = S.faults supply.old; left = S.left supply.old; wire = wire })
         (record { served = C.Server.serving server.new; faults = S.faults supply.new; left = S.left supply.new; wire = wire }) }
     ensures link { live.new.link ≡ live.old.link }
@@ -176,6 +184,7 @@ fn receive_step<C: Converses, W: Wire>(
     wire: &mut W,
 ) -> Stepped
     requires room { 0 < length buffer.old }
+    requires most { length buffer.old ≤ 8192 }
     requires is_open { ((W.state wire.old).links live.old.link).is_open ≡ true }
     requires suits { C.Suits server.now live.old.connection }
     requires ready { IsReady C.kind live.old.connection }
@@ -218,12 +227,16 @@ pub fn step<C: Converses, S: Supply<C::Server>, W: Wire>(
     wire: &mut W,
 ) -> Stepped
     requires room { 0 < length buffer.old }
+    requires most { length buffer.old ≤ 8192 }
     requires is_open { ((W.state wire.old).links live.old.link).is_open ≡ true }
     requires suits { C.Suits server.old live.old.connection }
     ensures room { length buffer.new ≡ length buffer.old }
     ensures steps { StepsOn C.kind (S.may supply.old) live.old live.new result
         (record { served = C.Server.serving server.old; faults = S.faults supply.old; left = S.left supply.old; wire = W.state wire.old })
         (record { served = C.Server.serving server.new; faults = S.faults supply.new; left = S.left supply.new; wire = W.state wire.new }) }
+    ensures asks { (same : WireState) → AnswersAt C.kind (S.may supply.old) (Some live.old)
+        (record { served = C.Server.serving server.old; faults = S.faults supply.old; left = S.left supply.old; wire = same })
+        (record { served = C.Server.serving server.new; faults = S.faults supply.new; left = S.left supply.new; wire = same }) }
     ensures called { HasCalled result live.old.link (W.state wire.old) (W.state wire.new) }
     ensures only { CallsOnly live.old.link (W.state wire.old) (W.state wire.new) }
     ensures kept { live.new.link ≡ live.old.link }

@@ -1,11 +1,13 @@
 // Turns over the live connections.
-ghost use Rattle.std.specs.Prelude.{ℕ, ◌≡◌, ◌≢◌, ◌+◌, ◌<◌, ◌≤◌, ◌^◌, List, length, IfOk, OnOk, OnErr, IfErr, Option, Some, None, true, ◌↔◌};
+ghost use Rattle.std.specs.Prelude.{ℕ, ◌≡◌, ◌≢◌, ◌+◌, ◌<◌, ◌≤◌, ◌^◌, List, [], length, IfOk, OnOk, OnErr, IfErr, Option, Some, None, true, ◌↔◌};
 ghost use Rattle.slab.specs.Slab.{get, slab_len};
 ghost use Rattle.tpf_base.specs.Causes.{Rose};
+ghost use Rattle.tpf_base.specs.Links.{WireState};
 ghost use Rattle.tpf_base.specs.Calls.{GivesNone};
 ghost use Rattle.connections.specs.Versions.{IsHistory};
 ghost use Rattle.serve_loop.specs.Traffic.{Traffic, Moment, no_traffic};
 ghost use Rattle.serve_loop.specs.Relates.{Relates, SuitsWire};
+ghost use Rattle.serve_loop.specs.Asks.{AnswersAt, AnswersAll, AreAnswered};
 ghost use Rattle.serve_loop.specs.Sentence.{Sentence, SpeaksWhole};
 ghost use Rattle.serve_loop.specs.Steps.{TurnsTo, IsBusy, StepsAll, CallsAt, ClosesAt, Welcomes, LeavesAll, ends, turned_by, turned_with};
 
@@ -46,6 +48,7 @@ fn welcome<C: Converses, W: Accept>(
     ensures len { OnErr result (slab_len live.new ≡ slab_len live.old) }
     ensures none { OnErr result (GivesNone (W.state wire.old) (W.state wire.new)) }
     ensures later { (W.state wire.old).faults ≤ (W.state wire.new).faults }
+    ensures waits { (W.state wire.new).waits ≡ (W.state wire.old).waits }
     ensures wire { IfErr result (λ fault. fault ≡ ServeFault.Wire → Rose (W.state wire.old).faults (W.state wire.new).faults) }
 {
     if live.len() >= MOST_LIVE {
@@ -90,6 +93,7 @@ fn step_at<C: Converses, S: Supply<C::Server>, W: Wire>(
     wire: &mut W,
 ) -> Option<Stepped>
     requires room { 0 < length buffer.old }
+    requires most { length buffer.old ≤ 8192 }
     requires suits { SuitsWire C.Suits server.old (λ key. get live.old key) (W.state wire.old) }
     ensures room { length buffer.new ≡ length buffer.old }
     ensures suits { SuitsWire C.Suits server.new (λ key. get live.new key) (W.state wire.new) }
@@ -100,6 +104,9 @@ fn step_at<C: Converses, S: Supply<C::Server>, W: Wire>(
         → TurnsTo C.kind (S.may supply.old) first since t (turned_by result) (get live.new) (slab_len live.new)
         (record { served = C.Server.serving server.old; faults = S.faults supply.old; left = S.left supply.old; wire = W.state wire.old })
         (record { served = C.Server.serving server.new; faults = S.faults supply.new; left = S.left supply.new; wire = W.state wire.new }) }
+    ensures asks { (same : WireState) → AnswersAt C.kind (S.may supply.old) (get live.old key)
+        (record { served = C.Server.serving server.old; faults = S.faults supply.old; left = S.left supply.old; wire = same })
+        (record { served = C.Server.serving server.new; faults = S.faults supply.new; left = S.left supply.new; wire = same }) }
     ensures calls { CallsAt (get live.old key) result (W.state wire.old) (W.state wire.new) }
     ensures follows { C.Server.Follows server.old server.new }
     ensures same { (data_set : C.Server.Data) → S.may supply.new data_set ↔ S.may supply.old data_set }
@@ -150,6 +157,7 @@ fn step_all<C: Converses, S: Supply<C::Server>, W: Wire>(
     wire: &mut W,
 ) -> Turned
     requires room { 0 < length buffer.old }
+    requires most { length buffer.old ≤ 8192 }
     requires few { slab_len live.old ≤ 256 }
     requires suits { SuitsWire C.Suits server.old (λ key. get live.old key) (W.state wire.old) }
     ensures suits { SuitsWire C.Suits server.new (λ key. get live.new key) (W.state wire.new) }
@@ -159,6 +167,9 @@ fn step_all<C: Converses, S: Supply<C::Server>, W: Wire>(
         → TurnsTo C.kind (S.may supply.old) first since t result (get live.new) (slab_len live.new)
         (record { served = C.Server.serving server.old; faults = S.faults supply.old; left = S.left supply.old; wire = W.state wire.old })
         (record { served = C.Server.serving server.new; faults = S.faults supply.new; left = S.left supply.new; wire = W.state wire.new }) }
+    ensures asks { (same : WireState) → AnswersAll C.kind (S.may supply.old) (get live.old)
+        (record { served = C.Server.serving server.old; faults = S.faults supply.old; left = S.left supply.old; wire = same })
+        (record { served = C.Server.serving server.new; faults = S.faults supply.new; left = S.left supply.new; wire = same }) }
     ensures all { StepsAll result (get live.old) (W.state wire.old) (W.state wire.new) }
     ensures follows { C.Server.Follows server.old server.new }
     ensures same { (data_set : C.Server.Data) → S.may supply.new data_set ↔ S.may supply.old data_set }
@@ -185,6 +196,7 @@ fn turn_over<C: Converses, S: Supply<C::Server>, W: Accept>(
     wire: &mut W,
 ) -> Result<Turned, ServeFault>
     requires room { 0 < length buffer.old }
+    requires most { length buffer.old ≤ 8192 }
     requires listens { (W.state wire.old).listens ≡ true }
     requires few { slab_len live.old ≤ 256 }
     requires suits { SuitsWire C.Suits server.old (λ key. get live.old key) (W.state wire.old) }
@@ -196,11 +208,18 @@ fn turn_over<C: Converses, S: Supply<C::Server>, W: Accept>(
         → TurnsTo C.kind (S.may supply.old) first since t turned (get live.new) (slab_len live.new)
         (record { served = C.Server.serving server.old; faults = S.faults supply.old; left = S.left supply.old; wire = W.state wire.old })
         (record { served = C.Server.serving server.new; faults = S.faults supply.new; left = S.left supply.new; wire = W.state wire.new })) }
+    ensures asks { IfOk result (λ turned. (same : WireState) → AnswersAll C.kind (S.may supply.old) (get live.old)
+        (record { served = C.Server.serving server.old; faults = S.faults supply.old; left = S.left supply.old; wire = same })
+        (record { served = C.Server.serving server.new; faults = S.faults supply.new; left = S.left supply.new; wire = same })) }
+    ensures unasked { OnErr result ((same : WireState) → AreAnswered (S.may supply.old) []
+        (record { served = C.Server.serving server.old; faults = S.faults supply.old; left = S.left supply.old; wire = same })
+        (record { served = C.Server.serving server.new; faults = S.faults supply.new; left = S.left supply.new; wire = same })) }
     ensures busy { IfOk result (λ turned. IsBusy 256 turned (get live.old) (slab_len live.old) (W.state wire.old) (W.state wire.new)) }
     ensures idle { IfOk result (λ turned. turned.moved ≡ true → (W.state wire.new).idle ≡ 0) }
     ensures count { IfOk result (λ turned. slab_len live.new + turned.ended + (W.state wire.old).given ≡ slab_len live.old + (W.state wire.new).given) }
     ensures most { IfOk result (λ turned. turned.ended ≤ 256) }
     ensures later { (W.state wire.old).faults ≤ (W.state wire.new).faults }
+    ensures waits { (W.state wire.new).waits ≡ (W.state wire.old).waits }
     ensures err { OnErr result ((first : List C.Server.Data) (since : Moment C.Server.Data C.Server.Settings) (t : Traffic C C.Server.Data) → Relates C.kind (S.may supply.old) first since t (get live.old) (slab_len live.old)
         (record { served = C.Server.serving server.old; faults = S.faults supply.old; left = S.left supply.old; wire = W.state wire.old })
         → Relates C.kind (S.may supply.old) first since t (get live.new) (slab_len live.new)
@@ -310,11 +329,18 @@ impl<C: Converses> Loop<C> {
             → SpeaksWhole C.kind (S.may supply.old) first since
             (record { served = C.Server.serving server.new; faults = S.faults supply.new; left = S.left supply.new; wire = W.state wire.new })
             (W.state wire.old).faults turned.ended turned.starved) }
+        ensures asks { IfOk result (λ turned. (same : WireState) → AnswersAll C.kind (S.may supply.old) (held self.old)
+            (record { served = C.Server.serving server.old; faults = S.faults supply.old; left = S.left supply.old; wire = same })
+            (record { served = C.Server.serving server.new; faults = S.faults supply.new; left = S.left supply.new; wire = same })) }
+        ensures unasked { OnErr result ((same : WireState) → AreAnswered (S.may supply.old) []
+            (record { served = C.Server.serving server.old; faults = S.faults supply.old; left = S.left supply.old; wire = same })
+            (record { served = C.Server.serving server.new; faults = S.faults supply.new; left = S.left supply.new; wire = same })) }
         ensures busy { IfOk result (λ turned. IsBusy 256 turned (held self.old) (held_count self.old) (W.state wire.old) (W.state wire.new)) }
         ensures idle { IfOk result (λ turned. turned.moved ≡ true → (W.state wire.new).idle ≡ 0) }
         ensures count { IfOk result (λ turned. held_count self.new + turned.ended + (W.state wire.old).given ≡ held_count self.old + (W.state wire.new).given) }
         ensures most { IfOk result (λ turned. turned.ended ≤ 256) }
         ensures later { (W.state wire.old).faults ≤ (W.state wire.new).faults }
+        ensures waits { (W.state wire.new).waits ≡ (W.state wire.old).waits }
         ensures err { OnErr result ((first : List C.Server.Data) (since : Moment C.Server.Data C.Server.Settings) (t : Traffic C C.Server.Data) → Relates C.kind (S.may supply.old) first since t (held self.old) (held_count self.old)
             (record { served = C.Server.serving server.old; faults = S.faults supply.old; left = S.left supply.old; wire = W.state wire.old })
             → Relates C.kind (S.may supply.old) first since t (held self.new) (held_count self.new)

@@ -1,6 +1,7 @@
 -- A loop without connections begins, takes its turns, and closes the links that are left.
-use Rattle.std.proofs.Common.{refl, sym, ◌∙◌, ap, subst, ℕ, ◌+◌, ◌≤◌}
+use Rattle.std.proofs.Common.{sym, subst, ℕ, ◌+◌, ◌≤◌}
 use Rattle.serve_loop.proofs.ServeLemmas.{begins_at, sentence_left, whole_left, closed_left, links_given, some_history, if_ok_map}
+use Rattle.serve_loop.proofs.ServiceLemmas.{serves_left, fails_left, on_err_map}
 use Rattle.serve_loop.proofs.service.serve.Goals as goal
 
 pub returns-clause-prefixes : goal.returns-clause-prefixes
@@ -22,3 +23,9 @@ returns-clause-links g c =
     let s = some_history (g.C.Server.Serves.serving c.args.server.now) (g.met.C.Server.Serves.numbered c.args.server.now) in
     if_ok_map c.serve_on-served.result _ _ (λ served f. subst (λ (n : ℕ). (g.W.Wire.state c.args.wire.now).given + served.connections ≤ n) (sym c.close.ensures.leaves.given)
     (links_given _ _ s.0 _ served _ _ _ _ (f s.0 _ _ (begins_at _ _ s.0 _ _ _ _ _ _ c.new-connections.ensures.len c.new-connections.ensures.none s.1)))) c.serve_on-served.ensures.serves
+
+pub returns-clause-turns : goal.returns-clause-turns
+returns-clause-turns g c = if_ok_map c.serve_on-served.result _ _ (λ served s. serves_left c.args.stop_after served.connections _ _ _ c.close.ensures.leaves.waits s) c.serve_on-served.ensures.turns
+
+pub returns-clause-fails : goal.returns-clause-fails
+returns-clause-fails g c = on_err_map c.serve_on-served.result _ _ (λ s. fails_left c.args.stop_after _ _ _ c.close.ensures.leaves.waits s) c.serve_on-served.ensures.fails

@@ -1,15 +1,19 @@
 -- Each turn, and each wait, is one more.
-use Rattle.std.proofs.Common.{refl, sym, ◌∙◌, ap, arith}
+use Rattle.std.proofs.Common.{◌∙◌, ap, arith}
 use Rattle.std.proofs.lemmas.Result.{err_from_is_err_and}
 use Rattle.serve_loop.proofs.ServeLemmas.{serves_none, serves_turn, serves_rest, serves_carries, serves_fault, suits_rests, less_if, first_if, zero_if, wire_from, later_then}
+use Rattle.serve_loop.proofs.WelcomeLemmas.{on_err}
+use Rattle.serve_loop.proofs.ServeLemmas.{some_history, begins_at}
+use Rattle.serve_loop.proofs.ServiceLemmas.{so_far_none, so_far_more, takes_turn, serves_turns, fails_turn, fails_wait}
 use Rattle.serve_loop.proofs.service.serve_on.Goals as goal
 
 pub loop-init : goal.loop-init
 loop-init g c = record {
   listens = c.requires.listens;
-  few = c.requires.few;
+  few = omega (arith, c.requires.empty);
   suits = c.requires.suits;
   serves = λ first since t r. serves_none _ _ _ _ _ _ _ _ r;
+  so_far = so_far_none c.args.stop_after _ _ c.requires.empty;
   fewer = zero_if c.args.stop_after;
   later = omega arith;
   follows = g.met.C.Server.Serves.follows_itself c.args.server.now;
@@ -23,6 +27,13 @@ loop-preserved g c = record {
   suits = suits_rests _ _ _ _ _ c.in_ok-rest.ensures.only c.in_ok-turned.ensures.suits;
   serves = λ first since t r. serves_rest _ _ _ _ _ _ _ _ _ _ _ _ _ _ c.in_ok-rest.ensures.only
       (serves_turn _ _ _ _ _ _ c.loop.served _ _ _ _ _ _ _ _ _ c.loop.invariant.same c.with-served.ensures (c.loop.invariant.serves first since t r) (λ u q. c.in_ok-turned.ensures.turns first since u q));
+  so_far =
+      let s = some_history (g.C.Server.Serves.serving c.args.server.now) (g.met.C.Server.Serves.numbered c.args.server.now) in
+      let p = c.loop.invariant.serves s.0 _ _ (begins_at _ _ s.0 _ _ _ _ _ _ c.requires.empty c.requires.none s.1) in
+      let turn = takes_turn _ _ _ _ _ _ c.in_ok-turned.turned _ _ _ _ p.relates c.loop.invariant.so_far.links c.in_ok-turned.ensures.busy c.in_ok-turned.ensures.idle in
+      so_far_more c.args.stop_after c.loop.served.connections _ _ _ c.in_ok-turned.turned _ _ _ _ c.loop.invariant.so_far turn
+      (record { only = c.in_ok-rest.ensures.only; busy = c.in_ok-rest.ensures.busy; waits = c.in_ok-rest.ensures.waits })
+      (ap (λ s. s.connections) c.with-served.ensures) c.in_ok-turned.ensures.count c.is_reached.ensures.fits (c.is_reached.ensures.fewer c.if-is_reached.false);
   fewer = less_if c.args.stop_after _ (c.is_reached.ensures.fewer c.if-is_reached.false);
   later = later_then _ _ _ c.loop.invariant.later (later_then _ _ _ c.in_ok-turned.ensures.later c.in_ok-rest.ensures.only.faults);
   follows = g.met.C.Server.Serves.follows_then _ _ _ c.loop.invariant.follows c.in_ok-turned.ensures.follows;
@@ -63,3 +74,21 @@ pub returns-in_err-rest-clause-wire : goal.returns-in_err-rest-clause-wire
 returns-in_err-rest-clause-wire g c =
     let p = err_from_is_err_and c.from_residual-in_err-rest.result c.from_residual-in_err-rest.ensures.1 in
     wire_from _ _ p.0 _ _ _ p.1 p.2 (later_then _ _ _ c.loop.invariant.later c.in_ok-turned.ensures.later) c.in_err-rest.ensures.wire
+
+pub returns-then-is_reached-clause-turns : goal.returns-then-is_reached-clause-turns
+returns-then-is_reached-clause-turns g c =
+    let s = some_history (g.C.Server.Serves.serving c.args.server.now) (g.met.C.Server.Serves.numbered c.args.server.now) in
+    let p = c.loop.invariant.serves s.0 _ _ (begins_at _ _ s.0 _ _ _ _ _ _ c.requires.empty c.requires.none s.1) in
+    serves_turns c.args.stop_after c.loop.served.connections _ _ c.in_ok-turned.turned _ _ _ c.loop.invariant.so_far (takes_turn _ _ _ _ _ _ c.in_ok-turned.turned _ _ _ _ p.relates c.loop.invariant.so_far.links c.in_ok-turned.ensures.busy c.in_ok-turned.ensures.idle)
+    (ap (λ s. s.connections) c.with-served.ensures)
+
+pub returns-in_err-turned-clause-fails : goal.returns-in_err-turned-clause-fails
+returns-in_err-turned-clause-fails g c = on_err c.from_residual.result _ (fails_turn c.args.stop_after c.loop.served.connections _ _ _ _ c.loop.invariant.so_far c.in_err-turned.ensures.waits)
+
+pub returns-in_err-rest-clause-fails : goal.returns-in_err-rest-clause-fails
+returns-in_err-rest-clause-fails g c =
+    let s = some_history (g.C.Server.Serves.serving c.args.server.now) (g.met.C.Server.Serves.numbered c.args.server.now) in
+    let p = c.loop.invariant.serves s.0 _ _ (begins_at _ _ s.0 _ _ _ _ _ _ c.requires.empty c.requires.none s.1) in
+    let idle = c.in_err-rest.ensures.idle in
+    on_err c.from_residual-in_err-rest.result _ (fails_wait c.args.stop_after c.loop.served.connections _ c.in_ok-turned.turned _ _ _ _ c.loop.invariant.so_far
+    (takes_turn _ _ _ _ _ _ c.in_ok-turned.turned _ _ _ _ p.relates c.loop.invariant.so_far.links c.in_ok-turned.ensures.busy c.in_ok-turned.ensures.idle) idle.0 idle.1 (c.in_err-rest.ensures.waits idle.0 idle.1))

@@ -1,6 +1,7 @@
 -- A step of a key is a step of the traffic.
-use Rattle.std.proofs.Common.{refl, sym, ◌∙◌}
-use Rattle.serve_loop.proofs.TurnLemmas.{turns_none, turns_stays, turns_ends, suits_stays}
+use Rattle.std.proofs.Common.{sym}
+use Rattle.serve_loop.proofs.AskLemmas.{answers_vacant, answers_as}
+use Rattle.serve_loop.proofs.TurnLemmas.{turns_none, turns_stays, turns_ends, suits_stays, suits_ends}
 use Rattle.serve_loop.proofs.turn.step_at.Goals as goal
 
 pub returns-in-None-clause-turns : goal.returns-in-None-clause-turns
@@ -18,3 +19,17 @@ returns-else-ends-clause-suits g c = suits_stays _ _ _ c.args.live.now c.args.ke
 pub returns-else-ends-clause-turns : goal.returns-else-ends-clause-turns
 returns-else-ends-clause-turns g c = λ first since t r. turns_stays _ _ _ _ _ c.args.live.now c.args.key _ c.step-stepped.new.live c.step-stepped.result _ _
     c.step-stepped.ensures.steps (sym c.in-Some.ensures.value) c.if-ends.ensures r
+
+pub returns-in-None-clause-asks : goal.returns-in-None-clause-asks
+returns-in-None-clause-asks g c = λ w. answers_vacant _ _ _ _ (sym c.in-None.ensures.value)
+
+pub returns-then-ends-clause-asks : goal.returns-then-ends-clause-asks
+returns-then-ends-clause-asks g c = λ w. answers_as _ _ _ _ _ _ c.in-Some.ensures.value (c.step-stepped.ensures.asks w)
+
+pub returns-else-ends-clause-asks : goal.returns-else-ends-clause-asks
+returns-else-ends-clause-asks g c = λ w. answers_as _ _ _ _ _ _ c.in-Some.ensures.value (c.step-stepped.ensures.asks w)
+
+pub returns-then-ends-clause-suits : goal.returns-then-ends-clause-suits
+returns-then-ends-clause-suits g c = suits_ends _ _ _ c.args.live.now c.try_remove.new.self c.args.key _ c.step-stepped.new.live c.step-stepped.result _ _ c.requires.suits (sym c.in-Some.ensures.value) c.if-ends.ensures c.try_remove.ensures.updates
+    c.step-stepped.ensures.kept c.step-stepped.ensures.only.only c.step-stepped.ensures.is_open c.step-stepped.ensures.suits
+    (λ x h. g.met.C.Converses.stays c.args.server.now c.step-stepped.new.server x c.step-stepped.ensures.follows h)

@@ -1,6 +1,7 @@
 -- What the door did, and then the steps.
 use Rattle.std.proofs.Common.{refl, ◌∙◌}
 use Rattle.std.proofs.lemmas.Result.{err_from_is_err_and}
+use Rattle.serve_loop.proofs.AskLemmas.{answers_welcomed}
 use Rattle.serve_loop.proofs.WelcomeLemmas.{welcomed, unwelcomed, turns_after, busy, or_true, or_else}
 use Rattle.serve_loop.proofs.turn.turn_over.Goals as goal
 
@@ -23,3 +24,9 @@ returns-else-accepted-clause-busy g c = busy _ c.step_all-turned.result _ _ _ _ 
 pub returns-in_err-accepted-clause-err : goal.returns-in_err-accepted-clause-err
 returns-in_err-accepted-clause-err g c = rw (err_from_is_err_and c.from_residual.result c.from_residual.ensures.1).1 (λ first since t r. unwelcomed _ _ _ _ _ _ _ _ _ _ _ _ _ _ c.in_err-accepted.ensures.err c.in_err-accepted.ensures.len c.in_err-accepted.ensures.none
     c.in_err-accepted.ensures.later c.requires.listens c.in_err-accepted.ensures.listens r)
+
+pub returns-then-accepted-clause-asks : goal.returns-then-accepted-clause-asks
+returns-then-accepted-clause-asks g c = λ w. answers_welcomed _ _ _ _ _ _ _ _ _ _ _ c.in_ok-accepted.ensures.welcomes (c.step_all-turned.ensures.asks w)
+
+pub returns-else-accepted-clause-asks : goal.returns-else-accepted-clause-asks
+returns-else-accepted-clause-asks g c = λ w. answers_welcomed _ _ _ _ _ _ _ _ _ _ _ c.in_ok-accepted.ensures.welcomes (c.step_all-turned.ensures.asks w)

@@ -1,5 +1,4 @@
 -- What a turn leaves says each link's prefix, and of those that ended the whole.
-use Rattle.std.proofs.Common.{refl}
 use Rattle.serve_loop.proofs.ServeLemmas.{sentence_either, speaks_turn}
 use Rattle.serve_loop.proofs.turn.Loop.turn.Goals as goal
 

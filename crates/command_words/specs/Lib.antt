@@ -1,5 +1,0 @@
-pub mod Apps
-pub mod Commands
-pub mod CommandViews
-pub mod Forms
-pub mod Words

@@ -1,3 +1,0 @@
-pub mod TermLists
-pub mod Outcomes
-pub mod Causes

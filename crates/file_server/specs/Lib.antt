@@ -1,2 +1,0 @@
-pub mod Supplies
-pub mod Servers
