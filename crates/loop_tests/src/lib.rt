@@ -1,5 +1,0 @@
-//! Tests of the loop over many connections.
-#![tactic(auto)]
-
-#[cfg(test)]
-mod served;
