@@ -1,0 +1,13 @@
+mod Addresses
+mod Found
+mod Joins
+mod LoneDash
+mod Loops
+mod Names
+mod Numbers
+mod Rules
+mod Shapes
+mod Walks
+mod Whole
+mod WordKinds
+mod WorkedWords

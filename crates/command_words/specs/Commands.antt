@@ -1,0 +1,208 @@
+-- The words of the command line: which command they are.
+use Rattle.std.specs.Prelude.{ℕ, Bool, true, false, not, List, [], ◌∷◌, ◌+◌, ◌-◌, ◌*◌, ◌&&◌, nat_le, length, is_some, Option, Some, None, if◌then◌else◌, codes}
+use Rattle.std.specs.List.{list_all}
+use Rattle.std.specs.Option.{option_map}
+use Rattle.std.specs.Str.{bytes_eq}
+use Rattle.list_laws.specs.Options.{◌>>=◌, when}
+use Rattle.rdf_terms.specs.Iri.{is_iri, is_digit}
+use Rattle.tpf_base.specs.Addresses.{Address}
+use Rattle.template_fill.specs.ReadAddress.{read_address}
+use Rattle.template_fill.specs.Configurations.{is_reload_path}
+use Rattle.triple_table.specs.declared.choice.Choice.{Choice}
+use Rattle.triple_table.specs.declared.choice.Choice.TheVariants.{DefaultGraph, Named, Union}
+use Rattle.command_words.specs.Words.{Form, Text, Values, arguments}
+use Rattle.command_words.specs.declared.command.ClientWords.{ClientWords}
+
+-- what the program is asked to do
+pub data Command : Type 0 where
+  -- to ask a query of a file of data, of which some graphs are served on pages of so many triples: the data, the query, the graphs, the page, the client's options, the seed, and each how-many-th dial fails
+  local : Text → Text → Choice → ℕ → ClientWords → ℕ → ℕ → Command
+  -- to ask a query of the server at an address
+  query : Address → Text → ClientWords → Command
+  -- to serve a file of data at a base: the data, the base, the graphs, the page, after how many connections to stop, and the path of a reload
+  serve : Text → Address → Choice → ℕ → Option ℕ → Option Text → Command
+  -- to write the data of so many persons, or to ask a query of them
+  make : ℕ → Option Text → Command
+
+-- ---- what may stand after the name of each command
+
+unfoldable pub local_form : Form
+local_form = record {
+  positionals = codes "FILE" ∷ codes "QUERYFILE" ∷ [];
+  options = codes "window" ∷ codes "links" ∷ codes "retries" ∷ codes "budget" ∷ codes "max-body" ∷ codes "page" ∷ codes "seed" ∷ codes "fail-every" ∷ codes "graph" ∷ [];
+  flags = codes "union" ∷ [];
+}
+
+unfoldable pub query_form : Form
+query_form = record {
+  positionals = codes "URL" ∷ codes "QUERYFILE" ∷ [];
+  options = codes "window" ∷ codes "links" ∷ codes "retries" ∷ codes "budget" ∷ codes "max-body" ∷ [];
+  flags = [];
+}
+
+unfoldable pub serve_form : Form
+serve_form = record {
+  positionals = codes "FILE" ∷ [];
+  options = codes "base" ∷ codes "page" ∷ codes "graph" ∷ codes "stop-after" ∷ codes "reload" ∷ [];
+  flags = codes "union" ∷ [];
+}
+
+unfoldable pub make_form : Form
+make_form = record {
+  positionals = codes "N" ∷ [];
+  options = codes "run" ∷ [];
+  flags = [];
+}
+
+-- ---- values
+
+-- 1 to 19 digits
+abbrev pub is_number : Text → Bool
+is_number text = list_all is_digit text && (nat_le 1 (length text) && nat_le (length text) 19)
+
+-- the number that digits write after those of n
+abbrev pub number_after : ℕ → Text → ℕ
+number_after n [] = n
+number_after n (digit ∷ digits) = number_after (n * 10 + (digit - 48)) digits
+
+-- the number that a text is, where it is in a range
+abbrev pub number_of : ℕ → ℕ → Text → Option ℕ
+number_of low high text = if is_number text && (nat_le low (number_after 0 text) && nat_le (number_after 0 text) high) then Some (number_after 0 text) else None
+
+-- the number that is given, or the usual one
+abbrev pub number_or : ℕ → ℕ → ℕ → Option Text → Option ℕ
+number_or low high usual None = Some usual
+number_or low high usual (Some text) = number_of low high text
+
+-- the number of an option: the least, the greatest, and that which stands for none
+abbrev pub number_in : Values → Text → ℕ → ℕ → ℕ → Option ℕ
+number_in values name low high usual = number_or low high usual (values name)
+
+-- a number that may be left out
+abbrev pub count_of : ℕ → ℕ → Option Text → Option (Option ℕ)
+count_of low high None = Some None
+count_of low high (Some text) = option_map (λ n. Some n) (number_of low high text)
+
+-- an address as it is typed has at most 2048 bytes
+abbrev pub url_of : Text → Option Address
+url_of text = when (nat_le (length text) 2048) text >>= read_address
+
+-- a base is an address without a query
+abbrev pub without_query : Option Address → Option Address
+without_query None = None
+without_query (Some address) = when (not (is_some address.query)) address
+
+abbrev pub base_of : Text → Option Address
+base_of text = without_query (url_of text)
+
+-- the path of a reload is a path that the base does not have
+abbrev pub reload_of : Address → Option Text → Option (Option Text)
+reload_of base None = Some None
+reload_of base (Some path) = when (is_reload_path base path) (Some path)
+
+abbrev pub is_true : Option Text → Bool
+is_true None = false
+is_true (Some value) = bytes_eq value (codes "true")
+
+-- the graphs chosen by the value of --graph and by --union: not both, and the value is an IRI with a scheme
+abbrev pub choice_of : Option Text → Bool → Option Choice
+choice_of None false = Some DefaultGraph
+choice_of None true = Some Union
+choice_of (Some name) false = if is_iri name then Some (Named name) else None
+choice_of (Some name) true = None
+
+-- ---- the arguments of each command
+
+abbrev pub choice_in : Values → Option Choice
+choice_in values = choice_of (values (codes "graph")) (is_true (values (codes "union")))
+
+abbrev pub page_in : Values → Option ℕ
+page_in values = number_in values (codes "page") 1 1000 100
+
+-- --window 1 to 10000, else 16; --links 1 to 256, else 8; --retries 0 to 100, else 2; --budget 1 to 10^12, else 10^6; --max-body 1 to 256 MiB, else 16 MiB
+abbrev pub client_in : Values → Option ClientWords
+client_in values = do
+  window ← number_in values (codes "window") 1 10000 16
+  links ← number_in values (codes "links") 1 256 8
+  retries ← number_in values (codes "retries") 0 100 2
+  budget ← number_in values (codes "budget") 1 1000000000000 1000000
+  max_body ← number_in values (codes "max-body") 1 268435456 16777216
+  Some (record { window = window; links = links; retries = retries; budget = budget; max_body = max_body })
+
+-- local FILE QUERYFILE; --seed to 9999999999999999999, else 0; --fail-every to 10^9, else 0, which is never
+abbrev pub local_with : Values → Option Choice → Option ClientWords → Option Command
+local_with values chosen asked = do
+  name ← values (codes "FILE")
+  query_name ← values (codes "QUERYFILE")
+  choice ← chosen
+  client ← asked
+  page ← page_in values
+  seed ← number_in values (codes "seed") 0 9999999999999999999 0
+  fail_every ← number_in values (codes "fail-every") 0 1000000000 0
+  Some (local name query_name choice page client seed fail_every)
+
+abbrev pub local_from : Values → Option Command
+local_from values = local_with values (choice_in values) (client_in values)
+
+-- query URL QUERYFILE
+abbrev pub query_with : Values → Option Address → Option ClientWords → Option Command
+query_with values address asked = do
+  url ← address
+  query_name ← values (codes "QUERYFILE")
+  client ← asked
+  Some (query url query_name client)
+
+abbrev pub query_from : Values → Option Command
+query_from values = query_with values (values (codes "URL") >>= url_of) (client_in values)
+
+-- serve FILE, with --base; --stop-after 1 to 10^9
+abbrev pub serve_with : Values → Option Choice → Address → Option Text → Option Command
+serve_with values chosen base reload = do
+  name ← values (codes "FILE")
+  choice ← chosen
+  page ← page_in values
+  stop_after ← count_of 1 1000000000 (values (codes "stop-after"))
+  Some (serve name base choice page stop_after reload)
+
+abbrev pub serve_from : Values → Option Command
+serve_from values = do
+  base ← values (codes "base") >>= base_of
+  reload ← reload_of base (values (codes "reload"))
+  serve_with values (choice_in values) base reload
+
+-- make N, 1 to 1000000
+abbrev pub make_from : Values → Option Command
+make_from values = do
+  count ← values (codes "N") >>= number_of 1 1000000
+  Some (make count (values (codes "run")))
+
+-- ---- the words after the name of each command
+
+abbrev pub words_of : Form → (Values → Option Command) → List Text → Option Command
+words_of form from words = arguments form words >>= from
+
+unfoldable pub local_of : List Text → Option Command
+local_of words = words_of local_form local_from words
+
+unfoldable pub query_of : List Text → Option Command
+query_of words = words_of query_form query_from words
+
+unfoldable pub serve_of : List Text → Option Command
+serve_of words = words_of serve_form serve_from words
+
+unfoldable pub make_of : List Text → Option Command
+make_of words = words_of make_form make_from words
+
+abbrev pub command_by : Text → List Text → Option Command
+command_by name words =
+    if bytes_eq name (codes "local") then local_of words
+    else (if bytes_eq name (codes "query") then query_of words
+    else (if bytes_eq name (codes "serve") then serve_of words
+    else (if bytes_eq name (codes "make") then make_of words
+    else None)))
+
+-- the command that the words are, if they are one; the first word is the program's name
+abbrev pub command_of : List Text → Option Command
+command_of (program ∷ name ∷ words) = command_by name words
+command_of (program ∷ []) = None
+command_of [] = None

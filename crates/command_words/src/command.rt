@@ -1,0 +1,67 @@
+// What the program is asked to do.
+use template_fill::WebAddress;
+use tpf_base::Text;
+use triple_table::Choice;
+
+/// The options with which a client asks.
+#[derive(Clone, Copy, Debug, PartialEq, Eq)]
+pub struct ClientWords {
+    /// `--window`: how many asks are under way at once, 1 to 10000; 16 where it is not given.
+    pub window: u32,
+    /// `--links`: how many connections are open at once, 1 to 256; 8 where it is not given.
+    pub links: u32,
+    /// `--retries`: how often a request that failed is sent again, 0 to 100; 2 where it is not given.
+    pub retries: u32,
+    /// `--budget`: how many exchanges are started at most, 1 to 1000000000000; 1000000 where it is
+    /// not given.
+    pub budget: u64,
+    /// `--max-body`: the most bytes of a reply's body, 1 to 268435456; 16777216 where it is not
+    /// given.
+    pub max_body: u64,
+}
+
+/// What the program is asked to do.
+#[derive(Drop)]
+pub enum Command<'a> {
+    /// `local FILE QUERYFILE`: to serve a file of data to a client in the same process, and to write
+    /// the answer of the query of another file.
+    Local {
+        name: &'a str,
+        query: &'a str,
+        /// `--graph IRI` or `--union`, and else the default graph.
+        choice: Choice,
+        /// `--page`: the most triples of a page, 1 to 1000; 100 where it is not given.
+        page: u64,
+        client: ClientWords,
+        /// `--seed`: of the random order of events, 0 to 9999999999999999999; 0 where it is not given.
+        seed: u64,
+        /// `--fail-every N`: each N-th dial fails, up to 1000000000; 0, as where it is not given, is
+        /// never.
+        fail_every: u64,
+    },
+    /// `query URL QUERYFILE`: to ask the query of a file of the server at an address.
+    Query {
+        url: WebAddress,
+        query: &'a str,
+        client: ClientWords,
+    },
+    /// `serve FILE --base URL`: to serve a file of data.
+    Serve {
+        name: &'a str,
+        /// An address without a query.
+        base: WebAddress,
+        choice: Choice,
+        page: u64,
+        /// `--stop-after`: after how many connections to stop, 1 to 1000000000, and else never.
+        stop_after: Option<u64>,
+        /// `--reload`: the path on which a request has the file read again, which is a written path
+        /// and not that of the base.
+        reload: Option<Text>,
+    },
+    /// `make N`: to write the data of so many persons, 1 to 1000000, or with `--run QUERYFILE` to ask
+    /// a query of them.
+    Make {
+        count: u32,
+        run: Option<&'a str>,
+    },
+}

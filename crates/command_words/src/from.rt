@@ -1,0 +1,367 @@
+// The arguments of each command.
+ghost use Rattle.std.specs.Prelude.{ℕ, ◌≡◌, ◌^◌, ◌≤◌, Option, Some, None, IfOk, IfSome, option_map, map, string_bytes};
+ghost use Rattle.command_words.specs.Apps.{found_in};
+ghost use Rattle.command_words.specs.Words.{arguments};
+ghost use Rattle.command_words.specs.Commands.{local_form, query_form, serve_form, make_form, number_in, client_in, choice_in, page_in, local_with, local_from, query_with, query_from, serve_with, serve_from, make_from, local_of, query_of, serve_of, make_of, command_by, command_of};
+ghost use Rattle.command_words.specs.CommandViews.{command_view};
+
+use crate::arguments::arguments_of;
+use crate::command::{ClientWords, Command};
+use crate::values::{
+    base_of, choice_of, count_of, is_true, number_of, number_or, reload_of, url_of,
+};
+use clap::ArgMatches;
+use std::alloc::Global;
+use template_fill::WebAddress;
+use tpf_base::{OutOfMemory, Text};
+use triple_table::Choice;
+
+/// The value of an argument in the words, where it has one.
+fn value_of<'a>(matches: &ArgMatches<'a>, name: &str) -> Option<&'a str>
+    ensures { option_map (λ v. v.now) result ≡ found_in matches.now name.now }
+{
+    matches.get_str(name)
+}
+
+/// The number of an option, or the usual one.
+fn number_in(matches: &ArgMatches<'_>, name: &str, low: u64, high: u64, usual: u64) -> Option<u64>
+    requires bound { high ≤ 10 ^ 19 }
+    requires usual { usual ≤ high }
+    ensures value { result ≡ number_in (found_in matches.now) name.now low high usual }
+    ensures within { IfSome result (λ n. n ≤ high) }
+{
+    number_or(value_of(matches, name), low, high, usual)
+}
+
+fn small_in(matches: &ArgMatches<'_>, name: &str, low: u32, high: u32, usual: u32) -> Option<u32>
+    requires { usual ≤ high }
+    ensures { result ≡ number_in (found_in matches.now) name.now low high usual }
+{
+    match number_in(
+        matches,
+        name,
+        u64::from(low),
+        u64::from(high),
+        u64::from(usual),
+    ) {
+        Some(n) => Some(n as u32),
+        None => None,
+    }
+}
+
+/// The client's options.
+fn client_in(matches: &ArgMatches<'_>) -> Option<ClientWords>
+    ensures { result ≡ client_in (found_in matches.now) }
+{
+    let window = small_in(matches, "window", 1, 10000, 16)?;
+    let links = small_in(matches, "links", 1, 256, 8)?;
+    let retries = small_in(matches, "retries", 0, 100, 2)?;
+    let budget = number_in(matches, "budget", 1, 1000000000000, 1000000)?;
+    let max_body = number_in(matches, "max-body", 1, 268435456, 16777216)?;
+    Some(ClientWords {
+        window,
+        links,
+        retries,
+        budget,
+        max_body,
+    })
+}
+
+/// The graphs that are chosen.
+fn choice_in(alloc: Global, matches: &ArgMatches<'_>) -> Result<Option<Choice>, OutOfMemory>
+    ensures { IfOk result (λ o. o ≡ choice_in (found_in matches.now)) }
+{
+    let union = is_true(value_of(matches, "union"));
+    choice_of(alloc, value_of(matches, "graph"), union)
+}
+
+fn page_in(matches: &ArgMatches<'_>) -> Option<u64>
+    ensures { result ≡ page_in (found_in matches.now) }
+{
+    number_in(matches, "page", 1, 1000, 100)
+}
+
+fn local_with<'a>(
+    matches: &ArgMatches<'a>,
+    choice: Option<Choice>,
+    client: Option<ClientWords>,
+) -> Option<Command<'a>>
+    ensures { option_map command_view result ≡ local_with (found_in matches.now) choice client }
+{
+    let name = value_of(matches, "FILE")?;
+    let query = value_of(matches, "QUERYFILE")?;
+    let choice = choice?;
+    let client = client?;
+    let page = page_in(matches)?;
+    let seed = number_in(matches, "seed", 0, 9999999999999999999, 0)?;
+    let fail_every = number_in(matches, "fail-every", 0, 1000000000, 0)?;
+    Some(Command::Local {
+        name,
+        query,
+        choice,
+        page,
+        client,
+        seed,
+        fail_every,
+    })
+}
+
+fn local_from<'a>(
+    alloc: Global,
+    matches: &ArgMatches<'a>,
+) -> Result<Option<Command<'a>>, OutOfMemory>
+    ensures { IfOk result (λ o. option_map command_view o ≡ local_from (found_in matches.now)) }
+{
+    let choice = choice_in(alloc, matches)?;
+    Ok(local_with(matches, choice, client_in(matches)))
+}
+
+fn query_with<'a>(
+    matches: &ArgMatches<'a>,
+    url: Option<WebAddress>,
+    client: Option<ClientWords>,
+) -> Option<Command<'a>>
+    ensures { option_map command_view result ≡ query_with (found_in matches.now) url client }
+{
+    let url = url?;
+    let query = value_of(matches, "QUERYFILE")?;
+    let client = client?;
+    Some(Command::Query { url, query, client })
+}
+
+fn query_from<'a>(
+    alloc: Global,
+    matches: &ArgMatches<'a>,
+) -> Result<Option<Command<'a>>, OutOfMemory>
+    ensures { IfOk result (λ o. option_map command_view o ≡ query_from (found_in matches.now)) }
+{
+    let Some(text) = value_of(matches, "URL") else {
+        return Ok(None);
+    };
+    let url = url_of(alloc, text)?;
+    Ok(query_with(matches, url, client_in(matches)))
+}
+
+fn serve_with<'a>(
+    matches: &ArgMatches<'a>,
+    choice: Option<Choice>,
+    base: WebAddress,
+    reload: Option<Text>,
+) -> Option<Command<'a>>
+    ensures { option_map command_view result ≡ serve_with (found_in matches.now) choice base reload }
+{
+    let name = value_of(matches, "FILE")?;
+    let choice = choice?;
+    let page = page_in(matches)?;
+    let stop_after = count_of(value_of(matches, "stop-after"), 1, 1000000000)?;
+    Some(Command::Serve {
+        name,
+        base,
+        choice,
+        page,
+        stop_after,
+        reload,
+    })
+}
+
+fn serve_from<'a>(
+    alloc: Global,
+    matches: &ArgMatches<'a>,
+) -> Result<Option<Command<'a>>, OutOfMemory>
+    ensures { IfOk result (λ o. option_map command_view o ≡ serve_from (found_in matches.now)) }
+{
+    let Some(text) = value_of(matches, "base") else {
+        return Ok(None);
+    };
+    let Some(base) = base_of(alloc, text)? else {
+        return Ok(None);
+    };
+    let Some(reload) = reload_of(alloc, &base, value_of(matches, "reload"))? else {
+        return Ok(None);
+    };
+    let choice = choice_in(alloc, matches)?;
+    Ok(serve_with(matches, choice, base, reload))
+}
+
+fn make_from<'a>(matches: &ArgMatches<'a>) -> Option<Command<'a>>
+    ensures { option_map command_view result ≡ make_from (found_in matches.now) }
+{
+    let text = value_of(matches, "N")?;
+    let count = number_of(text, 1, 1000000)?;
+    Some(Command::Make {
+        count: count as u32,
+        run: value_of(matches, "run"),
+    })
+}
+
+// ---- the words after the name of each command
+
+static FILE_AND_QUERY: [&str; 2] = ["FILE", "QUERYFILE"];
+
+static URL_AND_QUERY: [&str; 2] = ["URL", "QUERYFILE"];
+
+static FILE: [&str; 1] = ["FILE"];
+
+static COUNT: [&str; 1] = ["N"];
+
+static UNION: [&str; 1] = ["union"];
+
+static NONE: [&str; 0] = [];
+
+static LOCAL_OPTIONS: [&str; 9] = [
+    "window",
+    "links",
+    "retries",
+    "budget",
+    "max-body",
+    "page",
+    "seed",
+    "fail-every",
+    "graph",
+];
+
+static CLIENT_OPTIONS: [&str; 5] = ["window", "links", "retries", "budget", "max-body"];
+
+static SERVE_OPTIONS: [&str; 5] = ["base", "page", "graph", "stop-after", "reload"];
+
+static MAKE_OPTIONS: [&str; 1] = ["run"];
+
+#[tactic(auto, using(crate::proofs::Shapes::local_is_simple, crate::proofs::Shapes::local_is_free), unfolding(crate::specs::Commands::local_form))]
+fn local_arguments<'a>(
+    alloc: Global,
+    words: &'a [String],
+) -> Result<Option<ArgMatches<'a>>, OutOfMemory>
+    ensures { IfOk result (λ o. option_map found_in o ≡ arguments local_form (map string_bytes words.entry.now)) }
+{
+    arguments_of(
+        alloc,
+        FILE_AND_QUERY.as_slice(),
+        LOCAL_OPTIONS.as_slice(),
+        UNION.as_slice(),
+        words,
+    )
+}
+
+#[tactic(auto, using(crate::proofs::Shapes::query_is_simple, crate::proofs::Shapes::query_is_free), unfolding(crate::specs::Commands::query_form))]
+fn query_arguments<'a>(
+    alloc: Global,
+    words: &'a [String],
+) -> Result<Option<ArgMatches<'a>>, OutOfMemory>
+    ensures { IfOk result (λ o. option_map found_in o ≡ arguments query_form (map string_bytes words.entry.now)) }
+{
+    arguments_of(
+        alloc,
+        URL_AND_QUERY.as_slice(),
+        CLIENT_OPTIONS.as_slice(),
+        NONE.as_slice(),
+        words,
+    )
+}
+
+#[tactic(auto, using(crate::proofs::Shapes::serve_is_simple, crate::proofs::Shapes::serve_is_free), unfolding(crate::specs::Commands::serve_form))]
+fn serve_arguments<'a>(
+    alloc: Global,
+    words: &'a [String],
+) -> Result<Option<ArgMatches<'a>>, OutOfMemory>
+    ensures { IfOk result (λ o. option_map found_in o ≡ arguments serve_form (map string_bytes words.entry.now)) }
+{
+    arguments_of(
+        alloc,
+        FILE.as_slice(),
+        SERVE_OPTIONS.as_slice(),
+        UNION.as_slice(),
+        words,
+    )
+}
+
+#[tactic(auto, using(crate::proofs::Shapes::make_is_simple, crate::proofs::Shapes::make_is_free), unfolding(crate::specs::Commands::make_form))]
+fn make_arguments<'a>(
+    alloc: Global,
+    words: &'a [String],
+) -> Result<Option<ArgMatches<'a>>, OutOfMemory>
+    ensures { IfOk result (λ o. option_map found_in o ≡ arguments make_form (map string_bytes words.entry.now)) }
+{
+    arguments_of(
+        alloc,
+        COUNT.as_slice(),
+        MAKE_OPTIONS.as_slice(),
+        NONE.as_slice(),
+        words,
+    )
+}
+
+#[tactic(auto, unfolding(crate::specs::Commands::local_of))]
+fn local_of<'a>(alloc: Global, words: &'a [String]) -> Result<Option<Command<'a>>, OutOfMemory>
+    ensures { IfOk result (λ o. option_map command_view o ≡ local_of (map string_bytes words.entry.now)) }
+{
+    match local_arguments(alloc, words)? {
+        Some(matches) => local_from(alloc, &matches),
+        None => Ok(None),
+    }
+}
+
+#[tactic(auto, unfolding(crate::specs::Commands::query_of))]
+fn query_of<'a>(alloc: Global, words: &'a [String]) -> Result<Option<Command<'a>>, OutOfMemory>
+    ensures { IfOk result (λ o. option_map command_view o ≡ query_of (map string_bytes words.entry.now)) }
+{
+    match query_arguments(alloc, words)? {
+        Some(matches) => query_from(alloc, &matches),
+        None => Ok(None),
+    }
+}
+
+#[tactic(auto, unfolding(crate::specs::Commands::serve_of))]
+fn serve_of<'a>(alloc: Global, words: &'a [String]) -> Result<Option<Command<'a>>, OutOfMemory>
+    ensures { IfOk result (λ o. option_map command_view o ≡ serve_of (map string_bytes words.entry.now)) }
+{
+    match serve_arguments(alloc, words)? {
+        Some(matches) => serve_from(alloc, &matches),
+        None => Ok(None),
+    }
+}
+
+#[tactic(auto, unfolding(crate::specs::Commands::make_of))]
+fn make_of<'a>(alloc: Global, words: &'a [String]) -> Result<Option<Command<'a>>, OutOfMemory>
+    ensures { IfOk result (λ o. option_map command_view o ≡ make_of (map string_bytes words.entry.now)) }
+{
+    match make_arguments(alloc, words)? {
+        Some(matches) => Ok(make_from(&matches)),
+        None => Ok(None),
+    }
+}
+
+/// The command of this name, with the words after it.
+fn command_by<'a>(
+    alloc: Global,
+    name: &str,
+    words: &'a [String],
+) -> Result<Option<Command<'a>>, OutOfMemory>
+    ensures { IfOk result (λ o. option_map command_view o ≡ command_by name.now (map string_bytes words.entry.now)) }
+{
+    match name {
+        "local" => local_of(alloc, words),
+        "query" => query_of(alloc, words),
+        "serve" => serve_of(alloc, words),
+        "make" => make_of(alloc, words),
+        _ => Ok(None),
+    }
+}
+
+/// The command that the words are, if they are one. The first word is the program's name, and the
+/// second that of the command; the others are its arguments. It fails for want of memory alone.
+///
+/// An option is `--name value` or `--name=value`, a flag `--name`, and the other words are the
+/// positionals. `--` ends the options. Before it each word of two or more characters that begins
+/// with `-` is an option or a flag of the command, written whole; a value that is a word of its own
+/// does not begin with `-`. None is given twice, and there is none for help or the version.
+pub fn command_of<'a>(
+    alloc: Global,
+    words: &'a [String],
+) -> Result<Option<Command<'a>>, OutOfMemory>
+    ensures { IfOk result (λ o. option_map command_view o ≡ command_of (map string_bytes words.entry.now)) }
+{
+    let [_program, name, rest @ ..] = words else {
+        return Ok(None);
+    };
+    command_by(alloc, name.as_str(), rest)
+}
