@@ -1,0 +1,3 @@
+pub mod TermLists
+pub mod Outcomes
+pub mod Causes

@@ -1,0 +1,69 @@
+-- Why a file is not read or not served, and what answers an outcome.
+use Rattle.std.specs.Prelude.{ℕ, ◌≡◌, List, Option, Result, Ok, Err}
+use Rattle.tpf_base.specs.Causes.{Rose}
+use Rattle.tpf_base.specs.declared.shelf.FileFault.{FileFault}
+use Rattle.tpf_base.specs.declared.shelf.FileFault.TheVariants as unreadable
+use Rattle.rdf_terms.specs.declared.term.Quad.{Quad}
+use Rattle.triple_table.specs.declared.choice.Choice.{Choice}
+use Rattle.triple_table.specs.Chosen.{chosen}
+use Rattle.triple_table.specs.Stored.{Stored, PassesMost, triples_in}
+use Rattle.triple_table.specs.Served.{IsLeastClash}
+use Rattle.bgp_core.specs.Queries.{QueryData}
+use Rattle.pattern_parser.specs.declared.fault.QueryWhy.TheVariants as queries
+use Rattle.data_files.specs.declared.fault.DataFault.{DataFault}
+use Rattle.data_files.specs.declared.fault.DataFault.TheVariants as faults
+use Rattle.data_files.specs.declared.fault.QueryFileFault.{QueryFileFault}
+use Rattle.data_files.specs.declared.fault.QueryFileFault.TheVariants as query_faults
+use Rattle.data_files.specs.Data.{Files, IfTold, IsTooLong, HasDataFault, HasClash, HasTooMany, Outcome, served, too_long, bad, clash, too_many}
+use Rattle.data_files.specs.Queries.{HasQueryFault, QueryOutcome, reads, refused}
+
+-- a file that was not read
+abbrev pub unread : FileFault → DataFault
+unread unreadable.Failed = faults.File
+unread unreadable.TooLong = faults.TooLong
+unread unreadable.OutOfMemory = faults.OutOfMemory
+
+abbrev pub unread_query : FileFault → QueryFileFault
+unread_query unreadable.Failed = query_faults.File
+unread_query unreadable.TooLong = query_faults.Bad 262144 queries.TooLong
+unread_query unreadable.OutOfMemory = query_faults.OutOfMemory
+
+-- what a fault of the data rests on; the counts are the shelf's faults before and after
+abbrev pub DataCause : Option Files → List ℕ → Choice → List ℕ → ℕ → ℕ → DataFault → Type 0
+DataCause told name choice authority shelf shelf' faults.TooLong = IfTold told (λ files. IsTooLong files name 1073741824)
+DataCause told name choice authority shelf shelf' (faults.Bad line why) = IfTold told (λ files. HasDataFault files name line why)
+DataCause told name choice authority shelf shelf' (faults.GenidClash label) = IfTold told (λ files. HasClash files name choice authority label)
+DataCause told name choice authority shelf shelf' faults.TooMany = IfTold told (λ files. HasTooMany files name choice authority)
+DataCause told name choice authority shelf shelf' faults.File = Rose shelf shelf'
+DataCause told name choice authority shelf shelf' faults.OutOfMemory = Unit {0}
+
+-- the same of quads that were read
+abbrev pub ServeCause : List Quad → Choice → List ℕ → DataFault → Type 0
+ServeCause quads choice authority faults.TooLong = ⊥
+ServeCause quads choice authority (faults.Bad line why) = ⊥
+ServeCause quads choice authority (faults.GenidClash label) = IsLeastClash authority (chosen choice quads) label
+ServeCause quads choice authority faults.TooMany = PassesMost 16777215 authority (chosen choice quads)
+ServeCause quads choice authority faults.File = ⊥
+ServeCause quads choice authority faults.OutOfMemory = Unit {0}
+
+-- what a fault of the query rests on
+abbrev pub QueryCause : Option Files → List ℕ → ℕ → ℕ → QueryFileFault → Type 0
+QueryCause told name shelf shelf' (query_faults.Bad at why) = IfTold told (λ files. HasQueryFault files name at why)
+QueryCause told name shelf shelf' query_faults.File = Rose shelf shelf'
+QueryCause told name shelf shelf' query_faults.OutOfMemory = Unit {0}
+
+-- an outcome is answered by itself, or by want of memory
+abbrev pub Gives : Outcome → Result Stored DataFault → Type 0
+Gives outcome (Ok table) = outcome ≡ served (triples_in table)
+Gives outcome (Err faults.TooLong) = outcome ≡ too_long
+Gives outcome (Err (faults.Bad line why)) = outcome ≡ bad line why
+Gives outcome (Err (faults.GenidClash label)) = outcome ≡ clash label
+Gives outcome (Err faults.TooMany) = outcome ≡ too_many
+Gives outcome (Err faults.File) = ⊥
+Gives outcome (Err faults.OutOfMemory) = Unit {0}
+
+abbrev pub GivesQuery : QueryOutcome → Result QueryData QueryFileFault → Type 0
+GivesQuery outcome (Ok q) = outcome ≡ reads q
+GivesQuery outcome (Err (query_faults.Bad at why)) = outcome ≡ refused at why
+GivesQuery outcome (Err query_faults.File) = ⊥
+GivesQuery outcome (Err query_faults.OutOfMemory) = Unit {0}

@@ -1,0 +1,125 @@
+// The data of a file.
+ghost use Rattle.std.specs.Prelude.{ℕ, ◌≡◌, ◌≤◌, List, All, IfOk, IfErr, OnOk};
+ghost use Rattle.tpf_base.specs.Addresses.{IsAuthority};
+ghost use Rattle.tpf_base.specs.Causes.{Rose};
+ghost use Rattle.rdf_terms.specs.Triples.{IsRdfQuad};
+ghost use Rattle.triple_table.specs.Chosen.{chosen};
+ghost use Rattle.triple_table.specs.Served.{Clashes, IsServed};
+ghost use Rattle.triple_table.specs.Stored.{triples_in};
+ghost use Rattle.data_files.specs.Data.{IfTold, HoldsData, AreFew, Serves, Outcome, IsOutcome, OneOutcome};
+ghost use Rattle.data_files.specs.Causes.{DataCause, ServeCause, Gives, unread};
+
+use crate::DataFault;
+use nquads_text::{TextFault, read_all};
+use rdf_terms::Quad;
+use std::alloc::Global;
+use tpf_base::{FileFault, Shelf, read_file};
+use triple_table::{BuildFault, Choice, Table};
+
+/// The most bytes of a file of data.
+const MOST_DATA: usize = 1073741824;
+
+/// The most bytes of the canonical text of a term.
+const LONGEST_TERM: usize = 262144;
+
+/// The most triples, and the most terms, that are served.
+const MOST_TRIPLES: u32 = 16777215;
+
+fn unread(fault: FileFault) -> DataFault
+    ensures { result ≡ unread fault }
+{
+    match fault {
+        FileFault::Failed => DataFault::File,
+        FileFault::TooLong => DataFault::TooLong,
+        FileFault::OutOfMemory => DataFault::OutOfMemory,
+    }
+}
+
+/// The quads of a file.
+fn read_quads<F: Shelf>(alloc: Global, shelf: &mut F, name: &str) -> Result<Vec<Quad>, DataFault>
+    ensures ok { IfOk result (λ v. IfTold (F.told shelf.old) (λ files. HoldsData files name.now v.items)) }
+    ensures classes { IfOk result (λ v. All IsRdfQuad v.items) }
+    ensures err { (choice : Choice) (authority : List ℕ) → IfErr result (DataCause (F.told shelf.old) name.now choice authority (F.faults shelf.old) (F.faults shelf.new)) }
+    ensures told { F.told shelf.new ≡ F.told shelf.old }
+    ensures later { F.faults shelf.old ≤ F.faults shelf.new }
+{
+    let bytes = match read_file(alloc, shelf, name, MOST_DATA) {
+        Ok(bytes) => bytes,
+        Err(fault) => return Err(unread(fault)),
+    };
+    match read_all(alloc, &bytes, LONGEST_TERM) {
+        Ok(quads) => Ok(quads),
+        Err(TextFault::Bad { line, why }) => Err(DataFault::Bad { line, why }),
+        Err(TextFault::OutOfMemory) => Err(DataFault::OutOfMemory),
+    }
+}
+
+/// The table of the triples that are served of quads.
+fn serve_quads(
+    alloc: Global,
+    quads: &[Quad],
+    choice: &Choice,
+    authority: &str,
+) -> Result<Table, DataFault>
+    requires authority { IsAuthority authority.now }
+    requires classes { All IsRdfQuad quads.now }
+    ensures served { IfOk result (λ table. IsServed authority.now (chosen choice.now quads.now) (triples_in table)) }
+    ensures few { IfOk result (λ table. AreFew (triples_in table)) }
+    ensures free { OnOk result ((label : List ℕ) → ¬ (Clashes authority.now (chosen choice.now quads.now) label)) }
+    ensures err { IfErr result (ServeCause quads.now choice.now authority.now) }
+{
+    match Table::build(alloc, quads, choice, authority, MOST_TRIPLES) {
+        Ok(table) => Ok(table),
+        Err(BuildFault::GenidClash(label)) => Err(DataFault::GenidClash(label)),
+        Err(BuildFault::TooMany) => Err(DataFault::TooMany),
+        Err(BuildFault::OutOfMemory) => Err(DataFault::OutOfMemory),
+    }
+}
+
+fn read_and_serve<F: Shelf>(
+    alloc: Global,
+    shelf: &mut F,
+    name: &str,
+    choice: &Choice,
+    authority: &str,
+) -> Result<Table, DataFault>
+    requires { IsAuthority authority.now }
+    ensures ok { IfOk result (λ table. IfTold (F.told shelf.old) (λ files. Serves files name.now choice.now authority.now (triples_in table))) }
+    ensures err { IfErr result (DataCause (F.told shelf.old) name.now choice.now authority.now (F.faults shelf.old) (F.faults shelf.new)) }
+    ensures told { F.told shelf.new ≡ F.told shelf.old }
+    ensures later { F.faults shelf.old ≤ F.faults shelf.new }
+{
+    let quads = match read_quads(alloc, shelf, name) {
+        Ok(quads) => quads,
+        Err(fault) => return Err(fault),
+    };
+    serve_quads(alloc, &quads, choice, authority)
+}
+
+/// Reads the data of a file and gives the table of the triples that are served of them: those of the
+/// chosen graphs, where the blank node with label L is `http://AUTHORITY/.well-known/genid/L`.
+///
+/// The file is read once, to its end. `TooLong`, `Bad`, `GenidClash` and `TooMany` come exactly where
+/// the file holds such bytes, `File` only where the shelf's count of faults rose, and `OutOfMemory`
+/// for want of memory alone. The authority is one of a web address.
+pub fn read_table<F: Shelf>(
+    alloc: Global,
+    shelf: &mut F,
+    name: &str,
+    choice: &Choice,
+    authority: &str,
+) -> Result<Table, DataFault>
+    requires { IsAuthority authority.now }
+    ensures ok { IfOk result (λ table. IfTold (F.told shelf.old) (λ files. Serves files name.now choice.now authority.now (triples_in table))) }
+    ensures err { IfErr result (DataCause (F.told shelf.old) name.now choice.now authority.now (F.faults shelf.old) (F.faults shelf.new)) }
+    ensures exact { ¬ (Rose (F.faults shelf.old) (F.faults shelf.new)) → IfTold (F.told shelf.old) (λ files. (outcome : Outcome) → IsOutcome files name.now choice.now authority.now outcome → Gives outcome result) }
+    ensures told { F.told shelf.new ≡ F.told shelf.old }
+    ensures later { F.faults shelf.old ≤ F.faults shelf.new }
+{
+    read_and_serve(alloc, shelf, name, choice, authority)
+}
+
+/// The data of a file have one outcome at most: they are served, as one data set, or have one fault.
+pub fn one_data_outcome()
+    ensures { OneOutcome }
+{}

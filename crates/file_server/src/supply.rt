@@ -1,0 +1,137 @@
+// The data of a file, read again.
+ghost use Rattle.std.specs.Prelude.{◌≡◌, ◌≤◌, ◌⊎◌, ◌↔◌, List, IfOk, IfErr, OnErr, IsErrOf};
+ghost use Rattle.tpf_base.specs.Addresses.{authority_of};
+ghost use Rattle.tpf_base.specs.Causes.{Rose, HasCause, counted};
+ghost use Rattle.rdf_terms.specs.declared.term.Triple.{Triple};
+ghost use Rattle.connections.specs.Versions.{with_first};
+ghost use Rattle.triple_table.specs.Stored.{triples_in};
+ghost use Rattle.data_files.specs.Data.{IfTold};
+ghost use Rattle.data_files.specs.Causes.{DataCause};
+ghost use Rattle.file_server.specs.Supplies.{IsOfFile, IsRefused, supply_fault, untold};
+
+use connections::Supply;
+use data_files::{DataFault, read_table};
+use fragment_server::FragmentServer;
+use std::alloc::Global;
+use template_fill::WebAddress;
+use tpf_base::{Fault, Shelf};
+use triple_table::{Choice, Table};
+
+/// A supply that reads a file again for each table. It tells no list of what it has left.
+///
+/// Where the shelf tells what the file holds, no other data set than the one that is served of it is
+/// given. Its count of faults is one of its own, which stands still at its last value: it rises only
+/// where the shelf's count rose in the same call, or where the file holds no data that are served.
+#[derive(Drop)]
+pub struct FileSupply<'a, F: Shelf> {
+    alloc: Global,
+    shelf: &'a mut F,
+    name: &'a str,
+    choice: &'a Choice,
+    base: &'a WebAddress,
+    faults: u64,
+}
+
+impl<'a, F: Shelf> FileSupply<'a, F> {
+    /// A supply of the file with this name, of the graphs that are chosen, under the authority of a base.
+    /// It has read nothing yet, and takes no memory.
+    pub fn new(
+        alloc: Global,
+        shelf: &'a mut F,
+        name: &'a str,
+        choice: &'a Choice,
+        base: &'a WebAddress,
+    ) -> FileSupply<'a, F>
+        ensures shelf { result.shelf.now ≡ shelf.old }
+        ensures name { result.name.now ≡ name.now }
+        ensures choice { result.choice.now ≡ choice.now }
+        ensures base { result.base.now ≡ base.now }
+        ensures faults { result.faults ≡ 0 }
+    {
+        FileSupply {
+            alloc,
+            shelf,
+            name,
+            choice,
+            base,
+            faults: 0,
+        }
+    }
+
+    /// The table of the file, read now.
+    fn read(&mut self) -> Result<Table, DataFault>
+        ensures given { IfOk result (λ table. IsOfFile (F.told self.old.shelf.now) self.old.name.now self.old.choice.now (authority_of self.old.base.now) (triples_in table)) }
+        ensures err { IfErr result (DataCause (F.told self.old.shelf.now) self.old.name.now self.old.choice.now (authority_of self.old.base.now) (F.faults self.old.shelf.now) (F.faults self.new.shelf.now)) }
+        ensures told { F.told self.new.shelf.now ≡ F.told self.old.shelf.now }
+        ensures name { self.new.name.now ≡ self.old.name.now }
+        ensures choice { self.new.choice.now ≡ self.old.choice.now }
+        ensures base { self.new.base.now ≡ self.old.base.now }
+        ensures faults { self.new.faults ≡ self.old.faults }
+    {
+        self.base.is_valid();
+        let authority = self.base.authority();
+        read_table(self.alloc, self.shelf, self.name, self.choice, authority)
+    }
+
+    /// Counts the fault, unless it is want of memory.
+    fn refuse(&mut self, fault: Fault) -> Fault
+        ensures fault { result ≡ fault }
+        ensures failed { fault ≡ Fault.Failed → self.new.faults ≡ counted self.old.faults }
+        ensures memory { fault ≡ Fault.OutOfMemory → self.new.faults ≡ self.old.faults }
+        ensures later { self.old.faults ≤ self.new.faults }
+        ensures shelf { self.new.shelf.now ≡ self.old.shelf.now }
+        ensures name { self.new.name.now ≡ self.old.name.now }
+        ensures choice { self.new.choice.now ≡ self.old.choice.now }
+        ensures base { self.new.base.now ≡ self.old.base.now }
+    {
+        match fault {
+            Fault::Failed => self.faults = self.faults.saturating_add(1),
+            Fault::OutOfMemory => {}
+        }
+        fault
+    }
+}
+
+fn supply_fault(fault: &DataFault) -> Fault
+    ensures { result ≡ supply_fault fault.now }
+{
+    match fault {
+        DataFault::OutOfMemory => Fault::OutOfMemory,
+        _ => Fault::Failed,
+    }
+}
+
+impl<'a, F: Shelf> Supply<FragmentServer> for FileSupply<'a, F> {
+    ghost use Rattle.tpf_base.specs.Addresses.{authority_of};
+    ghost use Rattle.file_server.specs.Supplies.{IsOfFile, untold};
+
+    ghost faults = { λ supply. supply.faults };
+
+    ghost left = { λ supply. untold };
+
+    ghost may = { λ supply triples. IsOfFile (F.told supply.shelf.now) supply.name.now supply.choice.now (authority_of supply.base.now) triples };
+
+    /// The table of the file, read now. `Failed` where the file could not be read, or holds no data that
+    /// are served.
+    fn next(&mut self) -> Result<Table, Fault>
+        ensures given { IfOk result (λ table. IsOfFile (F.told self.old.shelf.now) self.old.name.now self.old.choice.now (authority_of self.old.base.now) (triples_in table)) }
+        ensures first { IfOk result (λ table. untold ≡ with_first (triples_in table) untold) }
+        ensures err { OnErr result (untold ≡ untold) }
+        ensures same { (triples : List Triple) → IsOfFile (F.told self.new.shelf.now) self.new.name.now self.new.choice.now (authority_of self.new.base.now) triples ↔ IsOfFile (F.told self.old.shelf.now) self.old.name.now self.old.choice.now (authority_of self.old.base.now) triples }
+        ensures cause { HasCause self.old.faults self.new.faults result }
+        ensures failed { IsErrOf result Fault.Failed → Rose (F.faults self.old.shelf.now) (F.faults self.new.shelf.now)
+            ⊎ IfTold (F.told self.old.shelf.now) (λ files. IsRefused files self.old.name.now self.old.choice.now (authority_of self.old.base.now)) }
+        ensures told { F.told self.new.shelf.now ≡ F.told self.old.shelf.now }
+        ensures name { self.new.name.now ≡ self.old.name.now }
+        ensures choice { self.new.choice.now ≡ self.old.choice.now }
+        ensures base { self.new.base.now ≡ self.old.base.now }
+    {
+        match self.read() {
+            Ok(table) => Ok(table),
+            Err(fault) => {
+                let fault = supply_fault(&fault);
+                Err(self.refuse(fault))
+            }
+        }
+    }
+}
