@@ -1,0 +1,119 @@
+// Servers that say what no server should, and sinks that fail.
+use crate::asked::{Came, OPTIONS, ask};
+use crate::replies::wire_of;
+use std::alloc::Global;
+use std::sync::Wait;
+use std::test::Fail;
+use tpf_base::Failing;
+use tpf_client::Options;
+
+const ALL: &str = "SELECT * WHERE { ?s ?p ?o }";
+
+const FRONT: &str = "{\"head\":{\"vars\":[\"s\",\"p\",\"o\"]},\"results\":{\"bindings\":[";
+
+const ONE: &str =
+    "{\"head\":{\"vars\":[\"s\",\"p\",\"o\"]},\"results\":{\"bindings\":[{\"o\":{\"type\":\"literal\",\"value\":\"x\"},\"p\":{\"type\":\"uri\",\"value\":\"u:p\"},\"s\":{\"type\":\"uri\",\"value\":\"u:s\"}}]}}\n";
+
+/// What comes of asking for all triples of a server whose replies these words are.
+fn asked<R: Wait>(rt: &R, alloc: Global, words: &str, max_body: u64) -> Result<Came, Fail> {
+    let options = Options {
+        max_body,
+        ..OPTIONS
+    };
+    let mut wire = wire_of(alloc, words, 0)?;
+    ask(rt, alloc, ALL, &options, &mut wire, Failing::Never)
+}
+
+/// The replies, and what comes of them: the reply to the start, then the one that matters.
+const REPLIES: [(&str, &str); 19] = [
+    (
+        "f7dn f7dn f7dn f7dn f7dn f7dn f7dn f7dn f7dn f7dn f7dn",
+        "budget 10",
+    ),
+    (
+        "f7ds f7ds f7ds f7ds f7ds f7ds f7ds f7ds f7ds f7ds f7ds",
+        "budget 10",
+    ),
+    ("f7 f7", "2 requests, 0 rows, version 0"),
+    ("f7 f0d", "2 requests, 0 rows, version 0"),
+    ("f7 fx", "page count text"),
+    ("f7 f17", "page count text"),
+    ("f7 f7b", "page blank data"),
+    ("f7 f7o", "page foreign link"),
+    ("f7 -half", "cut 144"),
+    ("f7 -line", "reply framing"),
+    ("f7 -over", "reply too long"),
+    ("f7 -1054", "cut 1057263"),
+    ("f7 -1055", "reply too long"),
+    ("f7 -gzip", "reply coding"),
+    ("-404", "reply status 404"),
+    ("-empty", "page no topic"),
+    ("f7v f7w", "changed 1 2"),
+    ("f7v f7", "changed 1 0"),
+    ("f7v f7dvn f7dw", "changed 1 2"),
+];
+
+#[test]
+fn what_no_server_should_say_has_its_name(rt: HostRuntime) -> Result<(), Fail> {
+    for (words, wanted) in REPLIES {
+        let came = asked(&rt, rt.alloc(), words, 100000)?;
+        assert_eq!(rt; came.told.as_str(), wanted, "{words}");
+    }
+    Ok(())
+}
+
+/// The replies, and the text that the sink took.
+const TEXTS: [(&str, &str); 6] = [
+    ("-404", ""),
+    ("-empty", ""),
+    ("f7 -404", FRONT),
+    ("f7v f7w", FRONT),
+    (
+        "f7v f7v",
+        "{\"head\":{\"vars\":[\"s\",\"p\",\"o\"]},\"results\":{\"bindings\":[]}}\n",
+    ),
+    ("f1v f1vd", ONE),
+];
+
+#[test]
+fn what_was_found_is_written(rt: HostRuntime) -> Result<(), Fail> {
+    for (words, wanted) in TEXTS {
+        let came = asked(&rt, rt.alloc(), words, 100000)?;
+        assert_eq!(rt; came.text.as_str(), wanted, "{words}");
+    }
+    Ok(())
+}
+
+/// How many links a client has, and what comes of four patterns where the reply to the first is held
+/// back until the start and all four were asked for.
+const WAITING: [(u32, &str); 2] = [(4, "5 requests, 0 rows, version 0"), (1, "exchange")];
+
+#[test]
+fn all_patterns_are_asked_for_at_once(rt: HostRuntime) -> Result<(), Fail> {
+    let text = "SELECT * WHERE { ?a <u:p> ?b . ?b <u:q> ?c . ?c <u:r> ?d . ?d <u:s> ?e }";
+    for (links, wanted) in WAITING {
+        let options = Options { links, ..OPTIONS };
+        let mut wire = wire_of(rt.alloc(), "f7 f0 f0 f0 f0", 5)?;
+        let came = ask(&rt, rt.alloc(), text, &options, &mut wire, Failing::Never)?;
+        assert_eq!(rt; came.told.as_str(), wanted, "{links}");
+    }
+    Ok(())
+}
+
+#[test]
+fn a_sink_that_fails_took_a_front(rt: HostRuntime) -> Result<(), Fail> {
+    for most in 0..=ONE.len() {
+        let mut wire = wire_of(rt.alloc(), "f1v f1vd", 0)?;
+        let fails = Failing::AfterBytes(most as u64);
+        let came = ask(&rt, rt.alloc(), ALL, &OPTIONS, &mut wire, fails)?;
+        let wanted = if most < ONE.len() {
+            "sink"
+        } else {
+            "2 requests, 1 rows, version 1"
+        };
+        assert_eq!(rt; came.told.as_str(), wanted, "{most}");
+        assert!(rt; ONE.starts_with(came.text.as_str()), "{most}");
+        assert_eq!(rt; came.text.len(), most);
+    }
+    Ok(())
+}

@@ -1,0 +1,120 @@
+-- Over an honest wire the text is that of the solutions over the version of the start page.
+use Rattle.bgp_core.specs.Solutions.{Places}
+use Rattle.std.proofs.Common.{ℕ, ◌≡◌, ◌<◌, ◌^◌, ◌++◌, List, [], ◌∷◌, Option, Some, subst, ◌∙◌, arith}
+use Rattle.std.specs.List.{AllByRecursion}
+use Rattle.std.proofs.lemmas.List.Sorted.{IsPermutation-refl}
+use Rattle.rdf_terms.specs.declared.term.Triple.{Triple}
+use Rattle.tpf_base.specs.Addresses.{Address}
+use Rattle.tpf_base.specs.Links.{WireState}
+use Rattle.template_fill.specs.Metadata.{Config}
+use Rattle.template_fill.specs.Bodies.{version_of}
+use Rattle.bgp_core.specs.Queries.{QueryData}
+use Rattle.request_pool.specs.Pools.{Pooled, empty_pool}
+use Rattle.pool_laws.specs.Answers.{IsBodyOf}
+use Rattle.join_core.specs.Servers.{server_world}
+use Rattle.tpf_client.specs.declared.options.Options.{Options}
+use Rattle.tpf_client.specs.declared.options.Report.{Report}
+use Rattle.tpf_client.specs.declared.fault.ClientFault.{ClientFault}
+use Rattle.tpf_client.specs.Traffic.{Event, Came, EndsWith, IsLawful}
+use Rattle.tpf_client.specs.Starts.{start_ask}
+use Rattle.tpf_client.specs.Calls.{WritesAll, WritesSome, Before, Behind, AtEnd, RunsPool, ReadsStart, IsWorldOf, solutions_of, Returns}
+use Rattle.tpf_client.specs.Honest.{Laws, IsHonestWire, IsAnswer, IsVersionOf, WritesSolutions, WritesSolutionsFront, IsSolutions}
+use Rattle.tpf_client.proofs.Distinct.{none-distinct}
+use Rattle.tpf_client.proofs.Honesty.{Keeps, all-answers}
+use Rattle.tpf_client.proofs.Truth.{start-world}
+use Rattle.tpf_client.proofs.Texts.{same-written, rows-more}
+
+module _ (history : List (List Triple)) (config : Config) where
+  answers-behind : (first later : List Event) → AllByRecursion (IsAnswer history config) (first ++ later) → AllByRecursion (IsAnswer history config) later
+  answers-behind [] later h = h
+  answers-behind (event ∷ first) later h = answers-behind first later h.1
+
+  answers-front : (first later : List Event) → AllByRecursion (IsAnswer history config) (first ++ later) → AllByRecursion (IsAnswer history config) first
+  answers-front [] later h = tt
+  answers-front (event ∷ first) later h = (h.0, answers-front first later h.1)
+
+  answer-last : (event : Event) (events : List Event) → EndsWith event events → AllByRecursion (IsAnswer history config) events → IsAnswer history config event
+  answer-last event events e h = (answers-behind e.before (event ∷ []) (subst (λ (l : List Event). AllByRecursion (IsAnswer history config) l) e.is_last h)).0
+
+module _ (laws : Laws) (allows : List ℕ → ℕ → List ℕ → List ℕ → Type 0) (history : List (List Triple)) (config : Config) (options : Options) (since now : WireState) (honest : IsHonestWire allows history config since) (lawful : IsLawful allows since) (limit : options.max_body < 2 ^ 64) (start : Address) where
+  pool-of : Pooled
+  pool-of = empty_pool options.links options.retries options.budget options.max_body
+
+  begins-so : Keeps allows laws.puts laws.steps laws.faults (empty_pool options.links options.retries options.budget options.max_body) since
+  begins-so = record {
+    given = lawful.given;
+    suits = record { polled = tt; due = tt; owned = λ k. omega arith };
+    answers = laws.empty options.links options.retries options.budget options.max_body since;
+    distinct = λ e. none-distinct;
+    limit = limit;
+    tells = honest.tells;
+  }
+
+  all-of : (events : List Event) (pool : Pooled) → RunsPool allows options since now events pool → AllByRecursion (IsAnswer history config) events
+  all-of events pool r = all-answers allows laws.puts laws.steps laws.faults history config honest.is_honest events (empty_pool options.links options.retries options.budget options.max_body) pool since r.between begins-so r.travels
+
+  -- the world of the start page
+  world-of : (first later : List Event) (pool : Pooled) → RunsPool allows options since now (first ++ later) pool → (reads : ReadsStart start first)
+      → (version : ℕ) × IsVersionOf history version × (reads.page.version ≡ Some version) × IsWorldOf (server_world (version_of history version) config) reads.page.form reads.page.version later
+  world-of first later pool r reads =
+      let all = all-of (first ++ later) pool r in
+      let b : IsBodyOf history config start reads.reply.body = answer-last history config (Came (start_ask start) reads.reply) first reads.last (answers-front history config first later all) in
+      start-world laws.given laws.answered laws.only laws.worlds laws.forms laws.pages laws.kept laws.addresses history config honest.is_history honest.is_config start reads.reply.body reads.page later honest.few b reads.taken (answers-behind history config first later all)
+
+  pub solutions-written : (q : QueryData) (report : Report) (t u : Option (List ℕ)) → WritesAll (RunsPool allows options since now) q start report t u → WritesSolutions history q report.version report.rows t u
+  solutions-written q report t u w =
+      let r = w.returns in
+      let v = world-of r.first r.later r.pool r.runs r.reads in
+      let g = r.gives (server_world (version_of history v.0) config) v.3 in
+      record {
+        version = v.0;
+        is_version = v.1;
+        is_reported = r.is_version ∙ v.2;
+        rows = w.rows;
+        rows_are = g.rows_are;
+        text = w.text;
+        count = r.count;
+      }
+
+  pub solutions-given : (q : QueryData) (report : Report) (rows : List Places) → Returns (RunsPool allows options since now) q start report rows → IsSolutions history q report.version rows
+  solutions-given q report rows r =
+      let v = world-of r.first r.later r.pool r.runs r.reads in
+      let g = r.gives (server_world (version_of history v.0) config) v.3 in
+      record {
+        version = v.0;
+        is_version = v.1;
+        is_reported = r.is_version ∙ v.2;
+        rows_are = g.rows_are;
+      }
+
+  first-version : IsVersionOf history 1
+  first-version = record { low = omega arith; high = honest.is_history.low }
+
+  pub front-written : (q : QueryData) (budget : ℕ) (fault : ClientFault) (t u : Option (List ℕ)) → WritesSome (RunsPool allows options since now) q start budget fault t u → WritesSolutionsFront history q t u
+  front-written q budget fault t u (Before b) = record {
+    version = 1;
+    is_version = first-version;
+    rows = solutions_of (version_of history 1) q;
+    rows_are = IsPermutation-refl (solutions_of (version_of history 1) q);
+    text = same-written _ t u b.nothing;
+  }
+  front-written q budget fault t u (Behind b) =
+      let v = world-of b.first b.later b.pool b.runs b.reads in
+      let g = b.gives (server_world (version_of history v.0) config) v.3 in
+      record {
+        version = v.0;
+        is_version = v.1;
+        rows = b.rows ++ g.more;
+        rows_are = g.rows_are;
+        text = rows-more q b.rows g.more t u laws.pieces laws.goes_on b.text;
+      }
+  front-written q budget fault t u (AtEnd b) =
+      let v = world-of b.first b.later b.pool b.runs b.reads in
+      let g = b.gives (server_world (version_of history v.0) config) v.3 in
+      record {
+        version = v.0;
+        is_version = v.1;
+        rows = b.rows;
+        rows_are = g.rows_are;
+        text = b.text;
+      }

@@ -1,0 +1,136 @@
+-- The start page, and then the rest of a call.
+use Rattle.std.proofs.Common.{ℕ, ◌++◌, List, [], Option, refl}
+use Rattle.std.specs.Prelude.{Result, Ok, Err, IfOk, IfErr}
+use Rattle.std.proofs.lemmas.List.Sorted.{IsPermutation-refl}
+use Rattle.template_fill.specs.declared.form.Form.{Form}
+use Rattle.join_core.specs.Nodes.{plan}
+use Rattle.tpf_base.specs.Addresses.{Address}
+use Rattle.tpf_base.specs.Links.{WireState, SameAllowed}
+use Rattle.bgp_core.specs.Queries.{QueryData}
+use Rattle.bgp_core.specs.Solutions.{Places}
+use Rattle.control_reader.specs.declared.page.Page.{Page}
+use Rattle.result_json.specs.Pieces.{PiecesMakeTheText, RowsGoOn}
+use Rattle.request_pool.specs.Pools.{Pooled}
+use Rattle.request_pool.specs.Owned.{SuitsWire}
+use Rattle.tpf_client.specs.declared.options.Report.{Report}
+use Rattle.tpf_client.specs.declared.fault.ClientFault.{ClientFault}
+use Rattle.tpf_client.specs.declared.fault.ClientFault.TheVariants as faults
+use Rattle.tpf_client.specs.Traffic.{Event, Travels}
+use Rattle.tpf_client.specs.Starts.{HasStart, HasNoStart}
+use Rattle.tpf_client.specs.Calls.{Ran, Returns, ReadsStart, WritesAll, WritesSome, WritesRest, WritesLess, PartOf, WholeOf, GathersRest, Before, Behind, AtEnd, WritesResult, WritesPrefix, JoinsSome, solutions_of, no_names_bound}
+use Rattle.tpf_client.proofs.Traveling.{travels-then, travels-allowed}
+use Rattle.tpf_client.proofs.Traveling.{no-events}
+use Rattle.tpf_client.proofs.Texts.{same-written, nothing-written, rows-more}
+
+module _ (allows between-allows : List ℕ → ℕ → List ℕ → List ℕ → Type 0) (same : SameAllowed allows between-allows) (q : QueryData) (start : Address) (page : Page) (old mid new : Pooled) (wire between wire' : WireState) (s : HasStart allows start page old mid wire between) where
+  abbrev reads-of : ReadsStart start s.events
+  reads-of = record { reply = s.reply; last = s.last; page = page; taken = s.taken }
+
+  ran-of : (later : List Event) → Travels between-allows later mid new between wire' → SuitsWire new wire' → Ran allows old new wire wire' (s.events ++ later) new
+  ran-of later t w = record {
+    is_pool = refl;
+    travels = travels-then allows s.events later old mid new wire between wire' s.travels (travels-allowed allows between-allows later mid new between wire' same t);
+    on_wire = w;
+  }
+
+  pub all-written : (report : Report) (t u : Option (List ℕ)) → WritesRest between-allows q page.form page.version report mid new between wire' t u → WritesAll (Ran allows old new wire wire') q start report t u
+  all-written report t u w = record {
+    rows = w.rows;
+    returns = record {
+      first = s.events;
+      later = w.events;
+      pool = new;
+      runs = ran-of w.events w.joins.travels w.joins.on_wire;
+      reads = reads-of;
+      is_version = w.is_version;
+      requests = w.requests;
+      count = w.count;
+      width = w.joins.width;
+      gives = w.joins.gives;
+    };
+    text = w.text;
+  }
+
+  pub some-written : (budget : ℕ) (fault : ClientFault) (t u : Option (List ℕ)) → WritesLess between-allows q page.form page.version budget fault mid new between wire' t u → WritesSome (Ran allows old new wire wire') q start budget fault t u
+  some-written budget fault t u (PartOf events rows j text) = Behind (record {
+    first = s.events;
+    later = events;
+    pool = new;
+    runs = ran-of events j.travels j.on_wire;
+    reads = reads-of;
+    explains = j.explains;
+    rows = rows;
+    gives = j.gives;
+    text = text;
+  })
+  some-written budget fault t u (WholeOf events rows j e text) = AtEnd (record {
+    first = s.events;
+    later = events;
+    pool = new;
+    runs = ran-of events j.travels j.on_wire;
+    reads = reads-of;
+    explains = e;
+    rows = rows;
+    gives = j.gives;
+    text = text;
+  })
+
+  pub all-gathered : (report : Report) (rows : List Places) → GathersRest between-allows q page.form page.version report rows mid new between wire' → Returns (Ran allows old new wire wire') q start report rows
+  all-gathered report rows w = record {
+    first = s.events;
+    later = w.events;
+    pool = new;
+    runs = ran-of w.events w.joins.travels w.joins.on_wire;
+    reads = reads-of;
+    is_version = w.is_version;
+    requests = w.requests;
+    count = w.count;
+    width = w.joins.width;
+    gives = w.joins.gives;
+  }
+
+pub less-suits : (allows : List ℕ → ℕ → List ℕ → List ℕ → Type 0) (q : QueryData) (page : Page) (budget : ℕ) (fault : ClientFault) (mid new : Pooled) (between wire' : WireState) (t u : Option (List ℕ)) → WritesLess allows q page.form page.version budget fault mid new between wire' t u → SuitsWire new wire'
+less-suits allows q page budget fault mid new between wire' t u (PartOf events rows j text) = j.on_wire
+less-suits allows q page budget fault mid new between wire' t u (WholeOf events rows j e text) = j.on_wire
+
+pub rest-suits : (allows : List ℕ → ℕ → List ℕ → List ℕ → Type 0) (q : QueryData) (page : Page) (budget : ℕ) (mid new : Pooled) (between wire' : WireState) (t u : Option (List ℕ)) (r : Result Report ClientFault)
+    → IfOk r (λ report. WritesRest allows q page.form page.version report mid new between wire' t u) → IfErr r (λ fault. WritesLess allows q page.form page.version budget fault mid new between wire' t u) → SuitsWire new wire'
+rest-suits allows q page budget mid new between wire' t u (Ok report) ok err = ok.joins.on_wire
+rest-suits allows q page budget mid new between wire' t u (Err fault) ok err = less-suits allows q page budget fault mid new between wire' t u err
+
+-- a fault before anything was asked behind the start page
+pub nothing-joined : (allows : List ℕ → ℕ → List ℕ → List ℕ → Type 0) (q : QueryData) (form : Form) (version : Option ℕ) (budget : ℕ) (p : Pooled) (w : WireState) → SuitsWire p w → JoinsSome allows q form version budget faults.OutOfMemory [] [] p p w w
+nothing-joined allows q form version budget p w s = record {
+  travels = no-events allows p w;
+  on_wire = s;
+  explains = tt;
+  gives = λ world is. record {
+    more = solutions_of world.triples q;
+    rows_are = IsPermutation-refl (solutions_of world.triples q);
+    rest = plan world q.patterns (no_names_bound q);
+    plan_is = IsPermutation-refl (plan world q.patterns (no_names_bound q));
+  };
+}
+
+pub nothing-begun : (allows : List ℕ → ℕ → List ℕ → List ℕ → Type 0) (q : QueryData) (form : Form) (version : Option ℕ) (budget : ℕ) (p : Pooled) (w : WireState) (t : Option (List ℕ)) → SuitsWire p w → WritesLess allows q form version budget faults.OutOfMemory p p w w t t
+nothing-begun allows q form version budget p w t s = PartOf [] [] (nothing-joined allows q form version budget p w s) (nothing-written _ t)
+
+pub none-written : (allows : List ℕ → ℕ → List ℕ → List ℕ → Type 0) (q : QueryData) (start : Address) (budget : ℕ) (fault : ClientFault) (old new : Pooled) (wire wire' : WireState) (t : Option (List ℕ)) → HasNoStart allows start budget fault old new wire wire' → WritesSome (Ran allows old new wire wire') q start budget fault t t
+none-written allows q start budget fault old new wire wire' t s = Before (record {
+  events = s.events;
+  pool = new;
+  runs = record { is_pool = refl; travels = s.travels; on_wire = s.suits };
+  explains = s.explains;
+  nothing = refl;
+})
+
+-- ---- what is told of the text alone
+
+module _ (ran : List Event → Pooled → Type 0) (q : QueryData) (start : Address) where
+  pub result-written : (report : Report) (t u : Option (List ℕ)) → WritesAll ran q start report t u → WritesResult q report.rows t u
+  result-written report t u w = record { rows = w.rows; text = w.text; count = w.returns.count }
+
+  pub prefix-written : PiecesMakeTheText → RowsGoOn → (budget : ℕ) (fault : ClientFault) (t u : Option (List ℕ)) → WritesSome ran q start budget fault t u → WritesPrefix q t u
+  prefix-written pieces goes budget fault t u (Before b) = record { rows = []; text = same-written _ t u b.nothing }
+  prefix-written pieces goes budget fault t u (Behind b) = record { rows = b.rows ++ []; text = rows-more q b.rows [] t u pieces goes b.text }
+  prefix-written pieces goes budget fault t u (AtEnd b) = record { rows = b.rows; text = b.text }

@@ -1,0 +1,42 @@
+-- The pool begins with nothing, and its links are closed at last.
+use Rattle.std.proofs.Common.{ap}
+use Rattle.request_pool.specs.Pools.{Pooled, held}
+use Rattle.tpf_client.proofs.Shutting.{if-ok, if-err, returns-so, writes-some-so, ran-closed, suits-empty}
+use Rattle.tpf_client.proofs.Headline.{solutions-given}
+use Rattle.tpf_client.proofs.Caused.{fault-caused}
+use Rattle.tpf_client.proofs.calls.collect.Goals as goal
+
+pub gather-ended-requires-clause-none : goal.gather-ended-requires-clause-none
+gather-ended-requires-clause-none g c = ap held c.new-asks.ensures.empty
+
+pub gather-ended-requires-clause-no_fault : goal.gather-ended-requires-clause-no_fault
+gather-ended-requires-clause-no_fault g c = ap (λ (p : Pooled). p.fault) c.new-asks.ensures.empty
+
+pub gather-ended-requires-clause-suits : goal.gather-ended-requires-clause-suits
+gather-ended-requires-clause-suits g c = suits-empty c.args.options.now c.new-asks.result (g.W.Wire.state c.args.wire.now) c.new-asks.ensures.empty
+
+pub close-requires : goal.close-requires
+close-requires g c = record { suits = c.gather-ended.ensures.suits }
+
+pub returns-clause-ok : goal.returns-clause-ok
+returns-clause-ok g c =
+    if-ok c.gather-ended.result _ _ (λ r w. returns-so _ _ (ran-closed (g.W.Wire.allows c.args.wire.now) c.args.options.now c.new-asks.result c.gather-ended.new.asks (g.W.Wire.state c.args.wire.now) (g.W.Wire.state c.gather-ended.new.wire) (g.W.Wire.state c.close.new.wire) c.new-asks.ensures.empty c.close.ensures.closes) c.args.query.now c.args.start.now r.1 r.0.items w) c.gather-ended.ensures.ok
+
+pub returns-clause-err : goal.returns-clause-err
+returns-clause-err g c =
+    if-err c.gather-ended.result _ _ (λ fault w. writes-some-so _ _ (ran-closed (g.W.Wire.allows c.args.wire.now) c.args.options.now c.new-asks.result c.gather-ended.new.asks (g.W.Wire.state c.args.wire.now) (g.W.Wire.state c.gather-ended.new.wire) (g.W.Wire.state c.close.new.wire) c.new-asks.ensures.empty c.close.ensures.closes) c.args.query.now c.args.start.now c.args.options.now.budget fault _ _ w) c.gather-ended.ensures.err
+
+pub returns-clause-headline : goal.returns-clause-headline
+returns-clause-headline g c = λ history config honest.
+    if-ok c.gather-ended.result _ _ (λ r w.
+    solutions-given c.solutions_rest_on_laws.ensures (g.W.Wire.allows c.args.wire.now) history config c.args.options.now (g.W.Wire.state c.args.wire.now) (g.W.Wire.state c.close.new.wire) honest c.is_lawful.ensures c.new-asks.ensures.limit c.args.start.now c.args.query.now r.1 r.0.items
+    (returns-so _ _ (ran-closed (g.W.Wire.allows c.args.wire.now) c.args.options.now c.new-asks.result c.gather-ended.new.asks (g.W.Wire.state c.args.wire.now) (g.W.Wire.state c.gather-ended.new.wire) (g.W.Wire.state c.close.new.wire) c.new-asks.ensures.empty c.close.ensures.closes) c.args.query.now c.args.start.now r.1 r.0.items w)) c.gather-ended.ensures.ok
+
+pub returns-clause-cause : goal.returns-clause-cause
+returns-clause-cause g c =
+    if-err c.gather-ended.result _ _ (λ fault w.
+    fault-caused (g.W.Wire.allows c.args.wire.now) c.args.options.now (g.W.Wire.state c.args.wire.now) (g.W.Wire.state c.close.new.wire) c.args.query.now c.args.start.now fault _ _
+    (writes-some-so _ _ (ran-closed (g.W.Wire.allows c.args.wire.now) c.args.options.now c.new-asks.result c.gather-ended.new.asks (g.W.Wire.state c.args.wire.now) (g.W.Wire.state c.gather-ended.new.wire) (g.W.Wire.state c.close.new.wire) c.new-asks.ensures.empty c.close.ensures.closes) c.args.query.now c.args.start.now c.args.options.now.budget fault _ _ w)) c.gather-ended.ensures.err
+
+pub returns-clause-sink : goal.returns-clause-sink
+returns-clause-sink g c = c.gather-ended.ensures.sink

@@ -1,0 +1,52 @@
+-- The pool begins with nothing, and its links are closed at last.
+use Rattle.std.proofs.Common.{ap}
+use Rattle.request_pool.specs.Pools.{Pooled, held}
+use Rattle.tpf_client.proofs.Shutting.{if-ok, if-err, on-err-of, writes-all-so, writes-some-so, ran-closed, suits-empty}
+use Rattle.tpf_client.proofs.Written.{result-written, prefix-written}
+use Rattle.tpf_client.proofs.Headline.{solutions-written, front-written}
+use Rattle.tpf_client.proofs.Caused.{fault-caused}
+use Rattle.tpf_client.proofs.calls.query.Goals as goal
+
+pub write_result-ended-requires-clause-none : goal.write_result-ended-requires-clause-none
+write_result-ended-requires-clause-none g c = ap held c.new-asks.ensures.empty
+
+pub write_result-ended-requires-clause-no_fault : goal.write_result-ended-requires-clause-no_fault
+write_result-ended-requires-clause-no_fault g c = ap (λ (p : Pooled). p.fault) c.new-asks.ensures.empty
+
+pub write_result-ended-requires-clause-suits : goal.write_result-ended-requires-clause-suits
+write_result-ended-requires-clause-suits g c = suits-empty c.args.options.now c.new-asks.result (g.W.Wire.state c.args.wire.now) c.new-asks.ensures.empty
+
+pub close-requires : goal.close-requires
+close-requires g c = record { suits = c.write_result-ended.ensures.suits }
+
+pub returns-clause-ok : goal.returns-clause-ok
+returns-clause-ok g c =
+    if-ok c.write_result-ended.result _ _ (λ report w. writes-all-so _ _ (ran-closed (g.W.Wire.allows c.args.wire.now) c.args.options.now c.new-asks.result c.write_result-ended.new.asks (g.W.Wire.state c.args.wire.now) (g.W.Wire.state c.write_result-ended.new.wire) (g.W.Wire.state c.close.new.wire) c.new-asks.ensures.empty c.close.ensures.closes) c.args.query.now c.args.start.now report _ _ w) c.write_result-ended.ensures.ok
+
+pub returns-clause-err : goal.returns-clause-err
+returns-clause-err g c =
+    if-err c.write_result-ended.result _ _ (λ fault w. writes-some-so _ _ (ran-closed (g.W.Wire.allows c.args.wire.now) c.args.options.now c.new-asks.result c.write_result-ended.new.asks (g.W.Wire.state c.args.wire.now) (g.W.Wire.state c.write_result-ended.new.wire) (g.W.Wire.state c.close.new.wire) c.new-asks.ensures.empty c.close.ensures.closes) c.args.query.now c.args.start.now c.args.options.now.budget fault _ _ w) c.write_result-ended.ensures.err
+
+pub returns-clause-whole : goal.returns-clause-whole
+returns-clause-whole g c = if-ok c.write_result-ended.result _ _ (λ report w. result-written _ c.args.query.now c.args.start.now report _ _ w) c.write_result-ended.ensures.ok
+
+pub returns-clause-front : goal.returns-clause-front
+returns-clause-front g c = on-err-of c.write_result-ended.result _ _ (λ fault w. prefix-written _ c.args.query.now c.args.start.now c.solutions_rest_on_laws.ensures.pieces c.solutions_rest_on_laws.ensures.goes_on c.args.options.now.budget fault _ _ w) c.write_result-ended.ensures.err
+
+pub returns-clause-headline : goal.returns-clause-headline
+returns-clause-headline g c = λ history config honest.
+    if-ok c.write_result-ended.result _ _ (λ report w.
+    solutions-written c.solutions_rest_on_laws.ensures (g.W.Wire.allows c.args.wire.now) history config c.args.options.now (g.W.Wire.state c.args.wire.now) (g.W.Wire.state c.close.new.wire) honest c.is_lawful.ensures c.new-asks.ensures.limit c.args.start.now c.args.query.now report _ _
+    (writes-all-so _ _ (ran-closed (g.W.Wire.allows c.args.wire.now) c.args.options.now c.new-asks.result c.write_result-ended.new.asks (g.W.Wire.state c.args.wire.now) (g.W.Wire.state c.write_result-ended.new.wire) (g.W.Wire.state c.close.new.wire) c.new-asks.ensures.empty c.close.ensures.closes) c.args.query.now c.args.start.now report _ _ w)) c.write_result-ended.ensures.ok
+
+pub returns-clause-prefix : goal.returns-clause-prefix
+returns-clause-prefix g c = λ history config honest.
+    on-err-of c.write_result-ended.result _ _ (λ fault w.
+    front-written c.solutions_rest_on_laws.ensures (g.W.Wire.allows c.args.wire.now) history config c.args.options.now (g.W.Wire.state c.args.wire.now) (g.W.Wire.state c.close.new.wire) honest c.is_lawful.ensures c.new-asks.ensures.limit c.args.start.now c.args.query.now c.args.options.now.budget fault _ _
+    (writes-some-so _ _ (ran-closed (g.W.Wire.allows c.args.wire.now) c.args.options.now c.new-asks.result c.write_result-ended.new.asks (g.W.Wire.state c.args.wire.now) (g.W.Wire.state c.write_result-ended.new.wire) (g.W.Wire.state c.close.new.wire) c.new-asks.ensures.empty c.close.ensures.closes) c.args.query.now c.args.start.now c.args.options.now.budget fault _ _ w)) c.write_result-ended.ensures.err
+
+pub returns-clause-cause : goal.returns-clause-cause
+returns-clause-cause g c =
+    if-err c.write_result-ended.result _ _ (λ fault w.
+    fault-caused (g.W.Wire.allows c.args.wire.now) c.args.options.now (g.W.Wire.state c.args.wire.now) (g.W.Wire.state c.close.new.wire) c.args.query.now c.args.start.now fault _ _
+    (writes-some-so _ _ (ran-closed (g.W.Wire.allows c.args.wire.now) c.args.options.now c.new-asks.result c.write_result-ended.new.asks (g.W.Wire.state c.args.wire.now) (g.W.Wire.state c.write_result-ended.new.wire) (g.W.Wire.state c.close.new.wire) c.new-asks.ensures.empty c.close.ensures.closes) c.args.query.now c.args.start.now c.args.options.now.budget fault _ _ w)) c.write_result-ended.ensures.err

@@ -1,0 +1,44 @@
+-- The start page has a form with the authority of the start, and nothing is held behind it.
+use Rattle.std.proofs.Common.{[]}
+use Rattle.list_laws.proofs.Members.{at_head}
+use Rattle.tpf_client.proofs.Shutting.{if-ok, if-err}
+use Rattle.tpf_client.proofs.Written.{all-written, some-written, none-written, rest-suits}
+use Rattle.tpf_client.proofs.Waiting.{allowed-then}
+use Rattle.tpf_client.proofs.calls.write_result.Goals as goal
+
+pub write_rows-requires-clause-home : goal.write_rows-requires-clause-home
+write_rows-requires-clause-home g c =
+    let s = c.in-Ok.ensures.starts in
+    (c.args.start.now, at_head c.args.start.now [], (c.pages_keep_authority.ensures _ s.reply.body c.args.start.now c.in-Ok.page c.is_valid.ensures s.taken).form)
+
+pub write_rows-requires-clause-none : goal.write_rows-requires-clause-none
+write_rows-requires-clause-none g c = c.in-Ok.ensures.starts.none
+
+pub write_rows-requires-clause-no_fault : goal.write_rows-requires-clause-no_fault
+write_rows-requires-clause-no_fault g c = c.in-Ok.ensures.starts.no_fault
+
+pub write_rows-requires-clause-suits : goal.write_rows-requires-clause-suits
+write_rows-requires-clause-suits g c = c.in-Ok.ensures.starts.suits
+
+pub returns-in-Ok-clause-ok : goal.returns-in-Ok-clause-ok
+returns-in-Ok-clause-ok g c =
+    if-ok c.write_rows.result _ _ (λ report w. all-written (g.W.Wire.allows c.args.wire.now) (g.W.Wire.allows c.ask_start.new.wire) c.in-Ok.ensures.allowed c.args.query.now c.args.start.now c.in-Ok.page c.args.asks.now c.ask_start.new.asks c.write_rows.new.asks
+    (g.W.Wire.state c.args.wire.now) (g.W.Wire.state c.ask_start.new.wire) (g.W.Wire.state c.write_rows.new.wire) c.in-Ok.ensures.starts report _ _ w) c.write_rows.ensures.ok
+
+pub returns-in-Ok-clause-err : goal.returns-in-Ok-clause-err
+returns-in-Ok-clause-err g c =
+    if-err c.write_rows.result _ _ (λ fault w. some-written (g.W.Wire.allows c.args.wire.now) (g.W.Wire.allows c.ask_start.new.wire) c.in-Ok.ensures.allowed c.args.query.now c.args.start.now c.in-Ok.page c.args.asks.now c.ask_start.new.asks c.write_rows.new.asks
+    (g.W.Wire.state c.args.wire.now) (g.W.Wire.state c.ask_start.new.wire) (g.W.Wire.state c.write_rows.new.wire) c.in-Ok.ensures.starts c.args.options.now.budget fault _ _ w) c.write_rows.ensures.err
+
+pub returns-in-Ok-clause-suits : goal.returns-in-Ok-clause-suits
+returns-in-Ok-clause-suits g c =
+    rest-suits (g.W.Wire.allows c.ask_start.new.wire) c.args.query.now c.in-Ok.page c.args.options.now.budget c.ask_start.new.asks c.write_rows.new.asks (g.W.Wire.state c.ask_start.new.wire) (g.W.Wire.state c.write_rows.new.wire) _ _ c.write_rows.result c.write_rows.ensures.ok c.write_rows.ensures.err
+
+pub returns-in-Ok-clause-allowed : goal.returns-in-Ok-clause-allowed
+returns-in-Ok-clause-allowed g c = allowed-then (g.W.Wire.allows c.args.wire.now) (g.W.Wire.allows c.ask_start.new.wire) (g.W.Wire.allows c.write_rows.new.wire) c.in-Ok.ensures.allowed c.write_rows.ensures.allowed
+
+pub returns-in-Err-clause-err : goal.returns-in-Err-clause-err
+returns-in-Err-clause-err g c = none-written (g.W.Wire.allows c.args.wire.now) c.args.query.now c.args.start.now c.args.options.now.budget c.in-Err.fault c.args.asks.now c.ask_start.new.asks (g.W.Wire.state c.args.wire.now) (g.W.Wire.state c.ask_start.new.wire) _ c.in-Err.ensures.starts
+
+pub returns-in-Err-clause-suits : goal.returns-in-Err-clause-suits
+returns-in-Err-clause-suits g c = c.in-Err.ensures.starts.suits

@@ -1,0 +1,16 @@
+-- These rows were given so far.
+use Rattle.std.proofs.Common.{◌≡◌, ◌≤◌, true, List}
+use Rattle.bgp_core.specs.Solutions.{Places}
+use Rattle.tpf_client.specs.Turns.{Gives}
+use Rattle.tpf_client.proofs.turns.give_rows.Given as goal
+
+abbrev pub invariant-waiting : goal.invariant-waiting
+invariant-waiting g l = record {
+  gives : (taken : List Places) × Gives g.E.Evaluates.suits g.E.Evaluates.account g.E.Evaluates.keeps_to g.E.Evaluates.standing l.fn.evaluation l.evaluation taken × g.T.TakesRows.takes taken l.fn.rows l.rows l.fn.behind l.behind;
+  later : g.T.TakesRows.faults l.fn.behind ≤ g.T.TakesRows.faults l.behind;
+  faultless : g.T.TakesRows.faultless l.behind ≡ g.T.TakesRows.faultless l.fn.behind;
+  spared : g.T.TakesRows.faultless l.fn.behind ≡ true → g.T.TakesRows.faults l.behind ≡ g.T.TakesRows.faults l.fn.behind;
+}
+
+abbrev pub decreases-waiting : goal.decreases-waiting
+decreases-waiting g l = (g.E.Evaluates.standing l.evaluation).waiting

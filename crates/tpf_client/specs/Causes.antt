@@ -1,0 +1,65 @@
+-- Why a call ended with a fault, by its last event.
+use Rattle.std.specs.Prelude.{ℕ, ◌≡◌, ◌≢◌, List, Option}
+use Rattle.http_wire.specs.declared.message.Reply.{Reply}
+use Rattle.control_reader.specs.declared.page.Page.{Page}
+use Rattle.control_reader.specs.declared.page.PageFault.{PageFault}
+use Rattle.control_reader.specs.Takes.{Takes, Faults}
+use Rattle.request_pool.specs.declared.fault.PoolFault.{PoolFault}
+use Rattle.request_pool.specs.declared.fault.PoolFault.TheVariants as pool
+use Rattle.request_pool.specs.Pools.{Ask}
+use Rattle.tpf_client.specs.declared.fault.ClientFault.{ClientFault}
+use Rattle.tpf_client.specs.declared.fault.ClientFault.TheVariants as faults
+use Rattle.tpf_client.specs.declared.asks.Arrived.{Arrived}
+use Rattle.tpf_client.specs.Traffic.{Event, Came, Broke, EndsWith}
+
+-- a fault of a pool as that of a call with a budget
+abbrev pub shown_as : ℕ → PoolFault → ClientFault
+shown_as budget pool.Exchange = faults.Exchange
+shown_as budget pool.Stalled = faults.Stalled
+shown_as budget (pool.Cut received) = faults.Cut received
+shown_as budget (pool.Reply fault received) = faults.Reply fault received
+shown_as budget pool.Budget = faults.Budget budget
+shown_as budget pool.OutOfMemory = faults.OutOfMemory
+
+-- the last reply that came has this body, which is no page of its address for this reason
+pub record IsNoPage (fault : PageFault) (body : List ℕ) (events : List Event) : Type 0 where
+  pub ask : Ask
+  pub reply : Reply
+  pub last : EndsWith (Came ask reply) events
+  pub body_is : reply.body ≡ body
+  pub why : Faults body ask.address fault
+
+-- the last reply that came is a page of another version
+pub record IsChanged (first other : Option ℕ) (events : List Event) : Type 0 where
+  pub ask : Ask
+  pub reply : Reply
+  pub last : EndsWith (Came ask reply) events
+  pub page : Page
+  pub taken : Takes reply.body ask.address page
+  pub version : page.version ≡ other
+  pub differs : first ≢ other
+
+-- what each fault rests on; the version is that of the start page, where that was read
+abbrev pub Explains : Option ℕ → ℕ → ClientFault → List Event → Type 0
+Explains version budget faults.Exchange events = EndsWith (Broke pool.Exchange) events
+Explains version budget faults.Stalled events = EndsWith (Broke pool.Stalled) events
+Explains version budget (faults.Cut received) events = EndsWith (Broke (pool.Cut received)) events
+Explains version budget (faults.Reply fault received) events = EndsWith (Broke (pool.Reply fault received)) events
+Explains version budget (faults.Page fault body) events = IsNoPage fault body events
+Explains version budget (faults.Changed first other) events = (first ≡ version) × IsChanged first other events
+Explains version budget (faults.Budget n) events = (n ≡ budget) × EndsWith (Broke pool.Budget) events
+Explains version budget faults.Sink events = Unit {0}
+Explains version budget faults.OutOfMemory events = Unit {0}
+
+-- Why the page of a reply was not taken: it is none, it tells another version, or memory is wanting.
+abbrev pub IsTakeFault : Arrived → Option ℕ → ClientFault → Type 0
+IsTakeFault arrived version (faults.Page fault body) = (body ≡ arrived.reply.body) × Faults body arrived.address fault
+IsTakeFault arrived version (faults.Changed first other) = (first ≡ version) × (first ≢ other) × ((page : Page) × Takes arrived.reply.body arrived.address page × (page.version ≡ other))
+IsTakeFault arrived version faults.OutOfMemory = Unit {0}
+IsTakeFault arrived version other = ⊥
+
+-- a fault that comes of no event: of the sink, or want of memory
+abbrev pub IsLocal : ClientFault → Type 0
+IsLocal faults.Sink = Unit {0}
+IsLocal faults.OutOfMemory = Unit {0}
+IsLocal other = ⊥

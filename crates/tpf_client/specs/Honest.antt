@@ -1,0 +1,88 @@
+-- Over wires whose other ends answer as a server does, over numbered versions of data.
+use Rattle.std.specs.Prelude.{ℕ, ◌≡◌, ◌≤◌, ◌<◌, ◌^◌, List, length, Option, Some}
+use Rattle.std.specs.Io.KnownBytes.{Appends}
+use Rattle.std.specs.List.Sorted.{IsPermutation}
+use Rattle.rdf_terms.specs.declared.term.Triple.{Triple}
+use Rattle.tpf_base.specs.Causes.{counted_by}
+use Rattle.tpf_base.specs.Links.{All, WireState}
+use Rattle.tpf_base.specs.Wrote.{AppendsPrefix}
+use Rattle.template_fill.specs.Metadata.{Config}
+use Rattle.template_fill.specs.Configurations.{IsConfig, IsHistory}
+use Rattle.template_fill.specs.Responses.{IsHonest}
+use Rattle.template_fill.specs.Bodies.{version_of}
+use Rattle.bgp_core.specs.Queries.{QueryData}
+use Rattle.bgp_core.specs.Solutions.{Places}
+use Rattle.result_json.specs.Results.{result_text}
+use Rattle.rdf_terms.specs.Askable.{AskableAreKept}
+use Rattle.template_fill.specs.Authorities.{PagesAreAddresses}
+use Rattle.template_fill.specs.Answered.{PagesAreGiven, AnsweredGivePages}
+use Rattle.control_reader.specs.Law.{NothingElseIsRead}
+use Rattle.result_json.specs.Pieces.{PiecesMakeTheText, RowsGoOn}
+use Rattle.pool_laws.specs.Following.{EmptyPoolsFollow, PutsFollow, StepsFollow, FaultsFollow}
+use Rattle.pool_laws.specs.Answers.{IsBodyOf}
+use Rattle.join_core.specs.Servers.{ServersAreWorlds, ServersHaveForms, ServersPagesAreTrue}
+use Rattle.tpf_client.specs.Traffic.{Event, Asked, Came, Waited, Broke}
+use Rattle.tpf_client.specs.Calls.{solutions_of}
+
+-- A wire that tells all and whose other ends answer, on every link, as a server of this history and configuration does. Each version has fewer triples than a page can count.
+pub record IsHonestWire (allows : List ℕ → ℕ → List ℕ → List ℕ → Type 0) (history : List (List Triple)) (config : Config) (wire : WireState) : Type 0 where
+  pub tells : wire.nature.tells ≡ All
+  pub is_honest : IsHonest allows history config
+  pub is_history : IsHistory history
+  pub is_config : IsConfig config
+  pub few : (version : ℕ) → length (version_of history version) < 2 ^ 64
+
+-- a reply is the body of the server's answer to the request for its address, over one of the versions
+abbrev pub IsAnswer : List (List Triple) → Config → Event → Type 0
+IsAnswer history config (Asked ask) = Unit {0}
+IsAnswer history config (Came ask reply) = IsBodyOf history config ask.address reply.body
+IsAnswer history config Waited = Unit {0}
+IsAnswer history config (Broke fault) = Unit {0}
+
+-- the number of one of the versions
+pub record IsVersionOf (history : List (List Triple)) (version : ℕ) : Type 0 where
+  pub low : 1 ≤ version
+  pub high : version ≤ length history
+
+-- The text of some ordering of the query's solutions over one version, the one that is reported, was written whole.
+pub record WritesSolutions (history : List (List Triple)) (q : QueryData) (reported : Option ℕ) (n : ℕ) (taken taken' : Option (List ℕ)) : Type 0 where
+  pub version : ℕ
+  pub is_version : IsVersionOf history version
+  pub is_reported : reported ≡ Some version
+  pub rows : List Places
+  pub rows_are : IsPermutation (solutions_of (version_of history version) q) rows
+  pub text : Appends taken taken' (result_text q rows)
+  pub count : n ≡ counted_by (length rows) 0
+
+-- The rows are the solutions over one version, the one that is reported, in some order.
+pub record IsSolutions (history : List (List Triple)) (q : QueryData) (reported : Option ℕ) (rows : List Places) : Type 0 where
+  pub version : ℕ
+  pub is_version : IsVersionOf history version
+  pub is_reported : reported ≡ Some version
+  pub rows_are : IsPermutation (solutions_of (version_of history version) q) rows
+
+-- A front of such a text was written.
+pub record WritesSolutionsFront (history : List (List Triple)) (q : QueryData) (taken taken' : Option (List ℕ)) : Type 0 where
+  pub version : ℕ
+  pub is_version : IsVersionOf history version
+  pub rows : List Places
+  pub rows_are : IsPermutation (solutions_of (version_of history version) q) rows
+  pub text : AppendsPrefix taken taken' (result_text q rows)
+
+-- ---- the laws on which the solutions rest
+
+pub record Laws : Type 0 where
+  pub empty : EmptyPoolsFollow
+  pub puts : PutsFollow
+  pub steps : StepsFollow
+  pub faults : FaultsFollow
+  pub given : PagesAreGiven
+  pub answered : AnsweredGivePages
+  pub only : NothingElseIsRead
+  pub worlds : ServersAreWorlds
+  pub forms : ServersHaveForms
+  pub pages : ServersPagesAreTrue
+  pub kept : AskableAreKept
+  pub addresses : PagesAreAddresses
+  pub pieces : PiecesMakeTheText
+  pub goes_on : RowsGoOn

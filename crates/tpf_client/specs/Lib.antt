@@ -1,0 +1,9 @@
+pub mod Traffic
+pub mod Causes
+pub mod Asking
+pub mod Rows
+pub mod RowLaws
+pub mod Starts
+pub mod Turns
+pub mod Calls
+pub mod Honest

@@ -1,0 +1,96 @@
+-- What happens between a call's pool and its wire, one event after another.
+use Rattle.std.specs.Prelude.{ℕ, ◌≡◌, ◌≢◌, ◌≤◌, ◌==◌, List, [], ◌∷◌, ◌++◌, None, Some, Ok, Err, if◌then◌else◌}
+use Rattle.std.specs.List.{AllByRecursion, sum_by}
+use Rattle.std.specs.List.Sorted.{IsPermutation}
+use Rattle.tpf_base.specs.Addresses.{IsAddress, address_text}
+use Rattle.tpf_base.specs.Links.{WireState, IsToldBy, ReceivesOwed, OwesAllowed, OpensGiven, IsLively}
+use Rattle.http_wire.specs.declared.message.Reply.{Reply}
+use Rattle.request_pool.specs.declared.fault.PoolFault.{PoolFault}
+use Rattle.request_pool.specs.declared.fault.Stepped.TheVariants as stepped
+use Rattle.request_pool.specs.Pools.{Pooled, Ask, held, bounds_of}
+use Rattle.request_pool.specs.Owned.{SuitsWire}
+use Rattle.request_pool.specs.Steps.{StepsTo}
+use Rattle.pool_laws.specs.Answers.{RepliesAreAnswers}
+
+-- an ask was put; the whole reply to one came; nothing came in a step; or a step ended with a fault
+pub data Event : Type 0 where
+  Asked : Ask → Event
+  Came : Ask → Reply → Event
+  Waited : Event
+  Broke : PoolFault → Event
+
+-- the same pool without its fault
+abbrev pub without_fault : Pooled → Pooled
+without_fault pool = record pool { fault = None }
+
+-- an ask for an address waits behind those that wait, under a ticket that no other has
+pub record Puts (ask : Ask) (old new : Pooled) : Type 0 where
+  pub is_address : IsAddress (address_text ask.address) ask.address
+  pub fresh : AllByRecursion (λ a. a.ticket ≢ ask.ticket) (held old)
+  pub put : new ≡ record old { waiting = old.waiting ++ (record { ticket = ask.ticket; address = ask.address; failed = 0 }) ∷ [] }
+
+-- the reply to an ask came, which is held no longer
+pub record Comes (ask : Ask) (reply : Reply) (old new : Pooled) (wire wire' : WireState) : Type 0 where
+  pub steps : StepsTo (Ok (stepped.Came ask.ticket reply)) old new wire wire'
+  pub others : IsPermutation (held old) (ask ∷ held new)
+  pub had_none : old.fault ≡ None
+  pub no_fault : new.fault ≡ None
+
+-- nothing came in a step, and all asks are still held
+pub record Waits (old new : Pooled) (wire wire' : WireState) : Type 0 where
+  pub steps : StepsTo (Ok stepped.Waited) old new wire wire'
+  pub others : IsPermutation (held old) (held new)
+  pub had_none : old.fault ≡ None
+  pub no_fault : new.fault ≡ None
+
+-- a step ended with a fault, which the pool keeps
+pub record Breaks (fault : PoolFault) (old new : Pooled) (wire wire' : WireState) : Type 0 where
+  pub steps : StepsTo (Err fault) old (without_fault new) wire wire'
+  pub had_none : old.fault ≡ None
+  pub kept : new.fault ≡ Some fault
+
+abbrev pub Happens : Event → Pooled → Pooled → WireState → WireState → Type 0
+Happens (Asked ask) old new wire wire' = Puts ask old new × (wire' ≡ wire)
+Happens (Came ask reply) old new wire wire' = Comes ask reply old new wire wire'
+Happens Waited old new wire wire' = Waits old new wire wire'
+Happens (Broke fault) old new wire wire' = Breaks fault old new wire wire'
+
+-- one for the ticket
+abbrev pub is_under : ℕ → Ask → ℕ
+is_under ticket ask = if ask.ticket == ticket then 1 else 0
+
+-- no two asks have one ticket
+pub record AreDistinct (asks : List Ask) : Type 0 where
+  pub once : (ticket : ℕ) → sum_by (is_under ticket) asks ≤ 1
+
+-- What every wire keeps to at each moment; `allows` is what its other ends may owe. A reply that comes just before is the answer of an honest other end.
+pub record IsLawful (allows : List ℕ → ℕ → List ℕ → List ℕ → Type 0) (wire : WireState) : Type 0 where
+  pub told : (k : ℕ) → IsToldBy wire.nature.tells (wire.links k)
+  pub given : OpensGiven wire
+  pub received : (k : ℕ) → ReceivesOwed (wire.links k)
+  pub owed : (k : ℕ) → OwesAllowed allows (wire.links k)
+  pub lively : IsLively wire
+  pub replies : RepliesAreAnswers allows wire
+
+-- An event, and what holds after it: the pool suits the wire, its tickets differ, unless it ended, and its bounds are as before.
+pub record Moves (allows : List ℕ → ℕ → List ℕ → List ℕ → Type 0) (event : Event) (old new : Pooled) (wire wire' : WireState) : Type 0 where
+  pub happens : Happens event old new wire wire'
+  pub suits : SuitsWire new wire'
+  pub distinct : new.fault ≡ None → AreDistinct (held new)
+  pub bounds : bounds_of (without_fault new) ≡ bounds_of (without_fault old)
+  pub lawful : IsLawful allows wire'
+
+-- a pool and its wire
+pub record Moment : Type 0 where
+  pub pool : Pooled
+  pub wire : WireState
+
+-- these events, one after another
+abbrev pub Travels : (List ℕ → ℕ → List ℕ → List ℕ → Type 0) → List Event → Pooled → Pooled → WireState → WireState → Type 0
+Travels allows [] old new wire wire' = (new ≡ old) × (wire' ≡ wire)
+Travels allows (event ∷ events) old new wire wire' = (mid : Moment) × Moves allows event old mid.pool wire mid.wire × Travels allows events mid.pool new mid.wire wire'
+
+-- the last of the events is this one
+pub record EndsWith (event : Event) (events : List Event) : Type 0 where
+  pub before : List Event
+  pub is_last : events ≡ before ++ event ∷ []

@@ -1,0 +1,164 @@
+-- The turns of an evaluation: rows are taken from it, its asks are put, and pages are handed to it.
+use Rattle.std.specs.Prelude.{ℕ, ◌≡◌, ◌+◌, ◌==◌, ◌≤◌, if◌then◌else◌, List, [], ◌∷◌, ◌++◌, map, length, Option, None}
+use Rattle.std.specs.List.{All, AllByRecursion, Contains, sum_by}
+use Rattle.std.specs.List.Sorted.{IsPermutation}
+use Rattle.tpf_base.specs.Addresses.{Address}
+use Rattle.tpf_base.specs.Links.{WireState}
+use Rattle.bgp_core.specs.Solutions.{Places}
+use Rattle.control_reader.specs.declared.page.Page.{Page}
+use Rattle.control_reader.specs.Takes.{Takes}
+use Rattle.request_pool.specs.Pools.{Pooled, Ask, held}
+use Rattle.request_pool.specs.Owned.{SuitsWire}
+use Rattle.join_core.specs.Evaluations.{Account, Standing, Terms, HasHome, EndsNumber, EndsTicket}
+use Rattle.tpf_client.specs.declared.asks.Arrived.{Arrived}
+use Rattle.tpf_client.specs.declared.fault.ClientFault.{ClientFault}
+use Rattle.tpf_client.specs.Traffic.{is_under, AreDistinct, Event, Asked, Came, Waited, Broke, Travels}
+use Rattle.tpf_client.specs.Causes.{Explains}
+use Rattle.tpf_client.specs.Asking.{PutsAll}
+
+abbrev pub ticket_of : Ask → ℕ
+ticket_of ask = ask.ticket
+
+abbrev pub address_of : Ask → Address
+address_of ask = ask.address
+
+abbrev pub pair_of : Ask → ℕ × Address
+pair_of ask = (ask.ticket, ask.address)
+
+-- one for the ticket
+abbrev pub is_number : ℕ → ℕ → ℕ
+is_number ticket number = if number == ticket then 1 else 0
+
+abbrev pub is_pair : ℕ → ℕ × Address → ℕ
+is_pair ticket pair = is_number ticket pair.0
+
+-- An evaluation and its pool: the evaluation keeps to the terms, which the asks that are held keep to as well, their tickets differ, and they are those that the evaluation has out.
+pub record Meets (terms : Terms) (keeps : Type 0) (standing : Standing) (pool : Pooled) : Type 0 where
+  pub kept : keeps
+  pub homes : All (λ ask. HasHome terms.homes ask.address) (held pool)
+  pub tickets : (ticket : ℕ) → sum_by (is_under ticket) (held pool) ≡ sum_by (is_number ticket) standing.out
+  pub distinct : AreDistinct (held pool)
+  pub no_fault : pool.fault ≡ None
+
+-- what the account has out is held, each ticket once
+pub record IsOut (pool : Pooled) (account : Account) : Type 0 where
+  pub distinct : AreDistinct (held pool)
+  pub is_held : (pair : ℕ × Address) → Contains account.out pair → Contains (map pair_of (held pool)) pair
+  pub once : (ticket : ℕ) → sum_by (is_pair ticket) account.out ≤ 1
+
+-- ---- accounts
+
+-- these addresses were handed out under these tickets
+pub record HandsAll (before after : Account) (asked : List Ask) : Type 0 where
+  pub owed : IsPermutation before.owed after.owed
+  pub left : IsPermutation before.left (map address_of asked ++ after.left)
+
+-- these rows were given
+pub record GivesAll (before after : Account) (rows : List Places) : Type 0 where
+  pub owed : IsPermutation before.owed (rows ++ after.owed)
+  pub left : IsPermutation before.left after.left
+  pub out : IsPermutation before.out after.out
+
+-- what was owed is what was given and what is owed still, and the same of what is left to ask
+pub record Owes (before after : Account) (rows : List Places) (asked : List Ask) : Type 0 where
+  pub owed : IsPermutation before.owed (rows ++ after.owed)
+  pub left : IsPermutation before.left (map address_of asked ++ after.left)
+
+-- what was given and asked was a part of that
+pub record OwesMore (before : Account) (rows : List Places) (asked : List Ask) : Type 0 where
+  pub more : List Places
+  pub owed : IsPermutation before.owed (rows ++ more)
+  pub rest : List Address
+  pub left : IsPermutation before.left (map address_of asked ++ rest)
+
+-- ---- events
+
+-- the asks that were put
+abbrev pub asked_in : List Event → List Ask
+asked_in [] = []
+asked_in (Asked ask ∷ events) = ask ∷ asked_in events
+asked_in (Came ask reply ∷ events) = asked_in events
+asked_in (Waited ∷ events) = asked_in events
+asked_in (Broke fault ∷ events) = asked_in events
+
+-- each page of the version that came is true for its address
+abbrev pub IsTrueReply : (Address → Page → Type 0) → Option ℕ → Event → Type 0
+IsTrueReply is_true version (Asked ask) = Unit {0}
+IsTrueReply is_true version (Came ask reply) = (page : Page) → Takes reply.body ask.address page → page.version ≡ version → is_true ask.address page
+IsTrueReply is_true version Waited = Unit {0}
+IsTrueReply is_true version (Broke fault) = Unit {0}
+
+abbrev pub AreTrue : (Address → Page → Type 0) → Option ℕ → List Event → Type 0
+AreTrue is_true version events = AllByRecursion (IsTrueReply is_true version) events
+
+-- ---- an evaluation, by its ghost members
+
+module _ {Source Eval : Type 0} (suits : Source → Eval → Type 0) (account : Source → Eval → Account) (keeps : Terms → Eval → Type 0) (standing : Eval → Standing) where
+  -- The evaluation handed these asks over, and they were put.
+  pub record Hands (old new : Eval) (asked : List Ask) (pool pool' : Pooled) : Type 0 where
+    pub puts : PutsAll asked pool pool'
+    pub given : (standing new).given ≡ (standing old).given + length asked
+    pub waiting : (standing new).waiting ≡ (standing old).waiting
+    pub meets : (terms : Terms) → Meets terms (keeps terms old) (standing old) pool → Meets terms (keeps terms new) (standing new) pool'
+    pub stays : (source : Source) → suits source old → suits source new
+    pub owes : (source : Source) → suits source old → HandsAll (account source old) (account source new) asked
+    pub outs : (source : Source) → suits source old → IsOut pool (account source old) → IsOut pool' (account source new)
+
+  -- The evaluation gave these rows.
+  pub record Gives (old new : Eval) (rows : List Places) : Type 0 where
+    pub given : (standing new).given ≡ (standing old).given
+    pub out : (standing new).out ≡ (standing old).out
+    pub waiting : (standing old).waiting ≡ length rows + (standing new).waiting
+    pub kept : (terms : Terms) → keeps terms old → keeps terms new
+    pub width : (terms : Terms) → keeps terms old → All (λ row. length row ≡ terms.width) rows
+    pub stays : (source : Source) → suits source old → suits source new
+    pub owes : (source : Source) → suits source old → GivesAll (account source old) (account source new) rows
+
+  -- It gave these rows, and then handed these asks over.
+  pub record Readies (old new : Eval) (rows : List Places) (asked : List Ask) (pool pool' : Pooled) : Type 0 where
+    pub mid : Eval
+    pub gives : Gives old mid rows
+    pub hands : Hands mid new asked pool pool'
+
+  module _ (is_true : Source → Address → Page → Type 0) where
+    -- a page is true for each address with which the ticket is out
+    abbrev pub IsTrueFor : Source → Eval → ℕ → Page → Type 0
+    IsTrueFor source e ticket page = (address : Address) → Contains (account source e).out (ticket, address) → is_true source address page
+
+    -- The page of a reply was taken: it tells the version, and the ticket is out no longer.
+    pub record TakesReply (old new : Eval) (arrived : Arrived) (version : Option ℕ) : Type 0 where
+      pub page : Page
+      pub taken : Takes arrived.reply.body arrived.address page
+      pub is_version : page.version ≡ version
+      pub ends : EndsNumber (standing old) (standing new) arrived.ticket
+      pub kept : (terms : Terms) → keeps terms old → HasHome terms.homes arrived.address → keeps terms new
+      pub stays : (source : Source) → suits source old → IsTrueFor source old arrived.ticket page → suits source new
+      pub owes : (source : Source) → suits source old → IsTrueFor source old arrived.ticket page → EndsTicket (account source old) (account source new) arrived.ticket
+
+    -- A source that the evaluation suits, with these asks out, and for which all pages are true that came.
+    pub record IsTruth (source : Source) (e : Eval) (version : Option ℕ) (events : List Event) (pool : Pooled) : Type 0 where
+      pub is_suited : suits source e
+      pub is_out : IsOut pool (account source e)
+      pub pages : AreTrue (is_true source) version events
+
+    -- what stays so after events in which these rows were given
+    pub record Stays (source : Source) (old new : Eval) (rows : List Places) (asked : List Ask) (pool : Pooled) : Type 0 where
+      pub is_suited : suits source new
+      pub is_out : IsOut pool (account source new)
+      pub owes : Owes (account source old) (account source new) rows asked
+
+    module _ (allows : List ℕ → ℕ → List ℕ → List ℕ → Type 0) where
+      -- Events between the pool and the wire, and the rows that the evaluation gave in these.
+      pub record Went (old new : Eval) (version : Option ℕ) (events : List Event) (rows : List Places) (pool pool' : Pooled) (wire wire' : WireState) : Type 0 where
+        pub travels : Travels allows events pool pool' wire wire'
+        pub on_wire : SuitsWire pool' wire'
+        pub meets : (terms : Terms) → Meets terms (keeps terms old) (standing old) pool → Meets terms (keeps terms new) (standing new) pool'
+        pub width : (terms : Terms) → Meets terms (keeps terms old) (standing old) pool → All (λ row. length row ≡ terms.width) rows
+        pub stays : (source : Source) → IsTruth source old version events pool → Stays source old new rows (asked_in events) pool'
+
+      -- Events and rows, and then a fault.
+      pub record Failed (old : Eval) (version : Option ℕ) (budget : ℕ) (fault : ClientFault) (events : List Event) (rows : List Places) (pool pool' : Pooled) (wire wire' : WireState) : Type 0 where
+        pub travels : Travels allows events pool pool' wire wire'
+        pub on_wire : SuitsWire pool' wire'
+        pub explains : Explains version budget fault events
+        pub owes : (source : Source) → IsTruth source old version events pool → OwesMore (account source old) rows (asked_in events)

@@ -1,0 +1,27 @@
+// What bounds a call, and what it tells at its end.
+
+/// What bounds a call.
+#[derive(Clone, Copy, Debug, PartialEq, Eq)]
+pub struct Options {
+    /// How many nodes of the join may work at once, at least 1.
+    pub window: u32,
+    /// How many requests may be under way at once, and how many links are kept, from 1 to 256.
+    pub links: u32,
+    /// How often a request that failed is asked again.
+    pub retries: u32,
+    /// How many requests may be started.
+    pub budget: u64,
+    /// How many bytes the body of a reply may have.
+    pub max_body: u64,
+}
+
+/// What a call tells at its end.
+#[derive(Clone, Copy, Debug, PartialEq, Eq)]
+pub struct Report {
+    /// How many requests were started, those that were asked again counted each time.
+    pub requests: u64,
+    /// How many rows there are. It stands still at 2^64 - 1.
+    pub rows: u64,
+    /// The version of the data that the start page tells, which each other page told as well.
+    pub version: Option<u64>,
+}

@@ -1,0 +1,117 @@
+// The first request, and replies.
+ghost use Rattle.std.specs.Prelude.{ℕ, ◌≡◌, ◌≢◌, ◌⊎◌, ◌∷◌, ◌++◌, [], List, None, OnOk, OnErr, IsErrOf};
+ghost use Rattle.std.specs.List.Sorted.{IsPermutation};
+ghost use Rattle.tpf_base.specs.Links.{SameAllowed};
+ghost use Rattle.request_pool.specs.Pools.{held};
+ghost use Rattle.request_pool.specs.Owned.{SuitsWire};
+ghost use Rattle.tpf_client.specs.Asking.{Awaits, PutsOne, ReadsPage};
+ghost use Rattle.tpf_client.specs.Starts.{Starts, start_ask};
+
+use crate::ClientFault;
+use crate::asks::{Arrived, Asks, Next, is_lawful};
+use crate::fault::shown;
+use control_reader::{Page, PageFault, read_page};
+use request_pool::PoolFault;
+use std::alloc::Global;
+use std::sync::Wait;
+use template_fill::WebAddress;
+use tpf_base::{Dial, OutOfMemory};
+
+/// The ticket of the start: no evaluation gives it.
+const START: u64 = u64::MAX;
+
+/// Takes steps until a reply comes.
+pub(crate) fn next_reply<R: Wait, W: Dial>(
+    rt: &R,
+    asks: &mut Asks,
+    wire: &mut W,
+) -> Result<Arrived, PoolFault>
+    requires suits { SuitsWire asks.old (W.state wire.old) }
+    requires no_fault { asks.old.fault ≡ None }
+    requires some { held asks.old ≢ [] }
+    ensures awaits { Awaits (W.allows wire.old) result asks.old asks.new (W.state wire.old) (W.state wire.new) }
+    ensures allowed { SameAllowed (W.allows wire.old) (W.allows wire.new) }
+{
+    for _ in rt.forever() {
+        match asks.step(wire) {
+            Err(fault) => return Err(fault),
+            Ok(next) => match next {
+                Next::Came(arrived) => return Ok(arrived),
+                Next::Waited => {}
+                Next::Idle => unreachable!(),
+            },
+        }
+    }
+    unreachable!()
+}
+
+/// Reads the page of a reply. Where it is none, the body is kept.
+pub(crate) fn read(alloc: Global, arrived: Arrived) -> Result<Page, ClientFault>
+    ensures { ReadsPage arrived result }
+{
+    match read_page(alloc, arrived.reply.body.as_slice(), &arrived.address) {
+        Ok(page) => Ok(page),
+        Err(PageFault::OutOfMemory) => Err(ClientFault::OutOfMemory),
+        Err(fault) => Err(ClientFault::Page {
+            fault,
+            body: arrived.reply.body,
+        }),
+    }
+}
+
+/// Puts the ask for the start. Out of memory, the asks are as they were.
+fn put_start(alloc: Global, start: &WebAddress, asks: &mut Asks) -> Result<(), OutOfMemory>
+    requires none { held asks.old ≡ [] }
+    ensures ok { OnOk result (PutsOne (start_ask start.now) asks.old asks.new) }
+    ensures err { OnErr result (asks.new ≡ asks.old) }
+{
+    match start.copy(alloc) {
+        Err(_) => Err(OutOfMemory),
+        Ok(address) => asks.put(START, address),
+    }
+}
+
+/// Waits for the reply to the start, which alone was asked for, and reads its page.
+fn await_start<R: Wait, W: Dial>(
+    rt: &R,
+    alloc: Global,
+    start: &WebAddress,
+    budget: u64,
+    asks: &mut Asks,
+    wire: &mut W,
+) -> Result<Page, ClientFault>
+    requires suits { SuitsWire asks.old (W.state wire.old) }
+    requires no_fault { asks.old.fault ≡ None }
+    requires one { IsPermutation (held asks.old) (start_ask start.now ∷ []) }
+    ensures starts { Starts (W.allows wire.old) start.now budget result asks.old asks.new (W.state wire.old) (W.state wire.new) }
+    ensures no_sink { IsErrOf result ClientFault.Sink → ⊥ }
+    ensures allowed { SameAllowed (W.allows wire.old) (W.allows wire.new) }
+{
+    match next_reply(rt, asks, wire) {
+        Ok(arrived) => read(alloc, arrived),
+        Err(fault) => Err(shown(fault, budget)),
+    }
+}
+
+/// Asks for the start, and reads its page.
+pub(crate) fn ask_start<R: Wait, W: Dial>(
+    rt: &R,
+    alloc: Global,
+    start: &WebAddress,
+    budget: u64,
+    asks: &mut Asks,
+    wire: &mut W,
+) -> Result<Page, ClientFault>
+    requires suits { SuitsWire asks.old (W.state wire.old) }
+    requires no_fault { asks.old.fault ≡ None }
+    requires none { held asks.old ≡ [] }
+    ensures starts { Starts (W.allows wire.old) start.now budget result asks.old asks.new (W.state wire.old) (W.state wire.new) }
+    ensures no_sink { IsErrOf result ClientFault.Sink → ⊥ }
+    ensures allowed { SameAllowed (W.allows wire.old) (W.allows wire.new) }
+{
+    is_lawful(wire);
+    match put_start(alloc, start, asks) {
+        Ok(()) => await_start(rt, alloc, start, budget, asks, wire),
+        Err(_) => Err(ClientFault::OutOfMemory),
+    }
+}
