@@ -1,0 +1,5 @@
+pub mod Starts
+pub mod Reading
+pub mod Honest
+pub mod Looping
+pub mod Locals

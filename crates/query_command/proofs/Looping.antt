@@ -1,0 +1,81 @@
+-- What a call over the wire that was made for a server says.
+use Rattle.std.proofs.Common.{ℕ, ◌≡◌, ◌<◌, ◌^◌, ◌∷◌, [], List, length, Option, Some, Result, Ok, Err, IfOk, IfErr, OnErr, refl, sym, ap, subst}
+use Rattle.rdf_terms.specs.declared.term.Triple.{Triple}
+use Rattle.tpf_base.specs.Addresses.{Address}
+use Rattle.tpf_base.specs.Causes.{Rose}
+use Rattle.tpf_base.specs.Links.{WireState}
+use Rattle.template_fill.specs.Metadata.{Config}
+use Rattle.template_fill.specs.Configurations.{IsConfig, IsValidDataSet}
+use Rattle.loop_wire.specs.Looped.{Looped}
+use Rattle.fragment_server.specs.declared.server.FragmentServer.{FragmentServer}
+use Rattle.bgp_core.specs.Queries.{QueryData}
+use Rattle.tpf_client.specs.declared.options.Options.{Options}
+use Rattle.tpf_client.specs.declared.options.Report.{Report}
+use Rattle.tpf_client.specs.declared.fault.ClientFault.{ClientFault}
+use Rattle.tpf_client.specs.declared.fault.ClientFault.TheVariants as clients
+use Rattle.tpf_client.specs.Calls.{RunsPool, WritesResult, WritesPrefix, WritesAll, WritesSome, IsCause}
+use Rattle.tpf_client.specs.Honest.{IsHonestWire, WritesSolutions, WritesSolutionsFront}
+use Rattle.file_server.specs.Servers.{serving}
+use Rattle.tpf_server.specs.Serving as core
+use Rattle.query_command.specs.Answers.{WritesOver, FailsOver}
+use Rattle.query_command.specs.Loops.{LoopsServer, WritesAnswer, WritesAnswerFront, allows_of, wire_of, begun}
+use Rattle.query_command.proofs.Honest.{honest_wire, answer_of_one, front_of_one}
+
+-- what a server serves is valid
+pub valid_served : (server : FragmentServer) (inner : core.Serving) → inner ≡ server.server → IsValidDataSet (core.data_of inner) → IsValidDataSet (serving server).data_set
+valid_served server inner is h = subst (λ (s : core.Serving). IsValidDataSet (core.data_of s)) is h
+
+pub config_served : (server : FragmentServer) (inner : core.Serving) → inner ≡ server.server → IsConfig inner.config → IsConfig (serving server).config
+config_served server inner is h = subst (λ (s : core.Serving). IsConfig s.config) is h
+
+module _ (server : FragmentServer) (seed fail_every : ℕ) (old after : Looped FragmentServer) (is : old ≡ begun server seed fail_every) (q : QueryData) (asked start : Address) (same : asked ≡ start) (options : Options) (out out' : ℕ) (taken taken' : Option (List ℕ)) where
+  abbrev Wrote : Looped FragmentServer → Report → Type 0
+  Wrote wire report = WritesOver (allows_of wire) q start options report (wire_of wire) (wire_of after) taken taken'
+
+  abbrev Failed : Looped FragmentServer → ClientFault → Type 0
+  Failed wire fault = FailsOver (allows_of wire) q start options fault (wire_of wire) (wire_of after) out out' taken taken'
+
+  pub loops_ok : (result : Result Report ClientFault)
+      → IfOk result (λ report. WritesResult q report.rows taken taken')
+      → IfOk result (λ report. WritesAll (RunsPool (allows_of old) options (wire_of old) (wire_of after)) q asked report taken taken')
+      → ((history : List (List Triple)) (config : Config) → IsHonestWire (allows_of old) history config (wire_of old) → IfOk result (λ report. WritesSolutions history q report.version report.rows taken taken'))
+      → IfOk result (λ report. LoopsServer server seed fail_every (Some after) (λ wire wire'. WritesOver (allows_of wire) q start options report (wire_of wire) (wire_of wire') taken taken'))
+  loops_ok (Ok report) whole all headline = record {
+    after = after;
+    is_inside = refl;
+    says = subst (λ (wire : Looped FragmentServer). Wrote wire report) is (record { whole = whole; writes = subst (λ (at : Address). WritesAll (RunsPool (allows_of old) options (wire_of old) (wire_of after)) q at report taken taken') same all; headline = headline });
+  }
+  loops_ok (Err fault) whole all headline = tt
+
+  pub loops_err : (result : Result Report ClientFault)
+      → OnErr result (WritesPrefix q taken taken')
+      → IfErr result (λ fault. WritesSome (RunsPool (allows_of old) options (wire_of old) (wire_of after)) q asked options.budget fault taken taken')
+      → ((history : List (List Triple)) (config : Config) → IsHonestWire (allows_of old) history config (wire_of old) → OnErr result (WritesSolutionsFront history q taken taken'))
+      → IfErr result (IsCause (allows_of old) options (wire_of old) (wire_of after))
+      → (result ≡ Err clients.Sink → Rose out out')
+      → IfErr result (λ fault. LoopsServer server seed fail_every (Some after) (λ wire wire'. FailsOver (allows_of wire) q start options fault (wire_of wire) (wire_of wire') out out' taken taken'))
+  loops_err (Ok report) front some headline cause sink = tt
+  loops_err (Err fault) front some headline cause sink = record {
+    after = after;
+    is_inside = refl;
+    says = subst (λ (wire : Looped FragmentServer). Failed wire fault) is (record { front = front; writes = subst (λ (at : Address). WritesSome (RunsPool (allows_of old) options (wire_of old) (wire_of after)) q at options.budget fault taken taken') same some; headline = headline; cause = cause; sink = λ e. sink (ap Err e) });
+  }
+
+  honest_old : (serving server).version ≡ 1 → IsValidDataSet (serving server).data_set → IsConfig (serving server).config → length (serving server).data_set < 2 ^ 64
+      → IsHonestWire (allows_of old) ((serving server).data_set ∷ []) (serving server).config (wire_of old)
+  honest_old first valid config few =
+      subst (λ (wire : Looped FragmentServer). IsHonestWire (allows_of wire) ((serving server).data_set ∷ []) (serving server).config (wire_of wire)) (sym is) (honest_wire server seed fail_every first valid config few)
+
+  pub solves : (result : Result Report ClientFault)
+      → (serving server).version ≡ 1 → IsValidDataSet (serving server).data_set → IsConfig (serving server).config → length (serving server).data_set < 2 ^ 64
+      → ((history : List (List Triple)) (config : Config) → IsHonestWire (allows_of old) history config (wire_of old) → IfOk result (λ report. WritesSolutions history q report.version report.rows taken taken'))
+      → IfOk result (λ report. WritesAnswer (serving server).data_set q report.rows taken taken')
+  solves (Ok report) first valid config few headline = answer_of_one (serving server).data_set q report taken taken' (headline ((serving server).data_set ∷ []) (serving server).config (honest_old first valid config few))
+  solves (Err fault) first valid config few headline = tt
+
+  pub solves_front : (result : Result Report ClientFault)
+      → (serving server).version ≡ 1 → IsValidDataSet (serving server).data_set → IsConfig (serving server).config → length (serving server).data_set < 2 ^ 64
+      → ((history : List (List Triple)) (config : Config) → IsHonestWire (allows_of old) history config (wire_of old) → OnErr result (WritesSolutionsFront history q taken taken'))
+      → OnErr result (WritesAnswerFront (serving server).data_set q taken taken')
+  solves_front (Ok report) first valid config few headline = tt
+  solves_front (Err fault) first valid config few headline = front_of_one (serving server).data_set q taken taken' (headline ((serving server).data_set ∷ []) (serving server).config (honest_old first valid config few))

@@ -1,0 +1,9 @@
+use Rattle.query_command.specs.Loops.{local_view}
+use Rattle.query_command.proofs.Reading.{gives_data, gives_query_of}
+use Rattle.query_command.proofs.local_query.local.Goals as goal
+
+pub returns-clause-data_exact : goal.returns-clause-data_exact
+returns-clause-data_exact g c = gives_data _ (local_view c.args.asked.now) _ _ _ _ _ _ _ c.serve_and_ask.result c.serve_and_ask.ensures.answers c.serve_and_ask.ensures.cause
+
+pub returns-clause-query_exact : goal.returns-clause-query_exact
+returns-clause-query_exact g c = gives_query_of _ (local_view c.args.asked.now) _ _ _ _ _ _ _ c.serve_and_ask.result c.serve_and_ask.ensures.answers c.serve_and_ask.ensures.cause

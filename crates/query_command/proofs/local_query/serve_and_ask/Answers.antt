@@ -1,0 +1,22 @@
+-- What is said of the server is said of the file that it serves.
+use Rattle.std.proofs.Common.{refl}
+use Rattle.file_server.specs.Servers.{serving}
+use Rattle.query_command.specs.Loops.{local_view}
+use Rattle.query_command.proofs.Locals.{local_answers, local_fault, query_from}
+use Rattle.query_command.proofs.local_query.serve_and_ask.Goals as goal
+
+pub returns-in-Err-read_query-clause-cause : goal.returns-in-Err-read_query-clause-cause
+returns-in-Err-read_query-clause-cause g c = (
+  query_from _ _ c.local_server.ensures.told c.args.asked.now.query.now (g.F.Shelf.faults c.args.shelf.now) (g.F.Shelf.faults c.local_server.new.shelf) (g.F.Shelf.faults c.read_query.new.shelf) c.in-Err-read_query.fault c.local_server.ensures.later c.in-Err-read_query.ensures.err,
+  ((serving c.in-Ok-local_server.server).data_set, c.in-Ok-local_server.ensures.starts.data_set),
+  refl,
+  c.requires.none,
+)
+
+pub returns-in-Ok-ask_server-clause-answers : goal.returns-in-Ok-ask_server-clause-answers
+returns-in-Ok-ask_server-clause-answers g c =
+    local_answers _ _ c.local_server.ensures.told (local_view c.args.asked.now) c.in-Ok-local_server.server c.in-Ok-local_server.ensures.starts _ _ _ c.in-Ok-read_query.query c.in-Ok-read_query.ensures.ok c.in-Ok-ask_server.report c.in-Ok-ask_server.ensures.answers c.in-Ok-ask_server.ensures.answer
+
+pub returns-clause-cause : goal.returns-clause-cause
+returns-clause-cause g c =
+    local_fault _ _ c.local_server.ensures.told (local_view c.args.asked.now) c.in-Ok-local_server.server c.in-Ok-local_server.ensures.starts _ _ _ c.in-Ok-read_query.query c.in-Ok-read_query.ensures.ok 0 0 (g.K.Sink.faults c.args.out.now) (g.K.Sink.faults c.ask_server.new.out) c.in-Err-ask_server.fault c.in-Err-ask_server.ensures.cause c.in-Err-ask_server.ensures.front

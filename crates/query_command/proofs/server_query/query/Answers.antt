@@ -1,0 +1,5 @@
+use Rattle.query_command.proofs.Reading.{gives_answer}
+use Rattle.query_command.proofs.server_query.query.Goals as goal
+
+pub returns-clause-exact : goal.returns-clause-exact
+returns-clause-exact g c = gives_answer _ _ _ _ _ _ _ _ _ _ _ _ _ c.read_and_ask.result c.read_and_ask.ensures.answers c.read_and_ask.ensures.cause

@@ -1,0 +1,174 @@
+// The query of a file through a server in the same process.
+ghost use Rattle.std.specs.Prelude.{ℕ, ◌≡◌, ◌<◌, ◌≤◌, ◌^◌, codes, length, None, IfOk, IfErr, OnErr};
+ghost use Rattle.tpf_base.specs.Causes.{Rose};
+ghost use Rattle.data_files.specs.Data.{IfTold, Outcome, IsOutcome};
+ghost use Rattle.data_files.specs.Queries.{QueryOutcome, IsQueryOutcome};
+ghost use Rattle.data_files.specs.Causes.{DataCause};
+ghost use Rattle.file_server.specs.Servers.{Starts, GivesServer, serving};
+ghost use Rattle.query_command.specs.Answers.{WritesOver, FailsOver, GivesAnswer};
+ghost use Rattle.query_command.specs.Loops.{LoopsServer, WritesAnswer, WritesAnswerFront, LocalAnswers, LocalCause, GivesData, local_view, allows_of, local_base, local_config, wire_of};
+
+use crate::AnswerFault;
+use crate::start::{local_config, local_start};
+use bgp_core::Query;
+use data_files::{DataFault, read_query};
+use file_server::server_of_file;
+use fragment_server::{FragmentConnection, FragmentServer};
+use loop_wire::LoopWire;
+use std::alloc::Global;
+use std::sync::Wait;
+use template_fill::WebAddress;
+use tpf_base::{Failing, Shelf, Sink};
+use tpf_client::{ClientFault, Options, Report, query as query_server};
+use triple_table::Choice;
+
+/// What is asked of a file in the same process.
+#[derive(Drop)]
+pub struct LocalQuery<'a> {
+    /// The name of the file of data.
+    pub name: &'a str,
+    /// The name of the file of the query.
+    pub query: &'a str,
+    /// Which graphs of the data are served.
+    pub choice: &'a Choice,
+    /// The most triples of a page: 1 to 1000.
+    pub page_size: u64,
+    /// What bounds the call.
+    pub options: Options,
+    /// From which sizes, stalls and order of the wire come.
+    pub seed: u64,
+    /// Each so many-th dial fails, none for 0.
+    pub fail_every: u64,
+}
+
+/// The server of a file in the same process.
+fn local_server<F: Shelf>(
+    alloc: Global,
+    name: &str,
+    choice: &Choice,
+    page_size: u64,
+    shelf: &mut F,
+) -> Result<FragmentServer, DataFault>
+    requires low { 1 ≤ page_size }
+    requires high { page_size ≤ 1000 }
+    ensures starts { IfOk result (λ server. Starts (F.told shelf.old) name.now choice.now (local_config page_size) (serving server)) }
+    ensures err { IfErr result (DataCause (F.told shelf.old) name.now choice.now (codes "localhost") (F.faults shelf.old) (F.faults shelf.new)) }
+    ensures exact { ¬ (Rose (F.faults shelf.old) (F.faults shelf.new)) → IfTold (F.told shelf.old) (λ files. (outcome : Outcome) → IsOutcome files name.now choice.now (codes "localhost") outcome → GivesServer outcome result) }
+    ensures told { F.told shelf.new ≡ F.told shelf.old }
+    ensures later { F.faults shelf.old ≤ F.faults shelf.new }
+{
+    let Ok(config) = local_config(alloc, page_size) else {
+        return Err(DataFault::OutOfMemory);
+    };
+    server_of_file(alloc, shelf, name, choice, config)
+}
+
+/// A table has fewer triples than a page can count. The call does nothing; it tells a proof of it.
+fn is_few(server: &FragmentServer)
+    ensures { length (serving server.now).data_set < 2 ^ 64 }
+{
+    let _count = server.server().table().len();
+}
+
+/// Asks a server over a wire that is made for it, and leaves the wire.
+fn ask_server<R: Wait, K: Sink>(
+    rt: &R,
+    alloc: Global,
+    asked: &LocalQuery<'_>,
+    start: &WebAddress,
+    server: FragmentServer,
+    query: &Query,
+    out: &mut K,
+    inside: &mut Option<LoopWire<FragmentConnection>>,
+) -> Result<Report, ClientFault>
+    requires start { start.now ≡ local_base }
+    requires first { (serving server).version ≡ 1 }
+    requires window { 1 ≤ asked.now.options.window }
+    requires some { 1 ≤ asked.now.options.links }
+    requires few { asked.now.options.links ≤ 256 }
+    ensures answers { IfOk result (λ report. LoopsServer server asked.now.seed asked.now.fail_every inside.new (λ old new. WritesOver (allows_of old) query.now local_base asked.now.options report (wire_of old) (wire_of new) (K.taken out.old) (K.taken out.new))) }
+    ensures cause { IfErr result (λ fault. LoopsServer server asked.now.seed asked.now.fail_every inside.new (λ old new. FailsOver (allows_of old) query.now local_base asked.now.options fault (wire_of old) (wire_of new) (K.faults out.old) (K.faults out.new) (K.taken out.old) (K.taken out.new))) }
+    ensures answer { IfOk result (λ report. WritesAnswer (serving server).data_set query.now report.rows (K.taken out.old) (K.taken out.new)) }
+    ensures front { OnErr result (WritesAnswerFront (serving server).data_set query.now (K.taken out.old) (K.taken out.new)) }
+    ensures later { K.faults out.old ≤ K.faults out.new }
+{
+    is_few(&server);
+    server.server().is_valid();
+    let failing = Failing::Dials(asked.fail_every);
+    let mut wire: LoopWire<FragmentConnection> = LoopWire::new(alloc, server, asked.seed, failing);
+    let answer = query_server(rt, alloc, query, start, &asked.options, &mut wire, out);
+    *inside = Some(wire);
+    answer
+}
+
+/// Serves the file of the data, reads that of the query, and asks it.
+fn serve_and_ask<R: Wait, F: Shelf, K: Sink>(
+    rt: &R,
+    alloc: Global,
+    asked: &LocalQuery<'_>,
+    shelf: &mut F,
+    out: &mut K,
+    inside: &mut Option<LoopWire<FragmentConnection>>,
+) -> Result<Report, AnswerFault>
+    requires none { inside.old ≡ None }
+    requires low { 1 ≤ asked.now.page_size }
+    requires high { asked.now.page_size ≤ 1000 }
+    requires window { 1 ≤ asked.now.options.window }
+    requires some { 1 ≤ asked.now.options.links }
+    requires few { asked.now.options.links ≤ 256 }
+    ensures answers { IfOk result (λ report. LocalAnswers (F.told shelf.old) (local_view asked.now) inside.new report (K.taken out.old) (K.taken out.new)) }
+    ensures cause { IfErr result (LocalCause (F.told shelf.old) (local_view asked.now) inside.new (F.faults shelf.old) (F.faults shelf.new) (K.faults out.old) (K.faults out.new) (K.taken out.old) (K.taken out.new)) }
+    ensures told { F.told shelf.new ≡ F.told shelf.old }
+    ensures shelf_later { F.faults shelf.old ≤ F.faults shelf.new }
+    ensures out_later { K.faults out.old ≤ K.faults out.new }
+{
+    let Ok(start) = local_start(alloc) else {
+        return Err(AnswerFault::Data(DataFault::OutOfMemory));
+    };
+    let server = match local_server(alloc, asked.name, asked.choice, asked.page_size, shelf) {
+        Ok(server) => server,
+        Err(fault) => return Err(AnswerFault::Data(fault)),
+    };
+    let query = match read_query(alloc, shelf, asked.query) {
+        Ok(query) => query,
+        Err(fault) => return Err(AnswerFault::Query(fault)),
+    };
+    match ask_server(rt, alloc, asked, &start, server, &query, out, inside) {
+        Ok(report) => Ok(report),
+        Err(fault) => Err(AnswerFault::Client(fault)),
+    }
+}
+
+/// Serves the data of a file to a client in the same process, and writes the text of the answer to the
+/// query of another file.
+///
+/// The data are read first, then the query. Then a wire is made for the server, of the seed, on which each
+/// `fail_every`-th dial fails, and is left in `inside`.
+///
+/// `Data` where the data are not served, and `Query` where the query is not read: nothing was written
+/// then. `Client` where the call over the wire ended before the result was whole: the output took a front
+/// of such a text.
+pub fn local<R: Wait, F: Shelf, K: Sink>(
+    rt: &R,
+    alloc: Global,
+    asked: &LocalQuery<'_>,
+    shelf: &mut F,
+    out: &mut K,
+    inside: &mut Option<LoopWire<FragmentConnection>>,
+) -> Result<Report, AnswerFault>
+    requires none { inside.old ≡ None }
+    requires low { 1 ≤ asked.now.page_size }
+    requires high { asked.now.page_size ≤ 1000 }
+    requires window { 1 ≤ asked.now.options.window }
+    requires some { 1 ≤ asked.now.options.links }
+    requires few { asked.now.options.links ≤ 256 }
+    ensures answers { IfOk result (λ report. LocalAnswers (F.told shelf.old) (local_view asked.now) inside.new report (K.taken out.old) (K.taken out.new)) }
+    ensures cause { IfErr result (LocalCause (F.told shelf.old) (local_view asked.now) inside.new (F.faults shelf.old) (F.faults shelf.new) (K.faults out.old) (K.faults out.new) (K.taken out.old) (K.taken out.new)) }
+    ensures data_exact { ¬ (Rose (F.faults shelf.old) (F.faults shelf.new)) → IfTold (F.told shelf.old) (λ files. (outcome : Outcome) → IsOutcome files asked.now.name.now asked.now.choice.now (codes "localhost") outcome → GivesData outcome result) }
+    ensures query_exact { ¬ (Rose (F.faults shelf.old) (F.faults shelf.new)) → IfTold (F.told shelf.old) (λ files. (outcome : QueryOutcome) → IsQueryOutcome files asked.now.query.now outcome → GivesAnswer outcome result) }
+    ensures told { F.told shelf.new ≡ F.told shelf.old }
+    ensures shelf_later { F.faults shelf.old ≤ F.faults shelf.new }
+    ensures out_later { K.faults out.old ≤ K.faults out.new }
+{
+    serve_and_ask(rt, alloc, asked, shelf, out, inside)
+}

@@ -1,0 +1,38 @@
+// The start of a server in the same process.
+ghost use Rattle.std.specs.Prelude.{◌≡◌, ◌≤◌, IfOk, None};
+ghost use Rattle.template_fill.specs.Configurations.{IsConfig};
+ghost use Rattle.query_command.specs.Loops.{local_base, local_config};
+
+use hydra_controls::Config;
+use std::alloc::Global;
+use template_fill::{AddressFault, WebAddress, an_address_is_one};
+use tpf_base::OutOfMemory;
+
+/// Where the fragments of a file stand that is served in the same process.
+const BASE: &str = "http://localhost/data";
+
+/// The start of a server in the same process.
+pub(crate) fn local_start(alloc: Global) -> Result<WebAddress, OutOfMemory>
+    ensures { IfOk result (λ base. base ≡ local_base) }
+{
+    an_address_is_one();
+    match WebAddress::read(alloc, BASE) {
+        Ok(base) => Ok(base),
+        Err(AddressFault::BadAddress) => unreachable!(),
+        Err(AddressFault::OutOfMemory) => Err(OutOfMemory),
+    }
+}
+
+/// The configuration of a server in the same process.
+pub(crate) fn local_config(alloc: Global, page_size: u64) -> Result<Config, OutOfMemory>
+    requires low { 1 ≤ page_size }
+    requires high { page_size ≤ 1000 }
+    ensures { IfOk result (λ config. config ≡ local_config page_size) }
+{
+    let base = local_start(alloc)?;
+    base.is_valid();
+    match Config::new(base, page_size) {
+        Some(config) => Ok(config),
+        None => unreachable!(),
+    }
+}

@@ -1,0 +1,249 @@
+-- What was said of a service is said of its command: over the wire as it was before, and of more data sets that may follow.
+use Rattle.std.proofs.Common.{ℕ, ◌≡◌, ◌≤◌, ◌==◌, ◌≢◌, ◌+◌, ◌⊎◌, inl, inr, List, [], ◌∷◌, Option, Some, None, is_some, Bool, true, false, Result, Ok, Err, IfOk, IfErr, OnOk, if◌then◌else◌, refl, sym, ap, subst, ◌∙◌, arith}
+use Rattle.std.specs.List.{AllByRecursion}
+use Rattle.std.proofs.lemmas.Bool.{eqb-true, true≢false}
+use Rattle.rdf_terms.specs.declared.term.Triple.{Triple}
+use Rattle.template_fill.specs.Metadata.{Config}
+use Rattle.triple_table.specs.declared.choice.Choice.{Choice}
+use Rattle.tpf_base.specs.Addresses.{Address, authority_of}
+use Rattle.tpf_base.specs.Causes.{Rose}
+use Rattle.tpf_base.specs.Rises.{RoseBy-within}
+use Rattle.tpf_base.specs.Links.{WireState}
+use Rattle.connections.specs.Kinds.{Kind}
+use Rattle.connections.specs.Versions.{Serving, IsHistory}
+use Rattle.serve_loop.specs.declared.live.Served.{Served}
+use Rattle.serve_loop.specs.declared.live.ServeFault.{ServeFault}
+use Rattle.serve_loop.specs.declared.live.ServeFault.TheVariants as loop_faults
+use Rattle.serve_loop.specs.Traffic.{Moment, took}
+use Rattle.serve_loop.specs.Sentence.{AllClosed, Sentence, SendsResponse, SendsWhole, SpeaksWhole}
+use Rattle.fragment_server.specs.Fragments.{fragments}
+use Rattle.data_files.specs.Data.{Files, IfTold, Outcome, IsOutcome, served}
+use Rattle.data_files.proofs.Outcomes.{one_outcome}
+use Rattle.file_server.specs.Servers.{Starts}
+use Rattle.file_server.specs.Supplies.{IsOfFile}
+use Rattle.serve_command.specs.declared.fault.ServiceFault.{ServiceFault}
+use Rattle.serve_command.specs.declared.fault.ServiceFault.TheVariants as faults
+use Rattle.serve_command.specs.Services.{Services, MayFollow, SpeaksOfFile, SaysPrefixes, SaysWhole, LinksCause, DoorCause, ServiceCause, IsUntouched, IsServing, GivesServed, answer_of}
+
+module _ {C Data Settings : Type 0} (kind : Kind C Data Settings) (may other : Data → Type 0) (weaker : (d : Data) → may d → other d) where
+  all_weaker : (ds : List Data) → AllByRecursion may ds → AllByRecursion other ds
+  all_weaker [] a = tt
+  all_weaker (d ∷ ds) a = (weaker d a.0, all_weaker ds a.1)
+
+  module _ (first : List Data) (since now : Moment Data Settings) (wire : WireState) (given : since.wire.given ≡ wire.given) where
+    abbrev earlier : Moment Data Settings
+    earlier = record since { wire = wire }
+
+    sends : (history : List Data) (owner : ℕ → ℕ) (k : ℕ) (sent received : List ℕ) → SendsResponse kind since now history owner k sent received → SendsResponse kind earlier now history owner k sent received
+    sends history owner k sent received s = record { marks = s.marks; marked = s.marked; rest = s.rest; response = s.response; excused = s.excused; numbers = s.numbers; rising = s.rising }
+
+    pub prefixes : Sentence kind may first since now → Sentence kind other first earlier now
+    prefixes s = record {
+      history = s.history;
+      given = s.given;
+      owner = s.owner;
+      versions = record {
+        history_is = s.versions.history_is;
+        serves = s.versions.serves;
+        config = s.versions.config;
+        count = s.versions.count;
+        left = s.versions.left;
+        may_be = all_weaker (took s.given) s.versions.may_be;
+        faults = s.versions.faults;
+      };
+      links = λ k later below sent received is_sent is_received. sends s.history s.owner k sent received (s.links k (subst (λ (n : ℕ). n ≤ k) (sym given) later) below sent received is_sent is_received);
+    }
+
+    sends_whole : (history : List Data) (owner : ℕ → ℕ) (k : ℕ) → SendsWhole kind since now history owner k → SendsWhole kind earlier now history owner k
+    unfolding sends
+    sends_whole history owner k s = record {
+      later = subst (λ (n : ℕ). n ≤ k) given s.later;
+      given = s.given;
+      whole = λ sent received is_sent is_received. let w = s.whole sent received is_sent is_received in (sends history owner k sent received w.0, w.1);
+      end_ = s.end_;
+    }
+
+    all_whole : (history : List Data) (owner : ℕ → ℕ) (links : List ℕ) → AllByRecursion (SendsWhole kind since now history owner) links → AllByRecursion (SendsWhole kind earlier now history owner) links
+    all_whole history owner [] a = tt
+    all_whole history owner (k ∷ links) a = (sends_whole history owner k a.0, all_whole history owner links a.1)
+
+    pub whole : (faults' faults connections starved : ℕ) → faults' ≤ faults → SpeaksWhole kind may first since now faults connections starved → SpeaksWhole kind other first earlier now faults' connections starved
+    unfolding prefixes
+    whole faults' faults connections starved before s = record {
+      prefixes = prefixes s.prefixes;
+      whole = record {
+        whole = s.whole.whole;
+        once = s.whole.once;
+        each = all_whole s.prefixes.history s.prefixes.owner s.whole.whole s.whole.each;
+        broken = s.whole.broken;
+        wanted = s.whole.wanted;
+        connections_is = s.whole.connections_is;
+        starved_is = s.whole.starved_is;
+        rose = RoseBy-within s.whole.broken s.whole.broken faults now.wire.faults faults' now.wire.faults (omega arith) before (omega arith) s.whole.rose;
+      };
+    }
+
+module _ (may other : List Triple → Type 0) (weaker : (d : List Triple) → may d → other d) (server : Serving (List Triple) Config) (old start new : WireState) (given : start.given ≡ old.given) where
+  pub prefixes_from : Services server start new (SaysPrefixes may) → Services server old new (SaysPrefixes other)
+  prefixes_from s = record {
+    since = record s.since { wire = old };
+    now = s.now;
+    serves = s.serves;
+    since_wire = refl;
+    now_wire = s.now_wire;
+    says = prefixes fragments may other weaker (server.data_set ∷ []) s.since s.now old (ap (λ (w : WireState). w.given) s.since_wire ∙ given) s.says;
+  }
+
+  pub whole_from : (faults' faults connections : ℕ) → faults' ≤ faults → Services server start new (SaysWhole faults connections may) → Services server old new (SaysWhole faults' connections other)
+  whole_from faults' faults connections before s = record {
+    since = record s.since { wire = old };
+    now = s.now;
+    serves = s.serves;
+    since_wire = refl;
+    now_wire = s.now_wire;
+    says = whole fragments may other weaker (server.data_set ∷ []) s.since s.now old (ap (λ (w : WireState). w.given) s.since_wire ∙ given) faults' faults connections 0 before s.says;
+  }
+
+-- one data set is the history of version 1
+pub first_history : (server : Serving (List Triple) Config) → server.version ≡ 1 → IsHistory (server.data_set ∷ []) server
+first_history server is = record { count = sym is; before = []; last = refl }
+
+pub services : {Says : List (List Triple) → Moment (List Triple) Config → Moment (List Triple) Config → Type 0} (server : Serving (List Triple) Config) (since now : Moment (List Triple) Config) → since.served ≡ server → Says (server.data_set ∷ []) since now → Services server since.wire now.wire Says
+services server since now is says = record { since = since; now = now; serves = is; since_wire = refl; now_wire = refl; says = says }
+
+-- no connection starved
+pub spoken : (may : List Triple → Type 0) (first : List (List Triple)) (since now : Moment (List Triple) Config) (faults connections starved : ℕ) → starved ≡ 0 → SpeaksWhole fragments may first since now faults connections starved → SpeaksWhole fragments may first since now faults connections 0
+spoken may first since now faults connections starved zero s = subst (λ (n : ℕ). SpeaksWhole fragments may first since now faults connections n) zero s
+
+-- ---- the answer of the loop as that of a command
+
+ok_if : (P : ℕ → Type 0) (b : Bool) (n : ℕ) → (b ≡ true → P n) → IfOk (if b then Ok n else Err faults.OutOfMemory) P
+ok_if P true n f = f refl
+ok_if P false n f = tt
+
+err_if : (b : Bool) (n a c : ℕ) → IfErr (if b then Ok n else Err faults.OutOfMemory) (LinksCause a c)
+err_if true n a c = tt
+err_if false n a c = tt
+
+pub answered : (P : Served → Type 0) (Q : ℕ → Type 0) (result : Result Served ServeFault) → ((s : Served) → s.starved ≡ 0 → P s → Q s.connections) → IfOk result P → IfOk (answer_of result) Q
+answered P Q (Ok s) f p = ok_if Q (s.starved == 0) s.connections (λ e. f s (eqb-true s.starved 0 e) p)
+answered P Q (Err loop_faults.Wire) f p = tt
+answered P Q (Err loop_faults.OutOfMemory) f p = tt
+
+-- what holds where the loop answered, whatever it was
+pub answered_at_all : (P : Type 0) (result : Result Served ServeFault) → OnOk result P → OnOk (answer_of result) P
+answered_at_all P (Ok s) p = at_all (s.starved == 0)
+  where
+    at_all : (b : Bool) → OnOk (if b then Ok s.connections else Err faults.OutOfMemory) P
+    at_all true = p
+    at_all false = tt
+answered_at_all P (Err loop_faults.Wire) p = tt
+answered_at_all P (Err loop_faults.OutOfMemory) p = tt
+
+pub caused : (result : Result Served ServeFault) (a b : ℕ) → IfErr result (λ fault. fault ≡ loop_faults.Wire → Rose a b) → IfErr (answer_of result) (LinksCause a b)
+caused (Ok s) a b h = err_if (s.starved == 0) s.connections a b
+caused (Err loop_faults.Wire) a b h = h refl
+caused (Err loop_faults.OutOfMemory) a b h = tt
+
+-- ---- links
+
+pub closed_from : (old start new : WireState) → start.given ≡ old.given → AllClosed start new → AllClosed old new
+closed_from old start new given c = record { closed = λ k later below. c.closed k (subst (λ (n : ℕ). n ≤ k) (sym given) later) below }
+
+pub none_given : (old new : WireState) → new.given ≡ old.given → AllClosed old new
+none_given old new given = record { closed = λ k later below. absurd (omega (arith, given, later, below)) }
+
+-- ---- the answer of a function that is that of the loop
+
+pub answered_by : (P : Served → Type 0) (Q : ℕ → Type 0) (result : Result Served ServeFault) (answer : Result ℕ ServiceFault) → answer ≡ answer_of result → ((s : Served) → s.starved ≡ 0 → P s → Q s.connections) → IfOk result P → IfOk answer Q
+answered_by P Q result answer e f p = subst (λ (r : Result ℕ ServiceFault). IfOk r Q) (sym e) (answered P Q result f p)
+
+pub answered_at_all_by : (P : Type 0) (result : Result Served ServeFault) (answer : Result ℕ ServiceFault) → answer ≡ answer_of result → OnOk result P → OnOk answer P
+answered_at_all_by P result answer e p = subst (λ (r : Result ℕ ServiceFault). OnOk r P) (sym e) (answered_at_all P result p)
+
+pub caused_by : (result : Result Served ServeFault) (answer : Result ℕ ServiceFault) (a b : ℕ) → answer ≡ answer_of result → IfErr result (λ fault. fault ≡ loop_faults.Wire → Rose a b) → IfErr answer (LinksCause a b)
+caused_by result answer a b e h = subst (λ (r : Result ℕ ServiceFault). IfErr r (LinksCause a b)) (sym e) (caused result a b h)
+
+-- ---- what may follow
+
+pub if_ok_map : (P Q : ℕ → Type 0) (result : Result ℕ ServiceFault) → ((n : ℕ) → P n → Q n) → IfOk result P → IfOk result Q
+if_ok_map P Q (Ok n) f p = f n p
+if_ok_map P Q (Err fault) f p = tt
+
+pub same_file : (told told' : Option Files) (name name' : List ℕ) (choice choice' : Choice) (base base' : Address) → told' ≡ told → name' ≡ name → choice' ≡ choice → base' ≡ base
+    → (triples : List Triple) → IsOfFile told' name' choice' (authority_of base') triples → IsOfFile told name choice (authority_of base) triples
+same_file told told' name name' choice choice' base base' t n c b = λ triples h.
+    let one : ◌≡◌ {A = Option Files × List ℕ × Choice × Address} (told', name', choice', base') (told, name, choice, base) = cc in
+    subst (λ (p : Option Files × List ℕ × Choice × Address). IsOfFile p.0 p.1 p.2 (authority_of p.3) triples) one h
+
+pub there : {A : Type 0} (o : Option A) → is_some o ≡ true → o ≢ None
+there None e = λ _. absurd (true≢false (sym e))
+there (Some x) e = λ none. cc
+
+pub follows : (told : Option Files) (name : List ℕ) (choice : Choice) (config : Config) → is_some config.reload ≡ true → (triples : List Triple) → IsOfFile told name choice (authority_of config.base) triples → MayFollow told name choice config triples
+follows told name choice config some = λ triples h. (there config.reload some, h)
+
+pub not_more : (n : ℕ) → n ≤ n
+not_more n = omega arith
+
+-- ---- the service of a server, from before its door was open
+
+pub links_from : (old start new : ℕ) (result : Result ℕ ServiceFault) → start ≡ old → IfOk result (λ n. start + n ≤ new) → IfOk result (λ n. old + n ≤ new)
+links_from old start new (Ok n) given h = subst (λ (k : ℕ). k + n ≤ new) given h
+links_from old start new (Err fault) given h = tt
+
+pub door_cause : (wire start wire' out start_out out' : ℕ) (result : Result ℕ ServiceFault) → wire ≤ start → IfErr result (LinksCause start wire') → IfErr result (DoorCause wire wire' out out')
+door_cause wire start wire' out start_out out' (Ok n) before h = tt
+door_cause wire start wire' out start_out out' (Err (faults.Data fault)) before h = absurd h
+door_cause wire start wire' out start_out out' (Err faults.Wire) before h = RoseBy-within 1 1 start wire' wire wire' (omega arith) before (omega arith) h
+door_cause wire start wire' out start_out out' (Err faults.Sink) before h = absurd h
+door_cause wire start wire' out start_out out' (Err faults.OutOfMemory) before h = tt
+
+module _ (told : Option Files) (name : List ℕ) (choice : Choice) (authority : List ℕ) (shelf shelf' wire wire' out out' : ℕ) where
+  service_cause_of : (fault : ServiceFault) → DoorCause wire wire' out out' fault → ServiceCause told name choice authority shelf shelf' wire wire' out out' fault
+  service_cause_of (faults.Data fault) h = absurd h
+  service_cause_of faults.Wire h = h
+  service_cause_of faults.Sink h = h
+  service_cause_of faults.OutOfMemory h = tt
+
+  pub service_cause : (result : Result ℕ ServiceFault) → IfErr result (DoorCause wire wire' out out') → IfErr result (ServiceCause told name choice authority shelf shelf' wire wire' out out')
+  service_cause (Ok n) h = tt
+  service_cause (Err fault) h = service_cause_of fault h
+
+untouched_of : (old new : WireState) (taken taken' : Option (List ℕ)) (wire wire' out out' : ℕ) (fault : ServiceFault) → DoorCause wire wire' out out' fault → IsUntouched old new taken taken' fault
+untouched_of old new taken taken' wire wire' out out' (faults.Data fault) h = absurd h
+untouched_of old new taken taken' wire wire' out out' faults.Wire h = tt
+untouched_of old new taken taken' wire wire' out out' faults.Sink h = tt
+untouched_of old new taken taken' wire wire' out out' faults.OutOfMemory h = tt
+
+pub untouched : (old new : WireState) (taken taken' : Option (List ℕ)) (wire wire' out out' : ℕ) (result : Result ℕ ServiceFault) → IfErr result (DoorCause wire wire' out out') → IfErr result (IsUntouched old new taken taken')
+untouched old new taken taken' wire wire' out out' (Ok n) h = tt
+untouched old new taken taken' wire wire' out out' (Err fault) h = untouched_of old new taken taken' wire wire' out out' fault h
+
+-- ---- the service of the file
+
+pub follow_by : (told told' : Option Files) (name : List ℕ) (choice : Choice) (one other : Config) → told' ≡ told → one ≡ other → (triples : List Triple) → MayFollow told' name choice one triples → MayFollow told name choice other triples
+follow_by told told' name choice one other t same triples h =
+    let at : MayFollow told name choice one triples = subst (λ (files : Option Files). MayFollow files name choice one triples) t h in
+    subst (λ (config : Config). MayFollow told name choice config triples) same at
+
+module _ (told told' : Option Files) (same : told' ≡ told) (name : List ℕ) (choice : Choice) (config : Config) (server : Serving (List Triple) Config) (starts : Starts told name choice config server) (old new : WireState) where
+  pub prefixes_of_file : (new.given ≡ old.given) ⊎ Services server old new (SaysPrefixes (MayFollow told' name choice server.config)) → (new.given ≡ old.given) ⊎ SpeaksOfFile told name choice config old new SaysPrefixes
+  prefixes_of_file (inl none) = inl none
+  prefixes_of_file (inr s) = inr (record { server = server; starts = starts; services = prefixes_from (MayFollow told' name choice server.config) (MayFollow told name choice config) (follow_by told told' name choice server.config config same starts.config_is) server old old new refl s })
+
+  pub whole_of_file : (faults : ℕ) (result : Result ℕ ServiceFault) → IfOk result (λ n. Services server old new (SaysWhole faults n (MayFollow told' name choice server.config))) → IfOk result (λ n. SpeaksOfFile told name choice config old new (SaysWhole faults n))
+  whole_of_file faults (Ok n) s = record { server = server; starts = starts; services = whole_from (MayFollow told' name choice server.config) (MayFollow told name choice config) (follow_by told told' name choice server.config config same starts.config_is) server old old new refl faults faults n (not_more faults) s }
+  whole_of_file faults (Err fault) s = tt
+
+  serving_gives : (wire wire' out out' : ℕ) (outcome : Outcome) (result : Result ℕ ServiceFault) → IfErr result (DoorCause wire wire' out out') → IsServing outcome → GivesServed outcome result
+  serving_gives wire wire' out out' outcome (Ok n) h s = s
+  serving_gives wire wire' out out' outcome (Err (faults.Data fault)) h s = absurd h
+  serving_gives wire wire' out out' outcome (Err faults.Wire) h s = s
+  serving_gives wire wire' out out' outcome (Err faults.Sink) h s = s
+  serving_gives wire wire' out out' outcome (Err faults.OutOfMemory) h s = tt
+
+  pub decided : (wire wire' out out' : ℕ) (result : Result ℕ ServiceFault) → IfErr result (DoorCause wire wire' out out')
+      → IfTold told (λ files. (outcome : Outcome) → IsOutcome files name choice (authority_of config.base) outcome → GivesServed outcome result)
+  decided wire wire' out out' result h = λ files is outcome o.
+      serving_gives wire wire' out out' outcome result h (server.data_set, one_outcome files name choice (authority_of config.base) outcome (served server.data_set) o (starts.data_set files is))
