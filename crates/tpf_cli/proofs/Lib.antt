@@ -1,8 +1,5 @@
-pub mod Options
-pub mod Arguments
-pub mod Served
-pub mod TermLists
-pub mod WholeTable
-pub mod Made
-pub mod Numbers
-pub mod Only
+pub mod Ranges
+pub mod Said
+pub mod Decided
+pub mod Asked
+pub mod Commanded

@@ -1,6 +1,6 @@
-pub mod Arguments
-pub mod Words
-pub mod WholeTable
+pub mod Names
+pub mod Lines
 pub mod Endings
 pub mod EndingViews
-pub mod WordViews
+pub mod Runs
+pub mod Ranges

@@ -1,10 +1,11 @@
-//! The command line of `tpf`: the words, the files, the query, the text of the result, and the exit status.
+//! The command line of `tpf`: the words, the commands, and what is said at the end of each.
 #![tactic(auto)]
 
-mod command;
+mod commands;
 mod ending;
-mod listing;
+mod lines;
+mod names;
+mod say;
 mod top;
-mod words;
 
 pub use top::{Inside, run};

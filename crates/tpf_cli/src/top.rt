@@ -1,13 +1,21 @@
 // The top call.
-ghost use Rattle.std.specs.Prelude.{ℕ, ◌≡◌, ◌≤◌, map, string_bytes};
-ghost use Rattle.tpf_cli.specs.Words.{command_of};
+ghost use Rattle.std.specs.Prelude.{ℕ, ◌≡◌, ◌≤◌, Some, map, string_bytes};
+ghost use Rattle.command_words.specs.Commands.{command_of};
+ghost use Rattle.command_words.specs.CommandViews.{command_view};
+ghost use Rattle.tpf_cli.specs.Endings.{EndOfRun, Says};
 ghost use Rattle.tpf_cli.specs.EndingViews.{ending_view};
-ghost use Rattle.tpf_cli.specs.WordViews.{command_view};
-ghost use Rattle.tpf_cli.specs.Endings.{EndOfRun, Causes, Takes, CausesOf, TakesOf, OnlyEnds, Says};
+ghost use Rattle.tpf_cli.specs.Ranges.{IsInRange};
+ghost use Rattle.tpf_cli.specs.Runs.{Does, DoesOf, MustEndOf, IsWithoutWire, IsReadOnce};
 
-use crate::command::{local, make};
-use crate::ending::{Ending, say};
-use crate::words::{Command, command_of};
+use crate::commands::{ask_file, ask_server, options_of, serve_file};
+use crate::ending::Ending;
+use crate::say::say;
+use command_words::{Command, command_of};
+use fragment_server::FragmentConnection;
+use generated_data::write_generated;
+use loop_wire::LoopWire;
+use query_command::LocalQuery;
+use serve_command::Service;
 use std::alloc::Global;
 use std::sync::Wait;
 use tpf_base::{Accept, Dial, Shelf, Sink};
@@ -17,19 +25,26 @@ use tpf_base::{Accept, Dial, Shelf, Sink};
 pub enum Inside {
     /// The run made none.
     Unused,
+    /// The wire between the client and the server of `local`, as the run left it.
+    Loop(LoopWire<FragmentConnection>),
 }
 
 /// Does a command.
-fn obey<'a, F: Shelf, K: Sink>(
+fn obey<'a, R: Wait, F: Shelf, W: Dial + Accept, K: Sink>(
+    rt: &R,
     alloc: Global,
     command: Command<'a>,
     shelf: &mut F,
+    wire: &mut W,
     out: &mut K,
+    inside: &mut Inside,
 ) -> Ending<'a>
-    ensures cause { Causes (F.told shelf.old) (command_view command.entry) (F.faults shelf.old) (F.faults shelf.new) (K.faults out.old) (K.faults out.new) (ending_view result) }
-    ensures takes { Takes (F.told shelf.old) (command_view command.entry) (K.taken out.old) (K.taken out.new) (ending_view result) }
-    ensures told { F.told shelf.new ≡ F.told shelf.old }
-    ensures shelf_later { F.faults shelf.old ≤ F.faults shelf.new }
+    requires range { IsInRange (command_view command) }
+    requires unused { inside.old ≡ Inside.Unused }
+    ensures does { Does (record { told = F.told shelf.old; shelf = F.faults shelf.old; shelf' = F.faults shelf.new; allows = W.allows wire.old; wire = W.state wire.old; wire' = W.state wire.new; out = K.faults out.old; out' = K.faults out.new; taken = K.taken out.old; taken' = K.taken out.new; inside' = inside.new }) (command_view command.entry) (ending_view result) }
+    ensures wire { IsWithoutWire (Some (command_view command.entry)) → wire.new ≡ wire.old }
+    ensures told { IsReadOnce (Some (command_view command.entry)) → F.told shelf.new ≡ F.told shelf.old }
+    ensures shelf_later { IsReadOnce (Some (command_view command.entry)) → F.faults shelf.old ≤ F.faults shelf.new }
     ensures out_later { K.faults out.old ≤ K.faults out.new }
 {
     match command {
@@ -37,67 +52,127 @@ fn obey<'a, F: Shelf, K: Sink>(
             name,
             query,
             choice,
-        } => local(alloc, name, query, &choice, shelf, out),
-        Command::Make { count } => make(alloc, count, out),
+            page,
+            client,
+            seed,
+            fail_every,
+        } => {
+            let asked = LocalQuery {
+                name,
+                query,
+                choice: &choice,
+                page_size: page,
+                options: options_of(client),
+                seed,
+                fail_every,
+            };
+            let answer = ask_file(rt, alloc, &asked, shelf, &*wire, out, inside);
+            Ending::Answered {
+                data: name,
+                query,
+                answer,
+            }
+        }
+        Command::Query { url, query, client } => {
+            let answer = ask_server(rt, alloc, &url, query, client, shelf, wire, out);
+            Ending::Answered {
+                data: "",
+                query,
+                answer,
+            }
+        }
+        Command::Serve {
+            name,
+            base,
+            choice,
+            page,
+            stop_after,
+            reload,
+        } => {
+            let service = Service {
+                name,
+                choice: &choice,
+                base,
+                page_size: page,
+                reload,
+                stop_after,
+            };
+            let served = serve_file(rt, alloc, service, shelf, wire, out);
+            Ending::Served { data: name, served }
+        }
+        Command::Make { count, run } => match run {
+            None => Ending::Made(write_generated(alloc, count, out)),
+            Some(_) => Ending::Usage,
+        },
     }
 }
 
-fn ending_of<'a, F: Shelf, K: Sink>(
+fn ending_of<'a, R: Wait, F: Shelf, W: Dial + Accept, K: Sink>(
+    rt: &R,
     alloc: Global,
     words: &'a [String],
     shelf: &mut F,
+    wire: &mut W,
     out: &mut K,
+    inside: &mut Inside,
 ) -> Ending<'a>
-    ensures cause { CausesOf (F.told shelf.old) (command_of (map string_bytes words.entry.now)) (F.faults shelf.old) (F.faults shelf.new) (K.faults out.old) (K.faults out.new) (ending_view result) }
-    ensures takes { TakesOf (F.told shelf.old) (command_of (map string_bytes words.entry.now)) (K.taken out.old) (K.taken out.new) (ending_view result) }
-    ensures told { F.told shelf.new ≡ F.told shelf.old }
-    ensures shelf_later { F.faults shelf.old ≤ F.faults shelf.new }
+    requires unused { inside.old ≡ Inside.Unused }
+    ensures does { DoesOf (record { told = F.told shelf.old; shelf = F.faults shelf.old; shelf' = F.faults shelf.new; allows = W.allows wire.old; wire = W.state wire.old; wire' = W.state wire.new; out = K.faults out.old; out' = K.faults out.new; taken = K.taken out.old; taken' = K.taken out.new; inside' = inside.new }) (command_of (map string_bytes words.entry.now)) (ending_view result) }
+    ensures wire { IsWithoutWire (command_of (map string_bytes words.entry.now)) → wire.new ≡ wire.old }
+    ensures told { IsReadOnce (command_of (map string_bytes words.entry.now)) → F.told shelf.new ≡ F.told shelf.old }
+    ensures shelf_later { IsReadOnce (command_of (map string_bytes words.entry.now)) → F.faults shelf.old ≤ F.faults shelf.new }
     ensures out_later { K.faults out.old ≤ K.faults out.new }
 {
     match command_of(alloc, words) {
-        Err(_) => Ending::Memory,
+        Err(_) => Ending::NoWords,
         Ok(None) => Ending::Usage,
-        Ok(Some(command)) => obey(alloc, command, shelf, out),
+        Ok(Some(command)) => obey(rt, alloc, command, shelf, wire, out, inside),
     }
 }
 
-fn end_of<'a, F: Shelf, K: Sink>(
+/// Does the command that the words are, if they are one.
+fn end_of<'a, R: Wait, F: Shelf, W: Dial + Accept, K: Sink>(
+    rt: &R,
     alloc: Global,
     words: &'a [String],
     shelf: &mut F,
+    wire: &mut W,
     out: &mut K,
+    inside: &mut Inside,
 ) -> Ending<'a>
-    ensures cause { CausesOf (F.told shelf.old) (command_of (map string_bytes words.entry.now)) (F.faults shelf.old) (F.faults shelf.new) (K.faults out.old) (K.faults out.new) (ending_view result) }
-    ensures takes { TakesOf (F.told shelf.old) (command_of (map string_bytes words.entry.now)) (K.taken out.old) (K.taken out.new) (ending_view result) }
-    ensures only { OnlyEnds (F.told shelf.old) (command_of (map string_bytes words.entry.now)) (F.faults shelf.old) (F.faults shelf.new) (K.faults out.old) (K.faults out.new) (ending_view result) }
-    ensures told { F.told shelf.new ≡ F.told shelf.old }
-    ensures shelf_later { F.faults shelf.old ≤ F.faults shelf.new }
+    requires unused { inside.old ≡ Inside.Unused }
+    ensures does { DoesOf (record { told = F.told shelf.old; shelf = F.faults shelf.old; shelf' = F.faults shelf.new; allows = W.allows wire.old; wire = W.state wire.old; wire' = W.state wire.new; out = K.faults out.old; out' = K.faults out.new; taken = K.taken out.old; taken' = K.taken out.new; inside' = inside.new }) (command_of (map string_bytes words.entry.now)) (ending_view result) }
+    ensures must { MustEndOf (record { told = F.told shelf.old; shelf = F.faults shelf.old; shelf' = F.faults shelf.new; allows = W.allows wire.old; wire = W.state wire.old; wire' = W.state wire.new; out = K.faults out.old; out' = K.faults out.new; taken = K.taken out.old; taken' = K.taken out.new; inside' = inside.new }) (command_of (map string_bytes words.entry.now)) (ending_view result) }
+    ensures wire { IsWithoutWire (command_of (map string_bytes words.entry.now)) → wire.new ≡ wire.old }
+    ensures told { IsReadOnce (command_of (map string_bytes words.entry.now)) → F.told shelf.new ≡ F.told shelf.old }
+    ensures shelf_later { IsReadOnce (command_of (map string_bytes words.entry.now)) → F.faults shelf.old ≤ F.faults shelf.new }
     ensures out_later { K.faults out.old ≤ K.faults out.new }
 {
-    ending_of(alloc, words, shelf, out)
+    ending_of(rt, alloc, words, shelf, wire, out, inside)
 }
 
 /// Does the command that the words are, and answers the exit status. `words` begins with the
 /// program's name.
 ///
-/// `tpf local FILE QUERYFILE` reads the two files from `shelf`, and writes the solutions of the
-/// query over the triples of the default graph to `out`, as SPARQL 1.1 Query Results JSON; with
-/// `--graph IRI` over those of that graph, with `--union` over those of all graphs. A blank node
-/// with label L is `http://localhost/.well-known/genid/L`.
+/// `tpf local FILE QUERYFILE` serves the data of a file to a client in the same process, over a wire
+/// that is left in `inside`, and writes the answer to the query of the other file to `out`, as SPARQL 1.1
+/// Query Results JSON. `tpf query URL QUERYFILE` asks the server at an address over `wire`. Both end with
+/// the line `requests R rows S` on `err`.
 ///
-/// `tpf make N` writes the generated data of N persons to `out`, 1 to 1000000, as canonical
-/// N-Quads.
+/// `tpf serve FILE --base URL` serves the data of a file over `wire` at the host and the port of the base,
+/// writes `ready` and LF to `out` once the door is open, and ends with the line `served C`, after
+/// `--stop-after` connections.
+///
+/// `tpf make N` writes the generated data of N persons to `out`, as canonical N-Quads.
 ///
 /// At any status but 0 a line that says why goes to `err`; a failure of `err` is passed over. The
-/// statuses: 2 the words are no command; 3 the data are not read; 4 the query is not read; 8 memory
-/// ran out; 9 `out` failed; 10 a file could not be read from `shelf`. Nothing goes to `out` before
-/// both files are read.
+/// statuses: 2 the words are no command; 3 the data are not served; 4 the query is not read; 5 a request
+/// failed; 6 a reply is refused; 7 the budget is spent; 8 memory ran out; 9 `out` failed; 10 a file could
+/// not be read from `shelf`; 11 the data changed; 12 the door or a wait failed.
 ///
-/// No command sends anything over `wire`, and none waits by `rt`. No run makes a wire inside
-/// itself: `inside` is `Unused` before and after it. The shelf holds the same files after a run, and
-/// no count of faults falls in it.
+/// `inside` is `Unused` before a run.
 pub fn run<R: Wait, F: Shelf, W: Dial + Accept, K: Sink, E: Sink>(
-    _rt: &R,
+    rt: &R,
     alloc: Global,
     words: &[String],
     shelf: &mut F,
@@ -108,17 +183,15 @@ pub fn run<R: Wait, F: Shelf, W: Dial + Accept, K: Sink, E: Sink>(
 ) -> u8
     requires { inside.old ≡ Inside.Unused }
     ensures ending { (end : EndOfRun)
-        × CausesOf (F.told shelf.old) (command_of (map string_bytes words.now)) (F.faults shelf.old) (F.faults shelf.new) (K.faults out.old) (K.faults out.new) end
-        × TakesOf (F.told shelf.old) (command_of (map string_bytes words.now)) (K.taken out.old) (K.taken out.new) end
-        × OnlyEnds (F.told shelf.old) (command_of (map string_bytes words.now)) (F.faults shelf.old) (F.faults shelf.new) (K.faults out.old) (K.faults out.new) end
+        × DoesOf (record { told = F.told shelf.old; shelf = F.faults shelf.old; shelf' = F.faults shelf.new; allows = W.allows wire.old; wire = W.state wire.old; wire' = W.state wire.new; out = K.faults out.old; out' = K.faults out.new; taken = K.taken out.old; taken' = K.taken out.new; inside' = inside.new }) (command_of (map string_bytes words.now)) end
+        × MustEndOf (record { told = F.told shelf.old; shelf = F.faults shelf.old; shelf' = F.faults shelf.new; allows = W.allows wire.old; wire = W.state wire.old; wire' = W.state wire.new; out = K.faults out.old; out' = K.faults out.new; taken = K.taken out.old; taken' = K.taken out.new; inside' = inside.new }) (command_of (map string_bytes words.now)) end
         × Says result end (E.faults err.old) (E.faults err.new) (E.taken err.old) (E.taken err.new) }
-    ensures wire { wire.new ≡ wire.old }
-    ensures inside { inside.new ≡ Inside.Unused }
-    ensures told { F.told shelf.new ≡ F.told shelf.old }
-    ensures shelf_later { F.faults shelf.old ≤ F.faults shelf.new }
+    ensures wire { IsWithoutWire (command_of (map string_bytes words.now)) → wire.new ≡ wire.old }
+    ensures told { IsReadOnce (command_of (map string_bytes words.now)) → F.told shelf.new ≡ F.told shelf.old }
+    ensures shelf_later { IsReadOnce (command_of (map string_bytes words.now)) → F.faults shelf.old ≤ F.faults shelf.new }
     ensures out_later { K.faults out.old ≤ K.faults out.new }
     ensures err_later { E.faults err.old ≤ E.faults err.new }
 {
-    let ending = end_of(alloc, words, shelf, out);
+    let ending = end_of(rt, alloc, words, shelf, wire, out, inside);
     say(alloc, err, &ending)
 }

@@ -58,7 +58,11 @@ fn texts_of_answers(rt: HostRuntime) -> Result<(), Fail> {
         let got = local(&rt, rt.alloc(), data.as_bytes(), query.as_bytes())?;
         assert_eq!(rt; got.status, 0, "{query}");
         assert_eq!(rt; got.out.taken(), written.as_bytes(), "{query}");
-        assert_eq!(rt; got.err.taken(), b"".as_slice(), "{query}");
+        assert_eq!(rt;
+            got.err.taken(),
+            b"requests 2 rows 1\n".as_slice(),
+            "{query}"
+        );
     }
     Ok(())
 }

@@ -122,7 +122,7 @@ fn a_text_with_a_language_and_no_tag(rt: HostRuntime) -> Result<(), Fail> {
 
 /// Words, data, query, whether the output fails, the status, and the first three bytes of the line.
 static ENDINGS: [(&str, &str, &str, bool, u8, &str); 9] = [
-    ("tpf|local|d|q", ONE, ONE_QUERY, false, 0, ""),
+    ("tpf|local|d|q", ONE, ONE_QUERY, false, 0, "req"),
     ("tpf|make|1", "", "", false, 0, ""),
     ("tpf|locals|d|q", ONE, ONE_QUERY, false, 2, "usa"),
     ("tpf|local|d|q", "x", ONE_QUERY, false, 3, "dat"),

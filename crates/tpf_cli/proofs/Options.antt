@@ -1,5 +1,0 @@
--- Where an answer that may be missing is there.
-use Rattle.std.proofs.Common.{◌≡◌, Some}
-
-pub some_same : {A : Type 0} {x y : A} → Some x ≡ Some y → x ≡ y
-some_same e = cc

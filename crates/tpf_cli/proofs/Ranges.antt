@@ -1,0 +1,127 @@
+-- The words of a command keep to their ranges.
+use Rattle.std.proofs.Common.{ℕ, ◌≡◌, ◌≤◌, ◌⊎◌, inl, inr, List, [], ◌∷◌, Bool, true, false, not, ◌&&◌, nat_le, is_some, Option, Some, None, codes, if◌then◌else◌, refl, subst, arith}
+use Rattle.std.proofs.lemmas.Bool.Decides.{nat_tests}
+use Rattle.std.specs.Str.{bytes_eq}
+use Rattle.list_laws.specs.Options.{◌>>=◌}
+use Rattle.list_laws.proofs.Options.{bind_some}
+use Rattle.tpf_base.specs.Addresses.{Address}
+use Rattle.template_fill.specs.Configurations.{HasReloadPath, is_reload_path}
+use Rattle.command_words.specs.declared.command.ClientWords.{ClientWords}
+use Rattle.command_words.specs.Words.{Text, Values, Form, arguments}
+use Rattle.command_words.specs.Commands.{Command, local_form, query_form, serve_form, make_form, is_number, number_after, number_of, number_or, number_in, count_of, url_of, without_query, base_of, reload_of, choice_in, page_in, client_in, local_from, query_from, serve_from, make_from, words_of, command_of, local_of, query_of, serve_of, make_of}
+use Rattle.tpf_cli.specs.Ranges.{IsClient, IsInRange}
+
+some_same : {A : Type 0} {x y : A} → Some x ≡ Some y → x ≡ y
+some_same e = cc
+
+-- ---- numbers
+
+passes : {A : Type 0} (b : Bool) (x y : A) → (if b then Some x else None) ≡ Some y → (b ≡ true) × (x ≡ y)
+passes true x y e = (refl, some_same e)
+passes false x y e = cc
+
+both : (a b : Bool) → (a && b) ≡ true → (a ≡ true) × (b ≡ true)
+both true b e = (refl, e)
+both false b e = cc
+
+in_range : (low high usual n : ℕ) (given : Option Text) → low ≤ usual → usual ≤ high → number_or low high usual given ≡ Some n → (low ≤ n) × (n ≤ high)
+in_range low high usual n None a b e = let same : usual ≡ n = some_same e in (subst (λ (k : ℕ). low ≤ k) same a, subst (λ (k : ℕ). k ≤ high) same b)
+in_range low high usual n (Some text) a b e =
+    let p = passes (is_number text && (nat_le low (number_after 0 text) && nat_le (number_after 0 text) high)) (number_after 0 text) n e in
+    let q = both (is_number text) (nat_le low (number_after 0 text) && nat_le (number_after 0 text) high) p.0 in
+    let r = both (nat_le low (number_after 0 text)) (nat_le (number_after 0 text) high) q.1 in
+    (subst (λ (k : ℕ). low ≤ k) p.1 (grind (arith, nat_tests, r.0)), subst (λ (k : ℕ). k ≤ high) p.1 (grind (arith, nat_tests, r.1)))
+
+-- ---- clients
+
+client_range : (values : Values) (client : ClientWords) → client_in values ≡ Some client → IsClient client
+client_range values client e =
+    let w = bind_some (number_in values (codes "window") 1 10000 16) _ client e in
+    let l = bind_some (number_in values (codes "links") 1 256 8) _ client w.2 in
+    let r = bind_some (number_in values (codes "retries") 0 100 2) _ client l.2 in
+    let b = bind_some (number_in values (codes "budget") 1 1000000000000 1000000) _ client r.2 in
+    let m = bind_some (number_in values (codes "max-body") 1 268435456 16777216) _ client b.2 in
+    let same : record { window = w.0; links = l.0; retries = r.0; budget = b.0; max_body = m.0 } ≡ client = some_same m.2 in
+    let links = in_range 1 256 8 l.0 (values (codes "links")) (omega arith) (omega arith) l.1 in
+    subst IsClient same (record { window = (in_range 1 10000 16 w.0 (values (codes "window")) (omega arith) (omega arith) w.1).0; some = links.0; few = links.1 })
+
+page_range : (values : Values) (page : ℕ) → page_in values ≡ Some page → (1 ≤ page) × (page ≤ 1000)
+page_range values page e = in_range 1 1000 100 page (values (codes "page")) (omega arith) (omega arith) e
+
+-- ---- commands
+
+local_range : (values : Values) (c : Command) → local_from values ≡ Some c → IsInRange c
+local_range values c e =
+    let name = bind_some (values (codes "FILE")) _ c e in
+    let asked = bind_some (values (codes "QUERYFILE")) _ c name.2 in
+    let choice = bind_some (choice_in values) _ c asked.2 in
+    let client = bind_some (client_in values) _ c choice.2 in
+    let page = bind_some (page_in values) _ c client.2 in
+    let seed = bind_some (number_in values (codes "seed") 0 9999999999999999999 0) _ c page.2 in
+    let fail_every = bind_some (number_in values (codes "fail-every") 0 1000000000 0) _ c seed.2 in
+    let p = page_range values page.0 page.1 in
+    subst IsInRange (some_same fail_every.2) (p.0, p.1, client_range values client.0 client.1)
+
+query_range : (values : Values) (c : Command) → query_from values ≡ Some c → IsInRange c
+query_range values c e =
+    let url = bind_some (values (codes "URL") >>= url_of) _ c e in
+    let asked = bind_some (values (codes "QUERYFILE")) _ c url.2 in
+    let client = bind_some (client_in values) _ c asked.2 in
+    subst IsInRange (some_same client.2) (client_range values client.0 client.1)
+
+none_there : {A : Type 0} (o : Option A) → not (is_some o) ≡ true → o ≡ None
+none_there None e = refl
+none_there (Some x) e = cc
+
+no_query : (found : Option Address) (base : Address) → without_query found ≡ Some base → base.query ≡ None
+no_query None base e = cc
+no_query (Some address) base e =
+    let p = passes (not (is_some address.query)) address base e in
+    none_there base.query (subst (λ (a : Address). not (is_some a.query) ≡ true) p.1 p.0)
+
+has_path : (base : Address) (given reload : Option Text) → reload_of base given ≡ Some reload → HasReloadPath base reload
+has_path base None reload e = subst (HasReloadPath base) (some_same e) tt
+has_path base (Some path) reload e = let p = passes (is_reload_path base path) (Some path) reload e in subst (HasReloadPath base) p.1 p.0
+
+serve_range : (values : Values) (c : Command) → serve_from values ≡ Some c → IsInRange c
+serve_range values c e =
+    let base = bind_some (values (codes "base") >>= base_of) _ c e in
+    let reload = bind_some (reload_of base.0 (values (codes "reload"))) _ c base.2 in
+    let name = bind_some (values (codes "FILE")) _ c reload.2 in
+    let choice = bind_some (choice_in values) _ c name.2 in
+    let page = bind_some (page_in values) _ c choice.2 in
+    let stop_after = bind_some (count_of 1 1000000000 (values (codes "stop-after"))) _ c page.2 in
+    let text = bind_some (values (codes "base")) base_of base.0 base.1 in
+    let p = page_range values page.0 page.1 in
+    subst IsInRange (some_same stop_after.2) (p.0, p.1, no_query (url_of text.0) base.0 text.2, has_path base.0 (values (codes "reload")) reload.0 reload.1)
+
+make_range : (values : Values) (c : Command) → make_from values ≡ Some c → IsInRange c
+make_range values c e =
+    let count = bind_some (values (codes "N") >>= number_of 1 1000000) _ c e in
+    subst IsInRange (some_same count.2) tt
+
+-- ---- words
+
+words_range : (form : Form) (from : Values → Option Command) (words : List Text) (c : Command) → ((values : Values) → from values ≡ Some c → IsInRange c) → words_of form from words ≡ Some c → IsInRange c
+words_range form from words c range e = let values = bind_some (arguments form words) from c e in range values.0 values.2
+
+-- one of four, or nothing
+chosen : (a b d f : Bool) (w x y z : Option Command) (c : Command) → (if a then w else (if b then x else (if d then y else (if f then z else None)))) ≡ Some c
+    → (w ≡ Some c) ⊎ ((x ≡ Some c) ⊎ ((y ≡ Some c) ⊎ (z ≡ Some c)))
+chosen true b d f w x y z c e = inl e
+chosen false true d f w x y z c e = inr (inl e)
+chosen false false true f w x y z c e = inr (inr (inl e))
+chosen false false false true w x y z c e = inr (inr (inr e))
+chosen false false false false w x y z c e = cc
+
+pub ranges : (words : List Text) (c : Command) → command_of words ≡ Some c → IsInRange c
+unfolding local_of query_of serve_of make_of
+ranges [] c e = cc
+ranges (program ∷ []) c e = cc
+ranges (program ∷ name ∷ words) c e = found (chosen (bytes_eq name (codes "local")) (bytes_eq name (codes "query")) (bytes_eq name (codes "serve")) (bytes_eq name (codes "make")) _ _ _ _ c e)
+  where
+    found : (words_of local_form local_from words ≡ Some c) ⊎ ((words_of query_form query_from words ≡ Some c) ⊎ ((words_of serve_form serve_from words ≡ Some c) ⊎ (words_of make_form make_from words ≡ Some c))) → IsInRange c
+    found (inl p) = words_range local_form local_from words c (λ values. local_range values c) p
+    found (inr (inl p)) = words_range query_form query_from words c (λ values. query_range values c) p
+    found (inr (inr (inl p))) = words_range serve_form serve_from words c (λ values. serve_range values c) p
+    found (inr (inr (inr p))) = words_range make_form make_from words c (λ values. make_range values c) p

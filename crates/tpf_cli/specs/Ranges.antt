@@ -1,0 +1,18 @@
+-- What the words of a command keep to.
+use Rattle.std.specs.Prelude.{◌≡◌, ◌≤◌, None}
+use Rattle.template_fill.specs.Configurations.{HasReloadPath}
+use Rattle.command_words.specs.declared.command.ClientWords.{ClientWords}
+use Rattle.command_words.specs.Commands.{Command, local, query, serve, make}
+
+-- the bounds of a client
+pub record IsClient (client : ClientWords) : Type 0 where
+  pub window : 1 ≤ client.window
+  pub some : 1 ≤ client.links
+  pub few : client.links ≤ 256
+
+-- the numbers are in their ranges, a base has no query part, and the path of a reload is a written one beside the base's
+abbrev pub IsInRange : Command → Type 0
+IsInRange (local name query_name choice page client seed fail_every) = (1 ≤ page) × (page ≤ 1000) × IsClient client
+IsInRange (query url query_name client) = IsClient client
+IsInRange (serve name base choice page stop_after reload) = (1 ≤ page) × (page ≤ 1000) × (base.query ≡ None) × HasReloadPath base reload
+IsInRange (make count asked) = Unit {0}

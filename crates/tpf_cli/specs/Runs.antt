@@ -1,0 +1,170 @@
+-- What a run did, by its command and how it ended.
+use Rattle.std.specs.Prelude.{ℕ, ◌≡◌, ◌⊎◌, ◌+◌, ◌-◌, ◌≤◌, true, List, Option, Some, None, Result, Ok, Err, IfOk, IfErr, IfSome, OnOk, codes}
+use Rattle.std.specs.Io.KnownBytes.{Appends}
+use Rattle.rdf_terms.specs.Canon.{canon}
+use Rattle.generated_data.specs.Generated.{generated}
+use Rattle.tpf_base.specs.Addresses.{Address, authority_of}
+use Rattle.tpf_base.specs.Causes.{Rose}
+use Rattle.tpf_base.specs.Links.{WireState}
+use Rattle.tpf_base.specs.Wrote.{AppendsPrefix}
+use Rattle.tpf_base.specs.declared.fault.Fault.{Fault}
+use Rattle.tpf_base.specs.declared.fault.Fault.TheVariants as sinks
+use Rattle.template_fill.specs.Metadata.{Config}
+use Rattle.triple_table.specs.declared.choice.Choice.{Choice}
+use Rattle.loop_wire.specs.Looped.{Looped}
+use Rattle.fragment_server.specs.declared.server.FragmentServer.{FragmentServer}
+use Rattle.serve_loop.specs.Sentence.{AllClosed}
+use Rattle.tpf_client.specs.declared.options.Options.{Options}
+use Rattle.tpf_client.specs.declared.options.Report.{Report}
+use Rattle.data_files.specs.Data.{Files, IfTold, Outcome, IsOutcome}
+use Rattle.data_files.specs.Queries.{QueryOutcome, IsQueryOutcome}
+use Rattle.query_command.specs.declared.fault.AnswerFault.{AnswerFault}
+use Rattle.query_command.specs.Answers.{Answers, AskCause, GivesAnswer}
+use Rattle.query_command.specs.Loops.{LocalView, LocalAnswers, LocalCause, GivesData}
+use Rattle.serve_command.specs.declared.fault.ServiceFault.{ServiceFault}
+use Rattle.serve_command.specs.Services.{SpeaksOfFile, SaysPrefixes, SaysWhole, ServiceCause, IsUntouched, GivesServed}
+use Rattle.command_words.specs.declared.command.ClientWords.{ClientWords}
+use Rattle.command_words.specs.Commands.{Command, local, query, serve, make}
+use Rattle.tpf_cli.specs.declared.top.Inside.{Inside}
+use Rattle.tpf_cli.specs.declared.top.Inside.TheVariants.{Unused, Loop}
+use Rattle.tpf_cli.specs.Endings.{EndOfRun, usage, no_words, answered, served, made}
+
+-- What stands around a run, before it and after it: what the shelf tells, its faults, what the wire allows and holds, the faults of the output and what it took, and the wire that was made inside.
+pub record Around : Type 1 where
+  pub told : Option Files
+  pub shelf : ℕ
+  pub shelf' : ℕ
+  pub allows : List ℕ → ℕ → List ℕ → List ℕ → Type 0
+  pub wire : WireState
+  pub wire' : WireState
+  pub out : ℕ
+  pub out' : ℕ
+  pub taken : Option (List ℕ)
+  pub taken' : Option (List ℕ)
+  pub inside' : Inside
+
+-- the wire that a run made inside
+abbrev pub wire_inside : Inside → Option (Looped FragmentServer)
+wire_inside Unused = None
+wire_inside (Loop wire) = Some wire
+
+-- the bounds of a client by its words
+abbrev pub options_of : ClientWords → Options
+options_of client = record { window = client.window; links = client.links; retries = client.retries; budget = client.budget; max_body = client.max_body }
+
+-- ---- commands
+
+-- nothing was written, sent or made
+abbrev pub IsIdle : Around → Type 0
+IsIdle a = (a.taken' ≡ a.taken) × (a.wire' ≡ a.wire) × (a.inside' ≡ Unused)
+
+-- a file was asked in the process; the handed-in wire is not used
+abbrev pub AsksFile : Around → LocalView → Result Report AnswerFault → Type 0
+AsksFile a view (Ok report) = LocalAnswers a.told view (wire_inside a.inside') report a.taken a.taken' × (a.wire' ≡ a.wire)
+AsksFile a view (Err fault) = LocalCause a.told view (wire_inside a.inside') a.shelf a.shelf' a.out a.out' a.taken a.taken' fault × (a.wire' ≡ a.wire)
+
+-- a server was asked over the handed-in wire; none is made inside
+abbrev pub AsksServer : Around → List ℕ → Address → Options → Result Report AnswerFault → Type 0
+AsksServer a name start options (Ok report) = Answers a.told name a.allows start options report a.wire a.wire' a.taken a.taken' × (a.inside' ≡ Unused)
+AsksServer a name start options (Err fault) = AskCause a.told name a.allows start options a.shelf a.shelf' a.wire a.wire' a.out a.out' a.taken a.taken' fault × (a.inside' ≡ Unused)
+
+-- a file was served over the handed-in wire
+pub record ServesFile (a : Around) (name : List ℕ) (choice : Choice) (config : Config) (stop_after : Option ℕ) (result : Result ℕ ServiceFault) : Type 0 where
+  pub prefixes : (a.wire'.given ≡ a.wire.given) ⊎ SpeaksOfFile a.told name choice config a.wire a.wire' SaysPrefixes
+  pub whole : IfOk result (λ connections. SpeaksOfFile a.told name choice config a.wire a.wire' (SaysWhole a.wire.faults connections))
+  pub closed : AllClosed a.wire a.wire'
+  pub stops : IfOk result (λ connections. IfSome stop_after (λ most. most ≤ connections))
+  pub soon : IfOk result (λ connections. IfSome stop_after (λ most. connections ≤ (most - 1) + 256))
+  pub never : OnOk result (stop_after ≡ None → ⊥)
+  pub links : IfOk result (λ connections. a.wire.given + connections ≤ a.wire'.given)
+  pub ready : OnOk result (Appends a.taken a.taken' (codes "ready\n"))
+  pub front : AppendsPrefix a.taken a.taken' (codes "ready\n")
+  pub door : (a.taken' ≡ a.taken) ⊎ (a.wire'.listens ≡ true)
+  pub untouched : IfErr result (IsUntouched a.wire a.wire' a.taken a.taken')
+  pub cause : IfErr result (ServiceCause a.told name choice (authority_of config.base) a.shelf a.shelf' a.wire.faults a.wire'.faults a.out a.out')
+  pub exact : ¬ (Rose a.shelf a.shelf') → IfTold a.told (λ files. (outcome : Outcome) → IsOutcome files name choice (authority_of config.base) outcome → GivesServed outcome result)
+  pub inside : a.inside' ≡ Unused
+
+-- the data of so many persons were written, as canonical text
+abbrev pub Writes : Around → ℕ → Result (Unit {0}) Fault → Type 0
+Writes a count (Ok nothing) = Appends a.taken a.taken' (canon (generated count)) × (a.wire' ≡ a.wire) × (a.inside' ≡ Unused)
+Writes a count (Err sinks.Failed) = AppendsPrefix a.taken a.taken' (canon (generated count)) × (a.wire' ≡ a.wire) × (a.inside' ≡ Unused) × Rose a.out a.out'
+Writes a count (Err sinks.OutOfMemory) = AppendsPrefix a.taken a.taken' (canon (generated count)) × (a.wire' ≡ a.wire) × (a.inside' ≡ Unused)
+
+-- ---- runs
+
+abbrev pub view_of : List ℕ → List ℕ → Choice → ℕ → ClientWords → ℕ → ℕ → LocalView
+view_of name query_name choice page client seed fail_every = record { name = name; query = query_name; choice = choice; page_size = page; options = options_of client; seed = seed; fail_every = fail_every }
+
+abbrev pub config_by : Address → ℕ → Option (List ℕ) → Config
+config_by base page reload = record { base = base; page_size = page; reload = reload }
+
+-- what a command did that ended so
+abbrev pub Does : Around → Command → EndOfRun → Type 0
+Does a (local name query_name choice page client seed fail_every) (answered data_name asked answer) = (data_name ≡ name) × (asked ≡ query_name) × AsksFile a (view_of name query_name choice page client seed fail_every) answer
+Does a (local name query_name choice page client seed fail_every) usage = ⊥
+Does a (local name query_name choice page client seed fail_every) no_words = ⊥
+Does a (local name query_name choice page client seed fail_every) (served file service) = ⊥
+Does a (local name query_name choice page client seed fail_every) (made written) = ⊥
+Does a (query url query_name client) (answered data_name asked answer) = (asked ≡ query_name) × AsksServer a query_name url (options_of client) answer
+Does a (query url query_name client) usage = ⊥
+Does a (query url query_name client) no_words = ⊥
+Does a (query url query_name client) (served file service) = ⊥
+Does a (query url query_name client) (made written) = ⊥
+Does a (serve name base choice page stop_after reload) (served file service) = (file ≡ name) × ServesFile a name choice (config_by base page reload) stop_after service
+Does a (serve name base choice page stop_after reload) usage = ⊥
+Does a (serve name base choice page stop_after reload) no_words = ⊥
+Does a (serve name base choice page stop_after reload) (answered data_name asked answer) = ⊥
+Does a (serve name base choice page stop_after reload) (made written) = ⊥
+Does a (make count None) (made written) = Writes a count written
+Does a (make count None) usage = ⊥
+Does a (make count None) no_words = ⊥
+Does a (make count None) (answered data_name asked answer) = ⊥
+Does a (make count None) (served file service) = ⊥
+Does a (make count (Some asked_name)) end = (end ≡ usage) × IsIdle a
+
+-- Where the shelf did not fail, what the files hold decides how a command ends, want of memory aside: by the outcome of each file that was read.
+abbrev pub MustEnd : Around → Command → EndOfRun → Type 0
+MustEnd a (local name query_name choice page client seed fail_every) (answered data_name asked answer) = ¬ (Rose a.shelf a.shelf') → IfTold a.told (λ files.
+    ((outcome : Outcome) → IsOutcome files name choice (codes "localhost") outcome → GivesData outcome answer)
+    × ((outcome : QueryOutcome) → IsQueryOutcome files query_name outcome → GivesAnswer outcome answer))
+MustEnd a (local name query_name choice page client seed fail_every) usage = Unit {0}
+MustEnd a (local name query_name choice page client seed fail_every) no_words = Unit {0}
+MustEnd a (local name query_name choice page client seed fail_every) (served file service) = Unit {0}
+MustEnd a (local name query_name choice page client seed fail_every) (made written) = Unit {0}
+MustEnd a (query url query_name client) (answered data_name asked answer) = ¬ (Rose a.shelf a.shelf') → IfTold a.told (λ files. (outcome : QueryOutcome) → IsQueryOutcome files query_name outcome → GivesAnswer outcome answer)
+MustEnd a (query url query_name client) usage = Unit {0}
+MustEnd a (query url query_name client) no_words = Unit {0}
+MustEnd a (query url query_name client) (served file service) = Unit {0}
+MustEnd a (query url query_name client) (made written) = Unit {0}
+MustEnd a (serve name base choice page stop_after reload) (served file service) = ¬ (Rose a.shelf a.shelf') → IfTold a.told (λ files. (outcome : Outcome) → IsOutcome files name choice (authority_of base) outcome → GivesServed outcome service)
+MustEnd a (serve name base choice page stop_after reload) usage = Unit {0}
+MustEnd a (serve name base choice page stop_after reload) no_words = Unit {0}
+MustEnd a (serve name base choice page stop_after reload) (answered data_name asked answer) = Unit {0}
+MustEnd a (serve name base choice page stop_after reload) (made written) = Unit {0}
+MustEnd a (make count asked) end = Unit {0}
+
+-- the same of a run, where its words are a command or none
+abbrev pub DoesOf : Around → Option Command → EndOfRun → Type 0
+DoesOf a (Some command) end = (Does a command end) ⊎ ((end ≡ no_words) × IsIdle a)
+DoesOf a None end = ((end ≡ usage) ⊎ (end ≡ no_words)) × IsIdle a
+
+abbrev pub MustEndOf : Around → Option Command → EndOfRun → Type 0
+MustEndOf a (Some command) end = MustEnd a command end
+MustEndOf a None end = Unit {0}
+
+-- the handed-in wire is not used by these words
+abbrev pub IsWithoutWire : Option Command → Type 0
+IsWithoutWire None = Unit {0}
+IsWithoutWire (Some (local name query_name choice page client seed fail_every)) = Unit {0}
+IsWithoutWire (Some (query url query_name client)) = ⊥
+IsWithoutWire (Some (serve name base choice page stop_after reload)) = ⊥
+IsWithoutWire (Some (make count asked)) = Unit {0}
+
+-- no request has a file read again by these words
+abbrev pub IsReadOnce : Option Command → Type 0
+IsReadOnce None = Unit {0}
+IsReadOnce (Some (local name query_name choice page client seed fail_every)) = Unit {0}
+IsReadOnce (Some (query url query_name client)) = Unit {0}
+IsReadOnce (Some (serve name base choice page stop_after reload)) = reload ≡ None
+IsReadOnce (Some (make count asked)) = Unit {0}

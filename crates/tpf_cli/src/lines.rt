@@ -1,0 +1,161 @@
+// Lines on the standard error.
+ghost use Rattle.std.specs.Prelude.{ℕ, ◌≡◌, ◌≤◌, ◌++◌, codes, decimal, IfOk, OnOk};
+ghost use Rattle.tpf_cli.specs.Lines.{SaysLine, version_text};
+
+use itoa::Buffer;
+use std::alloc::Global;
+use tpf_base::{Fault, OutOfMemory, Sink, write_all};
+
+/// Writes a line, and gives the status where that did not run out of memory, and else 8. A failure is
+/// passed over.
+pub fn write_line<E: Sink>(err: &mut E, line: &[u8], status: u8) -> u8
+    ensures says { SaysLine result status line.now (E.faults err.old) (E.faults err.new) (E.taken err.old) (E.taken err.new) }
+    ensures later { E.faults err.old ≤ E.faults err.new }
+{
+    match write_all(err, line) {
+        Ok(()) | Err(Fault::Failed) => status,
+        Err(Fault::OutOfMemory) => 8,
+    }
+}
+
+/// A front, a number, the name of a fault and LF.
+fn fault_line(alloc: Global, front: &[u8], n: u64, why: &[u8]) -> Result<Vec<u8>, OutOfMemory>
+    ensures { IfOk result (λ v. v.items ≡ front.now ++ decimal n ++ codes ": " ++ why.now ++ codes "\n") }
+{
+    let mut buffer = Buffer::new();
+    let mut text = Vec::from_slice(alloc, front)?;
+    text.extend_from_slice(buffer.format(n).as_bytes())?;
+    text.extend_from_slice(b": ")?;
+    text.extend_from_slice(why)?;
+    text.extend_from_slice(b"\n")?;
+    Ok(text)
+}
+
+/// A front, a name and LF.
+fn named_line(alloc: Global, front: &[u8], name: &[u8]) -> Result<Vec<u8>, OutOfMemory>
+    ensures { IfOk result (λ v. v.items ≡ front.now ++ name.now ++ codes "\n") }
+{
+    let mut text = Vec::from_slice(alloc, front)?;
+    text.extend_from_slice(name)?;
+    text.extend_from_slice(b"\n")?;
+    Ok(text)
+}
+
+/// A front, a number and LF.
+fn number_line(alloc: Global, front: &[u8], n: u64) -> Result<Vec<u8>, OutOfMemory>
+    ensures { IfOk result (λ v. v.items ≡ front.now ++ decimal n ++ codes "\n") }
+{
+    let mut buffer = Buffer::new();
+    let mut text = Vec::from_slice(alloc, front)?;
+    text.extend_from_slice(buffer.format(n).as_bytes())?;
+    text.extend_from_slice(b"\n")?;
+    Ok(text)
+}
+
+/// The counts of requests and of rows.
+fn counts_line(alloc: Global, requests: u64, rows: u64) -> Result<Vec<u8>, OutOfMemory>
+    ensures { IfOk result (λ v. v.items ≡ codes "requests " ++ decimal requests ++ codes " rows " ++ decimal rows ++ codes "\n") }
+{
+    let mut buffer = Buffer::new();
+    let mut text = Vec::from_slice(alloc, b"requests ")?;
+    text.extend_from_slice(buffer.format(requests).as_bytes())?;
+    text.extend_from_slice(b" rows ")?;
+    text.extend_from_slice(buffer.format(rows).as_bytes())?;
+    text.extend_from_slice(b"\n")?;
+    Ok(text)
+}
+
+/// Appends a version, or `none`.
+fn push_version(text: &mut Vec<u8>, version: Option<u64>) -> Result<(), OutOfMemory>
+    ensures { OnOk result (text.new.items ≡ text.old.items ++ version_text version) }
+{
+    let mut buffer = Buffer::new();
+    match version {
+        Some(n) => text.extend_from_slice(buffer.format(n).as_bytes())?,
+        None => text.extend_from_slice(b"none")?,
+    }
+    Ok(())
+}
+
+/// Two versions.
+fn versions_line(
+    alloc: Global,
+    first: Option<u64>,
+    other: Option<u64>,
+) -> Result<Vec<u8>, OutOfMemory>
+    ensures { IfOk result (λ v. v.items ≡ codes "changed: " ++ version_text first ++ codes " " ++ version_text other ++ codes "\n") }
+{
+    let mut text = Vec::from_slice(alloc, b"changed: ")?;
+    push_version(&mut text, first)?;
+    text.extend_from_slice(b" ")?;
+    push_version(&mut text, other)?;
+    text.extend_from_slice(b"\n")?;
+    Ok(text)
+}
+
+/// Writes a line that is a front, a number, the name of a fault and LF.
+pub fn write_fault<E: Sink>(
+    alloc: Global,
+    err: &mut E,
+    front: &[u8],
+    n: u64,
+    why: &[u8],
+    status: u8,
+) -> u8
+    ensures says { SaysLine result status (front.now ++ decimal n ++ codes ": " ++ why.now ++ codes "\n") (E.faults err.old) (E.faults err.new) (E.taken err.old) (E.taken err.new) }
+    ensures later { E.faults err.old ≤ E.faults err.new }
+{
+    match fault_line(alloc, front, n, why) {
+        Ok(text) => write_line(err, &text, status),
+        Err(_) => 8,
+    }
+}
+
+/// Writes a line that is a front, a name and LF.
+pub fn write_named<E: Sink>(alloc: Global, err: &mut E, front: &[u8], name: &[u8], status: u8) -> u8
+    ensures says { SaysLine result status (front.now ++ name.now ++ codes "\n") (E.faults err.old) (E.faults err.new) (E.taken err.old) (E.taken err.new) }
+    ensures later { E.faults err.old ≤ E.faults err.new }
+{
+    match named_line(alloc, front, name) {
+        Ok(text) => write_line(err, &text, status),
+        Err(_) => 8,
+    }
+}
+
+/// Writes a line that is a front, a number and LF.
+pub fn write_number<E: Sink>(alloc: Global, err: &mut E, front: &[u8], n: u64, status: u8) -> u8
+    ensures says { SaysLine result status (front.now ++ decimal n ++ codes "\n") (E.faults err.old) (E.faults err.new) (E.taken err.old) (E.taken err.new) }
+    ensures later { E.faults err.old ≤ E.faults err.new }
+{
+    match number_line(alloc, front, n) {
+        Ok(text) => write_line(err, &text, status),
+        Err(_) => 8,
+    }
+}
+
+/// Writes the counts of requests and of rows, with status 0.
+pub fn write_counts<E: Sink>(alloc: Global, err: &mut E, requests: u64, rows: u64) -> u8
+    ensures says { SaysLine result 0 (codes "requests " ++ decimal requests ++ codes " rows " ++ decimal rows ++ codes "\n") (E.faults err.old) (E.faults err.new) (E.taken err.old) (E.taken err.new) }
+    ensures later { E.faults err.old ≤ E.faults err.new }
+{
+    match counts_line(alloc, requests, rows) {
+        Ok(text) => write_line(err, &text, 0),
+        Err(_) => 8,
+    }
+}
+
+/// Writes two versions, with status 11.
+pub fn write_versions<E: Sink>(
+    alloc: Global,
+    err: &mut E,
+    first: Option<u64>,
+    other: Option<u64>,
+) -> u8
+    ensures says { SaysLine result 11 (codes "changed: " ++ version_text first ++ codes " " ++ version_text other ++ codes "\n") (E.faults err.old) (E.faults err.new) (E.taken err.old) (E.taken err.new) }
+    ensures later { E.faults err.old ≤ E.faults err.new }
+{
+    match versions_line(alloc, first, other) {
+        Ok(text) => write_line(err, &text, 11),
+        Err(_) => 8,
+    }
+}

@@ -1,0 +1,167 @@
+// What is said at the end of a run.
+ghost use Rattle.std.specs.Prelude.{ℕ, ◌≡◌, ◌≤◌};
+ghost use Rattle.tpf_cli.specs.Lines.{SaysLine};
+ghost use Rattle.tpf_cli.specs.Endings.{Says, data_status, data_line, query_status, query_line, client_status, client_line, reply_line, made_status, made_line, answer_status, answer_line, service_status, service_line};
+ghost use Rattle.tpf_cli.specs.EndingViews.{ending_view};
+
+use crate::ending::Ending;
+use crate::lines::{
+    write_counts, write_fault, write_line, write_named, write_number, write_versions,
+};
+use crate::names::{page_text, query_why_text, why_text};
+use data_files::{DataFault, QueryFileFault};
+use http_wire::ReplyFault;
+use query_command::AnswerFault;
+use serve_command::ServiceFault;
+use std::alloc::Global;
+use tpf_base::{Fault, Sink};
+use tpf_client::{ClientFault, Report};
+
+/// Says why the data of a file are not served.
+fn say_data<E: Sink>(alloc: Global, err: &mut E, name: &str, fault: &DataFault) -> u8
+    ensures says { SaysLine result (data_status fault.now) (data_line name.now fault.now) (E.faults err.old) (E.faults err.new) (E.taken err.old) (E.taken err.new) }
+    ensures later { E.faults err.old ≤ E.faults err.new }
+{
+    match fault {
+        DataFault::TooLong => write_line(err, b"data: too long\n", 3),
+        DataFault::Bad { line, why } => {
+            write_fault(alloc, err, b"data: line ", *line, why_text(*why), 3)
+        }
+        DataFault::GenidClash(label) => {
+            write_named(alloc, err, b"data: genid ", label.as_str().as_bytes(), 3)
+        }
+        DataFault::TooMany => write_line(err, b"data: too many\n", 3),
+        DataFault::File => write_named(alloc, err, b"file: ", name.as_bytes(), 10),
+        DataFault::OutOfMemory => write_line(err, b"memory\n", 8),
+    }
+}
+
+/// Says why the query of a file is not read.
+fn say_query<E: Sink>(alloc: Global, err: &mut E, name: &str, fault: QueryFileFault) -> u8
+    ensures says { SaysLine result (query_status fault) (query_line name.now fault) (E.faults err.old) (E.faults err.new) (E.taken err.old) (E.taken err.new) }
+    ensures later { E.faults err.old ≤ E.faults err.new }
+{
+    match fault {
+        QueryFileFault::Bad { at, why } => {
+            write_fault(
+                alloc,
+                err,
+                b"query: byte ",
+                at as u64,
+                query_why_text(why),
+                4,
+            )
+        }
+        QueryFileFault::File => write_named(alloc, err, b"file: ", name.as_bytes(), 10),
+        QueryFileFault::OutOfMemory => write_line(err, b"memory\n", 8),
+    }
+}
+
+/// Says why a reply is refused.
+fn say_reply<E: Sink>(alloc: Global, err: &mut E, fault: ReplyFault) -> u8
+    ensures says { SaysLine result 6 (reply_line fault) (E.faults err.old) (E.faults err.new) (E.taken err.old) (E.taken err.new) }
+    ensures later { E.faults err.old ≤ E.faults err.new }
+{
+    match fault {
+        ReplyFault::Head => write_line(err, b"reply: head\n", 6),
+        ReplyFault::Status(status) => {
+            write_number(alloc, err, b"reply: status ", u64::from(status), 6)
+        }
+        ReplyFault::MediaType => write_line(err, b"reply: media type\n", 6),
+        ReplyFault::Coding => write_line(err, b"reply: coding\n", 6),
+        ReplyFault::Framing => write_line(err, b"reply: framing\n", 6),
+        ReplyFault::TooLong => write_line(err, b"reply: too long\n", 6),
+    }
+}
+
+/// Says why a call over a wire ended.
+fn say_client<E: Sink>(alloc: Global, err: &mut E, fault: &ClientFault) -> u8
+    ensures says { SaysLine result (client_status fault.now) (client_line fault.now) (E.faults err.old) (E.faults err.new) (E.taken err.old) (E.taken err.new) }
+    ensures later { E.faults err.old ≤ E.faults err.new }
+{
+    match fault {
+        ClientFault::Exchange => write_line(err, b"exchange: failed\n", 5),
+        ClientFault::Stalled => write_line(err, b"exchange: stalled\n", 5),
+        ClientFault::Cut { .. } => write_line(err, b"exchange: cut\n", 5),
+        ClientFault::Reply { fault, .. } => say_reply(alloc, err, *fault),
+        ClientFault::Page { fault, .. } => {
+            write_named(alloc, err, b"reply: ", page_text(*fault), 6)
+        }
+        ClientFault::Changed(first, other) => write_versions(alloc, err, *first, *other),
+        ClientFault::Budget(n) => write_number(alloc, err, b"budget: ", *n, 7),
+        ClientFault::Sink => write_line(err, b"sink\n", 9),
+        ClientFault::OutOfMemory => write_line(err, b"memory\n", 8),
+    }
+}
+
+/// Says what came of a query.
+fn say_answer<E: Sink>(
+    alloc: Global,
+    err: &mut E,
+    data: &str,
+    query: &str,
+    answer: &Result<Report, AnswerFault>,
+) -> u8
+    ensures says { SaysLine result (answer_status answer.now) (answer_line data.now query.now answer.now) (E.faults err.old) (E.faults err.new) (E.taken err.old) (E.taken err.new) }
+    ensures later { E.faults err.old ≤ E.faults err.new }
+{
+    match answer {
+        Ok(report) => write_counts(alloc, err, report.requests, report.rows),
+        Err(AnswerFault::Data(fault)) => say_data(alloc, err, data, fault),
+        Err(AnswerFault::Query(fault)) => say_query(alloc, err, query, *fault),
+        Err(AnswerFault::Client(fault)) => say_client(alloc, err, fault),
+    }
+}
+
+/// Says what came of a service.
+fn say_service<E: Sink>(
+    alloc: Global,
+    err: &mut E,
+    data: &str,
+    served: &Result<u64, ServiceFault>,
+) -> u8
+    ensures says { SaysLine result (service_status served.now) (service_line data.now served.now) (E.faults err.old) (E.faults err.new) (E.taken err.old) (E.taken err.new) }
+    ensures later { E.faults err.old ≤ E.faults err.new }
+{
+    match served {
+        Ok(connections) => write_number(alloc, err, b"served ", *connections, 0),
+        Err(ServiceFault::Data(fault)) => say_data(alloc, err, data, fault),
+        Err(ServiceFault::Wire) => write_line(err, b"wire\n", 12),
+        Err(ServiceFault::Sink) => write_line(err, b"sink\n", 9),
+        Err(ServiceFault::OutOfMemory) => write_line(err, b"memory\n", 8),
+    }
+}
+
+/// Says what came of generated data: nothing where they were written.
+fn say_made<E: Sink>(err: &mut E, made: &Result<(), Fault>) -> u8
+    ensures says { SaysLine result (made_status made.now) (made_line made.now) (E.faults err.old) (E.faults err.new) (E.taken err.old) (E.taken err.new) }
+    ensures later { E.faults err.old ≤ E.faults err.new }
+{
+    match made {
+        Ok(()) => 0,
+        Err(Fault::Failed) => write_line(err, b"sink\n", 9),
+        Err(Fault::OutOfMemory) => write_line(err, b"memory\n", 8),
+    }
+}
+
+/// Says how a run ended, and gives the exit status.
+pub fn say<E: Sink>(alloc: Global, err: &mut E, ending: &Ending<'_>) -> u8
+    ensures says { Says result (ending_view ending.now) (E.faults err.old) (E.faults err.new) (E.taken err.old) (E.taken err.new) }
+    ensures later { E.faults err.old ≤ E.faults err.new }
+{
+    match ending {
+        Ending::Usage => write_line(
+            err,
+            b"usage: tpf local FILE QUERYFILE, tpf query URL QUERYFILE, tpf serve FILE --base URL, tpf make N\n",
+            2,
+        ),
+        Ending::NoWords => write_line(err, b"memory\n", 8),
+        Ending::Answered {
+            data,
+            query,
+            answer,
+        } => say_answer(alloc, err, data, query, answer),
+        Ending::Served { data, served } => say_service(alloc, err, data, served),
+        Ending::Made(made) => say_made(err, made),
+    }
+}
