@@ -1,0 +1,13 @@
+//! Tests of the loop over many connections: echoes, and a server of fragments with odd peers and with data that are read again.
+#![tactic(auto)]
+
+#[cfg(test)]
+mod fragments;
+#[cfg(test)]
+mod hostile;
+#[cfg(test)]
+mod links;
+#[cfg(test)]
+mod reloads;
+#[cfg(test)]
+mod served;
