@@ -1,6 +1,7 @@
 // A wire of scripts of which no link is closed, so that tests can call on each of its links.
 ghost use Rattle.std.specs.Prelude.{ℕ, ◌≡◌, ◌≤◌, length, true};
 ghost use Rattle.script_wire.specs.Held.{state_of};
+ghost use Rattle.tpf_base.specs.Links.{listens};
 ghost use Rattle.base_tests.specs.Played.{AreOpen};
 
 use script_wire::{Script, ScriptWire};
@@ -12,7 +13,7 @@ pub struct Played {
     wire: ScriptWire,
     door: bool,
     ghost are_open: { AreOpen (state_of wire) },
-    ghost door_open: { door ≡ true → (state_of wire).listens ≡ true },
+    ghost door_open: { door ≡ true → listens (state_of wire) ≡ true },
 }
 
 impl Played {

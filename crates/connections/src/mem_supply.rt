@@ -39,6 +39,13 @@ impl<V: Serves> Supply<V> for MemSupply<V::Table> {
     // Which tables it gives, what is left says.
     ghost may = { λ supply data_set. Unit {0} };
 
+    // What later calls make of it, its lists and counts say.
+    ghost Keeps = { λ old new. Unit {0} };
+
+    ghost keeps_itself = { λ a. tt };
+
+    ghost keeps_then = { λ a b c first then. tt };
+
     /// The first table that is left. `Failed` exactly where the call is due, or none is left; out of
     /// memory never comes.
     fn next(&mut self) -> Result<V::Table, Fault>

@@ -28,6 +28,12 @@ impl<V: Serves> Supply<V> for NoSupply {
 
     ghost may = { λ supply data_set. ⊥ };
 
+    ghost Keeps = { λ old new. Unit {0} };
+
+    ghost keeps_itself = { λ a. tt };
+
+    ghost keeps_then = { λ a b c first then. tt };
+
     /// `Failed`, always.
     fn next(&mut self) -> Result<V::Table, Fault>
         ensures refused { result ≡ Err Fault.Failed }

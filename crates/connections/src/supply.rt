@@ -17,6 +17,9 @@ pub trait Supply<V: Serves> {
     /// The data sets that it may give. No call changes them.
     ghost may: { Self → V.Data → Type 0 };
 
+    /// What holds between a supply and what later calls made of it.
+    ghost Keeps: { Self → Self → Type 0 };
+
     /// The next table.
     ///
     /// `Failed` where there is none, or it could not be read; what is left stays.
@@ -25,5 +28,11 @@ pub trait Supply<V: Serves> {
         ensures first { IfOk result (λ table. left self.old ≡ with_first (V.data_of table) (left self.new)) }
         ensures err { OnErr result (left self.new ≡ left self.old) }
         ensures same { (data_set : V.Data) → may self.new data_set ↔ may self.old data_set }
+        ensures keeps { Keeps self.old self.new }
         ensures cause { HasCause (faults self.old) (faults self.new) result };
+
+    ghost keeps_itself: { (a : Self) → Keeps a a };
+
+    /// Calls after calls.
+    ghost keeps_then: { (a b c : Self) → Keeps a b → Keeps b c → Keeps a c };
 }

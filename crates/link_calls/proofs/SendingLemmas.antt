@@ -19,7 +19,7 @@ only_then k a b c p q = record {
   provoked = q.provoked ∙ p.provoked;
   dials = q.dials ∙ p.dials;
   waits = q.waits ∙ p.waits;
-  listens = q.listens ∙ p.listens;
+  door = q.door ∙ p.door;
   door_stalls = q.door_stalls ∙ p.door_stalls;
   nature = q.nature ∙ p.nature;
 }
@@ -32,7 +32,7 @@ only_same k a = record {
   provoked = refl;
   dials = refl;
   waits = refl;
-  listens = refl;
+  door = refl;
   door_stalls = refl;
   nature = refl;
 }

@@ -58,7 +58,7 @@ turns_set owes k links h' counts counts' provoked waits woke woke' below on = re
     provoked = refl;
     dials = on.dials;
     waits = refl;
-    listens = refl;
+    door = refl;
     door_stalls = refl;
     nature = ap nature_of on.failing;
   };
@@ -132,7 +132,7 @@ same_wire owes k links links' counts counts' provoked waits woke is on faults =
       dials = on.dials;
       waits = refl;
       idle = refl;
-      listens = refl;
+      door = refl;
       door_stalls = refl;
       nature = ap nature_of on.failing;
     }

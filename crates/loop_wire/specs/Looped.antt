@@ -47,7 +47,7 @@ wire_of owes links counts provoked waits woke = record {
   dials = counts.dials;
   waits = waits;
   idle = idle_of woke;
-  listens = false;
+  door = None;
   door_stalls = 0;
   nature = nature_of counts.failing;
 }

@@ -1,10 +1,11 @@
 -- What a wire of scripts holds.
-use Rattle.std.specs.Prelude.{ℕ, Bool, false, List, length, get_or, None, if◌then◌else◌}
+use Rattle.std.specs.Prelude.{ℕ, Bool, false, Option, List, length, get_or, None, if◌then◌else◌}
 use Rattle.tpf_base.specs.Causes.{counted, counted_by}
 use Rattle.tpf_base.specs.Failures.{CallCounts}
 use Rattle.tpf_base.specs.Links.{SentAndReceived, WireState}
 use Rattle.tpf_base.specs.declared.wire.Moved.{Moved}
 use Rattle.tpf_base.specs.declared.wire.Moved.TheVariants as answers
+use Rattle.script_wire.specs.Peers.{peer_of}
 use Rattle.script_wire.specs.Scripts.{Scripted, no_link, told_link}
 use Rattle.script_wire.specs.declared.script.Script.{Script}
 use Rattle.script_wire.specs.declared.wire.ScriptWire.{ScriptWire}
@@ -25,9 +26,9 @@ counts_of wire = wire.failures
 abbrev pub moved_of : ScriptWire → ℕ
 moved_of wire = wire.moved
 
--- these links and counts as a wire
-abbrev pub wire_of : List Scripted → CallCounts → ℕ → ℕ → Bool → ℕ → WireState
-wire_of links counts waits idle listens door_stalls = record {
+-- these links and counts as a wire, with its door at a host and a port
+abbrev pub wire_of : List Scripted → CallCounts → ℕ → ℕ → Option (List ℕ × ℕ) → ℕ → WireState
+wire_of links counts waits idle door door_stalls = record {
   links = λ k. told_link (get_or links k no_link);
   given = length links;
   faults = counts.faults;
@@ -35,13 +36,13 @@ wire_of links counts waits idle listens door_stalls = record {
   dials = counts.dials;
   waits = waits;
   idle = idle;
-  listens = listens;
+  door = door;
   door_stalls = door_stalls;
   nature = record { tells = SentAndReceived; lively = false; steady = false; every = None };
 }
 
 abbrev pub state_of : ScriptWire → WireState
-state_of wire = wire_of wire.links.items wire.failures wire.waits wire.idle wire.listens wire.door_stalls
+state_of wire = wire_of wire.links.items wire.failures wire.waits wire.idle (peer_of wire.door) wire.door_stalls
 
 -- a call that is no dial was counted, and as a fault where it failed
 abbrev pub called : Bool → CallCounts → CallCounts

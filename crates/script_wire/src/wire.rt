@@ -2,7 +2,7 @@
 ghost use Rattle.std.specs.Prelude.{ℕ, ◌≡◌, ◌≢◌, ◌+◌, ◌<◌, ◌≤◌, ◌==◌, ◌||◌, nat_le, List, [], ◌∷◌, ◌++◌, length, take, min, set, get_or, slice_get, Option, Some, None, Ok, Err, Bool, true, false, IfOk, OnOk, OnErr, IfSome, IfNone, IsErrOf, is_err, ◌↔◌, if◌then◌else◌};
 ghost use Rattle.tpf_base.specs.Causes.{HasCause, Rose, counted, counted_by};
 ghost use Rattle.tpf_base.specs.Failures.{no_calls, is_next_due, is_next_dial_due, room};
-ghost use Rattle.tpf_base.specs.Links.{Way};
+ghost use Rattle.tpf_base.specs.Links.{Way, listens};
 ghost use Rattle.tpf_base.specs.Calls.{Sends, Receives, Closes, GivesDialled, GivesAccepted, GivesNone, OnlyDials, OnlyListens, Opens, LeavesDoor, OnlyAccepts, OnlyWaits, Wakes};
 ghost use Rattle.script_wire.specs.Scripts.{Scripted, no_link, new_link, closed, settled, after_send, answer_of, rest_at, answer_to_receive, after_receive, spoken_on, moves_by, may_move, IsFirst, ReceivesBy, WaitsBy, after_wait};
 ghost use Rattle.script_wire.specs.Peers.{peer_of};
@@ -26,7 +26,8 @@ pub struct ScriptWire {
     moved: u64,
     waits: u64,
     idle: u64,
-    listens: bool,
+    // Where the door is open.
+    door: Option<Peer>,
     door_stalls: u64,
     ghost scripted: { length links.items ≤ length scripts.items },
 }
@@ -70,7 +71,7 @@ impl ScriptWire {
         ensures links { links_of result ≡ [] }
         ensures counts { counts_of result ≡ no_calls failing }
         ensures moved { moved_of result ≡ 0 }
-        ensures state { state_of result ≡ wire_of [] (no_calls failing) 0 0 false 0 }
+        ensures state { state_of result ≡ wire_of [] (no_calls failing) 0 0 None 0 }
     {
         ScriptWire {
             scripts,
@@ -79,7 +80,7 @@ impl ScriptWire {
             moved: 0,
             waits: 0,
             idle: 0,
-            listens: false,
+            door: None,
             door_stalls: 0,
         }
     }
@@ -110,8 +111,8 @@ impl ScriptWire {
         ensures counts { counts_of self.new ≡ counts_of self.old }
         ensures moved { moved_of self.new ≡ moved_of self.old }
         ensures waits { (state_of self.new).waits ≡ (state_of self.old).waits }
-        ensures listens { (state_of self.new).listens ≡ (state_of self.old).listens }
-        ensures door { (state_of self.new).door_stalls ≡ (state_of self.old).door_stalls }
+        ensures door { (state_of self.new).door ≡ (state_of self.old).door }
+        ensures door_stalls { (state_of self.new).door_stalls ≡ (state_of self.old).door_stalls }
     {
         let number = self.links.len();
         if number >= self.scripts.len() {
@@ -239,7 +240,7 @@ impl Wire for ScriptWire {
     /// is open and a script is left. `Failed` exactly where the call is due, or neither is there.
     fn wait(&mut self) -> Result<Ready, Fault>
         ensures due { is_next_due (counts_of self.old) (moved_of self.old) ≡ true → IsErrOf result Fault.Failed }
-        ensures answer { is_next_due (counts_of self.old) (moved_of self.old) ≡ false → WaitsBy (scripts_of self.old) (links_of self.old) (state_of self.old).listens result }
+        ensures answer { is_next_due (counts_of self.old) (moved_of self.old) ≡ false → WaitsBy (scripts_of self.old) (links_of self.old) (listens (state_of self.old)) result }
         ensures links { links_of self.new ≡ after_wait result (links_of self.old) }
         ensures counts { counts_of self.new ≡ called (is_err result) (counts_of self.old) }
         ensures ok { IfOk result (λ answer. Wakes answer (state_of self.old) (state_of self.new)) }
@@ -260,7 +261,7 @@ impl Wire for ScriptWire {
             self.idle = self.idle.saturating_add(1);
             return Ok(Ready::Link(k as u64));
         }
-        if self.listens && self.links.len() < self.scripts.len() {
+        if self.door.is_some() && self.links.len() < self.scripts.len() {
             self.idle = self.idle.saturating_add(1);
             return Ok(Ready::Door);
         }
@@ -309,10 +310,10 @@ impl Accept for ScriptWire {
     ghost use Rattle.script_wire.specs.Held.{scripts_of, links_of, counts_of, moved_of, state_of, called};
 
     /// `Failed` exactly where the call is due.
-    fn listen(&mut self, _host: &str, _port: u16) -> Result<(), Fault>
-        ensures result { result ≡ (if is_next_due (counts_of self.old) (moved_of self.old) then Err Fault.Failed else Ok tt) }
+    fn listen(&mut self, host: &str, port: u16) -> Result<(), Fault>
+        ensures failed { IsErrOf result Fault.Failed ↔ (is_next_due (counts_of self.old) (moved_of self.old) ≡ true) }
         ensures counts { counts_of self.new ≡ called (is_next_due (counts_of self.old) (moved_of self.old)) (counts_of self.old) }
-        ensures ok { OnOk result (Opens (state_of self.old) (state_of self.new)) }
+        ensures ok { OnOk result (Opens host.now port (state_of self.old) (state_of self.new)) }
         ensures err { OnErr result (LeavesDoor (state_of self.old) (state_of self.new)) }
         ensures only { OnlyListens (state_of self.old) (state_of self.new) }
         ensures cause { HasCause (counts_of self.old).faults (counts_of self.new).faults result }
@@ -324,17 +325,20 @@ impl Accept for ScriptWire {
             self.failures.fail();
             return Err(Fault::Failed);
         }
-        if !self.listens {
-            self.listens = true;
+        let Ok(host) = Text::copy(*self.links.allocator(), host) else {
+            return Err(Fault::OutOfMemory);
+        };
+        if self.door.is_none() {
             self.door_stalls = 0;
         }
+        self.door = Some(Peer { host, port });
         Ok(())
     }
 
     /// The next link at once, and nothing where no script is left. `Failed` exactly where the call is
     /// due.
     fn accept(&mut self) -> Result<Option<u64>, Fault>
-        requires { (state_of self.old).listens ≡ true }
+        requires { listens (state_of self.old) ≡ true }
         ensures failed { IsErrOf result Fault.Failed ↔ (is_next_due (counts_of self.old) (moved_of self.old) ≡ true) }
         ensures counts { counts_of self.new ≡ called (is_next_due (counts_of self.old) (moved_of self.old)) (counts_of self.old) }
         ensures links { IfOk result (λ link. IfSome link (λ number. (number < length (scripts_of self.old)) × (links_of self.new ≡ links_of self.old ++ new_link None ∷ []))) }

@@ -23,7 +23,7 @@ use Rattle.serve_loop.proofs.PrepareLemmas.{relates_took, relates_none}
 use Rattle.serve_loop.proofs.EndsLemmas.{ends_none}
 
 only_same : (k : ℕ) (a : WireState) → OnlyOn k a a
-only_same k a = record { others = λ j h. refl; later = omega arith; given = refl; provoked = refl; dials = refl; waits = refl; listens = refl; door_stalls = refl; nature = refl }
+only_same k a = record { others = λ j h. refl; later = omega arith; given = refl; provoked = refl; dials = refl; waits = refl; door = refl; door_stalls = refl; nature = refl }
 
 excused_now : (since faults faults' version : ℕ) → since ≤ faults → Rose faults faults' ⊎ (version ≡ MOST_VERSIONS) → Rose since faults' ⊎ (version ≡ MOST_VERSIONS)
 excused_now since faults faults' version h e = elim e [ inl rose ↦ inl (omega (arith, h, rose)) | inr most ↦ inr most ]

@@ -75,7 +75,7 @@ module _ {C : Type 0} where
     idle = λ s. elim s [ inl e ↦ absurd (is_not false e refl) | inr z ↦ z ];
     given = refl;
     waits = refl;
-    listens = refl;
+    door = refl;
     door_stalls = refl;
     faults = omega arith;
   }
@@ -94,7 +94,7 @@ module _ {C : Type 0} where
     idle = h.idle;
     given = h.given;
     waits = h.waits;
-    listens = h.listens;
+    door = h.door;
     door_stalls = h.door_stalls;
     faults = h.faults;
   })
@@ -137,7 +137,7 @@ module _ {C : Type 0} where
         ];
         given = calls.only.given ∙ h.given;
         waits = calls.only.waits ∙ h.waits;
-        listens = calls.only.listens ∙ h.listens;
+        door = calls.only.door ∙ h.door;
         door_stalls = calls.only.door_stalls ∙ h.door_stalls;
         faults = omega (arith, hf, cl);
       }
@@ -195,7 +195,7 @@ module _ {C : Type 0} where
         idle = h.idle;
         given = h.given;
         waits = h.waits;
-        listens = h.listens;
+        door = h.door;
         door_stalls = h.door_stalls;
         faults = h.faults;
       }

@@ -105,7 +105,7 @@ closes_only k a b w c d = let x = c.only in let y = d.only in let xf = x.later i
     provoked = y.provoked ∙ x.provoked;
     dials = y.dials ∙ x.dials;
     waits = y.waits ∙ x.waits;
-    listens = y.listens ∙ x.listens;
+    door = y.door ∙ x.door;
     door_stalls = y.door_stalls ∙ x.door_stalls;
     nature = y.nature ∙ x.nature;
   };

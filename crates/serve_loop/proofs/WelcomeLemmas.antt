@@ -27,12 +27,12 @@ told_nothing told CountsAlone e = λ x t. cc
 told_nothing told SentAndReceived e = λ x t. cc
 told_nothing told All e = λ x t. cc
 
-pub rests_none : (a b : WireState) → GivesNone a b → a.faults ≤ b.faults → b.listens ≡ a.listens → RestsWire a b
+pub rests_none : (a b : WireState) → GivesNone a b → a.faults ≤ b.faults → b.door ≡ a.door → RestsWire a b
 rests_none a b h f l = record {
   told = λ k. record { sent = ap (λ (x : Link). x.sent) (h.links k); received = ap (λ (x : Link). x.received) (h.links k); ended = ap (λ (x : Link). x.ended) (h.links k) };
   opened = λ k. ap (λ (x : Link). x.is_open) (h.links k);
   given = h.given;
-  listens = l;
+  door = l;
   faults = f;
 }
 
@@ -247,9 +247,9 @@ module _ {C Data Settings : Type 0} where
   -- ---- what the door did
 
   pub welcomed : (kind : Kind C Data Settings) (may : Data → Type 0) (first : List Data) (since : Moment Data Settings) (t : Traffic C Data) (at at' : ℕ → Option (Live C)) (accepted : Bool) (len after : ℕ) (served : Serving Data Settings) (faults : ℕ) (left : Option (List Data)) (a b : WireState)
-      → Welcomes kind at at' accepted len after a b → a.listens ≡ true → b.listens ≡ true → Relates kind may first since t at len (moment served faults left a)
+      → Welcomes kind at at' accepted len after a b → b.door ≡ a.door → Relates kind may first since t at len (moment served faults left a)
       → TurnsTo kind may first since t nothing at' after (moment served faults left a) (moment served faults left b)
-  welcomed kind may first since t at at' true len after served faults left a b w al bl r =
+  welcomed kind may first since t at at' true len after served faults left a b w door r =
       let f = w.found refl in
       let g = w.given refl in
       record {
@@ -259,11 +259,11 @@ module _ {C Data Settings : Type 0} where
         goes_on = new_goes_on served.version t.talks a.given f.0 (r.unseen a.given (omega arith));
         up = omega arith;
       }
-  welcomed kind may first since t at at' false len after served faults left a b w al bl r = record {
+  welcomed kind may first since t at at' false len after served faults left a b w door r = record {
     traffic = t;
     relates = subst (λ (n : ℕ). Relates kind may first since t at' n (moment served faults left b)) (sym (w.same refl))
         (relates_same kind may first since t at at' len (moment served faults left b) (λ k. w.others k (inr refl))
-        (relates_rests kind may first since t at len served faults left a b (rests_none a b (w.none refl) w.faults (bl ∙ sym al)) r));
+        (relates_rests kind may first since t at len served faults left a b (rests_none a b (w.none refl) w.faults door) r));
     ends = ends_same t a.faults b.faults w.faults;
     goes_on = λ k. goes_same served.version (t.talks k);
     up = omega arith;
@@ -271,12 +271,12 @@ module _ {C Data Settings : Type 0} where
 
   -- a turn whose door failed
   pub unwelcomed : (kind : Kind C Data Settings) (may : Data → Type 0) (first : List Data) (since : Moment Data Settings) (t : Traffic C Data) (at at' : ℕ → Option (Live C)) (len after : ℕ) (served : Serving Data Settings) (faults : ℕ) (left : Option (List Data)) (a b : WireState)
-      → ((key : ℕ) → at' key ≡ at key) → after ≡ len → GivesNone a b → a.faults ≤ b.faults → a.listens ≡ true → b.listens ≡ true → Relates kind may first since t at len (moment served faults left a)
+      → ((key : ℕ) → at' key ≡ at key) → after ≡ len → GivesNone a b → a.faults ≤ b.faults → b.door ≡ a.door → Relates kind may first since t at len (moment served faults left a)
       → Relates kind may first since t at' after (moment served faults left b)
-  unwelcomed kind may first since t at at' len after served faults left a b same length_same none later al bl r =
+  unwelcomed kind may first since t at at' len after served faults left a b same length_same none later door r =
       subst (λ (n : ℕ). Relates kind may first since t at' n (moment served faults left b)) (sym length_same)
       (relates_same kind may first since t at at' len (moment served faults left b) same
-      (relates_rests kind may first since t at len served faults left a b (rests_none a b none later (bl ∙ sym al)) r))
+      (relates_rests kind may first since t at len served faults left a b (rests_none a b none later door) r))
 
   -- what the door did, and then the steps
   pub turns_after : (kind : Kind C Data Settings) (may : Data → Type 0) (first : List Data) (since : Moment Data Settings) (t : Traffic C Data) (x y : Turned) (at at' : ℕ → Option (Live C)) (len rest : ℕ) (old mid now : Moment Data Settings)

@@ -132,7 +132,7 @@ pub record RestsWire (old new : WireState) : Type 0 where
   pub told : (k : ℕ) → TellsSame (old.links k) (new.links k)
   pub opened : (k : ℕ) → (new.links k).is_open ≡ (old.links k).is_open
   pub given : new.given ≡ old.given
-  pub listens : new.listens ≡ old.listens
+  pub door : new.door ≡ old.door
   pub faults : old.faults ≤ new.faults
 
 module _ {C : Type 0} where
@@ -306,7 +306,7 @@ module _ {C : Type 0} where
     pub idle : (turned.moved ≡ true) ⊎ (old.idle ≡ 0) → new.idle ≡ 0
     pub given : new.given ≡ old.given
     pub waits : new.waits ≡ old.waits
-    pub listens : new.listens ≡ old.listens
+    pub door : new.door ≡ old.door
     pub door_stalls : new.door_stalls ≡ old.door_stalls
     pub faults : old.faults ≤ new.faults
 
@@ -319,7 +319,7 @@ module _ {C : Type 0} where
     pub idle : (turned.moved ≡ true) ⊎ (old.idle ≡ 0) → new.idle ≡ 0
     pub given : new.given ≡ old.given
     pub waits : new.waits ≡ old.waits
-    pub listens : new.listens ≡ old.listens
+    pub door : new.door ≡ old.door
     pub door_stalls : new.door_stalls ≡ old.door_stalls
     pub faults : old.faults ≤ new.faults
 

@@ -1,6 +1,7 @@
 // A service: turns, and waits where a turn did nothing.
 ghost use Rattle.std.specs.Prelude.{ℕ, ◌≡◌, ◌+◌, ◌-◌, ◌≤◌, ◌<◌, ◌^◌, ◌⊎◌, List, IfOk, OnOk, OnErr, IfErr, IfSome, None, Some, true, false, ◌↔◌};
 ghost use Rattle.tpf_base.specs.Causes.{Rose, counted};
+ghost use Rattle.tpf_base.specs.Links.{listens};
 ghost use Rattle.connections.specs.Versions.{IsHistory};
 ghost use Rattle.serve_loop.specs.Traffic.{Traffic, Moment};
 ghost use Rattle.serve_loop.specs.Held.{held, held_count};
@@ -68,11 +69,11 @@ fn serve_on<R: Wait, C: Converses, S: Supply<C::Server>, W: Accept>(
     wire: &mut W,
     stop_after: Option<u64>,
 ) -> Result<Served, ServeFault>
-    requires listens { (W.state wire.old).listens ≡ true }
+    requires listens { listens (W.state wire.old) ≡ true }
     requires empty { held_count connections.old ≡ 0 }
     requires none { (key : ℕ) → held connections.old key ≡ None }
     requires suits { SuitsWire C.Suits server.old (λ key. held connections.old key) (W.state wire.old) }
-    ensures listens { (W.state wire.new).listens ≡ true }
+    ensures door { (W.state wire.new).door ≡ (W.state wire.old).door }
     ensures suits { SuitsWire C.Suits server.new (λ key. held connections.new key) (W.state wire.new) }
     ensures carries { (first : List C.Server.Data) (since : Moment C.Server.Data C.Server.Settings) (t : Traffic C C.Server.Data) → Relates C.kind (S.may supply.old) first since t (held connections.old) (held_count connections.old)
         (record { served = C.Server.serving server.old; faults = S.faults supply.old; left = S.left supply.old; wire = W.state wire.old })
@@ -90,6 +91,7 @@ fn serve_on<R: Wait, C: Converses, S: Supply<C::Server>, W: Accept>(
     ensures never { OnOk result (stop_after ≡ None → ⊥) }
     ensures wire { IfErr result (λ fault. fault ≡ ServeFault.Wire → Rose (W.state wire.old).faults (W.state wire.new).faults) }
     ensures follows { C.Server.Follows server.old server.new }
+    ensures keeps { S.Keeps supply.old supply.new }
     ensures same { (data_set : C.Server.Data) → S.may supply.new data_set ↔ S.may supply.old data_set }
 {
     let mut served = Served {
@@ -122,8 +124,8 @@ pub fn serve<R: Wait, C: Converses, S: Supply<C::Server>, W: Accept>(
     wire: &mut W,
     stop_after: Option<u64>,
 ) -> Result<Served, ServeFault>
-    requires listens { (W.state wire.old).listens ≡ true }
-    ensures listens { (W.state wire.new).listens ≡ true }
+    requires listens { listens (W.state wire.old) ≡ true }
+    ensures door { (W.state wire.new).door ≡ (W.state wire.old).door }
     ensures prefixes { (first : List C.Server.Data) → IsHistory first (C.Server.serving server.old)
         → Sentence C.kind (S.may supply.old) first
         (record { served = C.Server.serving server.old; faults = S.faults supply.old; left = S.left supply.old; wire = W.state wire.old })
@@ -142,6 +144,7 @@ pub fn serve<R: Wait, C: Converses, S: Supply<C::Server>, W: Accept>(
     ensures links { IfOk result (λ served. (W.state wire.old).given + served.connections ≤ (W.state wire.new).given) }
     ensures wire { IfErr result (λ fault. fault ≡ ServeFault.Wire → Rose (W.state wire.old).faults (W.state wire.new).faults) }
     ensures follows { C.Server.Follows server.old server.new }
+    ensures keeps { S.Keeps supply.old supply.new }
     ensures same { (data_set : C.Server.Data) → S.may supply.new data_set ↔ S.may supply.old data_set }
 {
     let mut connections: Loop<C> = Loop::new(alloc);

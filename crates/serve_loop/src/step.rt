@@ -34,6 +34,7 @@ fn reload<V: Serves, S: Supply<V>>(server: &mut V, supply: &mut S) -> Reloaded
         (record { served = V.serving server.old; faults = S.faults supply.old; left = S.left supply.old; wire = wire })
         (record { served = V.serving server.new; faults = S.faults supply.new; left = S.left supply.new; wire = wire }) }
     ensures follows { V.Follows server.old server.new }
+    ensures keeps { S.Keeps supply.old supply.new }
     ensures same { (data_set : V.Data) → S.may supply.new data_set ↔ S.may supply.old data_set }
 {
     if server.version() == MOST {
@@ -113,6 +114,7 @@ fn answer_reload<C: Converses, S: Supply<C::Server>>(
     ensures owes { OnOk result (C.kind.owes live.new.connection ≡ true) }
     ensures suits { OnOk result (C.Suits server.new live.new.connection) }
     ensures follows { C.Server.Follows server.old server.new }
+    ensures keeps { S.Keeps supply.old supply.new }
     ensures same { (data_set : C.Server.Data) → S.may supply.new data_set ↔ S.may supply.old data_set }
 {
     let outcome = reload(server, supply);
@@ -136,6 +138,7 @@ fn prepare<C: Converses, S: Supply<C::Server>>(
     ensures ready { OnOk result (IsReady C.kind live.new.connection) }
     ensures suits { OnOk result (C.Suits server.new live.new.connection) }
     ensures follows { C.Server.Follows server.old server.new }
+    ensures keeps { S.Keeps supply.old supply.new }
     ensures same { (data_set : C.Server.Data) → S.may supply.new data_set ↔ S.may supply.old data_set }
 {
     if live.connection.wants_reload() {
@@ -243,6 +246,7 @@ pub fn step<C: Converses, S: Supply<C::Server>, W: Wire>(
     ensures is_open { left_by result live.new ≡ Some live.new → ((W.state wire.new).links live.old.link).is_open ≡ true }
     ensures suits { left_by result live.new ≡ Some live.new → C.Suits server.new live.new.connection }
     ensures follows { C.Server.Follows server.old server.new }
+    ensures keeps { S.Keeps supply.old supply.new }
     ensures same { (data_set : C.Server.Data) → S.may supply.new data_set ↔ S.may supply.old data_set }
 {
     if prepare(live, server, supply).is_err() {

@@ -2,7 +2,7 @@
 ghost use Rattle.std.specs.Prelude.{ℕ, ◌≡◌, ◌≢◌, ◌+◌, ◌<◌, ◌≤◌, ◌^◌, List, [], length, IfOk, OnOk, OnErr, IfErr, Option, Some, None, true, ◌↔◌};
 ghost use Rattle.slab.specs.Slab.{get, slab_len};
 ghost use Rattle.tpf_base.specs.Causes.{Rose};
-ghost use Rattle.tpf_base.specs.Links.{WireState};
+ghost use Rattle.tpf_base.specs.Links.{WireState, listens};
 ghost use Rattle.tpf_base.specs.Calls.{GivesNone};
 ghost use Rattle.connections.specs.Versions.{IsHistory};
 ghost use Rattle.serve_loop.specs.Traffic.{Traffic, Moment, no_traffic};
@@ -37,10 +37,10 @@ fn welcome<C: Converses, W: Accept>(
     server: &C::Server,
     wire: &mut W,
 ) -> Result<bool, ServeFault>
-    requires listens { (W.state wire.old).listens ≡ true }
+    requires listens { listens (W.state wire.old) ≡ true }
     requires few { slab_len live.old ≤ 256 }
     requires suits { SuitsWire C.Suits server.now (λ key. get live.old key) (W.state wire.old) }
-    ensures listens { (W.state wire.new).listens ≡ true }
+    ensures door { (W.state wire.new).door ≡ (W.state wire.old).door }
     ensures few { slab_len live.new ≤ 256 }
     ensures suits { SuitsWire C.Suits server.now (λ key. get live.new key) (W.state wire.new) }
     ensures welcomes { IfOk result (λ accepted. Welcomes C.kind (get live.old) (get live.new) accepted (slab_len live.old) (slab_len live.new) (W.state wire.old) (W.state wire.new)) }
@@ -109,6 +109,7 @@ fn step_at<C: Converses, S: Supply<C::Server>, W: Wire>(
         (record { served = C.Server.serving server.new; faults = S.faults supply.new; left = S.left supply.new; wire = same }) }
     ensures calls { CallsAt (get live.old key) result (W.state wire.old) (W.state wire.new) }
     ensures follows { C.Server.Follows server.old server.new }
+    ensures keeps { S.Keeps supply.old supply.new }
     ensures same { (data_set : C.Server.Data) → S.may supply.new data_set ↔ S.may supply.old data_set }
 {
     let stepped = match live.get_mut(key) {
@@ -172,6 +173,7 @@ fn step_all<C: Converses, S: Supply<C::Server>, W: Wire>(
         (record { served = C.Server.serving server.new; faults = S.faults supply.new; left = S.left supply.new; wire = same }) }
     ensures all { StepsAll result (get live.old) (W.state wire.old) (W.state wire.new) }
     ensures follows { C.Server.Follows server.old server.new }
+    ensures keeps { S.Keeps supply.old supply.new }
     ensures same { (data_set : C.Server.Data) → S.may supply.new data_set ↔ S.may supply.old data_set }
 {
     let mut turned = Turned {
@@ -197,10 +199,10 @@ fn turn_over<C: Converses, S: Supply<C::Server>, W: Accept>(
 ) -> Result<Turned, ServeFault>
     requires room { 0 < length buffer.old }
     requires most { length buffer.old ≤ 8192 }
-    requires listens { (W.state wire.old).listens ≡ true }
+    requires listens { listens (W.state wire.old) ≡ true }
     requires few { slab_len live.old ≤ 256 }
     requires suits { SuitsWire C.Suits server.old (λ key. get live.old key) (W.state wire.old) }
-    ensures listens { (W.state wire.new).listens ≡ true }
+    ensures door { (W.state wire.new).door ≡ (W.state wire.old).door }
     ensures few { slab_len live.new ≤ 256 }
     ensures suits { SuitsWire C.Suits server.new (λ key. get live.new key) (W.state wire.new) }
     ensures turns { IfOk result (λ turned. (first : List C.Server.Data) (since : Moment C.Server.Data C.Server.Settings) (t : Traffic C C.Server.Data) → Relates C.kind (S.may supply.old) first since t (get live.old) (slab_len live.old)
@@ -227,6 +229,7 @@ fn turn_over<C: Converses, S: Supply<C::Server>, W: Accept>(
     ensures stay { OnErr result ((key : ℕ) → get live.new key ≡ get live.old key) }
     ensures wire { IfErr result (λ fault. fault ≡ ServeFault.Wire → Rose (W.state wire.old).faults (W.state wire.new).faults) }
     ensures follows { C.Server.Follows server.old server.new }
+    ensures keeps { S.Keeps supply.old supply.new }
     ensures same { (data_set : C.Server.Data) → S.may supply.new data_set ↔ S.may supply.old data_set }
 {
     let accepted = welcome(alloc, live, server, wire)?;
@@ -243,7 +246,7 @@ fn close_at<C: Drop, W: Wire>(live: &mut Slab<Live<C>>, key: usize, wire: &mut W
     ensures none { get live.new key ≡ None }
     ensures others { (other : ℕ) → other ≢ key → get live.new other ≡ get live.old other }
     ensures closes { ClosesAt (get live.old key) (W.state wire.old) (W.state wire.new) }
-    ensures listens { (W.state wire.new).listens ≡ (W.state wire.old).listens }
+    ensures door { (W.state wire.new).door ≡ (W.state wire.old).door }
 {
     if let Some(connection) = live.try_remove(key) {
         wire.close(connection.link);
@@ -256,7 +259,7 @@ fn close_all<C: Drop, W: Wire>(live: &mut Slab<Live<C>>, wire: &mut W)
     requires is_open { (key : ℕ) (l : Live C) → get live.old key ≡ Some l → ((W.state wire.old).links l.link).is_open ≡ true }
     ensures none { (key : ℕ) → get live.new key ≡ None }
     ensures leaves { LeavesAll (get live.old) (W.state wire.old) (W.state wire.new) }
-    ensures listens { (W.state wire.new).listens ≡ (W.state wire.old).listens }
+    ensures door { (W.state wire.new).door ≡ (W.state wire.old).door }
 {
     let keys = live.capacity();
     for key in 0..keys {
@@ -309,10 +312,10 @@ impl<C: Converses> Loop<C> {
         supply: &mut S,
         wire: &mut W,
     ) -> Result<Turned, ServeFault>
-        requires listens { (W.state wire.old).listens ≡ true }
+        requires listens { listens (W.state wire.old) ≡ true }
         requires few { held_count self.old ≤ 256 }
         requires suits { SuitsWire C.Suits server.old (λ key. held self.old key) (W.state wire.old) }
-        ensures listens { (W.state wire.new).listens ≡ true }
+        ensures door { (W.state wire.new).door ≡ (W.state wire.old).door }
         ensures few { held_count self.new ≤ 256 }
         ensures suits { SuitsWire C.Suits server.new (λ key. held self.new key) (W.state wire.new) }
         ensures turns { IfOk result (λ turned. (first : List C.Server.Data) (since : Moment C.Server.Data C.Server.Settings) (t : Traffic C C.Server.Data) → Relates C.kind (S.may supply.old) first since t (held self.old) (held_count self.old)
@@ -348,6 +351,7 @@ impl<C: Converses> Loop<C> {
         ensures stay { OnErr result ((key : ℕ) → held self.new key ≡ held self.old key) }
         ensures wire { IfErr result (λ fault. fault ≡ ServeFault.Wire → Rose (W.state wire.old).faults (W.state wire.new).faults) }
         ensures follows { C.Server.Follows server.old server.new }
+        ensures keeps { S.Keeps supply.old supply.new }
         ensures same { (data_set : C.Server.Data) → S.may supply.new data_set ↔ S.may supply.old data_set }
     {
         turn_over(
@@ -366,7 +370,7 @@ impl<C: Converses> Loop<C> {
         requires is_open { (key : ℕ) (l : Live C) → held self.old key ≡ Some l → ((W.state wire.old).links l.link).is_open ≡ true }
         ensures none { (key : ℕ) → held self.new key ≡ None }
         ensures leaves { LeavesAll (held self.old) (W.state wire.old) (W.state wire.new) }
-        ensures listens { (W.state wire.new).listens ≡ (W.state wire.old).listens }
+        ensures door { (W.state wire.new).door ≡ (W.state wire.old).door }
     {
         close_all(&mut self.live, wire);
     }

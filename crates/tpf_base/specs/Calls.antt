@@ -8,7 +8,7 @@ use Rattle.tpf_base.specs.declared.wire.Moved.{Moved}
 use Rattle.tpf_base.specs.declared.wire.Moved.TheVariants as answers
 use Rattle.tpf_base.specs.declared.wire.Ready.{Ready}
 use Rattle.tpf_base.specs.declared.wire.Ready.TheVariants as ready
-use Rattle.tpf_base.specs.Links.{Way, Sending, Receiving, told_by, is_short, IsRipe, WireState}
+use Rattle.tpf_base.specs.Links.{Way, Sending, Receiving, told_by, is_short, IsRipe, WireState, listens}
 
 -- ---- a call on a link
 
@@ -20,7 +20,7 @@ pub record OnlyOn (k : ℕ) (old new : WireState) : Type 0 where
   pub provoked : new.provoked ≡ old.provoked
   pub dials : new.dials ≡ old.dials
   pub waits : new.waits ≡ old.waits
-  pub listens : new.listens ≡ old.listens
+  pub door : new.door ≡ old.door
   pub door_stalls : new.door_stalls ≡ old.door_stalls
   pub nature : new.nature ≡ old.nature
 
@@ -33,7 +33,7 @@ pub record SameWire (old new : WireState) : Type 0 where
   pub dials : new.dials ≡ old.dials
   pub waits : new.waits ≡ old.waits
   pub idle : new.idle ≡ old.idle
-  pub listens : new.listens ≡ old.listens
+  pub door : new.door ≡ old.door
   pub door_stalls : new.door_stalls ≡ old.door_stalls
   pub nature : new.nature ≡ old.nature
 
@@ -142,7 +142,7 @@ pub record OnlyDials (old new : WireState) : Type 0 where
   pub later : old.faults ≤ new.faults
   pub provoked : old.provoked ≤ new.provoked
   pub waits : new.waits ≡ old.waits
-  pub listens : new.listens ≡ old.listens
+  pub door : new.door ≡ old.door
   pub door_stalls : new.door_stalls ≡ old.door_stalls
   pub nature : new.nature ≡ old.nature
 
@@ -161,15 +161,15 @@ pub record OnlyListens (old new : WireState) : Type 0 where
   pub waits : new.waits ≡ old.waits
   pub nature : new.nature ≡ old.nature
 
--- The door is open. Where it was closed before, it was not yet found empty.
-pub record Opens (old new : WireState) : Type 0 where
-  pub listens : new.listens ≡ true
-  pub first : old.listens ≡ false → new.door_stalls ≡ 0
-  pub again : old.listens ≡ true → old.door_stalls ≤ new.door_stalls
+-- The door is open at a host and a port. Where it was closed before, it was not yet found empty.
+pub record Opens (host : List ℕ) (port : ℕ) (old new : WireState) : Type 0 where
+  pub door : new.door ≡ Some (host, port)
+  pub first : listens old ≡ false → new.door_stalls ≡ 0
+  pub again : listens old ≡ true → old.door_stalls ≤ new.door_stalls
 
 -- The door is as it was.
 pub record LeavesDoor (old new : WireState) : Type 0 where
-  pub listens : new.listens ≡ old.listens
+  pub door : new.door ≡ old.door
   pub door_stalls : new.door_stalls ≡ old.door_stalls
 
 -- Nothing but the links, the faults, the stalls of the door and the idle waits changed.
@@ -178,7 +178,7 @@ pub record OnlyAccepts (old new : WireState) : Type 0 where
   pub provoked : new.provoked ≡ old.provoked
   pub dials : new.dials ≡ old.dials
   pub waits : new.waits ≡ old.waits
-  pub listens : new.listens ≡ old.listens
+  pub door : new.door ≡ old.door
   pub door_stalls : old.door_stalls ≤ new.door_stalls
   pub nature : new.nature ≡ old.nature
 
@@ -195,7 +195,7 @@ pub record OnlyWaits (old new : WireState) : Type 0 where
   pub later : old.faults ≤ new.faults
   pub provoked : old.provoked ≤ new.provoked
   pub dials : new.dials ≡ old.dials
-  pub listens : new.listens ≡ old.listens
+  pub door : new.door ≡ old.door
   pub door_stalls : new.door_stalls ≡ old.door_stalls
   pub nature : new.nature ≡ old.nature
 
@@ -203,7 +203,7 @@ pub record OnlyWaits (old new : WireState) : Type 0 where
 abbrev pub Wakes : Ready → WireState → WireState → Type 0
 Wakes (ready.Link k) old new = ((old.links k).is_open ≡ true) × (new.links k ≡ record (old.links k) { woken = true })
     × ((j : ℕ) → j ≢ k → new.links j ≡ old.links j) × (new.idle ≡ counted old.idle)
-Wakes ready.Door old new = (old.listens ≡ true) × ((j : ℕ) → new.links j ≡ old.links j) × (new.idle ≡ counted old.idle)
+Wakes ready.Door old new = (listens old ≡ true) × ((j : ℕ) → new.links j ≡ old.links j) × (new.idle ≡ counted old.idle)
 
 -- a wait on a steady wire answers a ripe link
 abbrev pub WakesRipe : Ready → WireState → Type 0

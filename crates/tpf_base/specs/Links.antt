@@ -1,5 +1,5 @@
 -- What a wire holds: its links, its counts, and what it is from its making.
-use Rattle.std.specs.Prelude.{ℕ, ◌≡◌, ◌≤◌, ◌<◌, ◌↔◌, List, ◌++◌, length, Option, Some, None, Bool, true, false, nat_lt}
+use Rattle.std.specs.Prelude.{ℕ, ◌≡◌, ◌≤◌, ◌<◌, ◌↔◌, List, ◌++◌, length, Option, Some, None, is_some, Bool, true, false, nat_lt}
 
 -- what a call on a link does with bytes
 pub data Way : Type 0 where
@@ -96,10 +96,14 @@ pub record WireState : Type 0 where
   pub waits : ℕ
   -- how many waits succeeded, one after another, since a byte moved, a receive answered the end, or a link was given
   pub idle : ℕ
-  -- whether its door is open, and how often nobody stood there
-  pub listens : Bool
+  -- the host and the port at which its door is open, none where it is closed; and how often nobody stood there
+  pub door : Option (List ℕ × ℕ)
   pub door_stalls : ℕ
   pub nature : Nature
+
+-- its door is open
+abbrev pub listens : WireState → Bool
+listens wire = is_some wire.door
 
 -- the same replies are allowed, where a relation says of a host, a port and the bytes sent there which bytes may be owed
 abbrev pub SameAllowed : (List ℕ → ℕ → List ℕ → List ℕ → Type 0) → (List ℕ → ℕ → List ℕ → List ℕ → Type 0) → Type 0

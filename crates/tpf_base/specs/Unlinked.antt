@@ -26,7 +26,7 @@ unlinked made = record {
   dials = made.dials;
   waits = made.waits;
   idle = 0;
-  listens = false;
+  door = None;
   door_stalls = 0;
   nature = record { tells = All; lively = true; steady = false; every = None };
 }

@@ -1,7 +1,7 @@
 // Links to other hosts.
 ghost use Rattle.std.specs.Prelude.{ℕ, ◌≡◌, ◌<◌, List, length, IfOk, OnOk, OnErr, IfSome, IfNone, true};
 ghost use Rattle.tpf_base.specs.Causes.{HasCause, Rose};
-ghost use Rattle.tpf_base.specs.Links.{WireState, IsToldBy, ReceivesOwed, SameAllowed, OwesAllowed, OpensGiven, IsLively};
+ghost use Rattle.tpf_base.specs.Links.{WireState, listens, IsToldBy, ReceivesOwed, SameAllowed, OwesAllowed, OpensGiven, IsLively};
 ghost use Rattle.tpf_base.specs.Calls.{Sends, Receives, Closes, GivesDialled, GivesAccepted, GivesNone, OnlyDials, DialsSteadily, OnlyListens, Opens, LeavesDoor, OnlyAccepts, ServesSteadily, OnlyWaits, Wakes, WaitsSteadily};
 
 use crate::Fault;
@@ -122,7 +122,7 @@ pub trait Accept: Wire {
     ///
     /// `Failed` where it can't be opened; it is then as before.
     fn listen(&mut self, host: &str, port: u16) -> Result<(), Fault>
-        ensures ok { OnOk result (Opens (Self.state self.old) (Self.state self.new)) }
+        ensures ok { OnOk result (Opens host.now port (Self.state self.old) (Self.state self.new)) }
         ensures err { OnErr result (LeavesDoor (Self.state self.old) (Self.state self.new)) }
         ensures only { OnlyListens (Self.state self.old) (Self.state self.new) }
         ensures cause { HasCause (Self.state self.old).faults (Self.state self.new).faults result }
@@ -133,7 +133,7 @@ pub trait Accept: Wire {
     ///
     /// `Failed` where that can't be found out, or no number is left.
     fn accept(&mut self) -> Result<Option<u64>, Fault>
-        requires { (Self.state self.old).listens ≡ true }
+        requires { listens (Self.state self.old) ≡ true }
         ensures given { IfOk result (λ link. IfSome link (λ number. GivesAccepted number (Self.state self.old) (Self.state self.new))) }
         ensures none { IfOk result (λ link. IfNone link (GivesNone (Self.state self.old) (Self.state self.new))) }
         ensures stalled { IfOk result (λ link. IfNone link (Rose (Self.state self.old).door_stalls (Self.state self.new).door_stalls)) }

@@ -29,24 +29,24 @@ pub kept : {A : Type 0} (field : Link → A) (old new : Link) (before after : Ac
 kept field old new before after was is e = ap field is ∙ e ∙ sym (ap field was)
 
 -- nothing but the link, the faults and the idle waits changed
-pub only_on : (k : ℕ) (counts : Counts) (faults idle : ℕ) (listens : Bool) (old new : ℕ → Option Account) → counts.faults ≤ faults → OthersSame k old new
-    → OnlyOn k (wire_of counts listens old) (wire_of (record counts { faults = faults; idle = idle }) listens new)
-only_on k counts faults idle listens old new later others = record {
+pub only_on : (k : ℕ) (counts : Counts) (faults idle : ℕ) (door : Option (List ℕ × ℕ)) (old new : ℕ → Option Account) → counts.faults ≤ faults → OthersSame k old new
+    → OnlyOn k (wire_of counts door old) (wire_of (record counts { faults = faults; idle = idle }) door new)
+only_on k counts faults idle door old new later others = record {
   others = λ j apart. same_link counts.given j old new (others j apart);
   later = later;
   given = refl;
   provoked = refl;
   dials = refl;
   waits = refl;
-  listens = refl;
+  door = refl;
   door_stalls = refl;
   nature = refl;
 }
 
 -- nothing at all changed
-pub same_wire : (k : ℕ) (counts : Counts) (listens : Bool) (old new : ℕ → Option Account) → new k ≡ old k → OthersSame k old new
-    → SameWire (wire_of counts listens old) (wire_of counts listens new)
-same_wire k counts listens old new same others = record {
+pub same_wire : (k : ℕ) (counts : Counts) (door : Option (List ℕ × ℕ)) (old new : ℕ → Option Account) → new k ≡ old k → OthersSame k old new
+    → SameWire (wire_of counts door old) (wire_of counts door new)
+same_wire k counts door old new same others = record {
   links = λ j. same_link counts.given j old new (each j);
   faults = refl;
   given = refl;
@@ -54,7 +54,7 @@ same_wire k counts listens old new same others = record {
   dials = refl;
   waits = refl;
   idle = refl;
-  listens = refl;
+  door = refl;
   door_stalls = refl;
   nature = refl;
 }
@@ -82,18 +82,18 @@ pub not_short : (old : Link) (before : Account) → old ≡ open_link before →
 not_short old before was short = let e : false ≡ true = sym (ap is_short was) ∙ short in cc
 
 -- a send on an open link
-pub sends : (k : ℕ) (piece : List ℕ) (counts : Counts) (listens : Bool) (old new : ℕ → Option Account) (answer : Moved) (account : Account)
+pub sends : (k : ℕ) (piece : List ℕ) (counts : Counts) (door : Option (List ℕ × ℕ)) (old new : ℕ → Option Account) (answer : Moved) (account : Account)
     → nat_lt k counts.given ≡ true → old k ≡ Some account → Moves directions.Sending k answer old new → MovesWithin (length piece) answer
     → answer ≢ answers.End
     → counts.faults ≤ (counts_after answer counts).faults
-    → Sends k piece (wire_of counts listens old) (wire_of (counts_after answer counts) listens new) answer
-sends k piece counts listens old new (answers.Moved n) account is_given had moves within no_end later =
+    → Sends k piece (wire_of counts door old) (wire_of (counts_after answer counts) door new) answer
+sends k piece counts door old new (answers.Moved n) account is_given had moves within no_end later =
     let after : Account = record account { stalled = None; woken = false } in
     let was = held_link k counts.given old account is_given had in
     let is = held_link k counts.given new after is_given (moves.moved account had).0 in
     let grows = (moves.moved account had).1 in
     record {
-      only = only_on k counts counts.faults 0 listens old new later moves.others;
+      only = only_on k counts counts.faults 0 door old new later moves.others;
       peer = kept (λ l. l.peer) _ _ account after was is refl;
       received = kept (λ l. l.received) _ _ account after was is refl;
       ended = kept (λ l. l.ended) _ _ account after was is refl;
@@ -108,14 +108,14 @@ sends k piece counts listens old new (answers.Moved n) account is_given had move
       not_due = λ steady. cc;
       woken = λ steady. cc;
     }
-sends k piece counts listens old new answers.End account is_given had moves within no_end later = absurd (no_end refl)
-sends k piece counts listens old new answers.NotYet account is_given had moves within no_end later =
+sends k piece counts door old new answers.End account is_given had moves within no_end later = absurd (no_end refl)
+sends k piece counts door old new answers.NotYet account is_given had moves within no_end later =
     let after : Account = record { stalls = counted account.stalls; stalled = Some directions.Sending; woken = false } in
     let was = held_link k counts.given old account is_given had in
     let is = held_link k counts.given new after is_given (moves.moved account had).0 in
     let grows = (moves.moved account had).1 in
     record {
-      only = only_on k counts counts.faults counts.idle listens old new later moves.others;
+      only = only_on k counts counts.faults counts.idle door old new later moves.others;
       peer = kept (λ l. l.peer) _ _ account after was is refl;
       received = kept (λ l. l.received) _ _ account after was is refl;
       ended = kept (λ l. l.ended) _ _ account after was is refl;
@@ -130,13 +130,13 @@ sends k piece counts listens old new answers.NotYet account is_given had moves w
       not_due = λ steady. cc;
       woken = λ steady. cc;
     }
-sends k piece counts listens old new answers.Failed account is_given had moves within no_end later =
+sends k piece counts door old new answers.Failed account is_given had moves within no_end later =
     let after : Account = record account { stalled = None; woken = false } in
     let was = held_link k counts.given old account is_given had in
     let is = held_link k counts.given new after is_given (moves.moved account had).0 in
     let grows = (moves.moved account had).1 in
     record {
-      only = only_on k counts (counted counts.faults) counts.idle listens old new later moves.others;
+      only = only_on k counts (counted counts.faults) counts.idle door old new later moves.others;
       peer = kept (λ l. l.peer) _ _ account after was is refl;
       received = kept (λ l. l.received) _ _ account after was is refl;
       ended = kept (λ l. l.ended) _ _ account after was is refl;
@@ -151,13 +151,13 @@ sends k piece counts listens old new answers.Failed account is_given had moves w
       not_due = λ steady. cc;
       woken = λ steady. cc;
     }
-sends k piece counts listens old new answers.OutOfMemory account is_given had moves within no_end later =
+sends k piece counts door old new answers.OutOfMemory account is_given had moves within no_end later =
     let after : Account = account in
     let was = held_link k counts.given old account is_given had in
     let is = held_link k counts.given new after is_given (moves.moved account had).0 in
     let grows = (moves.moved account had).1 in
     record {
-      only = only_on k counts counts.faults counts.idle listens old new later moves.others;
+      only = only_on k counts counts.faults counts.idle door old new later moves.others;
       peer = kept (λ l. l.peer) _ _ account after was is refl;
       received = kept (λ l. l.received) _ _ account after was is refl;
       ended = kept (λ l. l.ended) _ _ account after was is refl;
@@ -167,24 +167,24 @@ sends k piece counts listens old new answers.OutOfMemory account is_given had mo
       moved = λ n' e. cc;
       not_yet = λ e. cc;
       failed = λ e. cc;
-      memory = λ e. same_wire k counts listens old new ((moves.moved account had).0 ∙ sym had) moves.others;
+      memory = λ e. same_wire k counts door old new ((moves.moved account had).0 ∙ sym had) moves.others;
       no_end = no_end;
       not_due = λ steady. cc;
       woken = λ steady. cc;
     }
 
 -- a receive on an open link
-pub receives : (k : ℕ) (to : List ℕ) (counts : Counts) (listens : Bool) (old new : ℕ → Option Account) (answer : Moved) (account : Account)
+pub receives : (k : ℕ) (to : List ℕ) (counts : Counts) (door : Option (List ℕ × ℕ)) (old new : ℕ → Option Account) (answer : Moved) (account : Account)
     → nat_lt k counts.given ≡ true → old k ≡ Some account → Moves directions.Receiving k answer old new → MovesWithin (length to) answer
     → counts.faults ≤ (counts_after answer counts).faults
-    → Receives k to (wire_of counts listens old) (wire_of (counts_after answer counts) listens new) answer
-receives k to counts listens old new (answers.Moved n) account is_given had moves within later =
+    → Receives k to (wire_of counts door old) (wire_of (counts_after answer counts) door new) answer
+receives k to counts door old new (answers.Moved n) account is_given had moves within later =
     let after : Account = record account { stalled = None; woken = false } in
     let was = held_link k counts.given old account is_given had in
     let is = held_link k counts.given new after is_given (moves.moved account had).0 in
     let grows = (moves.moved account had).1 in
     record {
-      only = only_on k counts counts.faults 0 listens old new later moves.others;
+      only = only_on k counts counts.faults 0 door old new later moves.others;
       peer = kept (λ l. l.peer) _ _ account after was is refl;
       sent = kept (λ l. l.sent) _ _ account after was is refl;
       owed = kept (λ l. l.owed) _ _ account after was is refl;
@@ -199,13 +199,13 @@ receives k to counts listens old new (answers.Moved n) account is_given had move
       not_due = λ steady. cc;
       woken = λ steady. cc;
     }
-receives k to counts listens old new answers.End account is_given had moves within later =
+receives k to counts door old new answers.End account is_given had moves within later =
     let after : Account = record account { stalled = None; woken = false } in
     let was = held_link k counts.given old account is_given had in
     let is = held_link k counts.given new after is_given (moves.moved account had).0 in
     let grows = (moves.moved account had).1 in
     record {
-      only = only_on k counts counts.faults 0 listens old new later moves.others;
+      only = only_on k counts counts.faults 0 door old new later moves.others;
       peer = kept (λ l. l.peer) _ _ account after was is refl;
       sent = kept (λ l. l.sent) _ _ account after was is refl;
       owed = kept (λ l. l.owed) _ _ account after was is refl;
@@ -220,13 +220,13 @@ receives k to counts listens old new answers.End account is_given had moves with
       not_due = λ steady. cc;
       woken = λ steady. cc;
     }
-receives k to counts listens old new answers.NotYet account is_given had moves within later =
+receives k to counts door old new answers.NotYet account is_given had moves within later =
     let after : Account = record { stalls = counted account.stalls; stalled = Some directions.Receiving; woken = false } in
     let was = held_link k counts.given old account is_given had in
     let is = held_link k counts.given new after is_given (moves.moved account had).0 in
     let grows = (moves.moved account had).1 in
     record {
-      only = only_on k counts counts.faults counts.idle listens old new later moves.others;
+      only = only_on k counts counts.faults counts.idle door old new later moves.others;
       peer = kept (λ l. l.peer) _ _ account after was is refl;
       sent = kept (λ l. l.sent) _ _ account after was is refl;
       owed = kept (λ l. l.owed) _ _ account after was is refl;
@@ -241,13 +241,13 @@ receives k to counts listens old new answers.NotYet account is_given had moves w
       not_due = λ steady. cc;
       woken = λ steady. cc;
     }
-receives k to counts listens old new answers.Failed account is_given had moves within later =
+receives k to counts door old new answers.Failed account is_given had moves within later =
     let after : Account = record account { stalled = None; woken = false } in
     let was = held_link k counts.given old account is_given had in
     let is = held_link k counts.given new after is_given (moves.moved account had).0 in
     let grows = (moves.moved account had).1 in
     record {
-      only = only_on k counts (counted counts.faults) counts.idle listens old new later moves.others;
+      only = only_on k counts (counted counts.faults) counts.idle door old new later moves.others;
       peer = kept (λ l. l.peer) _ _ account after was is refl;
       sent = kept (λ l. l.sent) _ _ account after was is refl;
       owed = kept (λ l. l.owed) _ _ account after was is refl;
@@ -262,13 +262,13 @@ receives k to counts listens old new answers.Failed account is_given had moves w
       not_due = λ steady. cc;
       woken = λ steady. cc;
     }
-receives k to counts listens old new answers.OutOfMemory account is_given had moves within later =
+receives k to counts door old new answers.OutOfMemory account is_given had moves within later =
     let after : Account = account in
     let was = held_link k counts.given old account is_given had in
     let is = held_link k counts.given new after is_given (moves.moved account had).0 in
     let grows = (moves.moved account had).1 in
     record {
-      only = only_on k counts counts.faults counts.idle listens old new later moves.others;
+      only = only_on k counts counts.faults counts.idle door old new later moves.others;
       peer = kept (λ l. l.peer) _ _ account after was is refl;
       sent = kept (λ l. l.sent) _ _ account after was is refl;
       owed = kept (λ l. l.owed) _ _ account after was is refl;
@@ -279,7 +279,7 @@ receives k to counts listens old new answers.OutOfMemory account is_given had mo
       end_ = λ e. cc;
       not_yet = λ e. cc;
       failed = λ e. cc;
-      memory = λ e. same_wire k counts listens old new ((moves.moved account had).0 ∙ sym had) moves.others;
+      memory = λ e. same_wire k counts door old new ((moves.moved account had).0 ∙ sym had) moves.others;
       not_due = λ steady. cc;
       woken = λ steady. cc;
     }

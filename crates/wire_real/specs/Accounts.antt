@@ -1,5 +1,5 @@
 -- What a wire over sockets tells: counts alone, and of a closed link nothing.
-use Rattle.std.specs.Prelude.{ℕ, ◌≡◌, ◌≢◌, ◌-◌, ◌^◌, ◌<◌, ◌≤◌, Option, Some, None, option_map, Bool, true, false, nat_lt, if◌then◌else◌}
+use Rattle.std.specs.Prelude.{ℕ, List, ◌≡◌, ◌≢◌, ◌-◌, ◌^◌, ◌<◌, ◌≤◌, Option, Some, None, option_map, Bool, true, false, nat_lt, if◌then◌else◌}
 use Rattle.tpf_base.specs.Causes.{counted, Rose}
 use Rattle.tpf_base.specs.Links.{Link, Way, Sending, Receiving, CountsAlone, WireState}
 use Rattle.tpf_base.specs.declared.fault.Fault.{Fault}
@@ -54,9 +54,9 @@ link_of (Some account) = open_link account
 abbrev pub link_at : ℕ → (ℕ → Option Account) → ℕ → Link
 link_at given accounts k = if nat_lt k given then link_of (accounts k) else closed_link
 
--- a wire with these counts, its door open or not, and these accounts of its open links
-abbrev pub wire_of : Counts → Bool → (ℕ → Option Account) → WireState
-wire_of counts listens accounts = record {
+-- a wire with these counts, its door at a host and a port, and these accounts of its open links
+abbrev pub wire_of : Counts → Option (List ℕ × ℕ) → (ℕ → Option Account) → WireState
+wire_of counts door accounts = record {
   links = link_at counts.given accounts;
   given = counts.given;
   faults = counts.faults;
@@ -64,7 +64,7 @@ wire_of counts listens accounts = record {
   dials = counts.dials;
   waits = counts.waits;
   idle = counts.idle;
-  listens = listens;
+  door = door;
   door_stalls = counts.door_stalls;
   nature = record { tells = CountsAlone; lively = false; steady = false; every = None };
 }

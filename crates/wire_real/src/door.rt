@@ -1,4 +1,7 @@
 // The door: a listening socket.
+ghost use Rattle.std.specs.Prelude.{◌≡◌, Some, IfOk};
+ghost use Rattle.wire_real.specs.Sockets.{door_at};
+
 use crate::addresses::addresses_of;
 use mio::net::{TcpListener, TcpStream};
 use mio::{Interest, Registry, Token};
@@ -6,11 +9,15 @@ use std::alloc::Global;
 use std::io;
 use std::io::ErrorKind;
 use std::net::{Net, SocketAddr};
+use tpf_base::Text;
 
 /// A listening socket, and what the system said of it.
 #[derive(Drop)]
 pub struct Door {
     listener: TcpListener,
+    // What it was asked to listen at.
+    host: Text,
+    port: u16,
     // Whether somebody may stand there. Where this does not hold nobody does, until an event says
     // more.
     may_come: bool,
@@ -71,7 +78,12 @@ impl Door {
         token: Token,
         host: &str,
         port: u16,
-    ) -> Result<Door, ErrorKind> {
+    ) -> Result<Door, ErrorKind>
+        ensures { IfOk result (λ door. door_at (Some door) ≡ Some (host.now, port)) }
+    {
+        let Ok(asked) = Text::copy(alloc, host) else {
+            return Err(ErrorKind::OutOfMemory);
+        };
         let addresses = addresses_of(rt, alloc, host, port)?;
         let listener = match bind_first(rt, registry, token, &addresses, true) {
             Ok(listener) => listener,
@@ -79,11 +91,13 @@ impl Door {
         };
         Ok(Door {
             listener,
+            host: asked,
+            port,
             may_come: false,
         })
     }
 
-    /// The port at which it listens.
+    /// The port at which it listens: the one that the system chose, where it was asked for port 0.
     pub fn port(&self) -> Option<u16> {
         match self.listener.local_addr() {
             Ok(address) => Some(address.port()),
@@ -92,7 +106,9 @@ impl Door {
     }
 
     /// Takes in that the system says that somebody stands there.
-    pub fn tell(&mut self) {
+    pub fn tell(&mut self)
+        ensures { door_at (Some self.new) ≡ door_at (Some self.old) }
+    {
         self.may_come = true;
     }
 
@@ -102,7 +118,9 @@ impl Door {
     }
 
     /// The stream of the next guest, if there is one.
-    pub fn accept(&mut self) -> Result<Option<TcpStream>, ErrorKind> {
+    pub fn accept(&mut self) -> Result<Option<TcpStream>, ErrorKind>
+        ensures { door_at (Some self.new) ≡ door_at (Some self.old) }
+    {
         if !self.may_come {
             return Ok(None);
         }

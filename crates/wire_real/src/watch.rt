@@ -1,7 +1,7 @@
 // What the system is asked to tell, and what it told.
 ghost use Rattle.std.specs.Prelude.{ℕ, ◌≡◌, Bool, true, false, is_some, IfSome, IfNone, OnOk};
 ghost use Rattle.wire_real.specs.Accounts.{SameAccounts, Woken};
-ghost use Rattle.wire_real.specs.Sockets.{accounts};
+ghost use Rattle.wire_real.specs.Sockets.{accounts, door_at};
 
 use crate::door::Door;
 use crate::socket::Socket;
@@ -46,7 +46,7 @@ fn tell_link<R: Net>(
 
 /// Takes in what the system says of the door.
 fn tell_door(door: &mut Option<Door>)
-    ensures { is_some door.new ≡ is_some door.old }
+    ensures { door_at door.new ≡ door_at door.old }
 {
     if let Some(door) = door {
         door.tell();
@@ -69,7 +69,7 @@ fn wake_link(sockets: &mut HashMap<u64, Socket>, link: u64, given: u64) -> bool
 
 /// Whether somebody may stand at the door.
 fn is_door_ready(door: &Option<Door>) -> bool
-    ensures { result ≡ true → is_some door.now ≡ true }
+    ensures { result ≡ true → is_some (door_at door.now) ≡ true }
 {
     if let Some(door) = door {
         return door.may_come();
@@ -79,7 +79,7 @@ fn is_door_ready(door: &Option<Door>) -> bool
 
 /// Wakes a link, where it is open and ready, or the door.
 fn wake(ready: Ready, sockets: &mut HashMap<u64, Socket>, door: &Option<Door>, given: u64) -> bool
-    ensures woken { result ≡ true → Woken ready given (is_some door.now) (accounts sockets.old) (accounts sockets.new) }
+    ensures woken { result ≡ true → Woken ready given (is_some (door_at door.now)) (accounts sockets.old) (accounts sockets.new) }
     ensures still { result ≡ false → SameAccounts (accounts sockets.old) (accounts sockets.new) }
 {
     match ready {
@@ -115,7 +115,7 @@ impl Watch {
         door: &Option<Door>,
         given: u64,
     ) -> Option<Ready>
-        ensures woken { IfSome result (λ ready. Woken ready given (is_some door.now) (accounts sockets.old) (accounts sockets.new)) }
+        ensures woken { IfSome result (λ ready. Woken ready given (is_some (door_at door.now)) (accounts sockets.old) (accounts sockets.new)) }
         ensures none { IfNone result (SameAccounts (accounts sockets.old) (accounts sockets.new)) }
     {
         while let Some(ready) = self.told.pop_front() {
@@ -136,7 +136,7 @@ impl Watch {
         door: &mut Option<Door>,
     ) -> Result<(), ErrorKind>
         ensures same { SameAccounts (accounts sockets.old) (accounts sockets.new) }
-        ensures door { is_some door.new ≡ is_some door.old }
+        ensures door { door_at door.new ≡ door_at door.old }
     {
         if let Err(error) = self.poll.poll(&mut self.events, limit) {
             return Err(error.kind());

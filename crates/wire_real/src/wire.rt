@@ -3,7 +3,7 @@ ghost use Rattle.std.specs.Prelude.{ℕ, ◌≡◌, ◌≢◌, ◌+◌, ◌<◌,
 ghost use Rattle.tpf_base.specs.declared.wire.Moved.TheVariants as answers;
 ghost use Rattle.wire_real.specs.declared.account.Direction.{Direction};
 ghost use Rattle.wire_real.specs.Accounts.{no_account, no_counts, Fails, MovesWithin, SameAccounts, OthersSame, Moves, Woken};
-ghost use Rattle.wire_real.specs.Sockets.{accounts};
+ghost use Rattle.wire_real.specs.Sockets.{accounts, door_at};
 
 use crate::account::{Account, Counts};
 use crate::addresses::addresses_of;
@@ -11,6 +11,7 @@ use crate::door::Door;
 use crate::socket::{Socket, connect_last, register};
 use crate::watch::{DOOR, Watch};
 use mio::Token;
+use mio::net::TcpStream;
 use std::collections::HashMap;
 use std::io::ErrorKind;
 use std::net::Net;
@@ -74,12 +75,22 @@ fn receive_on(sockets: &mut HashMap<u64, Socket>, link: u64, to: &mut [u8]) -> M
     }
 }
 
+/// The stream of the next guest at the door, if there is one.
+fn next_guest(door: &mut Option<Door>) -> Result<Option<TcpStream>, ErrorKind>
+    ensures { door_at door.new ≡ door_at door.old }
+{
+    match door {
+        Some(door) => door.accept(),
+        None => Err(ErrorKind::NotConnected),
+    }
+}
+
 impl<'a, R: Net + Clock + AllocGlobal> NetWire<'a, R> {
     /// A wire that gave no link yet, and has no door. It asks nothing of the system, and takes no
     /// memory.
     pub fn new(rt: &'a R) -> NetWire<'a, R>
         ensures counts { result.counts ≡ no_counts }
-        ensures door { is_some result.door ≡ false }
+        ensures door { door_at result.door ≡ None }
         ensures links { (k : ℕ) → accounts result.sockets k ≡ None }
     {
         NetWire {
@@ -131,12 +142,12 @@ impl<'a, R: Net + Clock + AllocGlobal> NetWire<'a, R> {
         ensures given { IfOk result (λ guest. IfSome guest (λ socket. socket.account ≡ no_account)) }
         ensures sockets { self.new.sockets ≡ self.old.sockets }
         ensures counts { self.new.counts ≡ self.old.counts }
-        ensures door { is_some self.new.door ≡ is_some self.old.door }
+        ensures door { door_at self.new.door ≡ door_at self.old.door }
     {
-        let (Some(watch), Some(door)) = (&self.watch, &mut self.door) else {
+        let Some(watch) = &self.watch else {
             return Err(ErrorKind::NotConnected);
         };
-        let Some(mut stream) = door.accept()? else {
+        let Some(mut stream) = next_guest(&mut self.door)? else {
             return Ok(None);
         };
         let token = Token(self.counts.given as usize);
@@ -148,6 +159,7 @@ impl<'a, R: Net + Clock + AllocGlobal> NetWire<'a, R> {
 
     /// Opens the door.
     fn open_door(&mut self, host: &str, port: u16) -> Result<Door, ErrorKind>
+        ensures at { IfOk result (λ door. door_at (Some door) ≡ Some (host.now, port)) }
         ensures sockets { self.new.sockets ≡ self.old.sockets }
         ensures counts { self.new.counts ≡ self.old.counts }
         ensures door { self.new.door ≡ self.old.door }
@@ -204,7 +216,7 @@ impl<'a, R: Net + Clock + AllocGlobal> NetWire<'a, R> {
     fn ask(&mut self, began: Duration) -> Result<(), ErrorKind>
         ensures same { SameAccounts (accounts self.old.sockets) (accounts self.new.sockets) }
         ensures counts { self.new.counts ≡ self.old.counts }
-        ensures door { is_some self.new.door ≡ is_some self.old.door }
+        ensures door { door_at self.new.door ≡ door_at self.old.door }
     {
         let limit = self.time_left(began)?;
         match &mut self.watch {
@@ -215,10 +227,10 @@ impl<'a, R: Net + Clock + AllocGlobal> NetWire<'a, R> {
 
     /// Wakes the first link that was told and is ready, or the door.
     fn next_ready(&mut self) -> Option<Ready>
-        ensures woken { IfSome result (λ ready. Woken ready self.old.counts.given (is_some self.old.door) (accounts self.old.sockets) (accounts self.new.sockets)) }
+        ensures woken { IfSome result (λ ready. Woken ready self.old.counts.given (is_some (door_at self.old.door)) (accounts self.old.sockets) (accounts self.new.sockets)) }
         ensures none { IfNone result (SameAccounts (accounts self.old.sockets) (accounts self.new.sockets)) }
         ensures counts { self.new.counts ≡ self.old.counts }
-        ensures door { is_some self.new.door ≡ is_some self.old.door }
+        ensures door { door_at self.new.door ≡ door_at self.old.door }
     {
         match &mut self.watch {
             Some(watch) => watch.next_ready(&mut self.sockets, &self.door, self.counts.given),
@@ -228,10 +240,10 @@ impl<'a, R: Net + Clock + AllocGlobal> NetWire<'a, R> {
 
     /// Waits until a link or the door is ready.
     fn look(&mut self) -> Result<Ready, ErrorKind>
-        ensures woken { IfOk result (λ ready. Woken ready self.old.counts.given (is_some self.old.door) (accounts self.old.sockets) (accounts self.new.sockets)) }
+        ensures woken { IfOk result (λ ready. Woken ready self.old.counts.given (is_some (door_at self.old.door)) (accounts self.old.sockets) (accounts self.new.sockets)) }
         ensures none { OnErr result (SameAccounts (accounts self.old.sockets) (accounts self.new.sockets)) }
         ensures counts { self.new.counts ≡ self.old.counts }
-        ensures door { is_some self.new.door ≡ is_some self.old.door }
+        ensures door { door_at self.new.door ≡ door_at self.old.door }
     {
         let began = match self.rt.monotonic() {
             Ok(began) => began,
@@ -248,12 +260,11 @@ impl<'a, R: Net + Clock + AllocGlobal> NetWire<'a, R> {
 }
 
 impl<'a, R: Net + Clock + AllocGlobal> Wire for NetWire<'a, R> {
-    ghost use Rattle.std.specs.Prelude.{is_some};
     ghost use Rattle.wire_real.specs.Accounts.{wire_of};
-    ghost use Rattle.wire_real.specs.Sockets.{accounts};
+    ghost use Rattle.wire_real.specs.Sockets.{accounts, door_at};
     ghost use Rattle.wire_real.specs.Laws.{counts_told, gives_first, receives_none, owes_none, never_lively};
 
-    ghost state = { λ w. wire_of w.counts (is_some w.door) (accounts w.sockets) };
+    ghost state = { λ w. wire_of w.counts (door_at w.door) (accounts w.sockets) };
 
     ghost allows = { λ w host port sent owed. ⊥ };
 

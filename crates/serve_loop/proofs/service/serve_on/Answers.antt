@@ -1,5 +1,5 @@
 -- Each turn, and each wait, is one more.
-use Rattle.std.proofs.Common.{◌∙◌, ap, arith}
+use Rattle.std.proofs.Common.{refl, ◌∙◌, ap, arith}
 use Rattle.std.proofs.lemmas.Result.{err_from_is_err_and}
 use Rattle.serve_loop.proofs.ServeLemmas.{serves_none, serves_turn, serves_rest, serves_carries, serves_fault, suits_rests, less_if, first_if, zero_if, wire_from, later_then}
 use Rattle.serve_loop.proofs.WelcomeLemmas.{on_err}
@@ -9,7 +9,7 @@ use Rattle.serve_loop.proofs.service.serve_on.Goals as goal
 
 pub loop-init : goal.loop-init
 loop-init g c = record {
-  listens = c.requires.listens;
+  door = refl;
   few = omega (arith, c.requires.empty);
   suits = c.requires.suits;
   serves = λ first since t r. serves_none _ _ _ _ _ _ _ _ r;
@@ -17,12 +17,13 @@ loop-init g c = record {
   fewer = zero_if c.args.stop_after;
   later = omega arith;
   follows = g.met.C.Server.Serves.follows_itself c.args.server.now;
+  keeps = g.met.S.Supply.keeps_itself c.args.supply.now;
   same = λ d. (λ x. x, λ x. x);
 }
 
 pub loop-preserved : goal.loop-preserved
 loop-preserved g c = record {
-  listens = c.in_ok-rest.ensures.only.listens ∙ c.in_ok-turned.ensures.listens;
+  door = c.in_ok-rest.ensures.only.door ∙ (c.in_ok-turned.ensures.door ∙ c.loop.invariant.door);
   few = c.in_ok-turned.ensures.few;
   suits = suits_rests _ _ _ _ _ c.in_ok-rest.ensures.only c.in_ok-turned.ensures.suits;
   serves = λ first since t r. serves_rest _ _ _ _ _ _ _ _ _ _ _ _ _ _ c.in_ok-rest.ensures.only
@@ -37,6 +38,7 @@ loop-preserved g c = record {
   fewer = less_if c.args.stop_after _ (c.is_reached.ensures.fewer c.if-is_reached.false);
   later = later_then _ _ _ c.loop.invariant.later (later_then _ _ _ c.in_ok-turned.ensures.later c.in_ok-rest.ensures.only.faults);
   follows = g.met.C.Server.Serves.follows_then _ _ _ c.loop.invariant.follows c.in_ok-turned.ensures.follows;
+  keeps = g.met.S.Supply.keeps_then _ _ _ c.loop.invariant.keeps c.in_ok-turned.ensures.keeps;
   same = λ d. (λ x. (c.loop.invariant.same d).0 ((c.in_ok-turned.ensures.same d).0 x), λ x. (c.in_ok-turned.ensures.same d).1 ((c.loop.invariant.same d).1 x));
 }
 
@@ -61,6 +63,9 @@ returns-in_err-rest-clause-carries g c = λ first since t r. serves_carries _ _ 
 
 pub returns-in_err-rest-clause-suits : goal.returns-in_err-rest-clause-suits
 returns-in_err-rest-clause-suits g c = suits_rests _ _ _ _ _ c.in_err-rest.ensures.only c.in_ok-turned.ensures.suits
+
+pub returns-in_err-rest-clause-keeps : goal.returns-in_err-rest-clause-keeps
+returns-in_err-rest-clause-keeps g c = g.met.S.Supply.keeps_then _ _ _ c.loop.invariant.keeps c.in_ok-turned.ensures.keeps
 
 pub returns-in_err-rest-clause-follows : goal.returns-in_err-rest-clause-follows
 returns-in_err-rest-clause-follows g c = g.met.C.Server.Serves.follows_then _ _ _ c.loop.invariant.follows c.in_ok-turned.ensures.follows

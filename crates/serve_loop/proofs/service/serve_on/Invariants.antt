@@ -10,7 +10,7 @@ use Rattle.serve_loop.proofs.service.serve_on.Given as goal
 
 abbrev pub invariant-loop : goal.invariant-loop
 invariant-loop g l = record {
-  listens : (g.W.Wire.state l.wire).listens ≡ true;
+  door : (g.W.Wire.state l.wire).door ≡ (g.W.Wire.state l.fn.wire).door;
   few : held_count l.connections ≤ 256;
   suits : SuitsWire g.C.Converses.Suits l.server (λ key. held l.connections key) (g.W.Wire.state l.wire);
   serves : (first : _) (since : _) (t : _) → Relates g.C.Converses.kind (g.S.Supply.may l.fn.supply) first since t (held l.fn.connections) (held_count l.fn.connections)
@@ -22,5 +22,6 @@ invariant-loop g l = record {
   fewer : IfSome l.stop_after (λ most. l.served.connections ≤ most - 1);
   later : (g.W.Wire.state l.fn.wire).faults ≤ (g.W.Wire.state l.wire).faults;
   follows : g.C.Server.Serves.Follows l.fn.server l.server;
+  keeps : g.S.Supply.Keeps l.fn.supply l.supply;
   same : (data_set : _) → g.S.Supply.may l.supply data_set ↔ g.S.Supply.may l.fn.supply data_set;
 }

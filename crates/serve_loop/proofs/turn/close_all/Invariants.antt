@@ -9,5 +9,5 @@ invariant-loop-key g l = record {
   gone : (key : ℕ) → key < l.key → get l.live key ≡ None;
   untouched : (key : ℕ) → l.key ≤ key → get l.live key ≡ get l.fn.live key;
   leaves : LeavesBelow l.key (get l.fn.live) (g.W.Wire.state l.fn.wire) (g.W.Wire.state l.wire);
-  listens : (g.W.Wire.state l.wire).listens ≡ (g.W.Wire.state l.fn.wire).listens;
+  door : (g.W.Wire.state l.wire).door ≡ (g.W.Wire.state l.fn.wire).door;
 }

@@ -17,6 +17,7 @@ loop-key-init g c = record {
   asks = λ w. answers_below _ _ _ _;
   below = below_none _ _;
   follows = g.met.C.Server.Serves.follows_itself c.args.server.now;
+  keeps = g.met.S.Supply.keeps_itself c.args.supply.now;
   same = λ d. (λ x. x, λ x. x);
 }
 
@@ -33,6 +34,7 @@ loop-key-preserved g c = record {
   below = below_more c.loop-key.turned _ c.loop-key.key _ _ _ _ _ c.step_at.result c.requires.suits.distinct c.with-turned.ensures c.loop-key.invariant.below
       (sym (c.loop-key.invariant.untouched c.loop-key.key (omega arith))) c.step_at.ensures.calls;
   follows = g.met.C.Server.Serves.follows_then _ _ _ c.loop-key.invariant.follows c.step_at.ensures.follows;
+  keeps = g.met.S.Supply.keeps_then _ _ _ c.loop-key.invariant.keeps c.step_at.ensures.keeps;
   same = λ d. (λ x. (c.loop-key.invariant.same d).0 ((c.step_at.ensures.same d).0 x), λ x. (c.step_at.ensures.same d).1 ((c.loop-key.invariant.same d).1 x));
 }
 
@@ -55,6 +57,9 @@ returns-clause-suits g c = c.loop-key.invariant.suits
 
 pub returns-clause-len : goal.returns-clause-len
 returns-clause-len g c = c.loop-key.invariant.len
+
+pub returns-clause-keeps : goal.returns-clause-keeps
+returns-clause-keeps g c = c.loop-key.invariant.keeps
 
 pub returns-clause-follows : goal.returns-clause-follows
 returns-clause-follows g c = c.loop-key.invariant.follows

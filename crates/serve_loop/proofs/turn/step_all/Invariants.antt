@@ -26,5 +26,6 @@ invariant-loop-key g l = record {
       (moment (g.C.Server.Serves.serving l.server) (g.S.Supply.faults l.supply) (g.S.Supply.left l.supply) w);
   below : StepsBelow l.turned l.key (get l.fn.live) (g.W.Wire.state l.fn.wire) (g.W.Wire.state l.wire);
   follows : g.C.Server.Serves.Follows l.fn.server l.server;
+  keeps : g.S.Supply.Keeps l.fn.supply l.supply;
   same : (data_set : _) → g.S.Supply.may l.supply data_set ↔ g.S.Supply.may l.fn.supply data_set;
 }

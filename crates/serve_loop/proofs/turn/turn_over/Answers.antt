@@ -7,11 +7,11 @@ use Rattle.serve_loop.proofs.turn.turn_over.Goals as goal
 
 pub returns-then-accepted-clause-turns : goal.returns-then-accepted-clause-turns
 returns-then-accepted-clause-turns g c = λ first since t r. turns_after _ _ _ _ _ c.step_all-turned.result _ _ _ _ _ _ _ _ refl refl
-    (welcomed _ _ _ _ _ _ _ _ _ _ _ _ _ _ _ c.in_ok-accepted.ensures.welcomes c.requires.listens c.in_ok-accepted.ensures.listens r) (λ u q. c.step_all-turned.ensures.turns first since u q)
+    (welcomed _ _ _ _ _ _ _ _ _ _ _ _ _ _ _ c.in_ok-accepted.ensures.welcomes c.in_ok-accepted.ensures.door r) (λ u q. c.step_all-turned.ensures.turns first since u q)
 
 pub returns-else-accepted-clause-turns : goal.returns-else-accepted-clause-turns
 returns-else-accepted-clause-turns g c = λ first since t r. turns_after _ _ _ _ _ c.step_all-turned.result _ _ _ _ _ _ _ _ refl refl
-    (welcomed _ _ _ _ _ _ _ _ _ _ _ _ _ _ _ c.in_ok-accepted.ensures.welcomes c.requires.listens c.in_ok-accepted.ensures.listens r) (λ u q. c.step_all-turned.ensures.turns first since u q)
+    (welcomed _ _ _ _ _ _ _ _ _ _ _ _ _ _ _ c.in_ok-accepted.ensures.welcomes c.in_ok-accepted.ensures.door r) (λ u q. c.step_all-turned.ensures.turns first since u q)
 
 pub returns-then-accepted-clause-busy : goal.returns-then-accepted-clause-busy
 returns-then-accepted-clause-busy g c = busy _ c.step_all-turned.result _ _ _ _ _ _ _ _ _ c.in_ok-accepted.ensures.welcomes c.requires.suits.given c.step_all-turned.ensures.all
@@ -23,7 +23,7 @@ returns-else-accepted-clause-busy g c = busy _ c.step_all-turned.result _ _ _ _ 
 
 pub returns-in_err-accepted-clause-err : goal.returns-in_err-accepted-clause-err
 returns-in_err-accepted-clause-err g c = rw (err_from_is_err_and c.from_residual.result c.from_residual.ensures.1).1 (λ first since t r. unwelcomed _ _ _ _ _ _ _ _ _ _ _ _ _ _ c.in_err-accepted.ensures.err c.in_err-accepted.ensures.len c.in_err-accepted.ensures.none
-    c.in_err-accepted.ensures.later c.requires.listens c.in_err-accepted.ensures.listens r)
+    c.in_err-accepted.ensures.later c.in_err-accepted.ensures.door r)
 
 pub returns-then-accepted-clause-asks : goal.returns-then-accepted-clause-asks
 returns-then-accepted-clause-asks g c = λ w. answers_welcomed _ _ _ _ _ _ _ _ _ _ _ c.in_ok-accepted.ensures.welcomes (c.step_all-turned.ensures.asks w)
