@@ -81,11 +81,13 @@ then_answers k old mid new a b c Pending l n low w =
       is_open = w.is_open;
       stalls = rose_old _ _ _ _ _ same (l.stalls c (rose_mid _ _ _ _ _ l.link same w.stalls));
       awaits = w.awaits;
+      asleep = w.asleep;
       ripe = w.ripe;
       woken = λ st wo aw o. then_woken b c k w.k mid l.link low w.woken same (ap (λ x. x.steady) l.nature ∙ st)
           (l.woken st (subst (λ (x : ℕ). (a.links x).woken ≡ true) same wo) (subst (λ (x : ℕ). Awaits old (a.links x)) same aw) (o ∙ ap Some same));
       standing = w.standing;
       more = w.more;
+      front = w.front;
       stands = λ s r h. w.stands s r (l.stands s r h);
     }
 then_answers k old mid new a b c (Ready (Ok answer)) l n low w = record {
@@ -173,19 +175,21 @@ lost_none told y r x lost z h = λ bytes b. h bytes b ∙ ap (λ l. r ++ (x ++ l
 
 pub reply_waits : (k : ℕ) (address : Address) (sent : List ℕ) (from to : Coming) (lost : List ℕ) (old_standing standing : Standing) (a b : WireState) → sent ≡ request_of address
     → ReceivesFrom k from to lost a b → lost ≡ [] → (a.links k).is_open ≡ true → is_open to.place ≡ true → to.place ≡ after_bytes to.limit begun to.received → WhatIsReadIsGiven → standing ≡ Underway
-    → (b.links k).stalled ≡ Some Receiving → Rose (a.links k).stalls (b.links k).stalls
+    → (b.links k).stalled ≡ Some Receiving → (b.links k).woken ≡ false → Rose (a.links k).stalls (b.links k).stalls
     → (a.nature.steady ≡ true → (a.links k).woken ≡ true → (a.links k).stalled ≡ Some Receiving → b.idle ≡ 0)
     → Waits (on_link address from.limit k sent from.received old_standing) (on_link address to.limit k sent to.received standing) a b
-reply_waits k address sent from to lost old_standing standing a b e h z op goes_on leads given u stalled rose woken = record {
+reply_waits k address sent from to lost old_standing standing a b e h z op goes_on leads given u stalled asleep rose woken = record {
   k = k;
   link = refl;
   is_open = h.calls.is_open ∙ op;
   stalls = rose;
   awaits = ToReceive e stalled;
+  asleep = asleep;
   ripe = ripe_or_hangs (on_link address to.limit k sent to.received standing) (b.links k) (h.calls.is_open ∙ op) (ToReceive e stalled);
   woken = λ st wo aw l. woken st wo (receives_stalled address from.limit k sent from.received old_standing (a.links k) e aw);
   standing = u;
   more = open_reads_more given to.limit to.received (ap is_open (sym leads) ∙ goes_on);
+  front = record { rest = []; is_whole = sym e ∙ sym (append-nil sent) };
   stands = λ s r held. (holds_same _ _ _ h.sent held.0, no_end _ r to.received (lost_none _ [] r to.received lost z (h.received_is r held.1)));
 }
 
@@ -327,19 +331,21 @@ sent_woken k address limit request received from to old_standing mid_standing a 
 
 pub send_waits : (k : ℕ) (address : Address) (limit : ℕ) (request received : List ℕ) (from to : ℕ) (old_standing standing : Standing) (a b : WireState) → request ≡ request_of address
     → SendsFrom k request from to a b → (a.links k).is_open ≡ true → received ≡ received → standing ≡ Underway → reply_of received false limit ≡ reply.More
-    → to < length request → (b.links k).stalled ≡ Some Sending → Rose (a.links k).stalls (b.links k).stalls
+    → to < length request → (b.links k).stalled ≡ Some Sending → (b.links k).woken ≡ false → Rose (a.links k).stalls (b.links k).stalls
     → (a.nature.steady ≡ true → (a.links k).woken ≡ true → (a.links k).stalled ≡ Some Sending → b.idle ≡ 0)
     → Waits (on_link address limit k (take from request) received old_standing) (on_link address limit k (take to request) received standing) a b
-send_waits k address limit request received from to old_standing standing a b e h op same u more less stalled rose woken = record {
+send_waits k address limit request received from to old_standing standing a b e h op same u more less stalled asleep rose woken = record {
   k = k;
   link = refl;
   is_open = h.calls.is_open ∙ op;
   stalls = rose;
   awaits = ToSend (taken_less request (request_of address) to e less) stalled;
+  asleep = asleep;
   ripe = inl (links.ToSend (h.calls.is_open ∙ op) stalled);
   woken = λ st wo aw l. woken st wo (sends_stalled address limit k request received from old_standing (a.links k) e (omega_less from to (length request) h.up less) aw);
   standing = u;
   more = more;
+  front = record { rest = drop to request; is_whole = sym e ∙ sym (take-append-drop to request) };
   stands = λ s r held. (h.sent_is s held.0, holds_same _ _ _ h.received held.1);
 }
 
@@ -392,12 +398,12 @@ old_is k address limit o sent received standing w l e = ap (λ x. with_link addr
 pub reply_pending : (k : ℕ) (o : Option ℕ) (w : Exchanging) (address : Address) (sent : List ℕ) (from to : Coming) (lost : List ℕ) (old_standing standing : Standing) (a b : WireState)
     → with_link address from.limit o sent from.received old_standing ≡ w → w.link ≡ Some k → w.sent ≡ request_of w.address
     → ReceivesFrom k from to lost a b → lost ≡ [] → (a.links k).is_open ≡ true → is_open to.place ≡ true → to.place ≡ after_bytes to.limit begun to.received → WhatIsReadIsGiven → standing ≡ Underway
-    → (b.links k).stalled ≡ Some Receiving → Rose (a.links k).stalls (b.links k).stalls
+    → (b.links k).stalled ≡ Some Receiving → (b.links k).woken ≡ false → Rose (a.links k).stalls (b.links k).stalls
     → (a.nature.steady ≡ true → (a.links k).woken ≡ true → (a.links k).stalled ≡ Some Receiving → b.idle ≡ 0)
     → Waits w (with_link address to.limit o sent to.received standing) a b
-reply_pending k o w address sent from to lost old_standing standing a b e l s h z op goes_on leads given u stalled rose woken =
+reply_pending k o w address sent from to lost old_standing standing a b e l s h z op goes_on leads given u stalled asleep rose woken =
     let q = known_link k address from.limit o sent from.received old_standing w e l in
-    let v = reply_waits k address sent from to lost old_standing standing a b (sent_all address from.limit o sent from.received old_standing w e s) h z op goes_on leads given u stalled rose woken in
+    let v = reply_waits k address sent from to lost old_standing standing a b (sent_all address from.limit o sent from.received old_standing w e s) h z op goes_on leads given u stalled asleep rose woken in
     let v' : Waits w (on_link address to.limit k sent to.received standing) a b =
     subst (λ (x : Exchanging). Waits x (on_link address to.limit k sent to.received standing) a b) (old_is k address from.limit o sent from.received old_standing w q e) v in
     subst (λ (x : Option ℕ). Waits w (with_link address to.limit x sent to.received standing) a b) (sym q) v'
@@ -443,12 +449,12 @@ as_result w new a c r s e h = subst (λ (x : Poll (Result Reply ExchangeFault)).
 pub send_pending : (k : ℕ) (o : Option ℕ) (w : Exchanging) (address : Address) (limit : ℕ) (request received : List ℕ) (from to : ℕ) (old_standing standing : Standing) (a b : WireState)
     → with_link address limit o (take from request) received old_standing ≡ w → w.link ≡ Some k → request ≡ request_of address
     → SendsFrom k request from to a b → (a.links k).is_open ≡ true → standing ≡ Underway → reply_of received false limit ≡ reply.More
-    → to < length request → (b.links k).stalled ≡ Some Sending → Rose (a.links k).stalls (b.links k).stalls
+    → to < length request → (b.links k).stalled ≡ Some Sending → (b.links k).woken ≡ false → Rose (a.links k).stalls (b.links k).stalls
     → (a.nature.steady ≡ true → (a.links k).woken ≡ true → (a.links k).stalled ≡ Some Sending → b.idle ≡ 0)
     → Waits w (with_link address limit o (take to request) received standing) a b
-send_pending k o w address limit request received from to old_standing standing a b e l r h op u more less stalled rose woken =
+send_pending k o w address limit request received from to old_standing standing a b e l r h op u more less stalled asleep rose woken =
     let q = known_link k address limit o (take from request) received old_standing w e l in
-    let v = send_waits k address limit request received from to old_standing standing a b r h op refl u more less stalled rose woken in
+    let v = send_waits k address limit request received from to old_standing standing a b r h op refl u more less stalled asleep rose woken in
     let v' : Waits w (on_link address limit k (take to request) received standing) a b =
     subst (λ (x : Exchanging). Waits x (on_link address limit k (take to request) received standing) a b) (old_is k address limit o (take from request) received old_standing w q e) v in
     subst (λ (x : Option ℕ). Waits w (with_link address limit x (take to request) received standing) a b) (sym q) v'

@@ -19,14 +19,14 @@ use Rattle.exchange.specs.declared.fault.ExchangeFault.TheVariants as faults
 
 -- ---- the link
 
--- A link that was dialled is the next one, and its peer, where the wire tells it, is the address's host and port; a dial that failed gave none. A link that the exchange had before stays its link, and nothing is dialled.
+-- A link that was dialled is the next one, its peer, where the wire tells it, is the address's host and port, and no wait followed; a dial that failed gave none. A link that the exchange had before stays its link, and nothing is dialled.
 abbrev pub LinkAfter : Address → Option ℕ → Option ℕ → WireState → WireState → Type 0
 LinkAfter address (Some k) (Some j) old new =
     (j ≡ k) × (new.given ≡ old.given) × (new.dials ≡ old.dials) × ((new.links k).peer ≡ (old.links k).peer) × ((old.links k).stalls ≤ (new.links k).stalls)
 LinkAfter address (Some k) None old new = ⊥
 LinkAfter address None None old new = (new.given ≡ old.given) × (new.dials ≡ counted old.dials) × (new.idle ≡ old.idle)
 LinkAfter address None (Some j) old new =
-    (j ≡ old.given) × (new.given ≡ old.given + 1) × (new.dials ≡ counted old.dials) × ((new.links j).peer ≡ told_by old.nature.tells (address.host, address.port))
+    (j ≡ old.given) × (new.given ≡ old.given + 1) × (new.dials ≡ counted old.dials) × ((new.links j).peer ≡ told_by old.nature.tells (address.host, address.port)) × (new.idle ≡ 0)
 
 -- What a poll does to all but its answer: it calls on its own link alone, never waits, and dials where it has none.
 pub record Touches (old new : Exchanging) (wire wire' : WireState) : Type 0 where
@@ -37,7 +37,7 @@ pub record Touches (old new : Exchanging) (wire wire' : WireState) : Type 0 wher
   pub later : wire.faults ≤ wire'.faults
   pub waits : wire'.waits ≡ wire.waits
   pub idle : wire'.idle ≤ wire.idle
-  pub listens : wire'.listens ≡ wire.listens
+  pub door : wire'.door ≡ wire.door
   pub door_stalls : wire'.door_stalls ≡ wire.door_stalls
   pub nature : wire'.nature ≡ wire.nature
   -- only a dial may provoke a fault, and over a steady wire none does below 2 ^ 63 links
@@ -63,17 +63,19 @@ pub record Hangs (e : Exchanging) (link : Link) : Type 0 where
   pub sent : e.sent ≡ request_of e.address
   pub none_left : is_short link ≡ false
 
--- Pending: the stalls of its own link rose, the link is ripe or the exchange hangs, and the reply goes on. Over a steady wire a link that a wait woke has moved a byte.
+-- Pending: the stalls of its own link rose, no wait answered it since, it is ripe or the exchange hangs, a front of its request was sent, and the reply goes on. Over a steady wire a link that a wait woke has moved a byte.
 pub record Waits (old new : Exchanging) (wire wire' : WireState) : Type 0 where
   pub k : ℕ
   pub link : new.link ≡ Some k
   pub is_open : (wire'.links k).is_open ≡ true
   pub stalls : RoseOn old.link k wire wire'
   pub awaits : Awaits new (wire'.links k)
+  pub asleep : (wire'.links k).woken ≡ false
   pub ripe : IsRipe (wire'.links k) ⊎ Hangs new (wire'.links k)
   pub woken : wire.nature.steady ≡ true → (wire.links k).woken ≡ true → Awaits old (wire.links k) → old.link ≡ Some k → wire'.idle ≡ 0
   pub standing : new.standing ≡ Underway
   pub more : reply_of new.received false new.limit ≡ reply.More
+  pub front : IsFront new.sent (request_of new.address)
   pub stands : (s r : List ℕ) → Stands s r old wire → Stands s r new wire'
 
 -- Ready with a reply: the request was sent whole, and what was received in reply to it is read as this reply, whole. The link is left open exactly where the reply keeps it and no byte was received behind it.

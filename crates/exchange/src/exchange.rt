@@ -135,12 +135,12 @@ impl Exchange {
     /// Goes on until a call moves no byte: dials, unless it has a link, to the host and the port of
     /// its address, sends what is left of its request, and receives the reply.
     ///
-    /// `Pending` where its link stalled. `Ready` with the reply where the request was sent whole and
-    /// what was received in reply is that reply, whole; the link then stays open where `leave` gives
-    /// it. `Failed` only where the wire's count of faults rose in this poll; `Cut` where the link ended
-    /// before the reply was whole; `Bad` as soon as the bytes received have that fault. Where it is
-    /// ready and `leave` gives nothing the link is closed. Each poll has the same wire, and the buffer
-    /// may be another.
+    /// `Pending` where its link stalled; what was sent so far is a front of the request. `Ready` with
+    /// the reply where the request was sent whole and what was received in reply is that reply, whole;
+    /// the link then stays open where `leave` gives it. `Failed` only where the wire's count of faults
+    /// rose in this poll; `Cut` where the link ended before the reply was whole; `Bad` as soon as the
+    /// bytes received have that fault. Where it is ready and `leave` gives nothing the link is closed.
+    /// Each poll has the same wire, and the buffer may be another.
     pub fn poll<W: Dial>(
         &mut self,
         wire: &mut W,

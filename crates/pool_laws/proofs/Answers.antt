@@ -68,7 +68,7 @@ told_all : (tells : Tells) (peer : List ℕ × ℕ) → tells ≡ All → told_b
 told_all tells peer e = ap (λ (x : Tells). told_by x peer) e
 
 -- what is owed is the response to the requests, of which this was received
-record IsOwed (history : List (List Triple)) (config : Config) (before : List Answered) (address : Address) (received : List ℕ) (owed : Option (List ℕ)) (had : Option (List ℕ)) : Type 0 where
+pub record IsOwed (history : List (List Triple)) (config : Config) (before : List Answered) (address : Address) (received : List ℕ) (owed : Option (List ℕ)) (had : Option (List ℕ)) : Type 0 where
   marks : List Mark
   rest : List ℕ
   marked : IsMarkedBy (answering history config) (bytes_of (sent_of before) ++ request_for address) marks
@@ -78,7 +78,7 @@ record IsOwed (history : List (List Triple)) (config : Config) (before : List An
   is_owed : owed ≡ Some (all ++ rest)
 
 module _ (allows : List ℕ → ℕ → List ℕ → List ℕ → Type 0) (history : List (List Triple)) (config : Config) (limit : ℕ) (address : Address) (received : List ℕ) (after : WireState) where
-  owed_on : (on : RepliedOn limit address received after) → TellsAll allows after → IsHonestAt allows address.host address.port (answering history config)
+  pub owed_on : (on : RepliedOn limit address received after) → TellsAll allows after → IsHonestAt allows address.host address.port (answering history config)
       → IsOwed history config on.before address received (after.links on.k).owed (after.links on.k).received
   owed_on on tells honest =
       let told : IsToldBy All (after.links on.k) = subst (λ (x : Tells). IsToldBy x (after.links on.k)) tells.all (tells.told on.k) in
@@ -162,13 +162,13 @@ module _ (laws : EndsAreTrue) (history : List (List Triple)) (config : Config) (
 
   -- ---- a cut
 
-  cut_short : limit < 2 ^ 64 → (before : List Answered) (owed had : Option (List ℕ)) → AllByRecursion (IsReplied limit) before → IsOwed history config before address received owed had → length (request_for address) ≤ 4194304
-      → reply_of received true limit ≡ More → some_left had owed ≡ true
-  cut_short small before owed had replied o short more =
+  pub cut_short : (at_end : Bool) → limit < 2 ^ 64 → (before : List Answered) (owed had : Option (List ℕ)) → AllByRecursion (IsReplied limit) before → IsOwed history config before address received owed had → length (request_for address) ≤ 4194304
+      → reply_of received at_end limit ≡ More → some_left had owed ≡ true
+  cut_short at_end small before owed had replied o short more =
       let a = next_is before owed had replied short o in
       let answer = answer_to history a.mark config (asks address) in
       left_some owed had o.all o.rest o.is_had o.is_owed
-      (rest_some limit received o.rest answer (laws.server limit history a.mark config (asks address) false small) (laws.pages history a.mark config (asks address) (no_reload config address)) a.same more
+      (rest_some limit at_end received o.rest answer (laws.server limit history a.mark config (asks address) false small) (laws.pages history a.mark config (asks address) (no_reload config address)) a.same more
       (status_case answer.status (laws.status history config a.mark (asks address))))
 
 -- ---- steps
@@ -199,6 +199,6 @@ cuts_are_faults laws one allows after received old new before given suits so_far
     let r = faults_have_causes one (faults.Cut received) old new before after given suits so_far steps in
     record {
       cut = r;
-      rose = λ history config honest short. r.short (cut_short laws history config old.limit r.loses.ask.address received r.loses.on.is_address small r.loses.on.before _ _ r.loses.on.replied
+      rose = λ history config honest short. r.short (cut_short laws history config old.limit r.loses.ask.address received r.loses.on.is_address true small r.loses.on.before _ _ r.loses.on.replied
           (owed_on allows history config old.limit r.loses.ask.address received after r.loses.on tells honest) short r.more);
     }

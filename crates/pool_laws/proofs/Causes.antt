@@ -47,7 +47,7 @@ use Rattle.pool_laws.proofs.Settled.{settles_whole, settles_nature}
 holds_back : {T : Type 0} (x y : Option T) (v : T) → y ≡ x → Holds x v → Holds y v
 holds_back x y v e h = λ fact is. h fact (sym e ∙ is)
 
-same_request : (x : Option (List ℕ)) (s : List ℕ) (address other : Address) → other ≡ address → Holds x (s ++ request_of other) → Holds x (s ++ request_for address)
+pub same_request : (x : Option (List ℕ)) (s : List ℕ) (address other : Address) → other ≡ address → Holds x (s ++ request_of other) → Holds x (s ++ request_for address)
 same_request x s address other e h = holds_is x (s ++ request_of other) (s ++ request_for address) (ap (λ (t : List ℕ). s ++ t) (sym (ap request_of e ∙ request_is address))) h
 
 told_nature : (a b : WireState) (peer : List ℕ × ℕ) → b.nature ≡ a.nature → told_by a.nature.tells peer ≡ told_by b.nature.tells peer
@@ -106,6 +106,10 @@ data FaultBy (start : ℕ → Type 0) (fault : PoolFault) (was : List Ask) (q : 
 same_fault : (fault other : PoolFault) → ◌≡◌ {A = Result Polled PoolFault} (Err fault) (Err other) → fault ≡ other
 same_fault fault other e = cc
 
+pub shut_idle : (o : Option ℕ) (a b : WireState) → Shuts o a b → b.idle ≡ a.idle
+shut_idle None a b s = ap (λ (w : WireState). w.idle) s
+shut_idle (Some i) a b c = c.idle
+
 module _ (one : AuthoritiesAreHostsAndPorts) where
   starts_by : (fault : PoolFault) (p q : Pooled) (n : ℕ) (a b : WireState) → AnswersSoFar p a → n ≤ a.faults → Starts (Err fault) p q a b → FaultBy (λ i. Below i p a) fault (held p) q n b
   starts_by fault p q n a b h l (Overruns e budget f g) = ByBudget (same_fault fault faults.Budget e) (subst (λ (x : Pooled). x.budget ≤ x.started) (sym f) budget)
@@ -141,10 +145,6 @@ module _ (one : AuthoritiesAreHostsAndPorts) where
       first_asks (λ i. HoldsNoneBelow i p a) (λ i. Below i e.mid e.between) fault (held p) (held e.mid) q a.faults b (subst (λ (l : List Ask). IsPermutation l (held e.mid)) (gathered_held p) (running_holds r e.mid a e.between e.running))
       (λ i x. by_running (Below i) (below_is_kept i) r e.mid a e.between g suits ((below_is_kept i).gathers p a (below_in i p a x)) e.running)
       (last_by fault e.mid q a.faults e.between b mid later e.last)
-
-  shut_idle : (o : Option ℕ) (a b : WireState) → Shuts o a b → b.idle ≡ a.idle
-  shut_idle None a b s = ap (λ (w : WireState). w.idle) s
-  shut_idle (Some i) a b c = c.idle
 
   fails_by : (reason fault : PoolFault) (f : Flight) (p q : Pooled) → FailsTo {T = Stepped} reason (Err fault) f p q → (fault ≡ faults.OutOfMemory) ⊎ (fault ≡ reason)
   fails_by reason fault f p q (same, inl e) = inl e
@@ -183,7 +183,7 @@ lost_ask f p q was e h = subst (λ (x : Pooled). IsPermutation was (ask_flying f
 
 module _ (limit : ℕ) (f : Flight) (a b : WireState) (s : Follows limit a f.exchange) (answer : Poll (Result Reply ExchangeFault)) (h : Polls answer f a b) (received : List ℕ) (e : Ends f.exchange h.now a b received) where
   -- what was received in reply to the request of an exchange that is over
-  abbrev over_on : RepliedOn limit f.exchange.address received b
+  abbrev pub over_on : RepliedOn limit f.exchange.address received b
   over_on =
       record {
         k = e.k;

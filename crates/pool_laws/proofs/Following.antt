@@ -48,10 +48,10 @@ pub record SameTold (old new : Link) : Type 0 where
 pub told_same : (old new : Link) → new ≡ old → SameTold old new
 told_same old new e = record { peer = ap (λ (x : Link). x.peer) e; sent = ap (λ (x : Link). x.sent) e; received = ap (λ (x : Link). x.received) e }
 
-holds_as : {T : Type 0} (x y : Option T) (v : T) → y ≡ x → Holds x v → Holds y v
+pub holds_as : {T : Type 0} (x y : Option T) (v : T) → y ≡ x → Holds x v → Holds y v
 holds_as x y v e h = λ fact is. h fact (sym e ∙ is)
 
-stands_as : (s r : List ℕ) (e : Exchanging) (o : Option ℕ) (a b : WireState) → ((k : ℕ) → o ≡ Some k → SameTold (a.links k) (b.links k)) → StandsOn s r e o a → StandsOn s r e o b
+pub stands_as : (s r : List ℕ) (e : Exchanging) (o : Option ℕ) (a b : WireState) → ((k : ℕ) → o ≡ Some k → SameTold (a.links k) (b.links k)) → StandsOn s r e o a → StandsOn s r e o b
 stands_as s r e None a b same h = h
 stands_as s r e (Some k) a b same h =
     let t = same k refl in
@@ -104,7 +104,7 @@ pub as_before : (p q : Pooled) (a b : WireState) → q ≡ p → b ≡ a → Ans
 as_before p q a b e f h = subst (λ (x : Pooled). AnswersSoFar x b) (sym e) (subst (λ (x : WireState). AnswersSoFar p x) (sym f) h)
 
 -- a link was closed that is not held
-off : (rest k : ℕ) → rest ≡ 0 → 0 < rest → ⊥
+pub off : (rest k : ℕ) → rest ≡ 0 → 0 < rest → ⊥
 off rest k z p = omega (arith, z, p)
 
 closed_told : (i : ℕ) (p : Pooled) (a b : WireState) → held_on p i ≡ 0 → Closes i a b → AnswersSoFar p a → AnswersSoFar p b
@@ -186,7 +186,7 @@ pub request_is : (address : Address) → request_of address ≡ request_for addr
 unfolding request_of
 request_is address = refl
 
-flat-append : {A : Type 0} (f : A → List ℕ) (xs ys : List A) → flat_map f (xs ++ ys) ≡ flat_map f xs ++ flat_map f ys
+pub flat-append : {A : Type 0} (f : A → List ℕ) (xs ys : List A) → flat_map f (xs ++ ys) ≡ flat_map f xs ++ flat_map f ys
 flat-append f [] ys = refl
 flat-append f (x ∷ xs) ys = ap (λ (t : List ℕ). f x ++ t) (flat-append f xs ys) ∙ sym (append_assoc (f x) (flat_map f xs) (flat_map f ys))
 

@@ -80,6 +80,16 @@ unleft_closed : (s : Standing) (o : Option ℕ) (a : WireState) → (s ≡ Left)
 unleft_closed s o a (inl l) closed e = subst (λ (x : Option ℕ). ClosedOn x a) (sym (none_left s o l e)) tt
 unleft_closed s o a (inr over) closed e = closed over
 
+-- ---- a wait answers links alone
+
+wakes_only : (answer : Ready) (a b : WireState) → Wakes answer a b → (k : ℕ) → IsAsBefore (a.links k) (b.links k)
+wakes_only ready.Door a b w k = Same (w.1 k)
+wakes_only (ready.Link i) a b w k = elim (at_or_off k i) [ inl e ↦ subst (λ (x : ℕ). IsAsBefore (a.links x) (b.links x)) (sym e) (Woken w.0 w.1) | inr n ↦ Same (w.2 k n) ]
+
+pub waits_only : (answer : Result Ready Fault) (a b : WireState) → Waits answer a b → (k : ℕ) → IsAsBefore (a.links k) (b.links k)
+waits_only (Ok answer) a b w k = wakes_only answer a b w.ok k
+waits_only (Err fault) a b w k = Same (w.err.links k)
+
 module _ (home : Address → Type 0) (links : (ℕ → ℕ) → WireState → Type 0) (kept : LinksKept home links) where
   settle_held : (s : Standing) (o : Option ℕ) (address : Address) (p q : Pooled) (a b : WireState) → (s ≡ Left) ⊎ (s ≡ Over) → (s ≡ Over → ClosedOn o a)
       → links (λ k. on_link o k + held_on p k) a → Settles (left_by s o) address p q a b → links (held_on q) b
@@ -208,14 +218,6 @@ module _ (home : Address → Type 0) (links : (ℕ → ℕ) → WireState → Ty
     asks = record { waiting = h.asks.waiting; polled = all_append (λ (f : Flight). home f.exchange.address) p.polled p.due h.asks.polled h.asks.due; due = tt };
     known = kept.same (held_on p) (held_on (record p { polled = in_flight p; due = [] })) a (λ k. omega (arith, flights_on-append p.polled p.due k)) h.known;
   }
-
-  wakes_only : (answer : Ready) (a b : WireState) → Wakes answer a b → (k : ℕ) → IsAsBefore (a.links k) (b.links k)
-  wakes_only ready.Door a b w k = Same (w.1 k)
-  wakes_only (ready.Link i) a b w k = elim (at_or_off k i) [ inl e ↦ subst (λ (x : ℕ). IsAsBefore (a.links x) (b.links x)) (sym e) (Woken w.0 w.1) | inr n ↦ Same (w.2 k n) ]
-
-  waits_only : (answer : Result Ready Fault) (a b : WireState) → Waits answer a b → (k : ℕ) → IsAsBefore (a.links k) (b.links k)
-  waits_only (Ok answer) a b w k = wakes_only answer a b w.ok k
-  waits_only (Err fault) a b w k = Same (w.err.links k)
 
   waited_owns : (answer : Result Ready Fault) (p : Pooled) (a b : WireState) → Owning home links p a → Waits answer a b → Owning home links p b
   waited_owns answer p a b h w = record { asks = h.asks; known = kept.woken (held_on p) a b w.only.given w.only.nature (waits_only answer a b w) h.known }

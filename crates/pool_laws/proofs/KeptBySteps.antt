@@ -10,7 +10,7 @@ use Rattle.request_pool.specs.declared.fault.Stepped.{Stepped}
 use Rattle.request_pool.specs.declared.fault.Stepped.TheVariants.{Came, Waited, Idle}
 use Rattle.request_pool.specs.Pools.{Pooled, in_flight}
 use Rattle.request_pool.specs.Owned.{SuitsWire}
-use Rattle.request_pool.specs.Runs.{Starts, PollsNext, Turn, Start, Next, Round, Moment, Runs, Running, Last, OfStart, OfPoll, Ended, RunsTo, GoesOn, Ends}
+use Rattle.request_pool.specs.Runs.{Starts, PollsNext, Turn, Start, Next, Round, Moment, Runs, Running, Last, OfStart, OfPoll, Ended, RunsTo, GoesOn, Ends, is_end}
 use Rattle.request_pool.specs.Steps.{Waits, GivesUp, WaitsTo, Passes, Stalls, Misses, Lacks, EndsInWait, Breaks, AtOnce, InRun, InWait, StepsTo}
 use Rattle.request_pool.proofs.Suits.{waits_suits}
 use Rattle.request_pool.proofs.Risen.{Fares, fares_first, turn_fares, running_fares}
@@ -25,30 +25,62 @@ pub record IsKept (holds : Pooled → WireState → Type 0) : Type 0 where
   pub waits : (answer : Result Ready Fault) (p : Pooled) (a b : WireState) → SuitsWire p a → holds p a → Waits answer a b → holds p b
   pub gives_up : (fault : PoolFault) (result : Result Stepped PoolFault) (p q : Pooled) (a b : WireState) → SuitsWire p a → holds p a → GivesUp fault result p q a b → holds q b
 
-module _ (holds : Pooled → WireState → Type 0) (kept : IsKept holds) where
-  same_now : (p q : Pooled) (a b : WireState) → q ≡ p → b ≡ a → holds p a → holds q b
+-- each turn of a run keeps the relation
+pub record IsKeptByTurns (holds : Pooled → WireState → Type 0) : Type 0 where
+  pub starts : (result : Result Polled PoolFault) (p q : Pooled) (a b : WireState) → OpensGiven a → SuitsWire p a → holds p a → Starts result p q a b → holds q b
+  pub polls : (result : Result Polled PoolFault) (p q : Pooled) (a b : WireState) → OpensGiven a → SuitsWire p a → holds p a → PollsNext result p q a b → holds q b
+  pub rounds : (p : Pooled) (a : WireState) → holds p a → holds (record p { polled = []; due = p.polled ++ p.due }) a
+
+-- each turn keeps it that is no end
+pub record IsKeptWhileOn (holds : Pooled → WireState → Type 0) : Type 0 where
+  pub starts : (result : Result Polled PoolFault) (p q : Pooled) (a b : WireState) → is_end result ≡ false → OpensGiven a → SuitsWire p a → holds p a → Starts result p q a b → holds q b
+  pub polls : (result : Result Polled PoolFault) (p q : Pooled) (a b : WireState) → is_end result ≡ false → OpensGiven a → SuitsWire p a → holds p a → PollsNext result p q a b → holds q b
+  pub rounds : (p : Pooled) (a : WireState) → holds p a → holds (record p { polled = []; due = p.polled ++ p.due }) a
+
+module _ (holds : Pooled → WireState → Type 0) (kept : IsKeptWhileOn holds) where
+  pub same_now : (p q : Pooled) (a b : WireState) → q ≡ p → b ≡ a → holds p a → holds q b
   same_now p q a b e f h = subst (λ (x : Pooled). holds x b) (sym e) (subst (λ (x : WireState). holds p x) (sym f) h)
 
-  pub by_turn : (p q : Pooled) (a b : WireState) → OpensGiven a → SuitsWire p a → holds p a → Turn p q a b → holds q b
-  by_turn p q a b g s h (Start result e t) = kept.starts result p q a b g s h t
-  by_turn p q a b g s h (Next result e t) = kept.polls result p q a b g s h t
-  by_turn p q a b g s h (Round e f) = same_now (record p { polled = []; due = p.polled ++ p.due }) q a b e f (kept.rounds p a h)
+  turn_goes : (p q : Pooled) (a b : WireState) → OpensGiven a → SuitsWire p a → holds p a → Turn p q a b → holds q b
+  turn_goes p q a b g s h (Start result e t) = kept.starts result p q a b e g s h t
+  turn_goes p q a b g s h (Next result e t) = kept.polls result p q a b e g s h t
+  turn_goes p q a b g s h (Round e f) = same_now (record p { polled = []; due = p.polled ++ p.due }) q a b e f (kept.rounds p a h)
 
-  by_runs : (ms : List Moment) (since : WireState) (p q : Pooled) (a b : WireState) → Fares false since p a → holds p a → Runs ms p q a b → holds q b
-  by_runs [] since p q a b f h r = same_now p q a b r.0 r.1 h
-  by_runs (m ∷ ms) since p q a b f h r = by_runs ms since m.pool q m.wire b (turn_fares false since p m.pool a m.wire f r.0) (by_turn p m.pool a m.wire f.given f.suits h r.0) r.1
+  runs_go : (ms : List Moment) (since : WireState) (p q : Pooled) (a b : WireState) → Fares false since p a → holds p a → Runs ms p q a b → holds q b
+  runs_go [] since p q a b f h r = same_now p q a b r.0 r.1 h
+  runs_go (m ∷ ms) since p q a b f h r = runs_go ms since m.pool q m.wire b (turn_fares false since p m.pool a m.wire f r.0) (turn_goes p m.pool a m.wire f.given f.suits h r.0) r.1
+
+  pub running_goes : (p q : Pooled) (a b : WireState) → OpensGiven a → SuitsWire p a → holds p a → Running p q a b → holds q b
+  running_goes p q a b g s h r = runs_go r.moments a p q a b (fares_first p a s g) h r.runs
+
+while_on : (holds : Pooled → WireState → Type 0) → IsKeptByTurns holds → IsKeptWhileOn holds
+while_on holds kept = record { starts = λ result p q a b e. kept.starts result p q a b; polls = λ result p q a b e. kept.polls result p q a b; rounds = kept.rounds }
+
+module _ (holds : Pooled → WireState → Type 0) (kept : IsKeptByTurns holds) where
+  pub turn_keeps : (p q : Pooled) (a b : WireState) → OpensGiven a → SuitsWire p a → holds p a → Turn p q a b → holds q b
+  turn_keeps = turn_goes holds (while_on holds kept)
+
+  pub running_keeps : (p q : Pooled) (a b : WireState) → OpensGiven a → SuitsWire p a → holds p a → Running p q a b → holds q b
+  running_keeps = running_goes holds (while_on holds kept)
+
+  pub last_keeps : (result : Result Polled PoolFault) (p q : Pooled) (a b : WireState) → OpensGiven a → SuitsWire p a → holds p a → Last result p q a b → holds q b
+  last_keeps result p q a b g s h (OfStart t) = kept.starts result p q a b g s h t
+  last_keeps result p q a b g s h (OfPoll t) = kept.polls result p q a b g s h t
+
+turns_of : (holds : Pooled → WireState → Type 0) → IsKept holds → IsKeptByTurns holds
+turns_of holds kept = record { starts = kept.starts; polls = kept.polls; rounds = kept.rounds }
+
+module _ (holds : Pooled → WireState → Type 0) (kept : IsKept holds) where
+  pub by_turn : (p q : Pooled) (a b : WireState) → OpensGiven a → SuitsWire p a → holds p a → Turn p q a b → holds q b
+  by_turn = turn_keeps holds (turns_of holds kept)
 
   pub by_running : (p q : Pooled) (a b : WireState) → OpensGiven a → SuitsWire p a → holds p a → Running p q a b → holds q b
-  by_running p q a b g s h r = by_runs r.moments a p q a b (fares_first p a s g) h r.runs
-
-  by_last : (result : Result Polled PoolFault) (p q : Pooled) (a b : WireState) → OpensGiven a → SuitsWire p a → holds p a → Last result p q a b → holds q b
-  by_last result p q a b g s h (OfStart t) = kept.starts result p q a b g s h t
-  by_last result p q a b g s h (OfPoll t) = kept.polls result p q a b g s h t
+  by_running = running_keeps holds (turns_of holds kept)
 
   by_ended : (result : Result Polled PoolFault) (p q : Pooled) (a b : WireState) → OpensGiven a → SuitsWire p a → holds p a → Ended result p q a b → holds q b
   by_ended result p q a b g s h e =
       let f = running_fares false a p e.mid a e.between (fares_first p a s g) e.running in
-      by_last result e.mid q e.between b f.given f.suits (by_running p e.mid a e.between g s h e.running) e.last
+      last_keeps holds (turns_of holds kept) result e.mid q e.between b f.given f.suits (by_running p e.mid a e.between g s h e.running) e.last
 
   pub by_run : (result : Result Polled PoolFault) (p q : Pooled) (a b : WireState) → OpensGiven a → SuitsWire p a → holds p a → RunsTo result p q a b → holds q b
   by_run result p q a b g s h (GoesOn e r) = by_running p q a b g s h r
@@ -71,12 +103,12 @@ module _ (holds : Pooled → WireState → Type 0) (kept : IsKept holds) where
       by_wait result e.mid q e.between b f.suits (by_running r e.mid a e.between g suits (kept.gathers p a h) e.running) e.waits
 
   by_break : (fault : PoolFault) (p q : Pooled) (a b : WireState) → OpensGiven a → SuitsWire p a → holds p a → Breaks fault p q a b → holds q b
-  by_break fault p q a b g s h (AtOnce e f i) = same_now p q a b f i h
+  by_break fault p q a b g s h (AtOnce e f i) = same_now holds (while_on holds (turns_of holds kept)) p q a b f i h
   by_break fault p q a b g s h (InRun e) = in_run (Err fault) p q a b g s h e
   by_break fault p q a b g s h (InWait e) = in_wait (Err fault) p q a b g s h e
 
   pub by_step : (result : Result Stepped PoolFault) (p q : Pooled) (a b : WireState) → OpensGiven a → SuitsWire p a → holds p a → StepsTo result p q a b → holds q b
-  by_step (Ok Idle) p q a b g s h t = same_now p q a b t.1 t.2 h
+  by_step (Ok Idle) p q a b g s h t = same_now holds (while_on holds (turns_of holds kept)) p q a b t.1 t.2 h
   by_step (Ok (Came ticket answer)) p q a b g s h t = in_run _ p q a b g s h t
   by_step (Ok Waited) p q a b g s h t = in_wait (Ok Waited) p q a b g s h t
   by_step (Err fault) p q a b g s h t = by_break fault p q a b g s h t

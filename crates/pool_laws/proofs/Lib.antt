@@ -17,3 +17,7 @@ pub mod Trying
 pub mod Faults
 pub mod Causes
 pub mod Settled
+pub mod Staying
+pub mod Rising
+pub mod Sending
+pub mod Provoking

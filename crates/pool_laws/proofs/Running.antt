@@ -39,7 +39,7 @@ woken_told (ready.Link i) a b w k = elim (at_or_off k i) [
   | inr n ↦ told_same (a.links k) (b.links k) (w.2 k n)
 ]
 
-waits_told : (answer : Result Ready Fault) (a b : WireState) → Waits answer a b → (k : ℕ) → SameTold (a.links k) (b.links k)
+pub waits_told : (answer : Result Ready Fault) (a b : WireState) → Waits answer a b → (k : ℕ) → SameTold (a.links k) (b.links k)
 waits_told (Ok answer) a b w k = woken_told answer a b w.ok k
 waits_told (Err fault) a b w k = told_same (a.links k) (b.links k) (w.err.links k)
 

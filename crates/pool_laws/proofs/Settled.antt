@@ -1,10 +1,10 @@
 -- A link that an exchange left is left as it is, or closed.
-use Rattle.std.proofs.Common.{ℕ, ◌≡◌, inl, inr, Option, sym, ap, subst}
+use Rattle.std.proofs.Common.{ℕ, ◌≡◌, inl, inr, Option, Some, None, sym, ap, subst}
 use Rattle.tpf_base.specs.Addresses.{Address}
 use Rattle.tpf_base.specs.Links.{Link, WireState}
 use Rattle.tpf_base.specs.Calls.{Closes}
 use Rattle.request_pool.specs.Pools.{Pooled}
-use Rattle.request_pool.specs.Polls.{Settles, NoLink, Kept, Shut}
+use Rattle.request_pool.specs.Polls.{Shuts, Settles, NoLink, Kept, Shut}
 use Rattle.request_pool.proofs.Owned.{at_or_off}
 
 -- the same is told of it
@@ -15,7 +15,7 @@ pub record SameWhole (old new : Link) : Type 0 where
   pub owed : new.owed ≡ old.owed
   pub ended : new.ended ≡ old.ended
 
-whole_same : (old new : Link) → new ≡ old → SameWhole old new
+pub whole_same : (old new : Link) → new ≡ old → SameWhole old new
 whole_same old new e = record {
   peer = ap (λ (x : Link). x.peer) e;
   sent = ap (λ (x : Link). x.sent) e;
@@ -24,11 +24,15 @@ whole_same old new e = record {
   ended = ap (λ (x : Link). x.ended) e;
 }
 
-closed_whole : (i : ℕ) (a b : WireState) → Closes i a b → (k : ℕ) → SameWhole (a.links k) (b.links k)
+pub closed_whole : (i : ℕ) (a b : WireState) → Closes i a b → (k : ℕ) → SameWhole (a.links k) (b.links k)
 closed_whole i a b c k = elim (at_or_off k i) [
   | inl e ↦ subst (λ (x : ℕ). SameWhole (a.links x) (b.links x)) (sym e) (record { peer = c.peer; sent = c.sent; received = c.received; owed = c.owed; ended = c.ended })
   | inr n ↦ whole_same (a.links k) (b.links k) (c.only.others k n)
 ]
+
+pub shut_whole : (o : Option ℕ) (a b : WireState) → Shuts o a b → (k : ℕ) → SameWhole (a.links k) (b.links k)
+shut_whole None a b s k = whole_same (a.links k) (b.links k) (ap (λ (w : WireState). w.links k) s)
+shut_whole (Some i) a b c k = closed_whole i a b c k
 
 pub settles_whole : (o : Option ℕ) (address : Address) (p q : Pooled) (a b : WireState) → Settles o address p q a b → (k : ℕ) → SameWhole (a.links k) (b.links k)
 settles_whole o address p q a b (NoLink e f h) k = whole_same (a.links k) (b.links k) (ap (λ (w : WireState). w.links k) h)

@@ -116,19 +116,19 @@ more_bad : (r : Reading) (fault : ReplyFault) → r ≡ More → r ≡ Bad fault
 more_bad r fault m b = cc
 
 -- a whole answer is no part of a reply
-module _ (limit : ℕ) (answer : Answer) (received : List ℕ) (read : AnswerIsRead limit answer false) (is : received ≡ answer_text answer false false) (more : reply_of received true limit ≡ More) where
+module _ (limit : ℕ) (at_end : Bool) (answer : Answer) (received : List ℕ) (read : AnswerIsRead limit answer false) (is : received ≡ answer_text answer false false) (more : reply_of received at_end limit ≡ More) where
   no_page : answer.status ≡ 200 → answer.media_type ≡ NQuads → (limit < length answer.body) ⊎ (length answer.body ≤ limit) → ⊥
-  no_page ok page (inr few) = more_whole _ answer.body _ true more (ap (λ (t : List ℕ). reply_of t true limit) (is ∙ sym (append-nil (answer_text answer false false))) ∙ read.whole ok page few [] true)
-  no_page ok page (inl many) = more_bad _ TooLong more (ap (λ (t : List ℕ). reply_of t true limit) (is ∙ text_is answer false) ∙ read.long ok page many answer.body true)
+  no_page ok page (inr few) = more_whole _ answer.body _ true more (ap (λ (t : List ℕ). reply_of t at_end limit) (is ∙ sym (append-nil (answer_text answer false false))) ∙ read.whole ok page few [] at_end)
+  no_page ok page (inl many) = more_bad _ TooLong more (ap (λ (t : List ℕ). reply_of t at_end limit) (is ∙ text_is answer false) ∙ read.long ok page many answer.body at_end)
 
   no_answer : (answer.status ≡ 200 → answer.media_type ≡ NQuads) → (answer.status ≡ 200) ⊎ (answer.status ≡ 200 → ⊥) → ⊥
   no_answer page (inl ok) = no_page ok (page ok) (cases_lt limit (length answer.body))
-  no_answer page (inr other) = more_bad _ (BadStatus answer.status) more (ap (λ (t : List ℕ). reply_of t true limit) (is ∙ text_is answer false) ∙ read.other other answer.body true)
+  no_answer page (inr other) = more_bad _ (BadStatus answer.status) more (ap (λ (t : List ℕ). reply_of t at_end limit) (is ∙ text_is answer false) ∙ read.other other answer.body at_end)
 
-pub rest_some : (limit : ℕ) (received rest : List ℕ) (answer : Answer) → AnswerIsRead limit answer false → (answer.status ≡ 200 → answer.media_type ≡ NQuads) → received ++ rest ≡ answer_text answer false false
-    → reply_of received true limit ≡ More → (answer.status ≡ 200) ⊎ (answer.status ≡ 200 → ⊥) → 0 < length rest
-rest_some limit received [] answer read page is more which = absurd (no_answer limit answer received read (sym (append-nil received) ∙ is) more page which)
-rest_some limit received (b ∷ rest) answer read page is more which = omega arith
+pub rest_some : (limit : ℕ) (at_end : Bool) (received rest : List ℕ) (answer : Answer) → AnswerIsRead limit answer false → (answer.status ≡ 200 → answer.media_type ≡ NQuads) → received ++ rest ≡ answer_text answer false false
+    → reply_of received at_end limit ≡ More → (answer.status ≡ 200) ⊎ (answer.status ≡ 200 → ⊥) → 0 < length rest
+rest_some limit at_end received [] answer read page is more which = absurd (no_answer limit at_end answer received read (sym (append-nil received) ∙ is) more page which)
+rest_some limit at_end received (b ∷ rest) answer read page is more which = omega arith
 
 pub left_some : (owed had : Option (List ℕ)) (all rest : List ℕ) → had ≡ Some all → owed ≡ Some (all ++ rest) → 0 < length rest → some_left had owed ≡ true
 left_some owed had all rest is_had is_owed some =

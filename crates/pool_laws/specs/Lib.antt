@@ -3,3 +3,6 @@ pub mod Answers
 pub mod Owning
 pub mod Counting
 pub mod Causes
+pub mod Rising
+pub mod Sending
+pub mod Provoking

@@ -7,6 +7,9 @@ ghost use Rattle.pool_laws.specs.Answers.{CutsAreFaults, RefusalsAreTooLong, Rep
 ghost use Rattle.pool_laws.specs.Owning.{ClosingCloses, EmptyPoolsOwn, FaultsOwn, PutsOwn, StepsOwn};
 ghost use Rattle.pool_laws.specs.Causes.{FaultsHaveCauses, RepliesAreRead};
 ghost use Rattle.pool_laws.specs.Counting.{ClosingDials, EmptyPoolsDial, EmptyPoolsFewFailed, FaultsDial, PutsDial, PutsFewFailed, StepsCountTries, StepsDial, StepsFewFailed};
+ghost use Rattle.pool_laws.specs.Rising.{EmptyPoolsRose, FaultsRose, PutsRose, StepsRose};
+ghost use Rattle.pool_laws.specs.Provoking.{EmptyPoolsReady, NoneHang, PutsReady, StepsSpare};
+ghost use Rattle.pool_laws.specs.Sending.{ClosingSent, EmptyPoolsSent, FaultsSent, PutsSent, StepsSent};
 ghost use Rattle.pool_laws.specs.Following.{ClosedPoolsFollow, EmptyPoolsFollow, FaultsFollow, FlightsFollow, OthersFollow, PollsFollow, PutsFollow, RunningFollows, RunsFollow, StartsFollow, StepsFollow, TurnsFollow};
 
 use http_ends::{a_reading_stays, a_response_is_cut, an_answer_is_read, requests_are_cut};
@@ -85,5 +88,50 @@ pub fn a_step_has_a_cause()
     ensures reply { RepliesAreRead }
     ensures fault { FaultsHaveCauses }
 {
+    authorities_are_hosts_and_ports();
+}
+
+/// Over other ends that answer as a server does, each failure of an ask is a rise of the wire's
+/// faults, where never 1000 waits follow one another (`step`). So, since the pool was empty, no more
+/// exchanges are started than asks were put and faults rose; and a step after which the wire is this
+/// one ends with `Exchange` or `Cut` only where the faults rose at least once more than an ask may be
+/// tried again, and never with `Stalled`.
+pub fn failures_are_rises<W: Wire>(wire: &W)
+    ensures empty { EmptyPoolsRose }
+    ensures put { PutsRose }
+    ensures fault { FaultsRose }
+    ensures step { StepsRose (W.allows wire.now) (W.state wire.now) }
+{
+    requests_are_cut();
+    an_answer_is_read();
+    a_reading_stays();
+    a_response_is_cut();
+    authorities_are_hosts_and_ports();
+}
+
+/// On each link that was given since the pool was empty, whole requests for addresses that were asked
+/// for stand, and behind them nothing or a front of the request for one: also on a link whose exchange
+/// ended with a fault, was given up, or was still in flight when the links were closed (`close`).
+pub fn whole_requests_are_sent()
+    ensures empty { EmptyPoolsSent }
+    ensures put { PutsSent }
+    ensures fault { FaultsSent }
+    ensures step { StepsSent }
+    ensures close { ClosingSent }
+{}
+
+/// Over a steady wire on which no link is open but those of a pool, below 2^63 links, a step provokes
+/// no fault unless an exchange hangs, and has none where none is due (`step`). Over other ends that
+/// answer as a server does no exchange hangs after a step after which the wire is this one (`hang`).
+pub fn steps_provoke_nothing<W: Wire>(wire: &W)
+    ensures empty { EmptyPoolsReady }
+    ensures put { PutsReady }
+    ensures step { StepsSpare }
+    ensures hang { NoneHang (W.allows wire.now) (W.state wire.now) }
+{
+    requests_are_cut();
+    an_answer_is_read();
+    a_reading_stays();
+    a_response_is_cut();
     authorities_are_hosts_and_ports();
 }

@@ -21,7 +21,7 @@ settles_bounds o address p q a b (NoLink e f h) = ap bounds_of f
 settles_bounds o address p q a b (Kept k e room f h) = ap bounds_of f
 settles_bounds o address p q a b (Shut k e f c) = ap bounds_of f
 
-flight_bounds : (result : Result Polled PoolFault) (f : Flight) (p q : Pooled) (a b : WireState) → FlightTo result f p q a b → bounds_of q ≡ bounds_of p
+pub flight_bounds : (result : Result Polled PoolFault) (f : Flight) (p q : Pooled) (a b : WireState) → FlightTo result f p q a b → bounds_of q ≡ bounds_of p
 flight_bounds (Ok polls.Pending) f p q a b h = ap bounds_of h.1
 flight_bounds (Ok (polls.Came ticket answer)) f p q a b h = settles_bounds (left_link h.1.now) h.1.now.address p q h.0 b h.3
 flight_bounds (Ok polls.Failed) f p q a b h = ap bounds_of h.4
@@ -32,7 +32,7 @@ flight_bounds (Err faults.OutOfMemory) f p q a b h = ap bounds_of h.3
 flight_bounds (Err faults.Stalled) f p q a b h = absurd h
 flight_bounds (Err faults.Budget) f p q a b h = absurd h
 
-starts_bounds : (result : Result Polled PoolFault) (p q : Pooled) (a b : WireState) → Starts result p q a b → bounds_of q ≡ bounds_of p
+pub starts_bounds : (result : Result Polled PoolFault) (p q : Pooled) (a b : WireState) → Starts result p q a b → bounds_of q ≡ bounds_of p
 starts_bounds result p q a b (Overruns e budget f h) = ap bounds_of f
 starts_bounds result p q a b (Flies mid f budget begins to) = flight_bounds result f mid q a b to ∙ ap bounds_of begins.is_new
 starts_bounds result p q a b (Starves e mid f begins is shuts) = ap bounds_of is ∙ ap bounds_of begins.is_new
@@ -42,7 +42,7 @@ turn_bounds p q a b (Start result e s) = starts_bounds result p q a b s
 turn_bounds p q a b (Next result e s) = flight_bounds result s.f (record p { due = s.rest }) q a b s.to
 turn_bounds p q a b (Round e f) = ap bounds_of e
 
-runs_bounds : (ms : List Moment) (p q : Pooled) (a b : WireState) → Runs ms p q a b → bounds_of q ≡ bounds_of p
+pub runs_bounds : (ms : List Moment) (p q : Pooled) (a b : WireState) → Runs ms p q a b → bounds_of q ≡ bounds_of p
 runs_bounds [] p q a b h = ap bounds_of h.0
 runs_bounds (m ∷ ms) p q a b h = runs_bounds ms m.pool q m.wire b h.1 ∙ turn_bounds p m.pool a m.wire h.0
 

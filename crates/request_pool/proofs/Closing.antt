@@ -32,7 +32,7 @@ closing_none was a h = record {
     dials = refl;
     waits = refl;
     idle = refl;
-    listens = refl;
+    door = refl;
     door_stalls = refl;
     nature = refl;
   };
@@ -79,7 +79,7 @@ closing_more None was is rest a b c e h s =
         dials = h.closes.dials;
         waits = h.closes.waits;
         idle = h.closes.idle;
-        listens = h.closes.listens;
+        door = h.closes.door;
         door_stalls = h.closes.door_stalls;
         nature = h.closes.nature;
       };
@@ -98,7 +98,7 @@ closing_more (Some i) was is rest a b c e h s =
         dials = s.only.dials ∙ h.closes.dials;
         waits = s.only.waits ∙ h.closes.waits;
         idle = s.idle ∙ h.closes.idle;
-        listens = s.only.listens ∙ h.closes.listens;
+        door = s.only.door ∙ h.closes.door;
         door_stalls = s.only.door_stalls ∙ h.closes.door_stalls;
         nature = s.only.nature ∙ h.closes.nature;
       };

@@ -1,5 +1,5 @@
 -- What holds at each moment of a run: the links that are held are open, and the stalls of each exchange that was polled have risen.
-use Rattle.std.proofs.Common.{ℕ, ◌≡◌, ◌≢◌, ◌<◌, ◌≤◌, inl, inr, ◌++◌, List, [], ◌∷◌, Option, Some, None, Bool, true, false, Result, Ok, Err, sym, ◌∙◌, ap, subst, arith}
+use Rattle.std.proofs.Common.{ℕ, ◌≡◌, ◌≢◌, ◌+◌, ◌<◌, ◌≤◌, inl, inr, ◌++◌, List, [], ◌∷◌, Option, Some, None, Bool, true, false, Result, Ok, Err, refl, sym, ◌∙◌, ap, subst, arith}
 use Rattle.std.proofs.lemmas.Bool.{cases_lt}
 use Rattle.std.specs.List.{AllByRecursion}
 use Rattle.futures.specs.declared.task.Poll.{Poll}
@@ -17,11 +17,11 @@ use Rattle.request_pool.specs.declared.fault.Polled.TheVariants as polls
 use Rattle.request_pool.specs.declared.fault.PoolFault.{PoolFault}
 use Rattle.request_pool.specs.declared.fault.PoolFault.TheVariants as faults
 use Rattle.request_pool.specs.Pools.{Pooled}
-use Rattle.request_pool.specs.Owned.{held_on, SuitsWire}
+use Rattle.request_pool.specs.Owned.{on_link, flights_on, held_on, SuitsWire}
 use Rattle.request_pool.specs.Polls.{Polls, FlightTo}
 use Rattle.request_pool.specs.Runs.{Starts, Overruns, Flies, Starves, Turn, Start, Next, Round, Moment, Runs, Running, Last, OfStart, OfPoll, is_end}
-use Rattle.request_pool.specs.Steps.{RisenOn}
-use Rattle.request_pool.proofs.Owned.{at_or_off, linked_open, flights_on-append}
+use Rattle.request_pool.specs.Steps.{RisenOn, AsleepOn}
+use Rattle.request_pool.proofs.Owned.{at_or_off, on_same, linked_open, flights_on-append, rest_none}
 use Rattle.request_pool.proofs.Suits.{Owns, owns_begun, owns_next, flight_suits, starts_suits, next_suits, underway-append, suits_as}
 
 -- links are not forgotten, and no count of stalls falls
@@ -113,18 +113,53 @@ risen_poll f p since a b g later h =
     let r = rose_link f.exchange.address f.exchange.link w.k since a b later (link_as f.exchange.address f.exchange.link h.now.link w.k a b w.link h.touches.link) w.stalls in
     risen_as since b h.now.link w.k w.link (given_is b w.k g w.is_open, r)
 
+-- ---- no wait answered their links since
+
+abbrev pub AreAsleep : WireState → List Flight → Type 0
+AreAsleep a flights = AllByRecursion (λ f. AsleepOn a f.exchange.link) flights
+
+asleep-append : (a : WireState) (xs ys : List Flight) → AreAsleep a xs → AreAsleep a ys → AreAsleep a (xs ++ ys)
+asleep-append a [] ys h i = i
+asleep-append a (x ∷ xs) ys h i = (h.0, asleep-append a xs ys h.1 i)
+
+asleep_on : (o : Option ℕ) (a b : WireState) → ((k : ℕ) → o ≡ Some k → b.links k ≡ a.links k) → AsleepOn a o → AsleepOn b o
+asleep_on None a b same h = h
+asleep_on (Some k) a b same h = ap (λ (x : Link). x.woken) (same k refl) ∙ h
+
+on_its : (o : Option ℕ) (k : ℕ) → o ≡ Some k → on_link o k ≡ 1
+on_its None k e = cc
+on_its (Some i) k e = on_same i k (some_is i k e)
+
+asleep_others : (fs : List Flight) (a b : WireState) → ((k : ℕ) → 0 < flights_on fs k → b.links k ≡ a.links k) → AreAsleep a fs → AreAsleep b fs
+asleep_others [] a b same h = tt
+asleep_others (f ∷ fs) a b same h =
+    (asleep_on f.exchange.link a b (λ k e. same k (omega (arith, on_its f.exchange.link k e))) h.0, asleep_others fs a b (λ k p. same k (omega (arith, p))) h.1)
+
+none_off : (n : ℕ) → n ≡ 0 → 0 < n → ⊥
+none_off n z p = omega (arith, z, p)
+
+-- a poll calls on no link of the others
+asleep_rest : (answer : Poll (Result Reply ExchangeFault)) (f : Flight) (p : Pooled) (a b : WireState) → OpensGiven a → Owns f p a → Polls answer f a b → AreAsleep a p.polled → AreAsleep b p.polled
+asleep_rest answer f p a b g o h i =
+    asleep_others p.polled a b
+    (λ k l. h.touches.others k (λ e. none_off (held_on p k) (rest_none f.exchange.address f.exchange.link h.now.link a b h.touches.link g (held_on p) o.owned k e) (omega (arith, l)))) i
+
+asleep_poll : (f : Flight) (a b : WireState) (h : Polls poll.Pending f a b) → AsleepOn b h.now.link
+asleep_poll f a b h = subst (λ (x : Option ℕ). AsleepOn b x) (sym h.answers.link) h.answers.asleep
+
 -- ---- a moment of a run
 
--- Since a moment at which it began: the pool suits its wire, and, where that was so once, the stalls of each exchange that was polled have risen.
+-- Since a moment at which it began: the pool suits its wire, and, where that was so once, the stalls of each exchange that was polled have risen, and no wait answered its link since.
 pub record Fares (known : Bool) (since : WireState) (p : Pooled) (a : WireState) : Type 0 where
   pub suits : SuitsWire p a
   pub given : OpensGiven a
   pub later : Later since a
   pub risen : known ≡ true → AreRisen since a p.polled
+  pub asleep : known ≡ true → AreAsleep a p.polled
 
 flight_fares : (result : Result Polled PoolFault) (known : Bool) (since : WireState) (f : Flight) (p q : Pooled) (a b : WireState) → is_end result ≡ false → OpensGiven a → Owns f p a → Later since a → (known ≡ true → AreRisen since a p.polled)
-    → FlightTo result f p q a b → Fares known since q b
-flight_fares (Ok polls.Pending) known since f p q a b e g o later risen h =
+    → (known ≡ true → AreAsleep a p.polled) → FlightTo result f p q a b → Fares known since q b
+flight_fares (Ok polls.Pending) known since f p q a b e g o later risen asleep h =
     let g' = opens_poll poll.Pending f p a b g o h.0 in
     let l = later_poll f.exchange h.0.now a b h.0.touches in
     record {
@@ -133,17 +168,20 @@ flight_fares (Ok polls.Pending) known since f p q a b e g o later risen h =
       later = later_then since a b later l;
       risen = λ (k : known ≡ true). subst (λ (x : Pooled). AreRisen since b x.polled) (sym h.1)
           (risen-append since b p.polled ((record f { exchange = h.0.now }) ∷ []) (are_risen since a b p.polled l (risen k)) (risen_poll f p since a b g' later h.0, tt));
+      asleep = λ (k : known ≡ true). subst (λ (x : Pooled). AreAsleep b x.polled) (sym h.1)
+          (asleep-append b p.polled ((record f { exchange = h.0.now }) ∷ []) (asleep_rest poll.Pending f p a b g o h.0 (asleep k)) (asleep_poll f a b h.0, tt));
     }
-flight_fares (Ok polls.Failed) known since f p q a b e g o later risen h =
+flight_fares (Ok polls.Failed) known since f p q a b e g o later risen asleep h =
     let l = later_poll f.exchange h.1.now a b h.1.touches in
     record {
       suits = flight_suits (Ok polls.Failed) f p q a b g o h;
       given = opens_poll (poll.Ready (Err h.0)) f p a b g o h.1;
       later = later_then since a b later l;
       risen = λ (k : known ≡ true). subst (λ (x : Pooled). AreRisen since b x.polled) (sym h.4) (are_risen since a b p.polled l (risen k));
+      asleep = λ (k : known ≡ true). subst (λ (x : Pooled). AreAsleep b x.polled) (sym h.4) (asleep_rest (poll.Ready (Err h.0)) f p a b g o h.1 (asleep k));
     }
-flight_fares (Ok (polls.Came ticket answer)) known since f p q a b e g o later risen h = cc
-flight_fares (Err fault) known since f p q a b e g o later risen h = cc
+flight_fares (Ok (polls.Came ticket answer)) known since f p q a b e g o later risen asleep h = cc
+flight_fares (Err fault) known since f p q a b e g o later risen asleep h = cc
 
 end_of : (result : Result Polled PoolFault) (fault : PoolFault) → result ≡ Err fault → is_end result ≡ false → ⊥
 end_of result fault e f = let g : true ≡ false = sym (ap is_end e) ∙ f in cc
@@ -152,11 +190,12 @@ starts_fares : (result : Result Polled PoolFault) (known : Bool) (since : WireSt
 starts_fares result known since p q a b e h (Overruns r budget f i) = absurd (end_of result faults.Budget r e)
 starts_fares result known since p q a b e h (Starves r mid f begins is shuts) = absurd (end_of result faults.OutOfMemory r e)
 starts_fares result known since p q a b e h (Flies mid f budget begins to) =
-    flight_fares result known since f mid q a b e h.given (owns_begun p mid f a h.suits begins) h.later (λ (k : known ≡ true). subst (λ (x : Pooled). AreRisen since a x.polled) (sym begins.is_new) (h.risen k)) to
+    flight_fares result known since f mid q a b e h.given (owns_begun p mid f a h.suits begins) h.later (λ (k : known ≡ true). subst (λ (x : Pooled). AreRisen since a x.polled) (sym begins.is_new) (h.risen k))
+    (λ (k : known ≡ true). subst (λ (x : Pooled). AreAsleep a x.polled) (sym begins.is_new) (h.asleep k)) to
 
 pub turn_fares : (known : Bool) (since : WireState) (p q : Pooled) (a b : WireState) → Fares known since p a → Turn p q a b → Fares known since q b
 turn_fares known since p q a b h (Start result e s) = starts_fares result known since p q a b e h s
-turn_fares known since p q a b h (Next result e s) = flight_fares result known since s.f (record p { due = s.rest }) q a b e h.given (owns_next p s.f s.rest a h.suits s.is_next) h.later h.risen s.to
+turn_fares known since p q a b h (Next result e s) = flight_fares result known since s.f (record p { due = s.rest }) q a b e h.given (owns_next p s.f s.rest a h.suits s.is_next) h.later h.risen h.asleep s.to
 turn_fares known since p q a b h (Round e f) =
     let suits : SuitsWire (record p { polled = []; due = p.polled ++ p.due }) a = record {
       polled = tt;
@@ -168,6 +207,7 @@ turn_fares known since p q a b h (Round e f) =
       given = subst OpensGiven (sym f) h.given;
       later = subst (λ (x : WireState). Later since x) (sym f) h.later;
       risen = λ (k : known ≡ true). subst (λ (x : Pooled). AreRisen since b x.polled) (sym e) tt;
+      asleep = λ (k : known ≡ true). subst (λ (x : Pooled). AreAsleep b x.polled) (sym e) tt;
     }
 
 runs_fare : (ms : List Moment) (known : Bool) (since : WireState) (p q : Pooled) (a b : WireState) → Fares known since p a → Runs ms p q a b → Fares known since q b
@@ -178,7 +218,7 @@ pub running_fares : (known : Bool) (since : WireState) (p q : Pooled) (a b : Wir
 running_fares known since p q a b h r = runs_fare r.moments known since p q a b h r.runs
 
 pub fares_first : (p : Pooled) (a : WireState) → SuitsWire p a → OpensGiven a → Fares false a p a
-fares_first p a s g = record { suits = s; given = g; later = later_none a; risen = λ k. cc }
+fares_first p a s g = record { suits = s; given = g; later = later_none a; risen = λ k. cc; asleep = λ k. cc }
 
 pub last_suits : (result : Result Polled PoolFault) (p q : Pooled) (a b : WireState) → OpensGiven a → SuitsWire p a → Last result p q a b → SuitsWire q b
 last_suits result p q a b g s (OfStart h) = starts_suits result p q a b g s h

@@ -26,7 +26,7 @@ use Rattle.request_pool.proofs.Owned.{linked_open, flights_on-append}
 use Rattle.request_pool.proofs.Suits.{owns_begun, owns_next, starts_suits, next_suits, underway-append}
 use Rattle.request_pool.proofs.Running.{to_then, runs_more, runs_none, went_on, ended}
 use Rattle.request_pool.proofs.Holding.{running_holds}
-use Rattle.request_pool.proofs.Risen.{Fares, AreRisen, running_fares, fares_first}
+use Rattle.request_pool.proofs.Risen.{Fares, AreRisen, AreAsleep, running_fares, fares_first}
 
 pub linked_as : (o p : Option ℕ) (a : WireState) → o ≡ p → IsLinked p a → IsLinked o a
 linked_as o p a e h = subst (λ (x : Option ℕ). IsLinked x a) (sym e) h
@@ -110,6 +110,7 @@ may_wait since p a f e few full =
       none_due = e;
       full = all ∙ full_by p.waiting (length (in_flight p)) p.links (length (held p)) (held_length p) few full;
       risen = f.risen refl;
+      asleep = f.asleep refl;
     }
 
 empty_of : (l : List Ask) → length l ≡ 0 → l ≡ []
@@ -145,6 +146,7 @@ fares_round since p r a e f = record {
   given = f.given;
   later = f.later;
   risen = λ k. subst (λ (x : Pooled). AreRisen since a x.polled) (sym e) tt;
+  asleep = λ k. subst (λ (x : Pooled). AreAsleep a x.polled) (sym e) tt;
 }
 
 -- a run that is not at its end, up to a round, and then another
@@ -232,12 +234,15 @@ wait_steps result p q r s a b c e h m w i = stepped result p s a c i (record { m
 pub begun : (v p q : Pooled) (f : Flight) → v ≡ p → Begins v q f → Begins p q f
 begun v p q f e b = subst (λ (x : Pooled). Begins x q f) e b
 
-pub begun_err : (v p q : Pooled) (first : Waiting) (rest : List Waiting) (link : Option ℕ) (spare : List Spare) → v ≡ p → v.waiting ≡ first ∷ rest → TakesLink first v.spare spare link → q ≡ record v { waiting = rest; spare = spare }
+pub room_as : (v p : Pooled) → v ≡ p → length (in_flight p) < p.links → length (in_flight v) < v.links
+room_as v p e h = subst (λ (x : Pooled). length (in_flight x) < x.links) (sym e) h
+
+pub begun_err : (v p q : Pooled) (first : Waiting) (rest : List Waiting) (link : Option ℕ) (spare : List Spare) → v ≡ p → length (in_flight p) < p.links → v.waiting ≡ first ∷ rest → TakesLink first v.spare spare link → q ≡ record v { waiting = rest; spare = spare }
     → (x : Pooled) × (y : Flight) × Begins p x y × (q ≡ record x { started = p.started }) × (y.exchange.link ≡ link)
-begun_err v p q first rest link spare e w t h = subst (λ (z : Pooled). (x : Pooled) × (y : Flight) × Begins z x y × (q ≡ record x { started = z.started }) × (y.exchange.link ≡ link)) e (
+begun_err v p q first rest link spare e room w t h = subst (λ (z : Pooled). (x : Pooled) × (y : Flight) × Begins z x y × (q ≡ record x { started = z.started }) × (y.exchange.link ≡ link)) e (
   record v { waiting = rest; spare = spare; started = v.started + 1 },
   record { ticket = first.ticket; failed = first.failed; exchange = starting first.address v.limit link },
-  record { first = first; rest = rest; link = link; spare = spare; is_first = w; takes = t; is_new = refl; flight = refl },
+  record { first = first; rest = rest; link = link; spare = spare; room = room_as v p e room; is_first = w; takes = t; is_new = refl; flight = refl },
   h,
   refl,
 )

@@ -23,7 +23,7 @@ pub record ClosesSome (was is : ℕ → ℕ) (wire wire' : WireState) : Type 0 w
   pub dials : wire'.dials ≡ wire.dials
   pub waits : wire'.waits ≡ wire.waits
   pub idle : wire'.idle ≡ wire.idle
-  pub listens : wire'.listens ≡ wire.listens
+  pub door : wire'.door ≡ wire.door
   pub door_stalls : wire'.door_stalls ≡ wire.door_stalls
   pub nature : wire'.nature ≡ wire.nature
 

@@ -1,5 +1,5 @@
 -- A pool goes on: it starts exchanges and polls them, one after another.
-use Rattle.std.specs.Prelude.{ℕ, ◌≡◌, ◌+◌, ◌<◌, ◌≤◌, ◌++◌, List, [], ◌∷◌, Option, Result, Ok, Err, Bool, true, false}
+use Rattle.std.specs.Prelude.{ℕ, ◌≡◌, ◌+◌, ◌<◌, ◌≤◌, ◌++◌, List, [], ◌∷◌, length, Option, Result, Ok, Err, Bool, true, false}
 use Rattle.tpf_base.specs.Links.{WireState}
 use Rattle.exchange.specs.Exchanges.{starting}
 use Rattle.request_pool.specs.declared.asks.Waiting.{Waiting}
@@ -9,15 +9,16 @@ use Rattle.request_pool.specs.declared.fault.Polled.{Polled}
 use Rattle.request_pool.specs.declared.fault.Polled.TheVariants.{Pending, Came, Failed}
 use Rattle.request_pool.specs.declared.fault.PoolFault.{PoolFault}
 use Rattle.request_pool.specs.declared.fault.PoolFault.TheVariants as faults
-use Rattle.request_pool.specs.Pools.{Pooled}
+use Rattle.request_pool.specs.Pools.{Pooled, in_flight}
 use Rattle.request_pool.specs.Polls.{Shuts, TakesLink, FlightTo}
 
--- The first ask that waits becomes an exchange, on a link that was left for its authority or on a fresh one, and one more was started.
+-- Where a place is free, the first ask that waits becomes an exchange, on a link that was left for its authority or on a fresh one, and one more was started.
 pub record Begins (old new : Pooled) (f : Flight) : Type 0 where
   pub first : Waiting
   pub rest : List Waiting
   pub link : Option ℕ
   pub spare : List Spare
+  pub room : length (in_flight old) < old.links
   pub is_first : old.waiting ≡ first ∷ rest
   pub takes : TakesLink first old.spare spare link
   pub is_new : new ≡ record old { waiting = rest; spare = spare; started = old.started + 1 }

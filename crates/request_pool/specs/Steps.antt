@@ -1,5 +1,5 @@
 -- What a step of a pool does and answers.
-use Rattle.std.specs.Prelude.{ℕ, ◌≡◌, ◌≢◌, ◌<◌, ◌≤◌, ◌⊎◌, min, List, [], ◌∷◌, length, Option, Some, None, Result, Ok, Err, IfOk, OnErr, true}
+use Rattle.std.specs.Prelude.{ℕ, ◌≡◌, ◌≢◌, ◌<◌, ◌≤◌, ◌⊎◌, min, List, [], ◌∷◌, length, Option, Some, None, Result, Ok, Err, IfOk, OnErr, true, false}
 use Rattle.std.specs.List.{AllByRecursion}
 use Rattle.std.specs.List.Sorted.{IsPermutation}
 use Rattle.tpf_base.specs.Causes.{Rose, HasCause, counted}
@@ -33,11 +33,17 @@ abbrev pub RisenOn : WireState → WireState → Option ℕ → Type 0
 RisenOn since wire None = ⊥
 RisenOn since wire (Some k) = (k < wire.given) × ((k < since.given → Rose (since.links k).stalls (wire.links k).stalls) × (since.given ≤ k → Rose 0 (wire.links k).stalls))
 
--- No idling: each exchange in flight was polled, as many are in flight as may be, and the stalls of the link of each rose since the moment.
+-- no wait answered the link since the last call on it
+abbrev pub AsleepOn : WireState → Option ℕ → Type 0
+AsleepOn wire None = ⊥
+AsleepOn wire (Some k) = (wire.links k).woken ≡ false
+
+-- No idling: each exchange in flight was polled, as many are in flight as may be, the stalls of the link of each rose since the moment, and no wait answered it since.
 pub record MayWait (since : WireState) (pool : Pooled) (wire : WireState) : Type 0 where
   pub none_due : pool.due ≡ []
   pub full : length pool.polled ≡ min pool.links (length (held pool))
   pub risen : AllByRecursion (λ f. RisenOn since wire f.exchange.link) pool.polled
+  pub asleep : AllByRecursion (λ f. AsleepOn wire f.exchange.link) pool.polled
 
 -- The oldest exchange in flight is given up: its link is closed, and its ask failed for this reason.
 pub record GivesUp (fault : PoolFault) (result : Result Stepped PoolFault) (old new : Pooled) (wire wire' : WireState) : Type 0 where

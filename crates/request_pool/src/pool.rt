@@ -470,6 +470,7 @@ impl Pool {
     /// An exchange for the first ask that waits, on a link that was left for its authority where it
     /// did not fail before. Out of memory, the ask is gone, and the link is to be closed.
     fn begin(&mut self) -> Result<Flight, Option<u64>>
+        requires room { length (in_flight self.old) < self.old.links }
         requires some { self.old.waiting ≢ [] }
         requires budget { self.old.started < self.old.budget }
         ensures ok { IfOk result (λ f. Begins self.old self.new f) }

@@ -7,7 +7,7 @@ use Rattle.exchange.proofs.exchange.Exchange.receive_reply.Goals as goal
 pub returns-in-NotYet-clause-answers : goal.returns-in-NotYet-clause-answers
 returns-in-NotYet-clause-answers g c = let h = c.in-NotYet.ensures.receives in let n = c.in-NotYet.ensures.end_ in
     reply_pending _ _ _ _ _ _ _ h.0 _ _ _ _ c.self.view_is c.requires.link c.requires.sent h.1 (h.2 (λ e. cc)) c.requires.is_open n.0 c.leads.ensures c.what_is_read_is_given.ensures
-    (ap (λ x. x.standing) c.self.view_is ∙ c.requires.underway) n.1 n.3 n.4
+    (ap (λ x. x.standing) c.self.view_is ∙ c.requires.underway) n.1 n.2 n.3 n.4
 
 pub returns-in-Failed-clause-answers : goal.returns-in-Failed-clause-answers
 returns-in-Failed-clause-answers g c = let h = c.in-Failed.ensures.receives in

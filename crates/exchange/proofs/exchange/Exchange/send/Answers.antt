@@ -15,7 +15,7 @@ returns-in-NotYet-clause-answers g c = let v = c.as_slice.ensures.value in let n
     send_pending _ _ _ _ _ _ _ _ _ _ _ _ _ c.self.view_is c.requires.link c.self.invariant.is_request (sends_as _ _ _ _ _ _ _ v (c.in-NotYet.ensures.sends (λ e. cc))) c.requires.is_open
     (ap (λ x. x.standing) c.self.view_is ∙ c.requires.underway)
     (open_reads_more c.what_is_read_is_given.ensures _ _ (ap is_open (sym c.leads.ensures) ∙ c.self.invariant.goes_on (ap (λ x. x.standing) c.self.view_is ∙ c.requires.underway)))
-    (less_as _ _ _ v n.0) n.1 n.3 n.4
+    (less_as _ _ _ v n.0) n.1 n.2 n.3 n.4
 
 pub returns-in-Failed-clause-answers : goal.returns-in-Failed-clause-answers
 returns-in-Failed-clause-answers g c = let v = c.as_slice.ensures.value in
