@@ -1,7 +1,7 @@
 -- Turns, one after another.
 use Rattle.std.proofs.Common.{ℕ, ◌≡◌, ◌≤◌, ◌++◌, Option, List, [], ◌∷◌, map, length, refl, sym, ap, subst, ◌∙◌, append_assoc, ⊎_elim, arith}
 use Rattle.std.specs.Prelude.{◌⊎◌, Result, Ok, Err, OnOk, IfErr, IsErrOf}
-use Rattle.std.specs.List.{Contains}
+use Rattle.std.specs.List.{AllByRecursion, Contains}
 use Rattle.std.proofs.lemmas.List.Elements.{All-nil, All-append}
 use Rattle.std.proofs.lemmas.List.Sorted.{IsPermutation-trans, IsPermutation-append_right}
 use Rattle.tpf_base.specs.Addresses.{Address}
@@ -13,7 +13,7 @@ use Rattle.request_pool.specs.declared.fault.PoolFault.{PoolFault}
 use Rattle.request_pool.specs.declared.fault.PoolFault.TheVariants as pool
 use Rattle.request_pool.specs.Pools.{Pooled, Ask}
 use Rattle.request_pool.specs.Owned.{SuitsWire}
-use Rattle.join_core.specs.Evaluations.{Account, Standing, Terms}
+use Rattle.join_core.specs.Evaluations.{Account, Standing, Terms, HasHome}
 use Rattle.tpf_client.specs.declared.asks.Arrived.{Arrived}
 use Rattle.tpf_client.specs.declared.fault.ClientFault.{ClientFault}
 use Rattle.tpf_client.specs.declared.fault.ClientFault.TheVariants as faults
@@ -25,6 +25,7 @@ use Rattle.tpf_client.specs.Rows.{sink_fault}
 use Rattle.tpf_client.specs.Asking.{Arrives, Stops, AreWaits, ask_of}
 use Rattle.tpf_client.specs.Turns.{Meets, Hands, Gives, Readies, TakesReply, Went, Failed, Owes, OwesMore, asked_in, AreTrue, IsTrueReply}
 use Rattle.tpf_client.proofs.Accounting.{owes-none, owes-then, owes-more, more-then, asked-append, asked-asks, asked-waits, true-first, true-second}
+use Rattle.tpf_client.proofs.Homes.{puts-homes, homes-then, homes-of}
 use Rattle.tpf_client.proofs.Meeting.{meets-came, meets-home, outs-came, outs-address}
 use Rattle.tpf_client.proofs.Turning.{give-meets, give-outs}
 use Rattle.tpf_client.proofs.Traveling.{no-events, travels-then, travels-allowed, puts-travel, puts-suit}
@@ -126,7 +127,7 @@ never-sink arrived version (Err f) h e = no-sink f f refl (λ s. sink-take arriv
 
 -- ---- events in which nothing is asked
 
-asked-last : (before : List Event) (event : Event) → AreWaits before → asked_in (event ∷ []) ≡ [] → asked_in (before ++ event ∷ []) ≡ []
+pub asked-last : (before : List Event) (event : Event) → AreWaits before → asked_in (event ∷ []) ≡ [] → asked_in (before ++ event ∷ []) ≡ []
 asked-last before event w e = asked-append before (event ∷ []) ∙ (ap (λ (l : List Ask). l ++ asked_in (event ∷ [])) (asked-waits before w) ∙ e)
 
 true-last : (is_true : Address → Page → Type 0) (version : Option ℕ) (before : List Event) (event : Event) → AreTrue is_true version (before ++ event ∷ []) → IsTrueReply is_true version event
@@ -138,6 +139,7 @@ module _ {Source Eval : Type 0} (suits : Source → Eval → Type 0) (account : 
     travels = no-events allows p w;
     on_wire = s;
     meets = λ terms m. m;
+    homes = λ terms m. tt;
     width = λ terms m. All-nil (λ row. length row ≡ terms.width);
     stays = λ source t. record { is_suited = t.is_suited; is_out = t.is_out; owes = owes-none (account source e) };
   }
@@ -149,6 +151,9 @@ module _ {Source Eval : Type 0} (suits : Source → Eval → Type 0) (account : 
     travels = puts-travel allows asked p q w h.puts s l;
     on_wire = puts-suit asked p q w h.puts s;
     meets = λ terms m. h.meets terms (give-meets suits account keeps standing a b rows p terms g m);
+    homes = λ terms m.
+        homes-of (λ ask. HasHome terms.homes ask.address) (map Asked asked) asked (asked-asks asked)
+        (puts-homes (λ ask. HasHome terms.homes ask.address) asked p q h.puts (h.meets terms (give-meets suits account keeps standing a b rows p terms g m)).homes);
     width = λ terms m. g.width terms m.kept;
     stays = λ source t.
         let mid = g.stays source t.is_suited in
@@ -181,6 +186,7 @@ module _ {Source Eval : Type 0} (suits : Source → Eval → Type 0) (account : 
         on_wire = h.suits;
         meets = λ terms m. meets-came terms (keeps terms a) (standing a) p (keeps terms b) (standing b) q (ask_of arrived) m h.others t.ends h.no_fault
             (t.kept terms m.kept (meets-home terms (keeps terms a) (standing a) p q (ask_of arrived) m h.others));
+        homes = λ terms m. homes-of (λ ask. HasHome terms.homes ask.address) (h.before ++ Came (ask_of arrived) arrived.reply ∷ []) [] none tt;
         width = λ terms m. All-nil (λ row. length row ≡ terms.width);
         stays = λ source truth.
             let true_ : is_true source arrived.address t.page = true-last (is_true source) version h.before (Came (ask_of arrived) arrived.reply) truth.pages t.page t.taken t.is_version in
@@ -211,6 +217,7 @@ module _ {Source Eval : Type 0} (suits : Source → Eval → Type 0) (account : 
     travels = travels-then allows first second p q r u v w f.travels (travels-allowed allows later second q r v w same s.travels);
     on_wire = s.on_wire;
     meets = λ terms m. s.meets terms (f.meets terms m);
+    homes = λ terms m. homes-then (λ ask. HasHome terms.homes ask.address) first second (f.homes terms m) (s.homes terms (f.meets terms m));
     width = λ terms m. All-append (λ row. length row ≡ terms.width) rows more (f.width terms m) (s.width terms (f.meets terms m));
     stays = λ source t.
         let x = f.stays source (record { is_suited = t.is_suited; is_out = t.is_out; pages = true-first (is_true source) version first second t.pages }) in
@@ -231,6 +238,7 @@ module _ {Source Eval : Type 0} (suits : Source → Eval → Type 0) (account : 
     travels = g.travels;
     on_wire = g.on_wire;
     explains = e;
+    homes = g.homes;
     owes = λ source t. let x = g.stays source t in owes-more (account source a) (account source b) rows (asked_in events) x.owes;
   }
 
@@ -241,6 +249,7 @@ module _ {Source Eval : Type 0} (suits : Source → Eval → Type 0) (account : 
     travels = t;
     on_wire = s;
     explains = e;
+    homes = λ terms m. homes-of (λ ask. HasHome terms.homes ask.address) events [] none tt;
     owes = λ source truth. subst (λ (l : List Ask). OwesMore (account source a) [] l) (sym none) (owes-more (account source a) (account source a) [] [] (owes-none (account source a)));
   }
 
@@ -275,6 +284,7 @@ module _ {Source Eval : Type 0} (suits : Source → Eval → Type 0) (account : 
     travels = travels-then allows first second p q r u v w f.travels (travels-allowed allows later second q r v w same s.travels);
     on_wire = s.on_wire;
     explains = explains-later version budget fault first second s.explains;
+    homes = λ terms m. homes-then (λ ask. HasHome terms.homes ask.address) first second (f.homes terms m) (s.homes terms (f.meets terms m));
     owes = λ source t.
         let x = f.stays source (record { is_suited = t.is_suited; is_out = t.is_out; pages = true-first (is_true source) version first second t.pages }) in
         let y = s.owes source (record { is_suited = x.is_suited; is_out = x.is_out; pages = true-second (is_true source) version first second t.pages }) in

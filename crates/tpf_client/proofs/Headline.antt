@@ -54,7 +54,7 @@ module _ (laws : Laws) (allows : List ℕ → ℕ → List ℕ → List ℕ → 
   all-of events pool r = all-answers allows laws.puts laws.steps laws.faults history config honest.is_honest events (empty_pool options.links options.retries options.budget options.max_body) pool since r.between begins-so r.travels
 
   -- the world of the start page
-  world-of : (first later : List Event) (pool : Pooled) → RunsPool allows options since now (first ++ later) pool → (reads : ReadsStart start first)
+  pub world-of : (first later : List Event) (pool : Pooled) → RunsPool allows options since now (first ++ later) pool → (reads : ReadsStart start first)
       → (version : ℕ) × IsVersionOf history version × (reads.page.version ≡ Some version) × IsWorldOf (server_world (version_of history version) config) reads.page.form reads.page.version later
   world-of first later pool r reads =
       let all = all-of (first ++ later) pool r in
@@ -87,7 +87,7 @@ module _ (laws : Laws) (allows : List ℕ → ℕ → List ℕ → List ℕ → 
         rows_are = g.rows_are;
       }
 
-  first-version : IsVersionOf history 1
+  pub first-version : IsVersionOf history 1
   first-version = record { low = omega arith; high = honest.is_history.low }
 
   pub front-written : (q : QueryData) (budget : ℕ) (fault : ClientFault) (t u : Option (List ℕ)) → WritesSome (RunsPool allows options since now) q start budget fault t u → WritesSolutionsFront history q t u

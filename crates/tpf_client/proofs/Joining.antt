@@ -16,16 +16,19 @@ use Rattle.join_core.specs.Nodes.{plan}
 use Rattle.join_core.specs.Joins.{JoinData, Suits, Begins, tickets_out}
 use Rattle.join_core.specs.Sound.{KeepsTo}
 use Rattle.join_core.specs.JoinAccounts.{account_of, standing_of}
-use Rattle.join_core.specs.JoinLaws.{done-owes-nothing}
+use Rattle.join_core.specs.JoinLaws.{done-owes-nothing, done-is-quiet}
 use Rattle.join_core.specs.Evaluations.{Account, Terms, HasHome, nothing}
 use Rattle.tpf_client.specs.declared.fault.ClientFault.{ClientFault}
 use Rattle.tpf_client.specs.Traffic.{Event, is_under, AreDistinct}
 use Rattle.tpf_client.specs.Turns.{Meets, IsOut, IsTruth, Went, Failed, address_of, asked_in, is_number, is_pair}
 use Rattle.tpf_client.specs.Calls.{Joins, JoinsSome, IsWorldOf, no_names_bound, solutions_of}
 use Rattle.tpf_client.proofs.Distinct.{none-distinct}
+use Rattle.tpf_client.proofs.Homes.{asks-home}
+use Rattle.tpf_client.proofs.Meeting.{quiet-holds-none}
 
+-- the form's pages are the one home of the asks
 abbrev terms-of : Address → QueryData → Terms
-terms-of start q = record { homes = start ∷ []; width = length q.names }
+terms-of home q = record { homes = home ∷ []; width = length q.names }
 
 none-held-distinct : (pool : Pooled) → held pool ≡ [] → AreDistinct (held pool)
 none-held-distinct pool e = subst (λ (l : List Ask). AreDistinct l) (sym e) none-distinct
@@ -61,16 +64,22 @@ all-given w q a rows x p b o e = subst (λ (l : List Places). IsPermutation x l)
 all-asked : (a : Account) (asked x : List Address) → IsPermutation x a.left → (b : Account) → IsPermutation a.left (asked ++ b.left) → b.left ≡ [] → IsPermutation x asked
 all-asked a asked x p b o e = subst (λ (l : List Address). IsPermutation x l) (append-nil asked) (subst (λ (l : List Address). IsPermutation x (asked ++ l)) e (IsPermutation-trans x a.left (asked ++ b.left) p o))
 
-module _ (allows : List ℕ → ℕ → List ℕ → List ℕ → Type 0) (q : QueryData) (form : Form) (version : Option ℕ) (start : Address) (j : JoinData) (old new : Pooled) (wire wire' : WireState) (none : held old ≡ []) (no_fault : old.fault ≡ None) (none_out : tickets_out j ≡ [])
-    (keeps : KeepsTo (record { homes = start ∷ []; width = length q.names }) j) (begins : (w : World) → IsWorldOf w form version [] → Begins w q.patterns (no_names_bound q) j) where
+module _ (allows : List ℕ → ℕ → List ℕ → List ℕ → Type 0) (q : QueryData) (form : Form) (version : Option ℕ) (j : JoinData) (old new : Pooled) (wire wire' : WireState) (none : held old ≡ []) (no_fault : old.fault ≡ None) (none_out : tickets_out j ≡ [])
+    (keeps : KeepsTo (record { homes = form.template.start ∷ []; width = length q.names }) j) (begins : (w : World) → IsWorldOf w form version [] → Begins w q.patterns (no_names_bound q) j) where
   begins-in : (w : World) (events : List Event) → IsWorldOf w form version events → Begins w q.patterns (no_names_bound q) j
   begins-in w events is = begins w (record { world = is.world; form_is = is.form_is; pages = tt })
+
+  begun-so : Meets (terms-of form.template.start q) (KeepsTo (terms-of form.template.start q) j) (standing_of j) old
+  begun-so = begins-meets (terms-of form.template.start q) j old keeps none_out none no_fault
 
   pub joins-of : (k : JoinData) (events : List Event) (rows : List Places) → (standing_of k).done ≡ true → Went Suits account_of KeepsTo standing_of IsPageAt allows j k version events rows old new wire wire' → Joins allows q form version events rows old new wire wire'
   joins-of k events rows done went = record {
     travels = went.travels;
     on_wire = went.on_wire;
-    width = went.width (terms-of start q) (begins-meets (terms-of start q) j old keeps none_out none no_fault);
+    asks = asks-home form.template.start events (went.homes (terms-of form.template.start q) begun-so);
+    none_held = quiet-holds-none (terms-of form.template.start q) (KeepsTo (terms-of form.template.start q) k) (standing_of k) new (went.meets (terms-of form.template.start q) begun-so) (done-is-quiet k done).0;
+    no_fault = (went.meets (terms-of form.template.start q) begun-so).no_fault;
+    width = went.width (terms-of form.template.start q) begun-so;
     gives = λ w is.
         let b = begins-in w events is in
         let s = went.stays w (truth-of w q form version events j old none b is) in
@@ -86,6 +95,7 @@ module _ (allows : List ℕ → ℕ → List ℕ → List ℕ → Type 0) (q : Q
     travels = failed.travels;
     on_wire = failed.on_wire;
     explains = failed.explains;
+    asks = asks-home form.template.start events (failed.homes (terms-of form.template.start q) begun-so);
     gives = λ w is.
         let b = begins-in w events is in
         let o = failed.owes w (truth-of w q form version events j old none b is) in

@@ -45,6 +45,10 @@ empty-out : (out : List ℕ) → ((t : ℕ) → sum_by (is_number t) out ≡ 0) 
 empty-out [] h = refl
 empty-out (u ∷ out) h = absurd (let c = sum_by-cons (is_number u) u out in let o = number-is u u refl in let z = h u in omega arith)
 
+none-under-all : (asks : List Ask) → ((t : ℕ) → sum_by (is_under t) asks ≡ 0) → asks ≡ []
+none-under-all [] h = refl
+none-under-all (a ∷ asks) h = absurd (let c = sum_by-cons (is_under a.ticket) a asks in let u = under a.ticket a refl in let z = h a.ticket in omega arith)
+
 module _ (terms : Terms) (K : Type 0) (s : Standing) (pool : Pooled) where
   pub meets-fresh : (ticket : ℕ) → Meets terms K s pool → All (λ t. t < s.given) s.out → ticket ≡ s.given → AllByRecursion (λ a. a.ticket ≢ ticket) (held pool)
   meets-fresh ticket m below e =
@@ -92,6 +96,10 @@ module _ (terms : Terms) (K : Type 0) (s : Standing) (pool : Pooled) where
       let done : s.done ≡ true = quiet none w in
       let f : false ≡ true = sym d ∙ done in
       cc
+
+  -- where no ticket is out, no ask is held
+  pub quiet-holds-none : Meets terms K s pool → s.out ≡ [] → held pool ≡ []
+  quiet-holds-none m e = none-under-all (held pool) (λ t. m.tickets t ∙ ap (λ (l : List ℕ). sum_by (is_number t) l) e)
 
   pub meets-out : (pool' : Pooled) (ask : Ask) → Meets terms K s pool → IsPermutation (held pool) (ask ∷ held pool') → Contains s.out ask.ticket
   meets-out pool' ask m others =

@@ -18,6 +18,11 @@ pub if-ok : {A B : Type 0} (r : Result A B) (P Q : A → Type 0) → ((x : A) �
 if-ok (Ok x) P Q f p = f x p
 if-ok (Err e) P Q f p = tt
 
+-- the same, with what is known before what is made of it
+pub if-ok-from : {A B : Type 0} (r : Result A B) (P Q : A → Type 0) → IfOk r P → ((x : A) → P x → Q x) → IfOk r Q
+if-ok-from (Ok x) P Q p f = f x p
+if-ok-from (Err e) P Q p f = tt
+
 pub if-err : {A B : Type 0} (r : Result A B) (P Q : B → Type 0) → ((x : B) → P x → Q x) → IfErr r P → IfErr r Q
 if-err (Ok x) P Q f p = tt
 if-err (Err e) P Q f p = f e p
@@ -65,6 +70,9 @@ module _ (ran ran' : List Event → Pooled → Type 0) (goes : (events : List Ev
     pool = r.pool;
     runs = goes (r.first ++ r.later) r.pool r.runs;
     reads = r.reads;
+    asks = r.asks;
+    none_held = r.none_held;
+    no_fault = r.no_fault;
     is_version = r.is_version;
     requests = r.requests;
     count = r.count;
@@ -76,9 +84,9 @@ module _ (ran ran' : List Event → Pooled → Type 0) (goes : (events : List Ev
   writes-all-so q start report t u w = record { rows = w.rows; returns = returns-so q start report w.rows w.returns; text = w.text }
 
   pub writes-some-so : (q : QueryData) (start : Address) (budget : ℕ) (fault : ClientFault) (t u : Option (List ℕ)) → WritesSome ran q start budget fault t u → WritesSome ran' q start budget fault t u
-  writes-some-so q start budget fault t u (Before b) = Before (record { events = b.events; pool = b.pool; runs = goes b.events b.pool b.runs; explains = b.explains; nothing = b.nothing })
-  writes-some-so q start budget fault t u (Behind b) = Behind (record { first = b.first; later = b.later; pool = b.pool; runs = goes (b.first ++ b.later) b.pool b.runs; reads = b.reads; explains = b.explains; rows = b.rows; gives = b.gives; text = b.text })
-  writes-some-so q start budget fault t u (AtEnd b) = AtEnd (record { first = b.first; later = b.later; pool = b.pool; runs = goes (b.first ++ b.later) b.pool b.runs; reads = b.reads; explains = b.explains; rows = b.rows; gives = b.gives; text = b.text })
+  writes-some-so q start budget fault t u (Before b) = Before (record { events = b.events; pool = b.pool; runs = goes b.events b.pool b.runs; asked = b.asked; explains = b.explains; nothing = b.nothing })
+  writes-some-so q start budget fault t u (Behind b) = Behind (record { first = b.first; later = b.later; pool = b.pool; runs = goes (b.first ++ b.later) b.pool b.runs; reads = b.reads; asks = b.asks; explains = b.explains; rows = b.rows; gives = b.gives; text = b.text })
+  writes-some-so q start budget fault t u (AtEnd b) = AtEnd (record { first = b.first; later = b.later; pool = b.pool; runs = goes (b.first ++ b.later) b.pool b.runs; reads = b.reads; asks = b.asks; explains = b.explains; rows = b.rows; gives = b.gives; text = b.text })
 
 -- what the pool held is closed
 pub ran-closed : (allows : List ℕ → ℕ → List ℕ → List ℕ → Type 0) (options : Options) (begun new : Pooled) (since between now : WireState) → begun ≡ empty_pool options.links options.retries options.budget options.max_body → ClosesSome (held_on new) (λ k. 0) between now

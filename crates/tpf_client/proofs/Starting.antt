@@ -1,5 +1,5 @@
 -- The start is asked for, and its page comes.
-use Rattle.std.proofs.Common.{ℕ, ◌≡◌, ◌≢◌, ◌++◌, List, [], ◌∷◌, Option, length, refl, sym, ap, subst, ◌∙◌}
+use Rattle.std.proofs.Common.{ℕ, ◌≡◌, ◌≢◌, ◌⊎◌, inl, inr, ◌++◌, List, [], ◌∷◌, Option, length, refl, sym, ap, subst, ◌∙◌}
 use Rattle.std.specs.Prelude.{Result, Ok, Err}
 use Rattle.std.specs.List.Sorted.{IsPermutation}
 use Rattle.std.proofs.lemmas.List.Sorted.{IsPermutation-sym, IsPermutation-trans, length_permutation, Contains-permutation}
@@ -23,7 +23,8 @@ use Rattle.tpf_client.specs.Starts.{Starts, HasNoStart, start_ask}
 use Rattle.tpf_client.proofs.Traveling.{travels-then, one-event, no-events}
 use Rattle.tpf_client.proofs.Waiting.{empty-list}
 use Rattle.tpf_client.proofs.Distinct.{put-held}
-use Rattle.tpf_client.proofs.Going.{explains-later, explains-stop}
+use Rattle.tpf_client.specs.Turns.{asked_in}
+use Rattle.tpf_client.proofs.Going.{asked-last, explains-later, explains-stop}
 
 -- ---- steps, by what they came to
 
@@ -59,7 +60,7 @@ module _ (allows : List ℕ → ℕ → List ℕ → List ℕ → Type 0) (start
   explains-read version faults.Sink arrived before e = absurd e
   explains-read version faults.OutOfMemory arrived before e = tt
 
-  pub start-read : (r : Result Page ClientFault) (arrived : Arrived) → Arrives allows arrived p q v w → ReadsPage arrived r → IsPermutation (held p) (start_ask start ∷ []) → Starts allows start budget r p q v w
+  pub start-read : (r : Result Page ClientFault) (arrived : Arrived) → Arrives allows arrived p q v w → ReadsPage arrived r → IsPermutation (held p) (start_ask start ∷ []) → Starts allows start [] budget r p q v w
   start-read (Ok page) arrived h r one =
       let is = arrived-is arrived h one in
       record {
@@ -67,6 +68,7 @@ module _ (allows : List ℕ → ℕ → List ℕ → List ℕ → Type 0) (start
         travels = h.travels;
         reply = arrived.reply;
         last = record { before = h.before; is_last = ap (λ (a : Ask). h.before ++ Came a arrived.reply ∷ []) is.0 };
+        asked_are = asked-last h.before (Came (ask_of arrived) arrived.reply) h.waits refl;
         taken = subst (λ (x : Address). Takes arrived.reply.body x page) (ap (λ (a : Ask). a.address) is.0) r;
         none = is.1;
         no_fault = h.no_fault;
@@ -76,22 +78,25 @@ module _ (allows : List ℕ → ℕ → List ℕ → List ℕ → Type 0) (start
     events = h.before ++ Came (ask_of arrived) arrived.reply ∷ [];
     travels = h.travels;
     explains = λ version. explains-read version fault arrived h.before r;
+    asked_are = inl (asked-last h.before (Came (ask_of arrived) arrived.reply) h.waits refl);
     suits = h.suits;
   }
 
-  pub start-stop : (shown : PoolFault) → Stops allows shown p q v w → HasNoStart allows start budget (shown_as budget shown) p q v w
+  pub start-stop : (shown : PoolFault) → Stops allows shown p q v w → HasNoStart allows start [] budget (shown_as budget shown) p q v w
   start-stop shown h = record {
     events = h.before ++ Broke h.fault ∷ [];
     travels = h.travels;
     explains = λ version. explains-stop version budget shown h.fault h.before h.is_shown;
+    asked_are = inl (asked-last h.before (Broke h.fault) h.waits refl);
     suits = h.suits;
   }
 
-  pub start-shown : (shown : PoolFault) (x : ClientFault) → x ≡ shown_as budget shown → Stops allows shown p q v w → HasNoStart allows start budget x p q v w
-  start-shown shown x e h = subst (λ (f : ClientFault). HasNoStart allows start budget f p q v w) (sym e) (start-stop shown h)
+  pub start-shown : (shown : PoolFault) (x : ClientFault) → x ≡ shown_as budget shown → Stops allows shown p q v w → HasNoStart allows start [] budget x p q v w
+  start-shown shown x e h = subst (λ (f : ClientFault). HasNoStart allows start [] budget f p q v w) (sym e) (start-stop shown h)
 
-pub start-nothing : (allows : List ℕ → ℕ → List ℕ → List ℕ → Type 0) (start : Address) (budget : ℕ) (p q : Pooled) (v : WireState) → q ≡ p → SuitsWire p v → HasNoStart allows start budget faults.OutOfMemory p q v v
-start-nothing allows start budget p q v e s = subst (λ (x : Pooled). HasNoStart allows start budget faults.OutOfMemory p x v v) (sym e) (record { events = []; travels = no-events allows p v; explains = λ version. tt; suits = s })
+pub start-nothing : (allows : List ℕ → ℕ → List ℕ → List ℕ → Type 0) (start : Address) (asked : List Ask) (budget : ℕ) (p q : Pooled) (v : WireState) → q ≡ p → SuitsWire p v → HasNoStart allows start asked budget faults.OutOfMemory p q v v
+start-nothing allows start asked budget p q v e s =
+    subst (λ (x : Pooled). HasNoStart allows start asked budget faults.OutOfMemory p x v v) (sym e) (record { events = []; travels = no-events allows p v; explains = λ version. tt; asked_are = inr refl; suits = s })
 
 pub some-held : (start : Address) (p : Pooled) → IsPermutation (held p) (start_ask start ∷ []) → held p ≢ []
 some-held start p h e = let l = length_permutation (held p) (start_ask start ∷ []) h in let n : length {A = Ask} (start_ask start ∷ []) ≡ length {A = Ask} [] = l ∙ ap (λ (x : List Ask). length x) e in cc
@@ -100,17 +105,22 @@ some-held start p h e = let l = length_permutation (held p) (start_ask start ∷
 pub start-held : (start : Address) (p q : Pooled) → held p ≡ [] → PutsOne (start_ask start) p q → IsPermutation (held q) (start_ask start ∷ [])
 start-held start p q e h = subst (λ (l : List Ask). IsPermutation (held q) (start_ask start ∷ l)) e (put-held (start_ask start) p q h.puts)
 
+either-none : (asked : List Ask) → (asked ≡ []) ⊎ (asked ≡ []) → asked ≡ []
+either-none asked (inl e) = e
+either-none asked (inr e) = e
+
 module _ (allows : List ℕ → ℕ → List ℕ → List ℕ → Type 0) (start : Address) (budget : ℕ) (p q r : Pooled) (v w : WireState) where
   put-moves : PutsOne (start_ask start) p q → SuitsWire p v → IsLawful allows v → Moves allows (Asked (start_ask start)) p q v v
   put-moves h s l = record { happens = (h.puts, refl); suits = h.suits v s; distinct = h.distinct; bounds = h.bounds; lawful = l }
 
-  pub starts-put : (result : Result Page ClientFault) → PutsOne (start_ask start) p q → SuitsWire p v → IsLawful allows v → Starts allows start budget result q r v w → Starts allows start budget result p r v w
+  pub starts-put : (result : Result Page ClientFault) → PutsOne (start_ask start) p q → SuitsWire p v → IsLawful allows v → Starts allows start [] budget result q r v w → Starts allows start (start_ask start ∷ []) budget result p r v w
   starts-put (Ok page) h s l k = record {
     events = Asked (start_ask start) ∷ [] ++ k.events;
     travels = travels-then allows (Asked (start_ask start) ∷ []) k.events p q r v v w (one-event allows (Asked (start_ask start)) p q v v (put-moves h s l)) k.travels;
     reply = k.reply;
     last = record { before = Asked (start_ask start) ∷ k.last.before; is_last = ap (λ (x : List Event). Asked (start_ask start) ∷ x) k.last.is_last };
     taken = k.taken;
+    asked_are = ap (λ (l : List Ask). start_ask start ∷ l) k.asked_are;
     none = k.none;
     no_fault = k.no_fault;
     suits = k.suits;
@@ -119,5 +129,6 @@ module _ (allows : List ℕ → ℕ → List ℕ → List ℕ → Type 0) (start
     events = Asked (start_ask start) ∷ [] ++ k.events;
     travels = travels-then allows (Asked (start_ask start) ∷ []) k.events p q r v v w (one-event allows (Asked (start_ask start)) p q v v (put-moves h s l)) k.travels;
     explains = λ version. explains-later version budget fault (Asked (start_ask start) ∷ []) k.events (k.explains version);
+    asked_are = inl (ap (λ (l : List Ask). start_ask start ∷ l) (either-none (asked_in k.events) k.asked_are));
     suits = k.suits;
   }

@@ -1,5 +1,5 @@
 -- The start page, and then the rest of a call.
-use Rattle.std.proofs.Common.{ℕ, ◌++◌, List, [], Option, refl}
+use Rattle.std.proofs.Common.{ℕ, ◌++◌, List, [], ◌∷◌, Option, refl}
 use Rattle.std.specs.Prelude.{Result, Ok, Err, IfOk, IfErr}
 use Rattle.std.proofs.lemmas.List.Sorted.{IsPermutation-refl}
 use Rattle.template_fill.specs.declared.form.Form.{Form}
@@ -16,15 +16,18 @@ use Rattle.tpf_client.specs.declared.options.Report.{Report}
 use Rattle.tpf_client.specs.declared.fault.ClientFault.{ClientFault}
 use Rattle.tpf_client.specs.declared.fault.ClientFault.TheVariants as faults
 use Rattle.tpf_client.specs.Traffic.{Event, Travels}
-use Rattle.tpf_client.specs.Starts.{HasStart, HasNoStart}
+use Rattle.template_fill.specs.Authorities.{ShareAuthority}
+use Rattle.tpf_client.specs.Turns.{AsksAt}
+use Rattle.tpf_client.specs.Starts.{HasStart, HasNoStart, start_ask}
+use Rattle.tpf_client.proofs.Homes.{asks-behind}
 use Rattle.tpf_client.specs.Calls.{Ran, Returns, ReadsStart, WritesAll, WritesSome, WritesRest, WritesLess, PartOf, WholeOf, GathersRest, Before, Behind, AtEnd, WritesResult, WritesPrefix, JoinsSome, solutions_of, no_names_bound}
 use Rattle.tpf_client.proofs.Traveling.{travels-then, travels-allowed}
 use Rattle.tpf_client.proofs.Traveling.{no-events}
 use Rattle.tpf_client.proofs.Texts.{same-written, nothing-written, rows-more}
 
-module _ (allows between-allows : List ℕ → ℕ → List ℕ → List ℕ → Type 0) (same : SameAllowed allows between-allows) (q : QueryData) (start : Address) (page : Page) (old mid new : Pooled) (wire between wire' : WireState) (s : HasStart allows start page old mid wire between) where
+module _ (allows between-allows : List ℕ → ℕ → List ℕ → List ℕ → Type 0) (same : SameAllowed allows between-allows) (q : QueryData) (start : Address) (page : Page) (old mid new : Pooled) (wire between wire' : WireState) (s : HasStart allows start (start_ask start ∷ []) page old mid wire between) (home : ShareAuthority start page.form.template.start) where
   abbrev reads-of : ReadsStart start s.events
-  reads-of = record { reply = s.reply; last = s.last; page = page; taken = s.taken }
+  reads-of = record { asked = s.asked_are; reply = s.reply; last = s.last; page = page; taken = s.taken }
 
   ran-of : (later : List Event) → Travels between-allows later mid new between wire' → SuitsWire new wire' → Ran allows old new wire wire' (s.events ++ later) new
   ran-of later t w = record {
@@ -32,6 +35,9 @@ module _ (allows between-allows : List ℕ → ℕ → List ℕ → List ℕ →
     travels = travels-then allows s.events later old mid new wire between wire' s.travels (travels-allowed allows between-allows later mid new between wire' same t);
     on_wire = w;
   }
+
+  asked-behind : (later : List Event) → AsksAt page.form.template.start later → AsksAt start (s.events ++ later)
+  asked-behind later a = asks-behind start page.form.template.start s.events later home s.asked_are a
 
   pub all-written : (report : Report) (t u : Option (List ℕ)) → WritesRest between-allows q page.form page.version report mid new between wire' t u → WritesAll (Ran allows old new wire wire') q start report t u
   all-written report t u w = record {
@@ -42,6 +48,9 @@ module _ (allows between-allows : List ℕ → ℕ → List ℕ → List ℕ →
       pool = new;
       runs = ran-of w.events w.joins.travels w.joins.on_wire;
       reads = reads-of;
+      asks = asked-behind w.events w.joins.asks;
+      none_held = w.joins.none_held;
+      no_fault = w.joins.no_fault;
       is_version = w.is_version;
       requests = w.requests;
       count = w.count;
@@ -58,6 +67,7 @@ module _ (allows between-allows : List ℕ → ℕ → List ℕ → List ℕ →
     pool = new;
     runs = ran-of events j.travels j.on_wire;
     reads = reads-of;
+    asks = asked-behind events j.asks;
     explains = j.explains;
     rows = rows;
     gives = j.gives;
@@ -69,6 +79,7 @@ module _ (allows between-allows : List ℕ → ℕ → List ℕ → List ℕ →
     pool = new;
     runs = ran-of events j.travels j.on_wire;
     reads = reads-of;
+    asks = asked-behind events j.asks;
     explains = e;
     rows = rows;
     gives = j.gives;
@@ -82,6 +93,9 @@ module _ (allows between-allows : List ℕ → ℕ → List ℕ → List ℕ →
     pool = new;
     runs = ran-of w.events w.joins.travels w.joins.on_wire;
     reads = reads-of;
+    asks = asked-behind w.events w.joins.asks;
+    none_held = w.joins.none_held;
+    no_fault = w.joins.no_fault;
     is_version = w.is_version;
     requests = w.requests;
     count = w.count;
@@ -104,6 +118,7 @@ nothing-joined allows q form version budget p w s = record {
   travels = no-events allows p w;
   on_wire = s;
   explains = tt;
+  asks = tt;
   gives = λ world is. record {
     more = solutions_of world.triples q;
     rows_are = IsPermutation-refl (solutions_of world.triples q);
@@ -115,11 +130,12 @@ nothing-joined allows q form version budget p w s = record {
 pub nothing-begun : (allows : List ℕ → ℕ → List ℕ → List ℕ → Type 0) (q : QueryData) (form : Form) (version : Option ℕ) (budget : ℕ) (p : Pooled) (w : WireState) (t : Option (List ℕ)) → SuitsWire p w → WritesLess allows q form version budget faults.OutOfMemory p p w w t t
 nothing-begun allows q form version budget p w t s = PartOf [] [] (nothing-joined allows q form version budget p w s) (nothing-written _ t)
 
-pub none-written : (allows : List ℕ → ℕ → List ℕ → List ℕ → Type 0) (q : QueryData) (start : Address) (budget : ℕ) (fault : ClientFault) (old new : Pooled) (wire wire' : WireState) (t : Option (List ℕ)) → HasNoStart allows start budget fault old new wire wire' → WritesSome (Ran allows old new wire wire') q start budget fault t t
+pub none-written : (allows : List ℕ → ℕ → List ℕ → List ℕ → Type 0) (q : QueryData) (start : Address) (budget : ℕ) (fault : ClientFault) (old new : Pooled) (wire wire' : WireState) (t : Option (List ℕ)) → HasNoStart allows start (start_ask start ∷ []) budget fault old new wire wire' → WritesSome (Ran allows old new wire wire') q start budget fault t t
 none-written allows q start budget fault old new wire wire' t s = Before (record {
   events = s.events;
   pool = new;
   runs = record { is_pool = refl; travels = s.travels; on_wire = s.suits };
+  asked = s.asked_are;
   explains = s.explains;
   nothing = refl;
 })

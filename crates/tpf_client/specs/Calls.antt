@@ -1,7 +1,7 @@
 -- What a call promises.
-use Rattle.std.specs.Prelude.{ℕ, ◌≡◌, ◌≢◌, ◌≤◌, ◌++◌, List, map, length, replicate, Option, None, true, false}
+use Rattle.std.specs.Prelude.{ℕ, ◌≡◌, ◌≢◌, ◌≤◌, ◌⊎◌, ◌++◌, List, [], ◌∷◌, map, length, replicate, Option, None, Bool, true, false}
 use Rattle.std.specs.Io.KnownBytes.{Appends}
-use Rattle.std.specs.List.{All}
+use Rattle.std.specs.List.{All, Contains}
 use Rattle.std.specs.List.Sorted.{IsPermutation}
 use Rattle.rdf_terms.specs.declared.term.Triple.{Triple}
 use Rattle.tpf_base.specs.Addresses.{Address}
@@ -9,14 +9,21 @@ use Rattle.tpf_base.specs.Causes.{Rose, counted_by}
 use Rattle.tpf_base.specs.Links.{WireState}
 use Rattle.tpf_base.specs.Wrote.{AppendsPrefix}
 use Rattle.template_fill.specs.declared.form.Form.{Form}
+use Rattle.tpf_base.specs.HttpReply as replies
+use Rattle.tpf_base.specs.HttpReply.{reply_of}
+use Rattle.http_wire.specs.Replies.{shown_fault}
 use Rattle.http_wire.specs.declared.message.Reply.{Reply}
+use Rattle.http_wire.specs.declared.message.ReplyFault.{ReplyFault}
+use Rattle.link_calls.specs.Sending.{Holds}
+use Rattle.pool_laws.specs.Causes.{RepliedOn}
 use Rattle.control_reader.specs.declared.page.Page.{Page}
+use Rattle.control_reader.specs.declared.page.PageFault.{PageFault}
 use Rattle.control_reader.specs.Takes.{Takes, Faults}
 use Rattle.bgp_core.specs.Queries.{QueryData}
 use Rattle.bgp_core.specs.Solutions.{Places, solutions}
 use Rattle.result_json.specs.Results.{result_text}
 use Rattle.result_json.specs.Pieces.{front_text, rows_text}
-use Rattle.request_pool.specs.Pools.{Pooled, empty_pool}
+use Rattle.request_pool.specs.Pools.{Pooled, Ask, empty_pool, held}
 use Rattle.request_pool.specs.Owned.{SuitsWire, held_on}
 use Rattle.request_pool.specs.Closing.{ClosesSome}
 use Rattle.join_core.specs.Worlds.{World, IsWorld, HasForm, IsPageAt}
@@ -28,7 +35,7 @@ use Rattle.tpf_client.specs.declared.fault.ClientFault.TheVariants as faults
 use Rattle.tpf_client.specs.Traffic.{Event, Came, Travels, EndsWith}
 use Rattle.tpf_client.specs.Causes.{Explains}
 use Rattle.tpf_client.specs.Starts.{start_ask}
-use Rattle.tpf_client.specs.Turns.{AreTrue, asked_in, address_of}
+use Rattle.tpf_client.specs.Turns.{AreTrue, AsksAt, asked_in, address_of}
 
 -- ---- the text
 
@@ -74,6 +81,9 @@ pub record IsWorldOf (w : World) (form : Form) (version : Option ℕ) (events : 
 pub record Joins (allows : List ℕ → ℕ → List ℕ → List ℕ → Type 0) (q : QueryData) (form : Form) (version : Option ℕ) (events : List Event) (rows : List Places) (old new : Pooled) (wire wire' : WireState) : Type 0 where
   pub travels : Travels allows events old new wire wire'
   pub on_wire : SuitsWire new wire'
+  pub asks : AsksAt form.template.start events
+  pub none_held : held new ≡ []
+  pub no_fault : new.fault ≡ None
   pub width : All (λ row. length row ≡ length q.names) rows
   pub gives : (w : World) → IsWorldOf w form version events → GivesSolutions w q rows events
 
@@ -82,6 +92,7 @@ pub record JoinsSome (allows : List ℕ → ℕ → List ℕ → List ℕ → Ty
   pub travels : Travels allows events old new wire wire'
   pub on_wire : SuitsWire new wire'
   pub explains : Explains version budget fault events
+  pub asks : AsksAt form.template.start events
   pub gives : (w : World) → IsWorldOf w form version events → GivesSome w q rows events
 
 -- ---- the wire
@@ -93,8 +104,9 @@ pub record RunsPool (allows : List ℕ → ℕ → List ℕ → List ℕ → Typ
   pub on_wire : SuitsWire pool between
   pub closes : ClosesSome (held_on pool) (λ k. 0) between now
 
--- the start page came by the first of these events
+-- the start page came by the first of these events, and nothing else was asked
 pub record ReadsStart (start : Address) (events : List Event) : Type 0 where
+  pub asked : asked_in events ≡ start_ask start ∷ []
   pub reply : Reply
   pub last : EndsWith (Came (start_ask start) reply) events
   pub page : Page
@@ -102,13 +114,16 @@ pub record ReadsStart (start : Address) (events : List Event) : Type 0 where
 
 -- ---- a call on its wire, and the text; `ran` says which events there were, and which pool stood at their end
 
--- A call that gave these rows.
+-- A call that gave these rows. Each address that it asked has the authority of the start, and each was answered.
 pub record Returns (ran : List Event → Pooled → Type 0) (q : QueryData) (start : Address) (report : Report) (rows : List Places) : Type 0 where
   pub first : List Event
   pub later : List Event
   pub pool : Pooled
   pub runs : ran (first ++ later) pool
   pub reads : ReadsStart start first
+  pub asks : AsksAt start (first ++ later)
+  pub none_held : held pool ≡ []
+  pub no_fault : pool.fault ≡ None
   pub is_version : report.version ≡ reads.page.version
   pub requests : report.requests ≡ pool.started
   pub count : report.rows ≡ counted_by (length rows) 0
@@ -121,11 +136,12 @@ pub record WritesAll (ran : List Event → Pooled → Type 0) (q : QueryData) (s
   pub returns : Returns ran q start report rows
   pub text : Appends taken taken' (result_text q rows)
 
--- A call that ended with a fault before the start page was read: nothing was written.
-pub record EndsBefore (ran : List Event → Pooled → Type 0) (budget : ℕ) (fault : ClientFault) (taken taken' : Option (List ℕ)) : Type 0 where
+-- A call that ended with a fault before the start page was read: nothing but the start was asked, and nothing was written.
+pub record EndsBefore (ran : List Event → Pooled → Type 0) (start : Address) (budget : ℕ) (fault : ClientFault) (taken taken' : Option (List ℕ)) : Type 0 where
   pub events : List Event
   pub pool : Pooled
   pub runs : ran events pool
+  pub asked : (asked_in events ≡ start_ask start ∷ []) ⊎ (asked_in events ≡ [])
   pub explains : (version : Option ℕ) → Explains version budget fault events
   pub nothing : taken' ≡ taken
 
@@ -136,6 +152,7 @@ pub record EndsBehind (ran : List Event → Pooled → Type 0) (q : QueryData) (
   pub pool : Pooled
   pub runs : ran (first ++ later) pool
   pub reads : ReadsStart start first
+  pub asks : AsksAt start (first ++ later)
   pub explains : Explains reads.page.version budget fault later
   pub rows : List Places
   pub gives : (w : World) → IsWorldOf w reads.page.form reads.page.version later → GivesSome w q rows later
@@ -148,13 +165,14 @@ pub record EndsAtEnd (ran : List Event → Pooled → Type 0) (q : QueryData) (s
   pub pool : Pooled
   pub runs : ran (first ++ later) pool
   pub reads : ReadsStart start first
+  pub asks : AsksAt start (first ++ later)
   pub explains : Explains reads.page.version budget fault later
   pub rows : List Places
   pub gives : (w : World) → IsWorldOf w reads.page.form reads.page.version later → GivesSolutions w q rows later
   pub text : AppendsPrefix taken taken' (result_text q rows)
 
 pub data WritesSome (ran : List Event → Pooled → Type 0) (q : QueryData) (start : Address) (budget : ℕ) (fault : ClientFault) (taken taken' : Option (List ℕ)) : Type 0 where
-  Before : EndsBefore ran budget fault taken taken' → WritesSome ran q start budget fault taken taken'
+  Before : EndsBefore ran start budget fault taken taken' → WritesSome ran q start budget fault taken taken'
   Behind : EndsBehind ran q start budget fault taken taken' → WritesSome ran q start budget fault taken taken'
   AtEnd : EndsAtEnd ran q start budget fault taken taken' → WritesSome ran q start budget fault taken taken'
 
@@ -199,13 +217,46 @@ pub record IsSpent (allows : List ℕ → ℕ → List ℕ → List ℕ → Type
   pub runs : RunsPool allows options since now events pool
   pub spent : options.budget ≤ pool.started
 
--- What each fault shows of the wire and of what came: the faults rose; so many waits followed one another, which is never so over a lively wire; a body is no page; two versions differ; the budget is spent.
+-- These bytes were received in reply to the request for an address that was asked in the call, on a link that was not given before it.
+pub record IsReceived (allows : List ℕ → ℕ → List ℕ → List ℕ → Type 0) (options : Options) (since now : WireState) (received : List ℕ) : Type 0 where
+  pub events : List Event
+  pub pool : Pooled
+  pub runs : RunsPool allows options since now events pool
+  pub ask : Ask
+  pub asked : Contains (asked_in events) ask
+  pub on : RepliedOn options.max_body ask.address received now
+  pub fresh : since.given ≤ on.k
+
+-- The link ended, and what was received is no whole reply at its end.
+pub record IsCutShort (allows : List ℕ → ℕ → List ℕ → List ℕ → Type 0) (options : Options) (since now : WireState) (received : List ℕ) : Type 0 where
+  pub is_received : IsReceived allows options since now received
+  pub ended : Holds (now.links is_received.on.k).ended true
+  pub more : reply_of received true options.max_body ≡ replies.More
+
+-- What was received has this fault.
+pub record IsRefusedReply (allows : List ℕ → ℕ → List ℕ → List ℕ → Type 0) (options : Options) (since now : WireState) (fault : ReplyFault) (received : List ℕ) : Type 0 where
+  pub is_received : IsReceived allows options since now received
+  pub why : replies.ReplyFault
+  pub is_fault : fault ≡ shown_fault why
+  pub bad : reply_of received false options.max_body ≡ replies.Bad why
+
+-- This is the body of a whole reply, which was received, and for this reason no page of the address that was asked.
+pub record IsNoPageOf (allows : List ℕ → ℕ → List ℕ → List ℕ → Type 0) (options : Options) (since now : WireState) (fault : PageFault) (body : List ℕ) : Type 0 where
+  pub received : List ℕ
+  pub is_received : IsReceived allows options since now received
+  pub at_end : Bool
+  pub n : ℕ
+  pub keeps : Bool
+  pub whole : reply_of received at_end options.max_body ≡ replies.Whole body n keeps
+  pub why : Faults body is_received.ask.address fault
+
+-- What each fault shows of the wire and of what came: the faults rose; so many waits followed one another, which is never so over a lively wire; a link was cut; a reply is refused; a body is no page; two versions differ; the budget is spent.
 abbrev pub IsCause : (List ℕ → ℕ → List ℕ → List ℕ → Type 0) → Options → WireState → WireState → ClientFault → Type 0
 IsCause allows options since now faults.Exchange = Rose since.faults now.faults
 IsCause allows options since now faults.Stalled = (1000 ≤ now.idle) × (since.nature.lively ≡ true → ⊥)
-IsCause allows options since now (faults.Cut received) = Unit {0}
-IsCause allows options since now (faults.Reply fault received) = Unit {0}
-IsCause allows options since now (faults.Page fault body) = (address : Address) × Faults body address fault
+IsCause allows options since now (faults.Cut received) = IsCutShort allows options since now received
+IsCause allows options since now (faults.Reply fault received) = IsRefusedReply allows options since now fault received
+IsCause allows options since now (faults.Page fault body) = IsNoPageOf allows options since now fault body
 IsCause allows options since now (faults.Changed first other) = first ≢ other
 IsCause allows options since now (faults.Budget n) = (n ≡ options.budget) × IsSpent allows options since now
 IsCause allows options since now faults.Sink = Unit {0}

@@ -7,3 +7,4 @@ pub mod Starts
 pub mod Turns
 pub mod Calls
 pub mod Honest
+pub mod Requests

@@ -5,6 +5,7 @@ use Rattle.std.specs.List.Sorted.{IsPermutation}
 use Rattle.tpf_base.specs.Addresses.{Address}
 use Rattle.tpf_base.specs.Links.{WireState}
 use Rattle.bgp_core.specs.Solutions.{Places}
+use Rattle.template_fill.specs.Authorities.{ShareAuthority}
 use Rattle.control_reader.specs.declared.page.Page.{Page}
 use Rattle.control_reader.specs.Takes.{Takes}
 use Rattle.request_pool.specs.Pools.{Pooled, Ask, held}
@@ -81,6 +82,18 @@ asked_in (Came ask reply ∷ events) = asked_in events
 asked_in (Waited ∷ events) = asked_in events
 asked_in (Broke fault ∷ events) = asked_in events
 
+-- the asks whose replies came
+abbrev pub answered_in : List Event → List Ask
+answered_in [] = []
+answered_in (Asked ask ∷ events) = answered_in events
+answered_in (Came ask reply ∷ events) = ask ∷ answered_in events
+answered_in (Waited ∷ events) = answered_in events
+answered_in (Broke fault ∷ events) = answered_in events
+
+-- each address that was asked has the authority of this one
+abbrev pub AsksAt : Address → List Event → Type 0
+AsksAt home events = AllByRecursion (λ ask. ShareAuthority home ask.address) (asked_in events)
+
 -- each page of the version that came is true for its address
 abbrev pub IsTrueReply : (Address → Page → Type 0) → Option ℕ → Event → Type 0
 IsTrueReply is_true version (Asked ask) = Unit {0}
@@ -153,6 +166,7 @@ module _ {Source Eval : Type 0} (suits : Source → Eval → Type 0) (account : 
         pub travels : Travels allows events pool pool' wire wire'
         pub on_wire : SuitsWire pool' wire'
         pub meets : (terms : Terms) → Meets terms (keeps terms old) (standing old) pool → Meets terms (keeps terms new) (standing new) pool'
+        pub homes : (terms : Terms) → Meets terms (keeps terms old) (standing old) pool → AllByRecursion (λ ask. HasHome terms.homes ask.address) (asked_in events)
         pub width : (terms : Terms) → Meets terms (keeps terms old) (standing old) pool → All (λ row. length row ≡ terms.width) rows
         pub stays : (source : Source) → IsTruth source old version events pool → Stays source old new rows (asked_in events) pool'
 
@@ -161,4 +175,5 @@ module _ {Source Eval : Type 0} (suits : Source → Eval → Type 0) (account : 
         pub travels : Travels allows events pool pool' wire wire'
         pub on_wire : SuitsWire pool' wire'
         pub explains : Explains version budget fault events
+        pub homes : (terms : Terms) → Meets terms (keeps terms old) (standing old) pool → AllByRecursion (λ ask. HasHome terms.homes ask.address) (asked_in events)
         pub owes : (source : Source) → IsTruth source old version events pool → OwesMore (account source old) rows (asked_in events)

@@ -15,6 +15,7 @@ ghost use Rattle.tpf_client.specs.Calls.{Joins, JoinsSome, GathersRest, WritesRe
 ghost use Rattle.rdf_terms.specs.declared.term.Triple.{Triple};
 ghost use Rattle.template_fill.specs.Metadata.{Config};
 ghost use Rattle.tpf_client.specs.Honest.{Laws, IsHonestWire, IsSolutions, WritesSolutions, WritesSolutionsFront};
+ghost use Rattle.tpf_client.specs.Requests.{AreClosed, AreDialledFor, OthersStay, DialsAtMost, GivesAtMost, AnswersAll, RequestsAreTries, DialsAreTries, TrafficLaws};
 
 use crate::asks::{Asks, is_lawful};
 use crate::fault::of_sink;
@@ -25,7 +26,9 @@ use crate::{ClientFault, Options, Report};
 use bgp_core::{Query, Row};
 use control_reader::{Page, controls_read_back, pages_keep_authority};
 use join_core::{Join, a_server_is_a_world};
-use pool_laws::whole_replies_come_first;
+use pool_laws::{
+    a_step_has_a_cause, exchanges_are_counted, links_are_closed, whole_replies_come_first,
+};
 use rdf_terms::askable_slots_are_kept;
 use result_json::{ResultWriter, pieces_make_the_text, rows_go_on};
 use std::alloc::Global;
@@ -220,12 +223,22 @@ fn solutions_rest_on_laws()
     rows_go_on();
 }
 
+/// The laws on which what is said of links and requests rests. It does nothing.
+fn traffic_rests_on_laws()
+    ensures { TrafficLaws }
+{
+    links_are_closed();
+    exchanges_are_counted();
+    a_step_has_a_cause();
+}
+
 /// Asks the server of a start page for what a query needs, and writes the text of its result (Triple
 /// Pattern Fragments; SPARQL 1.1 Query Results JSON Format).
 ///
 /// The front of the text is written once the start page is read, then each row as it comes, and the
 /// end. At a fault the sink took a front of such a text. At each exit every link of this call is
-/// closed.
+/// closed; each was dialled for the host and port of the start, and no more requests were started
+/// than the budget allows.
 ///
 /// `Exchange`, `Stalled` and `Cut` come where a request failed once more than it may be asked again,
 /// `Reply` where a reply is refused, `Page` where a body is no page, `Changed` where a page tells
@@ -250,6 +263,17 @@ pub fn query<R: Wait, W: Dial, K: Sink>(
     ensures headline { (history : List (List Triple)) (config : Config) → IsHonestWire (W.allows wire.old) history config (W.state wire.old) → IfOk result (λ report. WritesSolutions history query.now report.version report.rows (K.taken out.old) (K.taken out.new)) }
     ensures prefix { (history : List (List Triple)) (config : Config) → IsHonestWire (W.allows wire.old) history config (W.state wire.old) → OnErr result (WritesSolutionsFront history query.now (K.taken out.old) (K.taken out.new)) }
     ensures cause { IfErr result (IsCause (W.allows wire.old) options.now (W.state wire.old) (W.state wire.new)) }
+    ensures closed { AreClosed (W.state wire.old) (W.state wire.new) }
+    ensures peers { AreDialledFor start.now (W.state wire.old) (W.state wire.new) }
+    ensures others { OthersStay (W.state wire.old) (W.state wire.new) }
+    ensures dials { DialsAtMost options.now.budget (W.state wire.old) (W.state wire.new) }
+    ensures given { GivesAtMost options.now.budget (W.state wire.old) (W.state wire.new) }
+    ensures answered { IfOk result (λ report. AnswersAll (W.allows wire.old) options.now start.now report.requests (W.state wire.old) (W.state wire.new)) }
+    ensures within { IfOk result (λ report. report.requests ≤ options.now.budget) }
+    ensures dialled { IfOk result (λ report. DialsAtMost report.requests (W.state wire.old) (W.state wire.new)) }
+    ensures linked { IfOk result (λ report. GivesAtMost report.requests (W.state wire.old) (W.state wire.new)) }
+    ensures requests { (history : List (List Triple)) (config : Config) → IsHonestWire (W.allows wire.old) history config (W.state wire.old) → IfOk result (λ report. RequestsAreTries history config options.now query.now start.now report) }
+    ensures planned { (history : List (List Triple)) (config : Config) → IsHonestWire (W.allows wire.old) history config (W.state wire.old) → DialsAreTries history config options.now query.now start.now (W.state wire.old) (W.state wire.new) }
     ensures later { K.faults out.old ≤ K.faults out.new }
     ensures sink { IsErrOf result ClientFault.Sink → Rose (K.faults out.old) (K.faults out.new) }
     ensures faultless { K.faultless out.new ≡ K.faultless out.old }
@@ -258,6 +282,7 @@ pub fn query<R: Wait, W: Dial, K: Sink>(
 {
     is_lawful(wire);
     solutions_rest_on_laws();
+    traffic_rests_on_laws();
     let mut asks = Asks::new(alloc, options);
     let ended = write_result(rt, alloc, query, start, options, &mut asks, wire, out);
     asks.close(wire);
@@ -362,11 +387,23 @@ pub fn collect<R: Wait, W: Dial>(
     ensures err { IfErr result (λ fault. WritesSome (RunsPool (W.allows wire.old) options.now (W.state wire.old) (W.state wire.new)) query.now start.now options.now.budget fault None None) }
     ensures headline { (history : List (List Triple)) (config : Config) → IsHonestWire (W.allows wire.old) history config (W.state wire.old) → IfOk result (λ r. IsSolutions history query.now r.1.version r.0.items) }
     ensures cause { IfErr result (IsCause (W.allows wire.old) options.now (W.state wire.old) (W.state wire.new)) }
+    ensures closed { AreClosed (W.state wire.old) (W.state wire.new) }
+    ensures peers { AreDialledFor start.now (W.state wire.old) (W.state wire.new) }
+    ensures others { OthersStay (W.state wire.old) (W.state wire.new) }
+    ensures dials { DialsAtMost options.now.budget (W.state wire.old) (W.state wire.new) }
+    ensures given { GivesAtMost options.now.budget (W.state wire.old) (W.state wire.new) }
+    ensures answered { IfOk result (λ r. AnswersAll (W.allows wire.old) options.now start.now r.1.requests (W.state wire.old) (W.state wire.new)) }
+    ensures within { IfOk result (λ r. r.1.requests ≤ options.now.budget) }
+    ensures dialled { IfOk result (λ r. DialsAtMost r.1.requests (W.state wire.old) (W.state wire.new)) }
+    ensures linked { IfOk result (λ r. GivesAtMost r.1.requests (W.state wire.old) (W.state wire.new)) }
+    ensures requests { (history : List (List Triple)) (config : Config) → IsHonestWire (W.allows wire.old) history config (W.state wire.old) → IfOk result (λ r. RequestsAreTries history config options.now query.now start.now r.1) }
+    ensures planned { (history : List (List Triple)) (config : Config) → IsHonestWire (W.allows wire.old) history config (W.state wire.old) → DialsAreTries history config options.now query.now start.now (W.state wire.old) (W.state wire.new) }
     ensures sink { IsErrOf result ClientFault.Sink → ⊥ }
     ensures allowed { SameAllowed (W.allows wire.old) (W.allows wire.new) }
 {
     is_lawful(wire);
     solutions_rest_on_laws();
+    traffic_rests_on_laws();
     let mut asks = Asks::new(alloc, options);
     let ended = gather(rt, alloc, query, start, options, &mut asks, wire);
     asks.close(wire);

@@ -83,7 +83,7 @@ fn await_start<R: Wait, W: Dial>(
     requires suits { SuitsWire asks.old (W.state wire.old) }
     requires no_fault { asks.old.fault ≡ None }
     requires one { IsPermutation (held asks.old) (start_ask start.now ∷ []) }
-    ensures starts { Starts (W.allows wire.old) start.now budget result asks.old asks.new (W.state wire.old) (W.state wire.new) }
+    ensures starts { Starts (W.allows wire.old) start.now [] budget result asks.old asks.new (W.state wire.old) (W.state wire.new) }
     ensures no_sink { IsErrOf result ClientFault.Sink → ⊥ }
     ensures allowed { SameAllowed (W.allows wire.old) (W.allows wire.new) }
 {
@@ -105,7 +105,7 @@ pub(crate) fn ask_start<R: Wait, W: Dial>(
     requires suits { SuitsWire asks.old (W.state wire.old) }
     requires no_fault { asks.old.fault ≡ None }
     requires none { held asks.old ≡ [] }
-    ensures starts { Starts (W.allows wire.old) start.now budget result asks.old asks.new (W.state wire.old) (W.state wire.new) }
+    ensures starts { Starts (W.allows wire.old) start.now (start_ask start.now ∷ []) budget result asks.old asks.new (W.state wire.old) (W.state wire.new) }
     ensures no_sink { IsErrOf result ClientFault.Sink → ⊥ }
     ensures allowed { SameAllowed (W.allows wire.old) (W.allows wire.new) }
 {

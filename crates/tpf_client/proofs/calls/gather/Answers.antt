@@ -23,12 +23,12 @@ gather_rows-requires-clause-suits g c = c.in-Ok.ensures.starts.suits
 pub returns-in-Ok-clause-ok : goal.returns-in-Ok-clause-ok
 returns-in-Ok-clause-ok g c =
     if-ok c.gather_rows.result _ _ (λ r w. all-gathered (g.W.Wire.allows c.args.wire.now) (g.W.Wire.allows c.ask_start.new.wire) c.in-Ok.ensures.allowed c.args.query.now c.args.start.now c.in-Ok.page c.args.asks.now c.ask_start.new.asks c.gather_rows.new.asks
-    (g.W.Wire.state c.args.wire.now) (g.W.Wire.state c.ask_start.new.wire) (g.W.Wire.state c.gather_rows.new.wire) c.in-Ok.ensures.starts r.1 r.0.items w) c.gather_rows.ensures.ok
+    (g.W.Wire.state c.args.wire.now) (g.W.Wire.state c.ask_start.new.wire) (g.W.Wire.state c.gather_rows.new.wire) c.in-Ok.ensures.starts (c.pages_keep_authority.ensures _ c.in-Ok.ensures.starts.reply.body c.args.start.now c.in-Ok.page c.is_valid.ensures c.in-Ok.ensures.starts.taken).form r.1 r.0.items w) c.gather_rows.ensures.ok
 
 pub returns-in-Ok-clause-err : goal.returns-in-Ok-clause-err
 returns-in-Ok-clause-err g c =
     if-err c.gather_rows.result _ _ (λ fault w. some-written (g.W.Wire.allows c.args.wire.now) (g.W.Wire.allows c.ask_start.new.wire) c.in-Ok.ensures.allowed c.args.query.now c.args.start.now c.in-Ok.page c.args.asks.now c.ask_start.new.asks c.gather_rows.new.asks
-    (g.W.Wire.state c.args.wire.now) (g.W.Wire.state c.ask_start.new.wire) (g.W.Wire.state c.gather_rows.new.wire) c.in-Ok.ensures.starts c.args.options.now.budget fault _ _ w) c.gather_rows.ensures.err
+    (g.W.Wire.state c.args.wire.now) (g.W.Wire.state c.ask_start.new.wire) (g.W.Wire.state c.gather_rows.new.wire) c.in-Ok.ensures.starts (c.pages_keep_authority.ensures _ c.in-Ok.ensures.starts.reply.body c.args.start.now c.in-Ok.page c.is_valid.ensures c.in-Ok.ensures.starts.taken).form c.args.options.now.budget fault _ _ w) c.gather_rows.ensures.err
 
 pub returns-in-Ok-clause-suits : goal.returns-in-Ok-clause-suits
 returns-in-Ok-clause-suits g c =

@@ -1,6 +1,7 @@
 -- A join that begins meets a pool that holds nothing, and the rows that it gives till it is done are the solutions.
 use Rattle.std.proofs.Common.{[], ◌∷◌, length}
 use Rattle.join_core.specs.Evaluations.{Terms}
+use Rattle.tpf_client.proofs.Homes.{own-home}
 use Rattle.tpf_client.proofs.Joining.{begins-meets, joins-of, some-of}
 use Rattle.tpf_client.proofs.Shutting.{on-ok-two, if-err-from}
 use Rattle.tpf_client.proofs.Waiting.{same-allowed}
@@ -21,8 +22,8 @@ returns-in-Ok-clause-joins g c =
     (λ done went. (
       went.0,
       went.1,
-      joins-of (g.W.Wire.allows c.args.wire.now) c.args.query.now c.args.form c.args.bounds.version c.args.start.now c.in-Ok.join c.args.asks.now c.evaluate.new.asks (g.W.Wire.state c.args.wire.now) (g.W.Wire.state c.evaluate.new.wire)
-          c.requires.none c.requires.no_fault c.in-Ok.ensures.tickets.1 (c.in-Ok.ensures.keeps (c.args.start.now ∷ []) c.requires.home) (λ world is. c.in-Ok.ensures.begins world is.world is.form_is) c.evaluate.new.evaluation went.0 went.1 done went.2,
+      joins-of (g.W.Wire.allows c.args.wire.now) c.args.query.now c.args.form c.args.bounds.version c.in-Ok.join c.args.asks.now c.evaluate.new.asks (g.W.Wire.state c.args.wire.now) (g.W.Wire.state c.evaluate.new.wire)
+          c.requires.none c.requires.no_fault c.in-Ok.ensures.tickets.1 (c.in-Ok.ensures.keeps (c.args.form.template.start ∷ []) (own-home c.args.form.template.start)) (λ world is. c.in-Ok.ensures.begins world is.world is.form_is) c.evaluate.new.evaluation went.0 went.1 done went.2,
       went.3,
     ))
 
@@ -32,8 +33,8 @@ returns-in-Ok-clause-some g c =
     (λ fault f. (
       f.0,
       f.1,
-      some-of (g.W.Wire.allows c.args.wire.now) c.args.query.now c.args.form c.args.bounds.version c.args.start.now c.in-Ok.join c.args.asks.now c.evaluate.new.asks (g.W.Wire.state c.args.wire.now) (g.W.Wire.state c.evaluate.new.wire)
-          c.requires.none c.requires.no_fault c.in-Ok.ensures.tickets.1 (c.in-Ok.ensures.keeps (c.args.start.now ∷ []) c.requires.home) (λ world is. c.in-Ok.ensures.begins world is.world is.form_is) c.args.bounds.budget fault f.0 f.1 f.2,
+      some-of (g.W.Wire.allows c.args.wire.now) c.args.query.now c.args.form c.args.bounds.version c.in-Ok.join c.args.asks.now c.evaluate.new.asks (g.W.Wire.state c.args.wire.now) (g.W.Wire.state c.evaluate.new.wire)
+          c.requires.none c.requires.no_fault c.in-Ok.ensures.tickets.1 (c.in-Ok.ensures.keeps (c.args.form.template.start ∷ []) (own-home c.args.form.template.start)) (λ world is. c.in-Ok.ensures.begins world is.world is.form_is) c.args.bounds.budget fault f.0 f.1 f.2,
       f.3,
     ))
 

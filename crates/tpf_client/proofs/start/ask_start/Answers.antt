@@ -1,4 +1,5 @@
-use Rattle.std.proofs.Common.{◌∙◌}
+use Rattle.std.proofs.Common.{◌∙◌, [], ◌∷◌}
+use Rattle.tpf_client.specs.Starts.{start_ask}
 use Rattle.tpf_client.proofs.Starting.{start-nothing, start-held, starts-put}
 use Rattle.tpf_client.proofs.start.ask_start.Goals as goal
 
@@ -16,4 +17,4 @@ returns-in-Ok-clause-starts g c =
     starts-put (g.W.Wire.allows c.args.wire.now) c.args.start.now c.args.budget c.args.asks.now c.put_start.new.asks c.await_start.new.asks (g.W.Wire.state c.args.wire.now) (g.W.Wire.state c.await_start.new.wire) c.await_start.result c.in-Ok.ensures.ok c.requires.suits c.is_lawful.ensures c.await_start.ensures.starts
 
 pub returns-in-Err-clause-starts : goal.returns-in-Err-clause-starts
-returns-in-Err-clause-starts g c = start-nothing (g.W.Wire.allows c.args.wire.now) c.args.start.now c.args.budget c.args.asks.now c.put_start.new.asks (g.W.Wire.state c.args.wire.now) c.in-Err.ensures.err c.requires.suits
+returns-in-Err-clause-starts g c = start-nothing (g.W.Wire.allows c.args.wire.now) c.args.start.now (start_ask c.args.start.now ∷ []) c.args.budget c.args.asks.now c.put_start.new.asks (g.W.Wire.state c.args.wire.now) c.in-Err.ensures.err c.requires.suits

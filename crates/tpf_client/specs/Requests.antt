@@ -1,0 +1,99 @@
+-- What a call does on its wire: the links that are given in it, and how many requests it makes.
+use Rattle.std.specs.Prelude.{ℕ, ◌≡◌, ◌≤◌, ◌<◌, ◌+◌, ◌*◌, false, List, ◌∷◌, length, Option, Some}
+use Rattle.std.specs.List.Sorted.{IsPermutation}
+use Rattle.rdf_terms.specs.declared.term.Triple.{Triple}
+use Rattle.tpf_base.specs.Addresses.{Address}
+use Rattle.tpf_base.specs.Links.{WireState, told_by}
+use Rattle.template_fill.specs.Metadata.{Config}
+use Rattle.template_fill.specs.Bodies.{version_of}
+use Rattle.bgp_core.specs.Queries.{QueryData}
+use Rattle.pool_laws.specs.Owning.{IsAsBefore, EmptyPoolsOwn, PutsOwn, FaultsOwn, StepsOwn, ClosingCloses}
+use Rattle.pool_laws.specs.Counting.{EmptyPoolsFewFailed, PutsFewFailed, StepsFewFailed, StepsCountTries, EmptyPoolsDial, PutsDial, FaultsDial, StepsDial}
+use Rattle.pool_laws.specs.Causes.{RepliesAreRead, FaultsHaveCauses}
+use Rattle.request_pool.specs.Pools.{Pooled}
+use Rattle.join_core.specs.Nodes.{plan}
+use Rattle.join_core.specs.Servers.{server_world}
+use Rattle.tpf_client.specs.declared.options.Options.{Options}
+use Rattle.tpf_client.specs.declared.options.Report.{Report}
+use Rattle.tpf_client.specs.Traffic.{Event}
+use Rattle.tpf_client.specs.Turns.{AsksAt, asked_in, answered_in}
+use Rattle.tpf_client.specs.Calls.{RunsPool, no_names_bound}
+use Rattle.tpf_client.specs.Honest.{IsVersionOf}
+
+-- ---- links
+
+-- each link that was given in the call is closed
+abbrev pub AreClosed : WireState → WireState → Type 0
+AreClosed since now = (k : ℕ) → since.given ≤ k → k < now.given → (now.links k).is_open ≡ false
+
+-- each link that was given in the call was dialled for the host and the port of this address, where the wire tells it
+abbrev pub AreDialledFor : Address → WireState → WireState → Type 0
+AreDialledFor address since now = (k : ℕ) → since.given ≤ k → k < now.given → (now.links k).peer ≡ told_by since.nature.tells (address.host, address.port)
+
+-- each link that was given before is as it was, but that a wait may have answered it where it is open
+abbrev pub OthersStay : WireState → WireState → Type 0
+OthersStay since now = (k : ℕ) → k < since.given → IsAsBefore (since.links k) (now.links k)
+
+-- ---- answers
+
+-- The events of a call in which each ask was for the authority of the start, and was answered; so many requests were started.
+pub record AnswersAll (allows : List ℕ → ℕ → List ℕ → List ℕ → Type 0) (options : Options) (start : Address) (requests : ℕ) (since now : WireState) : Type 0 where
+  pub events : List Event
+  pub pool : Pooled
+  pub runs : RunsPool allows options since now events pool
+  pub asks : AsksAt start events
+  pub answered : IsPermutation (asked_in events) (answered_in events)
+  pub started : pool.started ≡ requests
+  pub few : requests ≤ (options.retries + 1) * length (asked_in events)
+  pub each : length (asked_in events) ≤ requests
+
+-- ---- counts
+
+-- at most so many dials were made in the call
+abbrev pub DialsAtMost : ℕ → WireState → WireState → Type 0
+DialsAtMost n since now = now.dials ≤ since.dials + n
+
+-- at most so many links were given in the call
+abbrev pub GivesAtMost : ℕ → WireState → WireState → Type 0
+GivesAtMost n since now = now.given ≤ since.given + n
+
+-- the addresses that a query asks for over one version of the data: the start, and the plan of its join
+abbrev pub addresses_of : List (List Triple) → Config → QueryData → Address → ℕ → List Address
+addresses_of history config q start version = start ∷ plan (server_world (version_of history version) config) q.patterns (no_names_bound q)
+
+-- how many requests these addresses may need: one each, and as many more as it may be asked again
+abbrev pub tries_of : Options → List Address → ℕ
+tries_of options addresses = (options.retries + 1) * length addresses
+
+-- As many requests were started as the version that is reported has addresses to ask for, or more, and no more than these may need.
+pub record RequestsAreTries (history : List (List Triple)) (config : Config) (options : Options) (q : QueryData) (start : Address) (report : Report) : Type 0 where
+  pub version : ℕ
+  pub is_version : IsVersionOf history version
+  pub is_reported : report.version ≡ Some version
+  pub each : length (addresses_of history config q start version) ≤ report.requests
+  pub few : report.requests ≤ tries_of options (addresses_of history config q start version)
+
+-- No more dials were made than the addresses of one of the versions may need requests.
+pub record DialsAreTries (history : List (List Triple)) (config : Config) (options : Options) (q : QueryData) (start : Address) (since now : WireState) : Type 0 where
+  pub version : ℕ
+  pub is_version : IsVersionOf history version
+  pub few : DialsAtMost (tries_of options (addresses_of history config q start version)) since now
+
+-- ---- the laws on which this rests
+
+pub record TrafficLaws : Type 0 where
+  pub empty_own : EmptyPoolsOwn
+  pub puts_own : PutsOwn
+  pub faults_own : FaultsOwn
+  pub steps_own : StepsOwn
+  pub closing : ClosingCloses
+  pub empty_dial : EmptyPoolsDial
+  pub puts_dial : PutsDial
+  pub faults_dial : FaultsDial
+  pub steps_dial : StepsDial
+  pub empty_few : EmptyPoolsFewFailed
+  pub puts_few : PutsFewFailed
+  pub steps_few : StepsFewFailed
+  pub tries : StepsCountTries
+  pub replies : RepliesAreRead
+  pub causes : FaultsHaveCauses
