@@ -1,18 +1,17 @@
 -- Why a supply of a file fails.
-use Rattle.std.proofs.Common.{ℕ, ◌≡◌, ◌⊎◌, inl, inr, List, Option, Result, Err, ◌↔◌, sym, subst}
+use Rattle.std.proofs.Common.{ℕ, ◌≡◌, ◌<◌, ◌⊎◌, inl, inr, List, Option, Result, Err, ◌↔◌, refl, sym, subst, arith}
 use Rattle.rdf_terms.specs.declared.term.Triple.{Triple}
 use Rattle.tpf_base.specs.Addresses.{Address, authority_of}
-use Rattle.tpf_base.specs.Causes.{Rose}
 use Rattle.tpf_base.specs.declared.fault.Fault.{Fault}
 use Rattle.tpf_base.specs.declared.fault.Fault.TheVariants as supply
 use Rattle.triple_table.specs.declared.choice.Choice.{Choice}
 use Rattle.data_files.specs.declared.fault.DataFault.{DataFault}
 use Rattle.data_files.specs.declared.fault.DataFault.TheVariants as faults
-use Rattle.data_files.specs.Data.{Files, IfTold, too_long, bad, clash, too_many}
+use Rattle.data_files.specs.Data.{Files, too_long, bad, clash, too_many}
 use Rattle.data_files.specs.Causes.{DataCause}
-use Rattle.file_server.specs.Supplies.{IsOfFile, IsRefused, supply_fault}
+use Rattle.file_server.specs.Supplies.{IsOfFile, FailedReading, supply_fault}
 
-pub refused : (told : Option Files) (name : List ℕ) (choice : Choice) (authority : List ℕ) (shelf shelf' : ℕ) (fault : DataFault) → DataCause told name choice authority shelf shelf' fault → supply_fault fault ≡ supply.Failed → Rose shelf shelf' ⊎ IfTold told (λ files. IsRefused files name choice authority)
+pub refused : (told : Option Files) (name : List ℕ) (choice : Choice) (authority : List ℕ) (shelf shelf' : ℕ) (fault : DataFault) → DataCause told name choice authority shelf shelf' fault → supply_fault fault ≡ supply.Failed → FailedReading told name choice authority shelf shelf'
 refused told name choice authority shelf shelf' faults.TooLong c e = inr (λ files is. (too_long, c files is, tt))
 refused told name choice authority shelf shelf' (faults.Bad line why) c e = inr (λ files is. (bad line why, c files is, tt))
 refused told name choice authority shelf shelf' (faults.GenidClash label) c e = inr (λ files is. (clash label, c files is, tt))
@@ -31,3 +30,9 @@ same_file told told' name name' choice choice' base base' t n c b = λ triples.
       λ h. subst (λ (p : Option Files × List ℕ × Choice × Address). IsOfFile p.0 p.1 p.2 (authority_of p.3) triples) one h,
       λ h. subst (λ (p : Option Files × List ℕ × Choice × Address). IsOfFile p.0 p.1 p.2 (authority_of p.3) triples) (sym one) h,
     )
+
+-- a fault of a read is counted, unless it is want of memory
+pub failed_by : (told : Option Files) (name : List ℕ) (choice : Choice) (authority : List ℕ) (shelf shelf' own own' : ℕ) (fault : DataFault) (is : Fault) → is ≡ supply_fault fault → (is ≡ supply.OutOfMemory → own' ≡ own)
+    → DataCause told name choice authority shelf shelf' fault → own < own' → FailedReading told name choice authority shelf shelf'
+failed_by told name choice authority shelf shelf' own own' fault supply.Failed e memory cause more = refused told name choice authority shelf shelf' fault cause (sym e)
+failed_by told name choice authority shelf shelf' own own' fault supply.OutOfMemory e memory cause more = absurd (omega (arith, memory refl, more))

@@ -1,2 +1,3 @@
 pub mod Supplies
 pub mod Servers
+pub mod Laws

@@ -1,5 +1,5 @@
 -- What was said of a service is said of its command: over the wire as it was before, and of more data sets that may follow.
-use Rattle.std.proofs.Common.{ℕ, ◌≡◌, ◌≤◌, ◌==◌, ◌≢◌, ◌+◌, ◌⊎◌, inl, inr, List, [], ◌∷◌, Option, Some, None, is_some, Bool, true, false, Result, Ok, Err, IfOk, IfErr, OnOk, if◌then◌else◌, refl, sym, ap, subst, ◌∙◌, arith}
+use Rattle.std.proofs.Common.{ℕ, ◌≡◌, ◌≤◌, ◌==◌, ◌≢◌, ◌+◌, ◌⊎◌, inl, inr, List, [], ◌∷◌, Option, Some, None, is_some, Bool, true, false, Result, Ok, Err, IfOk, IfErr, OnOk, OnErr, if◌then◌else◌, refl, sym, ap, subst, ◌∙◌, arith}
 use Rattle.std.specs.List.{AllByRecursion}
 use Rattle.std.proofs.lemmas.Bool.{eqb-true, true≢false}
 use Rattle.rdf_terms.specs.declared.term.Triple.{Triple}
@@ -9,6 +9,7 @@ use Rattle.tpf_base.specs.Addresses.{Address, authority_of}
 use Rattle.tpf_base.specs.Causes.{Rose}
 use Rattle.tpf_base.specs.Rises.{RoseBy-within}
 use Rattle.tpf_base.specs.Links.{WireState}
+use Rattle.tpf_base.specs.Calls.{OnlyListens}
 use Rattle.connections.specs.Kinds.{Kind}
 use Rattle.connections.specs.Versions.{Serving, IsHistory}
 use Rattle.serve_loop.specs.declared.live.Served.{Served}
@@ -16,14 +17,15 @@ use Rattle.serve_loop.specs.declared.live.ServeFault.{ServeFault}
 use Rattle.serve_loop.specs.declared.live.ServeFault.TheVariants as loop_faults
 use Rattle.serve_loop.specs.Traffic.{Moment, took}
 use Rattle.serve_loop.specs.Sentence.{AllClosed, Sentence, SendsResponse, SendsWhole, SpeaksWhole}
+use Rattle.serve_loop.specs.Service.{ServesTurns, FailsTurns}
 use Rattle.fragment_server.specs.Fragments.{fragments}
 use Rattle.data_files.specs.Data.{Files, IfTold, Outcome, IsOutcome, served}
 use Rattle.data_files.proofs.Outcomes.{one_outcome}
 use Rattle.file_server.specs.Servers.{Starts}
-use Rattle.file_server.specs.Supplies.{IsOfFile}
+use Rattle.file_server.specs.Supplies.{IsFault, IsRefused, FailedReading, FileView, KeepsFile, IsOfFile}
 use Rattle.serve_command.specs.declared.fault.ServiceFault.{ServiceFault}
 use Rattle.serve_command.specs.declared.fault.ServiceFault.TheVariants as faults
-use Rattle.serve_command.specs.Services.{Services, MayFollow, SpeaksOfFile, SaysPrefixes, SaysWhole, LinksCause, DoorCause, ServiceCause, IsUntouched, IsServing, GivesServed, answer_of}
+use Rattle.serve_command.specs.Services.{Services, ServesLinks, MayFollow, FailedReload, FailedShelf, SpeaksOfFile, SaysPrefixes, SaysWhole, LinksCause, DoorCause, ServiceCause, IsUntouched, IsServing, GivesServed, TakesTurns, OpensAndTurns, answer_of}
 
 module _ {C Data Settings : Type 0} (kind : Kind C Data Settings) (may other : Data → Type 0) (weaker : (d : Data) → may d → other d) where
   all_weaker : (ds : List Data) → AllByRecursion may ds → AllByRecursion other ds
@@ -83,24 +85,26 @@ module _ {C Data Settings : Type 0} (kind : Kind C Data Settings) (may other : D
       };
     }
 
-module _ (may other : List Triple → Type 0) (weaker : (d : List Triple) → may d → other d) (server : Serving (List Triple) Config) (old start new : WireState) (given : start.given ≡ old.given) where
-  pub prefixes_from : Services server start new (SaysPrefixes may) → Services server old new (SaysPrefixes other)
+module _ (may other : List Triple → Type 0) (weaker : (d : List Triple) → may d → other d) (Reason Other : Type 0) (reason : Reason → Other) (server : Serving (List Triple) Config) (old start new : WireState) (given : start.given ≡ old.given) where
+  pub prefixes_from : Services server start new Reason (SaysPrefixes may) → Services server old new Other (SaysPrefixes other)
   prefixes_from s = record {
     since = record s.since { wire = old };
     now = s.now;
     serves = s.serves;
     since_wire = refl;
     now_wire = s.now_wire;
+    failed = λ rose. reason (s.failed rose);
     says = prefixes fragments may other weaker (server.data_set ∷ []) s.since s.now old (ap (λ (w : WireState). w.given) s.since_wire ∙ given) s.says;
   }
 
-  pub whole_from : (faults' faults connections : ℕ) → faults' ≤ faults → Services server start new (SaysWhole faults connections may) → Services server old new (SaysWhole faults' connections other)
+  pub whole_from : (faults' faults connections : ℕ) → faults' ≤ faults → Services server start new Reason (SaysWhole faults connections may) → Services server old new Other (SaysWhole faults' connections other)
   whole_from faults' faults connections before s = record {
     since = record s.since { wire = old };
     now = s.now;
     serves = s.serves;
     since_wire = refl;
     now_wire = s.now_wire;
+    failed = λ rose. reason (s.failed rose);
     says = whole fragments may other weaker (server.data_set ∷ []) s.since s.now old (ap (λ (w : WireState). w.given) s.since_wire ∙ given) faults' faults connections 0 before s.says;
   }
 
@@ -108,8 +112,8 @@ module _ (may other : List Triple → Type 0) (weaker : (d : List Triple) → ma
 pub first_history : (server : Serving (List Triple) Config) → server.version ≡ 1 → IsHistory (server.data_set ∷ []) server
 first_history server is = record { count = sym is; before = []; last = refl }
 
-pub services : {Says : List (List Triple) → Moment (List Triple) Config → Moment (List Triple) Config → Type 0} (server : Serving (List Triple) Config) (since now : Moment (List Triple) Config) → since.served ≡ server → Says (server.data_set ∷ []) since now → Services server since.wire now.wire Says
-services server since now is says = record { since = since; now = now; serves = is; since_wire = refl; now_wire = refl; says = says }
+pub services : {Says : List (List Triple) → Moment (List Triple) Config → Moment (List Triple) Config → Type 0} (server : Serving (List Triple) Config) (since now : Moment (List Triple) Config) → since.served ≡ server → Says (server.data_set ∷ []) since now → Services server since.wire now.wire (Rose since.faults now.faults) Says
+services server since now is says = record { since = since; now = now; serves = is; since_wire = refl; now_wire = refl; failed = λ rose. rose; says = says }
 
 -- no connection starved
 pub spoken : (may : List Triple → Type 0) (first : List (List Triple)) (since now : Moment (List Triple) Config) (faults connections starved : ℕ) → starved ≡ 0 → SpeaksWhole fragments may first since now faults connections starved → SpeaksWhole fragments may first since now faults connections 0
@@ -180,13 +184,101 @@ pub there : {A : Type 0} (o : Option A) → is_some o ≡ true → o ≢ None
 there None e = λ _. absurd (true≢false (sym e))
 there (Some x) e = λ none. cc
 
+pub reloads_by : (told : Option Files) (name : List ℕ) (choice : Choice) (config : Config) (shelf shelf' : ℕ) → FailedReading told name choice (authority_of config.base) shelf shelf' → FailedReload told name choice config shelf shelf'
+reloads_by told name choice config shelf shelf' h = λ some. h
+
+-- without a path, no reload failed
+pub reloads_none : (told : Option Files) (name : List ℕ) (choice : Choice) (config : Config) (shelf shelf' : ℕ) → is_some config.reload ≡ false → Unit {0} → FailedReload told name choice config shelf shelf'
+reloads_none told name choice config shelf shelf' none h = λ some. absurd (some (missing config.reload none))
+  where
+    missing : {A : Type 0} (o : Option A) → is_some o ≡ false → o ≡ None
+    missing None e = refl
+    missing (Some x) e = absurd (true≢false e)
+
 pub follows : (told : Option Files) (name : List ℕ) (choice : Choice) (config : Config) → is_some config.reload ≡ true → (triples : List Triple) → IsOfFile told name choice (authority_of config.base) triples → MayFollow told name choice config triples
 follows told name choice config some = λ triples h. (there config.reload some, h)
 
 pub not_more : (n : ℕ) → n ≤ n
 not_more n = omega arith
 
+-- ---- the service of links, of more data sets that may follow, and for another reason
+
+pub serves_links_from : (may other : List Triple → Type 0) → ((d : List Triple) → may d → other d) → (Reason Other : Type 0) → (Reason → Other)
+    → (server : Serving (List Triple) Config) (stop_after : Option ℕ) (old new : WireState) (result : Result ℕ ServiceFault)
+    → ServesLinks may Reason server stop_after old new result → ServesLinks other Other server stop_after old new result
+serves_links_from may other weaker Reason Other reason server stop_after old new result s = record {
+  door = s.door;
+  prefixes = prefixes_from may other weaker Reason Other reason server old old new refl s.prefixes;
+  whole = if_ok_map _ _ result (λ n w. whole_from may other weaker Reason Other reason server old old new refl old.faults old.faults n (not_more old.faults) w) s.whole;
+  closed = s.closed;
+  stops = s.stops;
+  soon = s.soon;
+  never = s.never;
+  links = s.links;
+  turns = s.turns;
+  err = s.err;
+}
+
+-- the shelf as it was left is that of the supply
+pub ended_shelf : {F : Type 0} (faults : F → ℕ) (ended is : F) → ended ≡ is → (may : List Triple → Type 0) (Reason : ℕ → Type 0) (server : Serving (List Triple) Config) (stop_after : Option ℕ) (old new : WireState) (result : Result ℕ ServiceFault)
+    → ServesLinks may (Reason (faults is)) server stop_after old new result → ServesLinks may (Reason (faults ended)) server stop_after old new result
+ended_shelf {F} faults ended is same may Reason server stop_after old new result s = subst (λ (shelf : F). ServesLinks may (Reason (faults shelf)) server stop_after old new result) (sym same) s
+
+-- a supply of a file failed since it was made: the count of its own faults was 0 then
+pub failed_reading : (old new : FileView) → old.faults ≡ 0 → KeepsFile old new → Rose old.faults new.faults → FailedReading old.told old.name old.choice (authority_of old.base) old.shelf new.shelf
+failed_reading old new zero keeps rose = keeps.failed (omega (arith, zero, rose))
+
+-- the same of the file of which the supply was made
+pub reading_of : (told told' : Option Files) (name name' : List ℕ) (choice choice' : Choice) (base base' : Address) (shelf before shelf' : ℕ) → told' ≡ told → name' ≡ name → choice' ≡ choice → base' ≡ base → before ≡ shelf
+    → FailedReading told' name' choice' (authority_of base') before shelf' → FailedReading told name choice (authority_of base) shelf shelf'
+reading_of told told' name name' choice choice' base base' shelf before shelf' t n c b s h =
+    let one : ◌≡◌ {A = Option Files × List ℕ × Choice × Address × ℕ} (told', name', choice', base', before) (told, name, choice, base, shelf) = cc in
+    subst (λ (p : Option Files × List ℕ × Choice × Address × ℕ). FailedReading p.0 p.1 p.2 (authority_of p.3) p.4 shelf') one h
+
+-- ---- how often it waited
+
+turns_if : (stop_after : Option ℕ) (old new : WireState) (b : Bool) (n : ℕ) → ServesTurns stop_after n old new → TakesTurns stop_after old new (if b then Ok n else Err faults.OutOfMemory)
+turns_if stop_after old new true n s = s
+turns_if stop_after old new false n s = inl (n, s)
+
+takes_turns : (stop_after : Option ℕ) (old new : WireState) (result : Result Served ServeFault) → IfOk result (λ s. ServesTurns stop_after s.connections old new) → OnErr result (FailsTurns stop_after old new) → TakesTurns stop_after old new (answer_of result)
+takes_turns stop_after old new (Ok s) serves fails = turns_if stop_after old new (s.starved == 0) s.connections serves
+takes_turns stop_after old new (Err loop_faults.Wire) serves fails = inr fails
+takes_turns stop_after old new (Err loop_faults.OutOfMemory) serves fails = inr fails
+
+pub turns_by : (stop_after : Option ℕ) (old new : WireState) (result : Result Served ServeFault) (answer : Result ℕ ServiceFault) → answer ≡ answer_of result
+    → IfOk result (λ s. ServesTurns stop_after s.connections old new) → OnErr result (FailsTurns stop_after old new) → TakesTurns stop_after old new answer
+turns_by stop_after old new result answer e serves fails = subst (λ (r : Result ℕ ServiceFault). TakesTurns stop_after old new r) (sym e) (takes_turns stop_after old new result serves fails)
+
+pub opens_and_turns : (stop_after : Option ℕ) (old start new : WireState) (result : Result ℕ ServiceFault) → OnlyListens old start → TakesTurns stop_after start new result → OpensAndTurns stop_after old new result
+opens_and_turns stop_after old start new (Ok n) listens turns = (start, listens, turns)
+opens_and_turns stop_after old start new (Err fault) listens turns = inr (start, listens, turns)
+
+-- the door was not touched
+pub listens_none : (old : WireState) → OnlyListens old old
+listens_none old = record {
+  none_given = record { given = refl; links = λ k. refl; idle = refl };
+  later = omega arith;
+  provoked = refl;
+  dials = refl;
+  waits = refl;
+  nature = refl;
+}
+
 -- ---- the service of a server, from before its door was open
+
+pub on_ok_so : (P : Type 0) (result : Result ℕ ServiceFault) → P → OnOk result P
+on_ok_so P (Ok n) p = p
+on_ok_so P (Err fault) p = tt
+
+-- where its door is, by the base of the server or by that of the service
+pub door_at : (door one other : Option (List ℕ × ℕ)) → one ≡ other → (result : Result ℕ ServiceFault) → OnOk result (door ≡ one) → OnOk result (door ≡ other)
+door_at door one other same (Ok n) at = at ∙ same
+door_at door one other same (Err fault) at = tt
+
+pub door_told : {A : Type 0} (door one other : Option (List ℕ × ℕ)) → one ≡ other → A ⊎ (door ≡ one) → A ⊎ (door ≡ other)
+door_told door one other same (inl none) = inl none
+door_told door one other same (inr at) = inr (at ∙ same)
 
 pub links_from : (old start new : ℕ) (result : Result ℕ ServiceFault) → start ≡ old → IfOk result (λ n. start + n ≤ new) → IfOk result (λ n. old + n ≤ new)
 links_from old start new (Ok n) given h = subst (λ (k : ℕ). k + n ≤ new) given h
@@ -227,15 +319,32 @@ follow_by told told' name choice one other t same triples h =
     let at : MayFollow told name choice one triples = subst (λ (files : Option Files). MayFollow files name choice one triples) t h in
     subst (λ (config : Config). MayFollow told name choice config triples) same at
 
-module _ (told told' : Option Files) (same : told' ≡ told) (name : List ℕ) (choice : Choice) (config : Config) (server : Serving (List Triple) Config) (starts : Starts told name choice config server) (old new : WireState) where
-  pub prefixes_of_file : (new.given ≡ old.given) ⊎ Services server old new (SaysPrefixes (MayFollow told' name choice server.config)) → (new.given ≡ old.given) ⊎ SpeaksOfFile told name choice config old new SaysPrefixes
-  prefixes_of_file (inl none) = inl none
-  prefixes_of_file (inr s) = inr (record { server = server; starts = starts; services = prefixes_from (MayFollow told' name choice server.config) (MayFollow told name choice config) (follow_by told told' name choice server.config config same starts.config_is) server old old new refl s })
+-- a file that was served is not one of which nothing is served
+not_refused : (files : Files) (name : List ℕ) (choice : Choice) (authority : List ℕ) (triples : List Triple) → IsOutcome files name choice authority (served triples) → ¬ (IsRefused files name choice authority)
+not_refused files name choice authority triples is = λ refused. subst IsFault (one_outcome files name choice authority refused.0 (served triples) refused.1 is) refused.2
 
-  pub whole_of_file : (faults : ℕ) (result : Result ℕ ServiceFault) → IfOk result (λ n. Services server old new (SaysWhole faults n (MayFollow told' name choice server.config))) → IfOk result (λ n. SpeaksOfFile told name choice config old new (SaysWhole faults n))
-  whole_of_file faults (Ok n) s = record { server = server; starts = starts; services = whole_from (MayFollow told' name choice server.config) (MayFollow told name choice config) (follow_by told told' name choice server.config config same starts.config_is) server old old new refl faults faults n (not_more faults) s }
-  whole_of_file faults (Err fault) s = tt
+module _ (told told' : Option Files) (same : told' ≡ told) (name : List ℕ) (choice : Choice) (config : Config) (server : Serving (List Triple) Config) (starts : Starts told name choice config server) (shelf mid shelf' : ℕ) (earlier : shelf ≤ mid) where
+  failed_shelf : FailedReading told name choice (authority_of config.base) mid shelf' → IfTold told (λ files. Rose shelf shelf')
+  failed_shelf (inl rose) = λ files is. RoseBy-within 1 1 mid shelf' shelf shelf' (omega arith) earlier (omega arith) rose
+  failed_shelf (inr refused) = λ files is. absurd (not_refused files name choice (authority_of config.base) server.data_set (starts.data_set files is) (refused files is))
 
+  -- a reload of a file that was served fails with its shelf alone
+  reason : FailedReload told' name choice server.config mid shelf' → FailedShelf told config shelf shelf'
+  reason h =
+      let at : FailedReload told name choice server.config mid shelf' = subst (λ (files : Option Files). FailedReload files name choice server.config mid shelf') same h in
+      let of : FailedReload told name choice config mid shelf' = subst (λ (c : Config). FailedReload told name choice c mid shelf') starts.config_is at in
+      λ some. failed_shelf (of some)
+
+  module _ (old new : WireState) where
+    pub prefixes_of_file : (new.given ≡ old.given) ⊎ Services server old new (FailedReload told' name choice server.config mid shelf') (SaysPrefixes (MayFollow told' name choice server.config)) → (new.given ≡ old.given) ⊎ SpeaksOfFile told name choice config shelf shelf' old new SaysPrefixes
+    prefixes_of_file (inl none) = inl none
+    prefixes_of_file (inr s) = inr (record { server = server; starts = starts; services = prefixes_from (MayFollow told' name choice server.config) (MayFollow told name choice config) (follow_by told told' name choice server.config config same starts.config_is) (FailedReload told' name choice server.config mid shelf') (FailedShelf told config shelf shelf') reason server old old new refl s })
+
+    pub whole_of_file : (faults : ℕ) (result : Result ℕ ServiceFault) → IfOk result (λ n. Services server old new (FailedReload told' name choice server.config mid shelf') (SaysWhole faults n (MayFollow told' name choice server.config))) → IfOk result (λ n. SpeaksOfFile told name choice config shelf shelf' old new (SaysWhole faults n))
+    whole_of_file faults (Ok n) s = record { server = server; starts = starts; services = whole_from (MayFollow told' name choice server.config) (MayFollow told name choice config) (follow_by told told' name choice server.config config same starts.config_is) (FailedReload told' name choice server.config mid shelf') (FailedShelf told config shelf shelf') reason server old old new refl faults faults n (not_more faults) s }
+    whole_of_file faults (Err fault) s = tt
+
+module _ (told : Option Files) (name : List ℕ) (choice : Choice) (config : Config) (server : Serving (List Triple) Config) (starts : Starts told name choice config server) where
   serving_gives : (wire wire' out out' : ℕ) (outcome : Outcome) (result : Result ℕ ServiceFault) → IfErr result (DoorCause wire wire' out out') → IsServing outcome → GivesServed outcome result
   serving_gives wire wire' out out' outcome (Ok n) h s = s
   serving_gives wire wire' out out' outcome (Err (faults.Data fault)) h s = absurd h

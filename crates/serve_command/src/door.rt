@@ -1,9 +1,10 @@
 // The door of a service.
-ghost use Rattle.std.specs.Prelude.{ℕ, ◌≡◌, ◌≤◌, ◌⊎◌, codes, true, IfErr, OnOk};
+ghost use Rattle.std.specs.Prelude.{ℕ, ◌≡◌, ◌≤◌, ◌⊎◌, codes, IfErr, OnOk};
 ghost use Rattle.std.specs.Io.KnownBytes.{Appends};
 ghost use Rattle.tpf_base.specs.Wrote.{AppendsPrefix};
 ghost use Rattle.tpf_base.specs.Calls.{OnlyListens};
-ghost use Rattle.serve_command.specs.Services.{DoorCause};
+ghost use Rattle.file_server.specs.Servers.{serving};
+ghost use Rattle.serve_command.specs.Services.{door_of, DoorCause};
 
 use crate::ServiceFault;
 use fragment_server::FragmentServer;
@@ -11,7 +12,7 @@ use tpf_base::{Accept, Fault, Sink, write_all};
 
 /// Opens the door at the host and the port of the base.
 fn open_door<W: Accept>(server: &FragmentServer, wire: &mut W) -> Result<(), ServiceFault>
-    ensures listens { OnOk result ((W.state wire.new).listens ≡ true) }
+    ensures opened { OnOk result ((W.state wire.new).door ≡ door_of (serving server.now).config.base) }
     ensures only { OnlyListens (W.state wire.old) (W.state wire.new) }
     ensures err { IfErr result (DoorCause (W.state wire.old).faults (W.state wire.new).faults 0 0) }
 {
@@ -43,11 +44,11 @@ pub(crate) fn begin<W: Accept, K: Sink>(
     wire: &mut W,
     out: &mut K,
 ) -> Result<(), ServiceFault>
-    ensures listens { OnOk result ((W.state wire.new).listens ≡ true) }
+    ensures opened { OnOk result ((W.state wire.new).door ≡ door_of (serving server.now).config.base) }
     ensures only { OnlyListens (W.state wire.old) (W.state wire.new) }
     ensures ready { OnOk result (Appends (K.taken out.old) (K.taken out.new) (codes "ready\n")) }
     ensures front { AppendsPrefix (K.taken out.old) (K.taken out.new) (codes "ready\n") }
-    ensures door { (K.taken out.new ≡ K.taken out.old) ⊎ ((W.state wire.new).listens ≡ true) }
+    ensures door { (K.taken out.new ≡ K.taken out.old) ⊎ ((W.state wire.new).door ≡ door_of (serving server.now).config.base) }
     ensures err { IfErr result (DoorCause (W.state wire.old).faults (W.state wire.new).faults (K.faults out.old) (K.faults out.new)) }
     ensures later { K.faults out.old ≤ K.faults out.new }
 {

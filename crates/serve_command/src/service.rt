@@ -1,15 +1,16 @@
 // The service of a file over a wire.
-ghost use Rattle.std.specs.Prelude.{ℕ, ◌≡◌, ◌+◌, ◌-◌, ◌≤◌, ◌⊎◌, codes, true, false, is_some, None, List, IfOk, IfErr, IfSome, OnOk};
+ghost use Rattle.std.specs.Prelude.{ℕ, ◌≡◌, ◌+◌, ◌-◌, ◌≤◌, ◌⊎◌, codes, true, is_some, None, List, IfOk, IfErr, IfSome, OnOk};
 ghost use Rattle.std.specs.Io.KnownBytes.{Appends};
 ghost use Rattle.tpf_base.specs.Addresses.{authority_of};
 ghost use Rattle.tpf_base.specs.Causes.{Rose};
+ghost use Rattle.tpf_base.specs.Links.{listens};
 ghost use Rattle.tpf_base.specs.Wrote.{AppendsPrefix};
 ghost use Rattle.template_fill.specs.Configurations.{IsConfig};
 ghost use Rattle.serve_loop.specs.Sentence.{AllClosed};
 ghost use Rattle.file_server.specs.Servers.{serving};
-ghost use Rattle.file_server.specs.Supplies.{IsOfFile};
+ghost use Rattle.file_server.specs.Supplies.{IsOfFile, FailedReading};
 ghost use Rattle.data_files.specs.Data.{IfTold, Serves, Outcome, IsOutcome};
-ghost use Rattle.serve_command.specs.Services.{config_of, MayFollow, Services, SpeaksOfFile, SaysPrefixes, SaysWhole, LinksCause, DoorCause, ServiceCause, IsUntouched, GivesServed, answer_of};
+ghost use Rattle.serve_command.specs.Services.{config_of, door_of, MayFollow, FailedReload, Services, ServesLinks, OpensAndTurns, SpeaksOfFile, SaysPrefixes, SaysWhole, DoorCause, ServiceCause, IsUntouched, GivesServed, answer_of};
 
 use crate::ServiceFault;
 use crate::config::config_of;
@@ -69,17 +70,10 @@ fn serve_links<R: Wait, S: Supply<FragmentServer>, W: Accept>(
     wire: &mut W,
     stop_after: Option<u64>,
 ) -> Result<u64, ServiceFault>
-    requires listens { (W.state wire.old).listens ≡ true }
+    requires listens { listens (W.state wire.old) ≡ true }
     requires first { (serving server.old).version ≡ 1 }
-    ensures listens { (W.state wire.new).listens ≡ true }
-    ensures prefixes { Services (serving server.old) (W.state wire.old) (W.state wire.new) (SaysPrefixes (S.may supply.old)) }
-    ensures whole { IfOk result (λ connections. Services (serving server.old) (W.state wire.old) (W.state wire.new) (SaysWhole (W.state wire.old).faults connections (S.may supply.old))) }
-    ensures closed { AllClosed (W.state wire.old) (W.state wire.new) }
-    ensures stops { IfOk result (λ connections. IfSome stop_after (λ most. most ≤ connections)) }
-    ensures soon { IfOk result (λ connections. IfSome stop_after (λ most. connections ≤ (most - 1) + 256)) }
-    ensures never { OnOk result (stop_after ≡ None → ⊥) }
-    ensures links { IfOk result (λ connections. (W.state wire.old).given + connections ≤ (W.state wire.new).given) }
-    ensures err { IfErr result (LinksCause (W.state wire.old).faults (W.state wire.new).faults) }
+    ensures serves { ServesLinks (S.may supply.old) (Rose (S.faults supply.old) (S.faults supply.new)) (serving server.old) stop_after (W.state wire.old) (W.state wire.new) result }
+    ensures keeps { S.Keeps supply.old supply.new }
 {
     answer_of(serve_connections::<R, FragmentConnection, S, W>(
         rt, alloc, server, supply, wire, stop_after,
@@ -94,17 +88,9 @@ fn serve_once<R: Wait, W: Accept>(
     wire: &mut W,
     stop_after: Option<u64>,
 ) -> Result<u64, ServiceFault>
-    requires listens { (W.state wire.old).listens ≡ true }
+    requires listens { listens (W.state wire.old) ≡ true }
     requires first { (serving server.old).version ≡ 1 }
-    ensures listens { (W.state wire.new).listens ≡ true }
-    ensures prefixes { Services (serving server.old) (W.state wire.old) (W.state wire.new) (SaysPrefixes (λ triples. ⊥)) }
-    ensures whole { IfOk result (λ connections. Services (serving server.old) (W.state wire.old) (W.state wire.new) (SaysWhole (W.state wire.old).faults connections (λ triples. ⊥))) }
-    ensures closed { AllClosed (W.state wire.old) (W.state wire.new) }
-    ensures stops { IfOk result (λ connections. IfSome stop_after (λ most. most ≤ connections)) }
-    ensures soon { IfOk result (λ connections. IfSome stop_after (λ most. connections ≤ (most - 1) + 256)) }
-    ensures never { OnOk result (stop_after ≡ None → ⊥) }
-    ensures links { IfOk result (λ connections. (W.state wire.old).given + connections ≤ (W.state wire.new).given) }
-    ensures err { IfErr result (LinksCause (W.state wire.old).faults (W.state wire.new).faults) }
+    ensures serves { ServesLinks (λ triples. ⊥) (Unit {0}) (serving server.old) stop_after (W.state wire.old) (W.state wire.new) result }
 {
     let mut supply = NoSupply::new();
     serve_links(rt, alloc, server, &mut supply, wire, stop_after)
@@ -129,18 +115,12 @@ fn serve_again<R: Wait, F: Shelf, W: Accept>(
     wire: &mut W,
     stop_after: Option<u64>,
 ) -> Result<u64, ServiceFault>
-    requires listens { (W.state wire.old).listens ≡ true }
+    requires listens { listens (W.state wire.old) ≡ true }
     requires first { (serving server.old).version ≡ 1 }
     requires base { base.now ≡ (serving server.old).config.base }
-    ensures listens { (W.state wire.new).listens ≡ true }
-    ensures prefixes { Services (serving server.old) (W.state wire.old) (W.state wire.new) (SaysPrefixes (IsOfFile (F.told shelf.old) name.now choice.now (authority_of (serving server.old).config.base))) }
-    ensures whole { IfOk result (λ connections. Services (serving server.old) (W.state wire.old) (W.state wire.new) (SaysWhole (W.state wire.old).faults connections (IsOfFile (F.told shelf.old) name.now choice.now (authority_of (serving server.old).config.base)))) }
-    ensures closed { AllClosed (W.state wire.old) (W.state wire.new) }
-    ensures stops { IfOk result (λ connections. IfSome stop_after (λ most. most ≤ connections)) }
-    ensures soon { IfOk result (λ connections. IfSome stop_after (λ most. connections ≤ (most - 1) + 256)) }
-    ensures never { OnOk result (stop_after ≡ None → ⊥) }
-    ensures links { IfOk result (λ connections. (W.state wire.old).given + connections ≤ (W.state wire.new).given) }
-    ensures err { IfErr result (LinksCause (W.state wire.old).faults (W.state wire.new).faults) }
+    ensures serves { ServesLinks (IsOfFile (F.told shelf.old) name.now choice.now (authority_of (serving server.old).config.base)) (FailedReading (F.told shelf.old) name.now choice.now (authority_of (serving server.old).config.base) (F.faults shelf.old) (F.faults shelf.new)) (serving server.old) stop_after (W.state wire.old) (W.state wire.new) result }
+    ensures told { F.told shelf.new ≡ F.told shelf.old }
+    ensures shelf_later { F.faults shelf.old ≤ F.faults shelf.new }
 {
     let mut supply = FileSupply::new(alloc, shelf, name, choice, base);
     serve_links(rt, alloc, server, &mut supply, wire, stop_after)
@@ -159,20 +139,14 @@ fn serve_file<R: Wait, F: Shelf, W: Accept>(
     wire: &mut W,
     stop_after: Option<u64>,
 ) -> Result<u64, ServiceFault>
-    requires listens { (W.state wire.old).listens ≡ true }
+    requires door { (W.state wire.old).door ≡ door_of base.now }
     requires first { (serving server.old).version ≡ 1 }
     requires base { base.now ≡ (serving server.old).config.base }
     requires reloads { reloads ≡ is_some (serving server.old).config.reload }
-    ensures listens { (W.state wire.new).listens ≡ true }
-    ensures prefixes { Services (serving server.old) (W.state wire.old) (W.state wire.new) (SaysPrefixes (MayFollow (F.told shelf.old) name.now choice.now (serving server.old).config)) }
-    ensures whole { IfOk result (λ connections. Services (serving server.old) (W.state wire.old) (W.state wire.new) (SaysWhole (W.state wire.old).faults connections (MayFollow (F.told shelf.old) name.now choice.now (serving server.old).config))) }
-    ensures closed { AllClosed (W.state wire.old) (W.state wire.new) }
-    ensures stops { IfOk result (λ connections. IfSome stop_after (λ most. most ≤ connections)) }
-    ensures soon { IfOk result (λ connections. IfSome stop_after (λ most. connections ≤ (most - 1) + 256)) }
-    ensures never { OnOk result (stop_after ≡ None → ⊥) }
-    ensures links { IfOk result (λ connections. (W.state wire.old).given + connections ≤ (W.state wire.new).given) }
-    ensures err { IfErr result (LinksCause (W.state wire.old).faults (W.state wire.new).faults) }
-    ensures shelf { reloads ≡ false → shelf.new ≡ shelf.old }
+    ensures serves { ServesLinks (MayFollow (F.told shelf.old) name.now choice.now (serving server.old).config) (FailedReload (F.told shelf.old) name.now choice.now (serving server.old).config (F.faults shelf.old) (F.faults shelf.new)) (serving server.old) stop_after (W.state wire.old) (W.state wire.new) result }
+    ensures opened { (W.state wire.new).door ≡ door_of base.now }
+    ensures told { F.told shelf.new ≡ F.told shelf.old }
+    ensures shelf_later { F.faults shelf.old ≤ F.faults shelf.new }
 {
     if reloads {
         return serve_again(
@@ -199,19 +173,22 @@ fn serve_server<R: Wait, F: Shelf, W: Accept, K: Sink>(
     requires first { (serving server.old).version ≡ 1 }
     requires base { base.now ≡ (serving server.old).config.base }
     requires reloads { reloads ≡ is_some (serving server.old).config.reload }
-    ensures prefixes { ((W.state wire.new).given ≡ (W.state wire.old).given) ⊎ Services (serving server.old) (W.state wire.old) (W.state wire.new) (SaysPrefixes (MayFollow (F.told shelf.old) name.now choice.now (serving server.old).config)) }
-    ensures whole { IfOk result (λ connections. Services (serving server.old) (W.state wire.old) (W.state wire.new) (SaysWhole (W.state wire.old).faults connections (MayFollow (F.told shelf.old) name.now choice.now (serving server.old).config))) }
+    ensures prefixes { ((W.state wire.new).given ≡ (W.state wire.old).given) ⊎ Services (serving server.old) (W.state wire.old) (W.state wire.new) (FailedReload (F.told shelf.old) name.now choice.now (serving server.old).config (F.faults shelf.old) (F.faults shelf.new)) (SaysPrefixes (MayFollow (F.told shelf.old) name.now choice.now (serving server.old).config)) }
+    ensures whole { IfOk result (λ connections. Services (serving server.old) (W.state wire.old) (W.state wire.new) (FailedReload (F.told shelf.old) name.now choice.now (serving server.old).config (F.faults shelf.old) (F.faults shelf.new)) (SaysWhole (W.state wire.old).faults connections (MayFollow (F.told shelf.old) name.now choice.now (serving server.old).config))) }
     ensures closed { AllClosed (W.state wire.old) (W.state wire.new) }
     ensures stops { IfOk result (λ connections. IfSome stop_after (λ most. most ≤ connections)) }
     ensures soon { IfOk result (λ connections. IfSome stop_after (λ most. connections ≤ (most - 1) + 256)) }
     ensures never { OnOk result (stop_after ≡ None → ⊥) }
     ensures links { IfOk result (λ connections. (W.state wire.old).given + connections ≤ (W.state wire.new).given) }
     ensures ready { OnOk result (Appends (K.taken out.old) (K.taken out.new) (codes "ready\n")) }
+    ensures opened { OnOk result ((W.state wire.new).door ≡ door_of (serving server.old).config.base) }
     ensures front { AppendsPrefix (K.taken out.old) (K.taken out.new) (codes "ready\n") }
-    ensures door { (K.taken out.new ≡ K.taken out.old) ⊎ ((W.state wire.new).listens ≡ true) }
+    ensures door { (K.taken out.new ≡ K.taken out.old) ⊎ ((W.state wire.new).door ≡ door_of (serving server.old).config.base) }
     ensures after { ((W.state wire.new).given ≡ (W.state wire.old).given) ⊎ Appends (K.taken out.old) (K.taken out.new) (codes "ready\n") }
     ensures err { IfErr result (DoorCause (W.state wire.old).faults (W.state wire.new).faults (K.faults out.old) (K.faults out.new)) }
-    ensures shelf { reloads ≡ false → shelf.new ≡ shelf.old }
+    ensures turns { OpensAndTurns stop_after (W.state wire.old) (W.state wire.new) result }
+    ensures told { F.told shelf.new ≡ F.told shelf.old }
+    ensures shelf_later { F.faults shelf.old ≤ F.faults shelf.new }
     ensures out_later { K.faults out.old ≤ K.faults out.new }
 {
     if let Err(fault) = begin(server, wire, out) {
@@ -242,22 +219,24 @@ pub fn serve<R: Wait, F: Shelf, W: Accept, K: Sink>(
     out: &mut K,
 ) -> Result<u64, ServiceFault>
     requires { IsConfig (config_of service) }
-    ensures prefixes { ((W.state wire.new).given ≡ (W.state wire.old).given) ⊎ SpeaksOfFile (F.told shelf.old) service.entry.name.now service.entry.choice.now (config_of service.entry) (W.state wire.old) (W.state wire.new) SaysPrefixes }
-    ensures whole { IfOk result (λ connections. SpeaksOfFile (F.told shelf.old) service.entry.name.now service.entry.choice.now (config_of service.entry) (W.state wire.old) (W.state wire.new) (SaysWhole (W.state wire.old).faults connections)) }
+    ensures prefixes { ((W.state wire.new).given ≡ (W.state wire.old).given) ⊎ SpeaksOfFile (F.told shelf.old) service.entry.name.now service.entry.choice.now (config_of service.entry) (F.faults shelf.old) (F.faults shelf.new) (W.state wire.old) (W.state wire.new) SaysPrefixes }
+    ensures whole { IfOk result (λ connections. SpeaksOfFile (F.told shelf.old) service.entry.name.now service.entry.choice.now (config_of service.entry) (F.faults shelf.old) (F.faults shelf.new) (W.state wire.old) (W.state wire.new) (SaysWhole (W.state wire.old).faults connections)) }
     ensures closed { AllClosed (W.state wire.old) (W.state wire.new) }
     ensures stops { IfOk result (λ connections. IfSome service.entry.stop_after (λ most. most ≤ connections)) }
     ensures soon { IfOk result (λ connections. IfSome service.entry.stop_after (λ most. connections ≤ (most - 1) + 256)) }
     ensures never { OnOk result (service.entry.stop_after ≡ None → ⊥) }
     ensures links { IfOk result (λ connections. (W.state wire.old).given + connections ≤ (W.state wire.new).given) }
+    ensures turns { OpensAndTurns service.entry.stop_after (W.state wire.old) (W.state wire.new) result }
     ensures ready { OnOk result (Appends (K.taken out.old) (K.taken out.new) (codes "ready\n")) }
+    ensures opened { OnOk result ((W.state wire.new).door ≡ door_of service.entry.base) }
     ensures front { AppendsPrefix (K.taken out.old) (K.taken out.new) (codes "ready\n") }
-    ensures door { (K.taken out.new ≡ K.taken out.old) ⊎ ((W.state wire.new).listens ≡ true) }
+    ensures door { (K.taken out.new ≡ K.taken out.old) ⊎ ((W.state wire.new).door ≡ door_of service.entry.base) }
     ensures after { ((W.state wire.new).given ≡ (W.state wire.old).given) ⊎ Appends (K.taken out.old) (K.taken out.new) (codes "ready\n") }
     ensures untouched { IfErr result (IsUntouched (W.state wire.old) (W.state wire.new) (K.taken out.old) (K.taken out.new)) }
     ensures cause { IfErr result (ServiceCause (F.told shelf.old) service.entry.name.now service.entry.choice.now (authority_of service.entry.base) (F.faults shelf.old) (F.faults shelf.new) (W.state wire.old).faults (W.state wire.new).faults (K.faults out.old) (K.faults out.new)) }
     ensures exact { ¬ (Rose (F.faults shelf.old) (F.faults shelf.new)) → IfTold (F.told shelf.old) (λ files. (outcome : Outcome) → IsOutcome files service.entry.name.now service.entry.choice.now (authority_of service.entry.base) outcome → GivesServed outcome result) }
-    ensures told { service.entry.reload ≡ None → F.told shelf.new ≡ F.told shelf.old }
-    ensures shelf_later { service.entry.reload ≡ None → F.faults shelf.old ≤ F.faults shelf.new }
+    ensures told { F.told shelf.new ≡ F.told shelf.old }
+    ensures shelf_later { F.faults shelf.old ≤ F.faults shelf.new }
     ensures out_later { K.faults out.old ≤ K.faults out.new }
 {
     let Service {
