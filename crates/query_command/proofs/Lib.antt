@@ -3,3 +3,4 @@ pub mod Reading
 pub mod Honest
 pub mod Looping
 pub mod Locals
+pub mod Counting

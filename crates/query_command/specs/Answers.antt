@@ -57,8 +57,8 @@ abbrev pub IsReading : QueryOutcome → Type 0
 IsReading outcome = (q : QueryData) × (outcome ≡ reads q)
 
 -- what the file of the query holds is answered by itself, or by want of memory
-abbrev pub GivesAnswer : QueryOutcome → Result Report AnswerFault → Type 0
-GivesAnswer outcome (Ok report) = IsReading outcome
+abbrev pub GivesAnswer : {X : Type 0} → QueryOutcome → Result X AnswerFault → Type 0
+GivesAnswer outcome (Ok answer) = IsReading outcome
 GivesAnswer outcome (Err (faults.Data fault)) = Unit {0}
 GivesAnswer outcome (Err (faults.Query fault)) = GivesQuery outcome (Err fault)
 GivesAnswer outcome (Err (faults.Client fault)) = IsReading outcome

@@ -70,11 +70,14 @@ fn is_few(server: &FragmentServer)
     let _count = server.server().table().len();
 }
 
-/// Asks a server over a wire that is made for it, and leaves the wire.
-fn ask_server<R: Wait, K: Sink>(
+/// Asks a server over a wire that is made for it, of this seed, on which each `fail_every`-th dial fails,
+/// and leaves the wire.
+pub(crate) fn ask_server<R: Wait, K: Sink>(
     rt: &R,
     alloc: Global,
-    asked: &LocalQuery<'_>,
+    options: &Options,
+    seed: u64,
+    fail_every: u64,
     start: &WebAddress,
     server: FragmentServer,
     query: &Query,
@@ -83,20 +86,20 @@ fn ask_server<R: Wait, K: Sink>(
 ) -> Result<Report, ClientFault>
     requires start { start.now ≡ local_base }
     requires first { (serving server).version ≡ 1 }
-    requires window { 1 ≤ asked.now.options.window }
-    requires some { 1 ≤ asked.now.options.links }
-    requires few { asked.now.options.links ≤ 256 }
-    ensures answers { IfOk result (λ report. LoopsServer server asked.now.seed asked.now.fail_every inside.new (λ old new. WritesOver (allows_of old) query.now local_base asked.now.options report (wire_of old) (wire_of new) (K.taken out.old) (K.taken out.new))) }
-    ensures cause { IfErr result (λ fault. LoopsServer server asked.now.seed asked.now.fail_every inside.new (λ old new. FailsOver (allows_of old) query.now local_base asked.now.options fault (wire_of old) (wire_of new) (K.faults out.old) (K.faults out.new) (K.taken out.old) (K.taken out.new))) }
+    requires window { 1 ≤ options.now.window }
+    requires some { 1 ≤ options.now.links }
+    requires few { options.now.links ≤ 256 }
+    ensures answers { IfOk result (λ report. LoopsServer server seed fail_every inside.new (λ old new. WritesOver (allows_of old) query.now local_base options.now report (wire_of old) (wire_of new) (K.taken out.old) (K.taken out.new))) }
+    ensures cause { IfErr result (λ fault. LoopsServer server seed fail_every inside.new (λ old new. FailsOver (allows_of old) query.now local_base options.now fault (wire_of old) (wire_of new) (K.faults out.old) (K.faults out.new) (K.taken out.old) (K.taken out.new))) }
     ensures answer { IfOk result (λ report. WritesAnswer (serving server).data_set query.now report.rows (K.taken out.old) (K.taken out.new)) }
     ensures front { OnErr result (WritesAnswerFront (serving server).data_set query.now (K.taken out.old) (K.taken out.new)) }
     ensures later { K.faults out.old ≤ K.faults out.new }
 {
     is_few(&server);
     server.server().is_valid();
-    let failing = Failing::Dials(asked.fail_every);
-    let mut wire: LoopWire<FragmentConnection> = LoopWire::new(alloc, server, asked.seed, failing);
-    let answer = query_server(rt, alloc, query, start, &asked.options, &mut wire, out);
+    let failing = Failing::Dials(fail_every);
+    let mut wire: LoopWire<FragmentConnection> = LoopWire::new(alloc, server, seed, failing);
+    let answer = query_server(rt, alloc, query, start, options, &mut wire, out);
     *inside = Some(wire);
     answer
 }
@@ -133,7 +136,18 @@ fn serve_and_ask<R: Wait, F: Shelf, K: Sink>(
         Ok(query) => query,
         Err(fault) => return Err(AnswerFault::Query(fault)),
     };
-    match ask_server(rt, alloc, asked, &start, server, &query, out, inside) {
+    match ask_server(
+        rt,
+        alloc,
+        &asked.options,
+        asked.seed,
+        asked.fail_every,
+        &start,
+        server,
+        &query,
+        out,
+        inside,
+    ) {
         Ok(report) => Ok(report),
         Err(fault) => Err(AnswerFault::Client(fault)),
     }

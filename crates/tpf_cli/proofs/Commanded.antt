@@ -17,10 +17,10 @@ use Rattle.serve_command.specs.declared.fault.ServiceFault.{ServiceFault}
 use Rattle.command_words.specs.declared.command.ClientWords.{ClientWords}
 use Rattle.command_words.specs.CommandViews.{command_view}
 use Rattle.command_words.specs.declared.command.Command as declared_command
-use Rattle.command_words.specs.Commands.{Command, local, query, serve}
+use Rattle.command_words.specs.Commands.{Command, local, query, serve, make}
 use Rattle.tpf_cli.specs.declared.top.Inside.TheVariants.{Unused}
-use Rattle.tpf_cli.specs.Endings.{EndOfRun, usage, no_words, answered, served}
-use Rattle.tpf_cli.specs.Runs.{Around, IsIdle, AsksFile, AsksServer, ServesFile, Writes, Does, DoesOf, options_of, config_by, IsWithoutWire, IsReadOnce}
+use Rattle.tpf_cli.specs.Endings.{EndOfRun, usage, no_words, answered, served, counted}
+use Rattle.tpf_cli.specs.Runs.{Around, IsIdle, AsksFile, AsksServer, ServesFile, AsksGenerated, Writes, Does, DoesOf, options_of, config_by, IsWithoutWire}
 
 -- what stands around a run that made no wire inside
 abbrev pub without : Around → Around
@@ -53,8 +53,10 @@ module _ (a : Around) where
       soon = s.soon;
       never = s.never;
       links = s.links;
+      turns = s.turns;
       ready = s.ready;
       front = s.front;
+      opened = s.opened;
       door = s.door;
       untouched = s.untouched;
       cause = s.cause;
@@ -69,6 +71,9 @@ module _ (a : Around) where
   make_does count (Ok nothing) same unused ok err failed = (ok, same, unused)
   make_does count (Err sinks.Failed) same unused ok err failed = (err, same, unused, failed refl)
   make_does count (Err sinks.OutOfMemory) same unused ok err failed = (err, same, unused)
+
+  pub generated_does : (count : ℕ) (name : List ℕ) (result : Result (Unit {0}) AnswerFault) → AsksGenerated a count name result → Does a (make count (Some name)) (counted name result)
+  generated_does count name result h = (refl, h)
 
   -- ---- words
 
@@ -91,6 +96,3 @@ words_are o command given is e = subst (λ (p : Option declared_command.Command)
 
 pub without_wire : (given : Option Command) (command : Command) → Some command ≡ given → IsWithoutWire given → IsWithoutWire (Some command)
 without_wire given command is h = subst IsWithoutWire (sym is) h
-
-pub read_once : (given : Option Command) (command : Command) → Some command ≡ given → IsReadOnce given → IsReadOnce (Some command)
-read_once given command is h = subst IsReadOnce (sym is) h

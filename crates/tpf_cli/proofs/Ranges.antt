@@ -98,7 +98,8 @@ serve_range values c e =
 make_range : (values : Values) (c : Command) → make_from values ≡ Some c → IsInRange c
 make_range values c e =
     let count = bind_some (values (codes "N") >>= number_of 1 1000000) _ c e in
-    subst IsInRange (some_same count.2) tt
+    let text = bind_some (values (codes "N")) (number_of 1 1000000) count.0 count.1 in
+    subst IsInRange (some_same count.2) (in_range 1 1000000 1 count.0 (Some text.0) (omega arith) (omega arith) text.2)
 
 -- ---- words
 

@@ -3,7 +3,8 @@ use Rattle.std.proofs.Common.{ℕ, ◌≡◌, inl, inr, List, [], ◌++◌, Opti
 use Rattle.std.proofs.KnownBytes.{Appends-nil}
 use Rattle.tpf_base.specs.declared.fault.Fault.{Fault}
 use Rattle.data_files.specs.declared.fault.DataFault.{DataFault}
-use Rattle.tpf_cli.specs.Endings.{data_status, data_line, made_status, made_line}
+use Rattle.query_command.specs.declared.fault.AnswerFault.{AnswerFault}
+use Rattle.tpf_cli.specs.Endings.{data_status, data_line, made_status, made_line, counted_status, counted_line}
 use Rattle.tpf_cli.specs.Lines.{SaysLine}
 
 -- the same is said where the line is equal
@@ -27,6 +28,11 @@ data_said result faults faults' old new name fault known is h = subst (λ (f : D
 pub made_said : (result faults faults' : ℕ) (old new : Option (List ℕ)) (made known : Result (Unit {0}) Fault) → made ≡ known → SaysLine result (made_status known) (made_line known) faults faults' old new
     → SaysLine result (made_status made) (made_line made) faults faults' old new
 made_said result faults faults' old new made known is h = subst (λ (m : Result (Unit {0}) Fault). SaysLine result (made_status m) (made_line m) faults faults' old new) (sym is) h
+
+-- the same of a query of generated data
+pub counted_said : (result faults faults' : ℕ) (old new : Option (List ℕ)) (name : List ℕ) (counted known : Result (Unit {0}) AnswerFault) → counted ≡ known → SaysLine result (counted_status known) (counted_line name known) faults faults' old new
+    → SaysLine result (counted_status counted) (counted_line name counted) faults faults' old new
+counted_said result faults faults' old new name counted known is h = subst (λ (m : Result (Unit {0}) AnswerFault). SaysLine result (counted_status m) (counted_line name m) faults faults' old new) (sym is) h
 
 -- the lines of faults of data by the name of the fault, by the label, and by the name of the file
 pub fault_line_of : (n : ℕ) (why other : List ℕ) → why ≡ other → (codes "data: line " ++ decimal n ++ codes ": " ++ why ++ codes "\n") ≡ (codes "data: line " ++ decimal n ++ codes ": " ++ other ++ codes "\n")

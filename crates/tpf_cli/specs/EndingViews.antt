@@ -1,5 +1,5 @@
 -- The ending of a run without where its texts lie in memory.
-use Rattle.tpf_cli.specs.Endings.{EndOfRun, usage, no_words, answered, served, made}
+use Rattle.tpf_cli.specs.Endings.{EndOfRun, usage, no_words, answered, served, made, counted}
 use Rattle.tpf_cli.specs.declared.ending.Ending.TheVariants as endings
 use Rattle.tpf_cli.specs.declared.ending.Ending as declared_ending
 
@@ -9,3 +9,4 @@ ending_view endings.NoWords = no_words
 ending_view (endings.Answered data_name query_name answer) = answered data_name.now query_name.now answer
 ending_view (endings.Served name service) = served name.now service
 ending_view (endings.Made written) = made written
+ending_view (endings.Counted query_name result) = counted query_name.now result

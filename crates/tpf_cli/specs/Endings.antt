@@ -18,13 +18,14 @@ use Rattle.serve_command.specs.declared.fault.ServiceFault.TheVariants as servic
 use Rattle.tpf_cli.specs.Names.{why_text, query_why_text, page_text}
 use Rattle.tpf_cli.specs.Lines.{SaysLine, version_text}
 
--- how a run ends: the words are no command; memory ran out over them; what came of a query, with the names of the files of data and of the query; of a service, with that of its file; and of generated data
+-- how a run ends: the words are no command; memory ran out over them; what came of a query, with the names of the files of data and of the query; of a service, with that of its file; of generated data; and of a query of generated data, with the name of its file
 pub data EndOfRun : Type 0 where
   usage : EndOfRun
   no_words : EndOfRun
   answered : List ℕ → List ℕ → Result Report AnswerFault → EndOfRun
   served : List ℕ → Result ℕ ServiceFault → EndOfRun
   made : Result (Unit {0}) Fault → EndOfRun
+  counted : List ℕ → Result (Unit {0}) AnswerFault → EndOfRun
 
 -- ---- data and queries
 
@@ -88,17 +89,23 @@ client_line clients.OutOfMemory = codes "memory\n"
 
 -- ---- commands
 
+abbrev pub fault_status : AnswerFault → ℕ
+fault_status (answers.Data fault) = data_status fault
+fault_status (answers.Query fault) = query_status fault
+fault_status (answers.Client fault) = client_status fault
+
+abbrev pub fault_line : List ℕ → List ℕ → AnswerFault → List ℕ
+fault_line data_name query_name (answers.Data fault) = data_line data_name fault
+fault_line data_name query_name (answers.Query fault) = query_line query_name fault
+fault_line data_name query_name (answers.Client fault) = client_line fault
+
 abbrev pub answer_status : Result Report AnswerFault → ℕ
 answer_status (Ok report) = 0
-answer_status (Err (answers.Data fault)) = data_status fault
-answer_status (Err (answers.Query fault)) = query_status fault
-answer_status (Err (answers.Client fault)) = client_status fault
+answer_status (Err fault) = fault_status fault
 
 abbrev pub answer_line : List ℕ → List ℕ → Result Report AnswerFault → List ℕ
 answer_line data_name query_name (Ok report) = codes "requests " ++ decimal report.requests ++ codes " rows " ++ decimal report.rows ++ codes "\n"
-answer_line data_name query_name (Err (answers.Data fault)) = data_line data_name fault
-answer_line data_name query_name (Err (answers.Query fault)) = query_line query_name fault
-answer_line data_name query_name (Err (answers.Client fault)) = client_line fault
+answer_line data_name query_name (Err fault) = fault_line data_name query_name fault
 
 abbrev pub service_status : Result ℕ ServiceFault → ℕ
 service_status (Ok connections) = 0
@@ -125,6 +132,15 @@ made_line (Ok nothing) = []
 made_line (Err sinks.Failed) = codes "sink\n"
 made_line (Err sinks.OutOfMemory) = codes "memory\n"
 
+abbrev pub counted_status : Result (Unit {0}) AnswerFault → ℕ
+counted_status (Ok nothing) = 0
+counted_status (Err fault) = fault_status fault
+
+-- nothing is said where the numbers were written
+abbrev pub counted_line : List ℕ → Result (Unit {0}) AnswerFault → List ℕ
+counted_line query_name (Ok nothing) = []
+counted_line query_name (Err fault) = fault_line [] query_name fault
+
 -- ---- runs
 
 -- the exit status
@@ -134,6 +150,7 @@ status_of no_words = 8
 status_of (answered data_name query_name answer) = answer_status answer
 status_of (served name service) = service_status service
 status_of (made written) = made_status written
+status_of (counted query_name result) = counted_status result
 
 -- the line on the standard error, with its LF
 abbrev pub line_of : EndOfRun → List ℕ
@@ -142,6 +159,7 @@ line_of no_words = codes "memory\n"
 line_of (answered data_name query_name answer) = answer_line data_name query_name answer
 line_of (served name service) = service_line name service
 line_of (made written) = made_line written
+line_of (counted query_name result) = counted_line query_name result
 
 abbrev pub Says : ℕ → EndOfRun → ℕ → ℕ → Option (List ℕ) → Option (List ℕ) → Type 0
 Says result end faults faults' old new = SaysLine result (status_of end) (line_of end) faults faults' old new

@@ -15,4 +15,4 @@ abbrev pub IsInRange : Command → Type 0
 IsInRange (local name query_name choice page client seed fail_every) = (1 ≤ page) × (page ≤ 1000) × IsClient client
 IsInRange (query url query_name client) = IsClient client
 IsInRange (serve name base choice page stop_after reload) = (1 ≤ page) × (page ≤ 1000) × (base.query ≡ None) × HasReloadPath base reload
-IsInRange (make count asked) = Unit {0}
+IsInRange (make count asked) = (1 ≤ count) × (count ≤ 1000000)

@@ -20,14 +20,19 @@ use Rattle.data_files.specs.Data.{Files, IfTold, Outcome, IsOutcome}
 use Rattle.data_files.specs.Queries.{QueryOutcome, IsQueryOutcome}
 use Rattle.query_command.specs.declared.fault.AnswerFault.{AnswerFault}
 use Rattle.query_command.specs.Answers.{Answers, AskCause, GivesAnswer}
+use Rattle.query_command.specs.declared.fault.AnswerFault.TheVariants as answer_faults
 use Rattle.query_command.specs.Loops.{LocalView, LocalAnswers, LocalCause, GivesData}
+use Rattle.query_command.specs.declared.generated_query.Counts.{Counts}
+use Rattle.query_command.specs.Generated.{GeneratedAnswers, GeneratedCause}
+use Rattle.tpf_client.specs.declared.fault.ClientFault.TheVariants as clients
 use Rattle.serve_command.specs.declared.fault.ServiceFault.{ServiceFault}
-use Rattle.serve_command.specs.Services.{SpeaksOfFile, SaysPrefixes, SaysWhole, ServiceCause, IsUntouched, GivesServed}
+use Rattle.serve_command.specs.Services.{door_of, OpensAndTurns, SpeaksOfFile, SaysPrefixes, SaysWhole, ServiceCause, IsUntouched, GivesServed}
 use Rattle.command_words.specs.declared.command.ClientWords.{ClientWords}
 use Rattle.command_words.specs.Commands.{Command, local, query, serve, make}
 use Rattle.tpf_cli.specs.declared.top.Inside.{Inside}
 use Rattle.tpf_cli.specs.declared.top.Inside.TheVariants.{Unused, Loop}
-use Rattle.tpf_cli.specs.Endings.{EndOfRun, usage, no_words, answered, served, made}
+use Rattle.tpf_cli.specs.Endings.{EndOfRun, usage, no_words, answered, served, made, counted}
+use Rattle.tpf_cli.specs.Lines.{sizes_text}
 
 -- What stands around a run, before it and after it: what the shelf tells, its faults, what the wire allows and holds, the faults of the output and what it took, and the wire that was made inside.
 pub record Around : Type 1 where
@@ -70,16 +75,18 @@ AsksServer a name start options (Err fault) = AskCause a.told name a.allows star
 
 -- a file was served over the handed-in wire
 pub record ServesFile (a : Around) (name : List ℕ) (choice : Choice) (config : Config) (stop_after : Option ℕ) (result : Result ℕ ServiceFault) : Type 0 where
-  pub prefixes : (a.wire'.given ≡ a.wire.given) ⊎ SpeaksOfFile a.told name choice config a.wire a.wire' SaysPrefixes
-  pub whole : IfOk result (λ connections. SpeaksOfFile a.told name choice config a.wire a.wire' (SaysWhole a.wire.faults connections))
+  pub prefixes : (a.wire'.given ≡ a.wire.given) ⊎ SpeaksOfFile a.told name choice config a.shelf a.shelf' a.wire a.wire' SaysPrefixes
+  pub whole : IfOk result (λ connections. SpeaksOfFile a.told name choice config a.shelf a.shelf' a.wire a.wire' (SaysWhole a.wire.faults connections))
   pub closed : AllClosed a.wire a.wire'
   pub stops : IfOk result (λ connections. IfSome stop_after (λ most. most ≤ connections))
   pub soon : IfOk result (λ connections. IfSome stop_after (λ most. connections ≤ (most - 1) + 256))
   pub never : OnOk result (stop_after ≡ None → ⊥)
   pub links : IfOk result (λ connections. a.wire.given + connections ≤ a.wire'.given)
+  pub turns : OpensAndTurns stop_after a.wire a.wire' result
   pub ready : OnOk result (Appends a.taken a.taken' (codes "ready\n"))
   pub front : AppendsPrefix a.taken a.taken' (codes "ready\n")
-  pub door : (a.taken' ≡ a.taken) ⊎ (a.wire'.listens ≡ true)
+  pub opened : OnOk result (a.wire'.door ≡ door_of config.base)
+  pub door : (a.taken' ≡ a.taken) ⊎ (a.wire'.door ≡ door_of config.base)
   pub untouched : IfErr result (IsUntouched a.wire a.wire' a.taken a.taken')
   pub cause : IfErr result (ServiceCause a.told name choice (authority_of config.base) a.shelf a.shelf' a.wire.faults a.wire'.faults a.out a.out')
   pub exact : ¬ (Rose a.shelf a.shelf') → IfTold a.told (λ files. (outcome : Outcome) → IsOutcome files name choice (authority_of config.base) outcome → GivesServed outcome result)
@@ -90,6 +97,29 @@ abbrev pub Writes : Around → ℕ → Result (Unit {0}) Fault → Type 0
 Writes a count (Ok nothing) = Appends a.taken a.taken' (canon (generated count)) × (a.wire' ≡ a.wire) × (a.inside' ≡ Unused)
 Writes a count (Err sinks.Failed) = AppendsPrefix a.taken a.taken' (canon (generated count)) × (a.wire' ≡ a.wire) × (a.inside' ≡ Unused) × Rose a.out a.out'
 Writes a count (Err sinks.OutOfMemory) = AppendsPrefix a.taken a.taken' (canon (generated count)) × (a.wire' ≡ a.wire) × (a.inside' ≡ Unused)
+
+-- a query was asked of the data of so many persons in the process, and the output took this of the line of its numbers
+pub record CountsGenerated (a : Around) (persons : ℕ) (name : List ℕ) (Takes : List ℕ → Type 0) : Type 0 where
+  pub counts : Counts
+  pub answers : GeneratedAnswers a.told persons name (wire_inside a.inside') counts
+  pub line : Takes (sizes_text counts)
+
+-- the answer to a line that was not written whole
+abbrev pub unwritten : Fault → AnswerFault
+unwritten sinks.Failed = answer_faults.Client clients.Sink
+unwritten sinks.OutOfMemory = answer_faults.Client clients.OutOfMemory
+
+-- a front of a line was written: the output failed, or memory ran out
+pub record CutsLine (out out' : ℕ) (taken taken' : Option (List ℕ)) (line : List ℕ) (fault : AnswerFault) : Type 0 where
+  pub cause : Fault
+  pub is : fault ≡ unwritten cause
+  pub failed : cause ≡ sinks.Failed → Rose out out'
+  pub front : AppendsPrefix taken taken' line
+
+-- a query was asked of generated data in the process, and the line of its numbers written, and nothing else; the handed-in wire is not used
+abbrev pub AsksGenerated : Around → ℕ → List ℕ → Result (Unit {0}) AnswerFault → Type 0
+AsksGenerated a persons name (Ok nothing) = CountsGenerated a persons name (Appends a.taken a.taken') × (a.wire' ≡ a.wire)
+AsksGenerated a persons name (Err fault) = ((GeneratedCause a.told persons name (wire_inside a.inside') a.shelf a.shelf' fault × (a.taken' ≡ a.taken)) ⊎ CountsGenerated a persons name (λ line. CutsLine a.out a.out' a.taken a.taken' line fault)) × (a.wire' ≡ a.wire)
 
 -- ---- runs
 
@@ -106,22 +136,31 @@ Does a (local name query_name choice page client seed fail_every) usage = ⊥
 Does a (local name query_name choice page client seed fail_every) no_words = ⊥
 Does a (local name query_name choice page client seed fail_every) (served file service) = ⊥
 Does a (local name query_name choice page client seed fail_every) (made written) = ⊥
+Does a (local name query_name choice page client seed fail_every) (counted asked result) = ⊥
 Does a (query url query_name client) (answered data_name asked answer) = (asked ≡ query_name) × AsksServer a query_name url (options_of client) answer
 Does a (query url query_name client) usage = ⊥
 Does a (query url query_name client) no_words = ⊥
 Does a (query url query_name client) (served file service) = ⊥
 Does a (query url query_name client) (made written) = ⊥
+Does a (query url query_name client) (counted asked result) = ⊥
 Does a (serve name base choice page stop_after reload) (served file service) = (file ≡ name) × ServesFile a name choice (config_by base page reload) stop_after service
 Does a (serve name base choice page stop_after reload) usage = ⊥
 Does a (serve name base choice page stop_after reload) no_words = ⊥
 Does a (serve name base choice page stop_after reload) (answered data_name asked answer) = ⊥
 Does a (serve name base choice page stop_after reload) (made written) = ⊥
+Does a (serve name base choice page stop_after reload) (counted asked result) = ⊥
 Does a (make count None) (made written) = Writes a count written
 Does a (make count None) usage = ⊥
 Does a (make count None) no_words = ⊥
 Does a (make count None) (answered data_name asked answer) = ⊥
 Does a (make count None) (served file service) = ⊥
-Does a (make count (Some asked_name)) end = (end ≡ usage) × IsIdle a
+Does a (make count None) (counted asked result) = ⊥
+Does a (make count (Some asked_name)) (counted asked result) = (asked ≡ asked_name) × AsksGenerated a count asked_name result
+Does a (make count (Some asked_name)) usage = ⊥
+Does a (make count (Some asked_name)) no_words = ⊥
+Does a (make count (Some asked_name)) (answered data_name asked answer) = ⊥
+Does a (make count (Some asked_name)) (served file service) = ⊥
+Does a (make count (Some asked_name)) (made written) = ⊥
 
 -- Where the shelf did not fail, what the files hold decides how a command ends, want of memory aside: by the outcome of each file that was read.
 abbrev pub MustEnd : Around → Command → EndOfRun → Type 0
@@ -132,17 +171,26 @@ MustEnd a (local name query_name choice page client seed fail_every) usage = Uni
 MustEnd a (local name query_name choice page client seed fail_every) no_words = Unit {0}
 MustEnd a (local name query_name choice page client seed fail_every) (served file service) = Unit {0}
 MustEnd a (local name query_name choice page client seed fail_every) (made written) = Unit {0}
+MustEnd a (local name query_name choice page client seed fail_every) (counted asked result) = Unit {0}
 MustEnd a (query url query_name client) (answered data_name asked answer) = ¬ (Rose a.shelf a.shelf') → IfTold a.told (λ files. (outcome : QueryOutcome) → IsQueryOutcome files query_name outcome → GivesAnswer outcome answer)
 MustEnd a (query url query_name client) usage = Unit {0}
 MustEnd a (query url query_name client) no_words = Unit {0}
 MustEnd a (query url query_name client) (served file service) = Unit {0}
 MustEnd a (query url query_name client) (made written) = Unit {0}
+MustEnd a (query url query_name client) (counted asked result) = Unit {0}
 MustEnd a (serve name base choice page stop_after reload) (served file service) = ¬ (Rose a.shelf a.shelf') → IfTold a.told (λ files. (outcome : Outcome) → IsOutcome files name choice (authority_of base) outcome → GivesServed outcome service)
 MustEnd a (serve name base choice page stop_after reload) usage = Unit {0}
 MustEnd a (serve name base choice page stop_after reload) no_words = Unit {0}
 MustEnd a (serve name base choice page stop_after reload) (answered data_name asked answer) = Unit {0}
 MustEnd a (serve name base choice page stop_after reload) (made written) = Unit {0}
-MustEnd a (make count asked) end = Unit {0}
+MustEnd a (serve name base choice page stop_after reload) (counted asked result) = Unit {0}
+MustEnd a (make count None) end = Unit {0}
+MustEnd a (make count (Some asked_name)) (counted asked result) = ¬ (Rose a.shelf a.shelf') → IfTold a.told (λ files. (outcome : QueryOutcome) → IsQueryOutcome files asked_name outcome → GivesAnswer outcome result)
+MustEnd a (make count (Some asked_name)) usage = Unit {0}
+MustEnd a (make count (Some asked_name)) no_words = Unit {0}
+MustEnd a (make count (Some asked_name)) (answered data_name asked answer) = Unit {0}
+MustEnd a (make count (Some asked_name)) (served file service) = Unit {0}
+MustEnd a (make count (Some asked_name)) (made written) = Unit {0}
 
 -- the same of a run, where its words are a command or none
 abbrev pub DoesOf : Around → Option Command → EndOfRun → Type 0
@@ -160,11 +208,3 @@ IsWithoutWire (Some (local name query_name choice page client seed fail_every)) 
 IsWithoutWire (Some (query url query_name client)) = ⊥
 IsWithoutWire (Some (serve name base choice page stop_after reload)) = ⊥
 IsWithoutWire (Some (make count asked)) = Unit {0}
-
--- no request has a file read again by these words
-abbrev pub IsReadOnce : Option Command → Type 0
-IsReadOnce None = Unit {0}
-IsReadOnce (Some (local name query_name choice page client seed fail_every)) = Unit {0}
-IsReadOnce (Some (query url query_name client)) = Unit {0}
-IsReadOnce (Some (serve name base choice page stop_after reload)) = reload ≡ None
-IsReadOnce (Some (make count asked)) = Unit {0}

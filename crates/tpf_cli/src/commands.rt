@@ -1,22 +1,25 @@
 // The commands.
-ghost use Rattle.std.specs.Prelude.{◌≡◌, ◌≤◌, None};
+ghost use Rattle.std.specs.Prelude.{◌≡◌, ◌≤◌, None, OnOk, IfErr};
+ghost use Rattle.std.specs.Io.KnownBytes.{Appends};
 ghost use Rattle.template_fill.specs.Configurations.{HasReloadPath};
 ghost use Rattle.query_command.specs.Loops.{local_view};
 ghost use Rattle.serve_command.specs.Services.{config_of};
 ghost use Rattle.tpf_cli.specs.Ranges.{IsClient};
-ghost use Rattle.tpf_cli.specs.Runs.{AsksFile, AsksServer, ServesFile, options_of, wire_inside};
+ghost use Rattle.tpf_cli.specs.Lines.{sizes_text};
+ghost use Rattle.tpf_cli.specs.Runs.{AsksFile, AsksServer, ServesFile, AsksGenerated, CutsLine, options_of, unwritten, wire_inside};
 
+use crate::lines::write_sizes;
 use crate::top::Inside;
 use command_words::ClientWords;
 use fragment_server::FragmentConnection;
 use loop_wire::LoopWire;
-use query_command::{AnswerFault, LocalQuery, local, query};
+use query_command::{AnswerFault, Counts, LocalQuery, local, query, query_generated};
 use serve_command::{Service, ServiceFault, serve};
 use std::alloc::Global;
 use std::sync::Wait;
 use template_fill::WebAddress;
-use tpf_base::{Accept, Dial, Shelf, Sink};
-use tpf_client::{Options, Report};
+use tpf_base::{Accept, Dial, Fault, Shelf, Sink};
+use tpf_client::{ClientFault, Options, Report};
 
 /// The bounds of a client by its words.
 pub fn options_of(client: ClientWords) -> Options
@@ -67,6 +70,55 @@ pub fn ask_file<R: Wait, F: Shelf, W: Dial, K: Sink>(
     answer
 }
 
+/// Why numbers were not written whole.
+fn unwritten(fault: Fault) -> AnswerFault
+    ensures { result ≡ unwritten fault }
+{
+    match fault {
+        Fault::Failed => AnswerFault::Client(ClientFault::Sink),
+        Fault::OutOfMemory => AnswerFault::Client(ClientFault::OutOfMemory),
+    }
+}
+
+/// Writes the numbers of the triples and of the rows.
+fn write_numbers<K: Sink>(alloc: Global, out: &mut K, counts: Counts) -> Result<(), AnswerFault>
+    ensures ok { OnOk result (Appends (K.taken out.old) (K.taken out.new) (sizes_text counts)) }
+    ensures err { IfErr result (CutsLine (K.faults out.old) (K.faults out.new) (K.taken out.old) (K.taken out.new) (sizes_text counts)) }
+    ensures later { K.faults out.old ≤ K.faults out.new }
+{
+    match write_sizes(alloc, out, counts) {
+        Ok(()) => Ok(()),
+        Err(fault) => Err(unwritten(fault)),
+    }
+}
+
+/// Asks a query of the data of so many persons, writes the numbers of the triples and of the rows, and leaves
+/// the wire that was made for it.
+pub fn ask_generated<R: Wait, F: Shelf, W: Dial, K: Sink>(
+    rt: &R,
+    alloc: Global,
+    persons: u32,
+    name: &str,
+    shelf: &mut F,
+    wire: &W,
+    out: &mut K,
+    inside: &mut Inside,
+) -> Result<(), AnswerFault>
+    requires { persons ≤ 1000000 }
+    ensures asks { AsksGenerated (record { told = F.told shelf.old; shelf = F.faults shelf.old; shelf' = F.faults shelf.new; allows = W.allows wire.now; wire = W.state wire.now; wire' = W.state wire.now; out = K.faults out.old; out' = K.faults out.new; taken = K.taken out.old; taken' = K.taken out.new; inside' = inside.new }) persons name.now result }
+    ensures told { F.told shelf.new ≡ F.told shelf.old }
+    ensures shelf_later { F.faults shelf.old ≤ F.faults shelf.new }
+    ensures out_later { K.faults out.old ≤ K.faults out.new }
+{
+    let mut left = None;
+    let answer = query_generated(rt, alloc, persons, name, shelf, &mut left);
+    *inside = inside_of(left);
+    match answer {
+        Ok(counts) => write_numbers(alloc, out, counts),
+        Err(fault) => Err(fault),
+    }
+}
+
 /// Asks the server at an address.
 pub fn ask_server<R: Wait, F: Shelf, W: Dial, K: Sink>(
     rt: &R,
@@ -101,8 +153,8 @@ pub fn serve_file<R: Wait, F: Shelf, W: Accept, K: Sink>(
     requires no_query { service.base.query ≡ None }
     requires reload { HasReloadPath service.base service.reload }
     ensures serves { ServesFile (record { told = F.told shelf.old; shelf = F.faults shelf.old; shelf' = F.faults shelf.new; allows = W.allows wire.old; wire = W.state wire.old; wire' = W.state wire.new; out = K.faults out.old; out' = K.faults out.new; taken = K.taken out.old; taken' = K.taken out.new; inside' = Inside.Unused }) service.entry.name.now service.entry.choice.now (config_of service.entry) service.entry.stop_after result }
-    ensures told { service.entry.reload ≡ None → F.told shelf.new ≡ F.told shelf.old }
-    ensures shelf_later { service.entry.reload ≡ None → F.faults shelf.old ≤ F.faults shelf.new }
+    ensures told { F.told shelf.new ≡ F.told shelf.old }
+    ensures shelf_later { F.faults shelf.old ≤ F.faults shelf.new }
     ensures out_later { K.faults out.old ≤ K.faults out.new }
 {
     service.base.is_valid();

@@ -25,4 +25,10 @@ pub enum Ending<'a> {
     },
     /// Data were generated.
     Made(Result<(), Fault>),
+    /// A query of generated data was asked and its numbers written: the name of the file of the query, and
+    /// what came of it.
+    Counted {
+        query: &'a str,
+        counted: Result<(), AnswerFault>,
+    },
 }

@@ -1,8 +1,12 @@
-// Lines on the standard error.
-ghost use Rattle.std.specs.Prelude.{ℕ, ◌≡◌, ◌≤◌, ◌++◌, codes, decimal, IfOk, OnOk};
-ghost use Rattle.tpf_cli.specs.Lines.{SaysLine, version_text};
+// Lines on the standard error, and the one on the output.
+ghost use Rattle.std.specs.Prelude.{ℕ, ◌≡◌, ◌≤◌, ◌++◌, codes, decimal, IfOk, OnOk, OnErr, IsErrOf};
+ghost use Rattle.std.specs.Io.KnownBytes.{Appends};
+ghost use Rattle.tpf_base.specs.Causes.{Rose};
+ghost use Rattle.tpf_base.specs.Wrote.{AppendsPrefix};
+ghost use Rattle.tpf_cli.specs.Lines.{SaysLine, version_text, sizes_text};
 
 use itoa::Buffer;
+use query_command::Counts;
 use std::alloc::Global;
 use tpf_base::{Fault, OutOfMemory, Sink, write_all};
 
@@ -61,6 +65,19 @@ fn counts_line(alloc: Global, requests: u64, rows: u64) -> Result<Vec<u8>, OutOf
     text.extend_from_slice(buffer.format(requests).as_bytes())?;
     text.extend_from_slice(b" rows ")?;
     text.extend_from_slice(buffer.format(rows).as_bytes())?;
+    text.extend_from_slice(b"\n")?;
+    Ok(text)
+}
+
+/// The numbers of the triples and of the rows.
+fn sizes_line(alloc: Global, counts: Counts) -> Result<Vec<u8>, OutOfMemory>
+    ensures { IfOk result (λ v. v.items ≡ sizes_text counts) }
+{
+    let mut buffer = Buffer::new();
+    let mut text = Vec::from_slice(alloc, b"triples ")?;
+    text.extend_from_slice(buffer.format(counts.triples).as_bytes())?;
+    text.extend_from_slice(b" rows ")?;
+    text.extend_from_slice(buffer.format(counts.rows).as_bytes())?;
     text.extend_from_slice(b"\n")?;
     Ok(text)
 }
@@ -141,6 +158,20 @@ pub fn write_counts<E: Sink>(alloc: Global, err: &mut E, requests: u64, rows: u6
     match counts_line(alloc, requests, rows) {
         Ok(text) => write_line(err, &text, 0),
         Err(_) => 8,
+    }
+}
+
+/// Writes the numbers of the triples and of the rows to the output. `Failed` only where its count of faults
+/// rose; a front of the line may have been written then.
+pub fn write_sizes<K: Sink>(alloc: Global, out: &mut K, counts: Counts) -> Result<(), Fault>
+    ensures ok { OnOk result (Appends (K.taken out.old) (K.taken out.new) (sizes_text counts)) }
+    ensures err { OnErr result (AppendsPrefix (K.taken out.old) (K.taken out.new) (sizes_text counts)) }
+    ensures failed { IsErrOf result Fault.Failed → Rose (K.faults out.old) (K.faults out.new) }
+    ensures later { K.faults out.old ≤ K.faults out.new }
+{
+    match sizes_line(alloc, counts) {
+        Ok(text) => write_all(out, &text),
+        Err(_) => Err(Fault::OutOfMemory),
     }
 }
 

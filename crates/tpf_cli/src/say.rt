@@ -1,7 +1,7 @@
 // What is said at the end of a run.
 ghost use Rattle.std.specs.Prelude.{ℕ, ◌≡◌, ◌≤◌};
 ghost use Rattle.tpf_cli.specs.Lines.{SaysLine};
-ghost use Rattle.tpf_cli.specs.Endings.{Says, data_status, data_line, query_status, query_line, client_status, client_line, reply_line, made_status, made_line, answer_status, answer_line, service_status, service_line};
+ghost use Rattle.tpf_cli.specs.Endings.{Says, data_status, data_line, query_status, query_line, client_status, client_line, reply_line, made_status, made_line, fault_status, fault_line, counted_status, counted_line, answer_status, answer_line, service_status, service_line};
 ghost use Rattle.tpf_cli.specs.EndingViews.{ending_view};
 
 use crate::ending::Ending;
@@ -94,6 +94,24 @@ fn say_client<E: Sink>(alloc: Global, err: &mut E, fault: &ClientFault) -> u8
     }
 }
 
+/// Says why a query has no whole answer.
+fn say_fault<E: Sink>(
+    alloc: Global,
+    err: &mut E,
+    data: &str,
+    query: &str,
+    fault: &AnswerFault,
+) -> u8
+    ensures says { SaysLine result (fault_status fault.now) (fault_line data.now query.now fault.now) (E.faults err.old) (E.faults err.new) (E.taken err.old) (E.taken err.new) }
+    ensures later { E.faults err.old ≤ E.faults err.new }
+{
+    match fault {
+        AnswerFault::Data(fault) => say_data(alloc, err, data, fault),
+        AnswerFault::Query(fault) => say_query(alloc, err, query, *fault),
+        AnswerFault::Client(fault) => say_client(alloc, err, fault),
+    }
+}
+
 /// Says what came of a query.
 fn say_answer<E: Sink>(
     alloc: Global,
@@ -107,9 +125,7 @@ fn say_answer<E: Sink>(
 {
     match answer {
         Ok(report) => write_counts(alloc, err, report.requests, report.rows),
-        Err(AnswerFault::Data(fault)) => say_data(alloc, err, data, fault),
-        Err(AnswerFault::Query(fault)) => say_query(alloc, err, query, *fault),
-        Err(AnswerFault::Client(fault)) => say_client(alloc, err, fault),
+        Err(fault) => say_fault(alloc, err, data, query, fault),
     }
 }
 
@@ -144,6 +160,22 @@ fn say_made<E: Sink>(err: &mut E, made: &Result<(), Fault>) -> u8
     }
 }
 
+/// Says what came of a query of generated data: nothing where its numbers were written.
+fn say_counted<E: Sink>(
+    alloc: Global,
+    err: &mut E,
+    query: &str,
+    counted: &Result<(), AnswerFault>,
+) -> u8
+    ensures says { SaysLine result (counted_status counted.now) (counted_line query.now counted.now) (E.faults err.old) (E.faults err.new) (E.taken err.old) (E.taken err.new) }
+    ensures later { E.faults err.old ≤ E.faults err.new }
+{
+    match counted {
+        Ok(()) => 0,
+        Err(fault) => say_fault(alloc, err, "", query, fault),
+    }
+}
+
 /// Says how a run ended, and gives the exit status.
 pub fn say<E: Sink>(alloc: Global, err: &mut E, ending: &Ending<'_>) -> u8
     ensures says { Says result (ending_view ending.now) (E.faults err.old) (E.faults err.new) (E.taken err.old) (E.taken err.new) }
@@ -163,5 +195,6 @@ pub fn say<E: Sink>(alloc: Global, err: &mut E, ending: &Ending<'_>) -> u8
         } => say_answer(alloc, err, data, query, answer),
         Ending::Served { data, served } => say_service(alloc, err, data, served),
         Ending::Made(made) => say_made(err, made),
+        Ending::Counted { query, counted } => say_counted(alloc, err, query, counted),
     }
 }

@@ -5,9 +5,9 @@ ghost use Rattle.command_words.specs.CommandViews.{command_view};
 ghost use Rattle.tpf_cli.specs.Endings.{EndOfRun, Says};
 ghost use Rattle.tpf_cli.specs.EndingViews.{ending_view};
 ghost use Rattle.tpf_cli.specs.Ranges.{IsInRange};
-ghost use Rattle.tpf_cli.specs.Runs.{Does, DoesOf, MustEndOf, IsWithoutWire, IsReadOnce};
+ghost use Rattle.tpf_cli.specs.Runs.{Does, DoesOf, MustEndOf, IsWithoutWire};
 
-use crate::commands::{ask_file, ask_server, options_of, serve_file};
+use crate::commands::{ask_file, ask_generated, ask_server, options_of, serve_file};
 use crate::ending::Ending;
 use crate::say::say;
 use command_words::{Command, command_of};
@@ -25,7 +25,7 @@ use tpf_base::{Accept, Dial, Shelf, Sink};
 pub enum Inside {
     /// The run made none.
     Unused,
-    /// The wire between the client and the server of `local`, as the run left it.
+    /// The wire between the client and the server of `local` or of `make --run`, as the run left it.
     Loop(LoopWire<FragmentConnection>),
 }
 
@@ -43,8 +43,8 @@ fn obey<'a, R: Wait, F: Shelf, W: Dial + Accept, K: Sink>(
     requires unused { inside.old ≡ Inside.Unused }
     ensures does { Does (record { told = F.told shelf.old; shelf = F.faults shelf.old; shelf' = F.faults shelf.new; allows = W.allows wire.old; wire = W.state wire.old; wire' = W.state wire.new; out = K.faults out.old; out' = K.faults out.new; taken = K.taken out.old; taken' = K.taken out.new; inside' = inside.new }) (command_view command.entry) (ending_view result) }
     ensures wire { IsWithoutWire (Some (command_view command.entry)) → wire.new ≡ wire.old }
-    ensures told { IsReadOnce (Some (command_view command.entry)) → F.told shelf.new ≡ F.told shelf.old }
-    ensures shelf_later { IsReadOnce (Some (command_view command.entry)) → F.faults shelf.old ≤ F.faults shelf.new }
+    ensures told { F.told shelf.new ≡ F.told shelf.old }
+    ensures shelf_later { F.faults shelf.old ≤ F.faults shelf.new }
     ensures out_later { K.faults out.old ≤ K.faults out.new }
 {
     match command {
@@ -102,7 +102,10 @@ fn obey<'a, R: Wait, F: Shelf, W: Dial + Accept, K: Sink>(
         }
         Command::Make { count, run } => match run {
             None => Ending::Made(write_generated(alloc, count, out)),
-            Some(_) => Ending::Usage,
+            Some(query) => {
+                let counted = ask_generated(rt, alloc, count, query, shelf, &*wire, out, inside);
+                Ending::Counted { query, counted }
+            }
         },
     }
 }
@@ -119,8 +122,8 @@ fn ending_of<'a, R: Wait, F: Shelf, W: Dial + Accept, K: Sink>(
     requires unused { inside.old ≡ Inside.Unused }
     ensures does { DoesOf (record { told = F.told shelf.old; shelf = F.faults shelf.old; shelf' = F.faults shelf.new; allows = W.allows wire.old; wire = W.state wire.old; wire' = W.state wire.new; out = K.faults out.old; out' = K.faults out.new; taken = K.taken out.old; taken' = K.taken out.new; inside' = inside.new }) (command_of (map string_bytes words.entry.now)) (ending_view result) }
     ensures wire { IsWithoutWire (command_of (map string_bytes words.entry.now)) → wire.new ≡ wire.old }
-    ensures told { IsReadOnce (command_of (map string_bytes words.entry.now)) → F.told shelf.new ≡ F.told shelf.old }
-    ensures shelf_later { IsReadOnce (command_of (map string_bytes words.entry.now)) → F.faults shelf.old ≤ F.faults shelf.new }
+    ensures told { F.told shelf.new ≡ F.told shelf.old }
+    ensures shelf_later { F.faults shelf.old ≤ F.faults shelf.new }
     ensures out_later { K.faults out.old ≤ K.faults out.new }
 {
     match command_of(alloc, words) {
@@ -144,8 +147,8 @@ fn end_of<'a, R: Wait, F: Shelf, W: Dial + Accept, K: Sink>(
     ensures does { DoesOf (record { told = F.told shelf.old; shelf = F.faults shelf.old; shelf' = F.faults shelf.new; allows = W.allows wire.old; wire = W.state wire.old; wire' = W.state wire.new; out = K.faults out.old; out' = K.faults out.new; taken = K.taken out.old; taken' = K.taken out.new; inside' = inside.new }) (command_of (map string_bytes words.entry.now)) (ending_view result) }
     ensures must { MustEndOf (record { told = F.told shelf.old; shelf = F.faults shelf.old; shelf' = F.faults shelf.new; allows = W.allows wire.old; wire = W.state wire.old; wire' = W.state wire.new; out = K.faults out.old; out' = K.faults out.new; taken = K.taken out.old; taken' = K.taken out.new; inside' = inside.new }) (command_of (map string_bytes words.entry.now)) (ending_view result) }
     ensures wire { IsWithoutWire (command_of (map string_bytes words.entry.now)) → wire.new ≡ wire.old }
-    ensures told { IsReadOnce (command_of (map string_bytes words.entry.now)) → F.told shelf.new ≡ F.told shelf.old }
-    ensures shelf_later { IsReadOnce (command_of (map string_bytes words.entry.now)) → F.faults shelf.old ≤ F.faults shelf.new }
+    ensures told { F.told shelf.new ≡ F.told shelf.old }
+    ensures shelf_later { F.faults shelf.old ≤ F.faults shelf.new }
     ensures out_later { K.faults out.old ≤ K.faults out.new }
 {
     ending_of(rt, alloc, words, shelf, wire, out, inside)
@@ -163,7 +166,10 @@ fn end_of<'a, R: Wait, F: Shelf, W: Dial + Accept, K: Sink>(
 /// writes `ready` and LF to `out` once the door is open, and ends with the line `served C`, after
 /// `--stop-after` connections.
 ///
-/// `tpf make N` writes the generated data of N persons to `out`, as canonical N-Quads.
+/// `tpf make N` writes the generated data of N persons to `out`, as canonical N-Quads. `tpf make N --run
+/// QUERYFILE` serves these data to a client in the same process, as `local` does without options, and writes
+/// the line `triples T rows S` to `out`: the number of the triples, and that of the rows of the answer, which
+/// is not written.
 ///
 /// At any status but 0 a line that says why goes to `err`; a failure of `err` is passed over. The
 /// statuses: 2 the words are no command; 3 the data are not served; 4 the query is not read; 5 a request
@@ -187,8 +193,8 @@ pub fn run<R: Wait, F: Shelf, W: Dial + Accept, K: Sink, E: Sink>(
         × MustEndOf (record { told = F.told shelf.old; shelf = F.faults shelf.old; shelf' = F.faults shelf.new; allows = W.allows wire.old; wire = W.state wire.old; wire' = W.state wire.new; out = K.faults out.old; out' = K.faults out.new; taken = K.taken out.old; taken' = K.taken out.new; inside' = inside.new }) (command_of (map string_bytes words.now)) end
         × Says result end (E.faults err.old) (E.faults err.new) (E.taken err.old) (E.taken err.new) }
     ensures wire { IsWithoutWire (command_of (map string_bytes words.now)) → wire.new ≡ wire.old }
-    ensures told { IsReadOnce (command_of (map string_bytes words.now)) → F.told shelf.new ≡ F.told shelf.old }
-    ensures shelf_later { IsReadOnce (command_of (map string_bytes words.now)) → F.faults shelf.old ≤ F.faults shelf.new }
+    ensures told { F.told shelf.new ≡ F.told shelf.old }
+    ensures shelf_later { F.faults shelf.old ≤ F.faults shelf.new }
     ensures out_later { K.faults out.old ≤ K.faults out.new }
     ensures err_later { E.faults err.old ≤ E.faults err.new }
 {

@@ -105,8 +105,8 @@ fn thirty_thousand_names_are_selected(rt: HostRuntime) -> Result<(), Fail> {
     Ok(())
 }
 
-const CITY_QUERY: &[u8] =
-    b"SELECT * WHERE { ?a <http://example.org/city> <http://example.org/city/0> . ?a <http://example.org/knows> ?b }";
+pub const CITY_QUERY: &str =
+    "SELECT * WHERE { ?a <http://example.org/city> <http://example.org/city/0> . ?a <http://example.org/knows> ?b }";
 
 const CITY_FRONT: &str = "{\"head\":{\"vars\":[\"a\",\"b\"]},\"results\":{\"bindings\":[{";
 
@@ -120,7 +120,7 @@ fn city_row(alloc: Global, person: u32, known: u32) -> Result<String, Fail> {
 #[test]
 fn fifteen_of_a_thousand_persons(rt: HostRuntime) -> Result<(), Fail> {
     let data = made(&rt, rt.alloc(), "tpf|make|1000")?;
-    let got = local(&rt, rt.alloc(), data.as_bytes(), CITY_QUERY)?;
+    let got = local(&rt, rt.alloc(), data.as_bytes(), CITY_QUERY.as_bytes())?;
     assert_eq!(rt; got.status, 0);
     let text = std::str::from_utf8(got.out.taken()).unwrap_or("");
     assert!(rt; text.starts_with(CITY_FRONT));

@@ -4,10 +4,14 @@
 #[cfg(test)]
 mod answers;
 #[cfg(test)]
+mod counted;
+#[cfg(test)]
 mod messages;
 #[cfg(test)]
 mod pieces;
 #[cfg(test)]
 mod runs;
+#[cfg(test)]
+mod seeds;
 #[cfg(test)]
 mod tests;

@@ -27,6 +27,8 @@ pub struct Outcome {
     pub status: u8,
     pub out: MemSink,
     pub err: MemSink,
+    /// Whether a wire was left inside.
+    pub made: bool,
 }
 
 /// A run of these words, with a `|` between each two, over these files. Of the shelf, the output
@@ -56,7 +58,16 @@ pub fn run_failing<R: Wait>(
         &mut err,
         &mut inside,
     );
-    Ok(Outcome { status, out, err })
+    let made = match inside {
+        Inside::Loop(_) => true,
+        Inside::Unused => false,
+    };
+    Ok(Outcome {
+        status,
+        out,
+        err,
+        made,
+    })
 }
 
 /// The same, where the standard error does not fail.

@@ -318,12 +318,12 @@ fn a_join_of_two_patterns(rt: HostRuntime) -> Result<(), Fail> {
     Ok(())
 }
 
-const JOIN: &str =
+pub const JOIN: &str =
     "<http://e/a> <http://e/k> <http://e/b> .\n<http://e/a> <http://e/k> <http://e/c> .\n<http://e/b> <http://e/k> <http://e/c> .\n<http://e/c> <http://e/n> \"C\" .\n";
 
-const JOIN_QUERY: &str = "SELECT * WHERE { ?x <http://e/k> ?y . ?y <http://e/n> ?z }";
+pub const JOIN_QUERY: &str = "SELECT * WHERE { ?x <http://e/k> ?y . ?y <http://e/n> ?z }";
 
-const JOIN_FRONT: &str = "{\"head\":{\"vars\":[\"x\",\"y\",\"z\"]},\"results\":{\"bindings\":[";
+pub const JOIN_FRONT: &str = "{\"head\":{\"vars\":[\"x\",\"y\",\"z\"]},\"results\":{\"bindings\":[";
 
 /// Words, data, query, status, output, line: what the bounds of a client come to.
 static BOUNDED: [(&str, &str, &str, u8, &str, &str); 6] = [

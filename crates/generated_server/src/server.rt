@@ -1,0 +1,92 @@
+// The server of generated data.
+ghost use Rattle.std.specs.Prelude.{ℕ, ◌≡◌, ◌≤◌, List, All, IfOk};
+ghost use Rattle.rdf_terms.specs.Triples.{IsRdfQuad};
+ghost use Rattle.tpf_base.specs.Addresses.{IsAuthority, authority_of};
+ghost use Rattle.triple_table.specs.declared.choice.Choice.TheVariants as choices;
+ghost use Rattle.triple_table.specs.Chosen.{chosen};
+ghost use Rattle.triple_table.specs.Served.{IsServed};
+ghost use Rattle.triple_table.specs.Stored.{triples_in};
+ghost use Rattle.fragment_server.specs.Fragments.{serving_of};
+ghost use Rattle.generated_data.specs.Generated.{generated};
+ghost use Rattle.generated_server.specs.Starts.{StartsGenerated};
+
+use fragment_server::FragmentServer;
+use generated_data::write_generated;
+use hydra_controls::Config;
+use nquads_text::{TextFault, canonical_text_reads_back, read_all};
+use rdf_terms::Quad;
+use std::alloc::Global;
+use tpf_base::{Failing, MemSink, OutOfMemory};
+use tpf_server::Server;
+use triple_table::{BuildFault, Choice, Table};
+
+/// The most bytes of the canonical text of a term, as of a file of data.
+const LONGEST_TERM: usize = 262144;
+
+/// The most triples, and the most terms, that are served.
+const MOST_TRIPLES: u32 = 16777215;
+
+/// The quads that are read of the text of the data of so many persons.
+fn generated_quads(alloc: Global, persons: u32) -> Result<Vec<Quad>, OutOfMemory>
+    requires { persons ≤ 1000000 }
+    ensures quads { IfOk result (λ v. v.items ≡ generated persons) }
+    ensures classes { IfOk result (λ v. All IsRdfQuad v.items) }
+{
+    let mut text = MemSink::new(alloc, Failing::Never);
+    let Ok(()) = write_generated(alloc, persons, &mut text) else {
+        return Err(OutOfMemory);
+    };
+    canonical_text_reads_back();
+    match read_all(alloc, text.taken(), LONGEST_TERM) {
+        Ok(quads) => Ok(quads),
+        Err(TextFault::OutOfMemory) => Err(OutOfMemory),
+        Err(TextFault::Bad { .. }) => unreachable!(),
+    }
+}
+
+/// The table of the data of so many persons, under an authority.
+fn generated_table(alloc: Global, persons: u32, authority: &str) -> Result<Table, OutOfMemory>
+    requires few { persons ≤ 1000000 }
+    requires authority { IsAuthority authority.now }
+    ensures { IfOk result (λ table. IsServed authority.now (chosen choices.DefaultGraph (generated persons)) (triples_in table)) }
+{
+    let quads = generated_quads(alloc, persons)?;
+    match Table::build(
+        alloc,
+        &quads,
+        &Choice::DefaultGraph,
+        authority,
+        MOST_TRIPLES,
+    ) {
+        Ok(table) => Ok(table),
+        Err(BuildFault::OutOfMemory) => Err(OutOfMemory),
+        Err(BuildFault::GenidClash(_)) => unreachable!(),
+        Err(BuildFault::TooMany) => unreachable!(),
+    }
+}
+
+/// The same under the authority of the base.
+fn table_of(alloc: Global, persons: u32, config: &Config) -> Result<Table, OutOfMemory>
+    requires { persons ≤ 1000000 }
+    ensures { IfOk result (λ table. IsServed (authority_of config.now.base) (chosen choices.DefaultGraph (generated persons)) (triples_in table)) }
+{
+    config.is_valid();
+    generated_table(alloc, persons, config.base().authority())
+}
+
+/// The server of the generated data of so many persons, at most 1000000, as version 1, whose fragments
+/// stand where the configuration says. The text of the data is made and read as that of a file would be.
+///
+/// Fails only for want of memory: the text has no fault, no blank node, and few enough triples.
+pub fn server_of_generated(
+    alloc: Global,
+    persons: u32,
+    config: Config,
+) -> Result<FragmentServer, OutOfMemory>
+    requires { persons ≤ 1000000 }
+    ensures { IfOk result (λ server. StartsGenerated persons config (serving_of server.server)) }
+{
+    let table = table_of(alloc, persons, &config)?;
+    let server = Server::new(alloc, table, config)?;
+    Ok(FragmentServer::new(server))
+}

@@ -1,0 +1,91 @@
+-- What a call over the wire to the server of generated data says.
+use Rattle.std.proofs.Common.{ℕ, ◌≡◌, ◌≤◌, List, length, Option, None, Result, Ok, Err, IfOk, IfErr, refl, sym, ap, subst, ◌∙◌, arith}
+use Rattle.std.proofs.lemmas.List.Sorted.{length_permutation}
+use Rattle.tpf_base.specs.Causes.{Rose, counted_by}
+use Rattle.bgp_core.specs.Queries.{QueryData}
+use Rattle.loop_wire.specs.Looped.{Looped}
+use Rattle.fragment_server.specs.declared.server.FragmentServer.{FragmentServer}
+use Rattle.generated_server.specs.Starts.{StartsGenerated}
+use Rattle.tpf_client.specs.declared.options.Options.{Options}
+use Rattle.tpf_client.specs.declared.options.Report.{Report}
+use Rattle.tpf_client.specs.declared.fault.ClientFault.{ClientFault}
+use Rattle.tpf_client.specs.declared.fault.ClientFault.TheVariants as client_faults
+use Rattle.tpf_client.specs.Calls.{solutions_of}
+use Rattle.data_files.specs.Data.{Files, IfTold}
+use Rattle.data_files.specs.Queries.{HoldsQuery, QueryOutcome, IsQueryOutcome, reads}
+use Rattle.data_files.proofs.Outcomes.{one_query}
+use Rattle.data_files.proofs.Causes.{gives_query}
+use Rattle.file_server.specs.Servers.{serving}
+use Rattle.tpf_server.specs.Serving as core
+use Rattle.triple_table.specs.Stored.{Stored, triples_in}
+use Rattle.query_command.specs.declared.fault.AnswerFault.{AnswerFault}
+use Rattle.query_command.specs.declared.fault.AnswerFault.TheVariants as faults
+use Rattle.query_command.specs.declared.generated_query.Counts.{Counts}
+use Rattle.query_command.specs.Answers.{WritesOver, FailsOver, IsReading, GivesAnswer}
+use Rattle.query_command.specs.Generated.{usual_options, CountsQuery, LoopsGenerated, AsksOver, FailsOn, GeneratedAnswers, GeneratedCause}
+use Rattle.query_command.specs.Loops.{LoopsServer, WritesAnswer, local_base, local_config, allows_of, wire_of, begun}
+
+pub in_bounds : (options : Options) → options ≡ usual_options → (1 ≤ options.window) × (1 ≤ options.links) × (options.links ≤ 256)
+in_bounds options is = subst (λ (o : Options). (1 ≤ o.window) × (1 ≤ o.links) × (o.links ≤ 256)) (sym is) (omega arith, omega arith, omega arith)
+
+-- the triples of the table are those that are served
+pub served_len : (server : FragmentServer) (inner : core.Serving) (table : Stored) (n : ℕ) → inner ≡ server.server → table ≡ inner.table → n ≡ length (triples_in table) → n ≡ length (serving server).data_set
+served_len server inner table n is at e = e ∙ ap (λ (t : Stored). length (triples_in t)) at ∙ ap (λ (s : core.Serving). length (core.data_of s)) is
+
+module _ (server : FragmentServer) (persons : ℕ) (starts : StartsGenerated persons (local_config 100) (serving server)) (q : QueryData) where
+  pub counts_of : (triples rows : ℕ) → triples ≡ length (serving server).data_set → WritesAnswer (serving server).data_set q rows None None → CountsQuery persons q (record { triples = triples; rows = rows })
+  counts_of triples rows e w = record {
+    triples = (serving server).data_set;
+    is_served = starts.data_set;
+    triples_are = e;
+    rows_are = w.count ∙ ap (λ n. counted_by n 0) (length_permutation (solutions_of (serving server).data_set q) w.rows w.rows_are);
+  }
+
+  module _ (options : Options) (is : options ≡ usual_options) (inside : Option (Looped FragmentServer)) where
+    pub asks_over : (report : Report) → LoopsServer server 0 0 inside (λ old new. WritesOver (allows_of old) q local_base options report (wire_of old) (wire_of new) None None) → LoopsGenerated persons inside (AsksOver q report.rows)
+    asks_over report l = record {
+      server = server;
+      starts = starts;
+      loops = record { after = l.after; is_inside = l.is_inside; says = (report, refl, subst (λ (o : Options). WritesOver (allows_of (begun server 0 0)) q local_base o report (wire_of (begun server 0 0)) (wire_of l.after) None None) is l.says) };
+    }
+
+    pub fails_on : (fault : ClientFault) → LoopsServer server 0 0 inside (λ old new. FailsOver (allows_of old) q local_base options fault (wire_of old) (wire_of new) 0 0 None None) → LoopsGenerated persons inside (FailsOn q fault)
+    fails_on fault l = record {
+      server = server;
+      starts = starts;
+      loops = record { after = l.after; is_inside = l.is_inside; says = subst (λ (o : Options). FailsOver (allows_of (begun server 0 0)) q local_base o fault (wire_of (begun server 0 0)) (wire_of l.after) 0 0 None None) is l.says };
+    }
+
+-- ---- of the query of a file
+
+never_rose : Rose 0 0 → ⊥
+never_rose h = omega (arith, h)
+
+module _ (told : Option Files) (persons : ℕ) (name : List ℕ) (inside : Option (Looped FragmentServer)) where
+  module _ (q : QueryData) (is_read : IfTold told (λ files. HoldsQuery files name q)) where
+    pub generated_answers : (counts : Counts) → CountsQuery persons q counts → LoopsGenerated persons inside (AsksOver q counts.rows) → GeneratedAnswers told persons name inside counts
+    generated_answers counts k l = (
+      record { q = q; is_read = is_read; counts_are = k },
+      record { server = l.server; starts = l.starts; loops = record { after = l.loops.after; is_inside = l.loops.is_inside; says = (l.loops.says.0, l.loops.says.1, record { q = q; is_read = is_read; writes = l.loops.says.2 }) } },
+    )
+
+    pub generated_fault : (shelf shelf' : ℕ) (fault : ClientFault) → LoopsGenerated persons inside (FailsOn q fault) → GeneratedCause told persons name inside shelf shelf' (faults.Client fault)
+    generated_fault shelf shelf' fault l = (
+      λ e. never_rose (l.loops.says.sink e),
+      record { server = l.server; starts = l.starts; loops = record { after = l.loops.after; is_inside = l.loops.is_inside; says = record { q = q; is_read = is_read; writes = l.loops.says } } },
+    )
+
+  -- what the file holds is the query that was read
+  pub answers_read : (counts : Counts) → GeneratedAnswers told persons name inside counts → IfTold told (λ files. (outcome : QueryOutcome) → IsQueryOutcome files name outcome → IsReading outcome)
+  answers_read counts a = λ files is outcome o. (a.0.q, one_query files name outcome (reads a.0.q) o (a.0.is_read files is))
+
+  pub causes_read : (X : Type 0) (shelf shelf' : ℕ) (fault : AnswerFault) → GeneratedCause told persons name inside shelf shelf' fault → ¬ (Rose shelf shelf')
+      → IfTold told (λ files. (outcome : QueryOutcome) → IsQueryOutcome files name outcome → GivesAnswer {X = X} outcome (Err fault))
+  causes_read X shelf shelf' (faults.Data fault) e quiet = λ files is outcome o. tt
+  causes_read X shelf shelf' (faults.Query fault) e quiet = gives_query told name shelf shelf' (Err fault) tt e.0 quiet
+  causes_read X shelf shelf' (faults.Client fault) e quiet = λ files is outcome o. (e.1.loops.says.q, one_query files name outcome (reads e.1.loops.says.q) o (e.1.loops.says.is_read files is))
+
+  pub gives_counts : (shelf shelf' : ℕ) (result : Result Counts AnswerFault) → IfOk result (GeneratedAnswers told persons name inside) → IfErr result (GeneratedCause told persons name inside shelf shelf') → ¬ (Rose shelf shelf')
+      → IfTold told (λ files. (outcome : QueryOutcome) → IsQueryOutcome files name outcome → GivesAnswer outcome result)
+  gives_counts shelf shelf' (Ok counts) a e quiet = answers_read counts a
+  gives_counts shelf shelf' (Err fault) a e quiet = causes_read Counts shelf shelf' fault e quiet

@@ -1,0 +1,24 @@
+-- The numbers of a call over the wire to the server of generated data.
+use Rattle.query_command.proofs.Counting.{in_bounds, served_len, counts_of, asks_over, fails_on}
+use Rattle.query_command.proofs.generated_query.ask_generated.Goals as goal
+
+pub ask_server-requires-clause-window : goal.ask_server-requires-clause-window
+ask_server-requires-clause-window g c = (in_bounds c.usual_options-options.result c.usual_options-options.ensures).0
+
+pub ask_server-requires-clause-some : goal.ask_server-requires-clause-some
+ask_server-requires-clause-some g c = (in_bounds c.usual_options-options.result c.usual_options-options.ensures).1
+
+pub ask_server-requires-clause-few : goal.ask_server-requires-clause-few
+ask_server-requires-clause-few g c = (in_bounds c.usual_options-options.result c.usual_options-options.ensures).2
+
+pub returns-in-Ok-clause-counts : goal.returns-in-Ok-clause-counts
+returns-in-Ok-clause-counts g c =
+    counts_of c.args.server c.args.persons c.requires.starts c.args.query.now c.len-triples.result c.in-Ok.report.rows (served_len c.args.server c.server.result.now c.table.result.now c.len-triples.result c.server.ensures c.table.ensures c.len-triples.ensures.len) c.in-Ok.ensures.answer
+
+pub returns-in-Ok-clause-answers : goal.returns-in-Ok-clause-answers
+returns-in-Ok-clause-answers g c =
+    asks_over c.args.server c.args.persons c.requires.starts c.args.query.now c.usual_options-options.result c.usual_options-options.ensures _ c.in-Ok.report c.in-Ok.ensures.answers
+
+pub returns-in-Err-clause-cause : goal.returns-in-Err-clause-cause
+returns-in-Err-clause-cause g c =
+    fails_on c.args.server c.args.persons c.requires.starts c.args.query.now c.usual_options-options.result c.usual_options-options.ensures _ c.in-Err.fault c.in-Err.ensures.cause

@@ -1,0 +1,148 @@
+// The query of generated data through a server in the same process.
+ghost use Rattle.std.specs.Prelude.{ℕ, ◌≡◌, ◌≢◌, ◌<◌, ◌≤◌, ◌^◌, codes, length, None, IfOk, IfErr};
+ghost use Rattle.tpf_base.specs.Causes.{Rose};
+ghost use Rattle.data_files.specs.Data.{IfTold};
+ghost use Rattle.data_files.specs.Queries.{QueryOutcome, IsQueryOutcome};
+ghost use Rattle.file_server.specs.Servers.{serving};
+ghost use Rattle.generated_server.specs.Starts.{StartsGenerated};
+ghost use Rattle.query_command.specs.Answers.{GivesAnswer};
+ghost use Rattle.query_command.specs.Generated.{usual_options, CountsQuery, LoopsGenerated, AsksOver, FailsOn, GeneratedAnswers, GeneratedCause};
+ghost use Rattle.query_command.specs.Loops.{local_base, local_config};
+
+use crate::AnswerFault;
+use crate::local_query::ask_server;
+use crate::start::{local_config, local_start};
+use bgp_core::Query;
+use data_files::{DataFault, read_query};
+use fragment_server::{FragmentConnection, FragmentServer};
+use generated_server::server_of_generated;
+use loop_wire::LoopWire;
+use std::alloc::Global;
+use std::sync::Wait;
+use template_fill::WebAddress;
+use tpf_base::{Drain, OutOfMemory, Shelf};
+use tpf_client::{ClientFault, Options};
+
+/// The most triples of a page.
+const PAGE: u64 = 100;
+
+/// What a query of generated data came to.
+#[derive(Clone, Copy, Debug, PartialEq, Eq)]
+pub struct Counts {
+    /// How many triples the data have, each counted once.
+    pub triples: u64,
+    /// How many rows the result has.
+    pub rows: u64,
+}
+
+/// What bounds a call where no option is given.
+fn usual_options() -> Options
+    ensures { result ≡ usual_options }
+{
+    Options {
+        window: 16,
+        links: 8,
+        retries: 2,
+        budget: 1000000,
+        max_body: 16777216,
+    }
+}
+
+/// The server of the generated data in the same process.
+fn generated_server(alloc: Global, persons: u32) -> Result<FragmentServer, OutOfMemory>
+    requires { persons ≤ 1000000 }
+    ensures { IfOk result (λ server. StartsGenerated persons (local_config 100) (serving server)) }
+{
+    let config = local_config(alloc, PAGE)?;
+    server_of_generated(alloc, persons, config)
+}
+
+/// Asks the server of generated data, whose result is counted and not kept.
+fn ask_generated<R: Wait>(
+    rt: &R,
+    alloc: Global,
+    persons: u32,
+    start: &WebAddress,
+    server: FragmentServer,
+    query: &Query,
+    inside: &mut Option<LoopWire<FragmentConnection>>,
+) -> Result<Counts, ClientFault>
+    requires start { start.now ≡ local_base }
+    requires starts { StartsGenerated persons (local_config 100) (serving server) }
+    ensures counts { IfOk result (CountsQuery persons query.now) }
+    ensures answers { IfOk result (λ counts. LoopsGenerated persons inside.new (AsksOver query.now counts.rows)) }
+    ensures cause { IfErr result (λ fault. LoopsGenerated persons inside.new (FailsOn query.now fault)) }
+{
+    let triples = server.server().table().len() as u64;
+    let options = usual_options();
+    let mut drain = Drain::new();
+    match ask_server(
+        rt, alloc, &options, 0, 0, start, server, query, &mut drain, inside,
+    ) {
+        Ok(report) => Ok(Counts {
+            triples,
+            rows: report.rows,
+        }),
+        Err(fault) => Err(fault),
+    }
+}
+
+/// Reads the query, makes the server, and asks it.
+fn read_and_count<R: Wait, F: Shelf>(
+    rt: &R,
+    alloc: Global,
+    persons: u32,
+    query: &str,
+    shelf: &mut F,
+    inside: &mut Option<LoopWire<FragmentConnection>>,
+) -> Result<Counts, AnswerFault>
+    requires none { inside.old ≡ None }
+    requires most { persons ≤ 1000000 }
+    ensures answers { IfOk result (GeneratedAnswers (F.told shelf.old) persons query.now inside.new) }
+    ensures cause { IfErr result (GeneratedCause (F.told shelf.old) persons query.now inside.new (F.faults shelf.old) (F.faults shelf.new)) }
+    ensures told { F.told shelf.new ≡ F.told shelf.old }
+    ensures shelf_later { F.faults shelf.old ≤ F.faults shelf.new }
+{
+    let query = match read_query(alloc, shelf, query) {
+        Ok(query) => query,
+        Err(fault) => return Err(AnswerFault::Query(fault)),
+    };
+    let Ok(start) = local_start(alloc) else {
+        return Err(AnswerFault::Data(DataFault::OutOfMemory));
+    };
+    let Ok(server) = generated_server(alloc, persons) else {
+        return Err(AnswerFault::Data(DataFault::OutOfMemory));
+    };
+    match ask_generated(rt, alloc, persons, &start, server, &query, inside) {
+        Ok(counts) => Ok(counts),
+        Err(fault) => Err(AnswerFault::Client(fault)),
+    }
+}
+
+/// Serves the generated data of so many persons, at most 1000000, to a client in the same process, as a
+/// file is served where no option is given, and counts the triples, and the rows of the answer to the
+/// query of a file. The answer itself is written nowhere.
+///
+/// The query is read first. Then the text of the data is made and read, and a wire is made for the
+/// server and left in `inside`.
+///
+/// `Query` where the query is not read. `Data` at want of memory alone. `Client` where the call over the
+/// wire ended before the result was whole, which is never by `Sink`.
+pub fn query_generated<R: Wait, F: Shelf>(
+    rt: &R,
+    alloc: Global,
+    persons: u32,
+    query: &str,
+    shelf: &mut F,
+    inside: &mut Option<LoopWire<FragmentConnection>>,
+) -> Result<Counts, AnswerFault>
+    requires none { inside.old ≡ None }
+    requires most { persons ≤ 1000000 }
+    ensures answers { IfOk result (GeneratedAnswers (F.told shelf.old) persons query.now inside.new) }
+    ensures cause { IfErr result (GeneratedCause (F.told shelf.old) persons query.now inside.new (F.faults shelf.old) (F.faults shelf.new)) }
+    ensures exact { ¬ (Rose (F.faults shelf.old) (F.faults shelf.new)) → IfTold (F.told shelf.old) (λ files. (outcome : QueryOutcome) → IsQueryOutcome files query.now outcome → GivesAnswer outcome result) }
+    ensures told { F.told shelf.new ≡ F.told shelf.old }
+    ensures shelf_later { F.faults shelf.old ≤ F.faults shelf.new }
+{
+    read_and_count(rt, alloc, persons, query, shelf, inside)
+}
