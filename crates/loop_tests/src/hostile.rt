@@ -10,12 +10,13 @@ use std::sync::Wait;
 use std::test::Fail;
 use tpf_base::{Accept, Failing};
 
-/// Serves the links of these scripts until one connection has ended, and gives the wire and how the
-/// service ended, as text.
-fn served<R: Wait>(
+/// Serves seven triples, three a page, at the links of these scripts until so many connections have
+/// ended, and gives the wire and how the service ended, as text.
+pub fn served<R: Wait>(
     rt: &R,
     alloc: Global,
     scripts: Vec<Script>,
+    stop_after: u64,
 ) -> Result<(ScriptWire, String), Fail> {
     let mut wire = ScriptWire::new(alloc, scripts, Failing::Never);
     if wire.listen("localhost", 80).is_err() {
@@ -29,7 +30,7 @@ fn served<R: Wait>(
         &mut server,
         &mut supply,
         &mut wire,
-        Some(1),
+        Some(stop_after),
     );
     let told = match ended {
         Ok(served) => format!(in alloc; "{} {}", served.connections, served.starved)?,
@@ -42,7 +43,7 @@ fn served<R: Wait>(
 fn sent_to<R: Wait>(rt: &R, alloc: Global, text: &str, ends: bool) -> Result<String, Fail> {
     let mut scripts = Vec::new(alloc);
     scripts.push(script(alloc, &[text], ends, 65536)?)?;
-    let (wire, told) = served(rt, alloc, scripts)?;
+    let (wire, told) = served(rt, alloc, scripts, 1)?;
     if told.as_str() != "1 0" {
         return Err(Fail::new("not one connection ended"));
     }
@@ -160,7 +161,7 @@ fn a_peer_that_never_reads_holds_up_no_page(rt: HostRuntime) -> Result<(), Fail>
     let mut scripts = Vec::new(alloc);
     scripts.push(script(alloc, &[text], false, 0)?)?;
     scripts.push(script(alloc, &[text], true, 65536)?)?;
-    let (wire, told) = served(&rt, alloc, scripts)?;
+    let (wire, told) = served(&rt, alloc, scripts, 1)?;
     assert_eq!(rt; told.as_str(), "1 0");
     assert_eq!(rt; wire.links(), 2);
     assert_eq!(rt; wire.sent_on(0), b"".as_slice());

@@ -1,4 +1,4 @@
-//! Tests of the loop over many connections: echoes, and a server of fragments with odd peers and with data that are read again.
+//! Tests of the loop over many connections: echoes, and a server of fragments with heads that come by turns, with odd peers and with data that are read again.
 #![tactic(auto)]
 
 #[cfg(test)]
@@ -11,3 +11,5 @@ mod links;
 mod reloads;
 #[cfg(test)]
 mod served;
+#[cfg(test)]
+mod turns;

@@ -7,7 +7,7 @@ use std::test::Fail;
 const LONGEST: usize = 262144;
 
 /// The canonical lines of what a text reads as, or its fault.
-fn outcome(alloc: Global, read: Result<Vec<Quad>, TextFault>) -> Result<String, Fail> {
+pub fn outcome(alloc: Global, read: Result<Vec<Quad>, TextFault>) -> Result<String, Fail> {
     let mut out = Vec::new(alloc);
     match read {
         Err(fault) => return Ok(format!(in alloc; "{fault:?}")?),
@@ -20,7 +20,8 @@ fn outcome(alloc: Global, read: Result<Vec<Quad>, TextFault>) -> Result<String, 
     Ok(String::from_utf8(out)?)
 }
 
-fn read_whole(alloc: Global, text: &[u8]) -> Result<String, Fail> {
+/// The canonical lines of a text that is read whole, or its fault.
+pub fn read_whole(alloc: Global, text: &[u8]) -> Result<String, Fail> {
     outcome(alloc, read_all(alloc, text, LONGEST))
 }
 

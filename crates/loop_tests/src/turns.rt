@@ -1,0 +1,61 @@
+// A server of fragments at links whose heads come in pieces, a piece of each link by turns.
+use crate::fragments::triples_in;
+use crate::hostile::served;
+use crate::links::script;
+use std::alloc::Global;
+use std::test::Fail;
+
+/// What comes on the first link, a bad request and two good ones: no head stands in one piece.
+const FIRST: [&str; 5] = [
+    "GET /data?pa",
+    "ge=0 HTTP/1.1\r\nHost: localhost\r",
+    "\n\r\nHEAD /data?page=3 HTTP/1.1\r\nHo",
+    "st: localhost\r\n\r",
+    "\nGET /data HTTP/1.1\r\nHost: localhost\r\n\r\n",
+];
+
+/// What is sent on it, up to the first line of metadata.
+const FIRST_SENT: &str =
+    "HTTP/1.1 400 Bad Request\r\nContent-Type: text/plain\r\nContent-Length: 16\r\n\r\n400 Bad Request\nHTTP/1.1 200 OK\r\nContent-Type: application/n-quads\r\nContent-Length: 2621\r\n\r\nHTTP/1.1 200 OK\r\nContent-Type: application/n-quads\r\nContent-Length: 2510\r\n\r\n<http://e/1> <http://e/p> <http://e/o> .\n<http://e/2> <http://e/p> <http://e/o> .\n<http://e/3> <http://e/p> <http://e/o> .\n<http://localhost/data#metadata> <http://xmlns.com/foaf/0.1/primaryTopic> <http://localhost/data> <http://localhost/data#metadata> .\n";
+
+const FIRST_END: &str =
+    "<http://localhost/data#dataset> <http://www.w3.org/2002/07/owl#versionInfo> \"1\" <http://localhost/data#metadata> .\n";
+
+/// What comes on the second link: three other requests.
+const SECOND: [&str; 4] = [
+    "POST /data HTTP/1.1\r\nHost: local",
+    "host\r\n\r\nGET /nothing HTTP/1.1\r\nHost: localhost\r\n",
+    "\r\nGET /data?page=3 HTT",
+    "P/1.1\r\nHost: localhost\r\n\r\n",
+];
+
+/// What is sent on it, up to the first line of metadata.
+const SECOND_SENT: &str =
+    "HTTP/1.1 405 Method Not Allowed\r\nContent-Type: text/plain\r\nContent-Length: 23\r\nAllow: GET, HEAD\r\n\r\n405 Method Not Allowed\nHTTP/1.1 404 Not Found\r\nContent-Type: text/plain\r\nContent-Length: 14\r\n\r\n404 Not Found\nHTTP/1.1 200 OK\r\nContent-Type: application/n-quads\r\nContent-Length: 2621\r\n\r\n<http://e/7> <http://e/p> <http://e/o> .\n<http://localhost/data?page=3#metadata> <http://xmlns.com/foaf/0.1/primaryTopic> <http://localhost/data?page=3> <http://localhost/data?page=3#metadata> .\n";
+
+const SECOND_END: &str =
+    "<http://localhost/data#dataset> <http://www.w3.org/2002/07/owl#versionInfo> \"1\" <http://localhost/data?page=3#metadata> .\n";
+
+/// Whether what was sent begins and ends so, its length, and how many triples it has.
+fn shown(alloc: Global, sent: &[u8], front: &str, end: &str) -> Result<String, Fail> {
+    let text = str::from_utf8(sent)?;
+    let begins = text.starts_with(front);
+    let ends = text.ends_with(end);
+    Ok(format!(in alloc; "{begins} {ends} {} {}", text.len(), triples_in(text))?)
+}
+
+#[test]
+fn links_whose_heads_come_by_turns_get_their_own_answers(rt: HostRuntime) -> Result<(), Fail> {
+    let alloc = rt.alloc();
+    let mut scripts = Vec::new(alloc);
+    scripts.push(script(alloc, &FIRST, true, 65536)?)?;
+    scripts.push(script(alloc, &SECOND, true, 100)?)?;
+    let (wire, told) = served(&rt, alloc, scripts, 2)?;
+    assert_eq!(rt; told.as_str(), "2 0");
+    assert_eq!(rt; wire.links(), 2);
+    let first = shown(alloc, wire.sent_on(0), FIRST_SENT, FIRST_END)?;
+    assert_eq!(rt; first.as_str(), "true true 2752 3");
+    let second = shown(alloc, wire.sent_on(1), SECOND_SENT, SECOND_END)?;
+    assert_eq!(rt; second.as_str(), "true true 2905 1");
+    Ok(())
+}
