@@ -1,7 +1,8 @@
 -- A reply that comes is an answer of the honest end of its link.
-use Rattle.std.proofs.Common.{ℕ, ◌≡◌, ◌<◌, ◌≤◌, ◌++◌, List, [], ◌∷◌, length, Option, Some, Bool, true, false, refl, sym, ◌∙◌, ap, subst, arith, append_assoc}
+use Rattle.std.proofs.Common.{ℕ, ◌≡◌, ◌<◌, ◌≤◌, ◌++◌, List, [], ◌∷◌, length, Option, Some, Bool, true, false, refl, sym, ◌∙◌, ap, subst, inl, inr, arith, append_assoc}
 use Rattle.std.specs.Prelude.{◌^◌}
 use Rattle.std.specs.List.{AllByRecursion}
+use Rattle.std.proofs.lemmas.Bool.{cases_lt}
 use Rattle.rdf_terms.specs.declared.term.Triple.{Triple}
 use Rattle.tpf_base.specs.Addresses.{Address}
 use Rattle.tpf_base.specs.HttpReply.{ReplyFault, TooLong, More, Whole, Bad, reply_of}
@@ -15,15 +16,15 @@ use Rattle.template_fill.specs.Answers.{is_reload, answer_to}
 use Rattle.template_fill.specs.Responses.{Answering, answering, response_by, IsMarkedBy, IsVersion, IsHonestAt}
 use Rattle.http_ends.specs.Requests.{request_for, asks, AddressesArePlain}
 use Rattle.http_ends.specs.Answers.{AnswersAreRead, LongHeadsAreRefused, HeadsAreShort, AnswersHaveStatus, PagesAreNQuads, ServerAnswersAreRead, ReadingsStay}
-use Rattle.http_ends.specs.Cuts.{Answered, RequestIsSent, RepliesAreCut, NextAnswerIsCut, sent_for, bytes_of, sent_of, received_of}
+use Rattle.http_ends.specs.Cuts.{Answered, RequestIsSent, ResponseIsCut, RepliesAreCut, NextAnswerIsCut, sent_for, bytes_of, sent_of, received_of}
 use Rattle.http_ends.proofs.Answers.{status_case}
 use Rattle.exchange_laws.specs.Honest.{IsAnsweredByAll}
 use Rattle.request_pool.specs.declared.fault.PoolFault.TheVariants as faults
 use Rattle.pool_laws.specs.Following.{IsWebAddress, IsReplied}
 use Rattle.pool_laws.specs.Causes.{RepliedOn}
-use Rattle.pool_laws.specs.Answers.{TellsAll, IsBodyOf, RepliesAreAnswers, RefusalsAreTooLong, CutsAreFaults}
-use Rattle.pool_laws.proofs.WholeReplies.{status_is, page_body_is, page_refusal, left_some, rest_some}
-use Rattle.pool_laws.proofs.LongRequests.{before_answered, next_short}
+use Rattle.pool_laws.specs.Answers.{TellsAll, IsBodyOf, HasLongBody, RepliesAreAnswers, RefusalsAreTooLong, CutsAreFaults}
+use Rattle.pool_laws.proofs.WholeReplies.{status_is, page_body_is, page_refusal, page_is_long, left_some, rest_some, too_long, refusal_some}
+use Rattle.pool_laws.proofs.LongRequests.{before_answered, next_short, next_refused}
 use Rattle.pool_laws.proofs.Causes.{replies_are_read, faults_have_causes}
 
 -- what holds of all holds of the last
@@ -49,6 +50,7 @@ pub record EndsAreTrue : Type 0 where
   pub server : ServerAnswersAreRead
   pub pages : PagesAreNQuads
   pub sends : RequestIsSent
+  pub responses : ResponseIsCut
   pub replies : RepliesAreCut
   pub next : NextAnswerIsCut
   pub stays : ReadingsStay
@@ -160,16 +162,56 @@ module _ (laws : EndsAreTrue) (history : List (List Triple)) (config : Config) (
       let page = laws.pages history a.mark config (asks address) (no_reload config address) ok in
       page_refusal limit answer (received ++ o.rest) why (laws.server limit history a.mark config (asks address) false small) ok page a.same ((laws.stays limit received).bad why bad o.rest false)
 
+  refused_long : limit < 2 ^ 64 → (before : List Answered) (owed had : Option (List ℕ)) (why : ReplyFault) → AllByRecursion (IsReplied limit) before → (o : IsOwed history config before address received owed had) → length (request_for address) ≤ 4194304
+      → IsAnsweredByAll history config address → reply_of received false limit ≡ Bad why → HasLongBody history config limit address received
+  refused_long small before owed had why replied o short every bad =
+      let a = next_is before owed had replied short o in
+      let answer = answer_to history a.mark config (asks address) in
+      let ok = ok_at every a.mark a.version in
+      let page = laws.pages history a.mark config (asks address) (no_reload config address) ok in
+      record {
+        body = answer.body;
+        is_body = record {
+          mark = a.mark;
+          version = a.version;
+          no_reload = no_reload config address;
+          served = over_version history a.mark config address;
+          status = ok;
+          media_type = page;
+          body_is = refl;
+        };
+        long = page_is_long limit answer (received ++ o.rest) why (laws.server limit history a.mark config (asks address) false small) ok page a.same ((laws.stays limit received).bad why bad o.rest false);
+        rest = o.rest;
+        answer_is = sym a.same;
+      }
+
   -- ---- a cut
 
-  pub cut_short : (at_end : Bool) → limit < 2 ^ 64 → (before : List Answered) (owed had : Option (List ℕ)) → AllByRecursion (IsReplied limit) before → IsOwed history config before address received owed had → length (request_for address) ≤ 4194304
+  -- what is owed to a request past the limit is its refusal
+  refusal_is : (before : List Answered) (owed had : Option (List ℕ)) → AllByRecursion (IsReplied limit) before → 4194304 < length (request_for address) → (o : IsOwed history config before address received owed had) → received ++ o.rest ≡ answer_text too_long false true
+  refusal_is before owed had replied long o =
+      let server = answering history config in
+      let statuses = laws.status history config in
+      let are = before_answered laws.plain laws.reads laws.short limit server laws.sends laws.replies statuses o.marks before (request_for address) (received ++ o.rest) replied o.marked o.same in
+      next_refused laws.plain laws.reads laws.short limit server laws.sends laws.replies statuses o.marks laws.responses before address (received ++ o.rest) is long are o.marked o.same
+
+  cut_answer : (at_end : Bool) → limit < 2 ^ 64 → (before : List Answered) (owed had : Option (List ℕ)) → AllByRecursion (IsReplied limit) before → IsOwed history config before address received owed had → length (request_for address) ≤ 4194304
       → reply_of received at_end limit ≡ More → some_left had owed ≡ true
-  cut_short at_end small before owed had replied o short more =
+  cut_answer at_end small before owed had replied o short more =
       let a = next_is before owed had replied short o in
       let answer = answer_to history a.mark config (asks address) in
       left_some owed had o.all o.rest o.is_had o.is_owed
       (rest_some limit at_end received o.rest answer (laws.server limit history a.mark config (asks address) false small) (laws.pages history a.mark config (asks address) (no_reload config address)) a.same more
       (status_case answer.status (laws.status history config a.mark (asks address))))
+
+  -- a part of either was not received
+  pub cut_short : (at_end : Bool) → limit < 2 ^ 64 → (before : List Answered) (owed had : Option (List ℕ)) → AllByRecursion (IsReplied limit) before → IsOwed history config before address received owed had
+      → reply_of received at_end limit ≡ More → some_left had owed ≡ true
+  cut_short at_end small before owed had replied o more =
+      elim (cases_lt 4194304 (length (request_for address))) [
+        | inr short ↦ cut_answer at_end small before owed had replied o short more
+        | inl long ↦ left_some owed had o.all o.rest o.is_had o.is_owed (refusal_some laws.reads laws.short limit at_end received o.rest (refusal_is before owed had replied long o) more)
+      ]
 
 -- ---- steps
 
@@ -192,6 +234,8 @@ refusals_are_too_long laws one allows after fault received old new before given 
       refused = r;
       too_long = λ history config honest short every. r.is_fault ∙ ap shown_fault (refused_why laws history config old.limit r.loses.ask.address received r.loses.on.is_address small r.loses.on.before _ _ r.why r.loses.on.replied
           (owed_on allows history config old.limit r.loses.ask.address received after r.loses.on tells honest) short every r.bad);
+      long = λ history config honest short every. refused_long laws history config old.limit r.loses.ask.address received r.loses.on.is_address small r.loses.on.before _ _ r.why r.loses.on.replied
+          (owed_on allows history config old.limit r.loses.ask.address received after r.loses.on tells honest) short every r.bad;
     }
 
 pub cuts_are_faults : EndsAreTrue → AuthoritiesAreHostsAndPorts → (allows : List ℕ → ℕ → List ℕ → List ℕ → Type 0) (after : WireState) → CutsAreFaults allows after
@@ -199,6 +243,6 @@ cuts_are_faults laws one allows after received old new before given suits so_far
     let r = faults_have_causes one (faults.Cut received) old new before after given suits so_far steps in
     record {
       cut = r;
-      rose = λ history config honest short. r.short (cut_short laws history config old.limit r.loses.ask.address received r.loses.on.is_address true small r.loses.on.before _ _ r.loses.on.replied
-          (owed_on allows history config old.limit r.loses.ask.address received after r.loses.on tells honest) short r.more);
+      rose = λ history config honest. r.short (cut_short laws history config old.limit r.loses.ask.address received r.loses.on.is_address true small r.loses.on.before _ _ r.loses.on.replied
+          (owed_on allows history config old.limit r.loses.ask.address received after r.loses.on tells honest) r.more);
     }

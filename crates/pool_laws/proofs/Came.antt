@@ -45,7 +45,7 @@ pub record CameBy (start : ℕ → Type 0) (limit ticket : ℕ) (answer : Reply)
 permuted : (xs ys us vs : List Ask) → xs ≡ us → ys ≡ vs → IsPermutation us vs → IsPermutation xs ys
 permuted xs ys us vs e f h = subst (λ (l : List Ask). IsPermutation l ys) (sym e) (subst (λ (l : List Ask). IsPermutation us l) (sym f) h)
 
-settles_held : (o : Option ℕ) (address : Address) (p q : Pooled) (a b : WireState) → Settles o address p q a b → held q ≡ held p
+pub settles_held : (o : Option ℕ) (address : Address) (p q : Pooled) (a b : WireState) → Settles o address p q a b → held q ≡ held p
 settles_held o address p q a b (NoLink e f h) = ap held f
 settles_held o address p q a b (Kept k e room f h) = ap held f
 settles_held o address p q a b (Shut k e f c) = ap held f

@@ -24,7 +24,7 @@ use Rattle.request_pool.specs.declared.fault.PoolFault.{PoolFault}
 use Rattle.request_pool.specs.declared.fault.PoolFault.TheVariants as faults
 use Rattle.request_pool.specs.declared.fault.Stepped.{Stepped}
 use Rattle.request_pool.specs.declared.fault.Stepped.TheVariants.{Came}
-use Rattle.request_pool.specs.Pools.{Pooled, Ask, ask_waiting, ask_flying, held, in_flight}
+use Rattle.request_pool.specs.Pools.{Pooled, Ask, IsOverBudget, ask_waiting, ask_flying, held, in_flight}
 use Rattle.request_pool.specs.Owned.{SuitsWire, on_link, held_on}
 use Rattle.request_pool.specs.Polls.{Shuts, Polls, FailsTo, FlightTo}
 use Rattle.request_pool.specs.Runs.{Starts, Overruns, Flies, Starves, PollsNext, Last, OfStart, OfPoll, Ended}
@@ -97,7 +97,7 @@ record Flown (start : ℕ → Type 0) (fault : PoolFault) (was : List Ask) (q : 
   fresh : (i : ℕ) → start i → NoneBelow i (λ k. on_link f.exchange.link k + held_on p k) from
 
 data FaultBy (start : ℕ → Type 0) (fault : PoolFault) (was : List Ask) (q : Pooled) (n : ℕ) (b : WireState) : Type 0 where
-  ByBudget : fault ≡ faults.Budget → q.budget ≤ q.started → FaultBy start fault was q n b
+  ByBudget : fault ≡ faults.Budget → IsOverBudget q → FaultBy start fault was q n b
   ByMemory : fault ≡ faults.OutOfMemory → FaultBy start fault was q n b
   ByFlight : Flown start fault was q n b → FaultBy start fault was q n b
   ByStall : (fault ≡ faults.OutOfMemory) ⊎ (fault ≡ faults.Stalled) → 1000 ≤ b.idle → FaultBy start fault was q n b
@@ -112,7 +112,7 @@ shut_idle (Some i) a b c = c.idle
 
 module _ (one : AuthoritiesAreHostsAndPorts) where
   starts_by : (fault : PoolFault) (p q : Pooled) (n : ℕ) (a b : WireState) → AnswersSoFar p a → n ≤ a.faults → Starts (Err fault) p q a b → FaultBy (λ i. Below i p a) fault (held p) q n b
-  starts_by fault p q n a b h l (Overruns e budget f g) = ByBudget (same_fault fault faults.Budget e) (subst (λ (x : Pooled). x.budget ≤ x.started) (sym f) budget)
+  starts_by fault p q n a b h l (Overruns e budget f g) = ByBudget (same_fault fault faults.Budget e) budget
   starts_by fault p q n a b h l (Flies mid f budget begins to) =
       ByFlight (record { f = f; p = mid; from = a; follows = (begun one p mid f a h begins).follows; to = to; others = begun_holds p mid f begins; later = l; fresh = λ i y. begun_below i p mid f a y begins })
   starts_by fault p q n a b h l (Starves e mid f begins is shuts) = ByMemory (same_fault fault faults.OutOfMemory e)

@@ -182,6 +182,9 @@ kept_whole limit old new a b answer e r left =
       whole = ap₂ (λ (v : Bool) (l : ℕ). reply_of r.received v l) (sym early) (sym e) ∙ r.whole ∙ ap (λ (n : ℕ). Whole answer.body n answer.keeps) (same_number r.n (length r.received) parts.1);
     }
 
+pub kept_reply : (limit : ℕ) (old new : Exchanging) (a b : WireState) (answer : Reply) → new.limit ≡ limit → (r : Replies old new a b answer) → new.standing ≡ Left → reply_of r.received false limit ≡ Whole answer.body (length r.received) answer.keeps
+kept_reply limit old new a b answer e r left = (kept_whole limit old new a b answer e r left).whole
+
 pub request_is : (address : Address) → request_of address ≡ request_for address
 unfolding request_of
 request_is address = refl

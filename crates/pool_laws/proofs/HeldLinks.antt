@@ -66,7 +66,7 @@ failure_closed (exchanges.Cut received) old new a b is h = ends_closed old new a
 failure_closed (exchanges.Bad fault received) old new a b is h = absurd is
 failure_closed exchanges.OutOfMemory old new a b is h = absurd is
 
-left_or_over : (s : Standing) (v : Bool) → s ≡ (if v then Left else Over) → (s ≡ Left) ⊎ (s ≡ Over)
+pub left_or_over : (s : Standing) (v : Bool) → s ≡ (if v then Left else Over) → (s ≡ Left) ⊎ (s ≡ Over)
 left_or_over s true e = inl e
 left_or_over s false e = inr e
 

@@ -21,3 +21,10 @@ pub mod Staying
 pub mod Rising
 pub mod Sending
 pub mod Provoking
+pub mod Counts
+pub mod Requesting
+pub mod Requests
+pub mod RequestSteps
+pub mod RequestLaws
+pub mod RequestCuts
+pub mod RequestExact

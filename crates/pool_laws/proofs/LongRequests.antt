@@ -1,7 +1,8 @@
 -- A request past the limit of heads is refused, and its refusal is no reply.
-use Rattle.std.proofs.Common.{append-nil, ◌≡◌, ℕ, ◌<◌, ◌≤◌, Bool, true, false, List, [], ◌∷◌, ◌++◌, length, refl, sym, ap, subst, ◌∙◌, arith, append_assoc, Some, inl, inr}
-use Rattle.std.specs.List.{AllByRecursion}
+use Rattle.std.proofs.Common.{append-nil, ◌≡◌, ℕ, suc, ◌+◌, ◌<◌, ◌≤◌, Bool, true, false, List, [], ◌∷◌, ◌++◌, length, refl, sym, ap, subst, ◌∙◌, arith, append_assoc, length-append, Some, inl, inr}
+use Rattle.std.specs.List.{AllByRecursion, AllZip}
 use Rattle.std.proofs.lemmas.Bool.{cases_lt}
+use Rattle.std.proofs.lemmas.List.{length-map}
 use Rattle.tpf_base.specs.Addresses.{Address, authority_of, target_of}
 use Rattle.tpf_base.specs.HttpHeads.{Rejected, NextRequest, Refused, next_request, blank_length}
 use Rattle.tpf_base.specs.HttpReply.{Whole, reply_of}
@@ -14,13 +15,19 @@ use Rattle.template_fill.specs.HttpAnswer.{answer_text}
 use Rattle.template_fill.specs.Responses.{Answering, answers, asks_head, response_by, IsMarkedBy}
 use Rattle.http_ends.specs.Requests.{request_for, AddressesArePlain}
 use Rattle.http_ends.specs.Answers.{AnswersAreRead, HeadsAreShort, HasStatuses}
-use Rattle.http_ends.specs.Cuts.{Answered, Sent, IsSent, IsAnswered, RequestIsSent, RepliesAreCut, sent_for, bytes_of, sent_of, received_of}
+use Rattle.http_ends.specs.Cuts.{Answered, Sent, IsSent, IsAnswered, IsAnswerOver, RequestIsSent, ResponseIsCut, RepliesAreCut, sent_for, bytes_of, sent_of, received_of}
 use Rattle.http_ends.proofs.EmptyLines.{EndsOnce, head_is_all}
 use Rattle.http_ends.proofs.Requests.{request_ends}
 use Rattle.pool_laws.specs.Following.{IsWebAddress, IsReplied}
 use Rattle.pool_laws.proofs.Lists.{all_append}
 use Rattle.pool_laws.proofs.Following.{sent_more, received_more}
 use Rattle.pool_laws.proofs.WholeReplies.{too_long, no_too_long, no_nothing}
+
+zip_length : {A B : Type 0} (R : A → B → Type 0) (xs : List A) (ys : List B) → AllZip R xs ys → length xs ≡ length ys
+zip_length R [] [] all = refl
+zip_length R [] (y ∷ ys) all = absurd all
+zip_length R (x ∷ xs) [] all = absurd all
+zip_length R (x ∷ xs) (y ∷ ys) all = ap (λ (n : ℕ). suc n) (zip_length R xs ys all.1)
 
 blank_none : (address : Address) → blank_length (request_for address) ≡ 0
 unfolding blank_length
@@ -55,6 +62,11 @@ module _ (plain : AddressesArePlain) (reads : AnswersAreRead) (shorts : HeadsAre
       → reply_of received at_end limit ≡ Whole body n keeps → received ++ rest ≡ response_by server (request_for address ++ more) marks → ⊥
   long_none address more marks received rest body n keeps at_end is long whole same =
       refusal_case marks received rest body n keeps at_end whole (same ∙ long_response plain server address more marks is long)
+
+  -- the response to it alone, with one mark, is its refusal
+  one_refusal : (marks : List Mark) (came : List ℕ) → came ≡ answers server (Rejected 431 ∷ []) marks → length marks ≡ 1 → came ≡ answer_text too_long false true
+  one_refusal [] came is count = absurd (omega (arith, count))
+  one_refusal (m ∷ marks) came is count = is ∙ append-nil (answer_text too_long false true)
 
   -- ---- so each request that was answered by a whole reply is within the limit
 
@@ -113,3 +125,22 @@ module _ (plain : AddressesArePlain) (reads : AnswersAreRead) (shorts : HeadsAre
               let c = cut limit server before (request_for address) marks (received ++ rest) statuses are marked same in
               long_none address [] c.later received rest body n keeps at_end is long whole (c.left ∙ ap (λ (t : List ℕ). response_by server t c.later) (sym (append-nil (request_for address)))))
         ]
+
+    all_sent : (all : List Answered) → AllByRecursion (IsAnswered limit) all → AllByRecursion IsSent (sent_of all)
+    all_sent [] are = tt
+    all_sent (x ∷ all) are = (are.0.sent, all_sent all are.1)
+
+    -- and where the next one is not, what comes is its refusal
+    pub next_refused : ResponseIsCut → (before : List Answered) (address : Address) (came : List ℕ) → IsWebAddress address → 4194304 < length (request_for address) → AllByRecursion (IsAnswered limit) before
+        → IsMarkedBy server (bytes_of (sent_of before) ++ request_for address) marks → response_by server (bytes_of (sent_of before) ++ request_for address) marks ≡ received_of before ++ came
+        → came ≡ answer_text too_long false true
+    next_refused responses before address came is long are marked same =
+        let c = cut limit server before (request_for address) marks came statuses are marked same in
+        let count : length marks ≡ length (sent_of before) + length (heads_of (request_for address)).heads = (responses server (sent_of before) (request_for address) (all_sent before are)).marked marks marked in
+        let sents : length (sent_of before) ≡ length before = length-map before (λ answered. answered.sent) in
+        let one : length (heads_of (request_for address)).heads ≡ 1 =
+        ap (λ (t : List ℕ). length (heads_of t).heads) (sym (append-nil (request_for address))) ∙ ap (λ (h : Heads). length h.heads) (long_heads plain address [] is long) in
+        let firsts : length before ≡ length c.first = zip_length (IsAnswerOver server) before c.first c.each in
+        let split : length marks ≡ length c.first + length c.later = ap (λ (t : List Mark). length t) c.split ∙ length-append c.first c.later in
+        one_refusal c.later came (c.left ∙ ap (λ (t : List ℕ). response_by server t c.later) (sym (append-nil (request_for address))) ∙ long_response plain server address [] c.later is long)
+        (omega (arith, count, sents, one, firsts, split))

@@ -15,7 +15,7 @@ use Rattle.pool_laws.proofs.Following.{on_some}
 
 -- ---- what a poll does to the links
 
-off_link : (o : Option ℕ) (k : ℕ) → on_link o k ≡ 0 → o ≢ Some k
+pub off_link : (o : Option ℕ) (k : ℕ) → on_link o k ≡ 0 → o ≢ Some k
 off_link o k z = λ e. absurd (omega (arith, z, on_some o k e))
 
 some_is : (i k : ℕ) → Some i ≡ Some k → i ≡ k

@@ -1,5 +1,5 @@
 -- Over a steady wire no step provokes a fault, unless an exchange hangs.
-use Rattle.std.proofs.Common.{ℕ, ◌≡◌, ◌+◌, ◌<◌, ◌≤◌, ◌⊎◌, inl, inr, ◌++◌, List, [], ◌∷◌, map, length, length-append, Option, Some, None, Bool, true, false, Result, Ok, Err, refl, sym, ◌∙◌, ap, ap₂, subst, arith, append-nil}
+use Rattle.std.proofs.Common.{ℕ, ◌≡◌, ◌+◌, ◌<◌, ◌≤◌, ◌⊎◌, inl, inr, ◌++◌, List, [], ◌∷◌, map, length, length-append, Option, Some, None, true, false, Result, Ok, Err, refl, sym, ◌∙◌, ap, ap₂, subst, arith, append-nil}
 use Rattle.std.specs.Prelude.{◌^◌, min, IfOk}
 use Rattle.std.specs.List.{AllByRecursion, Contains}
 use Rattle.std.proofs.lemmas.Bool.{cases_lt}
@@ -9,7 +9,6 @@ use Rattle.std.proofs.lemmas.List.Sorted.{length_permutation}
 use Rattle.futures.specs.declared.task.Poll.{Poll}
 use Rattle.futures.specs.declared.task.Poll.TheVariants as poll
 use Rattle.tpf_base.specs.Addresses.{Address}
-use Rattle.tpf_base.specs.HttpReply as reply
 use Rattle.tpf_base.specs.HttpReply.{reply_of}
 use Rattle.tpf_base.specs.declared.fault.Fault.{Fault}
 use Rattle.tpf_base.specs.declared.fault.Fault.TheVariants as failures
@@ -17,17 +16,13 @@ use Rattle.tpf_base.specs.declared.wire.Ready.{Ready}
 use Rattle.tpf_base.specs.declared.wire.Ready.TheVariants as kinds
 use Rattle.tpf_base.specs.Links as links
 use Rattle.tpf_base.specs.Links.{Link, Nature, WireState, OpensGiven, IsRipe, is_short, some_left, told_by}
-use Rattle.tpf_base.specs.Calls.{Closes, WakesRipe}
+use Rattle.tpf_base.specs.Calls.{Closes}
 use Rattle.http_wire.specs.declared.message.Reply.{Reply}
-use Rattle.http_ends.specs.Requests.{request_for}
 use Rattle.http_ends.specs.Cuts.{bytes_of, sent_of, received_of}
-use Rattle.link_calls.specs.Sending.{Holds}
 use Rattle.template_fill.specs.Authorities.{AuthoritiesAreHostsAndPorts}
-use Rattle.exchange.specs.Exchanges.{Exchanging, StandsOn, left_link, left_by, request_of}
+use Rattle.exchange.specs.Exchanges.{Exchanging, StandsOn, left_link}
 use Rattle.exchange.specs.Polls as waits
 use Rattle.exchange.specs.Polls.{Touches, LinkAfter, Awaits, Hangs, ClosedOn}
-use Rattle.exchange.specs.declared.exchange.Standing.{Standing}
-use Rattle.exchange.specs.declared.exchange.Standing.TheVariants.{Underway, Left, Over}
 use Rattle.exchange.specs.declared.fault.ExchangeFault.{ExchangeFault}
 use Rattle.request_pool.specs.declared.asks.Waiting.{Waiting}
 use Rattle.request_pool.specs.declared.asks.Flight.{Flight}
@@ -40,14 +35,13 @@ use Rattle.request_pool.specs.declared.fault.Stepped.{Stepped}
 use Rattle.request_pool.specs.declared.fault.Stepped.TheVariants.{Came, Waited, Idle}
 use Rattle.request_pool.specs.Pools.{Pooled, Ask, ask_waiting, ask_flying, held, in_flight}
 use Rattle.request_pool.specs.Owned.{SuitsWire, on_link, flights_on, spare_on, held_on, open_on, times_open}
-use Rattle.request_pool.specs.Polls.{Shuts, Settles, NoLink, Kept, Shut, TakesLink, FailsTo, Polls, FlightTo}
-use Rattle.request_pool.specs.Runs.{Begins, Starts, Overruns, Flies, Starves, PollsNext, Last, OfStart, OfPoll, Ended, is_end}
+use Rattle.request_pool.specs.Polls.{Shuts, Settles, NoLink, Kept, Shut, TakesLink, Polls, FlightTo}
+use Rattle.request_pool.specs.Runs.{Begins, Starts, Overruns, Flies, Starves, Last, OfStart, OfPoll, Ended, is_end}
 use Rattle.request_pool.specs.Steps.{Waits, GivesUp, WaitsTo, Passes, Stalls, Misses, Lacks, EndsInWait, Breaks, AtOnce, InRun, InWait, StepsTo, MayWait, AsleepOn}
-use Rattle.request_pool.proofs.Owned.{at_or_off, on_same, on_other, one_at_most, open_one, closed_none, same_open, flights_on-append, spare_on-append}
+use Rattle.request_pool.proofs.Owned.{at_or_off, on_same, on_other, one_at_most, open_one, closed_none, same_open, flights_on-append}
 use Rattle.request_pool.proofs.Suits.{Owns, owns_begun, owns_next}
 use Rattle.pool_laws.specs.Following.{Follows, AnswersSoFar, HasPeer}
 use Rattle.pool_laws.specs.Owning.{IsAsBefore, Same, Woken}
-use Rattle.pool_laws.specs.Causes.{RepliedOn}
 use Rattle.pool_laws.specs.Rising.{IsServed}
 use Rattle.pool_laws.specs.Provoking.{IsStalled, IsAwake, OneIsAwake, MovesFirst, Moved, Awake, Again, HoldsNone, WaitsReady, HasHung, SparesWire, StepSpares, EmptyPoolsReady, PutsReady, StepsSpare, NoneHang}
 use Rattle.pool_laws.proofs.Lists.{all_append, all_front, all_behind, all_unmap}
@@ -916,5 +910,5 @@ pub none_hang : EndsAreTrue → (allows : List ℕ → ℕ → List ℕ → List
 none_hang laws allows wire history config limit asked small tells served h =
     let is = All-contains (IsServed allows history config) asked h.address (All-from_recursion (IsServed allows history config) asked served) h.is_asked in
     let short : is_short (wire.links h.on.k) ≡ true =
-    cut_short laws history config limit h.address h.received h.on.is_address false small h.on.before _ _ h.on.replied (owed_on allows history config limit h.address h.received wire h.on tells is.honest) is.short h.more in
+    cut_short laws history config limit h.address h.received h.on.is_address false small h.on.before _ _ h.on.replied (owed_on allows history config limit h.address h.received wire h.on tells is.honest) h.more in
     let e : true ≡ false = sym short ∙ h.none_left in cc

@@ -3,14 +3,13 @@ use Rattle.std.proofs.Common.{ℕ, ◌≡◌, ◌+◌, ◌<◌, ◌≤◌, ◌�
 use Rattle.std.specs.Prelude.{◌^◌, IfErr}
 use Rattle.std.specs.List.{AllByRecursion}
 use Rattle.std.proofs.lemmas.Bool.{cases_lt}
-use Rattle.futures.specs.declared.task.Poll.{Poll}
 use Rattle.futures.specs.declared.task.Poll.TheVariants as poll
 use Rattle.rdf_terms.specs.declared.term.Triple.{Triple}
 use Rattle.tpf_base.specs.Addresses.{Address}
 use Rattle.tpf_base.specs.Causes.{Rose, RoseBy}
 use Rattle.tpf_base.specs.HttpReply as reply
 use Rattle.tpf_base.specs.HttpReply.{reply_of}
-use Rattle.tpf_base.specs.Links.{Link, Nature, WireState, OpensGiven, told_by, is_short, some_left}
+use Rattle.tpf_base.specs.Links.{Nature, WireState, OpensGiven, told_by, is_short, some_left}
 use Rattle.tpf_base.specs.declared.fault.Fault.TheVariants as wires
 use Rattle.http_wire.specs.declared.message.Reply.{Reply}
 use Rattle.template_fill.specs.Authorities.{AuthoritiesAreHostsAndPorts}
@@ -27,10 +26,10 @@ use Rattle.request_pool.specs.declared.fault.PoolFault.{PoolFault}
 use Rattle.request_pool.specs.declared.fault.PoolFault.TheVariants as faults
 use Rattle.request_pool.specs.declared.fault.Stepped.{Stepped}
 use Rattle.request_pool.specs.declared.fault.Stepped.TheVariants.{Came, Waited, Idle}
-use Rattle.request_pool.specs.Pools.{Pooled, Ask, ask_waiting, ask_flying, held, in_flight, bounds_of}
+use Rattle.request_pool.specs.Pools.{Pooled, Ask, ask_waiting, ask_flying, held, in_flight}
 use Rattle.request_pool.specs.Owned.{SuitsWire, held_on}
-use Rattle.request_pool.specs.Polls.{Shuts, Settles, NoLink, Kept, Shut, Polls, IsFailure, FailsTo, FlightTo}
-use Rattle.request_pool.specs.Runs.{Begins, Starts, Overruns, Flies, Starves, PollsNext, Last, OfStart, OfPoll, Ended}
+use Rattle.request_pool.specs.Polls.{Settles, NoLink, Kept, Shut, Polls, IsFailure, FailsTo, FlightTo}
+use Rattle.request_pool.specs.Runs.{Begins, Starts, Overruns, Flies, Starves, Last, OfStart, OfPoll, Ended}
 use Rattle.request_pool.specs.Steps.{GivesUp, WaitsTo, Passes, Stalls, Misses, Lacks, EndsInWait, Breaks, AtOnce, InRun, InWait, StepsTo}
 use Rattle.request_pool.proofs.Owned.{linked_open}
 use Rattle.request_pool.proofs.Suits.{Owns, owns_begun, owns_next, waits_suits}
@@ -40,7 +39,7 @@ use Rattle.request_pool.proofs.Bounds.{flight_bounds, starts_bounds}
 use Rattle.pool_laws.specs.Following.{Follows, AnswersSoFar}
 use Rattle.pool_laws.specs.Causes.{RepliedOn}
 use Rattle.pool_laws.specs.Answers.{TellsAll}
-use Rattle.pool_laws.specs.Rising.{IsServed, FailuresRose, EndsByRises, StepRose, EmptyPoolsRose, PutsRose, FaultsRose, StepsRose}
+use Rattle.pool_laws.specs.Rising.{IsServed, FailuresRose, EndsByRises, EmptyPoolsRose, PutsRose, FaultsRose, StepsRose}
 use Rattle.pool_laws.proofs.Lists.{all_append, all_front, all_behind, all_unmap}
 use Rattle.pool_laws.proofs.Following.{begun, own_link}
 use Rattle.pool_laws.proofs.KeptBySteps.{IsKept, IsKeptByTurns, running_keeps, last_keeps}
@@ -543,7 +542,7 @@ module _ (allows : List ℕ → ℕ → List ℕ → List ℕ → Type 0) (histo
   all_short : EndsAreTrue → (times : ℕ → ℕ) (after : WireState) → limit < 2 ^ 64 → TellsAll allows after → AreShort times after
   all_short laws times after small tells c =
       cut_short laws history config limit c.address c.received c.on.is_address true small c.on.before _ _ c.on.replied
-      (owed_on allows history config limit c.address c.received after c.on tells c.served.honest) c.served.short c.more
+      (owed_on allows history config limit c.address c.received after c.on tells c.served.honest) c.more
 
 -- ---- the laws
 

@@ -12,8 +12,8 @@ use Rattle.tpf_base.specs.Calls.{Closes}
 use Rattle.link_calls.specs.Sending.{Holds}
 use Rattle.http_wire.specs.declared.message.Reply.{Reply}
 use Rattle.http_ends.specs.Requests.{request_for}
-use Rattle.exchange.specs.Exchanges.{Exchanging, IsFront, Stands, StandsOn, starting, request_of, left_link}
-use Rattle.exchange.specs.Polls.{Ends, FrontSent, Replies}
+use Rattle.exchange.specs.Exchanges.{Exchanging, IsFront, StandsOn, starting, request_of, left_link}
+use Rattle.exchange.specs.Polls.{Ends, FrontSent}
 use Rattle.exchange.specs.declared.fault.ExchangeFault.{ExchangeFault}
 use Rattle.exchange.specs.declared.fault.ExchangeFault.TheVariants as exchanges
 use Rattle.request_pool.specs.declared.asks.Waiting.{Waiting}
@@ -24,7 +24,7 @@ use Rattle.request_pool.specs.declared.fault.Polled.TheVariants as polls
 use Rattle.request_pool.specs.declared.fault.PoolFault.{PoolFault}
 use Rattle.request_pool.specs.declared.fault.PoolFault.TheVariants as faults
 use Rattle.request_pool.specs.declared.fault.Stepped.{Stepped}
-use Rattle.request_pool.specs.Pools.{Pooled, in_flight}
+use Rattle.request_pool.specs.Pools.{Pooled}
 use Rattle.request_pool.specs.Owned.{SuitsWire, on_link, flights_on, spare_on, held_on}
 use Rattle.request_pool.specs.Closing.{ClosesSome}
 use Rattle.request_pool.specs.Polls.{Shuts, Settles, NoLink, Kept, Shut, TakesLink, FailsTo, Polls, FlightTo}
@@ -32,10 +32,10 @@ use Rattle.request_pool.specs.Runs.{Begins, Starts, Overruns, Flies, Starves, Po
 use Rattle.request_pool.specs.Steps.{Waits, GivesUp}
 use Rattle.request_pool.proofs.Owned.{at_or_off, on_other}
 use Rattle.request_pool.proofs.Suits.{Owns, owns_begun, owns_next}
-use Rattle.pool_laws.specs.Sending.{IsPart, Nothing, FrontOf, requests_for, SendsFor, SendsOwn, SentSince, EmptyPoolsSent, PutsSent, FaultsSent, StepsSent, ClosingSent}
+use Rattle.pool_laws.specs.Sending.{Nothing, FrontOf, requests_for, SendsFor, SendsOwn, SentSince, EmptyPoolsSent, PutsSent, FaultsSent, StepsSent, ClosingSent}
 use Rattle.pool_laws.proofs.Lists.{all_append, all_front, all_behind}
 use Rattle.pool_laws.proofs.Following.{SameTold, told_same, stands_as, holds_as, holds_is, off, on_some, own_link, left_is, flat-append, request_is}
-use Rattle.pool_laws.proofs.Owning.{After, after_link}
+use Rattle.pool_laws.proofs.Owning.{after_link}
 use Rattle.pool_laws.proofs.Running.{waits_told}
 use Rattle.pool_laws.proofs.KeptBySteps.{IsKept, by_step}
 

@@ -1,5 +1,5 @@
 -- What is told of a link that was given and is not held stays, whatever a pool does.
-use Rattle.std.proofs.Common.{ℕ, ◌≡◌, ◌+◌, ◌<◌, ◌++◌, List, [], ◌∷◌, true, Option, Some, None, Result, refl, sym, ◌∙◌, ap, subst, arith}
+use Rattle.std.proofs.Common.{ℕ, ◌≡◌, ◌+◌, ◌<◌, ◌++◌, [], Option, Some, None, Result, refl, sym, ◌∙◌, ap, subst, arith}
 use Rattle.tpf_base.specs.Links.{Link, Nature, WireState, OpensGiven}
 use Rattle.tpf_base.specs.declared.fault.Fault.{Fault}
 use Rattle.tpf_base.specs.declared.wire.Ready.{Ready}

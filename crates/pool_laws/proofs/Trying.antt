@@ -29,11 +29,11 @@ tries-append (x ∷ xs) ys = omega (arith, tries-append xs ys)
 
 -- ---- no ask failed too often
 
-record Few (r : ℕ) (p : Pooled) : Type 0 where
-  is : p.retries ≡ r
-  waiting : AllByRecursion (λ w. w.failed ≤ r) p.waiting
-  polled : AllByRecursion (λ f. f.failed ≤ r) p.polled
-  due : AllByRecursion (λ f. f.failed ≤ r) p.due
+pub record Few (r : ℕ) (p : Pooled) : Type 0 where
+  pub is : p.retries ≡ r
+  pub waiting : AllByRecursion (λ w. w.failed ≤ r) p.waiting
+  pub polled : AllByRecursion (λ f. f.failed ≤ r) p.polled
+  pub due : AllByRecursion (λ f. f.failed ≤ r) p.due
 
 module _ (r : ℕ) where
   few_as : (p q : Pooled) → q ≡ p → Few r p → Few r q
@@ -47,7 +47,7 @@ module _ (r : ℕ) where
   once_more : (n m : ℕ) → m ≡ r → n < m → n + 1 ≤ r
   once_more n m e h = omega (arith, e, h)
 
-  flight_few : (result : Result Polled PoolFault) (f : Flight) (p q : Pooled) (a b : WireState) → f.failed ≤ r → Few r p → FlightTo result f p q a b → Few r q
+  pub flight_few : (result : Result Polled PoolFault) (f : Flight) (p q : Pooled) (a b : WireState) → f.failed ≤ r → Few r p → FlightTo result f p q a b → Few r q
   flight_few (Ok polls.Pending) f p q a b n h t =
       few_as _ q t.1 (record { is = h.is; waiting = h.waiting; polled = all_append (λ (x : Flight). x.failed ≤ r) p.polled ((record f { exchange = t.0.now }) ∷ []) h.polled (n, tt); due = h.due })
   flight_few (Ok (polls.Came ticket answer)) f p q a b n h t = settle_few (left_link t.1.now) t.1.now.address p q t.0 b t.3 h
@@ -59,11 +59,11 @@ module _ (r : ℕ) where
   flight_few (Err faults.Stalled) f p q a b n h t = absurd t
   flight_few (Err faults.Budget) f p q a b n h t = absurd t
 
-  record Begun (q : Pooled) (f : Flight) : Type 0 where
-    failed : f.failed ≤ r
-    rest : Few r q
+  pub record Begun (q : Pooled) (f : Flight) : Type 0 where
+    pub failed : f.failed ≤ r
+    pub rest : Few r q
 
-  begun : (p q : Pooled) (f : Flight) → Few r p → Begins p q f → Begun q f
+  pub begun : (p q : Pooled) (f : Flight) → Few r p → Begins p q f → Begun q f
   begun p q f h b =
       let w = subst (λ (l : List Waiting). AllByRecursion (λ x. x.failed ≤ r) l) b.is_first h.waiting in
       subst (λ (x : Pooled). Begun x f) (sym b.is_new) (subst (λ (x : Flight). Begun (record p { waiting = b.rest; spare = b.spare; started = p.started + 1 }) x) (sym b.flight)
@@ -88,7 +88,7 @@ module _ (r : ℕ) where
       let all = subst (λ (l : List Flight). AllByRecursion (λ x. x.failed ≤ r) l) u.is_oldest (all_append (λ (x : Flight). x.failed ≤ r) p.polled p.due h.polled h.due) in
       fails_few fault result u.f (record p { polled = u.rest; due = [] }) q u.to (record { is = h.is; waiting = h.waiting; polled = all.1; due = tt })
 
-  few_is_kept : IsKept (λ p a. Few r p)
+  pub few_is_kept : IsKept (λ p a. Few r p)
   few_is_kept = record {
     starts = λ result p q a b g s h t. starts_few result p q a b h t;
     polls = λ result p q a b g s h n. next_few result p q a b h n;
@@ -98,7 +98,7 @@ module _ (r : ℕ) where
     gives_up = λ fault result p q a b s h u. gives_up_few fault result p q a b h u;
   }
 
-few_in : (p : Pooled) → FewFailed p → Few p.retries p
+pub few_in : (p : Pooled) → FewFailed p → Few p.retries p
 few_in p h = record {
   is = refl;
   waiting = h.waiting;
@@ -106,7 +106,7 @@ few_in p h = record {
   due = all_behind (λ (f : Flight). f.failed ≤ p.retries) p.polled p.due h.flying;
 }
 
-few_own : (p : Pooled) → Few p.retries p → FewFailed p
+pub few_own : (p : Pooled) → Few p.retries p → FewFailed p
 few_own p h = record { waiting = h.waiting; flying = all_append (λ (f : Flight). f.failed ≤ p.retries) p.polled p.due h.polled h.due }
 
 few_out : (r : ℕ) (p : Pooled) → Few r p → FewFailed p
@@ -127,9 +127,9 @@ step_few result old new wire wire' given suits h to = few_out old.retries new (b
 -- ---- a start for each try
 
 -- what a poll of an exchange that was taken out leaves: it is one of those that are held again, unless its ask is held no longer
-record FlightTries (result : Result Polled PoolFault) (f : Flight) (p q : Pooled) : Type 0 where
-  started : q.started ≡ p.started
-  count : tries q ≡ tries p + (if is_end result then 0 else f.failed + 1)
+pub record FlightTries (result : Result Polled PoolFault) (f : Flight) (p q : Pooled) : Type 0 where
+  pub started : q.started ≡ p.started
+  pub count : tries q ≡ tries p + (if is_end result then 0 else f.failed + 1)
 
 same_tries : (result : Result Polled PoolFault) (f : Flight) (p q : Pooled) → is_end result ≡ true → q ≡ p → FlightTries result f p q
 same_tries result f p q end e = subst (λ (x : Pooled). FlightTries result f p x) (sym e) (record { started = refl; count = added (is_end result) (tries p) end })
@@ -143,7 +143,7 @@ settle_tries o address p q a b (NoLink e f g) = (ap (λ (x : Pooled). x.started)
 settle_tries o address p q a b (Kept i e room f g) = (ap (λ (x : Pooled). x.started) f, ap tries f)
 settle_tries o address p q a b (Shut i e f c) = (ap (λ (x : Pooled). x.started) f, ap tries f)
 
-flight_tries : (result : Result Polled PoolFault) (f : Flight) (p q : Pooled) (a b : WireState) → FlightTo result f p q a b → FlightTries result f p q
+pub flight_tries : (result : Result Polled PoolFault) (f : Flight) (p q : Pooled) (a b : WireState) → FlightTo result f p q a b → FlightTries result f p q
 flight_tries (Ok polls.Pending) f p q a b t =
     let g : Flight = record f { exchange = t.0.now } in
     record { started = ap (λ (x : Pooled). x.started) t.1; count = ap tries t.1 ∙ omega (arith, tries-append (p.polled ++ g ∷ []) p.due, tries-append p.polled (g ∷ []), tries-append p.polled p.due) }

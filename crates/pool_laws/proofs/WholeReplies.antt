@@ -112,6 +112,14 @@ page_refusal limit answer text why read ok page is bad = elim (cases_lt limit (l
   | inl many ↦ same_fault _ why TooLong bad (ap (λ (t : List ℕ). reply_of t false limit) (is ∙ text_is answer false) ∙ read.long ok page many answer.body false)
 ]
 
+-- and only where its body is longer than the limit
+pub page_is_long : (limit : ℕ) (answer : Answer) (text : List ℕ) (why : ReplyFault) → AnswerIsRead limit answer false → answer.status ≡ 200 → answer.media_type ≡ NQuads
+    → text ≡ answer_text answer false false → reply_of text false limit ≡ Bad why → limit < length answer.body
+page_is_long limit answer text why read ok page is bad = elim (cases_lt limit (length answer.body)) [
+  | inr few ↦ absurd (bad_whole _ why answer.body _ true bad (ap (λ (t : List ℕ). reply_of t false limit) (is ∙ sym (append-nil (answer_text answer false false))) ∙ read.whole ok page few [] false))
+  | inl many ↦ many
+]
+
 more_bad : (r : Reading) (fault : ReplyFault) → r ≡ More → r ≡ Bad fault → ⊥
 more_bad r fault m b = cc
 
@@ -154,3 +162,10 @@ pub no_too_long : AnswersAreRead → HeadsAreShort → (limit : ℕ) (received r
     → answer_text too_long false true ≡ received ++ rest → ⊥
 no_too_long reads short limit received rest body n keeps at_end whole is =
     no_refusal limit received body n keeps at_end whole too_long true rest (reads limit too_long true (inr (inr (inr (inr (inl refl))))) (long_short short)) (λ e. absurd (omega (arith, e))) (long_short short) is
+
+-- nor is the whole refusal a part of a reply
+pub refusal_some : AnswersAreRead → HeadsAreShort → (limit : ℕ) (at_end : Bool) (received rest : List ℕ) → received ++ rest ≡ answer_text too_long false true → reply_of received at_end limit ≡ More → 0 < length rest
+refusal_some reads short limit at_end received [] is more =
+    let read = reads limit too_long true (inr (inr (inr (inr (inl refl))))) (long_short short) in
+    absurd (more_bad _ (BadStatus 431) more (ap (λ (t : List ℕ). reply_of t at_end limit) (sym (append-nil received) ∙ is ∙ text_is too_long true) ∙ read.other (λ e. absurd (omega (arith, e))) too_long.body at_end))
+refusal_some reads short limit at_end received (b ∷ rest) is more = omega arith

@@ -1,5 +1,5 @@
 -- What a reply that comes is, where the other end of its link answers as a server does.
-use Rattle.std.specs.Prelude.{ℕ, ◌≡◌, ◌<◌, ◌≤◌, ◌^◌, false, List, length, Ok, Err}
+use Rattle.std.specs.Prelude.{ℕ, ◌≡◌, ◌<◌, ◌≤◌, ◌^◌, ◌++◌, false, List, length, Ok, Err}
 use Rattle.tpf_base.specs.Causes.{Rose}
 use Rattle.tpf_base.specs.HttpHeads.{head_limit}
 use Rattle.http_wire.specs.declared.message.ReplyFault.{ReplyFault}
@@ -11,7 +11,7 @@ use Rattle.tpf_base.specs.Addresses.{Address}
 use Rattle.tpf_base.specs.Links.{All, WireState, IsToldBy, ReceivesOwed, OwesAllowed, OpensGiven}
 use Rattle.tpf_base.specs.Marks.{Mark, Served, version_at}
 use Rattle.http_wire.specs.declared.message.Reply.{Reply}
-use Rattle.template_fill.specs.HttpAnswer.{NQuads}
+use Rattle.template_fill.specs.HttpAnswer.{NQuads, answer_text}
 use Rattle.template_fill.specs.Metadata.{Config}
 use Rattle.template_fill.specs.Answers.{is_reload, answer_to}
 use Rattle.template_fill.specs.Responses.{answering, IsVersion, IsHonestAt}
@@ -55,11 +55,21 @@ RepliesAreAnswers allows after =
 
 -- ---- faults
 
--- A reply was refused: over an honest other end whose versions all answer the address with status 200, it is too long.
+-- The body of the server's answer to the request for the address, over one of the versions, is longer than the limit; and what was received is the front of that answer, head and body.
+pub record HasLongBody (history : List (List Triple)) (config : Config) (limit : ℕ) (address : Address) (received : List ℕ) : Type 0 where
+  pub body : List ℕ
+  pub is_body : IsBodyOf history config address body
+  pub long : limit < length body
+  pub rest : List ℕ
+  pub answer_is : answer_text (answer_to history is_body.mark config (asks address)) false false ≡ received ++ rest
+
+-- A reply was refused: over an honest other end whose versions all answer the address with status 200, it is too long, and so is the body of the answer over one of the versions.
 pub record IsTooLong (allows : List ℕ → ℕ → List ℕ → List ℕ → Type 0) (fault : ReplyFault) (received : List ℕ) (old new : Pooled) (before after : WireState) : Type 0 where
   pub refused : IsRefused fault received old new before after
   pub too_long : (history : List (List Triple)) (config : Config) → IsHonestAt allows refused.loses.ask.address.host refused.loses.ask.address.port (answering history config)
       → length (request_for refused.loses.ask.address) ≤ head_limit → IsAnsweredByAll history config refused.loses.ask.address → fault ≡ TooLong
+  pub long : (history : List (List Triple)) (config : Config) → IsHonestAt allows refused.loses.ask.address.host refused.loses.ask.address.port (answering history config)
+      → length (request_for refused.loses.ask.address) ≤ head_limit → IsAnsweredByAll history config refused.loses.ask.address → HasLongBody history config old.limit refused.loses.ask.address received
 
 abbrev pub RefusalsAreTooLong : (List ℕ → ℕ → List ℕ → List ℕ → Type 0) → WireState → Type 0
 RefusalsAreTooLong allows after =
@@ -67,11 +77,11 @@ RefusalsAreTooLong allows after =
     → OpensGiven before → SuitsWire old before → AnswersSoFar old before → old.limit < 2 ^ 64 → TellsAll allows after
     → StepsTo (Err (faults.Reply fault received)) old new before after → IsTooLong allows fault received old new before after
 
--- A link was cut: over an honest other end the wire's faults rose, since a part of the answer was not received.
+-- A link was cut: over an honest other end the wire's faults rose, since a part of the answer was not received, be it the refusal of a request past the limit of heads.
 pub record IsFaulty (allows : List ℕ → ℕ → List ℕ → List ℕ → Type 0) (received : List ℕ) (old new : Pooled) (before after : WireState) : Type 0 where
   pub cut : IsCut received old new before after
   pub rose : (history : List (List Triple)) (config : Config) → IsHonestAt allows cut.loses.ask.address.host cut.loses.ask.address.port (answering history config)
-      → length (request_for cut.loses.ask.address) ≤ head_limit → Rose before.faults after.faults
+      → Rose before.faults after.faults
 
 abbrev pub CutsAreFaults : (List ℕ → ℕ → List ℕ → List ℕ → Type 0) → WireState → Type 0
 CutsAreFaults allows after =

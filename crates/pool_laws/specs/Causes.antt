@@ -16,7 +16,7 @@ use Rattle.http_ends.specs.Cuts.{Answered, bytes_of, sent_of, received_of}
 use Rattle.request_pool.specs.declared.fault.PoolFault.{PoolFault}
 use Rattle.request_pool.specs.declared.fault.PoolFault.TheVariants as faults
 use Rattle.request_pool.specs.declared.fault.Stepped.TheVariants.{Came}
-use Rattle.request_pool.specs.Pools.{Pooled, Ask, held}
+use Rattle.request_pool.specs.Pools.{Pooled, Ask, IsOverBudget, held}
 use Rattle.request_pool.specs.Owned.{SuitsWire, held_on}
 use Rattle.request_pool.specs.Steps.{StepsTo, HandsOut}
 use Rattle.pool_laws.specs.Following.{IsWebAddress, IsReplied, AnswersSoFar}
@@ -77,11 +77,11 @@ pub record IsCut (received : List ℕ) (old new : Pooled) (before after : WireSt
   pub short : is_short (after.links loses.on.k) ≡ true → Rose before.faults after.faults
   pub more : reply_of received true old.limit ≡ reply.More
 
--- Each fault: the wire's faults rose; 1000 waits followed one another; as many exchanges were started as the budget allows; a reply is refused; a link was cut. Want of memory needs no cause.
+-- Each fault: the wire's faults rose; 1000 waits followed one another; an ask waits, a place is free, and as many exchanges were started as the budget allows; a reply is refused; a link was cut. Want of memory needs no cause.
 abbrev pub IsCauseOf : PoolFault → Pooled → Pooled → WireState → WireState → Type 0
 IsCauseOf faults.Exchange old new before after = Rose before.faults after.faults
 IsCauseOf faults.Stalled old new before after = 1000 ≤ after.idle
-IsCauseOf faults.Budget old new before after = new.budget ≤ new.started
+IsCauseOf faults.Budget old new before after = IsOverBudget new
 IsCauseOf (faults.Reply fault received) old new before after = IsRefused fault received old new before after
 IsCauseOf (faults.Cut received) old new before after = IsCut received old new before after
 IsCauseOf faults.OutOfMemory old new before after = Unit {0}

@@ -6,3 +6,4 @@ pub mod Causes
 pub mod Rising
 pub mod Sending
 pub mod Provoking
+pub mod Requested

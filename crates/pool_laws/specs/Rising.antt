@@ -1,14 +1,12 @@
 -- Over other ends that answer as a server does, and where no stall is long, each failure of an ask is a rise of the wire's faults.
-use Rattle.std.specs.Prelude.{ℕ, ◌≡◌, ◌+◌, ◌≤◌, ◌<◌, ◌^◌, ◌++◌, List, [], ◌∷◌, length, Result, IfErr, None}
+use Rattle.std.specs.Prelude.{ℕ, ◌+◌, ◌≤◌, ◌<◌, ◌^◌, ◌++◌, List, [], ◌∷◌, length, Result, IfErr, None}
 use Rattle.std.specs.List.{AllByRecursion}
 use Rattle.rdf_terms.specs.declared.term.Triple.{Triple}
 use Rattle.tpf_base.specs.Addresses.{Address}
 use Rattle.tpf_base.specs.Causes.{RoseBy}
-use Rattle.tpf_base.specs.HttpHeads.{head_limit}
 use Rattle.tpf_base.specs.Links.{WireState, OpensGiven}
 use Rattle.template_fill.specs.Metadata.{Config}
 use Rattle.template_fill.specs.Responses.{answering, IsHonestAt}
-use Rattle.http_ends.specs.Requests.{request_for}
 use Rattle.request_pool.specs.declared.fault.PoolFault.{PoolFault}
 use Rattle.request_pool.specs.declared.fault.PoolFault.TheVariants as faults
 use Rattle.request_pool.specs.declared.fault.Stepped.{Stepped}
@@ -18,10 +16,9 @@ use Rattle.request_pool.specs.Steps.{StepsTo}
 use Rattle.pool_laws.specs.Following.{AnswersSoFar}
 use Rattle.pool_laws.specs.Answers.{TellsAll}
 
--- The other end at the host and the port of an address answers as a server does, and the request for it is within the limit of heads.
+-- The other end at the host and the port of an address answers as a server does. No address is too long for this: a request past the limit of heads is refused, and its refusal is a whole answer.
 pub record IsServed (allows : List ℕ → ℕ → List ℕ → List ℕ → Type 0) (history : List (List Triple)) (config : Config) (address : Address) : Type 0 where
   pub honest : IsHonestAt allows address.host address.port (answering history config)
-  pub short : length (request_for address) ≤ head_limit
 
 -- Since a moment with so many faults, the wire's faults rose at least as often as each ask that is held failed, and at least as often as all asks failed: beside a failure, no more exchanges were started than so many asks.
 pub record FailuresRose (before asked : ℕ) (pool : Pooled) (wire : WireState) : Type 0 where

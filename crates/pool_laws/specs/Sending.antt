@@ -1,5 +1,5 @@
 -- What was sent on the links that were given since a moment: whole requests for addresses that were asked for, and then at most a front of one more.
-use Rattle.std.specs.Prelude.{ℕ, ◌≡◌, ◌≤◌, ◌<◌, ◌++◌, List, [], ◌∷◌, Option, Some, Result, None}
+use Rattle.std.specs.Prelude.{ℕ, ◌≡◌, ◌≤◌, ◌<◌, ◌++◌, List, [], ◌∷◌, Some, Result, None}
 use Rattle.std.specs.List.{AllByRecursion, Contains, flat_map}
 use Rattle.tpf_base.specs.Addresses.{Address}
 use Rattle.tpf_base.specs.Links.{Link, WireState, OpensGiven}

@@ -8,6 +8,7 @@ ghost use Rattle.pool_laws.specs.Owning.{ClosingCloses, EmptyPoolsOwn, FaultsOwn
 ghost use Rattle.pool_laws.specs.Causes.{FaultsHaveCauses, RepliesAreRead};
 ghost use Rattle.pool_laws.specs.Counting.{ClosingDials, EmptyPoolsDial, EmptyPoolsFewFailed, FaultsDial, PutsDial, PutsFewFailed, StepsCountTries, StepsDial, StepsFewFailed};
 ghost use Rattle.pool_laws.specs.Rising.{EmptyPoolsRose, FaultsRose, PutsRose, StepsRose};
+ghost use Rattle.pool_laws.specs.Requested.{AsksAreAnswered, ClosingAnswered, ClosingRequested, EmptyPoolsAnswered, EmptyPoolsRequested, FaultsRequested, PutsAnswered, PutsRequested, RequestsAreExact, RequestsAreFew, RequestsAreOne, RequestsAreRises, RequestsAreStarted, StepsAnswered, StepsRequested};
 ghost use Rattle.pool_laws.specs.Provoking.{EmptyPoolsReady, NoneHang, PutsReady, StepsSpare};
 ghost use Rattle.pool_laws.specs.Sending.{ClosingSent, EmptyPoolsSent, FaultsSent, PutsSent, StepsSent};
 ghost use Rattle.pool_laws.specs.Following.{ClosedPoolsFollow, EmptyPoolsFollow, FaultsFollow, FlightsFollow, OthersFollow, PollsFollow, PutsFollow, RunningFollows, RunsFollow, StartsFollow, StepsFollow, TurnsFollow};
@@ -39,8 +40,8 @@ pub fn whole_replies_come_first()
 /// Each reply that comes with a step, after which the wire is this one, is the body of the answer
 /// that an honest other end gives to the request for the address of its ticket (`replies`), where
 /// the wire tells all (`tells`). A reply that is refused is then too long, where each version of the
-/// data answers the address with status 200 (`refused`), and a link is cut only with a rise of the
-/// wire's faults (`cut`).
+/// data answers the address with status 200, and the body of that answer over one of the versions is
+/// longer than the limit (`refused`); and a link is cut only with a rise of the wire's faults (`cut`).
 pub fn a_reply_is_an_answer<W: Wire>(wire: &W)
     ensures replies { RepliesAreAnswers (W.allows wire.now) (W.state wire.now) }
     ensures refused { RefusalsAreTooLong (W.allows wire.now) (W.state wire.now) }
@@ -118,6 +119,38 @@ pub fn whole_requests_are_sent()
     ensures fault { FaultsSent }
     ensures step { StepsSent }
     ensures close { ClosingSent }
+{}
+
+/// For any test of addresses, no more whole requests are sent, on the links that were given since the
+/// pool was empty, than the asks that were put for such addresses may be tried (`few`), and in all no
+/// more than exchanges were started (`started`): so, where failures are rises of the wire's faults, no
+/// more than asks were put and faults rose (`rises`). What a link tells was requested in one way, so
+/// these counts are of the links alone (`once`).
+pub fn requests_are_counted()
+    ensures empty { EmptyPoolsRequested }
+    ensures put { PutsRequested }
+    ensures fault { FaultsRequested }
+    ensures step { StepsRequested }
+    ensures close { ClosingRequested }
+    ensures few { RequestsAreFew }
+    ensures started { RequestsAreStarted }
+    ensures rises { RequestsAreRises }
+    ensures once { RequestsAreOne }
+{
+    requests_are_cut();
+}
+
+/// Each ask that is put since the pool was empty is held, or a whole request for its address was
+/// answered by a whole reply, until a step has a fault: so where nothing is held, for any test of
+/// addresses, at least as many requests for such addresses were answered as asks were put (`all`); and
+/// where no more whole requests were sent in all than asks were put, just the asks were sent (`exact`).
+pub fn asks_are_answered()
+    ensures empty { EmptyPoolsAnswered }
+    ensures put { PutsAnswered }
+    ensures step { StepsAnswered }
+    ensures close { ClosingAnswered }
+    ensures all { AsksAreAnswered }
+    ensures exact { RequestsAreExact }
 {}
 
 /// Over a steady wire on which no link is open but those of a pool, below 2^63 links, a step provokes

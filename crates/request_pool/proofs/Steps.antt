@@ -14,11 +14,11 @@ use Rattle.request_pool.specs.declared.fault.Polled.{Polled}
 use Rattle.request_pool.specs.declared.fault.Polled.TheVariants as polls
 use Rattle.request_pool.specs.declared.fault.PoolFault.{PoolFault}
 use Rattle.request_pool.specs.declared.fault.PoolFault.TheVariants as faults
-use Rattle.request_pool.specs.Pools.{Pooled, Ask, ask_waiting, ask_flying, held, in_flight}
+use Rattle.request_pool.specs.Pools.{Pooled, Ask, IsOverBudget, ask_waiting, ask_flying, held, in_flight}
 use Rattle.request_pool.specs.Owned.{flights_on, spare_on, held_on, SuitsWire}
 use Rattle.request_pool.specs.Polls.{Shuts, TakesLink, Settles, NoLink, Kept, Shut, FlightTo}
 use Rattle.request_pool.specs.Runs.{Begins, Starts, Overruns, Flies, Starves, PollsNext, Turn, Round, Running, Ended, OfStart, RunsTo, GoesOn, Ends, is_end}
-use Rattle.request_pool.specs.Steps.{MayWait, WaitsTo, EndsInWait, InRun, InWait, StepsTo, IsOverBudget}
+use Rattle.request_pool.specs.Steps.{MayWait, WaitsTo, EndsInWait, InRun, InWait, StepsTo}
 use Rattle.request_pool.specs.declared.fault.Stepped.{Stepped}
 use Rattle.request_pool.specs.declared.fault.Stepped.TheVariants.{Came, Waited}
 use Rattle.http_wire.specs.declared.message.Reply.{Reply}
@@ -219,7 +219,7 @@ pub fault_steps : (fault : PoolFault) (p q r : Pooled) (a b : WireState) → q �
 fault_steps fault p q r a b e h = InRun (ended_at (Err fault) p q r a b e refl h)
 
 pub over_steps : (p q : Pooled) (a : WireState) → q ≡ record p { polled = in_flight p; due = [] } → IsOverBudget q → StepsTo (Err faults.Budget) p q a a
-over_steps p q a e o = InRun (record { mid = q; between = a; running = subst (λ (x : Pooled). Running x q a a) e (runs_none q a); last = OfStart (Overruns refl o.spent refl refl) })
+over_steps p q a e o = InRun (record { mid = q; between = a; running = subst (λ (x : Pooled). Running x q a a) e (runs_none q a); last = OfStart (Overruns refl o refl refl) })
 
 stepped : (result : Result Stepped PoolFault) (p q : Pooled) (a b : WireState) → IfOk result (λ s. s ≡ Waited) → EndsInWait result p q a b → StepsTo result p q a b
 stepped (Ok s) p q a b e h = subst (λ (x : Stepped). StepsTo (Ok x) p q a b) (sym e) (subst (λ (x : Stepped). EndsInWait (Ok x) p q a b) e h)
@@ -246,6 +246,9 @@ begun_err v p q first rest link spare e room w t h = subst (λ (z : Pooled). (x 
   h,
   refl,
 )
+
+pub over_now : (v p : Pooled) → v ≡ p → p.waiting ≢ [] → length (in_flight p) < p.links → v.budget ≤ v.started → IsOverBudget p
+over_now v p e some room h = record { waits = some; free = room; spent = subst (λ (x : Pooled). x.budget ≤ x.started) e h }
 
 pub below_budget : (v p : Pooled) → v ≡ p → v.started < v.budget → p.started < p.budget
 below_budget v p e h = subst (λ (x : Pooled). x.started < x.budget) e h

@@ -1,5 +1,5 @@
 -- A pool of exchanges: what it holds.
-use Rattle.std.specs.Prelude.{ℕ, List, [], ◌++◌, map, Option, None}
+use Rattle.std.specs.Prelude.{ℕ, ◌≢◌, ◌<◌, ◌≤◌, List, [], ◌++◌, map, length, Option, None}
 use Rattle.tpf_base.specs.Addresses.{Address}
 use Rattle.request_pool.specs.declared.fault.PoolFault.{PoolFault}
 use Rattle.request_pool.specs.declared.asks.Waiting.{Waiting}
@@ -41,6 +41,12 @@ bounds_of pool = record pool { waiting = []; polled = []; due = []; spare = []; 
 -- the exchanges in flight, the oldest first
 abbrev pub in_flight : Pooled → List Flight
 in_flight pool = pool.polled ++ pool.due
+
+-- an ask waits, a place is free, and as many exchanges were started as the budget allows
+pub record IsOverBudget (pool : Pooled) : Type 0 where
+  pub waits : pool.waiting ≢ []
+  pub free : length (in_flight pool) < pool.links
+  pub spent : pool.budget ≤ pool.started
 
 -- an address that is asked for under a ticket
 pub record Ask : Type 0 where

@@ -9,7 +9,7 @@ use Rattle.request_pool.specs.declared.fault.Polled.{Polled}
 use Rattle.request_pool.specs.declared.fault.Polled.TheVariants.{Pending, Came, Failed}
 use Rattle.request_pool.specs.declared.fault.PoolFault.{PoolFault}
 use Rattle.request_pool.specs.declared.fault.PoolFault.TheVariants as faults
-use Rattle.request_pool.specs.Pools.{Pooled, in_flight}
+use Rattle.request_pool.specs.Pools.{Pooled, in_flight, IsOverBudget}
 use Rattle.request_pool.specs.Polls.{Shuts, TakesLink, FlightTo}
 
 -- Where a place is free, the first ask that waits becomes an exchange, on a link that was left for its authority or on a fresh one, and one more was started.
@@ -24,9 +24,9 @@ pub record Begins (old new : Pooled) (f : Flight) : Type 0 where
   pub is_new : new ≡ record old { waiting = rest; spare = spare; started = old.started + 1 }
   pub flight : f ≡ record { ticket = first.ticket; failed = first.failed; exchange = starting first.address old.limit link }
 
--- A start: the budget allows no more; or the exchange is polled at once; or memory runs out before that, and the ask is lost.
+-- A start: one more is wanted than the budget allows; or the exchange is polled at once; or memory runs out before that, and the ask is lost.
 pub data Starts (result : Result Polled PoolFault) (old new : Pooled) (wire wire' : WireState) : Type 0 where
-  Overruns : result ≡ Err faults.Budget → old.budget ≤ old.started → new ≡ old → wire' ≡ wire → Starts result old new wire wire'
+  Overruns : result ≡ Err faults.Budget → IsOverBudget new → new ≡ old → wire' ≡ wire → Starts result old new wire wire'
   Flies : (mid : Pooled) (f : Flight) → old.started < old.budget → Begins old mid f → FlightTo result f mid new wire wire' → Starts result old new wire wire'
   Starves : result ≡ Err faults.OutOfMemory → (mid : Pooled) (f : Flight) → Begins old mid f → new ≡ record mid { started = old.started } → Shuts f.exchange.link wire wire' → Starts result old new wire wire'
 

@@ -1,5 +1,5 @@
 -- What a step of a pool does and answers.
-use Rattle.std.specs.Prelude.{ℕ, ◌≡◌, ◌≢◌, ◌<◌, ◌≤◌, ◌⊎◌, min, List, [], ◌∷◌, length, Option, Some, None, Result, Ok, Err, IfOk, OnErr, true, false}
+use Rattle.std.specs.Prelude.{ℕ, ◌≡◌, ◌<◌, ◌≤◌, ◌⊎◌, min, List, [], ◌∷◌, length, Option, Some, None, Result, Ok, Err, IfOk, OnErr, true, false}
 use Rattle.std.specs.List.{AllByRecursion}
 use Rattle.std.specs.List.Sorted.{IsPermutation}
 use Rattle.tpf_base.specs.Causes.{Rose, HasCause, counted}
@@ -105,9 +105,3 @@ WaitsOnce (Ok (Came ticket answer)) wire wire' = wire'.waits ≡ wire.waits
 WaitsOnce (Ok Waited) wire wire' = wire'.waits ≡ counted wire.waits
 WaitsOnce (Ok Idle) wire wire' = wire'.waits ≡ wire.waits
 WaitsOnce (Err fault) wire wire' = (wire'.waits ≡ wire.waits) ⊎ (wire'.waits ≡ counted wire.waits)
-
--- an ask waits, a place is free, and as many exchanges were started as the budget allows
-pub record IsOverBudget (pool : Pooled) : Type 0 where
-  pub waits : pool.waiting ≢ []
-  pub free : length (in_flight pool) < pool.links
-  pub spent : pool.budget ≤ pool.started

@@ -4,12 +4,12 @@ ghost use Rattle.std.specs.List.{AllByRecursion};
 ghost use Rattle.tpf_base.specs.Links.{WireState, SameAllowed};
 ghost use Rattle.exchange.specs.Exchanges.{left_link, IsLinked};
 ghost use Rattle.exchange.specs.declared.exchange.Standing.TheVariants.{Underway};
-ghost use Rattle.request_pool.specs.Pools.{Pooled, Ask, empty_pool, held, in_flight, bounds_of};
+ghost use Rattle.request_pool.specs.Pools.{Pooled, Ask, IsOverBudget, empty_pool, held, in_flight, bounds_of};
 ghost use Rattle.request_pool.specs.Owned.{SuitsWire, on_link, held_on, open_on, AreUnderway};
 ghost use Rattle.request_pool.specs.Polls.{Shuts, Settles, FailsTo, EndsTo, FlightTo};
 ghost use Rattle.request_pool.specs.Runs.{Begins, Starts, PollsNext, RunsTo, is_end};
 ghost use Rattle.request_pool.specs.declared.asks.Flight as flights;
-ghost use Rattle.request_pool.specs.Steps.{StepsTo, HoldsOn, WaitsOnce, IsOverBudget, GivesUp, WaitsTo, MayWait};
+ghost use Rattle.request_pool.specs.Steps.{StepsTo, HoldsOn, WaitsOnce, GivesUp, WaitsTo, MayWait};
 ghost use Rattle.request_pool.specs.Closing.{ClosesSome, PopsLink};
 
 use crate::asks::{Flight, Spare, Waiting};

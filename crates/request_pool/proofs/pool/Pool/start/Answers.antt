@@ -1,8 +1,11 @@
--- An ask is begun and polled.
+-- The budget is spent, or an ask is begun and polled.
 use Rattle.std.proofs.Common.{refl, sym}
-use Rattle.request_pool.specs.Runs.{Flies, Starves}
-use Rattle.request_pool.proofs.Steps.{linked_as, begun_linked, below_budget, shuts_as}
+use Rattle.request_pool.specs.Runs.{Overruns, Flies, Starves}
+use Rattle.request_pool.proofs.Steps.{linked_as, begun_linked, over_now, below_budget, shuts_as}
 use Rattle.request_pool.proofs.pool.Pool.start.Goals as goal
+
+pub returns-then-self-clause-starts : goal.returns-then-self-clause-starts
+returns-then-self-clause-starts g c = Overruns refl (over_now _ _ c.self.view_is c.requires.some c.requires.room c.if-self.true) refl refl
 
 pub poll_flight-requires-clause-linked : goal.poll_flight-requires-clause-linked
 poll_flight-requires-clause-linked g c = begun_linked c.args.self.now c.begin.new.self c.in-Ok.flight (g.W.Wire.state c.args.wire.now) c.requires.suits c.in-Ok.ensures.ok

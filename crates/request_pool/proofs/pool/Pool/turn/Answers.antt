@@ -1,7 +1,7 @@
 -- Nothing is held, or a step with the buffer.
 use Rattle.std.proofs.Common.{refl, sym, ◌∙◌, ap, subst, inr}
-use Rattle.request_pool.specs.Pools.{held}
-use Rattle.request_pool.specs.Steps.{AtOnce, IsOverBudget}
+use Rattle.request_pool.specs.Pools.{IsOverBudget, held}
+use Rattle.request_pool.specs.Steps.{AtOnce}
 use Rattle.request_pool.proofs.Suits.{suits_as}
 use Rattle.request_pool.proofs.Steps.{none_held, none_counted, over_held, steps_as}
 use Rattle.request_pool.proofs.pool.Pool.turn.Goals as goal
