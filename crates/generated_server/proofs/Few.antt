@@ -92,7 +92,7 @@ generated_few n = all_few n 0 n
 filter_few : (p : Quad → Bool) (qs : List Quad) → length (filter p qs) ≤ length qs
 filter_few p qs = omega (arith, length-filter p qs, count_by-le-length p qs)
 
-chosen_few : (n : ℕ) → length (chosen DefaultGraph (generated n)) ≤ 3 * n
+pub chosen_few : (n : ℕ) → length (chosen DefaultGraph (generated n)) ≤ 3 * n
 chosen_few n = omega (
   arith,
   generated_few n,
@@ -104,7 +104,7 @@ triple_decided : (a b : Triple) → Decides (eq_by_cmp triple_order a b) (a ≡ 
 triple_decided a b = (λ h. (triple_equal a b).0 (is_equal _ h), λ e. ap is_eq ((triple_equal a b).1 e))
 
 -- no more triples are served than are chosen
-served_few : (authority : List ℕ) (triples served : List Triple) → IsServed authority triples served → length served ≤ length triples
+pub served_few : (authority : List ℕ) (triples served : List Triple) → IsServed authority triples served → length served ≤ length triples
 served_few authority triples served s =
     let some : length served ≤ length (map (skolem_triple authority) triples) = length-le_from_is_member (eq_by_cmp_equiv triple_total) served (map (skolem_triple authority) triples) (IsDistinct-from_sorted triple_order served s.data_set.ascending) (λ q m.
     (is_member-Decides triple_decided (map (skolem_triple authority) triples) q).1 ((s.members q).0 ((is_member-Decides triple_decided served q).0 m))) in

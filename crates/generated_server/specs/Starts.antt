@@ -1,11 +1,14 @@
 -- The server of generated data.
-use Rattle.std.specs.Prelude.{ℕ, ◌≡◌, List}
+use Rattle.std.specs.Prelude.{ℕ, ◌≡◌, ◌≤◌, List, length}
+use Rattle.std.specs.List.{Contains}
+use Rattle.rdf_terms.specs.declared.term.Term.{Term}
+use Rattle.rdf_terms.specs.Canon.{canonical_term}
 use Rattle.rdf_terms.specs.declared.term.Triple.{Triple}
-use Rattle.tpf_base.specs.Addresses.{authority_of}
+use Rattle.tpf_base.specs.Addresses.{IsAuthority, authority_of}
 use Rattle.template_fill.specs.Metadata.{Config}
 use Rattle.triple_table.specs.declared.choice.Choice.TheVariants.{DefaultGraph}
 use Rattle.triple_table.specs.Chosen.{chosen}
-use Rattle.triple_table.specs.Served.{IsServed}
+use Rattle.triple_table.specs.Served.{terms_of, IsServed}
 use Rattle.connections.specs.Versions.{Serving}
 use Rattle.generated_data.specs.Generated.{generated}
 
@@ -14,3 +17,13 @@ pub record StartsGenerated (persons : ℕ) (config : Config) (server : Serving (
   pub config_is : server.config ≡ config
   pub version : server.version ≡ 1
   pub data_set : IsServed (authority_of config.base) (chosen DefaultGraph (generated persons)) server.data_set
+
+-- each term has a canonical text of at most 262144 bytes, and there are at most 3000000 triples
+pub record AreSmall (triples : List Triple) : Type 0 where
+  pub terms : (term : Term) → Contains (terms_of triples) term → length (canonical_term term) ≤ 262144
+  pub few : length triples ≤ 3000000
+
+-- the law: so it is of the data of at most 1000000 persons, under each authority
+abbrev pub GeneratedAreSmall : Type 0
+GeneratedAreSmall =
+    (persons : ℕ) (authority : List ℕ) (triples : List Triple) → persons ≤ 1000000 → IsAuthority authority → IsServed authority (chosen DefaultGraph (generated persons)) triples → AreSmall triples

@@ -3,4 +3,4 @@
 
 mod server;
 
-pub use server::server_of_generated;
+pub use server::{generated_data_are_small, server_of_generated};

@@ -8,7 +8,7 @@ ghost use Rattle.triple_table.specs.Served.{IsServed};
 ghost use Rattle.triple_table.specs.Stored.{triples_in};
 ghost use Rattle.fragment_server.specs.Fragments.{serving_of};
 ghost use Rattle.generated_data.specs.Generated.{generated};
-ghost use Rattle.generated_server.specs.Starts.{StartsGenerated};
+ghost use Rattle.generated_server.specs.Starts.{StartsGenerated, GeneratedAreSmall};
 
 use fragment_server::FragmentServer;
 use generated_data::write_generated;
@@ -18,7 +18,7 @@ use rdf_terms::Quad;
 use std::alloc::Global;
 use tpf_base::{Failing, MemSink, OutOfMemory};
 use tpf_server::Server;
-use triple_table::{BuildFault, Choice, Table};
+use triple_table::{BuildFault, Choice, Table, authorities_are_short, served_terms_are_short};
 
 /// The most bytes of the canonical text of a term, as of a file of data.
 const LONGEST_TERM: usize = 262144;
@@ -89,4 +89,13 @@ pub fn server_of_generated(
     let table = table_of(alloc, persons, &config)?;
     let server = Server::new(alloc, table, config)?;
     Ok(FragmentServer::new(server))
+}
+
+/// The data of at most 1000000 persons have at most 3000000 triples, whose terms have canonical texts of
+/// at most 262144 bytes, as those of a file that is served.
+pub fn generated_data_are_small()
+    ensures { GeneratedAreSmall }
+{
+    served_terms_are_short();
+    authorities_are_short();
 }

@@ -3,3 +3,4 @@ pub mod Lists
 pub mod Calls
 pub mod Wires
 pub mod Waits
+pub mod Faults

@@ -1,5 +1,5 @@
 -- What a wire in one process tells.
-use Rattle.std.specs.Prelude.{ℕ, ◌≤◌, Bool, true, false, List, [], map, length, get_or, Option, Some, None, if◌then◌else◌}
+use Rattle.std.specs.Prelude.{ℕ, ◌≡◌, ◌+◌, ◌-◌, ◌*◌, ◌^◌, ◌<◌, ◌≤◌, Bool, true, false, List, [], map, length, get_or, Option, Some, None, if◌then◌else◌}
 use Rattle.std.specs.List.{AllByRecursion}
 use Rattle.tpf_base.specs.Causes.{counted, counted_by}
 use Rattle.tpf_base.specs.Failures.{CallCounts, no_calls}
@@ -32,6 +32,17 @@ every_of (Dials n) = Some n
 
 abbrev pub nature_of : Failing → Nature
 nature_of failing = record { tells = All; lively = true; steady = is_steady failing; every = every_of failing }
+
+-- of so many dials each n-th is due, and some faults were provoked: so many dials failed since they were due, and no other call failed
+pub record FewFaults (n dials faults provoked : ℕ) : Type 0 where
+  pub due : ℕ
+  pub failed : faults ≤ due + provoked
+  pub within : due * n ≤ dials
+  pub none : n ≡ 0 → due ≡ 0
+
+-- so it is where nothing but dials is due, as long as the count of the dials does not stand still
+abbrev pub CountsDue : Failing → ℕ → ℕ → ℕ → Type 0
+CountsDue failing dials faults provoked = (n : ℕ) → every_of failing ≡ Some n → dials < 2 ^ 64 - 1 → FewFaults n dials faults provoked
 
 -- how many waits succeeded, one after another, since a byte moved: at most one
 abbrev pub idle_of : Bool → ℕ

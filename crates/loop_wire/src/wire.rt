@@ -5,7 +5,7 @@ ghost use Rattle.tpf_base.specs.Failures.{no_calls, is_next_due, is_next_dial_du
 ghost use Rattle.tpf_base.specs.Links.{WireState, SameAllowed, IsRipe};
 ghost use Rattle.tpf_base.specs.Calls.{Sends, Receives, Closes, GivesDialled, GivesNone, OnlyDials, OnlyWaits, Wakes};
 ghost use Rattle.loop_wire.specs.Held.{Held, told, no_link, new_link};
-ghost use Rattle.loop_wire.specs.Looped.{Looped, new_wire, state_of, wire_of, held_of, IsWire};
+ghost use Rattle.loop_wire.specs.Looped.{Looped, new_wire, state_of, wire_of, held_of, IsWire, CountsDue};
 ghost use Rattle.rand_pcg.specs.Pcg.{multiplier_64};
 ghost use Rattle.rand_pcg.specs.Lcg.{started, increment_of};
 
@@ -63,7 +63,8 @@ impl<C: RespondsAt> Model for LoopWire<C> {
       woke = w.woke;
     } };
 
-    ghost invariant = { λ w. IsWire C.kind (C.Suits w.server) (C.Server.serving w.server) (C.response_at (C.Server.serving w.server)) w.links.items };
+    ghost invariant = { λ w. IsWire C.kind (C.Suits w.server) (C.Server.serving w.server) (C.response_at (C.Server.serving w.server)) w.links.items
+        × CountsDue w.failures.failing w.failures.dials w.failures.faults w.provoked };
 }
 
 impl<C: RespondsAt> LoopWire<C> {
@@ -81,6 +82,14 @@ impl<C: RespondsAt> LoopWire<C> {
             waits: 0,
             woke: false,
         }
+    }
+
+    /// Where nothing but each n-th dial is due to fail, no other calls failed but those that the caller
+    /// provoked. The call does nothing; it tells a proof of it.
+    pub fn fails_as_due(&self)
+        ensures { CountsDue self.now.counts.failing self.now.counts.dials self.now.counts.faults self.now.provoked }
+    {
+        let _failures = &self.failures;
     }
 
     /// How many links were given.

@@ -1,17 +1,44 @@
-use Rattle.std.proofs.Common.{ℕ, ◌≡◌, false, List, length, Some, is_err, refl, ap, sym, ◌∙◌}
+use Rattle.std.proofs.Common.{ℕ, ◌≡◌, false, List, length, Some, is_err, refl, ap, sym, ◌∙◌, rules}
 use Rattle.tpf_base.specs.Failures.{CallCounts}
 use Rattle.loop_wire.specs.Held.{new_link}
 use Rattle.loop_wire.specs.Looped.{held_of}
 use Rattle.loop_wire.proofs.Lists.{length_held}
 use Rattle.loop_wire.proofs.Calls.{gives_as}
 use Rattle.loop_wire.proofs.Waits.{pushed, held_push, kept_new, is_wire_push}
+use Rattle.loop_wire.proofs.Faults.{due_dialled, due_spared, dial_was_due}
 use Rattle.loop_wire.proofs.wire.LoopWireDial.dial.Goals as goal
 
 pub invariant_of-self-2 : goal.invariant_of-self-2
 invariant_of-self-2 g c =
     let fine : is_err c.push.result ≡ false = cc in
-    let more = pushed c.push.result _ _ _ c.push.ensures.items fine in
-    is_wire_push _ _ _ _ _ _ _ c.self.invariant more (kept_new _ _ _ _ _ _ _ c.new.ensures c.new-2.ensures.opens (c.new-2.ensures.suits c.self.inside.server))
+    let more = pushed c.push.result _ _ _ c.push.ensures.items fine in (
+      is_wire_push _ _ _ _ _ _ _ c.self.invariant.0 more (kept_new _ _ _ _ _ _ _ c.new.ensures c.new-2.ensures.opens (c.new-2.ensures.suits c.self.inside.server)),
+      due_spared c.self.inside.failures c.is_next_dial_due.new.self _ _ _ refl c.is_next_dial_due.ensures.counts c.self.invariant.1,
+    )
+
+pub invariant_of-self : goal.invariant_of-self
+invariant_of-self g c = (
+  c.self.invariant.0,
+  due_dialled c.self.inside.failures c.is_next_dial_due.new.self c.fail.new.self c.self.inside.moved _ _ c.self.inside.provoked (sym c.is_next_dial_due.ensures.due ∙ c.if-is_next_dial_due.true) refl c.is_next_dial_due.ensures.counts c.fail.ensures.counts c.self.invariant.1,
+)
+
+pub invariant_of-self-in_default : goal.invariant_of-self-in_default
+invariant_of-self-in_default g c = (c.self.invariant.0, due_spared c.self.inside.failures c.is_next_dial_due.new.self _ _ _ refl c.is_next_dial_due.ensures.counts c.self.invariant.1)
+
+pub invariant_of-self-then-is_err : goal.invariant_of-self-then-is_err
+invariant_of-self-then-is_err g c = (search rules, due_spared c.self.inside.failures c.is_next_dial_due.new.self _ _ _ refl c.is_next_dial_due.ensures.counts c.self.invariant.1)
+
+pub returns-then-is_next_dial_due-clause-steady : goal.returns-then-is_next_dial_due-clause-steady
+returns-then-is_next_dial_due-clause-steady g c = λ steady. rw (← c.self.view_is) (record {
+  unprovoked = λ few. refl;
+  not_due = λ few e every free. absurd (dial_was_due c.self.inside.failures c.is_next_dial_due.new.self c.fail.new.self c.self.inside.moved _ e (sym c.is_next_dial_due.ensures.due ∙ c.if-is_next_dial_due.true) c.is_next_dial_due.ensures.counts c.fail.ensures.counts every free);
+})
+
+pub returns-then-is_err-clause-steady : goal.returns-then-is_err-clause-steady
+returns-then-is_err-clause-steady g c = λ steady. rw (← c.self.view_is) (record {
+  unprovoked = λ few. refl;
+  not_due = λ few e every free. record { same = ap (λ (n : CallCounts). n.faults) c.is_next_dial_due.ensures.counts; answer = λ f. absurd cc };
+})
 
 pub returns-clause-ok : goal.returns-clause-ok
 returns-clause-ok g c =

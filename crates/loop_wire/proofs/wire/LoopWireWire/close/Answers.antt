@@ -17,7 +17,7 @@ close-requires g c =
 pub invariant_of-self : goal.invariant_of-self
 invariant_of-self g c =
     let whole : c.self.inside.links.len ≡ length c.self.inside.links.items = omega (arith, c.deref_mut.ensures.len, ap length c.deref_mut.ensures.value) in
-    is_wire_put _ _ _ _ _ c.deref_mut.result.now _ _ c.self.invariant c.deref_mut.ensures.value c.close.auto.links whole (c.close.ensures.kept c.self.inside.server)
+    (is_wire_put _ _ _ _ _ c.deref_mut.result.now _ _ c.self.invariant.0 c.deref_mut.ensures.value c.close.auto.links whole (c.close.ensures.kept c.self.inside.server), c.self.invariant.1)
 
 pub returns-clause-closes : goal.returns-clause-closes
 returns-clause-closes g c =

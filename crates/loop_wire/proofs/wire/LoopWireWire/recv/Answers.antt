@@ -5,13 +5,16 @@ use Rattle.loop_wire.specs.Looped.{Looped, held_of}
 use Rattle.loop_wire.proofs.Lists.{length_held, held_at}
 use Rattle.loop_wire.proofs.Calls.{never_due, receives_due, receives_as}
 use Rattle.loop_wire.proofs.Wires.{open_below, is_wire_put, held_put_by, held_put, gives_along, kept_along, is_held_at, counts_due, faults_due, counts_fine, faults_fine, some_room, awake_as, ripe_short}
+use Rattle.loop_wire.proofs.Faults.{due_same, due_unsteady}
 use Rattle.loop_wire.proofs.wire.LoopWireWire.recv.Goals as goal
 
 pub invariant_of-self : goal.invariant_of-self
 invariant_of-self g c =
     let owes : List ℕ → List ℕ = g.C.RespondsAt.response_at (g.C.Server.Serves.serving c.self.inside.server) in
-    let whole : c.self.inside.links.len ≡ length c.self.inside.links.items = omega (arith, c.deref_mut.ensures.len, ap length c.deref_mut.ensures.value) in
-    is_wire_put _ _ _ _ _ c.deref_mut.result.now _ _ c.self.invariant c.deref_mut.ensures.value c.settle.auto.links whole (c.settle.ensures.kept c.self.inside.server)
+    let whole : c.self.inside.links.len ≡ length c.self.inside.links.items = omega (arith, c.deref_mut.ensures.len, ap length c.deref_mut.ensures.value) in (
+      is_wire_put _ _ _ _ _ c.deref_mut.result.now _ _ c.self.invariant.0 c.deref_mut.ensures.value c.settle.auto.links whole (c.settle.ensures.kept c.self.inside.server),
+      due_unsteady c.self.inside.failures c.is_next_due.new.self c.fail.new.self _ _ c.is_next_due.ensures.counts c.fail.ensures.counts (never_due c.self.inside.failures.failing _ _ (sym c.is_next_due.ensures.due ∙ c.if-is_next_due.true)),
+    )
 
 pub returns-then-is_next_due-clause-receives : goal.returns-then-is_next_due-clause-receives
 returns-then-is_next_due-clause-receives g c =
@@ -38,13 +41,15 @@ receive-answer-requires-clause-is_open g c =
     ap (λ (ls : List Held). (get_or ls c.args.link no_link).is_open) (ap held_of c.deref_mut-2.ensures.value ∙ seen) ∙ c.requires.is_open
 
 pub receive-answer-requires-clause-kept : goal.receive-answer-requires-clause-kept
-receive-answer-requires-clause-kept g c = kept_along _ _ _ _ _ _ c.deref_mut-2.ensures.value c.self.invariant.kept
+receive-answer-requires-clause-kept g c = kept_along _ _ _ _ _ _ c.deref_mut-2.ensures.value c.self.invariant.0.kept
 
 pub invariant_of-self-2 : goal.invariant_of-self-2
 invariant_of-self-2 g c =
     let owes : List ℕ → List ℕ = g.C.RespondsAt.response_at (g.C.Server.Serves.serving c.self.inside.server) in
-    let whole : c.self.inside.links.len ≡ length c.self.inside.links.items = omega (arith, c.deref_mut-2.ensures.len, ap length c.deref_mut-2.ensures.value) in
-    is_wire_put _ _ _ _ _ c.deref_mut-2.result.now _ _ c.self.invariant c.deref_mut-2.ensures.value c.receive-answer.auto.links whole (λ before. c.receive-answer.ensures.kept)
+    let whole : c.self.inside.links.len ≡ length c.self.inside.links.items = omega (arith, c.deref_mut-2.ensures.len, ap length c.deref_mut-2.ensures.value) in (
+      is_wire_put _ _ _ _ _ c.deref_mut-2.result.now _ _ c.self.invariant.0 c.deref_mut-2.ensures.value c.receive-answer.auto.links whole (λ before. c.receive-answer.ensures.kept),
+      due_same c.self.inside.failures c.is_next_due.new.self _ _ c.is_next_due.ensures.counts c.self.invariant.1,
+    )
 
 pub returns-clause-receives : goal.returns-clause-receives
 returns-clause-receives g c =
@@ -54,7 +59,7 @@ returns-clause-receives g c =
     let owes : List ℕ → List ℕ = g.C.RespondsAt.response_at (g.C.Server.Serves.serving c.self.inside.server) in
     let whole : c.self.inside.links.len ≡ length c.self.inside.links.items = omega (arith, c.deref_mut-2.ensures.len, ap length c.deref_mut-2.ensures.value) in
     let within : c.args.link < length c.self.inside.links.items = omega (arith, below, length_held c.self.inside.links.items) in
-    let held = is_held_at _ _ _ _ _ _ c.self.invariant.kept below in
+    let held = is_held_at _ _ _ _ _ _ c.self.invariant.0.kept below in
     let up : (get_or (held_of c.self.inside.links.items) c.args.link no_link).woken ≡ c.is_woken.result = ap (λ (h : Held). h.woken) (held_at c.self.inside.links.items c.args.link c.index.result.now within c.index.ensures) ∙ sym c.is_woken.ensures in
     rw (← c.self.view_is) (receives_as owes c.args.link c.room-most.result _ c.stalls-stalling.result c.receive-answer.result (held_of c.self.inside.links.items) _ (get_or (held_of c.receive-answer.new.links) c.args.link no_link) c.self.inside.failures c.is_next_due.new.self _ _ _ _ below
     (held_put _ _ _ c.deref_mut-2.result.now _ _ c.deref_mut-2.ensures.value c.receive-answer.auto.links whole c.receive-answer.ensures.held)
@@ -67,4 +72,4 @@ receive-answer-requires-clause-most g c =
     some_room c.self.inside.failures.failing c.is_next_due.new.self.failing _ _ _ (ap (λ (n : CallCounts). n.failing) c.is_next_due.ensures.counts) c.room-most.ensures.value (c.is_next_due.ensures.some c.if-is_next_due.false _ c.cut.ensures.least)
 
 pub receive-answer-requires-clause-version : goal.receive-answer-requires-clause-version
-receive-answer-requires-clause-version g c = c.self.invariant.version
+receive-answer-requires-clause-version g c = c.self.invariant.0.version

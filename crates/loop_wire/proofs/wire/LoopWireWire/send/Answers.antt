@@ -5,13 +5,16 @@ use Rattle.loop_wire.specs.Looped.{Looped, held_of}
 use Rattle.loop_wire.proofs.Lists.{length_held, held_at}
 use Rattle.loop_wire.proofs.Calls.{never_due, sends_due, sends_as}
 use Rattle.loop_wire.proofs.Wires.{open_below, is_wire_put, held_put_by, held_put, hears_along, kept_along, is_held_at, counts_due, faults_due, counts_fine, faults_fine, some_room, asleep_as}
+use Rattle.loop_wire.proofs.Faults.{due_same, due_unsteady}
 use Rattle.loop_wire.proofs.wire.LoopWireWire.send.Goals as goal
 
 pub invariant_of-self : goal.invariant_of-self
 invariant_of-self g c =
     let owes : List ℕ → List ℕ = g.C.RespondsAt.response_at (g.C.Server.Serves.serving c.self.inside.server) in
-    let whole : c.self.inside.links.len ≡ length c.self.inside.links.items = omega (arith, c.deref_mut.ensures.len, ap length c.deref_mut.ensures.value) in
-    is_wire_put _ _ _ _ _ c.deref_mut.result.now _ _ c.self.invariant c.deref_mut.ensures.value c.settle.auto.links whole (c.settle.ensures.kept c.self.inside.server)
+    let whole : c.self.inside.links.len ≡ length c.self.inside.links.items = omega (arith, c.deref_mut.ensures.len, ap length c.deref_mut.ensures.value) in (
+      is_wire_put _ _ _ _ _ c.deref_mut.result.now _ _ c.self.invariant.0 c.deref_mut.ensures.value c.settle.auto.links whole (c.settle.ensures.kept c.self.inside.server),
+      due_unsteady c.self.inside.failures c.is_next_due.new.self c.fail.new.self _ _ c.is_next_due.ensures.counts c.fail.ensures.counts (never_due c.self.inside.failures.failing _ _ (sym c.is_next_due.ensures.due ∙ c.if-is_next_due.true)),
+    )
 
 pub returns-then-is_next_due-clause-sends : goal.returns-then-is_next_due-clause-sends
 returns-then-is_next_due-clause-sends g c =
@@ -38,13 +41,15 @@ send-answer-requires-clause-is_open g c =
     ap (λ (ls : List Held). (get_or ls c.args.link no_link).is_open) (ap held_of c.deref_mut-2.ensures.value ∙ seen) ∙ c.requires.is_open
 
 pub send-answer-requires-clause-kept : goal.send-answer-requires-clause-kept
-send-answer-requires-clause-kept g c = kept_along _ _ _ _ _ _ c.deref_mut-2.ensures.value c.self.invariant.kept
+send-answer-requires-clause-kept g c = kept_along _ _ _ _ _ _ c.deref_mut-2.ensures.value c.self.invariant.0.kept
 
 pub invariant_of-self-2 : goal.invariant_of-self-2
 invariant_of-self-2 g c =
     let owes : List ℕ → List ℕ = g.C.RespondsAt.response_at (g.C.Server.Serves.serving c.self.inside.server) in
-    let whole : c.self.inside.links.len ≡ length c.self.inside.links.items = omega (arith, c.deref_mut-2.ensures.len, ap length c.deref_mut-2.ensures.value) in
-    is_wire_put _ _ _ _ _ c.deref_mut-2.result.now _ _ c.self.invariant c.deref_mut-2.ensures.value c.send-answer.auto.links whole (λ before. c.send-answer.ensures.kept)
+    let whole : c.self.inside.links.len ≡ length c.self.inside.links.items = omega (arith, c.deref_mut-2.ensures.len, ap length c.deref_mut-2.ensures.value) in (
+      is_wire_put _ _ _ _ _ c.deref_mut-2.result.now _ _ c.self.invariant.0 c.deref_mut-2.ensures.value c.send-answer.auto.links whole (λ before. c.send-answer.ensures.kept),
+      due_same c.self.inside.failures c.is_next_due.new.self _ _ c.is_next_due.ensures.counts c.self.invariant.1,
+    )
 
 pub returns-clause-sends : goal.returns-clause-sends
 returns-clause-sends g c =
@@ -62,5 +67,5 @@ returns-clause-sends g c =
     rw (← c.self.view_is) (sends_as owes c.args.link c.room-n.result c.args.piece.now longer.0 c.stalls-stalling.result c.send-answer.result (held_of c.self.inside.links.items) _ (get_or (held_of c.send-answer.new.links) c.args.link no_link) c.self.inside.failures c.is_next_due.new.self _ _ _ _ below
     (held_put _ _ _ c.deref_mut-2.result.now _ _ c.deref_mut-2.ensures.value c.send-answer.auto.links whole c.send-answer.ensures.held)
     (counts_fine c.self.inside.failures c.is_next_due.new.self _ c.is_next_due.ensures.counts) (faults_fine c.self.inside.failures c.is_next_due.new.self _ c.is_next_due.ensures.counts) c.is_woke_after-self-inside.ensures
-    (is_held_at _ _ _ _ _ _ c.self.invariant.kept below) (hears_along _ _ c.deref_mut-2.result.now _ _ (take c.room-n.result c.args.piece.now) _ _ c.deref_mut-2.ensures.value refl c.send-answer.ensures.hears)
+    (is_held_at _ _ _ _ _ _ c.self.invariant.0.kept below) (hears_along _ _ c.deref_mut-2.result.now _ _ (take c.room-n.result c.args.piece.now) _ _ c.deref_mut-2.ensures.value refl c.send-answer.ensures.hears)
     longer.1 some few asleep)

@@ -4,12 +4,21 @@ use Rattle.loop_wire.specs.Looped.{held_of}
 use Rattle.loop_wire.proofs.Lists.{length_held}
 use Rattle.loop_wire.proofs.Wires.{is_wire_put, held_put_by, is_held_at, faults_fine}
 use Rattle.loop_wire.proofs.Waits.{wakes_as, waits_found, waits_none, none_along, ripe_along}
+use Rattle.loop_wire.proofs.Faults.{due_same, due_provoked}
 use Rattle.loop_wire.proofs.wire.LoopWireWire.wait.Goals as goal
 
 pub invariant_of-self-2 : goal.invariant_of-self-2
 invariant_of-self-2 g c =
-    let whole : c.self.inside.links.len ≡ length c.self.inside.links.items = omega (arith, c.deref_mut.ensures.len, ap length c.deref_mut.ensures.value) in
-    is_wire_put _ _ _ _ _ c.deref_mut.result.now _ _ c.self.invariant c.deref_mut.ensures.value c.wake.auto.links whole (c.wake.ensures.kept c.self.inside.server)
+    let whole : c.self.inside.links.len ≡ length c.self.inside.links.items = omega (arith, c.deref_mut.ensures.len, ap length c.deref_mut.ensures.value) in (
+      is_wire_put _ _ _ _ _ c.deref_mut.result.now _ _ c.self.invariant.0 c.deref_mut.ensures.value c.wake.auto.links whole (c.wake.ensures.kept c.self.inside.server),
+      due_same c.self.inside.failures c.is_next_due.new.self _ _ c.is_next_due.ensures.counts c.self.invariant.1,
+    )
+
+pub invariant_of-self-in_default : goal.invariant_of-self-in_default
+invariant_of-self-in_default g c = (
+  c.self.invariant.0,
+  due_provoked c.self.inside.failures c.is_next_due.new.self c.fail-in_default.new.self _ c.self.inside.provoked c.saturating_add-self-inside-in_default.result c.is_next_due.ensures.counts c.fail-in_default.ensures.counts c.saturating_add-self-inside-in_default.ensures c.self.invariant.1,
+)
 
 pub returns-clause-ok : goal.returns-clause-ok
 returns-clause-ok g c =
@@ -18,7 +27,7 @@ returns-clause-ok g c =
     let below : c.in-Some.k < length (held_of c.self.inside.links.items) = omega (arith, c.in-Some.ensures.found.0, ap length c.deref.ensures.value, length_held c.self.inside.links.items) in
     rw (← c.self.view_is) (wakes_as owes c.in-Some.k (held_of c.self.inside.links.items) _ c.self.inside.failures c.is_next_due.new.self c.self.inside.provoked c.self.inside.waits c.saturating_add-self-inside.result c.self.inside.woke below
     (ripe_along c.self.inside.links.items c.deref.result.now c.in-Some.k c.deref.ensures.value c.in-Some.ensures.found.1)
-    (is_held_at _ _ _ _ _ _ c.self.invariant.kept below)
+    (is_held_at _ _ _ _ _ _ c.self.invariant.0.kept below)
     (held_put_by woken_now _ _ c.deref_mut.result.now _ _ c.deref_mut.ensures.value c.wake.auto.links whole c.wake.ensures.held) c.in-Some.ensures.first)
 
 pub returns-in_default-clause-steady : goal.returns-in_default-clause-steady
@@ -26,7 +35,7 @@ returns-in_default-clause-steady g c = λ steady.
     let owes : List ℕ → List ℕ = g.C.RespondsAt.response_at (g.C.Server.Serves.serving c.self.inside.server) in
     rw (← c.self.view_is) (waits_none owes (held_of c.self.inside.links.items) c.self.inside.failures c.self.inside.provoked c.self.inside.waits c.self.inside.woke _
     (none_along c.self.inside.links.items c.deref.result.now c.self.inside.woke c.deref.ensures.value c.in_default.ensures.none)
-    (λ k below. is_held_at _ _ _ _ _ _ c.self.invariant.kept below))
+    (λ k below. is_held_at _ _ _ _ _ _ c.self.invariant.0.kept below))
 
 pub returns-clause-steady : goal.returns-clause-steady
 returns-clause-steady g c = λ steady.
@@ -34,4 +43,4 @@ returns-clause-steady g c = λ steady.
     let below : c.in-Some.k < length (held_of c.self.inside.links.items) = omega (arith, c.in-Some.ensures.found.0, ap length c.deref.ensures.value, length_held c.self.inside.links.items) in
     rw (← c.self.view_is) (waits_found owes c.in-Some.k (held_of c.self.inside.links.items) _ c.self.inside.failures c.is_next_due.new.self c.self.inside.provoked c.self.inside.waits c.saturating_add-self-inside.result c.self.inside.woke true
     (ripe_along c.self.inside.links.items c.deref.result.now c.in-Some.k c.deref.ensures.value c.in-Some.ensures.found.1)
-    (is_held_at _ _ _ _ _ _ c.self.invariant.kept below) (faults_fine c.self.inside.failures c.is_next_due.new.self _ c.is_next_due.ensures.counts))
+    (is_held_at _ _ _ _ _ _ c.self.invariant.0.kept below) (faults_fine c.self.inside.failures c.is_next_due.new.self _ c.is_next_due.ensures.counts))

@@ -1,0 +1,6 @@
+pub mod Lengths
+pub mod Metadata
+pub mod Slots
+pub mod Asked
+pub mod Plans
+pub mod Reading

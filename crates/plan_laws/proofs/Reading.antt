@@ -1,0 +1,311 @@
+-- What a server within the limits answers is read as pages.
+use Rattle.std.proofs.Common.{ℕ, zero, suc, ◌≡◌, ◌+◌, ◌-◌, ◌*◌, ◌/◌, ◌<◌, ◌≤◌, ◌^◌, ◌==◌, max, nat_lt, Bool, true, false, List, [], ◌∷◌, ◌++◌, map, length, replicate, Option, Some, None, codes, slice_get, if◌then◌else◌, refl, sym, ap, subst, ◌∙◌, arith, length-append, append-nil, div-le_self}
+use Rattle.std.specs.List.{AllByRecursion, Contains, filter}
+use Rattle.std.specs.declared.cmp.Ordering.{Ordering}
+use Rattle.std.specs.declared.cmp.Ordering.TheVariants.{Less, Equal, Greater}
+use Rattle.list_laws.proofs.Members.{at_head, in_tail, all_from, in_flat_map}
+use Rattle.list_laws.proofs.Told.{all_in}
+use Rattle.tpf_base.specs.Addresses.{Address, IsAddress, address_text, authority_of, target_of, query_text}
+use Rattle.tpf_base.specs.HttpHeads.{head_limit}
+use Rattle.tpf_base.specs.HttpText.{line_end, request_text}
+use Rattle.tpf_base.specs.Marks.{Mark, version_at}
+use Rattle.rdf_terms.specs.declared.term.Term.{Term}
+use Rattle.rdf_terms.specs.declared.term.Triple.{Triple}
+use Rattle.rdf_terms.specs.declared.slots.Slot.{Slot}
+use Rattle.rdf_terms.specs.declared.slots.Slot.TheVariants as slots
+use Rattle.rdf_terms.specs.declared.slots.Slots.{Slots}
+use Rattle.rdf_terms.specs.Askable.{AskableAreKept}
+use Rattle.rdf_terms.specs.Canon.{canonical_term}
+use Rattle.rdf_terms.specs.Fragments.{put_by, put, sorted, fragment, last_page_of, last_page, page_of}
+use Rattle.rdf_terms.specs.Kept.{IsValidSlot, AreValid}
+use Rattle.rdf_terms.specs.Slots.{matches, order_of}
+use Rattle.rdf_terms.specs.Valid.{IsValidTerm, IsValidTriple}
+use Rattle.triple_table.specs.Served.{terms_in, terms_of}
+use Rattle.template_fill.specs.ReadAddress.{path_of, query_of, with_target}
+use Rattle.template_fill.specs.Explicit.{explicit_form, FormsAreShort}
+use Rattle.template_fill.specs.Pages.{places_text, page_address}
+use Rattle.template_fill.specs.Authorities.{ShareAuthority, PagesAreAddresses, PagesShareAuthority, address_of_page}
+use Rattle.template_fill.specs.Metadata.{Config, page_metadata}
+use Rattle.template_fill.specs.Configurations.{IsConfig, IsHistory, IsValidDataSet, VersionsAreValid}
+use Rattle.template_fill.specs.Bodies.{version_of, in_default_graph, page_quads, page_body}
+use Rattle.template_fill.specs.HttpAnswer.{Answer}
+use Rattle.template_fill.specs.Answered.{address_answer, is_answered, GivesPage, GivesSomePage, PagesAreGiven, AnsweredGivePages}
+use Rattle.control_reader.specs.declared.page.Page.{Page}
+use Rattle.control_reader.specs.Takes.{Takes}
+use Rattle.control_reader.specs.Law.{IsWithinLimits, ControlsReadBack, PagesAreThere}
+use Rattle.control_reader.proofs.LawData.{page_all}
+use Rattle.control_reader.proofs.LawMetadata.{parts_for, metadata_is}
+use Rattle.bgp_core.specs.declared.pattern.Part.{Part}
+use Rattle.bgp_core.specs.declared.pattern.Part.TheVariants.{Fixed, Name}
+use Rattle.bgp_core.specs.declared.pattern.Pattern.{Pattern}
+use Rattle.bgp_core.specs.Queries.{IsValidPart}
+use Rattle.http_ends.specs.Requests.{request_for}
+use Rattle.join_core.specs.Servers.{server_world}
+use Rattle.join_core.specs.Nodes.{plan}
+use Rattle.plan_laws.specs.Fitting.{IsRead, AreServable, IsAskablePart, IsAskable, IsServable}
+use Rattle.plan_laws.proofs.Lengths.{IsShortSlot, AreShort, address_short}
+use Rattle.plan_laws.proofs.Metadata.{Fits, AreFitting, HasFittingTexts, HasFittingTerms, joined, metadata_fits, data_fits}
+use Rattle.plan_laws.proofs.Slots.{Binds, HasTerms, IsPart, HasParts, IsSlot, HasSlots}
+use Rattle.plan_laws.proofs.Plans.{IsPlanned, low_last, plan_planned}
+use Rattle.plan_laws.proofs.Asked.{target_short}
+
+-- ---- lengths of lists
+
+put_length : (order : Triple → Triple → Ordering) (x : Triple) (ys : List Triple) → length (put order x ys) ≤ suc (length ys)
+put_length order x [] = omega arith
+put_length order x (y ∷ ys) = by (order x y) (put_length order x ys)
+  where
+    by : (o : Ordering) → length (put order x ys) ≤ suc (length ys) → length (put_by o x y ys (put order x ys)) ≤ suc (suc (length ys))
+    by Less h = omega arith
+    by Equal h = omega arith
+    by Greater h = omega (arith, h)
+
+sorted_length : (order : Triple → Triple → Ordering) (xs : List Triple) → length (sorted order xs) ≤ length xs
+sorted_length order [] = omega arith
+sorted_length order (x ∷ xs) = omega (arith, put_length order x (sorted order xs), sorted_length order xs)
+
+filter_length : (test : Triple → Bool) (xs : List Triple) → length (filter test xs) ≤ length xs
+filter_length test [] = omega arith
+filter_length test (x ∷ xs) = by (test x) (filter_length test xs)
+  where
+    by : (t : Bool) → length (filter test xs) ≤ length xs → length (if t then x ∷ filter test xs else filter test xs) ≤ suc (length xs)
+    by true h = omega (arith, h)
+    by false h = omega (arith, h)
+
+pub fragment_length : (triples : List Triple) (slots : Slots) → length (fragment triples slots) ≤ length triples
+unfolding fragment
+fragment_length triples slots = omega (arith, sorted_length (order_of slots) (filter (matches slots) triples), filter_length (matches slots) triples)
+
+pages_few : (count size : ℕ) → size ≤ 1000 → count ≤ 9999999999999999999 → last_page_of count size ≤ 10000000000000000999
+pages_few count size small few = within ((count + (size - 1)) / size) (div-le_self (count + (size - 1)) size)
+  where
+    within : (n : ℕ) → n ≤ count + (size - 1) → max 1 n ≤ 10000000000000000999
+    within n h = omega (arith, h, small, few)
+
+-- ---- requests
+
+target_length : (target : List ℕ) → length (path_of target ++ query_text (query_of target)) ≤ length target
+target_length [] = omega arith
+target_length (b ∷ rest) = by (b == 63) (target_length rest)
+  where
+    by : (t : Bool) → length (path_of rest ++ query_text (query_of rest)) ≤ length rest
+        → length ((if t then [] else b ∷ path_of rest) ++ query_text (if t then Some rest else query_of rest)) ≤ suc (length rest)
+    by true h = omega arith
+    by false h = omega (arith, h)
+
+request_short : (authority target : List ℕ) → length (request_text authority target) ≤ length authority + (length target + 100)
+request_short authority target = simp length-append (omega (arith, get_long, http_long, host_long, accept_long))
+  where
+    get_long : length (codes "GET ") ≡ 4
+    get_long = refl
+
+    http_long : length (codes " HTTP/1.1") ≡ 9
+    http_long = refl
+
+    host_long : length (codes "Host: ") ≡ 6
+    host_long = refl
+
+    accept_long : length (codes "Accept: application/n-quads") ≡ 27
+    accept_long = refl
+
+-- the authority and the target of an address are no longer than its text
+parts_short : (address : Address) → length (authority_of address) + length (target_of address) ≤ length (address_text address)
+parts_short address = omega (arith, length-append (codes "http://" ++ authority_of address) (target_of address), length-append (codes "http://") (authority_of address))
+
+request_fits : (address : Address) → length (authority_of address) + length (target_of address) ≤ 4194000 → length (request_for address) ≤ head_limit
+request_fits address h = omega (arith, h, request_short (authority_of address) (target_of address))
+
+-- the address of a page is no longer than its text
+page_parts : (base : Address) (slots : Slots) (k : ℕ) → length (authority_of (address_of_page base slots k)) + length (target_of (address_of_page base slots k)) ≤ length (page_address base slots k)
+unfolding address_of_page page_address
+page_parts base slots k = by (_)
+  where
+    by : (more : List ℕ) → length (authority_of base) + length (target_of (with_target base.host base.port (target_of base ++ more))) ≤ length (address_text base ++ more)
+    by more =
+        omega (
+          arith,
+          target_length (target_of base ++ more),
+          length-append (target_of base) more,
+          length-append (address_text base) more,
+          parts_short base,
+        )
+
+-- ---- terms
+
+abbrev IsGood : Term → Type 0
+IsGood term = IsValidTerm term × (length (explicit_form term) ≤ 262208)
+
+slot_valid : (s : Slot) → IsSlot IsGood s → IsValidSlot s
+slot_valid slots.Any h = tt
+slot_valid (slots.Fixed t) h = h.0
+
+slot_short : (s : Slot) → IsSlot IsGood s → IsShortSlot 262208 s
+slot_short slots.Any h = tt
+slot_short (slots.Fixed t) h = h.1
+
+slots_valid : (s : Slots) → HasSlots IsGood s → AreValid s
+slots_valid s h = record { subject = slot_valid s.subject h.subject; predicate = slot_valid s.predicate h.predicate; object = slot_valid s.object h.object }
+
+slots_short : (s : Slots) → HasSlots IsGood s → AreShort 262208 s
+slots_short s h = record { subject = slot_short s.subject h.subject; predicate = slot_short s.predicate h.predicate; object = slot_short s.object h.object }
+
+part_good : FormsAreShort → (part : Part) → IsValidPart part → IsAskablePart part → IsPart IsGood part
+part_good short (Fixed t) valid few = (valid, omega (arith, few, short.texts t))
+part_good short (Name n) valid few = tt
+
+patterns_good : FormsAreShort → (ps : List Pattern) → AllByRecursion IsAskable ps → AllByRecursion (HasParts IsGood) ps
+patterns_good short [] h = tt
+patterns_good short (p ∷ ps) h =
+    let a = h.0 in
+    (record { subject = part_good short p.subject a.valid.subject a.subject; predicate = part_good short p.predicate a.valid.predicate a.predicate; object = part_good short p.object a.valid.object a.object }, patterns_good short ps h.1)
+
+-- what holds of the terms of triples holds of each triple's
+terms_each : (triples : List Triple) (P : Term → Type 0) → ((term : Term) → Contains (terms_of triples) term → P term) → (t : Triple) → Contains triples t → HasTerms P t
+terms_each triples P each t there =
+    let at : (term : Term) → Contains (terms_in t) term → Contains (terms_of triples) term = λ term h. in_flat_map terms_in triples t term there h in
+    record {
+      subject = each t.subject (at t.subject (at_head t.subject (t.predicate ∷ t.object ∷ [])));
+      predicate = each t.predicate (at t.predicate (in_tail t.subject t.predicate (t.predicate ∷ t.object ∷ []) (at_head t.predicate (t.object ∷ []))));
+      object = each t.object (at t.object (in_tail t.subject t.object (t.predicate ∷ t.object ∷ []) (in_tail t.predicate t.object (t.object ∷ []) (at_head t.object []))));
+    }
+
+abbrev IsBrief : Term → Type 0
+IsBrief term = length (canonical_term term) ≤ 262144
+
+good_triple : FormsAreShort → (t : Triple) → IsValidTriple t → HasTerms IsBrief t → HasTerms IsGood t
+good_triple short t valid h = record {
+  subject = (valid.subject, let few = h.subject in omega (arith, few, short.canonical t.subject));
+  predicate = (valid.predicate, let few = h.predicate in omega (arith, few, short.canonical t.predicate));
+  object = (valid.object, let few = h.object in omega (arith, few, short.canonical t.object));
+}
+
+fitting_triple : (t : Triple) → HasTerms IsBrief t → HasFittingTerms t
+fitting_triple t h = record {
+  subject = record { short = let few = h.subject in omega (arith, few) };
+  predicate = record { short = let few = h.predicate in omega (arith, few) };
+  object = record { short = let few = h.object in omega (arith, few) };
+}
+
+good_triples : FormsAreShort → (triples : List Triple) → AllByRecursion IsValidTriple triples → AreServable triples → AllByRecursion (HasTerms IsGood) triples
+good_triples short triples valid s =
+    all_from (HasTerms IsGood) triples (λ t there. good_triple short t (all_in IsValidTriple triples t valid there) (terms_each triples IsBrief s.terms t there))
+
+fitting_triples : (triples : List Triple) → AreServable triples → AllByRecursion HasFittingTerms triples
+fitting_triples triples s = all_from HasFittingTerms triples (λ t there. fitting_triple t (terms_each triples IsBrief s.terms t there))
+
+none_bound : (n k : ℕ) (t : Term) → slice_get (replicate {A = Option Term} n None) k ≡ Some (Some t) → ⊥
+none_bound zero k t e = cc
+none_bound (suc n) zero t e = cc
+none_bound (suc n) (suc k) t e = none_bound n k t e
+
+binds_none : (P : Term → Type 0) (n : ℕ) → Binds P (replicate n None)
+binds_none P n = record { each = λ k t e. absurd (none_bound n k t e) }
+
+-- ---- pages
+
+data_set_long : length (codes "#metadata") ≡ 9
+data_set_long = refl
+
+template_long : length (codes "{?subject,predicate,object}") ≡ 27
+template_long = refl
+
+-- the texts of a page of short slots fit
+texts_fit : (config : Config) (slots : Slots) (k count version : ℕ) → length (address_text config.base) ≤ 65536 → AreShort 262208 slots → k + 1 < 2 ^ 64 → count < 2 ^ 64 → version < 2 ^ 64 → HasFittingTexts (parts_for config slots k count version)
+unfolding parts_for
+texts_fit config slots k count version base h fits few number = record {
+  graph = omega (arith, base, address_short config.base 262208 slots k h (omega (arith, fits)), length-append (page_address config.base slots k) (codes "#metadata"), data_set_long);
+  page = omega (arith, base, address_short config.base 262208 slots k h (omega (arith, fits)));
+  first = omega (arith, base, address_short config.base 262208 slots 1 h (omega arith));
+  base = omega (arith, base);
+  template = omega (arith, base, length-append (address_text config.base) (codes "{?subject,predicate,object}"), template_long);
+  next = omega (arith, base, address_short config.base 262208 slots (k + 1) h fits);
+  previous = omega (arith, base, address_short config.base 262208 slots (k - 1) h (omega (arith, fits)));
+  count = few;
+  version = number;
+}
+
+-- the slots of all triples, whose first page stands at the base
+abbrev free : Slots
+free = record { subject = slots.Any; predicate = slots.Any; object = slots.Any }
+
+base_address : (base : Address) → page_address base free 1 ≡ address_text base
+unfolding page_address places_text
+base_address base = append-nil (address_text base)
+
+module _ (forms : FormsAreShort) (given : PagesAreGiven) (answered : AnsweredGivePages) (addresses : PagesAreAddresses) (authorities : PagesShareAuthority) (kept : AskableAreKept)
+    (reads : ControlsReadBack) (there : PagesAreThere) (versions : VersionsAreValid)
+    (history : List (List Triple)) (mark : Mark) (config : Config) (s : IsServable history mark config) where
+  abbrev version : ℕ
+  version = version_at mark
+
+  abbrev triples : List Triple
+  triples = version_of history version
+
+  quads_fit : (slots : Slots) (k : ℕ) → AreShort 262208 slots → k ≤ last_page triples slots config.page_size → AreFitting (page_quads history version config slots k)
+  quads_fit slots k h high =
+      let count = length (fragment triples slots) in
+      let few : count ≤ 9999999999999999999 = omega (arith, fragment_length triples slots, s.triples.few) in
+      let pages = pages_few count config.page_size s.is_config.high few in
+      let number : version < 2 ^ 64 = omega (arith, s.version.high, s.is_history.high) in
+      let m = parts_for config slots k count version in
+      let texts = texts_fit config slots k count version s.base h (omega (arith, pages, high)) (omega (arith, few)) number in
+      let said = metadata_fits (nat_lt k (last_page_of count config.page_size)) (nat_lt 1 k) m texts in
+      joined (data_fits (page_of triples slots k config.page_size) (page_all HasFittingTerms triples slots k config.page_size (fitting_triples triples s.triples)))
+      (subst AreFitting (sym (metadata_is config slots k count version)) said)
+
+  limits : (slots : Slots) (k : ℕ) → AreShort 262208 slots → k ≤ last_page triples slots config.page_size → IsWithinLimits history version config slots k
+  limits slots k h high = record {
+    count = omega (arith, fragment_length triples slots, s.triples.few);
+    terms = (quads_fit slots k h high).each;
+  }
+
+  -- what gives a page of short slots is read
+  read_of : (address : Address) (slots : Slots) (k : ℕ) → GivesPage history mark config address slots k → AreShort 262208 slots → authority_of address ≡ authority_of config.base
+      → length (authority_of address) + length (target_of address) ≤ 4194000 → IsRead history mark config address
+  read_of address slots k g h same short =
+      let page = there history version config slots k s.is_history s.is_config in
+      let most : version ≤ 9999999999999999999 = omega (arith, s.version.high, s.is_history.high) in
+      record {
+        short = request_fits address short;
+        answered = (answered history mark config address).1 slots k g;
+        page = page.0;
+        taken = subst (λ (a : Answer). Takes a.body address page.0) (sym g.answer) (reads history version config slots k address page.0 s.is_history most s.is_config (limits slots k h g.high) same page.1);
+      }
+
+  same_authority : (address : Address) → ShareAuthority config.base address → authority_of address ≡ authority_of config.base
+  same_authority address share =
+      ap (λ (host : List ℕ). authority_of (record address { host = host })) share.host ∙ ap (λ (port : ℕ). authority_of (record address { host = config.base.host; port = port })) share.port
+
+  read_planned : (address : Address) → IsPlanned IsGood triples config address → IsRead history mark config address
+  read_planned address p =
+      let own = address_of_page config.base p.slots p.k in
+      let is : IsAddress (page_address config.base p.slots p.k) own = addresses config.base p.slots p.k s.is_config.base in
+      let valid = slots_valid p.slots p.terms in
+      let g = given history mark config p.slots p.k own s.is_config (kept p.slots p.asked valid) p.low p.high is in
+      let few : length (fragment triples p.slots) ≤ 9999999999999999999 = omega (arith, fragment_length triples p.slots, s.triples.few) in
+      let pages = pages_few (length (fragment triples p.slots)) config.page_size s.is_config.high few in
+      let fits : p.k < 2 ^ 64 = omega (arith, pages, p.high) in
+      let short : length (authority_of own) + length (target_of own) ≤ 4194000 = omega (arith, page_parts config.base p.slots p.k, address_short config.base 262208 p.slots p.k (slots_short p.slots p.terms) fits, s.base) in
+      subst (IsRead history mark config) (sym p.address_is)
+      (read_of own p.slots p.k g (slots_short p.slots p.terms) (same_authority own (authorities config.base p.slots p.k own s.is_config.base is)) short)
+
+  all_read : (list : List Address) → AllByRecursion (IsPlanned IsGood triples config) list → AllByRecursion (IsRead history mark config) list
+  all_read [] h = tt
+  all_read (address ∷ list) h = (read_planned address h.0, all_read list h.1)
+
+  pub plan_read : (patterns : List Pattern) (names : ℕ) → AllByRecursion IsAskable patterns → AllByRecursion (IsRead history mark config) (plan (server_world triples config) patterns (replicate names None))
+  plan_read patterns names h =
+      all_read (plan (server_world triples config) patterns (replicate names None))
+      (plan_planned IsGood triples config (length patterns) patterns (replicate names None) (good_triples forms triples (versions history version s.is_history).terms s.triples) (patterns_good forms patterns h) (binds_none IsGood names))
+
+  pub start_read : (start : Address) → authority_of start ≡ authority_of config.base → length (target_of start) ≤ 65536 → is_answered history mark config start ≡ true → IsRead history mark config start
+  start_read start same few is =
+      let g = (answered history mark config start).0 is in
+      read_of start g.slots g.k g.gives (target_short config.base g.slots g.k (target_of start) few g.gives.asks) same
+      (omega (arith, few, ap length same, parts_short config.base, s.base))
+
+  pub base_read : IsRead history mark config config.base
+  base_read =
+      let is : IsAddress (page_address config.base free 1) config.base = subst (λ (text : List ℕ). IsAddress text config.base) (sym (base_address config.base)) s.is_config.base in
+      let g = given history mark config free 1 config.base s.is_config (record { subject = tt; predicate = tt; object = tt }) (omega arith) (low_last (length (fragment triples free)) config.page_size) is in
+      read_of config.base free 1 g (record { subject = tt; predicate = tt; object = tt }) refl (omega (arith, parts_short config.base, s.base))

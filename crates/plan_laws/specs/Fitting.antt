@@ -1,0 +1,83 @@
+-- Plans whose addresses are answered with pages that are read (Triple Pattern Fragments; Verborgh et al.).
+use Rattle.std.specs.Prelude.{ℕ, ◌≡◌, ◌≤◌, true, List, length, replicate, None, ⊤}
+use Rattle.std.specs.List.{AllByRecursion, Contains}
+use Rattle.tpf_base.specs.Addresses.{Address, address_text, authority_of, target_of}
+use Rattle.tpf_base.specs.HttpHeads.{head_limit}
+use Rattle.tpf_base.specs.Marks.{Mark, version_at}
+use Rattle.rdf_terms.specs.declared.term.Term.{Term}
+use Rattle.rdf_terms.specs.declared.term.Triple.{Triple}
+use Rattle.rdf_terms.specs.Canon.{canonical_term}
+use Rattle.rdf_terms.specs.Sizes.{term_size}
+use Rattle.triple_table.specs.Served.{terms_of}
+use Rattle.template_fill.specs.Metadata.{Config}
+use Rattle.template_fill.specs.Configurations.{IsConfig, IsHistory}
+use Rattle.template_fill.specs.Bodies.{version_of}
+use Rattle.template_fill.specs.Responses.{IsVersion}
+use Rattle.template_fill.specs.Answered.{address_answer, is_answered}
+use Rattle.http_ends.specs.Requests.{request_for}
+use Rattle.control_reader.specs.declared.page.Page.{Page}
+use Rattle.control_reader.specs.Takes.{Takes}
+use Rattle.bgp_core.specs.declared.pattern.Part.{Part}
+use Rattle.bgp_core.specs.declared.pattern.Part.TheVariants.{Fixed, Name}
+use Rattle.bgp_core.specs.declared.pattern.Pattern.{Pattern}
+use Rattle.bgp_core.specs.Queries.{IsValidPattern}
+use Rattle.join_core.specs.Nodes.{plan}
+use Rattle.join_core.specs.Servers.{server_world}
+
+-- the request for the address is within the limit of heads, and is answered with the status 200 and a body that is read as a page of the address
+pub record IsRead (history : List (List Triple)) (mark : Mark) (config : Config) (address : Address) : Type 0 where
+  pub short : length (request_for address) ≤ head_limit
+  pub answered : is_answered history mark config address ≡ true
+  pub page : Page
+  pub taken : Takes (address_answer history mark config address).body address page
+
+-- ---- limits
+
+-- each term has a canonical text of at most 262144 bytes, and the number of the triples has at most 19 digits
+pub record AreServable (triples : List Triple) : Type 0 where
+  pub terms : (term : Term) → Contains (terms_of triples) term → length (canonical_term term) ≤ 262144
+  pub few : length triples ≤ 9999999999999999999
+
+-- a fixed part has texts of at most 262204 bytes, as in each query that is read
+abbrev pub IsAskablePart : Part → Type 0
+IsAskablePart (Fixed term) = term_size term ≤ 262204
+IsAskablePart (Name n) = ⊤
+
+-- a pattern of valid terms that are so short
+pub record IsAskable (p : Pattern) : Type 0 where
+  pub valid : IsValidPattern p
+  pub subject : IsAskablePart p.subject
+  pub predicate : IsAskablePart p.predicate
+  pub object : IsAskablePart p.object
+
+-- A server of one version of a history, within these limits; the text of its base has at most 65536 bytes.
+pub record IsServable (history : List (List Triple)) (mark : Mark) (config : Config) : Type 0 where
+  pub is_history : IsHistory history
+  pub is_config : IsConfig config
+  pub version : IsVersion (length history) mark
+  pub triples : AreServable (version_of history (version_at mark))
+  pub base : length (address_text config.base) ≤ 65536
+
+-- ---- the laws
+
+-- each address of a plan is read
+abbrev pub PlansAreRead : Type 0
+PlansAreRead =
+    (history : List (List Triple)) (mark : Mark) (config : Config) (patterns : List Pattern) (names : ℕ)
+    → IsServable history mark config
+    → AllByRecursion IsAskable patterns
+    → AllByRecursion (IsRead history mark config) (plan (server_world (version_of history (version_at mark)) config) patterns (replicate names None))
+
+-- the base is answered with the first page of all triples, which is read
+abbrev pub BasesAreRead : Type 0
+BasesAreRead = (history : List (List Triple)) (mark : Mark) (config : Config) → IsServable history mark config → IsRead history mark config config.base
+
+-- a start that is answered with the status 200 is read
+abbrev pub StartsAreRead : Type 0
+StartsAreRead =
+    (history : List (List Triple)) (mark : Mark) (config : Config) (start : Address)
+    → IsServable history mark config
+    → authority_of start ≡ authority_of config.base
+    → length (target_of start) ≤ 65536
+    → is_answered history mark config start ≡ true
+    → IsRead history mark config start

@@ -1,0 +1,29 @@
+//! Under the limits of the program a plan fits: each of its addresses is answered with a page that is read.
+#![tactic(auto)]
+
+ghost use Rattle.plan_laws.specs.Fitting.{PlansAreRead, BasesAreRead, StartsAreRead};
+
+use control_reader::controls_read_back;
+use rdf_terms::askable_slots_are_kept;
+use template_fill::{
+    explicit_forms_are_short, pages_are_answered, pages_share_authority, versions_are_valid,
+};
+
+/// Over data whose terms have canonical texts of at most 262144 bytes, and for patterns whose fixed
+/// terms have texts of at most 262204 bytes, a server answers each address of a plan with the status
+/// 200, and the body is read as a page of that address (`plan`): the addresses that stand in its
+/// metadata are short enough. So it does for its own base (`base`), and for each other address of its
+/// authority that it answers so at all (`start`). The number of triples has at most 19 digits, and the
+/// base and the start at most 65536 bytes.
+pub fn plans_are_read()
+    ensures plan { PlansAreRead }
+    ensures base { BasesAreRead }
+    ensures start { StartsAreRead }
+{
+    controls_read_back();
+    askable_slots_are_kept();
+    explicit_forms_are_short();
+    pages_are_answered();
+    pages_share_authority();
+    versions_are_valid();
+}
