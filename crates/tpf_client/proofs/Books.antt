@@ -133,12 +133,12 @@ module _ (allows : List ℕ → ℕ → List ℕ → List ℕ → Type 0) (pool 
       let clash : ◌≡◌ {A = Option Address} None (Some h.ask.address) = sym none ∙ book-has book ticket pool pool' h b in
       cc
 
-  pub waits-move : (s : Stepped) (book : BTreeMap ℕ Address) → s ≡ stepped.Waited → StepsTo (Ok s) pool pool' wire wire' → HoldsOn s pool pool' → IsBook book (held pool)
+  pub waits-move : (s : Stepped) (book : BTreeMap ℕ Address) → s ≡ stepped.Waited → held pool ≢ [] → StepsTo (Ok s) pool pool' wire wire' → HoldsOn s pool pool' → IsBook book (held pool)
       → pool.fault ≡ None → pool'.fault ≡ None → SuitsWire pool' wire' → bounds_of (without_fault pool') ≡ bounds_of (without_fault pool) → IsLawful allows wire' → Moves allows Waited pool pool' wire wire'
-  waits-move s book e steps holds b had f suits bounds lawful =
+  waits-move s book e some steps holds b had f suits bounds lawful =
       let others : IsPermutation (held pool) (held pool') = subst (λ (x : Stepped). HoldsOn x pool pool') e holds in
       record {
-        happens = record { steps = subst (λ (x : Stepped). StepsTo (Ok x) pool pool' wire wire') e steps; others = others; had_none = had; no_fault = f };
+        happens = record { some = some; steps = subst (λ (x : Stepped). StepsTo (Ok x) pool pool' wire wire') e steps; others = others; had_none = had; no_fault = f };
         suits = suits;
         distinct = λ none. distinct-permuted (held pool) (held pool') others b.distinct;
         bounds = bounds;
@@ -154,13 +154,20 @@ module _ (allows : List ℕ → ℕ → List ℕ → List ℕ → Type 0) (pool 
   pub idle-steps : (s : Stepped) → s ≡ stepped.Idle → StepsTo (Ok s) pool pool' wire wire' → (held pool ≡ []) × (pool' ≡ pool) × (wire' ≡ wire)
   idle-steps s e steps = subst (λ (x : Stepped). StepsTo (Ok x) pool pool' wire wire') e steps
 
+  -- a step that waits, and one that ends with a fault, has asks
+  pub waits-some : (s : Stepped) → s ≡ stepped.Waited → (held pool ≡ [] → ◌≡◌ {A = Result Stepped PoolFault} (Ok s) (Ok stepped.Idle)) → held pool ≢ []
+  waits-some s e idle none = let f : ◌≡◌ {A = Result Stepped PoolFault} (Ok stepped.Waited) (Ok stepped.Idle) = subst (λ (x : Stepped). ◌≡◌ {A = Result Stepped PoolFault} (Ok x) (Ok stepped.Idle)) e (idle none) in cc
+
+  pub breaks-some : (shown : PoolFault) → (held pool ≡ [] → ◌≡◌ {A = Result Stepped PoolFault} (Err shown) (Ok stepped.Idle)) → held pool ≢ []
+  breaks-some shown idle none = let f : ◌≡◌ {A = Result Stepped PoolFault} (Err shown) (Ok stepped.Idle) = idle none in cc
+
   some-none : (fault : PoolFault) → pool'.fault ≡ Some fault → pool'.fault ≡ None → ⊥
   some-none fault e f = let g : ◌≡◌ {A = Option PoolFault} (Some fault) None = sym e ∙ f in cc
 
-  pub break-moves : (fault : PoolFault) → StepsTo (Err fault) pool (without_fault pool') wire wire' → pool.fault ≡ None → pool'.fault ≡ Some fault → SuitsWire pool' wire'
+  pub break-moves : (fault : PoolFault) → held pool ≢ [] → StepsTo (Err fault) pool (without_fault pool') wire wire' → pool.fault ≡ None → pool'.fault ≡ Some fault → SuitsWire pool' wire'
       → bounds_of (without_fault pool') ≡ bounds_of (without_fault pool) → IsLawful allows wire' → Moves allows (Broke fault) pool pool' wire wire'
-  break-moves fault steps had kept suits bounds lawful = record {
-    happens = record { steps = steps; had_none = had; kept = kept };
+  break-moves fault some steps had kept suits bounds lawful = record {
+    happens = record { some = some; steps = steps; had_none = had; kept = kept };
     suits = suits;
     distinct = λ none. absurd (some-none fault kept none);
     bounds = bounds;

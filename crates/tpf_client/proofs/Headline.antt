@@ -33,7 +33,7 @@ module _ (history : List (List Triple)) (config : Config) where
   answers-front [] later h = tt
   answers-front (event ∷ first) later h = (h.0, answers-front first later h.1)
 
-  answer-last : (event : Event) (events : List Event) → EndsWith event events → AllByRecursion (IsAnswer history config) events → IsAnswer history config event
+  pub answer-last : (event : Event) (events : List Event) → EndsWith event events → AllByRecursion (IsAnswer history config) events → IsAnswer history config event
   answer-last event events e h = (answers-behind e.before (event ∷ []) (subst (λ (l : List Event). AllByRecursion (IsAnswer history config) l) e.is_last h)).0
 
 module _ (laws : Laws) (allows : List ℕ → ℕ → List ℕ → List ℕ → Type 0) (history : List (List Triple)) (config : Config) (options : Options) (since now : WireState) (honest : IsHonestWire allows history config since) (lawful : IsLawful allows since) (limit : options.max_body < 2 ^ 64) (start : Address) where
@@ -50,7 +50,7 @@ module _ (laws : Laws) (allows : List ℕ → ℕ → List ℕ → List ℕ → 
     tells = honest.tells;
   }
 
-  all-of : (events : List Event) (pool : Pooled) → RunsPool allows options since now events pool → AllByRecursion (IsAnswer history config) events
+  pub all-of : (events : List Event) (pool : Pooled) → RunsPool allows options since now events pool → AllByRecursion (IsAnswer history config) events
   all-of events pool r = all-answers allows laws.puts laws.steps laws.faults history config honest.is_honest events (empty_pool options.links options.retries options.budget options.max_body) pool since r.between begins-so r.travels
 
   -- the world of the start page

@@ -20,7 +20,7 @@ pub all-then : {X : Type 0} (P : X → Type 0) (xs ys : List X) → AllByRecursi
 all-then P [] ys a b = b
 all-then P (x ∷ xs) ys a b = (a.0, all-then P xs ys a.1 b)
 
-all-so : {X : Type 0} (P Q : X → Type 0) → ((x : X) → P x → Q x) → (xs : List X) → AllByRecursion P xs → AllByRecursion Q xs
+pub all-so : {X : Type 0} (P Q : X → Type 0) → ((x : X) → P x → Q x) → (xs : List X) → AllByRecursion P xs → AllByRecursion Q xs
 all-so P Q f [] a = tt
 all-so P Q f (x ∷ xs) a = (f x a.0, all-so P Q f xs a.1)
 
@@ -54,12 +54,13 @@ homes-then P first second a b = subst (λ (l : List Ask). AllByRecursion P l) (s
 pub homes-of : (P : Ask → Type 0) (events : List Event) (asks : List Ask) → asked_in events ≡ asks → AllByRecursion P asks → AllByRecursion P (asked_in events)
 homes-of P events asks e a = subst (λ (l : List Ask). AllByRecursion P l) (sym e) a
 
-pub asks-front : (home : Address) (first second : List Event) → AsksAt home (first ++ second) → AsksAt home first
-asks-front home [] second h = tt
-asks-front home (Asked ask ∷ first) second h = (h.0, asks-front home first second h.1)
-asks-front home (Came ask reply ∷ first) second h = asks-front home first second h
-asks-front home (Waited ∷ first) second h = asks-front home first second h
-asks-front home (Broke fault ∷ first) second h = asks-front home first second h
+-- what holds of all asks holds of those at the front
+pub asks-front : (P : Ask → Type 0) (first second : List Event) → AllByRecursion P (asked_in (first ++ second)) → AllByRecursion P (asked_in first)
+asks-front P [] second h = tt
+asks-front P (Asked ask ∷ first) second h = (h.0, asks-front P first second h.1)
+asks-front P (Came ask reply ∷ first) second h = asks-front P first second h
+asks-front P (Waited ∷ first) second h = asks-front P first second h
+asks-front P (Broke fault ∷ first) second h = asks-front P first second h
 
 -- ---- the start, and what is asked behind it
 

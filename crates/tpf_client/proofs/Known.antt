@@ -1,7 +1,7 @@
 -- What is known of a call's pool and its wire, as asks at one host and port are put and steps follow.
 use Rattle.std.proofs.Common.{ℕ, ◌≡◌, ◌≤◌, ◌<◌, ◌+◌, ◌*◌, ◌++◌, false, List, [], ◌∷◌, length, suc, None, refl, sym, ap, subst, ◌∙◌, arith}
 use Rattle.std.proofs.Math.Nat.{mul-suc}
-use Rattle.std.specs.Prelude.{Result}
+use Rattle.std.specs.Prelude.{Result, Ok, Err}
 use Rattle.std.specs.List.{AllByRecursion}
 use Rattle.tpf_base.specs.Addresses.{Address}
 use Rattle.tpf_base.specs.Links.{WireState, OpensGiven}
@@ -15,16 +15,16 @@ use Rattle.request_pool.specs.Steps.{StepsTo}
 use Rattle.pool_laws.specs.Following.{AnswersSoFar, IsWebAddress}
 use Rattle.pool_laws.specs.Owning.{OwnsSince, LinksAreClosed}
 use Rattle.pool_laws.specs.Counting.{FewDials, FewFailed}
+use Rattle.pool_laws.proofs.Dialling.{Linked, linked_is_kept}
 use Rattle.pool_laws.proofs.KeptBySteps.{by_step}
 use Rattle.tpf_client.specs.declared.options.Options.{Options}
-use Rattle.tpf_client.specs.Traffic.{Event, Travels, IsLawful}
+use Rattle.tpf_client.specs.Traffic.{Event, Travels, IsLawful, without_fault}
 use Rattle.tpf_client.specs.Turns.{AsksAt, asked_in}
 use Rattle.tpf_client.specs.Calls.{RunsPool}
 use Rattle.tpf_client.specs.Honest.{Laws}
 use Rattle.tpf_client.specs.Requests.{TrafficLaws, AreClosed, AreDialledFor, OthersStay, DialsAtMost, GivesAtMost}
-use Rattle.tpf_client.proofs.Keeping.{IsKeptBy, by-events}
+use Rattle.tpf_client.proofs.Keeping.{IsKeptBy, Between, by-events}
 use Rattle.tpf_client.proofs.Most.{Most, most_is_kept, most_put, most_started}
-use Rattle.tpf_client.proofs.Linked.{Linked, linked_is_kept}
 
 times-more : (k n : ℕ) → k * n + k ≡ k * (n + 1)
 times-more k n = let e : suc n ≡ n + 1 = omega arith in sym (mul-suc k n) ∙ ap (λ (m : ℕ). k * m) e
@@ -38,11 +38,15 @@ pub record Knows (home : Address) (since : WireState) (k n : ℕ) (p : Pooled) (
   pub linked : Linked since.given p v
   pub most : Most k (k * n) p
 
+-- the pool with which a call begins
+abbrev pub begun : Options → Pooled
+begun options = empty_pool options.links options.retries options.budget options.max_body
+
 module _ (laws : Laws) (traffic : TrafficLaws) (home : Address) (since : WireState) (k : ℕ) (low : 1 ≤ k) where
   abbrev I : ℕ → Pooled → WireState → Type 0
   I n p v = Knows home since k n p v
 
-  knows-put : (n : ℕ) (ask : Ask) (p : Pooled) (v : WireState) → ShareAuthority home ask.address → IsWebAddress ask.address → I n p v → I (n + 1) (record p { waiting = p.waiting ++ (record { ticket = ask.ticket; address = ask.address; failed = 0 }) ∷ [] }) v
+  pub knows-put : (n : ℕ) (ask : Ask) (p : Pooled) (v : WireState) → ShareAuthority home ask.address → IsWebAddress ask.address → I n p v → I (n + 1) (record p { waiting = p.waiting ++ (record { ticket = ask.ticket; address = ask.address; failed = 0 }) ∷ [] }) v
   knows-put n ask p v s a i = record {
     answers = laws.puts ask.ticket ask.address p v a i.answers;
     owns = traffic.puts_own home.host home.port since ask.ticket ask.address p v (record { same_host = s.host; same_port = s.port }) i.owns;
@@ -52,7 +56,7 @@ module _ (laws : Laws) (traffic : TrafficLaws) (home : Address) (since : WireSta
     most = subst (λ (m : ℕ). Most k m (record p { waiting = p.waiting ++ (record { ticket = ask.ticket; address = ask.address; failed = 0 }) ∷ [] })) (times-more k n) (most_put k (k * n) ask.ticket ask.address p low i.most);
   }
 
-  knows-step : (n : ℕ) (result : Result Stepped PoolFault) (p q : Pooled) (v w : WireState) → OpensGiven v → SuitsWire p v → I n p v → StepsTo result p q v w → I n q w
+  pub knows-step : (n : ℕ) (result : Result Stepped PoolFault) (p q : Pooled) (v w : WireState) → OpensGiven v → SuitsWire p v → I n p v → StepsTo result p q v w → I n q w
   knows-step n result p q v w g s i t = record {
     answers = laws.steps result p q v w g s i.answers t;
     owns = traffic.steps_own home.host home.port since result p q v w g s i.owns t;
@@ -62,7 +66,7 @@ module _ (laws : Laws) (traffic : TrafficLaws) (home : Address) (since : WireSta
     most = by_step (λ x a. Most k (k * n) x) (most_is_kept k (k * n)) result p q v w g s i.most t;
   }
 
-  knows-fault : (n : ℕ) (p : Pooled) (v : WireState) → I n (record p { fault = None }) v → I n p v
+  pub knows-fault : (n : ℕ) (p : Pooled) (v : WireState) → I n (record p { fault = None }) v → I n p v
   knows-fault n p v i = record {
     answers = laws.faults p v i.answers;
     owns = traffic.faults_own home.host home.port since p v i.owns;
@@ -72,8 +76,12 @@ module _ (laws : Laws) (traffic : TrafficLaws) (home : Address) (since : WireSta
     most = record { is = i.most.is; waiting = i.most.waiting; polled = i.most.polled; due = i.most.due; few = i.most.few };
   }
 
-  knows-kept : IsKeptBy (λ ask. ShareAuthority home ask.address) (Knows home since k)
-  knows-kept = record { puts = knows-put; steps = knows-step; faults = knows-fault }
+  knows-kept : (allows : List ℕ → ℕ → List ℕ → List ℕ → Type 0) (base : Pooled) → IsKeptBy allows base (λ ask. ShareAuthority home ask.address) (Knows home since k)
+  knows-kept allows base = record {
+    puts = knows-put;
+    steps = λ n answer p q v w at i t. knows-step n (Ok answer) p q v w at.given at.suits i t;
+    breaks = λ n fault p q v w at i t kept. knows-fault n q w (knows-step n (Err fault) p (without_fault q) v w at.given at.suits i t);
+  }
 
 -- what stands at the exit of a call in which so many requests were started
 pub record Exit (home : Address) (options : Options) (since now : WireState) (asked started : ℕ) : Type 0 where
@@ -85,11 +93,8 @@ pub record Exit (home : Address) (options : Options) (since now : WireState) (as
   pub few : started ≤ (options.retries + 1) * asked
   pub within : started ≤ options.budget
 
-module _ (laws : Laws) (traffic : TrafficLaws) (home : Address) (options : Options) (allows : List ℕ → ℕ → List ℕ → List ℕ → Type 0) (since now : WireState) (lawful : IsLawful allows since) where
-  abbrev begun-pool : Pooled
-  begun-pool = empty_pool options.links options.retries options.budget options.max_body
-
-  begun-knows : Knows home since (options.retries + 1) 0 begun-pool since
+module _ (laws : Laws) (traffic : TrafficLaws) (home : Address) (options : Options) (allows : List ℕ → ℕ → List ℕ → List ℕ → Type 0) (since : WireState) (lawful : IsLawful allows since) where
+  pub begun-knows : Knows home since (options.retries + 1) 0 (begun options) since
   begun-knows = record {
     answers = laws.empty options.links options.retries options.budget options.max_body since;
     owns = traffic.empty_own home.host home.port options.links options.retries options.budget options.max_body since;
@@ -99,23 +104,21 @@ module _ (laws : Laws) (traffic : TrafficLaws) (home : Address) (options : Optio
     most = record { is = refl; waiting = tt; polled = tt; due = tt; few = omega arith };
   }
 
-  begun-suits : SuitsWire begun-pool since
-  begun-suits = record { polled = tt; due = tt; owned = λ k. omega arith }
-
-  zero-plus : (n : ℕ) → 0 + n ≡ n
-  zero-plus n = omega arith
+  -- nothing is held at first, whatever the asks are to be
+  pub begun-between : (P : Ask → Type 0) → Between allows (begun options) P (begun options) since
+  begun-between P = record { given = lawful.given; suits = record { polled = tt; due = tt; owned = λ k. omega arith }; are = λ none. tt; bounds = refl }
 
   -- at each moment
-  pub knows-so : (events : List Event) (p : Pooled) (v : WireState) → AsksAt home events → Travels allows events begun-pool p since v → Knows home since (options.retries + 1) (length (asked_in events)) p v
+  pub knows-so : (events : List Event) (p : Pooled) (v : WireState) → AsksAt home events → Travels allows events (begun options) p since v → Knows home since (options.retries + 1) (length (asked_in events)) p v
   knows-so events p v a t =
-      subst (λ (n : ℕ). Knows home since (options.retries + 1) n p v) (zero-plus (length (asked_in events)))
-      (by-events (λ ask. ShareAuthority home ask.address) (Knows home since (options.retries + 1)) (knows-kept laws traffic home since (options.retries + 1) (omega arith)) allows events 0 begun-pool p since v lawful.given begun-suits a begun-knows t)
+      by-events allows (begun options) (λ ask. ShareAuthority home ask.address) (Knows home since (options.retries + 1)) (knows-kept laws traffic home since (options.retries + 1) (omega arith) allows (begun options)) events (begun options) p since v
+      (begun-between (λ ask. ShareAuthority home ask.address)) a begun-knows t
 
   same-budget : (n m b : ℕ) → n ≤ m → m ≡ b → n ≤ b
   same-budget n m b l e = omega (arith, l, e)
 
-  pub exit-of : (events : List Event) (p : Pooled) → AsksAt home events → RunsPool allows options since now events p → p.budget ≡ options.budget → Exit home options since now (length (asked_in events)) p.started
-  exit-of events p a r b =
+  pub exit-of : (now : WireState) (events : List Event) (p : Pooled) → AsksAt home events → RunsPool allows options since now events p → p.budget ≡ options.budget → Exit home options since now (length (asked_in events)) p.started
+  exit-of now events p a r b =
       let i = knows-so events p r.between a r.travels in
       let c = traffic.closing home.host home.port since p (record p { waiting = []; polled = []; due = []; spare = [] }) r.between now i.owns refl r.closes in
       let d = r.closes.dials in

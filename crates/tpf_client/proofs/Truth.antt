@@ -26,15 +26,15 @@ use Rattle.tpf_client.specs.Honest.{IsAnswer, IsVersionOf}
 module _ (given : PagesAreGiven) (answered : AnsweredGivePages) (only : NothingElseIsRead) (worlds : ServersAreWorlds) (forms : ServersHaveForms) (pages : ServersPagesAreTrue) (kept : AskableAreKept) (addresses : PagesAreAddresses)
     (history : List (List Triple)) (config : Config) (is_history : IsHistory history) (is_config : IsConfig config) where
   -- what is read from an answer is a page over its version
-  record ReadsVersion (page : Page) (version : ℕ) : Type 0 where
-    is_version : IsVersionOf history version
-    told : page.version ≡ Some version
-    form : IsServerForm config.base page.form
+  pub record ReadsVersion (page : Page) (version : ℕ) : Type 0 where
+    pub is_version : IsVersionOf history version
+    pub told : page.version ≡ Some version
+    pub form : IsServerForm config.base page.form
 
   version-of : (address : Address) (body : List ℕ) → IsBodyOf history config address body → ℕ
   version-of address body b = version_at b.mark
 
-  reads : (address : Address) (body : List ℕ) (page : Page) (b : IsBodyOf history config address body) → Takes body address page → ReadsVersion page (version_at b.mark)
+  pub reads : (address : Address) (body : List ℕ) (page : Page) (b : IsBodyOf history config address body) → Takes body address page → ReadsVersion page (version_at b.mark)
   reads address body page b t =
       let s : GivesSomePage history b.mark config address = (answered history b.mark config address).0 (ap (λ (n : ℕ). n == 200) b.status) in
       let is : body ≡ page_body history (version_at b.mark) config s.slots s.k = b.body_is ∙ ap (λ (a : Answer). a.body) s.gives.answer in

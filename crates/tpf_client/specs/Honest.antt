@@ -17,6 +17,7 @@ use Rattle.rdf_terms.specs.Askable.{AskableAreKept}
 use Rattle.template_fill.specs.Authorities.{PagesAreAddresses}
 use Rattle.template_fill.specs.Answered.{PagesAreGiven, AnsweredGivePages}
 use Rattle.control_reader.specs.Law.{NothingElseIsRead}
+use Rattle.control_reader.specs.Laws.{NoPageAtFault}
 use Rattle.result_json.specs.Pieces.{PiecesMakeTheText, RowsGoOn}
 use Rattle.pool_laws.specs.Following.{EmptyPoolsFollow, PutsFollow, StepsFollow, FaultsFollow}
 use Rattle.pool_laws.specs.Answers.{IsBodyOf}
@@ -79,6 +80,7 @@ pub record Laws : Type 0 where
   pub given : PagesAreGiven
   pub answered : AnsweredGivePages
   pub only : NothingElseIsRead
+  pub never_both : NoPageAtFault
   pub worlds : ServersAreWorlds
   pub forms : ServersHaveForms
   pub pages : ServersPagesAreTrue

@@ -8,3 +8,5 @@ pub mod Turns
 pub mod Calls
 pub mod Honest
 pub mod Requests
+pub mod Plans
+pub mod Requested

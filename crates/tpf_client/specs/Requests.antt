@@ -10,6 +10,10 @@ use Rattle.bgp_core.specs.Queries.{QueryData}
 use Rattle.pool_laws.specs.Owning.{IsAsBefore, EmptyPoolsOwn, PutsOwn, FaultsOwn, StepsOwn, ClosingCloses}
 use Rattle.pool_laws.specs.Counting.{EmptyPoolsFewFailed, PutsFewFailed, StepsFewFailed, StepsCountTries, EmptyPoolsDial, PutsDial, FaultsDial, StepsDial}
 use Rattle.pool_laws.specs.Causes.{RepliesAreRead, FaultsHaveCauses}
+use Rattle.pool_laws.specs.Sending.{EmptyPoolsSent, PutsSent, FaultsSent, StepsSent, ClosingSent}
+use Rattle.pool_laws.specs.Rising.{EmptyPoolsRose, PutsRose, FaultsRose}
+use Rattle.pool_laws.specs.Provoking.{EmptyPoolsReady, PutsReady, StepsSpare}
+use Rattle.pool_laws.specs.Requested.{EmptyPoolsRequested, PutsRequested, FaultsRequested, StepsRequested, ClosingRequested, RequestsAreFew, RequestsAreRises, EmptyPoolsAnswered, PutsAnswered, StepsAnswered, ClosingAnswered, AsksAreAnswered}
 use Rattle.request_pool.specs.Pools.{Pooled}
 use Rattle.join_core.specs.Nodes.{plan}
 use Rattle.join_core.specs.Servers.{server_world}
@@ -97,3 +101,26 @@ pub record TrafficLaws : Type 0 where
   pub tries : StepsCountTries
   pub replies : RepliesAreRead
   pub causes : FaultsHaveCauses
+  pub empty_sent : EmptyPoolsSent
+  pub puts_sent : PutsSent
+  pub faults_sent : FaultsSent
+  pub steps_sent : StepsSent
+  pub closing_sent : ClosingSent
+  pub empty_rose : EmptyPoolsRose
+  pub puts_rose : PutsRose
+  pub faults_rose : FaultsRose
+  pub empty_ready : EmptyPoolsReady
+  pub puts_ready : PutsReady
+  pub spare : StepsSpare
+  pub empty_requested : EmptyPoolsRequested
+  pub puts_requested : PutsRequested
+  pub faults_requested : FaultsRequested
+  pub steps_requested : StepsRequested
+  pub closing_requested : ClosingRequested
+  pub few_requested : RequestsAreFew
+  pub rises_requested : RequestsAreRises
+  pub empty_answered : EmptyPoolsAnswered
+  pub puts_answered : PutsAnswered
+  pub steps_answered : StepsAnswered
+  pub closing_answered : ClosingAnswered
+  pub all_answered : AsksAreAnswered

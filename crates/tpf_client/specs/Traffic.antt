@@ -10,7 +10,9 @@ use Rattle.request_pool.specs.declared.fault.Stepped.TheVariants as stepped
 use Rattle.request_pool.specs.Pools.{Pooled, Ask, held, bounds_of}
 use Rattle.request_pool.specs.Owned.{SuitsWire}
 use Rattle.request_pool.specs.Steps.{StepsTo}
-use Rattle.pool_laws.specs.Answers.{RepliesAreAnswers}
+use Rattle.pool_laws.specs.Answers.{RepliesAreAnswers, RefusalsAreTooLong}
+use Rattle.pool_laws.specs.Rising.{StepsRose}
+use Rattle.pool_laws.specs.Provoking.{NoneHang}
 
 -- an ask was put; the whole reply to one came; nothing came in a step; or a step ended with a fault
 pub data Event : Type 0 where
@@ -36,15 +38,17 @@ pub record Comes (ask : Ask) (reply : Reply) (old new : Pooled) (wire wire' : Wi
   pub had_none : old.fault ≡ None
   pub no_fault : new.fault ≡ None
 
--- nothing came in a step, and all asks are still held
+-- nothing came in a step with asks, and all are still held
 pub record Waits (old new : Pooled) (wire wire' : WireState) : Type 0 where
+  pub some : held old ≢ []
   pub steps : StepsTo (Ok stepped.Waited) old new wire wire'
   pub others : IsPermutation (held old) (held new)
   pub had_none : old.fault ≡ None
   pub no_fault : new.fault ≡ None
 
--- a step ended with a fault, which the pool keeps
+-- a step with asks ended with a fault, which the pool keeps
 pub record Breaks (fault : PoolFault) (old new : Pooled) (wire wire' : WireState) : Type 0 where
+  pub some : held old ≢ []
   pub steps : StepsTo (Err fault) old (without_fault new) wire wire'
   pub had_none : old.fault ≡ None
   pub kept : new.fault ≡ Some fault
@@ -63,7 +67,7 @@ is_under ticket ask = if ask.ticket == ticket then 1 else 0
 pub record AreDistinct (asks : List Ask) : Type 0 where
   pub once : (ticket : ℕ) → sum_by (is_under ticket) asks ≤ 1
 
--- What every wire keeps to at each moment; `allows` is what its other ends may owe. A reply that comes just before is the answer of an honest other end.
+-- What every wire keeps to at each moment; `allows` is what its other ends may owe. Over honest other ends a reply that comes just before is their answer, one that is refused is too long, each failure is a rise of the wire's faults, and no exchange hangs.
 pub record IsLawful (allows : List ℕ → ℕ → List ℕ → List ℕ → Type 0) (wire : WireState) : Type 0 where
   pub told : (k : ℕ) → IsToldBy wire.nature.tells (wire.links k)
   pub given : OpensGiven wire
@@ -71,6 +75,9 @@ pub record IsLawful (allows : List ℕ → ℕ → List ℕ → List ℕ → Typ
   pub owed : (k : ℕ) → OwesAllowed allows (wire.links k)
   pub lively : IsLively wire
   pub replies : RepliesAreAnswers allows wire
+  pub refused : RefusalsAreTooLong allows wire
+  pub rises : StepsRose allows wire
+  pub hang : NoneHang allows wire
 
 -- An event, and what holds after it: the pool suits the wire, its tickets differ, unless it ended, and its bounds are as before.
 pub record Moves (allows : List ℕ → ℕ → List ℕ → List ℕ → Type 0) (event : Event) (old new : Pooled) (wire wire' : WireState) : Type 0 where

@@ -12,7 +12,7 @@ ghost use Rattle.tpf_client.specs.Asking.{Notes, PutsOne, StepsOn};
 
 use crate::Options;
 use http_wire::Reply;
-use pool_laws::a_reply_is_an_answer;
+use pool_laws::{a_reply_is_an_answer, failures_are_rises, steps_provoke_nothing};
 use request_pool::{Pool, PoolFault, Stepped};
 use std::alloc::Global;
 use std::collections::BTreeMap;
@@ -64,6 +64,8 @@ pub(crate) fn is_lawful<W: Wire>(wire: &W)
     ensures { IsLawful (W.allows wire.now) (W.state wire.now) }
 {
     a_reply_is_an_answer(wire);
+    failures_are_rises(wire);
+    steps_provoke_nothing(wire);
 }
 
 /// Notes the address of a ticket. Out of memory, all are as they were.

@@ -12,10 +12,10 @@ ghost use Rattle.request_pool.specs.Owned.{SuitsWire};
 ghost use Rattle.join_core.specs.Evaluations.{HasHome};
 ghost use Rattle.tpf_client.specs.Traffic.{Event};
 ghost use Rattle.tpf_client.specs.Calls.{Joins, JoinsSome, GathersRest, WritesRest, WritesLess, WritesAll, WritesSome, Returns, Ran, RunsPool, WritesResult, WritesPrefix, IsCause};
-ghost use Rattle.rdf_terms.specs.declared.term.Triple.{Triple};
-ghost use Rattle.template_fill.specs.Metadata.{Config};
-ghost use Rattle.tpf_client.specs.Honest.{Laws, IsHonestWire, IsSolutions, WritesSolutions, WritesSolutionsFront};
+ghost use Rattle.tpf_client.specs.Honest.{Laws, IsSolutions, WritesSolutions, WritesSolutionsFront};
 ghost use Rattle.tpf_client.specs.Requests.{AreClosed, AreDialledFor, OthersStay, DialsAtMost, GivesAtMost, AnswersAll, RequestsAreTries, DialsAreTries, TrafficLaws};
+ghost use Rattle.tpf_client.specs.Plans.{SendsAsked, AsksPlan, OverHonest, OverLively, CountsRises, PacesRequests, IsHonestCause, IsLivelyCause, RisesFew, PlanFits, MayStill, StaysUnprovoked};
+ghost use Rattle.tpf_client.specs.Requested.{RequestsPlan, AnswersPlan};
 
 use crate::asks::{Asks, is_lawful};
 use crate::fault::of_sink;
@@ -24,10 +24,12 @@ use crate::start::ask_start;
 use crate::turns::{Bounds, evaluate};
 use crate::{ClientFault, Options, Report};
 use bgp_core::{Query, Row};
-use control_reader::{Page, controls_read_back, pages_keep_authority};
+use control_reader::{Page, a_body_is_one_page, controls_read_back, pages_keep_authority};
 use join_core::{Join, a_server_is_a_world};
 use pool_laws::{
-    a_step_has_a_cause, exchanges_are_counted, links_are_closed, whole_replies_come_first,
+    a_step_has_a_cause, asks_are_answered, exchanges_are_counted, failures_are_rises,
+    links_are_closed, requests_are_counted, steps_provoke_nothing, whole_replies_come_first,
+    whole_requests_are_sent,
 };
 use rdf_terms::askable_slots_are_kept;
 use result_json::{ResultWriter, pieces_make_the_text, rows_go_on};
@@ -216,6 +218,7 @@ fn solutions_rest_on_laws()
     whole_replies_come_first();
     pages_are_answered();
     controls_read_back();
+    a_body_is_one_page();
     a_server_is_a_world();
     askable_slots_are_kept();
     pages_share_authority();
@@ -224,12 +227,17 @@ fn solutions_rest_on_laws()
 }
 
 /// The laws on which what is said of links and requests rests. It does nothing.
-fn traffic_rests_on_laws()
+fn traffic_rests_on_laws<W: Dial>(wire: &W)
     ensures { TrafficLaws }
 {
     links_are_closed();
     exchanges_are_counted();
     a_step_has_a_cause();
+    whole_requests_are_sent();
+    requests_are_counted();
+    asks_are_answered();
+    failures_are_rises(wire);
+    steps_provoke_nothing(wire);
 }
 
 /// Asks the server of a start page for what a query needs, and writes the text of its result (Triple
@@ -239,6 +247,11 @@ fn traffic_rests_on_laws()
 /// end. At a fault the sink took a front of such a text. At each exit every link of this call is
 /// closed; each was dialled for the host and port of the start, and no more requests were started
 /// than the budget allows.
+///
+/// Over a wire whose other ends answer as a server does, requests are sent for the start and the plan
+/// of the query alone, and no more of them than these and the failures of the wire. Where each answer
+/// is a page within the options, and the wire fails at most as often as a request may be asked again,
+/// the answer is `Ok`, `OutOfMemory`, or `Changed` where the data did change.
 ///
 /// `Exchange`, `Stalled` and `Cut` come where a request failed once more than it may be asked again,
 /// `Reply` where a reply is refused, `Page` where a body is no page, `Changed` where a page tells
@@ -260,8 +273,8 @@ pub fn query<R: Wait, W: Dial, K: Sink>(
     ensures front { OnErr result (WritesPrefix query.now (K.taken out.old) (K.taken out.new)) }
     ensures ok { IfOk result (λ report. WritesAll (RunsPool (W.allows wire.old) options.now (W.state wire.old) (W.state wire.new)) query.now start.now report (K.taken out.old) (K.taken out.new)) }
     ensures err { IfErr result (λ fault. WritesSome (RunsPool (W.allows wire.old) options.now (W.state wire.old) (W.state wire.new)) query.now start.now options.now.budget fault (K.taken out.old) (K.taken out.new)) }
-    ensures headline { (history : List (List Triple)) (config : Config) → IsHonestWire (W.allows wire.old) history config (W.state wire.old) → IfOk result (λ report. WritesSolutions history query.now report.version report.rows (K.taken out.old) (K.taken out.new)) }
-    ensures prefix { (history : List (List Triple)) (config : Config) → IsHonestWire (W.allows wire.old) history config (W.state wire.old) → OnErr result (WritesSolutionsFront history query.now (K.taken out.old) (K.taken out.new)) }
+    ensures headline { OverHonest (W.allows wire.old) (W.state wire.old) (λ history config. IfOk result (λ report. WritesSolutions history query.now report.version report.rows (K.taken out.old) (K.taken out.new))) }
+    ensures prefix { OverHonest (W.allows wire.old) (W.state wire.old) (λ history config. OnErr result (WritesSolutionsFront history query.now (K.taken out.old) (K.taken out.new))) }
     ensures cause { IfErr result (IsCause (W.allows wire.old) options.now (W.state wire.old) (W.state wire.new)) }
     ensures closed { AreClosed (W.state wire.old) (W.state wire.new) }
     ensures peers { AreDialledFor start.now (W.state wire.old) (W.state wire.new) }
@@ -272,8 +285,19 @@ pub fn query<R: Wait, W: Dial, K: Sink>(
     ensures within { IfOk result (λ report. report.requests ≤ options.now.budget) }
     ensures dialled { IfOk result (λ report. DialsAtMost report.requests (W.state wire.old) (W.state wire.new)) }
     ensures linked { IfOk result (λ report. GivesAtMost report.requests (W.state wire.old) (W.state wire.new)) }
-    ensures requests { (history : List (List Triple)) (config : Config) → IsHonestWire (W.allows wire.old) history config (W.state wire.old) → IfOk result (λ report. RequestsAreTries history config options.now query.now start.now report) }
-    ensures planned { (history : List (List Triple)) (config : Config) → IsHonestWire (W.allows wire.old) history config (W.state wire.old) → DialsAreTries history config options.now query.now start.now (W.state wire.old) (W.state wire.new) }
+    ensures requests { OverHonest (W.allows wire.old) (W.state wire.old) (λ history config. IfOk result (λ report. RequestsAreTries history config options.now query.now start.now report)) }
+    ensures planned { OverHonest (W.allows wire.old) (W.state wire.old) (λ history config. DialsAreTries history config options.now query.now start.now (W.state wire.old) (W.state wire.new)) }
+    ensures sent { SendsAsked (W.allows wire.old) options.now start.now (W.state wire.old) (W.state wire.new) }
+    ensures asked { OverHonest (W.allows wire.old) (W.state wire.old) (λ history config. AsksPlan history config query.now start.now (W.state wire.old) (W.state wire.new)) }
+    ensures requested { OverHonest (W.allows wire.old) (W.state wire.old) (λ history config. RequestsPlan history config options.now query.now start.now (W.state wire.old) (W.state wire.new)) }
+    ensures replied { OverHonest (W.allows wire.old) (W.state wire.old) (λ history config. IfOk result (λ report. AnswersPlan history config options.now query.now start.now report (W.state wire.old) (W.state wire.new))) }
+    ensures honest_cause { OverHonest (W.allows wire.old) (W.state wire.old) (λ history config. IfErr result (IsHonestCause history config options.now query.now start.now)) }
+    ensures counted { OverLively (W.allows wire.old) (W.state wire.old) (λ history config. CountsRises (W.allows wire.old) history config options.now query.now start.now (W.state wire.old) (W.state wire.new)) }
+    ensures paced { OverLively (W.allows wire.old) (W.state wire.old) (λ history config. IfOk result (λ report. PacesRequests history config query.now start.now report (W.state wire.old) (W.state wire.new))) }
+    ensures lively_cause { OverLively (W.allows wire.old) (W.state wire.old) (λ history config. IfErr result (IsLivelyCause history config options.now query.now start.now (W.state wire.old) (W.state wire.new))) }
+    ensures complete { OverHonest (W.allows wire.old) (W.state wire.old) (λ history config. (W.state wire.old).nature.lively ≡ true → (rise : ℕ) → RisesFew options.now rise (W.state wire.old) (W.state wire.new)
+        → PlanFits history config options.now query.now start.now rise → (Rose (K.faults out.old) (K.faults out.new) → ⊥) → IfErr result (MayStill history)) }
+    ensures unprovoked { OverHonest (W.allows wire.old) (W.state wire.old) (λ history config. StaysUnprovoked options.now (W.state wire.old) (W.state wire.new)) }
     ensures later { K.faults out.old ≤ K.faults out.new }
     ensures sink { IsErrOf result ClientFault.Sink → Rose (K.faults out.old) (K.faults out.new) }
     ensures faultless { K.faultless out.new ≡ K.faultless out.old }
@@ -282,7 +306,7 @@ pub fn query<R: Wait, W: Dial, K: Sink>(
 {
     is_lawful(wire);
     solutions_rest_on_laws();
-    traffic_rests_on_laws();
+    traffic_rests_on_laws(wire);
     let mut asks = Asks::new(alloc, options);
     let ended = write_result(rt, alloc, query, start, options, &mut asks, wire, out);
     asks.close(wire);
@@ -385,7 +409,7 @@ pub fn collect<R: Wait, W: Dial>(
     requires few { options.now.links ≤ 256 }
     ensures ok { IfOk result (λ r. Returns (RunsPool (W.allows wire.old) options.now (W.state wire.old) (W.state wire.new)) query.now start.now r.1 r.0.items) }
     ensures err { IfErr result (λ fault. WritesSome (RunsPool (W.allows wire.old) options.now (W.state wire.old) (W.state wire.new)) query.now start.now options.now.budget fault None None) }
-    ensures headline { (history : List (List Triple)) (config : Config) → IsHonestWire (W.allows wire.old) history config (W.state wire.old) → IfOk result (λ r. IsSolutions history query.now r.1.version r.0.items) }
+    ensures headline { OverHonest (W.allows wire.old) (W.state wire.old) (λ history config. IfOk result (λ r. IsSolutions history query.now r.1.version r.0.items)) }
     ensures cause { IfErr result (IsCause (W.allows wire.old) options.now (W.state wire.old) (W.state wire.new)) }
     ensures closed { AreClosed (W.state wire.old) (W.state wire.new) }
     ensures peers { AreDialledFor start.now (W.state wire.old) (W.state wire.new) }
@@ -396,14 +420,25 @@ pub fn collect<R: Wait, W: Dial>(
     ensures within { IfOk result (λ r. r.1.requests ≤ options.now.budget) }
     ensures dialled { IfOk result (λ r. DialsAtMost r.1.requests (W.state wire.old) (W.state wire.new)) }
     ensures linked { IfOk result (λ r. GivesAtMost r.1.requests (W.state wire.old) (W.state wire.new)) }
-    ensures requests { (history : List (List Triple)) (config : Config) → IsHonestWire (W.allows wire.old) history config (W.state wire.old) → IfOk result (λ r. RequestsAreTries history config options.now query.now start.now r.1) }
-    ensures planned { (history : List (List Triple)) (config : Config) → IsHonestWire (W.allows wire.old) history config (W.state wire.old) → DialsAreTries history config options.now query.now start.now (W.state wire.old) (W.state wire.new) }
+    ensures requests { OverHonest (W.allows wire.old) (W.state wire.old) (λ history config. IfOk result (λ r. RequestsAreTries history config options.now query.now start.now r.1)) }
+    ensures planned { OverHonest (W.allows wire.old) (W.state wire.old) (λ history config. DialsAreTries history config options.now query.now start.now (W.state wire.old) (W.state wire.new)) }
+    ensures sent { SendsAsked (W.allows wire.old) options.now start.now (W.state wire.old) (W.state wire.new) }
+    ensures asked { OverHonest (W.allows wire.old) (W.state wire.old) (λ history config. AsksPlan history config query.now start.now (W.state wire.old) (W.state wire.new)) }
+    ensures requested { OverHonest (W.allows wire.old) (W.state wire.old) (λ history config. RequestsPlan history config options.now query.now start.now (W.state wire.old) (W.state wire.new)) }
+    ensures replied { OverHonest (W.allows wire.old) (W.state wire.old) (λ history config. IfOk result (λ r. AnswersPlan history config options.now query.now start.now r.1 (W.state wire.old) (W.state wire.new))) }
+    ensures honest_cause { OverHonest (W.allows wire.old) (W.state wire.old) (λ history config. IfErr result (IsHonestCause history config options.now query.now start.now)) }
+    ensures counted { OverLively (W.allows wire.old) (W.state wire.old) (λ history config. CountsRises (W.allows wire.old) history config options.now query.now start.now (W.state wire.old) (W.state wire.new)) }
+    ensures paced { OverLively (W.allows wire.old) (W.state wire.old) (λ history config. IfOk result (λ r. PacesRequests history config query.now start.now r.1 (W.state wire.old) (W.state wire.new))) }
+    ensures lively_cause { OverLively (W.allows wire.old) (W.state wire.old) (λ history config. IfErr result (IsLivelyCause history config options.now query.now start.now (W.state wire.old) (W.state wire.new))) }
+    ensures complete { OverHonest (W.allows wire.old) (W.state wire.old) (λ history config. (W.state wire.old).nature.lively ≡ true → (rise : ℕ) → RisesFew options.now rise (W.state wire.old) (W.state wire.new)
+        → PlanFits history config options.now query.now start.now rise → IfErr result (MayStill history)) }
+    ensures unprovoked { OverHonest (W.allows wire.old) (W.state wire.old) (λ history config. StaysUnprovoked options.now (W.state wire.old) (W.state wire.new)) }
     ensures sink { IsErrOf result ClientFault.Sink → ⊥ }
     ensures allowed { SameAllowed (W.allows wire.old) (W.allows wire.new) }
 {
     is_lawful(wire);
     solutions_rest_on_laws();
-    traffic_rests_on_laws();
+    traffic_rests_on_laws(wire);
     let mut asks = Asks::new(alloc, options);
     let ended = gather(rt, alloc, query, start, options, &mut asks, wire);
     asks.close(wire);

@@ -8,4 +8,7 @@ returns g c = record {
   owed = λ k. g.met.W.Wire.owed_is_allowed c.args.wire.now k;
   lively = g.met.W.Wire.is_lively c.args.wire.now;
   replies = c.a_reply_is_an_answer.ensures.replies;
+  refused = c.a_reply_is_an_answer.ensures.refused;
+  rises = c.failures_are_rises.ensures.step;
+  hang = c.steps_provoke_nothing.ensures.hang;
 }

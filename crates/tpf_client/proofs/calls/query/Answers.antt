@@ -1,11 +1,24 @@
 -- The pool begins with nothing, and its links are closed at last.
-use Rattle.std.proofs.Common.{ap}
+use Rattle.std.proofs.Common.{ℕ, ◌≡◌, ◌<◌, ◌^◌, List, true, ap}
+use Rattle.std.specs.Prelude.{IfErr, IfOk}
+use Rattle.rdf_terms.specs.declared.term.Triple.{Triple}
+use Rattle.template_fill.specs.Metadata.{Config}
 use Rattle.request_pool.specs.Pools.{Pooled, held}
-use Rattle.tpf_client.proofs.Shutting.{if-ok, if-ok-from, if-err, on-err-of, writes-all-so, writes-some-so, ran-closed, suits-empty}
+use Rattle.tpf_client.specs.Traffic.{Event}
+use Rattle.tpf_client.specs.Calls.{Ran, RunsPool}
+use Rattle.tpf_client.specs.Honest.{IsHonestWire}
+use Rattle.tpf_client.specs.Plans.{IsHonestCause, IsLivelyCause}
+use Rattle.tpf_client.proofs.Shutting.{if-ok, if-ok-from, if-err, if-err-from, on-err-of, writes-all-so, writes-some-so, ran-closed, suits-empty}
 use Rattle.tpf_client.proofs.Written.{result-written, prefix-written}
 use Rattle.tpf_client.proofs.Headline.{solutions-written, front-written}
 use Rattle.tpf_client.proofs.Caused.{fault-caused}
-use Rattle.tpf_client.proofs.Exits.{at-any, at-answers, at-rows, at-requests, at-dials}
+use Rattle.tpf_client.proofs.Planned.{RunOf, PlannedRun}
+use Rattle.tpf_client.proofs.HonestCauses.{honest-cause}
+use Rattle.tpf_client.proofs.LivelyCauses.{counts-so, paces-so, lively-cause}
+use Rattle.tpf_client.proofs.Requested.{requests-plan, answers-plan}
+use Rattle.tpf_client.proofs.Completing.{completes}
+use Rattle.tpf_client.proofs.Exits.{AnyExit, any-exit, rows-exit, dials-so, asks-plan, requests-so, unprovoked-so, called, called-some, at-run, at-whole, at-explained, at-planned}
+use Rattle.tpf_client.proofs.calls.query.Given as given
 use Rattle.tpf_client.proofs.calls.query.Goals as goal
 
 pub write_result-ended-requires-clause-none : goal.write_result-ended-requires-clause-none
@@ -20,13 +33,49 @@ write_result-ended-requires-clause-suits g c = suits-empty c.args.options.now c.
 pub close-requires : goal.close-requires
 close-requires g c = record { suits = c.write_result-ended.ensures.suits }
 
+-- ---- the call, after which its links are closed
+
+closes : (g : given.Over) (c : goal.After-drop-asks-inside-7 g) (events : List Event) (pool : Pooled)
+    → Ran (g.W.Wire.allows c.args.wire.now) c.new-asks.result c.write_result-ended.new.asks (g.W.Wire.state c.args.wire.now) (g.W.Wire.state c.write_result-ended.new.wire) events pool
+    → RunsPool (g.W.Wire.allows c.args.wire.now) c.args.options.now (g.W.Wire.state c.args.wire.now) (g.W.Wire.state c.close.new.wire) events pool
+closes g c = ran-closed (g.W.Wire.allows c.args.wire.now) c.args.options.now c.new-asks.result c.write_result-ended.new.asks (g.W.Wire.state c.args.wire.now) (g.W.Wire.state c.write_result-ended.new.wire) (g.W.Wire.state c.close.new.wire) c.new-asks.ensures.empty c.close.ensures.closes
+
+run : (g : given.Over) (c : goal.After-drop-asks-inside-7 g) → RunOf (g.W.Wire.allows c.args.wire.now) c.args.options.now c.args.start.now (g.W.Wire.state c.args.wire.now) (g.W.Wire.state c.close.new.wire)
+run g c =
+    at-run (g.W.Wire.allows c.args.wire.now) c.args.options.now (g.W.Wire.state c.args.wire.now) (g.W.Wire.state c.write_result-ended.new.wire) (g.W.Wire.state c.close.new.wire) c.args.start.now c.args.query.now c.new-asks.result c.write_result-ended.new.asks c.new-asks.ensures.empty c.close.ensures.closes
+    c.write_result-ended.result _ _ _ c.write_result-ended.ensures.ok c.write_result-ended.ensures.err (λ report w. (report, w.rows, w.returns))
+
+planned : (g : given.Over) (c : goal.After-drop-asks-inside-7 g) (history : List (List Triple)) (config : Config) → IsHonestWire (g.W.Wire.allows c.args.wire.now) history config (g.W.Wire.state c.args.wire.now)
+    → PlannedRun (g.W.Wire.allows c.args.wire.now) history config c.args.options.now (g.W.Wire.state c.args.wire.now) (g.W.Wire.state c.close.new.wire) c.args.start.now c.args.query.now
+planned g c history config honest =
+    at-planned (g.W.Wire.allows c.args.wire.now) c.args.options.now (g.W.Wire.state c.args.wire.now) (g.W.Wire.state c.write_result-ended.new.wire) (g.W.Wire.state c.close.new.wire) c.args.start.now c.args.query.now c.new-asks.result c.write_result-ended.new.asks c.new-asks.ensures.empty c.close.ensures.closes
+    c.solutions_rest_on_laws.ensures c.is_lawful.ensures history config honest c.new-asks.ensures.limit c.write_result-ended.result _ _ _ c.write_result-ended.ensures.ok c.write_result-ended.ensures.err (λ report w. (report, w.rows, w.returns))
+
+any : (g : given.Over) (c : goal.After-drop-asks-inside-7 g) → AnyExit (g.W.Wire.allows c.args.wire.now) c.args.options.now c.args.start.now (g.W.Wire.state c.args.wire.now) (g.W.Wire.state c.close.new.wire)
+any g c = any-exit c.solutions_rest_on_laws.ensures c.traffic_rests_on_laws.ensures (g.W.Wire.allows c.args.wire.now) c.args.options.now (g.W.Wire.state c.args.wire.now) (g.W.Wire.state c.close.new.wire) c.is_lawful.ensures c.args.start.now (run g c)
+
+honestly : (g : given.Over) (c : goal.After-drop-asks-inside-7 g) (history : List (List Triple)) (config : Config) → IsHonestWire (g.W.Wire.allows c.args.wire.now) history config (g.W.Wire.state c.args.wire.now)
+    → IfErr c.write_result-ended.result (IsHonestCause history config c.args.options.now c.args.query.now c.args.start.now)
+honestly g c history config honest = if-err-from c.write_result-ended.result _ _ c.write_result-ended.ensures.err (λ fault w.
+    honest-cause c.solutions_rest_on_laws.ensures c.traffic_rests_on_laws.ensures (g.W.Wire.allows c.args.wire.now) c.args.options.now (g.W.Wire.state c.args.wire.now) (g.W.Wire.state c.close.new.wire) c.is_lawful.ensures c.args.start.now history config honest c.new-asks.ensures.limit c.args.query.now fault
+    (at-explained (g.W.Wire.allows c.args.wire.now) c.args.options.now (g.W.Wire.state c.args.wire.now) (g.W.Wire.state c.write_result-ended.new.wire) (g.W.Wire.state c.close.new.wire) c.args.start.now c.args.query.now c.new-asks.result c.write_result-ended.new.asks c.new-asks.ensures.empty c.close.ensures.closes
+    c.solutions_rest_on_laws.ensures c.is_lawful.ensures history config honest c.new-asks.ensures.limit fault _ _ w))
+
+livelily : (g : given.Over) (c : goal.After-drop-asks-inside-7 g) (history : List (List Triple)) (config : Config) → IsHonestWire (g.W.Wire.allows c.args.wire.now) history config (g.W.Wire.state c.args.wire.now)
+    → (g.W.Wire.state c.args.wire.now).nature.lively ≡ true
+    → IfErr c.write_result-ended.result (IsLivelyCause history config c.args.options.now c.args.query.now c.args.start.now (g.W.Wire.state c.args.wire.now) (g.W.Wire.state c.close.new.wire))
+livelily g c history config honest alive = if-err-from c.write_result-ended.result _ _ c.write_result-ended.ensures.err (λ fault w.
+    lively-cause c.solutions_rest_on_laws.ensures c.traffic_rests_on_laws.ensures (g.W.Wire.allows c.args.wire.now) c.args.options.now (g.W.Wire.state c.args.wire.now) (g.W.Wire.state c.close.new.wire) c.is_lawful.ensures c.args.start.now history config honest c.new-asks.ensures.limit c.args.query.now alive fault
+    (at-explained (g.W.Wire.allows c.args.wire.now) c.args.options.now (g.W.Wire.state c.args.wire.now) (g.W.Wire.state c.write_result-ended.new.wire) (g.W.Wire.state c.close.new.wire) c.args.start.now c.args.query.now c.new-asks.result c.write_result-ended.new.asks c.new-asks.ensures.empty c.close.ensures.closes
+    c.solutions_rest_on_laws.ensures c.is_lawful.ensures history config honest c.new-asks.ensures.limit fault _ _ w))
+
+-- ---- the result
+
 pub returns-clause-ok : goal.returns-clause-ok
-returns-clause-ok g c =
-    if-ok c.write_result-ended.result _ _ (λ report w. writes-all-so _ _ (ran-closed (g.W.Wire.allows c.args.wire.now) c.args.options.now c.new-asks.result c.write_result-ended.new.asks (g.W.Wire.state c.args.wire.now) (g.W.Wire.state c.write_result-ended.new.wire) (g.W.Wire.state c.close.new.wire) c.new-asks.ensures.empty c.close.ensures.closes) c.args.query.now c.args.start.now report _ _ w) c.write_result-ended.ensures.ok
+returns-clause-ok g c = if-ok c.write_result-ended.result _ _ (λ report w. writes-all-so _ _ (closes g c) c.args.query.now c.args.start.now report _ _ w) c.write_result-ended.ensures.ok
 
 pub returns-clause-err : goal.returns-clause-err
-returns-clause-err g c =
-    if-err c.write_result-ended.result _ _ (λ fault w. writes-some-so _ _ (ran-closed (g.W.Wire.allows c.args.wire.now) c.args.options.now c.new-asks.result c.write_result-ended.new.asks (g.W.Wire.state c.args.wire.now) (g.W.Wire.state c.write_result-ended.new.wire) (g.W.Wire.state c.close.new.wire) c.new-asks.ensures.empty c.close.ensures.closes) c.args.query.now c.args.start.now c.args.options.now.budget fault _ _ w) c.write_result-ended.ensures.err
+returns-clause-err g c = if-err c.write_result-ended.result _ _ (λ fault w. writes-some-so _ _ (closes g c) c.args.query.now c.args.start.now c.args.options.now.budget fault _ _ w) c.write_result-ended.ensures.err
 
 pub returns-clause-whole : goal.returns-clause-whole
 returns-clause-whole g c = if-ok c.write_result-ended.result _ _ (λ report w. result-written _ c.args.query.now c.args.start.now report _ _ w) c.write_result-ended.ensures.ok
@@ -38,49 +87,98 @@ pub returns-clause-headline : goal.returns-clause-headline
 returns-clause-headline g c = λ history config honest.
     if-ok c.write_result-ended.result _ _ (λ report w.
     solutions-written c.solutions_rest_on_laws.ensures (g.W.Wire.allows c.args.wire.now) history config c.args.options.now (g.W.Wire.state c.args.wire.now) (g.W.Wire.state c.close.new.wire) honest c.is_lawful.ensures c.new-asks.ensures.limit c.args.start.now c.args.query.now report _ _
-    (writes-all-so _ _ (ran-closed (g.W.Wire.allows c.args.wire.now) c.args.options.now c.new-asks.result c.write_result-ended.new.asks (g.W.Wire.state c.args.wire.now) (g.W.Wire.state c.write_result-ended.new.wire) (g.W.Wire.state c.close.new.wire) c.new-asks.ensures.empty c.close.ensures.closes) c.args.query.now c.args.start.now report _ _ w)) c.write_result-ended.ensures.ok
+    (writes-all-so _ _ (closes g c) c.args.query.now c.args.start.now report _ _ w)) c.write_result-ended.ensures.ok
 
 pub returns-clause-prefix : goal.returns-clause-prefix
 returns-clause-prefix g c = λ history config honest.
     on-err-of c.write_result-ended.result _ _ (λ fault w.
     front-written c.solutions_rest_on_laws.ensures (g.W.Wire.allows c.args.wire.now) history config c.args.options.now (g.W.Wire.state c.args.wire.now) (g.W.Wire.state c.close.new.wire) honest c.is_lawful.ensures c.new-asks.ensures.limit c.args.start.now c.args.query.now c.args.options.now.budget fault _ _
-    (writes-some-so _ _ (ran-closed (g.W.Wire.allows c.args.wire.now) c.args.options.now c.new-asks.result c.write_result-ended.new.asks (g.W.Wire.state c.args.wire.now) (g.W.Wire.state c.write_result-ended.new.wire) (g.W.Wire.state c.close.new.wire) c.new-asks.ensures.empty c.close.ensures.closes) c.args.query.now c.args.start.now c.args.options.now.budget fault _ _ w)) c.write_result-ended.ensures.err
+    (writes-some-so _ _ (closes g c) c.args.query.now c.args.start.now c.args.options.now.budget fault _ _ w)) c.write_result-ended.ensures.err
+
+-- ---- causes
 
 pub returns-clause-cause : goal.returns-clause-cause
 returns-clause-cause g c =
     if-err c.write_result-ended.result _ _ (λ fault w.
     fault-caused c.solutions_rest_on_laws.ensures c.traffic_rests_on_laws.ensures (g.W.Wire.allows c.args.wire.now) c.args.options.now (g.W.Wire.state c.args.wire.now) (g.W.Wire.state c.close.new.wire) c.is_lawful.ensures c.args.start.now c.args.query.now fault _ _
-    (writes-some-so _ _ (ran-closed (g.W.Wire.allows c.args.wire.now) c.args.options.now c.new-asks.result c.write_result-ended.new.asks (g.W.Wire.state c.args.wire.now) (g.W.Wire.state c.write_result-ended.new.wire) (g.W.Wire.state c.close.new.wire) c.new-asks.ensures.empty c.close.ensures.closes) c.args.query.now c.args.start.now c.args.options.now.budget fault _ _ w)) c.write_result-ended.ensures.err
+    (writes-some-so _ _ (closes g c) c.args.query.now c.args.start.now c.args.options.now.budget fault _ _ w)) c.write_result-ended.ensures.err
+
+pub returns-clause-honest_cause : goal.returns-clause-honest_cause
+returns-clause-honest_cause g c = λ history config honest. honestly g c history config honest
+
+pub returns-clause-lively_cause : goal.returns-clause-lively_cause
+returns-clause-lively_cause g c = λ history config honest alive. livelily g c history config honest alive
+
+pub returns-clause-complete : goal.returns-clause-complete
+returns-clause-complete g c = λ history config honest alive rise few fits none.
+    completes history config c.args.options.now c.args.query.now c.args.start.now (g.W.Wire.state c.args.wire.now) (g.W.Wire.state c.close.new.wire) rise few fits c.write_result-ended.result (honestly g c history config honest)
+    (livelily g c history config honest alive) (λ e. none (c.write_result-ended.ensures.sink e))
+
+-- ---- links
 
 pub returns-clause-closed : goal.returns-clause-closed
-returns-clause-closed g c = (at-any c.solutions_rest_on_laws.ensures c.traffic_rests_on_laws.ensures (g.W.Wire.allows c.args.wire.now) c.args.options.now (g.W.Wire.state c.args.wire.now) (g.W.Wire.state c.write_result-ended.new.wire) (g.W.Wire.state c.close.new.wire) c.is_lawful.ensures c.args.start.now c.args.query.now c.new-asks.result c.write_result-ended.new.asks c.new-asks.ensures.empty c.close.ensures.closes c.write_result-ended.result _ _ _ c.write_result-ended.ensures.ok c.write_result-ended.ensures.err (λ report w. (report, w.rows, w.returns))).closed
+returns-clause-closed g c = (any g c).closed
 
 pub returns-clause-peers : goal.returns-clause-peers
-returns-clause-peers g c = (at-any c.solutions_rest_on_laws.ensures c.traffic_rests_on_laws.ensures (g.W.Wire.allows c.args.wire.now) c.args.options.now (g.W.Wire.state c.args.wire.now) (g.W.Wire.state c.write_result-ended.new.wire) (g.W.Wire.state c.close.new.wire) c.is_lawful.ensures c.args.start.now c.args.query.now c.new-asks.result c.write_result-ended.new.asks c.new-asks.ensures.empty c.close.ensures.closes c.write_result-ended.result _ _ _ c.write_result-ended.ensures.ok c.write_result-ended.ensures.err (λ report w. (report, w.rows, w.returns))).peers
+returns-clause-peers g c = (any g c).peers
 
 pub returns-clause-others : goal.returns-clause-others
-returns-clause-others g c = (at-any c.solutions_rest_on_laws.ensures c.traffic_rests_on_laws.ensures (g.W.Wire.allows c.args.wire.now) c.args.options.now (g.W.Wire.state c.args.wire.now) (g.W.Wire.state c.write_result-ended.new.wire) (g.W.Wire.state c.close.new.wire) c.is_lawful.ensures c.args.start.now c.args.query.now c.new-asks.result c.write_result-ended.new.asks c.new-asks.ensures.empty c.close.ensures.closes c.write_result-ended.result _ _ _ c.write_result-ended.ensures.ok c.write_result-ended.ensures.err (λ report w. (report, w.rows, w.returns))).others
+returns-clause-others g c = (any g c).others
 
 pub returns-clause-dials : goal.returns-clause-dials
-returns-clause-dials g c = (at-any c.solutions_rest_on_laws.ensures c.traffic_rests_on_laws.ensures (g.W.Wire.allows c.args.wire.now) c.args.options.now (g.W.Wire.state c.args.wire.now) (g.W.Wire.state c.write_result-ended.new.wire) (g.W.Wire.state c.close.new.wire) c.is_lawful.ensures c.args.start.now c.args.query.now c.new-asks.result c.write_result-ended.new.asks c.new-asks.ensures.empty c.close.ensures.closes c.write_result-ended.result _ _ _ c.write_result-ended.ensures.ok c.write_result-ended.ensures.err (λ report w. (report, w.rows, w.returns))).dials
+returns-clause-dials g c = (any g c).dials
 
 pub returns-clause-given : goal.returns-clause-given
-returns-clause-given g c = (at-any c.solutions_rest_on_laws.ensures c.traffic_rests_on_laws.ensures (g.W.Wire.allows c.args.wire.now) c.args.options.now (g.W.Wire.state c.args.wire.now) (g.W.Wire.state c.write_result-ended.new.wire) (g.W.Wire.state c.close.new.wire) c.is_lawful.ensures c.args.start.now c.args.query.now c.new-asks.result c.write_result-ended.new.asks c.new-asks.ensures.empty c.close.ensures.closes c.write_result-ended.result _ _ _ c.write_result-ended.ensures.ok c.write_result-ended.ensures.err (λ report w. (report, w.rows, w.returns))).given
+returns-clause-given g c = (any g c).given
+
+pub returns-clause-sent : goal.returns-clause-sent
+returns-clause-sent g c = (any g c).sent
+
+-- ---- requests
 
 pub returns-clause-answered : goal.returns-clause-answered
-returns-clause-answered g c = if-ok-from c.write_result-ended.result _ _ c.write_result-ended.ensures.ok (λ report w. at-answers c.solutions_rest_on_laws.ensures c.traffic_rests_on_laws.ensures (g.W.Wire.allows c.args.wire.now) c.args.options.now (g.W.Wire.state c.args.wire.now) (g.W.Wire.state c.write_result-ended.new.wire) (g.W.Wire.state c.close.new.wire) c.is_lawful.ensures c.args.start.now c.args.query.now c.new-asks.result c.write_result-ended.new.asks c.new-asks.ensures.empty c.close.ensures.closes report w.rows w.returns)
+returns-clause-answered g c = if-ok-from c.write_result-ended.result _ _ c.write_result-ended.ensures.ok (λ report w. (rows-exit c.solutions_rest_on_laws.ensures c.traffic_rests_on_laws.ensures (g.W.Wire.allows c.args.wire.now) c.args.options.now (g.W.Wire.state c.args.wire.now) (g.W.Wire.state c.close.new.wire) c.is_lawful.ensures c.args.start.now c.args.query.now report w.rows
+    (called (g.W.Wire.allows c.args.wire.now) c.args.options.now (g.W.Wire.state c.args.wire.now) (g.W.Wire.state c.write_result-ended.new.wire) (g.W.Wire.state c.close.new.wire) c.args.start.now c.args.query.now c.new-asks.result c.write_result-ended.new.asks c.new-asks.ensures.empty c.close.ensures.closes report w.rows w.returns)).answers)
 
 pub returns-clause-within : goal.returns-clause-within
-returns-clause-within g c = if-ok-from c.write_result-ended.result _ _ c.write_result-ended.ensures.ok (λ report w. (at-rows c.solutions_rest_on_laws.ensures c.traffic_rests_on_laws.ensures (g.W.Wire.allows c.args.wire.now) c.args.options.now (g.W.Wire.state c.args.wire.now) (g.W.Wire.state c.write_result-ended.new.wire) (g.W.Wire.state c.close.new.wire) c.is_lawful.ensures c.args.start.now c.args.query.now c.new-asks.result c.write_result-ended.new.asks c.new-asks.ensures.empty c.close.ensures.closes report w.rows w.returns).within)
+returns-clause-within g c = if-ok-from c.write_result-ended.result _ _ c.write_result-ended.ensures.ok (λ report w. (rows-exit c.solutions_rest_on_laws.ensures c.traffic_rests_on_laws.ensures (g.W.Wire.allows c.args.wire.now) c.args.options.now (g.W.Wire.state c.args.wire.now) (g.W.Wire.state c.close.new.wire) c.is_lawful.ensures c.args.start.now c.args.query.now report w.rows
+    (called (g.W.Wire.allows c.args.wire.now) c.args.options.now (g.W.Wire.state c.args.wire.now) (g.W.Wire.state c.write_result-ended.new.wire) (g.W.Wire.state c.close.new.wire) c.args.start.now c.args.query.now c.new-asks.result c.write_result-ended.new.asks c.new-asks.ensures.empty c.close.ensures.closes report w.rows w.returns)).within)
 
 pub returns-clause-dialled : goal.returns-clause-dialled
-returns-clause-dialled g c = if-ok-from c.write_result-ended.result _ _ c.write_result-ended.ensures.ok (λ report w. (at-rows c.solutions_rest_on_laws.ensures c.traffic_rests_on_laws.ensures (g.W.Wire.allows c.args.wire.now) c.args.options.now (g.W.Wire.state c.args.wire.now) (g.W.Wire.state c.write_result-ended.new.wire) (g.W.Wire.state c.close.new.wire) c.is_lawful.ensures c.args.start.now c.args.query.now c.new-asks.result c.write_result-ended.new.asks c.new-asks.ensures.empty c.close.ensures.closes report w.rows w.returns).dials)
+returns-clause-dialled g c = if-ok-from c.write_result-ended.result _ _ c.write_result-ended.ensures.ok (λ report w. (rows-exit c.solutions_rest_on_laws.ensures c.traffic_rests_on_laws.ensures (g.W.Wire.allows c.args.wire.now) c.args.options.now (g.W.Wire.state c.args.wire.now) (g.W.Wire.state c.close.new.wire) c.is_lawful.ensures c.args.start.now c.args.query.now report w.rows
+    (called (g.W.Wire.allows c.args.wire.now) c.args.options.now (g.W.Wire.state c.args.wire.now) (g.W.Wire.state c.write_result-ended.new.wire) (g.W.Wire.state c.close.new.wire) c.args.start.now c.args.query.now c.new-asks.result c.write_result-ended.new.asks c.new-asks.ensures.empty c.close.ensures.closes report w.rows w.returns)).dials)
 
 pub returns-clause-linked : goal.returns-clause-linked
-returns-clause-linked g c = if-ok-from c.write_result-ended.result _ _ c.write_result-ended.ensures.ok (λ report w. (at-rows c.solutions_rest_on_laws.ensures c.traffic_rests_on_laws.ensures (g.W.Wire.allows c.args.wire.now) c.args.options.now (g.W.Wire.state c.args.wire.now) (g.W.Wire.state c.write_result-ended.new.wire) (g.W.Wire.state c.close.new.wire) c.is_lawful.ensures c.args.start.now c.args.query.now c.new-asks.result c.write_result-ended.new.asks c.new-asks.ensures.empty c.close.ensures.closes report w.rows w.returns).given)
+returns-clause-linked g c = if-ok-from c.write_result-ended.result _ _ c.write_result-ended.ensures.ok (λ report w. (rows-exit c.solutions_rest_on_laws.ensures c.traffic_rests_on_laws.ensures (g.W.Wire.allows c.args.wire.now) c.args.options.now (g.W.Wire.state c.args.wire.now) (g.W.Wire.state c.close.new.wire) c.is_lawful.ensures c.args.start.now c.args.query.now report w.rows
+    (called (g.W.Wire.allows c.args.wire.now) c.args.options.now (g.W.Wire.state c.args.wire.now) (g.W.Wire.state c.write_result-ended.new.wire) (g.W.Wire.state c.close.new.wire) c.args.start.now c.args.query.now c.new-asks.result c.write_result-ended.new.asks c.new-asks.ensures.empty c.close.ensures.closes report w.rows w.returns)).given)
 
 pub returns-clause-requests : goal.returns-clause-requests
-returns-clause-requests g c = λ history config honest. if-ok-from c.write_result-ended.result _ _ c.write_result-ended.ensures.ok (λ report w. at-requests c.solutions_rest_on_laws.ensures c.traffic_rests_on_laws.ensures (g.W.Wire.allows c.args.wire.now) c.args.options.now (g.W.Wire.state c.args.wire.now) (g.W.Wire.state c.write_result-ended.new.wire) (g.W.Wire.state c.close.new.wire) c.is_lawful.ensures c.args.start.now c.args.query.now c.new-asks.result c.write_result-ended.new.asks c.new-asks.ensures.empty c.close.ensures.closes history config honest c.new-asks.ensures.limit report w.rows w.returns)
+returns-clause-requests g c = λ history config honest. if-ok-from c.write_result-ended.result _ _ c.write_result-ended.ensures.ok (λ report w. requests-so c.solutions_rest_on_laws.ensures c.traffic_rests_on_laws.ensures (g.W.Wire.allows c.args.wire.now) c.args.options.now (g.W.Wire.state c.args.wire.now) (g.W.Wire.state c.close.new.wire) c.is_lawful.ensures c.args.start.now history config honest c.new-asks.ensures.limit c.args.query.now report
+    (at-whole (g.W.Wire.allows c.args.wire.now) c.args.options.now (g.W.Wire.state c.args.wire.now) (g.W.Wire.state c.write_result-ended.new.wire) (g.W.Wire.state c.close.new.wire) c.args.start.now c.args.query.now c.new-asks.result c.write_result-ended.new.asks c.new-asks.ensures.empty c.close.ensures.closes
+    c.solutions_rest_on_laws.ensures c.is_lawful.ensures history config honest c.new-asks.ensures.limit report w.rows w.returns))
 
 pub returns-clause-planned : goal.returns-clause-planned
-returns-clause-planned g c = λ history config honest. at-dials c.solutions_rest_on_laws.ensures c.traffic_rests_on_laws.ensures (g.W.Wire.allows c.args.wire.now) c.args.options.now (g.W.Wire.state c.args.wire.now) (g.W.Wire.state c.write_result-ended.new.wire) (g.W.Wire.state c.close.new.wire) c.is_lawful.ensures c.args.start.now c.args.query.now c.new-asks.result c.write_result-ended.new.asks c.new-asks.ensures.empty c.close.ensures.closes history config honest c.new-asks.ensures.limit c.write_result-ended.result _ _ _ c.write_result-ended.ensures.ok c.write_result-ended.ensures.err (λ report w. (report, w.rows, w.returns))
+returns-clause-planned g c = λ history config honest. dials-so c.solutions_rest_on_laws.ensures c.traffic_rests_on_laws.ensures (g.W.Wire.allows c.args.wire.now) c.args.options.now (g.W.Wire.state c.args.wire.now) (g.W.Wire.state c.close.new.wire) c.is_lawful.ensures c.args.start.now history config honest c.new-asks.ensures.limit c.args.query.now (planned g c history config honest)
+
+pub returns-clause-asked : goal.returns-clause-asked
+returns-clause-asked g c = λ history config honest. asks-plan c.solutions_rest_on_laws.ensures c.traffic_rests_on_laws.ensures (g.W.Wire.allows c.args.wire.now) c.args.options.now (g.W.Wire.state c.args.wire.now) (g.W.Wire.state c.close.new.wire) c.is_lawful.ensures c.args.start.now history config honest c.new-asks.ensures.limit c.args.query.now (planned g c history config honest)
+
+pub returns-clause-counted : goal.returns-clause-counted
+returns-clause-counted g c = λ history config honest alive. counts-so c.solutions_rest_on_laws.ensures c.traffic_rests_on_laws.ensures (g.W.Wire.allows c.args.wire.now) c.args.options.now (g.W.Wire.state c.args.wire.now) (g.W.Wire.state c.close.new.wire) c.is_lawful.ensures c.args.start.now history config honest c.new-asks.ensures.limit c.args.query.now alive (planned g c history config honest)
+
+pub returns-clause-paced : goal.returns-clause-paced
+returns-clause-paced g c = λ history config honest alive. if-ok-from c.write_result-ended.result _ _ c.write_result-ended.ensures.ok (λ report w.
+    let x = at-whole (g.W.Wire.allows c.args.wire.now) c.args.options.now (g.W.Wire.state c.args.wire.now) (g.W.Wire.state c.write_result-ended.new.wire) (g.W.Wire.state c.close.new.wire) c.args.start.now c.args.query.now c.new-asks.result c.write_result-ended.new.asks c.new-asks.ensures.empty c.close.ensures.closes
+    c.solutions_rest_on_laws.ensures c.is_lawful.ensures history config honest c.new-asks.ensures.limit report w.rows w.returns in
+    paces-so c.solutions_rest_on_laws.ensures c.traffic_rests_on_laws.ensures (g.W.Wire.allows c.args.wire.now) c.args.options.now (g.W.Wire.state c.args.wire.now) (g.W.Wire.state c.close.new.wire) c.is_lawful.ensures c.args.start.now history config honest c.new-asks.ensures.limit c.args.query.now alive report x)
+
+pub returns-clause-unprovoked : goal.returns-clause-unprovoked
+returns-clause-unprovoked g c = λ history config honest. unprovoked-so c.solutions_rest_on_laws.ensures c.traffic_rests_on_laws.ensures (g.W.Wire.allows c.args.wire.now) c.args.options.now (g.W.Wire.state c.args.wire.now) (g.W.Wire.state c.close.new.wire) c.is_lawful.ensures c.args.start.now history config honest c.new-asks.ensures.limit c.args.query.now c.requires.some (planned g c history config honest)
+
+pub returns-clause-requested : goal.returns-clause-requested
+returns-clause-requested g c = λ history config honest. requests-plan c.solutions_rest_on_laws.ensures c.traffic_rests_on_laws.ensures (g.W.Wire.allows c.args.wire.now) c.args.options.now (g.W.Wire.state c.args.wire.now) (g.W.Wire.state c.close.new.wire) c.is_lawful.ensures c.args.start.now history config honest c.new-asks.ensures.limit c.args.query.now (planned g c history config honest)
+
+pub returns-clause-replied : goal.returns-clause-replied
+returns-clause-replied g c = λ history config honest. if-ok-from c.write_result-ended.result _ _ c.write_result-ended.ensures.ok (λ report w. answers-plan c.solutions_rest_on_laws.ensures c.traffic_rests_on_laws.ensures (g.W.Wire.allows c.args.wire.now) c.args.options.now (g.W.Wire.state c.args.wire.now) (g.W.Wire.state c.close.new.wire) c.is_lawful.ensures c.args.start.now history config honest c.new-asks.ensures.limit c.args.query.now report
+    (at-whole (g.W.Wire.allows c.args.wire.now) c.args.options.now (g.W.Wire.state c.args.wire.now) (g.W.Wire.state c.write_result-ended.new.wire) (g.W.Wire.state c.close.new.wire) c.args.start.now c.args.query.now c.new-asks.result c.write_result-ended.new.asks c.new-asks.ensures.empty c.close.ensures.closes
+    c.solutions_rest_on_laws.ensures c.is_lawful.ensures history config honest c.new-asks.ensures.limit report w.rows w.returns))

@@ -9,6 +9,7 @@ returns c = record {
   given = c.pages_are_answered.ensures.given;
   answered = c.pages_are_answered.ensures.answered;
   only = c.controls_read_back.ensures.only;
+  never_both = c.a_body_is_one_page.ensures.never_both;
   worlds = c.a_server_is_a_world.ensures.world;
   forms = c.a_server_is_a_world.ensures.form;
   pages = c.a_server_is_a_world.ensures.pages;

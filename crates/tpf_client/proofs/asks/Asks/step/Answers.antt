@@ -3,7 +3,7 @@ use Rattle.std.proofs.Common.{ap, sym, subst, ◌∙◌}
 use Rattle.request_pool.specs.Pools.{Pooled}
 use Rattle.tpf_client.specs.Traffic.{Came, Waited, Broke, Moves}
 use Rattle.tpf_client.proofs.Traveling.{lawful-allowed}
-use Rattle.tpf_client.proofs.Books.{came-moves, came-book, came-found, waits-move, waits-book, break-moves}
+use Rattle.tpf_client.proofs.Books.{came-moves, came-book, came-found, waits-move, waits-some, waits-book, break-moves, breaks-some}
 use Rattle.tpf_client.proofs.asks.Asks.step.Goals as goal
 
 pub unreachable-requires : goal.unreachable-requires
@@ -43,7 +43,7 @@ returns-in-Waited-clause-steps g c =
     let wire' = g.W.Wire.state c.step-stepped.new.wire in
     subst (λ (p : Pooled). Moves allows Waited p c.step-stepped.new.self wire wire') c.self.view_is
     (waits-move allows c.self.inside.pool c.step-stepped.new.self wire wire' c.in-Ok.stepped c.self.inside.addresses c.in-Waited.is
-    (c.in-Ok.ensures.ok f) (c.in-Ok.ensures.holds f) (c.self.invariant f) f (c.in-Ok.ensures.no_fault f) c.in-Ok.ensures.suits c.in-Ok.ensures.bounds
+    (waits-some allows c.self.inside.pool c.step-stepped.new.self wire wire' c.in-Ok.stepped c.in-Waited.is (c.in-Ok.ensures.idle f)) (c.in-Ok.ensures.ok f) (c.in-Ok.ensures.holds f) (c.self.invariant f) f (c.in-Ok.ensures.no_fault f) c.in-Ok.ensures.suits c.in-Ok.ensures.bounds
     (lawful-allowed allows (g.W.Wire.allows c.step-stepped.new.wire) wire' c.in-Ok.ensures.allowed c.is_lawful.ensures))
 
 pub returns-in-Err-clause-steps : goal.returns-in-Err-clause-steps
@@ -55,7 +55,7 @@ returns-in-Err-clause-steps g c =
     let h = c.in-Err.ensures.err f in (
       h.0,
       subst (λ (p : Pooled). Moves allows (Broke h.0) p c.step-stepped.new.self wire wire') c.self.view_is
-          (break-moves allows c.self.inside.pool c.step-stepped.new.self wire wire' h.0 h.1 f h.2 c.in-Err.ensures.suits c.in-Err.ensures.bounds
+          (break-moves allows c.self.inside.pool c.step-stepped.new.self wire wire' h.0 (breaks-some allows c.self.inside.pool c.step-stepped.new.self wire wire' c.in-Err.fault (c.in-Err.ensures.idle f)) h.1 f h.2 c.in-Err.ensures.suits c.in-Err.ensures.bounds
           (lawful-allowed allows (g.W.Wire.allows c.step-stepped.new.wire) wire' c.in-Err.ensures.allowed c.is_lawful.ensures)),
       h.3,
     )
