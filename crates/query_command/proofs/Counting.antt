@@ -1,8 +1,16 @@
 -- What a call over the wire to the server of generated data says.
-use Rattle.std.proofs.Common.{ℕ, ◌≡◌, ◌≤◌, List, length, Option, None, Result, Ok, Err, IfOk, IfErr, refl, sym, ap, subst, ◌∙◌, arith}
+use Rattle.std.proofs.Common.{ℕ, ◌≡◌, ◌≤◌, ◌<◌, ◌^◌, List, length, codes, Option, None, Some, Result, Ok, Err, IfOk, IfErr, refl, sym, ap, subst, ◌∙◌, arith}
+use Rattle.std.specs.List.{AllByRecursion}
+use Rattle.rdf_terms.specs.declared.term.Triple.{Triple}
+use Rattle.template_fill.specs.Metadata.{Config}
+use Rattle.triple_table.specs.declared.choice.Choice.TheVariants.{DefaultGraph}
+use Rattle.triple_table.specs.Chosen.{chosen}
+use Rattle.triple_table.specs.Served.{IsServed}
+use Rattle.generated_data.specs.Generated.{generated}
+use Rattle.plan_laws.specs.Fitting.{AreServable, IsAskable}
 use Rattle.std.proofs.lemmas.List.Sorted.{length_permutation}
 use Rattle.tpf_base.specs.Causes.{Rose, counted_by}
-use Rattle.bgp_core.specs.Queries.{QueryData}
+use Rattle.bgp_core.specs.Queries.{QueryData, IsValidPattern}
 use Rattle.loop_wire.specs.Looped.{Looped}
 use Rattle.fragment_server.specs.declared.server.FragmentServer.{FragmentServer}
 use Rattle.generated_server.specs.Starts.{StartsGenerated}
@@ -23,7 +31,13 @@ use Rattle.query_command.specs.declared.fault.AnswerFault.TheVariants as faults
 use Rattle.query_command.specs.declared.generated_query.Counts.{Counts}
 use Rattle.query_command.specs.Answers.{WritesOver, FailsOver, IsReading, GivesAnswer}
 use Rattle.query_command.specs.Generated.{usual_options, CountsQuery, LoopsGenerated, AsksOver, FailsOn, GeneratedAnswers, GeneratedCause}
+use Rattle.query_command.specs.Limits.{GeneratedAreServable, QueriesAreAskable}
+use Rattle.query_command.specs.Plans.{SendsPlan, SendsInside, MayEnd, OfGenerated}
 use Rattle.query_command.specs.Loops.{LoopsServer, WritesAnswer, local_base, local_config, allows_of, wire_of, begun}
+
+-- the served data are one list
+abbrev pub OneServed : Type 0
+OneServed = (authority : List ℕ) (triples xs ys : List Triple) → IsServed authority triples xs → IsServed authority triples ys → xs ≡ ys
 
 pub in_bounds : (options : Options) → options ≡ usual_options → (1 ≤ options.window) × (1 ≤ options.links) × (options.links ≤ 256)
 in_bounds options is = subst (λ (o : Options). (1 ≤ o.window) × (1 ≤ o.links) × (o.links ≤ 256)) (sym is) (omega arith, omega arith, omega arith)
@@ -56,7 +70,17 @@ module _ (server : FragmentServer) (persons : ℕ) (starts : StartsGenerated per
       loops = record { after = l.after; is_inside = l.is_inside; says = subst (λ (o : Options). FailsOver (allows_of (begun server 0 0)) q local_base o fault (wire_of (begun server 0 0)) (wire_of l.after) 0 0 None None) is l.says };
     }
 
+    -- how the call may end
+    pub may_fail : (fault : ClientFault) → (AreServable (serving server).data_set → AllByRecursion IsAskable q.patterns → options.budget < 2 ^ 63 → MayEnd 0 options (serving server).data_set (serving server).config q fault)
+        → AreServable (serving server).data_set → AllByRecursion IsAskable q.patterns → MayEnd 0 usual_options (serving server).data_set (serving server).config q fault
+    may_fail fault ends servable askable =
+        subst (λ (o : Options). MayEnd 0 o (serving server).data_set (serving server).config q fault) is
+        (ends servable askable (subst (λ (o : Options). o.budget < 2 ^ 63) (sym is) (omega arith)))
+
 -- ---- of the query of a file
+
+same_query : (one other : QueryData) → reads one ≡ reads other → one ≡ other
+same_query one other e = cc
 
 never_rose : Rose 0 0 → ⊥
 never_rose h = omega (arith, h)
@@ -74,6 +98,31 @@ module _ (told : Option Files) (persons : ℕ) (name : List ℕ) (inside : Optio
       λ e. never_rose (l.loops.says.sink e),
       record { server = l.server; starts = l.starts; loops = record { after = l.loops.after; is_inside = l.loops.is_inside; says = record { q = q; is_read = is_read; writes = l.loops.says } } },
     )
+
+  -- what holds of the data that were made and the query that was read holds of all data and queries that the files hold
+  module _ (server : FragmentServer) (starts : StartsGenerated persons (local_config 100) (serving server)) (q : QueryData) (is_read : IfTold told (λ files. HoldsQuery files name q)) (one_served : OneServed) where
+    of_both : (P : List Triple → Config → QueryData → Type 0) (files : Files) → told ≡ Some files → (triples : List Triple) (asked : QueryData) → IsServed (codes "localhost") (chosen DefaultGraph (generated persons)) triples → HoldsQuery files name asked
+        → P (serving server).data_set (serving server).config q → P triples (local_config 100) asked
+    of_both P files is triples asked serves holds h =
+        subst (λ (x : QueryData). P triples (local_config 100) x) (same_query q asked (one_query files name (reads q) (reads asked) (is_read files is) holds))
+        (subst (λ (c : Config). P triples c q) starts.config_is
+        (subst (λ (ts : List Triple). P ts (serving server).config q) (one_served (codes "localhost") (chosen DefaultGraph (generated persons)) (serving server).data_set triples starts.data_set serves) h))
+
+    pub generated_sent : LoopsServer server 0 0 inside (λ old new. SendsPlan (serving server).data_set (serving server).config q (wire_of new)) → OfGenerated told persons name (λ triples asked. SendsInside inside triples (local_config 100) asked)
+    generated_sent l = λ files is triples asked serves holds.
+        subst (λ (made : Option (Looped FragmentServer)). SendsInside made triples (local_config 100) asked) (sym l.is_inside)
+        (of_both (λ (ts : List Triple) (c : Config) (x : QueryData). SendsPlan ts c x (wire_of l.after)) files is triples asked serves holds l.says)
+
+    pub generated_ends : GeneratedAreServable → QueriesAreAskable → persons ≤ 1000000 → AllByRecursion IsValidPattern q.patterns → (fault : ClientFault)
+        → (AreServable (serving server).data_set → AllByRecursion IsAskable q.patterns → MayEnd 0 usual_options (serving server).data_set (serving server).config q fault)
+        → OfGenerated told persons name (λ triples asked. MayEnd 0 usual_options triples (local_config 100) asked fault)
+    generated_ends data_law query_law most valid fault ends = λ files is triples asked serves holds.
+        of_both (λ (ts : List Triple) (c : Config) (x : QueryData). MayEnd 0 usual_options ts c x fault) files is triples asked serves holds
+        (ends (data_law persons (serving server).data_set most starts.data_set) (query_law files name q (is_read files is) valid))
+
+  -- where no wire was made nothing was sent
+  pub none_sent : inside ≡ None → OfGenerated told persons name (λ triples q. SendsInside inside triples (local_config 100) q)
+  none_sent none = λ files is triples q serves holds. subst (λ (made : Option (Looped FragmentServer)). SendsInside made triples (local_config 100) q) (sym none) tt
 
   -- what the file holds is the query that was read
   pub answers_read : (counts : Counts) → GeneratedAnswers told persons name inside counts → IfTold told (λ files. (outcome : QueryOutcome) → IsQueryOutcome files name outcome → IsReading outcome)

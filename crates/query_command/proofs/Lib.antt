@@ -4,3 +4,8 @@ pub mod Honest
 pub mod Looping
 pub mod Locals
 pub mod Counting
+pub mod Failing
+pub mod Fitting
+pub mod Planned
+pub mod Bounded
+pub mod Complete

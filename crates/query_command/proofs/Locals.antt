@@ -1,21 +1,47 @@
 -- What is said of the wire to a server is said of the files of a command.
-use Rattle.std.proofs.Common.{ℕ, ◌≡◌, ◌≤◌, List, Option, subst, arith}
+use Rattle.std.proofs.Common.{ℕ, ◌≡◌, ◌≤◌, ◌<◌, ◌^◌, [], ◌∷◌, List, Option, None, Some, Result, codes, sym, subst, arith}
+use Rattle.std.specs.List.{AllByRecursion}
+use Rattle.rdf_terms.specs.declared.term.Triple.{Triple}
+use Rattle.template_fill.specs.Metadata.{Config}
 use Rattle.tpf_base.specs.Causes.{Rose}
 use Rattle.tpf_base.specs.Rises.{RoseBy-within}
 use Rattle.loop_wire.specs.Looped.{Looped}
 use Rattle.fragment_server.specs.declared.server.FragmentServer.{FragmentServer}
-use Rattle.bgp_core.specs.Queries.{QueryData}
+use Rattle.bgp_core.specs.declared.pattern.Pattern.{Pattern}
+use Rattle.bgp_core.specs.Queries.{QueryData, IsValidPattern}
+use Rattle.plan_laws.specs.Fitting.{AreServable, IsAskable}
 use Rattle.tpf_client.specs.declared.options.Report.{Report}
 use Rattle.tpf_client.specs.declared.fault.ClientFault.{ClientFault}
 use Rattle.data_files.specs.declared.fault.QueryFileFault.{QueryFileFault}
 use Rattle.data_files.specs.declared.fault.QueryFileFault.TheVariants as query_faults
-use Rattle.data_files.specs.Data.{Files, IfTold}
-use Rattle.data_files.specs.Queries.{HoldsQuery, HasQueryFault}
+use Rattle.data_files.specs.Data.{Files, IfTold, served}
+use Rattle.data_files.specs.Queries.{HoldsQuery, HasQueryFault, reads}
+use Rattle.data_files.proofs.Outcomes.{one_outcome, one_query}
 use Rattle.data_files.specs.Causes.{QueryCause}
 use Rattle.file_server.specs.Servers.{Starts, serving}
 use Rattle.query_command.specs.declared.fault.AnswerFault.TheVariants as faults
 use Rattle.query_command.specs.Answers.{WritesOver, FailsOver}
-use Rattle.query_command.specs.Loops.{LocalView, LoopsServer, WritesAnswer, WritesAnswerFront, LocalAnswers, LocalCause, allows_of, wire_of, local_base, local_config}
+use Rattle.query_command.specs.Limits.{FilesAreServable, QueriesAreAskable}
+use Rattle.tpf_client.specs.Requested.{AnswersPlan}
+use Rattle.query_command.specs.Plans.{SendsPlan, SendsInside, RepliedInside, EndsAsPlanned, OfFiles}
+use Rattle.query_command.specs.Loops.{LocalView, LoopsServer, WritesAnswer, WritesAnswerFront, LocalAnswers, LocalCause, allows_of, wire_of, begun, local_base, local_config}
+
+same_data : (one other : List Triple) → served one ≡ served other → one ≡ other
+same_data one other e = cc
+
+same_query : (one other : QueryData) → reads one ≡ reads other → one ≡ other
+same_query one other e = cc
+
+-- the patterns of a query are valid
+pub valid_read : (q : QueryData) (patterns : List Pattern) → patterns ≡ q.patterns → AllByRecursion IsValidPattern patterns → AllByRecursion IsValidPattern q.patterns
+valid_read q patterns same h = subst (AllByRecursion IsValidPattern) same h
+
+-- what holds of what was read holds of what the files hold
+of_both : (view : LocalView) (own triples : List Triple) (config : Config) (q asked : QueryData) (P : List Triple → Config → QueryData → Type 0) → served own ≡ served triples → config ≡ local_config view.page_size → reads q ≡ reads asked
+    → P own config q → P triples (local_config view.page_size) asked
+of_both view own triples config q asked P d c r h =
+    subst (λ (x : QueryData). P triples (local_config view.page_size) x) (same_query q asked r)
+    (subst (λ (s : Config). P triples s q) c (subst (λ (ts : List Triple). P ts config q) (same_data own triples d) h))
 
 module _ (told told' : Option Files) (same : told' ≡ told) (view : LocalView) (server : FragmentServer) (starts : Starts told view.name view.choice (local_config view.page_size) (serving server)) (inside : Option (Looped FragmentServer)) (taken taken' : Option (List ℕ)) where
   module _ (q : QueryData) (is_read : IfTold told' (λ files. HoldsQuery files view.query q)) where
@@ -37,6 +63,46 @@ module _ (told told' : Option Files) (same : told' ≡ told) (view : LocalView) 
       record { triples = (serving server).data_set; is_served = starts.data_set; q = q; is_read = read; writes = w },
       record { server = server; starts = starts; loops = record { after = l.after; is_inside = l.is_inside; says = record { q = q; is_read = read; writes = l.says } } },
     )
+
+    -- of both files
+    module _ (files_law : FilesAreServable) (query_law : QueriesAreAskable) (valid : AllByRecursion IsValidPattern q.patterns) where
+      pub local_ends : (result : Result Report ClientFault)
+          → (AreServable (serving server).data_set → AllByRecursion IsAskable q.patterns → view.options.budget < 2 ^ 63 → EndsAsPlanned view.fail_every view.options (serving server).data_set (serving server).config q result)
+          → view.options.budget < 2 ^ 63 → OfFiles told view (λ triples asked. EndsAsPlanned view.fail_every view.options triples (local_config view.page_size) asked result)
+      local_ends result ends small = λ files is triples asked serves holds.
+          let own = starts.data_set files is in
+          let there = read files is in
+          of_both view (serving server).data_set triples (serving server).config q asked (λ (ts : List Triple) (c : Config) (x : QueryData). EndsAsPlanned view.fail_every view.options ts c x result)
+          (one_outcome files view.name view.choice (codes "localhost") (served (serving server).data_set) (served triples) own serves) starts.config_is (one_query files view.query (reads q) (reads asked) there holds)
+          (ends (files_law files view.name view.choice (serving server).data_set own) (query_law files view.query q there valid) small)
+
+    pub local_sent : LoopsServer server view.seed view.fail_every inside (λ old new. SendsPlan (serving server).data_set (serving server).config q (wire_of new)) → OfFiles told view (λ triples asked. SendsInside inside triples (local_config view.page_size) asked)
+    local_sent l = λ files is triples asked serves holds.
+        let own = starts.data_set files is in
+        let there = read files is in
+        subst (λ (made : Option (Looped FragmentServer)). SendsInside made triples (local_config view.page_size) asked) (sym l.is_inside)
+        (of_both view (serving server).data_set triples (serving server).config q asked (λ (ts : List Triple) (c : Config) (x : QueryData). SendsPlan ts c x (wire_of l.after))
+        (one_outcome files view.name view.choice (codes "localhost") (served (serving server).data_set) (served triples) own serves) starts.config_is (one_query files view.query (reads q) (reads asked) there holds) l.says)
+
+    pub local_replied : (report : Report) → LoopsServer server view.seed view.fail_every inside (λ old new. AnswersPlan ((serving server).data_set ∷ []) (serving server).config view.options q local_base report (wire_of old) (wire_of new))
+        → OfFiles told view (RepliedInside told view inside report)
+    local_replied report l = λ files is triples asked serves holds.
+        let own = starts.data_set files is in
+        let there = read files is in
+        record {
+          server = server;
+          starts = starts;
+          loops = record {
+            after = l.after;
+            is_inside = l.is_inside;
+            says = of_both view (serving server).data_set triples (serving server).config q asked (λ (ts : List Triple) (c : Config) (x : QueryData). AnswersPlan (ts ∷ []) c view.options x local_base report (wire_of (begun server view.seed view.fail_every)) (wire_of l.after))
+                (one_outcome files view.name view.choice (codes "localhost") (served (serving server).data_set) (served triples) own serves) starts.config_is (one_query files view.query (reads q) (reads asked) there holds) l.says;
+          };
+        }
+
+-- where no wire was made nothing was sent
+pub none_sent : (told : Option Files) (view : LocalView) (inside : Option (Looped FragmentServer)) → inside ≡ None → OfFiles told view (λ triples q. SendsInside inside triples (local_config view.page_size) q)
+none_sent told view inside none = λ files is triples q serves holds. subst (λ (made : Option (Looped FragmentServer)). SendsInside made triples (local_config view.page_size) q) (sym none) tt
 
 -- the fault of the query, from before the data were read
 pub query_from : (told told' : Option Files) → told' ≡ told → (name : List ℕ) (shelf mid shelf' : ℕ) (fault : QueryFileFault) → shelf ≤ mid → QueryCause told' name mid shelf' fault → QueryCause told name shelf shelf' fault

@@ -1,5 +1,5 @@
 -- What a call over the wire that was made for a server says.
-use Rattle.std.proofs.Common.{ℕ, ◌≡◌, ◌<◌, ◌^◌, ◌∷◌, [], List, length, Option, Some, Result, Ok, Err, IfOk, IfErr, OnErr, refl, sym, ap, subst}
+use Rattle.std.proofs.Common.{ℕ, ◌≡◌, ◌<◌, ◌^◌, ◌∷◌, [], true, List, length, Option, Some, Result, Ok, Err, IfOk, IfErr, OnErr, refl, sym, ap, subst}
 use Rattle.rdf_terms.specs.declared.term.Triple.{Triple}
 use Rattle.tpf_base.specs.Addresses.{Address}
 use Rattle.tpf_base.specs.Causes.{Rose}
@@ -15,9 +15,12 @@ use Rattle.tpf_client.specs.declared.fault.ClientFault.{ClientFault}
 use Rattle.tpf_client.specs.declared.fault.ClientFault.TheVariants as clients
 use Rattle.tpf_client.specs.Calls.{RunsPool, WritesResult, WritesPrefix, WritesAll, WritesSome, IsCause}
 use Rattle.tpf_client.specs.Honest.{IsHonestWire, WritesSolutions, WritesSolutionsFront}
+use Rattle.tpf_client.specs.Requests.{AnswersAll, RequestsAreTries}
+use Rattle.tpf_client.specs.Requested.{AnswersPlan}
+use Rattle.tpf_client.specs.Plans.{OverHonest, OverLively, PacesRequests, IsHonestCause, IsLivelyCause, RisesFew, PlanFits, MayStill}
 use Rattle.file_server.specs.Servers.{serving}
 use Rattle.tpf_server.specs.Serving as core
-use Rattle.query_command.specs.Answers.{WritesOver, FailsOver}
+use Rattle.query_command.specs.Answers.{KeepsToPlan, WritesOver, FailsOver}
 use Rattle.query_command.specs.Loops.{LoopsServer, WritesAnswer, WritesAnswerFront, allows_of, wire_of, begun}
 use Rattle.query_command.proofs.Honest.{honest_wire, answer_of_one, front_of_one}
 
@@ -29,23 +32,29 @@ pub config_served : (server : FragmentServer) (inner : core.Serving) → inner �
 config_served server inner is h = subst (λ (s : core.Serving). IsConfig s.config) is h
 
 module _ (server : FragmentServer) (seed fail_every : ℕ) (old after : Looped FragmentServer) (is : old ≡ begun server seed fail_every) (q : QueryData) (asked start : Address) (same : asked ≡ start) (options : Options) (out out' : ℕ) (taken taken' : Option (List ℕ)) where
-  abbrev Wrote : Looped FragmentServer → Report → Type 0
-  Wrote wire report = WritesOver (allows_of wire) q start options report (wire_of wire) (wire_of after) taken taken'
+  abbrev Wrote : Looped FragmentServer → Address → Report → Type 0
+  Wrote wire at report = WritesOver (allows_of wire) q at options report (wire_of wire) (wire_of after) taken taken'
 
-  abbrev Failed : Looped FragmentServer → ClientFault → Type 0
-  Failed wire fault = FailsOver (allows_of wire) q start options fault (wire_of wire) (wire_of after) out out' taken taken'
+  abbrev Failed : Looped FragmentServer → Address → ClientFault → Type 0
+  Failed wire at fault = FailsOver (allows_of wire) q at options fault (wire_of wire) (wire_of after) out out' taken taken'
 
   pub loops_ok : (result : Result Report ClientFault)
       → IfOk result (λ report. WritesResult q report.rows taken taken')
       → IfOk result (λ report. WritesAll (RunsPool (allows_of old) options (wire_of old) (wire_of after)) q asked report taken taken')
       → ((history : List (List Triple)) (config : Config) → IsHonestWire (allows_of old) history config (wire_of old) → IfOk result (λ report. WritesSolutions history q report.version report.rows taken taken'))
+      → KeepsToPlan (allows_of old) q asked options (wire_of old) (wire_of after)
+      → IfOk result (λ report. AnswersAll (allows_of old) options asked report.requests (wire_of old) (wire_of after))
+      → OverHonest (allows_of old) (wire_of old) (λ history config. IfOk result (λ report. RequestsAreTries history config options q asked report))
+      → OverLively (allows_of old) (wire_of old) (λ history config. IfOk result (λ report. PacesRequests history config q asked report (wire_of old) (wire_of after)))
+      → OverHonest (allows_of old) (wire_of old) (λ history config. IfOk result (λ report. AnswersPlan history config options q asked report (wire_of old) (wire_of after)))
       → IfOk result (λ report. LoopsServer server seed fail_every (Some after) (λ wire wire'. WritesOver (allows_of wire) q start options report (wire_of wire) (wire_of wire') taken taken'))
-  loops_ok (Ok report) whole all headline = record {
+  loops_ok (Ok report) whole all headline plan answered tries paced replied = record {
     after = after;
     is_inside = refl;
-    says = subst (λ (wire : Looped FragmentServer). Wrote wire report) is (record { whole = whole; writes = subst (λ (at : Address). WritesAll (RunsPool (allows_of old) options (wire_of old) (wire_of after)) q at report taken taken') same all; headline = headline });
+    says = subst (λ (wire : Looped FragmentServer). Wrote wire start report) is
+        (subst (λ (at : Address). Wrote old at report) same (record { whole = whole; writes = all; headline = headline; plan = plan; answered = answered; tries = tries; paced = paced; replied = replied }));
   }
-  loops_ok (Err fault) whole all headline = tt
+  loops_ok (Err fault) whole all headline plan answered tries paced replied = tt
 
   pub loops_err : (result : Result Report ClientFault)
       → OnErr result (WritesPrefix q taken taken')
@@ -53,13 +62,34 @@ module _ (server : FragmentServer) (seed fail_every : ℕ) (old after : Looped F
       → ((history : List (List Triple)) (config : Config) → IsHonestWire (allows_of old) history config (wire_of old) → OnErr result (WritesSolutionsFront history q taken taken'))
       → IfErr result (IsCause (allows_of old) options (wire_of old) (wire_of after))
       → (result ≡ Err clients.Sink → Rose out out')
+      → KeepsToPlan (allows_of old) q asked options (wire_of old) (wire_of after)
+      → OverHonest (allows_of old) (wire_of old) (λ history config. IfErr result (IsHonestCause history config options q asked))
+      → OverLively (allows_of old) (wire_of old) (λ history config. IfErr result (IsLivelyCause history config options q asked (wire_of old) (wire_of after)))
+      → OverHonest (allows_of old) (wire_of old) (λ history config. (wire_of old).nature.lively ≡ true → (rise : ℕ) → RisesFew options rise (wire_of old) (wire_of after) → PlanFits history config options q asked rise → (Rose out out' → ⊥) → IfErr result (MayStill history))
       → IfErr result (λ fault. LoopsServer server seed fail_every (Some after) (λ wire wire'. FailsOver (allows_of wire) q start options fault (wire_of wire) (wire_of wire') out out' taken taken'))
-  loops_err (Ok report) front some headline cause sink = tt
-  loops_err (Err fault) front some headline cause sink = record {
+  loops_err (Ok report) front some headline cause sink plan honest_cause lively_cause complete = tt
+  loops_err (Err fault) front some headline cause sink plan honest_cause lively_cause complete = record {
     after = after;
     is_inside = refl;
-    says = subst (λ (wire : Looped FragmentServer). Failed wire fault) is (record { front = front; writes = subst (λ (at : Address). WritesSome (RunsPool (allows_of old) options (wire_of old) (wire_of after)) q at options.budget fault taken taken') same some; headline = headline; cause = cause; sink = λ e. sink (ap Err e) });
+    says = subst (λ (wire : Looped FragmentServer). Failed wire start fault) is
+        (subst (λ (at : Address). Failed old at fault) same (record {
+          front = front;
+          writes = some;
+          headline = headline;
+          cause = cause;
+          sink = λ e. sink (ap Err e);
+          plan = plan;
+          honest_cause = honest_cause;
+          lively_cause = lively_cause;
+          complete = complete;
+        }));
   }
+
+  -- what was kept to over the wire as it was made
+  pub keeps : KeepsToPlan (allows_of old) q asked options (wire_of old) (wire_of after) → KeepsToPlan (allows_of (begun server seed fail_every)) q start options (wire_of (begun server seed fail_every)) (wire_of after)
+  keeps plan =
+      subst (λ (wire : Looped FragmentServer). KeepsToPlan (allows_of wire) q start options (wire_of wire) (wire_of after)) is
+      (subst (λ (at : Address). KeepsToPlan (allows_of old) q at options (wire_of old) (wire_of after)) same plan)
 
   honest_old : (serving server).version ≡ 1 → IsValidDataSet (serving server).data_set → IsConfig (serving server).config → length (serving server).data_set < 2 ^ 64
       → IsHonestWire (allows_of old) ((serving server).data_set ∷ []) (serving server).config (wire_of old)

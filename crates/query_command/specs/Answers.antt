@@ -1,10 +1,14 @@
 -- What a query of a file over a wire came to.
-use Rattle.std.specs.Prelude.{ℕ, ◌≡◌, List, Option, Result, Ok, Err}
-use Rattle.tpf_base.specs.Addresses.{Address}
+use Rattle.std.specs.Prelude.{ℕ, ◌≡◌, ◌+◌, ◌≤◌, true, [], ◌∷◌, List, length, Option, Result, Ok, Err}
+use Rattle.std.specs.List.{AllByRecursion}
+use Rattle.tpf_base.specs.Addresses.{Address, address_text, authority_of}
+use Rattle.tpf_base.specs.Marks.{Served}
 use Rattle.tpf_base.specs.Causes.{Rose}
 use Rattle.tpf_base.specs.Links.{WireState}
 use Rattle.rdf_terms.specs.declared.term.Triple.{Triple}
 use Rattle.template_fill.specs.Metadata.{Config}
+use Rattle.template_fill.specs.Answered.{is_answered}
+use Rattle.plan_laws.specs.Fitting.{AreServable}
 use Rattle.bgp_core.specs.Queries.{QueryData}
 use Rattle.tpf_client.specs.declared.options.Options.{Options}
 use Rattle.tpf_client.specs.declared.options.Report.{Report}
@@ -12,27 +16,50 @@ use Rattle.tpf_client.specs.declared.fault.ClientFault.{ClientFault}
 use Rattle.tpf_client.specs.declared.fault.ClientFault.TheVariants as client_faults
 use Rattle.tpf_client.specs.Calls.{RunsPool, WritesResult, WritesPrefix, WritesAll, WritesSome, IsCause}
 use Rattle.tpf_client.specs.Honest.{IsHonestWire, WritesSolutions, WritesSolutionsFront}
+use Rattle.tpf_client.specs.Requests.{AnswersAll, DialsAtMost, DialsAreTries, RequestsAreTries, addresses_of}
+use Rattle.tpf_client.specs.Requested.{RequestsPlan, AnswersPlan}
+use Rattle.tpf_client.specs.Plans.{SendsAsked, AsksPlan, OverHonest, OverLively, CountsRises, PacesRequests, IsHonestCause, IsLivelyCause, RisesFew, PlanFits, MayStill, StaysUnprovoked, IsSmallByAll}
 use Rattle.data_files.specs.declared.fault.QueryFileFault.{QueryFileFault}
 use Rattle.data_files.specs.declared.fault.QueryFileFault.TheVariants as query_faults
+use Rattle.data_files.specs.declared.fault.DataFault.TheVariants as data_faults
 use Rattle.data_files.specs.Data.{Files, IfTold}
 use Rattle.data_files.specs.Queries.{HoldsQuery, QueryOutcome, reads}
 use Rattle.data_files.specs.Causes.{QueryCause, GivesQuery}
 use Rattle.query_command.specs.declared.fault.AnswerFault.{AnswerFault}
 use Rattle.query_command.specs.declared.fault.AnswerFault.TheVariants as faults
 
--- The result of a query was written over a wire: the text of some rows; over a wire that is honest for a history, of the solutions over one version, the reported one.
+-- What a call over a wire keeps to, however it ends. Requests were sent for nothing but what was asked, and the dials are within the budget. Over an honest wire what was asked is of the plan; over one that is lively too, requests are made for this and after failures alone; and over a steady one no fault is provoked.
+pub record KeepsToPlan (allows : List ℕ → ℕ → List ℕ → List ℕ → Type 0) (q : QueryData) (start : Address) (options : Options) (old new : WireState) : Type 0 where
+  pub sent : SendsAsked allows options start old new
+  pub dials : DialsAtMost options.budget old new
+  pub asked : OverHonest allows old (λ history config. AsksPlan history config q start old new)
+  pub tries : OverHonest allows old (λ history config. DialsAreTries history config options q start old new)
+  pub counted : OverLively allows old (λ history config. CountsRises allows history config options q start old new)
+  pub unprovoked : OverHonest allows old (λ history config. StaysUnprovoked options old new)
+  pub requested : OverHonest allows old (λ history config. RequestsPlan history config options q start old new)
+
+-- The result of a query was written over a wire: the text of some rows, and all that was asked was answered; over a wire that is honest for a history, of the solutions over one version, the reported one, by as many requests as its plan has and failures need.
 pub record WritesOver (allows : List ℕ → ℕ → List ℕ → List ℕ → Type 0) (q : QueryData) (start : Address) (options : Options) (report : Report) (old new : WireState) (taken taken' : Option (List ℕ)) : Type 0 where
   pub whole : WritesResult q report.rows taken taken'
   pub writes : WritesAll (RunsPool allows options old new) q start report taken taken'
   pub headline : (history : List (List Triple)) (config : Config) → IsHonestWire allows history config old → WritesSolutions history q report.version report.rows taken taken'
+  pub plan : KeepsToPlan allows q start options old new
+  pub answered : AnswersAll allows options start report.requests old new
+  pub tries : OverHonest allows old (λ history config. RequestsAreTries history config options q start report)
+  pub paced : OverLively allows old (λ history config. PacesRequests history config q start report old new)
+  pub replied : OverHonest allows old (λ history config. AnswersPlan history config options q start report old new)
 
--- A front of such a text was written, and the call over the wire ended with this fault.
+-- A front of such a text was written, and the call over the wire ended with this fault. Over an honest wire, and a lively one, it has these causes; and where the plan fits and the faults are few it is want of memory, or the data changed.
 pub record FailsOver (allows : List ℕ → ℕ → List ℕ → List ℕ → Type 0) (q : QueryData) (start : Address) (options : Options) (fault : ClientFault) (old new : WireState) (out out' : ℕ) (taken taken' : Option (List ℕ)) : Type 0 where
   pub front : WritesPrefix q taken taken'
   pub writes : WritesSome (RunsPool allows options old new) q start options.budget fault taken taken'
   pub headline : (history : List (List Triple)) (config : Config) → IsHonestWire allows history config old → WritesSolutionsFront history q taken taken'
   pub cause : IsCause allows options old new fault
   pub sink : fault ≡ client_faults.Sink → Rose out out'
+  pub plan : KeepsToPlan allows q start options old new
+  pub honest_cause : OverHonest allows old (λ history config. IsHonestCause history config options q start fault)
+  pub lively_cause : OverLively allows old (λ history config. IsLivelyCause history config options q start old new fault)
+  pub complete : OverHonest allows old (λ history config. old.nature.lively ≡ true → (rise : ℕ) → RisesFew options rise old new → PlanFits history config options q start rise → (Rose out out' → ⊥) → MayStill history fault)
 
 -- the query of the file was asked, and the text of its result written
 pub record Answers (told : Option Files) (name : List ℕ) (allows : List ℕ → ℕ → List ℕ → List ℕ → Type 0) (start : Address) (options : Options) (report : Report) (old new : WireState) (taken taken' : Option (List ℕ)) : Type 0 where
@@ -62,3 +89,34 @@ GivesAnswer outcome (Ok answer) = IsReading outcome
 GivesAnswer outcome (Err (faults.Data fault)) = Unit {0}
 GivesAnswer outcome (Err (faults.Query fault)) = GivesQuery outcome (Err fault)
 GivesAnswer outcome (Err (faults.Client fault)) = IsReading outcome
+
+-- ---- completeness
+
+-- memory is wanting
+abbrev pub IsWanting : AnswerFault → Type 0
+IsWanting (faults.Data fault) = fault ≡ data_faults.OutOfMemory
+IsWanting (faults.Query fault) = fault ≡ query_faults.OutOfMemory
+IsWanting (faults.Client fault) = fault ≡ client_faults.OutOfMemory
+
+-- of a call over a wire alone
+abbrev pub IsClientWanting : AnswerFault → Type 0
+IsClientWanting (faults.Data fault) = Unit {0}
+IsClientWanting (faults.Query fault) = Unit {0}
+IsClientWanting (faults.Client fault) = fault ≡ client_faults.OutOfMemory
+
+-- Nothing stands in the way of a query over a wire: the other ends answer as a server of these data does, within the limits of the program; never 1000 waits follow one another; the server has the authority of the start, whose text has at most 65536 bytes, and answers it with the status 200; the faults rise at most as often as a request may be asked again; each body of the plan is within the limit; and the addresses and the rise are within the budget.
+pub record FitsOver (allows : List ℕ → ℕ → List ℕ → List ℕ → Type 0) (q : QueryData) (start : Address) (options : Options) (triples : List Triple) (config : Config) (old new : WireState) : Type 0 where
+  pub honest : IsHonestWire allows (triples ∷ []) config old
+  pub lively : old.nature.lively ≡ true
+  pub servable : AreServable triples
+  pub authority : authority_of start ≡ authority_of config.base
+  pub text : length (address_text start) ≤ 65536
+  pub answered : is_answered (triples ∷ []) (Served 1) config start ≡ true
+  pub rise : ℕ
+  pub rises : RisesFew options rise old new
+  pub small : AllByRecursion (IsSmallByAll (triples ∷ []) config options.max_body) (addresses_of (triples ∷ []) config q start 1)
+  pub within : length (addresses_of (triples ∷ []) config q start 1) + rise ≤ options.budget
+
+-- of the query of a file, where the shelf tells it
+abbrev pub OfQuery : Option Files → List ℕ → (QueryData → Type 0) → Type 0
+OfQuery told name holds = IfTold told (λ files. (q : QueryData) → HoldsQuery files name q → holds q)

@@ -1,3 +1,5 @@
 pub mod Answers
 pub mod Loops
 pub mod Generated
+pub mod Plans
+pub mod Limits

@@ -5,11 +5,15 @@ ghost use Rattle.data_files.specs.Data.{IfTold};
 ghost use Rattle.data_files.specs.Queries.{QueryOutcome, IsQueryOutcome};
 ghost use Rattle.file_server.specs.Servers.{serving};
 ghost use Rattle.generated_server.specs.Starts.{StartsGenerated};
-ghost use Rattle.query_command.specs.Answers.{GivesAnswer};
+ghost use Rattle.query_command.specs.Answers.{GivesAnswer, IsWanting};
 ghost use Rattle.query_command.specs.Generated.{usual_options, CountsQuery, LoopsGenerated, AsksOver, FailsOn, GeneratedAnswers, GeneratedCause};
-ghost use Rattle.query_command.specs.Loops.{local_base, local_config};
+ghost use Rattle.query_command.specs.Loops.{LoopsServer, local_base, local_config, wire_of};
+ghost use Rattle.query_command.specs.Plans.{SendsPlan, SendsInside, MayEnd, EndsCounted, OfGenerated, PlanIsWithin};
+ghost use Rattle.plan_laws.specs.Fitting.{AreServable, IsAskable};
+ghost use Rattle.std.specs.List.{AllByRecursion};
 
 use crate::AnswerFault;
+use crate::limits::commands_keep_limits;
 use crate::local_query::ask_server;
 use crate::start::{local_config, local_start};
 use bgp_core::Query;
@@ -22,6 +26,7 @@ use std::sync::Wait;
 use template_fill::WebAddress;
 use tpf_base::{Drain, OutOfMemory, Shelf};
 use tpf_client::{ClientFault, Options};
+use triple_table::served_is_one;
 
 /// The most triples of a page.
 const PAGE: u64 = 100;
@@ -72,6 +77,8 @@ fn ask_generated<R: Wait>(
     ensures counts { IfOk result (CountsQuery persons query.now) }
     ensures answers { IfOk result (λ counts. LoopsGenerated persons inside.new (AsksOver query.now counts.rows)) }
     ensures cause { IfErr result (λ fault. LoopsGenerated persons inside.new (FailsOn query.now fault)) }
+    ensures sent { LoopsServer server 0 0 inside.new (λ old new. SendsPlan (serving server).data_set (serving server).config query.now (wire_of new)) }
+    ensures ends { AreServable (serving server).data_set → AllByRecursion IsAskable query.now.patterns → IfErr result (MayEnd 0 usual_options (serving server).data_set (serving server).config query.now) }
 {
     let triples = server.server().table().len() as u64;
     let options = usual_options();
@@ -100,9 +107,13 @@ fn read_and_count<R: Wait, F: Shelf>(
     requires most { persons ≤ 1000000 }
     ensures answers { IfOk result (GeneratedAnswers (F.told shelf.old) persons query.now inside.new) }
     ensures cause { IfErr result (GeneratedCause (F.told shelf.old) persons query.now inside.new (F.faults shelf.old) (F.faults shelf.new)) }
+    ensures sent { OfGenerated (F.told shelf.old) persons query.now (λ triples q. SendsInside inside.new triples (local_config 100) q) }
+    ensures ends { OfGenerated (F.told shelf.old) persons query.now (λ triples q. EndsCounted usual_options triples (local_config 100) q result) }
     ensures told { F.told shelf.new ≡ F.told shelf.old }
     ensures shelf_later { F.faults shelf.old ≤ F.faults shelf.new }
 {
+    commands_keep_limits();
+    served_is_one();
     let query = match read_query(alloc, shelf, query) {
         Ok(query) => query,
         Err(fault) => return Err(AnswerFault::Query(fault)),
@@ -113,6 +124,7 @@ fn read_and_count<R: Wait, F: Shelf>(
     let Ok(server) = generated_server(alloc, persons) else {
         return Err(AnswerFault::Data(DataFault::OutOfMemory));
     };
+    let _patterns = query.patterns();
     match ask_generated(rt, alloc, persons, &start, server, &query, inside) {
         Ok(counts) => Ok(counts),
         Err(fault) => Err(AnswerFault::Client(fault)),
@@ -128,6 +140,10 @@ fn read_and_count<R: Wait, F: Shelf>(
 ///
 /// `Query` where the query is not read. `Data` at want of memory alone. `Client` where the call over the
 /// wire ended before the result was whole, which is never by `Sink`.
+///
+/// As with `local`, requests are sent for addresses of the plan alone (`sent`), a fault over the wire
+/// comes only where a body is longer than the limit or the plan has more addresses than the budget, or
+/// memory is wanting (`ends`), and the call succeeds where none of these is so (`complete`).
 pub fn query_generated<R: Wait, F: Shelf>(
     rt: &R,
     alloc: Global,
@@ -141,6 +157,9 @@ pub fn query_generated<R: Wait, F: Shelf>(
     ensures answers { IfOk result (GeneratedAnswers (F.told shelf.old) persons query.now inside.new) }
     ensures cause { IfErr result (GeneratedCause (F.told shelf.old) persons query.now inside.new (F.faults shelf.old) (F.faults shelf.new)) }
     ensures exact { ¬ (Rose (F.faults shelf.old) (F.faults shelf.new)) → IfTold (F.told shelf.old) (λ files. (outcome : QueryOutcome) → IsQueryOutcome files query.now outcome → GivesAnswer outcome result) }
+    ensures sent { OfGenerated (F.told shelf.old) persons query.now (λ triples q. SendsInside inside.new triples (local_config 100) q) }
+    ensures ends { OfGenerated (F.told shelf.old) persons query.now (λ triples q. EndsCounted usual_options triples (local_config 100) q result) }
+    ensures complete { ¬ (Rose (F.faults shelf.old) (F.faults shelf.new)) → OfGenerated (F.told shelf.old) persons query.now (λ triples q. PlanIsWithin 0 usual_options triples (local_config 100) q → IfErr result IsWanting) }
     ensures told { F.told shelf.new ≡ F.told shelf.old }
     ensures shelf_later { F.faults shelf.old ≤ F.faults shelf.new }
 {

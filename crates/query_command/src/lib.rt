@@ -3,6 +3,7 @@
 
 mod fault;
 mod generated_query;
+mod limits;
 mod local_query;
 mod server_query;
 mod start;

@@ -1,20 +1,26 @@
 // The query of a file through a server in the same process.
-ghost use Rattle.std.specs.Prelude.{ℕ, ◌≡◌, ◌<◌, ◌≤◌, ◌^◌, codes, length, None, IfOk, IfErr, OnErr};
+ghost use Rattle.std.specs.Prelude.{ℕ, ◌≡◌, ◌<◌, ◌≤◌, ◌^◌, [], ◌∷◌, codes, length, None, IfOk, IfErr, OnErr};
+ghost use Rattle.std.specs.List.{AllByRecursion};
 ghost use Rattle.tpf_base.specs.Causes.{Rose};
 ghost use Rattle.data_files.specs.Data.{IfTold, Outcome, IsOutcome};
 ghost use Rattle.data_files.specs.Queries.{QueryOutcome, IsQueryOutcome};
 ghost use Rattle.data_files.specs.Causes.{DataCause};
 ghost use Rattle.file_server.specs.Servers.{Starts, GivesServer, serving};
-ghost use Rattle.query_command.specs.Answers.{WritesOver, FailsOver, GivesAnswer};
+ghost use Rattle.query_command.specs.Answers.{WritesOver, FailsOver, GivesAnswer, IsWanting};
+ghost use Rattle.plan_laws.specs.Fitting.{AreServable, IsAskable};
+ghost use Rattle.tpf_client.specs.Requested.{AnswersPlan};
 ghost use Rattle.query_command.specs.Loops.{LoopsServer, WritesAnswer, WritesAnswerFront, LocalAnswers, LocalCause, GivesData, local_view, allows_of, local_base, local_config, wire_of};
+ghost use Rattle.query_command.specs.Plans.{SendsPlan, SendsInside, RepliedInside, EndsAsPlanned, EndsLocally, OfFiles, PlanIsWithin};
 
 use crate::AnswerFault;
+use crate::limits::commands_keep_limits;
 use crate::start::{local_config, local_start};
 use bgp_core::Query;
 use data_files::{DataFault, read_query};
 use file_server::server_of_file;
 use fragment_server::{FragmentConnection, FragmentServer};
 use loop_wire::LoopWire;
+use plan_laws::plans_are_read;
 use std::alloc::Global;
 use std::sync::Wait;
 use template_fill::WebAddress;
@@ -86,6 +92,7 @@ pub(crate) fn ask_server<R: Wait, K: Sink>(
 ) -> Result<Report, ClientFault>
     requires start { start.now ≡ local_base }
     requires first { (serving server).version ≡ 1 }
+    requires base { (serving server).config.base ≡ local_base }
     requires window { 1 ≤ options.now.window }
     requires some { 1 ≤ options.now.links }
     requires few { options.now.links ≤ 256 }
@@ -93,13 +100,18 @@ pub(crate) fn ask_server<R: Wait, K: Sink>(
     ensures cause { IfErr result (λ fault. LoopsServer server seed fail_every inside.new (λ old new. FailsOver (allows_of old) query.now local_base options.now fault (wire_of old) (wire_of new) (K.faults out.old) (K.faults out.new) (K.taken out.old) (K.taken out.new))) }
     ensures answer { IfOk result (λ report. WritesAnswer (serving server).data_set query.now report.rows (K.taken out.old) (K.taken out.new)) }
     ensures front { OnErr result (WritesAnswerFront (serving server).data_set query.now (K.taken out.old) (K.taken out.new)) }
+    ensures sent { LoopsServer server seed fail_every inside.new (λ old new. SendsPlan (serving server).data_set (serving server).config query.now (wire_of new)) }
+    ensures replied { IfOk result (λ report. LoopsServer server seed fail_every inside.new (λ old new. AnswersPlan ((serving server).data_set ∷ []) (serving server).config options.now query.now local_base report (wire_of old) (wire_of new))) }
+    ensures ends { AreServable (serving server).data_set → AllByRecursion IsAskable query.now.patterns → options.now.budget < 2 ^ 63 → EndsAsPlanned fail_every options.now (serving server).data_set (serving server).config query.now result }
     ensures later { K.faults out.old ≤ K.faults out.new }
 {
+    plans_are_read();
     is_few(&server);
     server.server().is_valid();
     let failing = Failing::Dials(fail_every);
     let mut wire: LoopWire<FragmentConnection> = LoopWire::new(alloc, server, seed, failing);
     let answer = query_server(rt, alloc, query, start, options, &mut wire, out);
+    wire.fails_as_due();
     *inside = Some(wire);
     answer
 }
@@ -121,10 +133,14 @@ fn serve_and_ask<R: Wait, F: Shelf, K: Sink>(
     requires few { asked.now.options.links ≤ 256 }
     ensures answers { IfOk result (λ report. LocalAnswers (F.told shelf.old) (local_view asked.now) inside.new report (K.taken out.old) (K.taken out.new)) }
     ensures cause { IfErr result (LocalCause (F.told shelf.old) (local_view asked.now) inside.new (F.faults shelf.old) (F.faults shelf.new) (K.faults out.old) (K.faults out.new) (K.taken out.old) (K.taken out.new)) }
+    ensures sent { OfFiles (F.told shelf.old) (local_view asked.now) (λ triples q. SendsInside inside.new triples (local_config asked.now.page_size) q) }
+    ensures replied { IfOk result (λ report. OfFiles (F.told shelf.old) (local_view asked.now) (RepliedInside (F.told shelf.old) (local_view asked.now) inside.new report)) }
+    ensures ends { asked.now.options.budget < 2 ^ 63 → OfFiles (F.told shelf.old) (local_view asked.now) (λ triples q. EndsLocally asked.now.fail_every asked.now.options triples (local_config asked.now.page_size) q result) }
     ensures told { F.told shelf.new ≡ F.told shelf.old }
     ensures shelf_later { F.faults shelf.old ≤ F.faults shelf.new }
     ensures out_later { K.faults out.old ≤ K.faults out.new }
 {
+    commands_keep_limits();
     let Ok(start) = local_start(alloc) else {
         return Err(AnswerFault::Data(DataFault::OutOfMemory));
     };
@@ -136,6 +152,7 @@ fn serve_and_ask<R: Wait, F: Shelf, K: Sink>(
         Ok(query) => query,
         Err(fault) => return Err(AnswerFault::Query(fault)),
     };
+    let _patterns = query.patterns();
     match ask_server(
         rt,
         alloc,
@@ -162,6 +179,13 @@ fn serve_and_ask<R: Wait, F: Shelf, K: Sink>(
 /// `Data` where the data are not served, and `Query` where the query is not read: nothing was written
 /// then. `Client` where the call over the wire ended before the result was whole: the output took a front
 /// of such a text.
+///
+/// Nothing is assumed of the wire. Requests are sent for addresses of the plan alone (`sent`). Where no
+/// dial fails, an answer takes one request for each of them; else it takes the more that failed dials
+/// make necessary, and a fault comes only where too many fail, a body is longer than the limit, or the
+/// budget is too small, and never by a stall, a body that is no page, or another version (`ends`). Where
+/// none of these is so and shelf and output do not fail, the call succeeds unless memory is wanting
+/// (`complete`). What is said of the plan holds where the shelf tells both files.
 pub fn local<R: Wait, F: Shelf, K: Sink>(
     rt: &R,
     alloc: Global,
@@ -180,6 +204,11 @@ pub fn local<R: Wait, F: Shelf, K: Sink>(
     ensures cause { IfErr result (LocalCause (F.told shelf.old) (local_view asked.now) inside.new (F.faults shelf.old) (F.faults shelf.new) (K.faults out.old) (K.faults out.new) (K.taken out.old) (K.taken out.new)) }
     ensures data_exact { ¬ (Rose (F.faults shelf.old) (F.faults shelf.new)) → IfTold (F.told shelf.old) (λ files. (outcome : Outcome) → IsOutcome files asked.now.name.now asked.now.choice.now (codes "localhost") outcome → GivesData outcome result) }
     ensures query_exact { ¬ (Rose (F.faults shelf.old) (F.faults shelf.new)) → IfTold (F.told shelf.old) (λ files. (outcome : QueryOutcome) → IsQueryOutcome files asked.now.query.now outcome → GivesAnswer outcome result) }
+    ensures sent { OfFiles (F.told shelf.old) (local_view asked.now) (λ triples q. SendsInside inside.new triples (local_config asked.now.page_size) q) }
+    ensures replied { IfOk result (λ report. OfFiles (F.told shelf.old) (local_view asked.now) (RepliedInside (F.told shelf.old) (local_view asked.now) inside.new report)) }
+    ensures ends { asked.now.options.budget < 2 ^ 63 → OfFiles (F.told shelf.old) (local_view asked.now) (λ triples q. EndsLocally asked.now.fail_every asked.now.options triples (local_config asked.now.page_size) q result) }
+    ensures complete { asked.now.options.budget < 2 ^ 63 → ¬ (Rose (F.faults shelf.old) (F.faults shelf.new)) → ¬ (Rose (K.faults out.old) (K.faults out.new))
+        → OfFiles (F.told shelf.old) (local_view asked.now) (λ triples q. PlanIsWithin asked.now.fail_every asked.now.options triples (local_config asked.now.page_size) q → IfErr result IsWanting) }
     ensures told { F.told shelf.new ≡ F.told shelf.old }
     ensures shelf_later { F.faults shelf.old ≤ F.faults shelf.new }
     ensures out_later { K.faults out.old ≤ K.faults out.new }

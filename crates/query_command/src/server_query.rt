@@ -1,16 +1,20 @@
 // The query of a file over a wire.
-ghost use Rattle.std.specs.Prelude.{ℕ, ◌≡◌, ◌≤◌, IfOk, IfErr};
+ghost use Rattle.std.specs.Prelude.{ℕ, ◌≡◌, ◌≤◌, List, IfOk, IfErr};
 ghost use Rattle.tpf_base.specs.Causes.{Rose};
 ghost use Rattle.tpf_base.specs.Links.{SameAllowed};
 ghost use Rattle.data_files.specs.Data.{IfTold};
 ghost use Rattle.data_files.specs.Queries.{QueryOutcome, IsQueryOutcome};
-ghost use Rattle.query_command.specs.Answers.{Answers, AskCause, GivesAnswer};
+ghost use Rattle.rdf_terms.specs.declared.term.Triple.{Triple};
+ghost use Rattle.template_fill.specs.Metadata.{Config};
+ghost use Rattle.query_command.specs.Answers.{Answers, AskCause, GivesAnswer, FitsOver, OfQuery, IsWanting, IsClientWanting};
 
 use crate::AnswerFault;
+use crate::limits::commands_keep_limits;
 use data_files::read_query;
+use plan_laws::plans_are_read;
 use std::alloc::Global;
 use std::sync::Wait;
-use template_fill::WebAddress;
+use template_fill::{WebAddress, pages_are_answered};
 use tpf_base::{Dial, Shelf, Sink};
 use tpf_client::{Options, Report, query as query_server};
 
@@ -29,15 +33,21 @@ fn read_and_ask<R: Wait, F: Shelf, W: Dial, K: Sink>(
     requires few { options.now.links ≤ 256 }
     ensures answers { IfOk result (λ report. Answers (F.told shelf.old) name.now (W.allows wire.old) start.now options.now report (W.state wire.old) (W.state wire.new) (K.taken out.old) (K.taken out.new)) }
     ensures cause { IfErr result (AskCause (F.told shelf.old) name.now (W.allows wire.old) start.now options.now (F.faults shelf.old) (F.faults shelf.new) (W.state wire.old) (W.state wire.new) (K.faults out.old) (K.faults out.new) (K.taken out.old) (K.taken out.new)) }
+    ensures fits { ¬ (Rose (K.faults out.old) (K.faults out.new)) → OfQuery (F.told shelf.old) name.now (λ q. (triples : List Triple) (config : Config)
+        → FitsOver (W.allows wire.old) q start.now options.now triples config (W.state wire.old) (W.state wire.new) → IfErr result IsClientWanting) }
     ensures allowed { SameAllowed (W.allows wire.old) (W.allows wire.new) }
     ensures told { F.told shelf.new ≡ F.told shelf.old }
     ensures shelf_later { F.faults shelf.old ≤ F.faults shelf.new }
     ensures out_later { K.faults out.old ≤ K.faults out.new }
 {
+    commands_keep_limits();
+    plans_are_read();
+    pages_are_answered();
     let query = match read_query(alloc, shelf, name) {
         Ok(query) => query,
         Err(fault) => return Err(AnswerFault::Query(fault)),
     };
+    let _patterns = query.patterns();
     match query_server(rt, alloc, &query, start, options, wire, out) {
         Ok(report) => Ok(report),
         Err(fault) => Err(AnswerFault::Client(fault)),
@@ -50,6 +60,10 @@ fn read_and_ask<R: Wait, F: Shelf, W: Dial, K: Sink>(
 /// `Query` where the query is not read: nothing was written then, and the wire is as before. `Client`
 /// where the call over the wire ended before the result was whole: the output took a front of such a
 /// text.
+///
+/// Where the wire's other ends answer as a server of data within the limits of the program does, the plan
+/// fits and no count of faults rose beyond what may be asked again, the call succeeds unless memory is
+/// wanting (`complete`).
 pub fn query<R: Wait, F: Shelf, W: Dial, K: Sink>(
     rt: &R,
     alloc: Global,
@@ -66,6 +80,8 @@ pub fn query<R: Wait, F: Shelf, W: Dial, K: Sink>(
     ensures answers { IfOk result (λ report. Answers (F.told shelf.old) name.now (W.allows wire.old) start.now options.now report (W.state wire.old) (W.state wire.new) (K.taken out.old) (K.taken out.new)) }
     ensures cause { IfErr result (AskCause (F.told shelf.old) name.now (W.allows wire.old) start.now options.now (F.faults shelf.old) (F.faults shelf.new) (W.state wire.old) (W.state wire.new) (K.faults out.old) (K.faults out.new) (K.taken out.old) (K.taken out.new)) }
     ensures exact { ¬ (Rose (F.faults shelf.old) (F.faults shelf.new)) → IfTold (F.told shelf.old) (λ files. (outcome : QueryOutcome) → IsQueryOutcome files name.now outcome → GivesAnswer outcome result) }
+    ensures complete { ¬ (Rose (F.faults shelf.old) (F.faults shelf.new)) → ¬ (Rose (K.faults out.old) (K.faults out.new)) → OfQuery (F.told shelf.old) name.now (λ q. (triples : List Triple) (config : Config)
+        → FitsOver (W.allows wire.old) q start.now options.now triples config (W.state wire.old) (W.state wire.new) → IfErr result IsWanting) }
     ensures allowed { SameAllowed (W.allows wire.old) (W.allows wire.new) }
     ensures told { F.told shelf.new ≡ F.told shelf.old }
     ensures shelf_later { F.faults shelf.old ≤ F.faults shelf.new }

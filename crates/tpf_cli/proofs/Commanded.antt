@@ -38,8 +38,8 @@ module _ (a : Around) where
 
   pub query_does : (url : Address) (data_name query_name : List ℕ) (client : ClientWords) (answer : Result Report AnswerFault) → a.inside' ≡ Unused
       → AsksServer (without a) query_name url (options_of client) answer → Does a (query url query_name client) (answered data_name query_name answer)
-  query_does url data_name query_name client (Ok report) unused h = (refl, (h.0, unused))
-  query_does url data_name query_name client (Err fault) unused h = (refl, (h.0, unused))
+  query_does url data_name query_name client (Ok report) unused h = (refl, (h.0, unused, h.2))
+  query_does url data_name query_name client (Err fault) unused h = (refl, (h.0, unused, h.2))
 
   pub serve_does : (name : List ℕ) (base : Address) (choice : Choice) (page : ℕ) (stop_after : Option ℕ) (reload : Option (List ℕ)) (result : Result ℕ ServiceFault) → a.inside' ≡ Unused
       → ServesFile (without a) name choice (config_by base page reload) stop_after result → Does a (serve name base choice page stop_after reload) (served name result)

@@ -3,3 +3,4 @@ pub mod Said
 pub mod Decided
 pub mod Asked
 pub mod Commanded
+pub mod Promised

@@ -43,7 +43,12 @@ client_range values client e =
     let m = bind_some (number_in values (codes "max-body") 1 268435456 16777216) _ client b.2 in
     let same : record { window = w.0; links = l.0; retries = r.0; budget = b.0; max_body = m.0 } ≡ client = some_same m.2 in
     let links = in_range 1 256 8 l.0 (values (codes "links")) (omega arith) (omega arith) l.1 in
-    subst IsClient same (record { window = (in_range 1 10000 16 w.0 (values (codes "window")) (omega arith) (omega arith) w.1).0; some = links.0; few = links.1 })
+    subst IsClient same (record {
+      window = (in_range 1 10000 16 w.0 (values (codes "window")) (omega arith) (omega arith) w.1).0;
+      some = links.0;
+      few = links.1;
+      budget = (in_range 1 1000000000000 1000000 b.0 (values (codes "budget")) (omega arith) (omega arith) b.1).1;
+    })
 
 page_range : (values : Values) (page : ℕ) → page_in values ≡ Some page → (1 ≤ page) × (page ≤ 1000)
 page_range values page e = in_range 1 1000 100 page (values (codes "page")) (omega arith) (omega arith) e

@@ -4,3 +4,4 @@ pub mod Endings
 pub mod EndingViews
 pub mod Runs
 pub mod Ranges
+pub mod Promises

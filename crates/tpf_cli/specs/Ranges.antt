@@ -9,6 +9,7 @@ pub record IsClient (client : ClientWords) : Type 0 where
   pub window : 1 ≤ client.window
   pub some : 1 ≤ client.links
   pub few : client.links ≤ 256
+  pub budget : client.budget ≤ 1000000000000
 
 -- the numbers are in their ranges, a base has no query part, and the path of a reload is a written one beside the base's
 abbrev pub IsInRange : Command → Type 0

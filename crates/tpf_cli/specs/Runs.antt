@@ -1,7 +1,8 @@
 -- What a run did, by its command and how it ended.
-use Rattle.std.specs.Prelude.{ℕ, ◌≡◌, ◌⊎◌, ◌+◌, ◌-◌, ◌≤◌, true, List, Option, Some, None, Result, Ok, Err, IfOk, IfErr, IfSome, OnOk, codes}
+use Rattle.std.specs.Prelude.{ℕ, ◌≡◌, ◌⊎◌, ◌+◌, ◌-◌, ◌^◌, ◌<◌, ◌≤◌, true, List, Option, Some, None, Result, Ok, Err, IfOk, IfErr, IfSome, OnOk, codes}
 use Rattle.std.specs.Io.KnownBytes.{Appends}
 use Rattle.rdf_terms.specs.Canon.{canon}
+use Rattle.rdf_terms.specs.declared.term.Triple.{Triple}
 use Rattle.generated_data.specs.Generated.{generated}
 use Rattle.tpf_base.specs.Addresses.{Address, authority_of}
 use Rattle.tpf_base.specs.Causes.{Rose}
@@ -19,11 +20,12 @@ use Rattle.tpf_client.specs.declared.options.Report.{Report}
 use Rattle.data_files.specs.Data.{Files, IfTold, Outcome, IsOutcome}
 use Rattle.data_files.specs.Queries.{QueryOutcome, IsQueryOutcome}
 use Rattle.query_command.specs.declared.fault.AnswerFault.{AnswerFault}
-use Rattle.query_command.specs.Answers.{Answers, AskCause, GivesAnswer}
+use Rattle.query_command.specs.Answers.{Answers, AskCause, GivesAnswer, FitsOver, OfQuery, IsWanting}
 use Rattle.query_command.specs.declared.fault.AnswerFault.TheVariants as answer_faults
-use Rattle.query_command.specs.Loops.{LocalView, LocalAnswers, LocalCause, GivesData}
+use Rattle.query_command.specs.Loops.{LocalView, LocalAnswers, LocalCause, GivesData, local_config}
+use Rattle.query_command.specs.Plans.{SendsInside, RepliedInside, EndsLocally, MayFail, OfFiles, OfGenerated, PlanIsWithin}
 use Rattle.query_command.specs.declared.generated_query.Counts.{Counts}
-use Rattle.query_command.specs.Generated.{GeneratedAnswers, GeneratedCause}
+use Rattle.query_command.specs.Generated.{GeneratedAnswers, GeneratedCause, usual_options}
 use Rattle.tpf_client.specs.declared.fault.ClientFault.TheVariants as clients
 use Rattle.serve_command.specs.declared.fault.ServiceFault.{ServiceFault}
 use Rattle.serve_command.specs.Services.{door_of, OpensAndTurns, SpeaksOfFile, SaysPrefixes, SaysWhole, ServiceCause, IsUntouched, GivesServed}
@@ -63,15 +65,28 @@ options_of client = record { window = client.window; links = client.links; retri
 abbrev pub IsIdle : Around → Type 0
 IsIdle a = (a.taken' ≡ a.taken) × (a.wire' ≡ a.wire) × (a.inside' ≡ Unused)
 
+-- Of a file that was asked in the process: requests were sent for addresses of the plan alone, and at an answer each was answered; so many were made, or the call ended for one of these causes; and where none of these is there, and shelf and output did not fail, memory is wanting or it succeeded.
+pub record KeepsFile (a : Around) (view : LocalView) (answer : Result Report AnswerFault) : Type 0 where
+  pub sent : OfFiles a.told view (λ triples q. SendsInside (wire_inside a.inside') triples (local_config view.page_size) q)
+  pub replied : IfOk answer (λ report. OfFiles a.told view (RepliedInside a.told view (wire_inside a.inside') report))
+  pub ends : view.options.budget < 2 ^ 63 → OfFiles a.told view (λ triples q. EndsLocally view.fail_every view.options triples (local_config view.page_size) q answer)
+  pub complete : view.options.budget < 2 ^ 63 → ¬ (Rose a.shelf a.shelf') → ¬ (Rose a.out a.out')
+      → OfFiles a.told view (λ triples q. PlanIsWithin view.fail_every view.options triples (local_config view.page_size) q → IfErr answer IsWanting)
+
 -- a file was asked in the process; the handed-in wire is not used
 abbrev pub AsksFile : Around → LocalView → Result Report AnswerFault → Type 0
-AsksFile a view (Ok report) = LocalAnswers a.told view (wire_inside a.inside') report a.taken a.taken' × (a.wire' ≡ a.wire)
-AsksFile a view (Err fault) = LocalCause a.told view (wire_inside a.inside') a.shelf a.shelf' a.out a.out' a.taken a.taken' fault × (a.wire' ≡ a.wire)
+AsksFile a view (Ok report) = LocalAnswers a.told view (wire_inside a.inside') report a.taken a.taken' × (a.wire' ≡ a.wire) × KeepsFile a view (Ok report)
+AsksFile a view (Err fault) = LocalCause a.told view (wire_inside a.inside') a.shelf a.shelf' a.out a.out' a.taken a.taken' fault × (a.wire' ≡ a.wire) × KeepsFile a view (Err fault)
+
+-- over a wire whose other ends answer as a server of some data does, where the plan fits and shelf and output did not fail, memory is wanting or the call succeeded
+abbrev pub SucceedsOver : Around → List ℕ → Address → Options → Result Report AnswerFault → Type 0
+SucceedsOver a name start options answer = ¬ (Rose a.shelf a.shelf') → ¬ (Rose a.out a.out') → OfQuery a.told name (λ q. (triples : List Triple) (config : Config)
+    → FitsOver a.allows q start options triples config a.wire a.wire' → IfErr answer IsWanting)
 
 -- a server was asked over the handed-in wire; none is made inside
 abbrev pub AsksServer : Around → List ℕ → Address → Options → Result Report AnswerFault → Type 0
-AsksServer a name start options (Ok report) = Answers a.told name a.allows start options report a.wire a.wire' a.taken a.taken' × (a.inside' ≡ Unused)
-AsksServer a name start options (Err fault) = AskCause a.told name a.allows start options a.shelf a.shelf' a.wire a.wire' a.out a.out' a.taken a.taken' fault × (a.inside' ≡ Unused)
+AsksServer a name start options (Ok report) = Answers a.told name a.allows start options report a.wire a.wire' a.taken a.taken' × (a.inside' ≡ Unused) × SucceedsOver a name start options (Ok report)
+AsksServer a name start options (Err fault) = AskCause a.told name a.allows start options a.shelf a.shelf' a.wire a.wire' a.out a.out' a.taken a.taken' fault × (a.inside' ≡ Unused) × SucceedsOver a name start options (Err fault)
 
 -- a file was served over the handed-in wire
 pub record ServesFile (a : Around) (name : List ℕ) (choice : Choice) (config : Config) (stop_after : Option ℕ) (result : Result ℕ ServiceFault) : Type 0 where
@@ -116,10 +131,16 @@ pub record CutsLine (out out' : ℕ) (taken taken' : Option (List ℕ)) (line : 
   pub failed : cause ≡ sinks.Failed → Rose out out'
   pub front : AppendsPrefix taken taken' line
 
+-- the same as of a file, of generated data
+pub record KeepsGenerated (a : Around) (persons : ℕ) (name : List ℕ) (result : Result (Unit {0}) AnswerFault) : Type 0 where
+  pub sent : OfGenerated a.told persons name (λ triples q. SendsInside (wire_inside a.inside') triples (local_config 100) q)
+  pub ends : OfGenerated a.told persons name (λ triples q. IfErr result (MayFail 0 usual_options triples (local_config 100) q))
+  pub complete : ¬ (Rose a.shelf a.shelf') → ¬ (Rose a.out a.out') → OfGenerated a.told persons name (λ triples q. PlanIsWithin 0 usual_options triples (local_config 100) q → IfErr result IsWanting)
+
 -- a query was asked of generated data in the process, and the line of its numbers written, and nothing else; the handed-in wire is not used
 abbrev pub AsksGenerated : Around → ℕ → List ℕ → Result (Unit {0}) AnswerFault → Type 0
-AsksGenerated a persons name (Ok nothing) = CountsGenerated a persons name (Appends a.taken a.taken') × (a.wire' ≡ a.wire)
-AsksGenerated a persons name (Err fault) = ((GeneratedCause a.told persons name (wire_inside a.inside') a.shelf a.shelf' fault × (a.taken' ≡ a.taken)) ⊎ CountsGenerated a persons name (λ line. CutsLine a.out a.out' a.taken a.taken' line fault)) × (a.wire' ≡ a.wire)
+AsksGenerated a persons name (Ok nothing) = CountsGenerated a persons name (Appends a.taken a.taken') × (a.wire' ≡ a.wire) × KeepsGenerated a persons name (Ok nothing)
+AsksGenerated a persons name (Err fault) = ((GeneratedCause a.told persons name (wire_inside a.inside') a.shelf a.shelf' fault × (a.taken' ≡ a.taken)) ⊎ CountsGenerated a persons name (λ line. CutsLine a.out a.out' a.taken a.taken' line fault)) × (a.wire' ≡ a.wire) × KeepsGenerated a persons name (Err fault)
 
 -- ---- runs
 

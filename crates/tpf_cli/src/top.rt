@@ -6,6 +6,7 @@ ghost use Rattle.tpf_cli.specs.Endings.{EndOfRun, Says};
 ghost use Rattle.tpf_cli.specs.EndingViews.{ending_view};
 ghost use Rattle.tpf_cli.specs.Ranges.{IsInRange};
 ghost use Rattle.tpf_cli.specs.Runs.{Does, DoesOf, MustEndOf, IsWithoutWire};
+ghost use Rattle.tpf_cli.specs.Promises.{KeepsTableOf, TellsRequestsOf, SucceedsOf};
 
 use crate::commands::{ask_file, ask_generated, ask_server, options_of, serve_file};
 use crate::ending::Ending;
@@ -176,6 +177,15 @@ fn end_of<'a, R: Wait, F: Shelf, W: Dial + Accept, K: Sink>(
 /// failed; 6 a reply is refused; 7 the budget is spent; 8 memory ran out; 9 `out` failed; 10 a file could
 /// not be read from `shelf`; 11 the data changed; 12 the door or a wait failed.
 ///
+/// Of `local` and `make --run`, with nothing assumed of a wire: 5 comes only where so many dials fail
+/// (`--fail-every`), 6 only where a body of the plan is longer than `--max-body`, 7 only where the plan
+/// with the requests that fail passes `--budget`, and 11 and 12 never (`table`). At status 0 of `local` the
+/// number of requests that is told is that of the plan's addresses where no dial fails, and else only by
+/// a quotient more (`requests`). Where the files are read
+/// and none of these causes is there, and no output or shelf fails, the status is 0 or 8; so it is of
+/// `query` over a wire whose other ends answer as a server does, where the plan fits, of `serve` where
+/// the wire does not fail, and of `make` (`complete`).
+///
 /// `inside` is `Unused` before a run.
 pub fn run<R: Wait, F: Shelf, W: Dial + Accept, K: Sink, E: Sink>(
     rt: &R,
@@ -192,6 +202,9 @@ pub fn run<R: Wait, F: Shelf, W: Dial + Accept, K: Sink, E: Sink>(
         × DoesOf (record { told = F.told shelf.old; shelf = F.faults shelf.old; shelf' = F.faults shelf.new; allows = W.allows wire.old; wire = W.state wire.old; wire' = W.state wire.new; out = K.faults out.old; out' = K.faults out.new; taken = K.taken out.old; taken' = K.taken out.new; inside' = inside.new }) (command_of (map string_bytes words.now)) end
         × MustEndOf (record { told = F.told shelf.old; shelf = F.faults shelf.old; shelf' = F.faults shelf.new; allows = W.allows wire.old; wire = W.state wire.old; wire' = W.state wire.new; out = K.faults out.old; out' = K.faults out.new; taken = K.taken out.old; taken' = K.taken out.new; inside' = inside.new }) (command_of (map string_bytes words.now)) end
         × Says result end (E.faults err.old) (E.faults err.new) (E.taken err.old) (E.taken err.new) }
+    ensures table { KeepsTableOf (record { told = F.told shelf.old; shelf = F.faults shelf.old; shelf' = F.faults shelf.new; allows = W.allows wire.old; wire = W.state wire.old; wire' = W.state wire.new; out = K.faults out.old; out' = K.faults out.new; taken = K.taken out.old; taken' = K.taken out.new; inside' = inside.new }) (command_of (map string_bytes words.now)) result }
+    ensures requests { TellsRequestsOf (record { told = F.told shelf.old; shelf = F.faults shelf.old; shelf' = F.faults shelf.new; allows = W.allows wire.old; wire = W.state wire.old; wire' = W.state wire.new; out = K.faults out.old; out' = K.faults out.new; taken = K.taken out.old; taken' = K.taken out.new; inside' = inside.new }) (command_of (map string_bytes words.now)) result (E.faults err.old) (E.faults err.new) (E.taken err.old) (E.taken err.new) }
+    ensures complete { SucceedsOf (record { told = F.told shelf.old; shelf = F.faults shelf.old; shelf' = F.faults shelf.new; allows = W.allows wire.old; wire = W.state wire.old; wire' = W.state wire.new; out = K.faults out.old; out' = K.faults out.new; taken = K.taken out.old; taken' = K.taken out.new; inside' = inside.new }) (command_of (map string_bytes words.now)) result }
     ensures wire { IsWithoutWire (command_of (map string_bytes words.now)) → wire.new ≡ wire.old }
     ensures told { F.told shelf.new ≡ F.told shelf.old }
     ensures shelf_later { F.faults shelf.old ≤ F.faults shelf.new }

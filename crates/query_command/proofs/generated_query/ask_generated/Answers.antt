@@ -1,5 +1,7 @@
 -- The numbers of a call over the wire to the server of generated data.
-use Rattle.query_command.proofs.Counting.{in_bounds, served_len, counts_of, asks_over, fails_on}
+use Rattle.std.proofs.Common.{None, ap}
+use Rattle.template_fill.specs.Metadata.{Config}
+use Rattle.query_command.proofs.Counting.{in_bounds, served_len, counts_of, asks_over, fails_on, may_fail}
 use Rattle.query_command.proofs.generated_query.ask_generated.Goals as goal
 
 pub ask_server-requires-clause-window : goal.ask_server-requires-clause-window
@@ -22,3 +24,10 @@ returns-in-Ok-clause-answers g c =
 pub returns-in-Err-clause-cause : goal.returns-in-Err-clause-cause
 returns-in-Err-clause-cause g c =
     fails_on c.args.server c.args.persons c.requires.starts c.args.query.now c.usual_options-options.result c.usual_options-options.ensures _ c.in-Err.fault c.in-Err.ensures.cause
+
+pub ask_server-requires-clause-base : goal.ask_server-requires-clause-base
+ask_server-requires-clause-base g c = ap (λ (s : Config). s.base) c.requires.starts.config_is
+
+pub returns-in-Err-clause-ends : goal.returns-in-Err-clause-ends
+returns-in-Err-clause-ends g c =
+    may_fail c.args.server c.args.persons c.requires.starts c.args.query.now c.usual_options-options.result c.usual_options-options.ensures None c.in-Err.fault c.in-Err.ensures.ends

@@ -1,5 +1,7 @@
 -- What is said of the query is said of the file that holds it.
-use Rattle.query_command.proofs.Counting.{generated_answers, generated_fault}
+use Rattle.std.proofs.Common.{None}
+use Rattle.query_command.proofs.Counting.{generated_answers, generated_fault, generated_sent, generated_ends}
+use Rattle.query_command.proofs.Locals.{valid_read}
 use Rattle.query_command.proofs.generated_query.read_and_count.Goals as goal
 
 pub returns-in-Ok-ask_generated-clause-answers : goal.returns-in-Ok-ask_generated-clause-answers
@@ -8,3 +10,15 @@ returns-in-Ok-ask_generated-clause-answers g c =
 
 pub returns-clause-cause : goal.returns-clause-cause
 returns-clause-cause g c = generated_fault _ c.args.persons _ _ c.in-Ok.query c.in-Ok.ensures.ok 0 0 c.in-Err-ask_generated.fault c.in-Err-ask_generated.ensures.cause
+
+pub returns-in-Ok-ask_generated-clause-sent : goal.returns-in-Ok-ask_generated-clause-sent
+returns-in-Ok-ask_generated-clause-sent g c =
+    generated_sent _ c.args.persons _ _ c.in-Ok-generated_server.server c.in-Ok-generated_server.ensures c.in-Ok.query c.in-Ok.ensures.ok c.served_is_one.ensures c.ask_generated.ensures.sent
+
+pub returns-clause-sent : goal.returns-clause-sent
+returns-clause-sent g c =
+    generated_sent _ c.args.persons _ _ c.in-Ok-generated_server.server c.in-Ok-generated_server.ensures c.in-Ok.query c.in-Ok.ensures.ok c.served_is_one.ensures c.ask_generated.ensures.sent
+
+pub returns-clause-ends : goal.returns-clause-ends
+returns-clause-ends g c =
+    generated_ends _ c.args.persons _ None c.in-Ok-generated_server.server c.in-Ok-generated_server.ensures c.in-Ok.query c.in-Ok.ensures.ok c.served_is_one.ensures c.commands_keep_limits.ensures.generated c.commands_keep_limits.ensures.queries c.requires.most (valid_read c.in-Ok.query _ c.patterns-patterns.ensures.value c.patterns-patterns.ensures.valid) c.in-Err-ask_generated.fault c.in-Err-ask_generated.ensures.ends

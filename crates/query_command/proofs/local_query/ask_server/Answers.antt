@@ -1,15 +1,23 @@
 -- The wire that was made is honest for its server.
 use Rattle.query_command.specs.Loops.{local_base}
-use Rattle.query_command.proofs.Looping.{loops_ok, loops_err, solves, solves_front, valid_served, config_served}
+use Rattle.file_server.specs.Servers.{serving}
+use Rattle.query_command.proofs.Looping.{loops_ok, loops_err, solves, solves_front, valid_served, config_served, keeps}
+use Rattle.query_command.proofs.Honest.{honest_wire}
+use Rattle.query_command.proofs.Fitting.{plan_is_read}
+use Rattle.query_command.proofs.Planned.{sends_from, ends_from, answers_from}
 use Rattle.query_command.proofs.local_query.ask_server.Goals as goal
 
 pub returns-clause-answers : goal.returns-clause-answers
 returns-clause-answers g c =
     loops_ok c.args.server c.args.seed c.args.fail_every c.new-wire.result c.query-answer.new.wire c.new-wire.ensures c.args.query.now c.args.start.now local_base c.requires.start c.args.options.now (g.K.Sink.faults c.args.out.now) (g.K.Sink.faults c.query-answer.new.out) (g.K.Sink.taken c.args.out.now) (g.K.Sink.taken c.query-answer.new.out) c.query-answer.result c.query-answer.ensures.whole c.query-answer.ensures.ok c.query-answer.ensures.headline
+    (record { sent = c.query-answer.ensures.sent; dials = c.query-answer.ensures.dials; asked = c.query-answer.ensures.asked; tries = c.query-answer.ensures.planned; counted = c.query-answer.ensures.counted; unprovoked = c.query-answer.ensures.unprovoked; requested = c.query-answer.ensures.requested })
+    c.query-answer.ensures.answered c.query-answer.ensures.requests c.query-answer.ensures.paced c.query-answer.ensures.replied
 
 pub returns-clause-cause : goal.returns-clause-cause
 returns-clause-cause g c =
     loops_err c.args.server c.args.seed c.args.fail_every c.new-wire.result c.query-answer.new.wire c.new-wire.ensures c.args.query.now c.args.start.now local_base c.requires.start c.args.options.now (g.K.Sink.faults c.args.out.now) (g.K.Sink.faults c.query-answer.new.out) (g.K.Sink.taken c.args.out.now) (g.K.Sink.taken c.query-answer.new.out) c.query-answer.result c.query-answer.ensures.front c.query-answer.ensures.err c.query-answer.ensures.prefix c.query-answer.ensures.cause c.query-answer.ensures.sink
+    (record { sent = c.query-answer.ensures.sent; dials = c.query-answer.ensures.dials; asked = c.query-answer.ensures.asked; tries = c.query-answer.ensures.planned; counted = c.query-answer.ensures.counted; unprovoked = c.query-answer.ensures.unprovoked; requested = c.query-answer.ensures.requested })
+    c.query-answer.ensures.honest_cause c.query-answer.ensures.lively_cause c.query-answer.ensures.complete
 
 pub returns-clause-answer : goal.returns-clause-answer
 returns-clause-answer g c =
@@ -18,3 +26,25 @@ returns-clause-answer g c =
 pub returns-clause-front : goal.returns-clause-front
 returns-clause-front g c =
     solves_front c.args.server c.args.seed c.args.fail_every c.new-wire.result c.query-answer.new.wire c.new-wire.ensures c.args.query.now c.args.start.now local_base c.requires.start c.args.options.now (g.K.Sink.faults c.args.out.now) (g.K.Sink.faults c.query-answer.new.out) (g.K.Sink.taken c.args.out.now) (g.K.Sink.taken c.query-answer.new.out) c.query-answer.result c.requires.first (valid_served c.args.server c.server.result.now c.server.ensures c.is_valid.ensures.data_set) (config_served c.args.server c.server.result.now c.server.ensures c.is_valid.ensures.config) c.is_few.ensures c.query-answer.ensures.prefix
+
+pub returns-clause-sent : goal.returns-clause-sent
+returns-clause-sent g c =
+    sends_from c.args.server c.args.seed c.args.fail_every c.query-answer.new.wire c.args.query.now c.args.options.now
+    (keeps c.args.server c.args.seed c.args.fail_every c.new-wire.result c.query-answer.new.wire c.new-wire.ensures c.args.query.now c.args.start.now local_base c.requires.start c.args.options.now (g.K.Sink.faults c.args.out.now) (g.K.Sink.faults c.query-answer.new.out) (g.K.Sink.taken c.args.out.now) (g.K.Sink.taken c.query-answer.new.out)
+    (record { sent = c.query-answer.ensures.sent; dials = c.query-answer.ensures.dials; asked = c.query-answer.ensures.asked; tries = c.query-answer.ensures.planned; counted = c.query-answer.ensures.counted; unprovoked = c.query-answer.ensures.unprovoked; requested = c.query-answer.ensures.requested }))
+    (honest_wire c.args.server c.args.seed c.args.fail_every c.requires.first (valid_served c.args.server c.server.result.now c.server.ensures c.is_valid.ensures.data_set) (config_served c.args.server c.server.result.now c.server.ensures c.is_valid.ensures.config) c.is_few.ensures)
+
+pub returns-clause-ends : goal.returns-clause-ends
+returns-clause-ends g c = λ servable askable small.
+    let valid = valid_served c.args.server c.server.result.now c.server.ensures c.is_valid.ensures.data_set in
+    let config = config_served c.args.server c.server.result.now c.server.ensures c.is_valid.ensures.config in
+    ends_from c.args.server c.args.seed c.args.fail_every c.query-answer.new.wire c.args.query.now c.args.options.now (g.K.Sink.faults c.args.out.now) (g.K.Sink.faults c.query-answer.new.out) (g.K.Sink.taken c.args.out.now) (g.K.Sink.taken c.query-answer.new.out) c.query-answer.result
+    (honest_wire c.args.server c.args.seed c.args.fail_every c.requires.first valid config c.is_few.ensures)
+    (plan_is_read c.plans_are_read.ensures.plan c.plans_are_read.ensures.base (serving c.args.server).data_set (serving c.args.server).config c.args.query.now c.requires.base valid config servable askable)
+    c.fails_as_due.ensures small (returns-clause-answers g c) (returns-clause-cause g c)
+
+pub returns-clause-replied : goal.returns-clause-replied
+returns-clause-replied g c =
+    answers_from c.args.server c.args.seed c.args.fail_every c.query-answer.new.wire c.args.query.now c.args.options.now (g.K.Sink.taken c.args.out.now) (g.K.Sink.taken c.query-answer.new.out) c.query-answer.result
+    (honest_wire c.args.server c.args.seed c.args.fail_every c.requires.first (valid_served c.args.server c.server.result.now c.server.ensures c.is_valid.ensures.data_set) (config_served c.args.server c.server.result.now c.server.ensures c.is_valid.ensures.config) c.is_few.ensures)
+    (returns-clause-answers g c)

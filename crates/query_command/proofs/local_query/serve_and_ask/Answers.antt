@@ -1,8 +1,9 @@
 -- What is said of the server is said of the file that it serves.
-use Rattle.std.proofs.Common.{refl}
+use Rattle.std.proofs.Common.{None, Ok, Err, refl, ap}
+use Rattle.template_fill.specs.Metadata.{Config}
 use Rattle.file_server.specs.Servers.{serving}
 use Rattle.query_command.specs.Loops.{local_view}
-use Rattle.query_command.proofs.Locals.{local_answers, local_fault, query_from}
+use Rattle.query_command.proofs.Locals.{local_answers, local_fault, local_ends, local_sent, local_replied, valid_read, query_from}
 use Rattle.query_command.proofs.local_query.serve_and_ask.Goals as goal
 
 pub returns-in-Err-read_query-clause-cause : goal.returns-in-Err-read_query-clause-cause
@@ -20,3 +21,26 @@ returns-in-Ok-ask_server-clause-answers g c =
 pub returns-clause-cause : goal.returns-clause-cause
 returns-clause-cause g c =
     local_fault _ _ c.local_server.ensures.told (local_view c.args.asked.now) c.in-Ok-local_server.server c.in-Ok-local_server.ensures.starts _ _ _ c.in-Ok-read_query.query c.in-Ok-read_query.ensures.ok 0 0 (g.K.Sink.faults c.args.out.now) (g.K.Sink.faults c.ask_server.new.out) c.in-Err-ask_server.fault c.in-Err-ask_server.ensures.cause c.in-Err-ask_server.ensures.front
+
+pub ask_server-requires-clause-base : goal.ask_server-requires-clause-base
+ask_server-requires-clause-base g c = ap (λ (s : Config). s.base) c.in-Ok-local_server.ensures.starts.config_is
+
+pub returns-in-Ok-ask_server-clause-ends : goal.returns-in-Ok-ask_server-clause-ends
+returns-in-Ok-ask_server-clause-ends g c =
+    local_ends _ _ c.local_server.ensures.told (local_view c.args.asked.now) c.in-Ok-local_server.server c.in-Ok-local_server.ensures.starts None None None c.in-Ok-read_query.query c.in-Ok-read_query.ensures.ok c.commands_keep_limits.ensures.files c.commands_keep_limits.ensures.queries (valid_read c.in-Ok-read_query.query _ c.patterns-patterns.ensures.value c.patterns-patterns.ensures.valid) (Ok c.in-Ok-ask_server.report) c.in-Ok-ask_server.ensures.ends
+
+pub returns-in-Ok-ask_server-clause-sent : goal.returns-in-Ok-ask_server-clause-sent
+returns-in-Ok-ask_server-clause-sent g c =
+    local_sent _ _ c.local_server.ensures.told (local_view c.args.asked.now) c.in-Ok-local_server.server c.in-Ok-local_server.ensures.starts _ None None c.in-Ok-read_query.query c.in-Ok-read_query.ensures.ok c.ask_server.ensures.sent
+
+pub returns-clause-ends : goal.returns-clause-ends
+returns-clause-ends g c =
+    local_ends _ _ c.local_server.ensures.told (local_view c.args.asked.now) c.in-Ok-local_server.server c.in-Ok-local_server.ensures.starts None None None c.in-Ok-read_query.query c.in-Ok-read_query.ensures.ok c.commands_keep_limits.ensures.files c.commands_keep_limits.ensures.queries (valid_read c.in-Ok-read_query.query _ c.patterns-patterns.ensures.value c.patterns-patterns.ensures.valid) (Err c.in-Err-ask_server.fault) c.in-Err-ask_server.ensures.ends
+
+pub returns-clause-sent : goal.returns-clause-sent
+returns-clause-sent g c =
+    local_sent _ _ c.local_server.ensures.told (local_view c.args.asked.now) c.in-Ok-local_server.server c.in-Ok-local_server.ensures.starts _ None None c.in-Ok-read_query.query c.in-Ok-read_query.ensures.ok c.ask_server.ensures.sent
+
+pub returns-in-Ok-ask_server-clause-replied : goal.returns-in-Ok-ask_server-clause-replied
+returns-in-Ok-ask_server-clause-replied g c =
+    local_replied _ _ c.local_server.ensures.told (local_view c.args.asked.now) c.in-Ok-local_server.server c.in-Ok-local_server.ensures.starts _ None None c.in-Ok-read_query.query c.in-Ok-read_query.ensures.ok c.in-Ok-ask_server.report c.in-Ok-ask_server.ensures.replied

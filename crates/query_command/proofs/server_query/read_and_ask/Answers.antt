@@ -1,12 +1,47 @@
 -- What a call over the wire wrote is said of the file of its query.
+use Rattle.query_command.proofs.Complete.{asked_complete}
+use Rattle.query_command.proofs.Locals.{valid_read}
 use Rattle.query_command.proofs.server_query.read_and_ask.Goals as goal
 
 pub returns-in-Ok-query_server-clause-answers : goal.returns-in-Ok-query_server-clause-answers
 returns-in-Ok-query_server-clause-answers g c =
     let e = c.in-Ok-query_server.ensures in
-    record { q = c.in-Ok.query; is_read = c.in-Ok.ensures.ok; writes = record { whole = e.whole; writes = e.ok; headline = e.headline } }
+    record {
+      q = c.in-Ok.query;
+      is_read = c.in-Ok.ensures.ok;
+      writes = record {
+        whole = e.whole;
+        writes = e.ok;
+        headline = e.headline;
+        plan = record { sent = e.sent; dials = e.dials; asked = e.asked; tries = e.planned; counted = e.counted; unprovoked = e.unprovoked; requested = e.requested };
+        answered = e.answered;
+        tries = e.requests;
+        paced = e.paced;
+        replied = e.replied;
+      };
+    }
 
 pub returns-clause-cause : goal.returns-clause-cause
 returns-clause-cause g c =
     let e = c.in-Err-query_server.ensures in
-    record { q = c.in-Ok.query; is_read = c.in-Ok.ensures.ok; writes = record { front = e.front; writes = e.err; headline = e.prefix; cause = e.cause; sink = λ is. e.sink (cc) } }
+    record {
+      q = c.in-Ok.query;
+      is_read = c.in-Ok.ensures.ok;
+      writes = record {
+        front = e.front;
+        writes = e.err;
+        headline = e.prefix;
+        cause = e.cause;
+        sink = λ is. e.sink (cc);
+        plan = record { sent = e.sent; dials = e.dials; asked = e.asked; tries = e.planned; counted = e.counted; unprovoked = e.unprovoked; requested = e.requested };
+        honest_cause = e.honest_cause;
+        lively_cause = e.lively_cause;
+        complete = e.complete;
+      };
+    }
+
+pub returns-clause-fits : goal.returns-clause-fits
+unfolding returns-clause-cause
+returns-clause-fits g c =
+    asked_complete _ c.args.name.now _ c.args.start.now c.args.options.now _ _ _ _ _ _ c.plans_are_read.ensures.plan c.plans_are_read.ensures.start c.pages_are_answered.ensures.answered c.commands_keep_limits.ensures.queries c.in-Err-query_server.fault (returns-clause-cause g c)
+    (valid_read c.in-Ok.query _ c.patterns-patterns.ensures.value c.patterns-patterns.ensures.valid)

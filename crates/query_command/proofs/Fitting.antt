@@ -1,0 +1,140 @@
+-- What a query asks of a server in the same process is answered with pages that are read, within the limits of the program.
+use Rattle.std.proofs.Common.{ℕ, suc, ◌≡◌, ◌==◌, ◌+◌, ◌≤◌, ◌<◌, ◌++◌, Bool, true, false, [], ◌∷◌, List, length, codes, Option, Some, None, if◌then◌else◌, refl, sym, ap, subst, ◌∙◌, arith, lit≤, length-append, append-nil}
+use Rattle.std.specs.List.{AllByRecursion, Contains}
+use Rattle.std.proofs.lemmas.Bool.Decides.{nat_tests}
+use Rattle.list_laws.proofs.Told.{all_in}
+use Rattle.rdf_terms.specs.declared.term.Triple.{Triple}
+use Rattle.tpf_base.specs.Addresses.{Address, address_text, authority_of, query_text, target_of}
+use Rattle.tpf_base.specs.Links.{WireState}
+use Rattle.tpf_base.specs.HttpHeads.{head_limit}
+use Rattle.tpf_base.specs.Marks.{Served}
+use Rattle.template_fill.specs.HttpAnswer.{Answer}
+use Rattle.template_fill.specs.Metadata.{Config}
+use Rattle.template_fill.specs.Configurations.{IsConfig, IsValidDataSet}
+use Rattle.template_fill.specs.ReadAddress.{path_of}
+use Rattle.template_fill.specs.Answered.{address_answer, is_answered, AnsweredGivePages}
+use Rattle.http_ends.specs.Requests.{request_for, asks}
+use Rattle.control_reader.specs.declared.page.Page.{Page}
+use Rattle.control_reader.specs.Takes.{Takes}
+use Rattle.bgp_core.specs.Queries.{QueryData}
+use Rattle.plan_laws.specs.Fitting.{IsRead, AreServable, IsAskable, IsServable, PlansAreRead, BasesAreRead, StartsAreRead}
+use Rattle.tpf_client.specs.Honest.{IsVersionOf}
+use Rattle.tpf_client.specs.Requests.{addresses_of}
+use Rattle.tpf_client.specs.Honest.{IsHonestWire}
+use Rattle.tpf_client.specs.declared.options.Options.{Options}
+use Rattle.tpf_client.specs.Plans.{IsAnswered, IsReadByAll, IsSmallByAll, IsFit, PlanFits, answer_at}
+use Rattle.query_command.specs.Loops.{local_base}
+use Rattle.query_command.specs.Plans.{plan_of}
+use Rattle.query_command.specs.Answers.{FitsOver}
+
+pub one_version : (triples : List Triple) (version : ℕ) → IsVersionOf (triples ∷ []) version → 1 ≡ version
+one_version triples version is = same version is.low is.high
+  where
+    same : (n : ℕ) → 1 ≤ n → n ≤ 1 → 1 ≡ n
+    same n a b = omega (arith, a, b)
+
+-- what holds of the addresses at the one version holds of those at each
+pub at_version : (triples : List Triple) (config : Config) (q : QueryData) (start : Address) (P : List Address → Type 0) (version : ℕ) → IsVersionOf (triples ∷ []) version
+    → P (addresses_of (triples ∷ []) config q start 1) → P (addresses_of (triples ∷ []) config q start version)
+at_version triples config q start P version is h = subst (λ (v : ℕ). P (addresses_of (triples ∷ []) config q start v)) (one_version triples version is) h
+
+all_weaker : (P Q : Address → Type 0) → ((address : Address) → P address → Q address) → (list : List Address) → AllByRecursion P list → AllByRecursion Q list
+all_weaker P Q f [] h = tt
+all_weaker P Q f (address ∷ list) h = (f address h.0, all_weaker P Q f list h.1)
+
+is_200 : (n : ℕ) → n == 200 ≡ true → n ≡ 200
+is_200 n h = grind (arith, nat_tests)
+
+module _ (triples : List Triple) (config : Config) where
+  abbrev Reads : Address → Type 0
+  Reads = IsRead (triples ∷ []) (Served 1) config
+
+  status_at : (address : Address) → Reads address → (version : ℕ) → 1 ≡ version → (answer_at (triples ∷ []) config version address).status ≡ 200
+  status_at address r version is = subst (λ (v : ℕ). (answer_at (triples ∷ []) config v address).status ≡ 200) is (is_200 (address_answer (triples ∷ []) (Served 1) config address).status r.answered)
+
+  answered_of : (address : Address) → Reads address → IsAnswered (triples ∷ []) config address
+  answered_of address r = record {
+    short = r.short;
+    answered = λ version low high. status_at address r version (one_version triples version (record { low = low; high = high }));
+  }
+
+  read_by_all : (address : Address) → Reads address → IsReadByAll (triples ∷ []) config address
+  read_by_all address r = λ version is status.
+      (r.page, subst (λ (v : ℕ). Takes (answer_at (triples ∷ []) config v address).body address r.page) (one_version triples version is) r.taken)
+
+  module _ (q : QueryData) (reads : AllByRecursion Reads (plan_of triples config q)) where
+    pub all_answered : (version : ℕ) → IsVersionOf (triples ∷ []) version → AllByRecursion (IsAnswered (triples ∷ []) config) (addresses_of (triples ∷ []) config q local_base version)
+    all_answered version is = at_version triples config q local_base (AllByRecursion (IsAnswered (triples ∷ []) config)) version is (all_weaker Reads (IsAnswered (triples ∷ []) config) answered_of (plan_of triples config q) reads)
+
+    pub all_read : (version : ℕ) → IsVersionOf (triples ∷ []) version → AllByRecursion (IsReadByAll (triples ∷ []) config) (addresses_of (triples ∷ []) config q local_base version)
+    all_read version is = at_version triples config q local_base (AllByRecursion (IsReadByAll (triples ∷ []) config)) version is (all_weaker Reads (IsReadByAll (triples ∷ []) config) read_by_all (plan_of triples config q) reads)
+
+base_short : (base : Address) → base ≡ local_base → length (address_text base) ≤ 65536
+base_short base is = subst (λ (b : Address). length (address_text b) ≤ 65536) (sym is) (lit≤ tt)
+
+-- the plan is read
+pub plan_is_read : PlansAreRead → BasesAreRead → (triples : List Triple) (config : Config) (q : QueryData) → config.base ≡ local_base → IsValidDataSet triples → IsConfig config → AreServable triples
+    → AllByRecursion IsAskable q.patterns → AllByRecursion (IsRead (triples ∷ []) (Served 1) config) (plan_of triples config q)
+plan_is_read plans bases triples config q base valid is_config servable askable =
+    let s : IsServable (triples ∷ []) (Served 1) config = record {
+      is_history = record { data_sets = (valid, tt); low = omega arith; high = omega arith };
+      is_config = is_config;
+      version = record { low = omega arith; high = omega arith };
+      triples = servable;
+      base = base_short config.base base;
+    } in (
+      subst (IsRead (triples ∷ []) (Served 1) config) base (bases (triples ∷ []) (Served 1) config s),
+      plans (triples ∷ []) (Served 1) config q.patterns (length q.names) s askable,
+    )
+
+-- ---- over a wire to a server elsewhere
+
+module _ (triples : List Triple) (config : Config) (most : ℕ) where
+  fits : (list : List Address) → AllByRecursion (IsRead (triples ∷ []) (Served 1) config) list → AllByRecursion (IsSmallByAll (triples ∷ []) config most) list → AllByRecursion (IsFit (triples ∷ []) config most) list
+  fits [] r s = tt
+  fits (address ∷ list) r s = (record { is_answered = answered_of triples config address r.0; is_read = read_by_all triples config address r.0; is_small = s.0 }, fits list r.1 s.1)
+
+path_short : (target : List ℕ) → length (path_of target) ≤ length target
+path_short [] = omega arith
+path_short (b ∷ rest) = by (b == 63) (path_short rest)
+  where
+    by : (t : Bool) → length (path_of rest) ≤ length rest → length (if t then [] else b ∷ path_of rest) ≤ suc (length rest)
+    by true h = omega arith
+    by false h = omega (arith, h)
+
+-- the text of an address is its authority and its target, behind the scheme
+text_length : (address : Address) → length (address_text address) ≡ 7 + (length (authority_of address) + length (target_of address))
+text_length address = omega (arith, length-append (codes "http://" ++ authority_of address) (target_of address), length-append (codes "http://") (authority_of address), scheme_long)
+  where
+    scheme_long : length (codes "http://") ≡ 7
+    scheme_long = refl
+
+target_is : (base : Address) → base.query ≡ None → length (target_of base) ≡ length base.path
+target_is base none = ap (λ (query : Option (List ℕ)). length (base.path ++ query_text query)) none ∙ ap length (append-nil base.path)
+
+-- a base that has the authority and the path of the start is no longer than it
+base_of_start : (base start : Address) → base.query ≡ None → authority_of start ≡ authority_of base → path_of (target_of start) ≡ base.path → length (address_text start) ≤ 65536 → length (address_text base) ≤ 65536
+base_of_start base start none same path few =
+    omega (arith, few, text_length base, text_length start, target_is base none, ap length same, ap length path, path_short (target_of start))
+
+target_of_start : (start : Address) → length (address_text start) ≤ 65536 → length (target_of start) ≤ 65536
+target_of_start start few = omega (arith, few, text_length start)
+
+pub plan_fits : PlansAreRead → StartsAreRead → AnsweredGivePages → (allows : List ℕ → ℕ → List ℕ → List ℕ → Type 0) (q : QueryData) (start : Address) (options : Options) (triples : List Triple) (config : Config) (old new : WireState)
+    → AllByRecursion IsAskable q.patterns → (f : FitsOver allows q start options triples config old new) → PlanFits (triples ∷ []) config options q start f.rise
+plan_fits plans starts gives allows q start options triples config old new askable f =
+    let s : IsServable (triples ∷ []) (Served 1) config = record {
+      is_history = f.honest.is_history;
+      is_config = f.honest.is_config;
+      version = record { low = omega arith; high = omega arith };
+      triples = f.servable;
+      base = base_of_start config.base start f.honest.is_config.no_query f.authority ((gives (triples ∷ []) (Served 1) config start).0 f.answered).gives.asks.path f.text;
+    } in
+    let reads : AllByRecursion (IsRead (triples ∷ []) (Served 1) config) (addresses_of (triples ∷ []) config q start 1) = (
+      starts (triples ∷ []) (Served 1) config start s f.authority (target_of_start start f.text) f.answered,
+      plans (triples ∷ []) (Served 1) config q.patterns (length q.names) s askable,
+    ) in
+    record {
+      fit = λ version is. at_version triples config q start (AllByRecursion (IsFit (triples ∷ []) config options.max_body)) version is (fits triples config options.max_body (addresses_of (triples ∷ []) config q start 1) reads f.small);
+      within = λ version is. at_version triples config q start (λ (list : List Address). length list + f.rise ≤ options.budget) version is f.within;
+    }

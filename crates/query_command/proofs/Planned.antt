@@ -1,0 +1,189 @@
+-- How a query ends over the wire in one process to a server, within the limits of the program.
+use Rattle.std.proofs.Common.{ℕ, ◌≡◌, ◌≢◌, ◌+◌, ◌-◌, ◌*◌, ◌^◌, ◌<◌, ◌≤◌, ◌++◌, false, true, [], ◌∷◌, List, length, Option, Some, None, Result, Ok, Err, IfOk, IfErr, refl, sym, ap, subst, ◌∙◌, arith}
+use Rattle.std.specs.List.{AllByRecursion, Contains}
+use Rattle.std.specs.List.Sorted.{IsPermutation}
+use Rattle.list_laws.proofs.Told.{all_in}
+use Rattle.rdf_terms.specs.declared.term.Triple.{Triple}
+use Rattle.tpf_base.specs.Addresses.{Address}
+use Rattle.tpf_base.specs.Causes.{Rose, RoseBy}
+use Rattle.tpf_base.specs.Links.{WireState, Nature}
+use Rattle.tpf_base.specs.Marks.{Served, version_at}
+use Rattle.template_fill.specs.HttpAnswer.{Answer}
+use Rattle.template_fill.specs.Metadata.{Config}
+use Rattle.http_ends.specs.Requests.{asks}
+use Rattle.bgp_core.specs.Queries.{QueryData}
+use Rattle.request_pool.specs.Pools.{Pooled, empty_pool}
+use Rattle.pool_laws.specs.Provoking.{SparesWire}
+use Rattle.loop_wire.specs.Looped.{Looped, CountsDue, FewFaults, every_of}
+use Rattle.fragment_server.specs.declared.server.FragmentServer.{FragmentServer}
+use Rattle.file_server.specs.Servers.{serving}
+use Rattle.tpf_client.specs.declared.options.Options.{Options}
+use Rattle.tpf_client.specs.declared.options.Report.{Report}
+use Rattle.tpf_client.specs.declared.fault.ClientFault.{ClientFault}
+use Rattle.tpf_client.specs.declared.fault.ClientFault.TheVariants as faults
+use Rattle.tpf_client.specs.Traffic.{Event}
+use Rattle.tpf_client.specs.Calls.{RunsPool}
+use Rattle.tpf_client.specs.Honest.{IsHonestWire, IsVersionOf}
+use Rattle.tpf_client.specs.Requests.{addresses_of}
+use Rattle.tpf_client.specs.Requested.{AnswersPlan}
+use Rattle.tpf_client.specs.Plans.{CountsRises, PacesRequests, AsksPlan, IsSmallByAll, HasLongPage, OverrunsPlan, NoneOpen, answer_at}
+use Rattle.tpf_client.proofs.Endings.{travels-onward}
+use Rattle.plan_laws.specs.Fitting.{IsRead}
+use Rattle.query_command.specs.Answers.{KeepsToPlan, WritesOver, FailsOver}
+use Rattle.query_command.specs.Loops.{LoopsServer, allows_of, wire_of, begun, local_base}
+use Rattle.query_command.specs.Plans.{plan_of, SendsPlan, CountsRequests, PassesBudget, MayEnd, EndsAsPlanned, PlanIsWithin}
+use Rattle.query_command.proofs.Failing.{FewFailed, few_failed, counts_requests, fails_often, passes_budget, not_often, not_passed}
+use Rattle.query_command.proofs.Fitting.{one_version, at_version, all_answered, all_read}
+
+-- what was sent on a wire that had given no link
+pub sends_plan : (server : FragmentServer) (seed n : ℕ) (after : Looped FragmentServer) (q : QueryData)
+    → AsksPlan ((serving server).data_set ∷ []) (serving server).config q local_base (wire_of (begun server seed n)) (wire_of after) → SendsPlan (serving server).data_set (serving server).config q (wire_of after)
+sends_plan server seed n after q a = record {
+  asked = a.asked;
+  rest = a.rest;
+  plan_is = subst (λ (v : ℕ). IsPermutation (addresses_of ((serving server).data_set ∷ []) (serving server).config q local_base v) (a.asked ++ a.rest)) (sym (one_version (serving server).data_set a.version a.is_version)) a.plan_is;
+  sent = λ k below. a.sent k (omega arith) below;
+}
+
+-- the nature of a wire stays
+nature_stays : (allows : List ℕ → ℕ → List ℕ → List ℕ → Type 0) (options : Options) (since now : WireState) (events : List Event) (pool : Pooled) → RunsPool allows options since now events pool → now.nature ≡ since.nature
+nature_stays allows options since now events pool r = r.closes.nature ∙ (travels-onward allows events (empty_pool options.links options.retries options.budget options.max_body) pool since r.between r.travels).nature
+
+module _ (server : FragmentServer) (seed n : ℕ) (after : Looped FragmentServer) (q : QueryData) (options : Options)
+    (honest : IsHonestWire (allows_of (begun server seed n)) ((serving server).data_set ∷ []) (serving server).config (wire_of (begun server seed n)))
+    (reads : AllByRecursion (IsRead ((serving server).data_set ∷ []) (Served 1) (serving server).config) (plan_of (serving server).data_set (serving server).config q))
+    (due : CountsDue after.counts.failing after.counts.dials after.counts.faults after.provoked) (small : options.budget < 2 ^ 63)
+    (plan : KeepsToPlan (allows_of (begun server seed n)) q local_base options (wire_of (begun server seed n)) (wire_of after)) where
+  abbrev triples : List Triple
+  triples = (serving server).data_set
+
+  abbrev config : Config
+  config = (serving server).config
+
+  abbrev since : WireState
+  since = wire_of (begun server seed n)
+
+  abbrev now : WireState
+  now = wire_of after
+
+  abbrev most : ℕ
+  most = length (plan_of triples config q)
+
+  counted : CountsRises (allows_of (begun server seed n)) (triples ∷ []) config options q local_base since now
+  counted = plan.counted (triples ∷ []) config honest refl
+
+  length_is : (version : ℕ) → IsVersionOf (triples ∷ []) version → length (addresses_of (triples ∷ []) config q local_base version) ≡ most
+  length_is version is = at_version triples config q local_base (λ (list : List Address). length list ≡ most) version is refl
+
+  few : FewFailed n options.retries most now.faults
+  few =
+      let spares = plan.unprovoked (triples ∷ []) config honest refl (λ k. refl) (omega (arith, small)) in
+      let every : every_of after.counts.failing ≡ Some n = ap (λ (x : Nature). x.every) (nature_stays (allows_of (begun server seed n)) options since now counted.events counted.pool counted.runs) in
+      let dials = plan.dials in
+      let f : FewFaults n now.dials now.faults now.provoked = due n every (omega (arith, dials, small)) in
+      let tries = plan.tries (triples ∷ []) config honest in
+      let made = counted.dials in
+      let tried = tries.few in
+      few_failed n options.retries most now.faults now.dials now.provoked counted.rises options.budget f spares.provoked small dials counted.rose
+      (subst (λ (k : ℕ). now.dials ≤ 0 + (k + counted.rises)) (length_is counted.version counted.is_version) made)
+      (subst (λ (k : ℕ). now.dials ≤ 0 + (options.retries + 1) * k) (length_is tries.version tries.is_version) tried)
+
+  -- ---- an answer
+
+  pub requests_counted : (report : Report) (taken taken' : Option (List ℕ)) → WritesOver (allows_of (begun server seed n)) q local_base options report since now taken taken' → CountsRequests n options.retries most report.requests
+  requests_counted report taken taken' w =
+      let paced = w.paced (triples ∷ []) config honest refl in
+      let tries = w.tries (triples ∷ []) config honest in
+      let size = length_is paced.version paced.is_version in
+      counts_requests n options.retries most now.faults few report.requests paced.rises
+      (subst (λ (k : ℕ). k ≤ report.requests) size paced.each) paced.rose (subst (λ (k : ℕ). report.requests ≤ k + paced.rises) size paced.few)
+      (λ quiet. paced.exact quiet ∙ size)
+      (subst (λ (k : ℕ). report.requests ≤ (options.retries + 1) * k) (length_is tries.version tries.is_version) tries.few)
+
+  -- ---- a fault
+
+  no_versions : (one two : ℕ) → IsVersionOf (triples ∷ []) one → IsVersionOf (triples ∷ []) two → one ≢ two → ⊥
+  no_versions one two a b differ = differ (sym (one_version triples one a) ∙ one_version triples two b)
+
+  overruns : OverrunsPlan (triples ∷ []) config options q local_base since now → PassesBudget n options.retries options.budget most
+  overruns o = passes_budget n options.retries most now.faults few options.budget o.rises o.rose (subst (λ (k : ℕ). options.budget < k + o.rises) (length_is o.version o.is_version) o.over)
+
+  pub may_end : (fault : ClientFault) (out out' : ℕ) (taken taken' : Option (List ℕ)) → FailsOver (allows_of (begun server seed n)) q local_base options fault since now out out' taken taken' → MayEnd n options triples config q fault
+  may_end faults.Exchange out out' taken taken' f = fails_often n options.retries most now.faults few (f.lively_cause (triples ∷ []) config honest refl)
+  may_end faults.Stalled out out' taken taken' f = f.lively_cause (triples ∷ []) config honest refl
+  may_end (faults.Cut received) out out' taken taken' f = fails_often n options.retries most now.faults few (f.lively_cause (triples ∷ []) config honest refl)
+  may_end (faults.Reply fault received) out out' taken taken' f =
+      let c = f.honest_cause (triples ∷ []) config honest in
+      let answered = all_answered triples config q reads c.version c.is_version in (
+        c.too_long answered,
+        subst (λ (list : List Address). HasLongPage (triples ∷ []) config options.max_body list received) (at_version triples config q local_base (λ (list : List Address). list ≡ plan_of triples config q) c.version c.is_version refl) (c.long answered),
+      )
+  may_end (faults.Page fault body) out out' taken taken' f = let c = f.honest_cause (triples ∷ []) config honest in c.unread (all_read triples config q reads c.version c.is_version)
+  may_end (faults.Changed first other) out out' taken taken' f = let c = f.honest_cause (triples ∷ []) config honest in no_versions c.one c.two c.is_one c.is_two c.differ
+  may_end (faults.Budget m) out out' taken taken' f = (f.cause.0, overruns (f.lively_cause (triples ∷ []) config honest refl))
+  may_end faults.Sink out out' taken taken' f = tt
+  may_end faults.OutOfMemory out out' taken taken' f = tt
+
+-- ---- the call as it ended
+
+pub sends_from : (server : FragmentServer) (seed n : ℕ) (after : Looped FragmentServer) (q : QueryData) (options : Options)
+    → KeepsToPlan (allows_of (begun server seed n)) q local_base options (wire_of (begun server seed n)) (wire_of after)
+    → IsHonestWire (allows_of (begun server seed n)) ((serving server).data_set ∷ []) (serving server).config (wire_of (begun server seed n))
+    → LoopsServer server seed n (Some after) (λ old new. SendsPlan (serving server).data_set (serving server).config q (wire_of new))
+sends_from server seed n after q options plan honest = record {
+  after = after;
+  is_inside = refl;
+  says = sends_plan server seed n after q (plan.asked ((serving server).data_set ∷ []) (serving server).config honest);
+}
+
+same_some : {A : Type 0} (x y : A) → ◌≡◌ {A = Option A} (Some x) (Some y) → x ≡ y
+same_some x y e = cc
+
+pub ends_from : (server : FragmentServer) (seed n : ℕ) (after : Looped FragmentServer) (q : QueryData) (options : Options) (out out' : ℕ) (taken taken' : Option (List ℕ)) (result : Result Report ClientFault)
+    → IsHonestWire (allows_of (begun server seed n)) ((serving server).data_set ∷ []) (serving server).config (wire_of (begun server seed n))
+    → AllByRecursion (IsRead ((serving server).data_set ∷ []) (Served 1) (serving server).config) (plan_of (serving server).data_set (serving server).config q)
+    → CountsDue after.counts.failing after.counts.dials after.counts.faults after.provoked → options.budget < 2 ^ 63
+    → IfOk result (λ report. LoopsServer server seed n (Some after) (λ wire wire'. WritesOver (allows_of wire) q local_base options report (wire_of wire) (wire_of wire') taken taken'))
+    → IfErr result (λ fault. LoopsServer server seed n (Some after) (λ wire wire'. FailsOver (allows_of wire) q local_base options fault (wire_of wire) (wire_of wire') out out' taken taken'))
+    → EndsAsPlanned n options (serving server).data_set (serving server).config q result
+ends_from server seed n after q options out out' taken taken' (Ok report) honest reads due small ok err =
+    let w : WritesOver (allows_of (begun server seed n)) q local_base options report (wire_of (begun server seed n)) (wire_of after) taken taken' =
+    subst (λ (wire : Looped FragmentServer). WritesOver (allows_of (begun server seed n)) q local_base options report (wire_of (begun server seed n)) (wire_of wire) taken taken') (same_some ok.after after (sym ok.is_inside)) ok.says in
+    requests_counted server seed n after q options honest reads due small w.plan report taken taken' w
+ends_from server seed n after q options out out' taken taken' (Err fault) honest reads due small ok err =
+    let f : FailsOver (allows_of (begun server seed n)) q local_base options fault (wire_of (begun server seed n)) (wire_of after) out out' taken taken' =
+    subst (λ (wire : Looped FragmentServer). FailsOver (allows_of (begun server seed n)) q local_base options fault (wire_of (begun server seed n)) (wire_of wire) out out' taken taken') (same_some err.after after (sym err.is_inside)) err.says in
+    may_end server seed n after q options honest reads due small f.plan fault out out' taken taken' f
+
+-- what was answered
+pub answers_from : (server : FragmentServer) (seed n : ℕ) (after : Looped FragmentServer) (q : QueryData) (options : Options) (taken taken' : Option (List ℕ)) (result : Result Report ClientFault)
+    → IsHonestWire (allows_of (begun server seed n)) ((serving server).data_set ∷ []) (serving server).config (wire_of (begun server seed n))
+    → IfOk result (λ report. LoopsServer server seed n (Some after) (λ wire wire'. WritesOver (allows_of wire) q local_base options report (wire_of wire) (wire_of wire') taken taken'))
+    → IfOk result (λ report. LoopsServer server seed n (Some after) (λ wire wire'. AnswersPlan ((serving server).data_set ∷ []) (serving server).config options q local_base report (wire_of wire) (wire_of wire')))
+answers_from server seed n after q options taken taken' (Ok report) honest ok = record { after = ok.after; is_inside = ok.is_inside; says = ok.says.replied ((serving server).data_set ∷ []) (serving server).config honest }
+answers_from server seed n after q options taken taken' (Err fault) honest ok = tt
+
+-- ---- completeness
+
+long_body : (triples : List Triple) (config : Config) (most : ℕ) (list : List Address) (received : List ℕ) → AllByRecursion (IsSmallByAll (triples ∷ []) config most) list → HasLongPage (triples ∷ []) config most list received → ⊥
+long_body triples config most list received small h =
+    let b = h.long.is_body in
+    let fits = all_in (IsSmallByAll (triples ∷ []) config most) list h.address small h.is_asked in
+    let served = b.served in
+    let status : (answer_at (triples ∷ []) config (version_at b.mark) h.address).status ≡ 200 = ap (λ (a : Answer). a.status) (sym served) ∙ b.status in
+    let within = fits (version_at b.mark) (record { low = b.version.low; high = b.version.high }) status in
+    let body : length h.long.body ≡ length (answer_at (triples ∷ []) config (version_at b.mark) h.address).body = ap length (b.body_is ∙ ap (λ (a : Answer). a.body) served) in
+    let long = h.long.long in
+    omega (arith, within, body, long)
+
+-- none of the causes is there, and the output did not fail
+pub is_memory : (n : ℕ) (options : Options) (triples : List Triple) (config : Config) (q : QueryData) (fault : ClientFault) → PlanIsWithin n options triples config q → fault ≢ faults.Sink → MayEnd n options triples config q fault → fault ≡ faults.OutOfMemory
+is_memory n options triples config q faults.Exchange p sink h = absurd (not_often n options.retries (length (plan_of triples config q)) p.calm h)
+is_memory n options triples config q faults.Stalled p sink h = absurd h
+is_memory n options triples config q (faults.Cut received) p sink h = absurd (not_often n options.retries (length (plan_of triples config q)) p.calm h)
+is_memory n options triples config q (faults.Reply fault received) p sink h = absurd (long_body triples config options.max_body (plan_of triples config q) received p.small h.1)
+is_memory n options triples config q (faults.Page fault body) p sink h = absurd h
+is_memory n options triples config q (faults.Changed first other) p sink h = absurd h
+is_memory n options triples config q (faults.Budget m) p sink h = absurd (not_passed n options.retries options.budget (length (plan_of triples config q)) p.calm p.none p.some h.1)
+is_memory n options triples config q faults.Sink p sink h = absurd (sink refl)
+is_memory n options triples config q faults.OutOfMemory p sink h = refl

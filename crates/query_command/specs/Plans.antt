@@ -1,0 +1,125 @@
+-- What a query asks of a server in the same process, and how it may end there.
+use Rattle.std.specs.Prelude.{ℕ, ◌≡◌, ◌⊎◌, ◌+◌, ◌-◌, ◌*◌, ◌/◌, ◌≤◌, ◌<◌, ◌++◌, [], ◌∷◌, List, length, codes, Option, Some, None, Result, Ok, Err}
+use Rattle.std.specs.List.{AllByRecursion, Contains}
+use Rattle.std.specs.List.Sorted.{IsPermutation}
+use Rattle.rdf_terms.specs.declared.term.Triple.{Triple}
+use Rattle.tpf_base.specs.Addresses.{Address}
+use Rattle.tpf_base.specs.Links.{WireState}
+use Rattle.triple_table.specs.declared.choice.Choice.TheVariants.{DefaultGraph}
+use Rattle.triple_table.specs.Chosen.{chosen}
+use Rattle.triple_table.specs.Served.{IsServed}
+use Rattle.template_fill.specs.Metadata.{Config}
+use Rattle.http_wire.specs.declared.message.ReplyFault.TheVariants as refusals
+use Rattle.bgp_core.specs.Queries.{QueryData}
+use Rattle.loop_wire.specs.Looped.{Looped}
+use Rattle.fragment_server.specs.declared.server.FragmentServer.{FragmentServer}
+use Rattle.pool_laws.specs.Sending.{SendsFor}
+use Rattle.generated_data.specs.Generated.{generated}
+use Rattle.tpf_client.specs.declared.options.Options.{Options}
+use Rattle.tpf_client.specs.declared.options.Report.{Report}
+use Rattle.tpf_client.specs.declared.fault.ClientFault.{ClientFault}
+use Rattle.tpf_client.specs.declared.fault.ClientFault.TheVariants as client_faults
+use Rattle.tpf_client.specs.Requests.{addresses_of}
+use Rattle.tpf_client.specs.Plans.{HasLongPage, IsSmallByAll}
+use Rattle.tpf_client.specs.Requested.{AnswersPlan}
+use Rattle.data_files.specs.Data.{Files, IfTold, Serves}
+use Rattle.data_files.specs.Queries.{HoldsQuery}
+use Rattle.query_command.specs.declared.fault.AnswerFault.{AnswerFault}
+use Rattle.query_command.specs.declared.fault.AnswerFault.TheVariants as faults
+use Rattle.query_command.specs.declared.generated_query.Counts.{Counts}
+use Rattle.query_command.specs.Loops.{LocalView, LoopsFile, local_base, local_config, wire_of}
+
+-- the addresses that a query asks the server of these data for: the base, and the plan of its join (Verborgh et al.)
+abbrev pub plan_of : List Triple → Config → QueryData → List Address
+plan_of triples config q = addresses_of (triples ∷ []) config q local_base 1
+
+-- On each link whole requests for addresses of the plan were sent, and then nothing or a front of the request for one; each address was asked for at most as often as the plan has it.
+pub record SendsPlan (triples : List Triple) (config : Config) (q : QueryData) (wire : WireState) : Type 0 where
+  pub asked : List Address
+  pub rest : List Address
+  pub plan_is : IsPermutation (plan_of triples config q) (asked ++ rest)
+  pub sent : (k : ℕ) → k < wire.given → SendsFor (Contains asked) (wire.links k)
+
+-- on the wire that was made, where one was
+abbrev pub SendsInside : Option (Looped FragmentServer) → List Triple → Config → QueryData → Type 0
+SendsInside None triples config q = Unit {0}
+SendsInside (Some after) triples config q = SendsPlan triples config q (wire_of after)
+
+-- Each address of the plan was answered on the wire that was made as often as the plan has it, or more, and was requested no more than so often for each time that it may be tried.
+abbrev pub RepliedInside : Option Files → LocalView → Option (Looped FragmentServer) → Report → List Triple → QueryData → Type 0
+RepliedInside told local inside report triples q =
+    LoopsFile told local inside (λ old new. AnswersPlan (triples ∷ []) (local_config local.page_size) local.options q local_base report (wire_of old) (wire_of new))
+
+-- ---- how many requests there are, where each n-th dial fails, and none for 0
+
+-- of so many addresses
+pub record CountsRequests (n retries addresses requests : ℕ) : Type 0 where
+  pub each : addresses ≤ requests
+  pub exact : n ≡ 0 → requests ≡ addresses
+  pub few : 2 ≤ n → requests ≤ addresses + addresses / (n - 1)
+  pub tries : requests ≤ (retries + 1) * addresses
+
+-- ---- how a query may end, where each n-th dial fails
+
+-- dials of one request failed once more than it may be asked again, which takes so many other dials
+pub record FailsOften (n retries addresses : ℕ) : Type 0 where
+  pub some : 0 < n
+  pub often : (n - 1) * (retries + 1) ≤ addresses
+
+-- the addresses, and the requests that failed among them, are together more than the budget
+pub record PassesBudget (n retries budget addresses : ℕ) : Type 0 where
+  pub none : n ≡ 0 → budget < addresses
+  pub all : n ≡ 1 → budget < addresses + (retries + 1) * addresses
+  pub some : 2 ≤ n → budget < addresses + addresses / (n - 1)
+
+-- which faults may come: a request fails too often, but is never stalled; a body of the plan is too long; the budget is too small; the output fails; memory is wanting
+abbrev pub MayEnd : ℕ → Options → List Triple → Config → QueryData → ClientFault → Type 0
+MayEnd n options triples config q client_faults.Exchange = FailsOften n options.retries (length (plan_of triples config q))
+MayEnd n options triples config q client_faults.Stalled = ⊥
+MayEnd n options triples config q (client_faults.Cut received) = FailsOften n options.retries (length (plan_of triples config q))
+MayEnd n options triples config q (client_faults.Reply fault received) = (fault ≡ refusals.TooLong) × HasLongPage (triples ∷ []) config options.max_body (plan_of triples config q) received
+MayEnd n options triples config q (client_faults.Page fault body) = ⊥
+MayEnd n options triples config q (client_faults.Changed first other) = ⊥
+MayEnd n options triples config q (client_faults.Budget most) = (most ≡ options.budget) × PassesBudget n options.retries options.budget (length (plan_of triples config q))
+MayEnd n options triples config q client_faults.Sink = Unit {0}
+MayEnd n options triples config q client_faults.OutOfMemory = Unit {0}
+
+-- how a call over the wire ended
+abbrev pub EndsAsPlanned : ℕ → Options → List Triple → Config → QueryData → Result Report ClientFault → Type 0
+EndsAsPlanned n options triples config q (Ok report) = CountsRequests n options.retries (length (plan_of triples config q)) report.requests
+EndsAsPlanned n options triples config q (Err fault) = MayEnd n options triples config q fault
+
+-- ---- the commands
+
+-- a fault over the wire is one that may come
+abbrev pub MayFail : ℕ → Options → List Triple → Config → QueryData → AnswerFault → Type 0
+MayFail n options triples config q (faults.Data fault) = Unit {0}
+MayFail n options triples config q (faults.Query fault) = Unit {0}
+MayFail n options triples config q (faults.Client fault) = MayEnd n options triples config q fault
+
+-- the query of a file: the requests of an answer, or why there is none
+abbrev pub EndsLocally : ℕ → Options → List Triple → Config → QueryData → Result Report AnswerFault → Type 0
+EndsLocally n options triples config q (Ok report) = CountsRequests n options.retries (length (plan_of triples config q)) report.requests
+EndsLocally n options triples config q (Err fault) = MayFail n options triples config q fault
+
+-- the query of generated data
+abbrev pub EndsCounted : Options → List Triple → Config → QueryData → Result Counts AnswerFault → Type 0
+EndsCounted options triples config q (Ok counts) = Unit {0}
+EndsCounted options triples config q (Err fault) = MayFail 0 options triples config q fault
+
+-- of the data that are served of a file and the query of another, where the shelf tells them
+abbrev pub OfFiles : Option Files → LocalView → (List Triple → QueryData → Type 0) → Type 0
+OfFiles told local holds = IfTold told (λ files. (triples : List Triple) (q : QueryData) → Serves files local.name local.choice (codes "localhost") triples → HoldsQuery files local.query q → holds triples q)
+
+-- of the generated data that are served, and the query of a file, where the shelf tells it
+abbrev pub OfGenerated : Option Files → ℕ → List ℕ → (List Triple → QueryData → Type 0) → Type 0
+OfGenerated told persons query_name holds = IfTold told (λ files. (triples : List Triple) (q : QueryData) → IsServed (codes "localhost") (chosen DefaultGraph (generated persons)) triples → HoldsQuery files query_name q → holds triples q)
+
+-- ---- completeness
+
+-- None of the causes is there: no dial fails or too few do, each body of the plan is within the limit, and the addresses with the requests that fail among them are within the budget.
+pub record PlanIsWithin (n : ℕ) (options : Options) (triples : List Triple) (config : Config) (q : QueryData) : Type 0 where
+  pub calm : (n ≡ 0) ⊎ (length (plan_of triples config q) < (n - 1) * (options.retries + 1))
+  pub small : AllByRecursion (IsSmallByAll (triples ∷ []) config options.max_body) (plan_of triples config q)
+  pub none : n ≡ 0 → length (plan_of triples config q) ≤ options.budget
+  pub some : 2 ≤ n → length (plan_of triples config q) + length (plan_of triples config q) / (n - 1) ≤ options.budget

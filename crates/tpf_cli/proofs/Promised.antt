@@ -1,0 +1,317 @@
+-- Which status may come of a run, and when a run succeeds.
+use Rattle.std.proofs.Common.{ℕ, ◌≡◌, ◌≢◌, ◌⊎◌, ◌<◌, ◌≤◌, ◌^◌, inl, inr, List, length, Option, Some, None, Result, Ok, Err, IfErr, refl, sym, subst, arith}
+use Rattle.rdf_terms.specs.declared.term.Triple.{Triple}
+use Rattle.tpf_base.specs.Addresses.{Address, authority_of}
+use Rattle.tpf_base.specs.Causes.{Rose}
+use Rattle.tpf_base.specs.declared.fault.Fault.{Fault}
+use Rattle.tpf_base.specs.declared.fault.Fault.TheVariants as sinks
+use Rattle.template_fill.specs.Metadata.{Config}
+use Rattle.triple_table.specs.declared.choice.Choice.{Choice}
+use Rattle.bgp_core.specs.Queries.{QueryData}
+use Rattle.tpf_client.specs.declared.options.Options.{Options}
+use Rattle.tpf_client.specs.declared.options.Report.{Report}
+use Rattle.tpf_client.specs.declared.fault.ClientFault.{ClientFault}
+use Rattle.tpf_client.specs.declared.fault.ClientFault.TheVariants as clients
+use Rattle.data_files.specs.declared.fault.DataFault.{DataFault}
+use Rattle.data_files.specs.declared.fault.DataFault.TheVariants as data_faults
+use Rattle.data_files.specs.declared.fault.QueryFileFault.{QueryFileFault}
+use Rattle.data_files.specs.declared.fault.QueryFileFault.TheVariants as query_faults
+use Rattle.data_files.specs.Data.{IfTold, Serves, served}
+use Rattle.query_command.specs.declared.fault.AnswerFault.{AnswerFault}
+use Rattle.query_command.specs.declared.fault.AnswerFault.TheVariants as answers
+use Rattle.query_command.specs.Answers.{FitsOver, OfQuery, IsWanting}
+use Rattle.query_command.specs.Generated.{usual_options}
+use Rattle.query_command.specs.Loops.{LocalView, local_config}
+use Rattle.query_command.specs.Plans.{plan_of, MayEnd, MayFail, OfFiles, OfGenerated, PlanIsWithin}
+use Rattle.query_command.proofs.Complete.{data_memory}
+use Rattle.serve_command.specs.declared.fault.ServiceFault.{ServiceFault}
+use Rattle.serve_command.specs.declared.fault.ServiceFault.TheVariants as services
+use Rattle.command_words.specs.declared.command.ClientWords.{ClientWords}
+use Rattle.command_words.specs.Commands.{Command, local, query, serve, make}
+use Rattle.tpf_cli.specs.Endings as ends
+use Rattle.tpf_cli.specs.Endings.{EndOfRun, usage, no_words, answered, made, counted, data_status, query_status, client_status, fault_status, answer_status, service_status, made_status, counted_status, status_of, line_of, Says}
+use Rattle.tpf_cli.specs.Ranges.{IsInRange}
+use Rattle.tpf_cli.specs.Runs.{Around, AsksFile, AsksServer, ServesFile, Writes, AsksGenerated, Does, DoesOf, options_of, view_of, config_by}
+use Rattle.tpf_cli.specs.Promises.{KeepsTable, KeepsTableOf, TellsRequests, TellsRequestsOf, IsDone, SucceedsOf}
+
+-- ---- the table
+
+module _ (n : ℕ) (options : Options) (triples : List Triple) (config : Config) (q : QueryData) where
+  -- a status that the table does not speak of
+  other_status : (status : ℕ) → (status ≤ 4) ⊎ ((8 ≤ status) × (status ≤ 10)) → KeepsTable n options triples config q status
+  other_status status (inl low) = record {
+    exchange = λ e. absurd (omega (arith, low, e));
+    reply = λ e. absurd (omega (arith, low, e));
+    budget = λ e. absurd (omega (arith, low, e));
+    changed = λ e. omega (arith, low, e);
+    wire = λ e. omega (arith, low, e);
+  }
+  other_status status (inr between) = record {
+    exchange = λ e. absurd (omega (arith, between, e));
+    reply = λ e. absurd (omega (arith, between, e));
+    budget = λ e. absurd (omega (arith, between, e));
+    changed = λ e. omega (arith, between, e);
+    wire = λ e. omega (arith, between, e);
+  }
+
+  done_table : KeepsTable n options triples config q 0
+  done_table = other_status 0 (inl (omega arith))
+
+  memory_table : KeepsTable n options triples config q 8
+  memory_table = other_status 8 (inr (omega arith, omega arith))
+
+  data_table : (fault : DataFault) → KeepsTable n options triples config q (data_status fault)
+  data_table data_faults.TooLong = other_status 3 (inl (omega arith))
+  data_table (data_faults.Bad line why) = other_status 3 (inl (omega arith))
+  data_table (data_faults.GenidClash label) = other_status 3 (inl (omega arith))
+  data_table data_faults.TooMany = other_status 3 (inl (omega arith))
+  data_table data_faults.File = other_status 10 (inr (omega arith, omega arith))
+  data_table data_faults.OutOfMemory = memory_table
+
+  query_table : (fault : QueryFileFault) → KeepsTable n options triples config q (query_status fault)
+  query_table (query_faults.Bad at why) = other_status 4 (inl (omega arith))
+  query_table query_faults.File = other_status 10 (inr (omega arith, omega arith))
+  query_table query_faults.OutOfMemory = memory_table
+
+  client_table : (fault : ClientFault) → MayEnd n options triples config q fault → KeepsTable n options triples config q (client_status fault)
+  client_table clients.Exchange h = record { exchange = λ e. h; reply = λ e. absurd (omega (arith, e)); budget = λ e. absurd (omega (arith, e)); changed = λ e. omega (arith, e); wire = λ e. omega (arith, e) }
+  client_table clients.Stalled h = absurd h
+  client_table (clients.Cut received) h = record { exchange = λ e. h; reply = λ e. absurd (omega (arith, e)); budget = λ e. absurd (omega (arith, e)); changed = λ e. omega (arith, e); wire = λ e. omega (arith, e) }
+  client_table (clients.Reply fault received) h = record { exchange = λ e. absurd (omega (arith, e)); reply = λ e. (received, h.1); budget = λ e. absurd (omega (arith, e)); changed = λ e. omega (arith, e); wire = λ e. omega (arith, e) }
+  client_table (clients.Page fault body) h = absurd h
+  client_table (clients.Changed first other) h = absurd h
+  client_table (clients.Budget most) h = record { exchange = λ e. absurd (omega (arith, e)); reply = λ e. absurd (omega (arith, e)); budget = λ e. h.1; changed = λ e. omega (arith, e); wire = λ e. omega (arith, e) }
+  client_table clients.Sink h = other_status 9 (inr (omega arith, omega arith))
+  client_table clients.OutOfMemory h = memory_table
+
+  fault_table : (fault : AnswerFault) → MayFail n options triples config q fault → KeepsTable n options triples config q (fault_status fault)
+  fault_table (answers.Data fault) h = data_table fault
+  fault_table (answers.Query fault) h = query_table fault
+  fault_table (answers.Client fault) h = client_table fault h
+
+-- the statuses of faults
+known_data : (fault : DataFault) → (3 ≤ data_status fault) × (data_status fault ≤ 11)
+known_data data_faults.TooLong = (omega arith, omega arith)
+known_data (data_faults.Bad line why) = (omega arith, omega arith)
+known_data (data_faults.GenidClash label) = (omega arith, omega arith)
+known_data data_faults.TooMany = (omega arith, omega arith)
+known_data data_faults.File = (omega arith, omega arith)
+known_data data_faults.OutOfMemory = (omega arith, omega arith)
+
+known_query : (fault : QueryFileFault) → (3 ≤ query_status fault) × (query_status fault ≤ 11)
+known_query (query_faults.Bad at why) = (omega arith, omega arith)
+known_query query_faults.File = (omega arith, omega arith)
+known_query query_faults.OutOfMemory = (omega arith, omega arith)
+
+known_client : (fault : ClientFault) → (3 ≤ client_status fault) × (client_status fault ≤ 11)
+known_client clients.Exchange = (omega arith, omega arith)
+known_client clients.Stalled = (omega arith, omega arith)
+known_client (clients.Cut received) = (omega arith, omega arith)
+known_client (clients.Reply fault received) = (omega arith, omega arith)
+known_client (clients.Page fault body) = (omega arith, omega arith)
+known_client (clients.Changed first other) = (omega arith, omega arith)
+known_client (clients.Budget most) = (omega arith, omega arith)
+known_client clients.Sink = (omega arith, omega arith)
+known_client clients.OutOfMemory = (omega arith, omega arith)
+
+known_fault : (fault : AnswerFault) → (3 ≤ fault_status fault) × (fault_status fault ≤ 11)
+known_fault (answers.Data fault) = known_data fault
+known_fault (answers.Query fault) = known_query fault
+known_fault (answers.Client fault) = known_client fault
+
+not_twelve : (answer : Result Report AnswerFault) → answer_status answer ≡ 12 → ⊥
+not_twelve (Ok report) e = omega (arith, e)
+not_twelve (Err fault) e = let known = known_fault fault in omega (arith, known.1, e)
+
+-- ---- completeness
+
+wanting_done : (fault : AnswerFault) → IsWanting fault → IsDone (fault_status fault)
+wanting_done (answers.Data fault) h = subst (λ (f : DataFault). IsDone (data_status f)) (sym h) (inr refl)
+wanting_done (answers.Query fault) h = subst (λ (f : QueryFileFault). IsDone (query_status f)) (sym h) (inr refl)
+wanting_done (answers.Client fault) h = subst (λ (f : ClientFault). IsDone (client_status f)) (sym h) (inr refl)
+
+answer_done : (answer : Result Report AnswerFault) → IfErr answer IsWanting → IsDone (answer_status answer)
+answer_done (Ok report) h = inl refl
+answer_done (Err fault) h = wanting_done fault h
+
+counted_done : (result : Result (Unit {0}) AnswerFault) → IfErr result IsWanting → IsDone (counted_status result)
+counted_done (Ok nothing) h = inl refl
+counted_done (Err fault) h = wanting_done fault h
+
+module _ (a : Around) where
+  -- ---- a query in one process
+
+  file_table : (view : LocalView) (answer : Result Report AnswerFault) → view.options.budget < 2 ^ 63 → AsksFile a view answer → OfFiles a.told view (λ triples q. KeepsTable view.fail_every view.options triples (local_config view.page_size) q (answer_status answer))
+  file_table view (Ok report) small h = λ files is triples q serves holds. done_table view.fail_every view.options triples (local_config view.page_size) q
+  file_table view (Err fault) small h = λ files is triples q serves holds. fault_table view.fail_every view.options triples (local_config view.page_size) q fault (h.2.ends small files is triples q serves holds)
+
+  file_succeeds : (view : LocalView) (answer : Result Report AnswerFault) → view.options.budget < 2 ^ 63 → AsksFile a view answer → ¬ (Rose a.shelf a.shelf') → ¬ (Rose a.out a.out')
+      → OfFiles a.told view (λ triples q. PlanIsWithin view.fail_every view.options triples (local_config view.page_size) q → IsDone (answer_status answer))
+  file_succeeds view (Ok report) small h quiet fine = λ files is triples q serves holds within. inl refl
+  file_succeeds view (Err fault) small h quiet fine = λ files is triples q serves holds within. wanting_done fault (h.2.complete small quiet fine files is triples q serves holds within)
+
+  generated_table : (persons : ℕ) (name : List ℕ) (result : Result (Unit {0}) AnswerFault) → AsksGenerated a persons name result → OfGenerated a.told persons name (λ triples q. KeepsTable 0 usual_options triples (local_config 100) q (counted_status result))
+  generated_table persons name (Ok nothing) h = λ files is triples q serves holds. done_table 0 usual_options triples (local_config 100) q
+  generated_table persons name (Err fault) h = λ files is triples q serves holds. fault_table 0 usual_options triples (local_config 100) q fault (h.2.ends files is triples q serves holds)
+
+  generated_succeeds : (persons : ℕ) (name : List ℕ) (result : Result (Unit {0}) AnswerFault) → AsksGenerated a persons name result → ¬ (Rose a.shelf a.shelf') → ¬ (Rose a.out a.out')
+      → OfGenerated a.told persons name (λ triples q. PlanIsWithin 0 usual_options triples (local_config 100) q → IsDone (counted_status result))
+  generated_succeeds persons name (Ok nothing) h quiet fine = λ files is triples q serves holds within. inl refl
+  generated_succeeds persons name (Err fault) h quiet fine = λ files is triples q serves holds within. wanting_done fault (h.2.complete quiet fine files is triples q serves holds within)
+
+  -- ---- the other commands
+
+  server_succeeds : (name : List ℕ) (client : ClientWords) (answer : Result Report AnswerFault) (url : Address) → AsksServer a name url (options_of client) answer → ¬ (Rose a.shelf a.shelf') → ¬ (Rose a.out a.out')
+      → OfQuery a.told name (λ q. (triples : List Triple) (config : Config) → FitsOver a.allows q url (options_of client) triples config a.wire a.wire' → IsDone (answer_status answer))
+  server_succeeds name client (Ok report) url h quiet fine = λ files is q holds triples config fits. inl refl
+  server_succeeds name client (Err fault) url h quiet fine = λ files is q holds triples config fits. wanting_done fault (h.2 quiet fine files is q holds triples config fits)
+
+  service_succeeds : (name : List ℕ) (choice : Choice) (config : Config) (stop_after : Option ℕ) (result : Result ℕ ServiceFault) → ServesFile a name choice config stop_after result
+      → ¬ (Rose a.shelf a.shelf') → ¬ (Rose a.out a.out') → ¬ (Rose a.wire.faults a.wire'.faults)
+      → IfTold a.told (λ files. (triples : List Triple) → Serves files name choice (authority_of config.base) triples → IsDone (service_status result))
+  service_succeeds name choice config stop_after (Ok connections) s quiet fine calm = λ files is triples serves. inl refl
+  service_succeeds name choice config stop_after (Err (services.Data fault)) s quiet fine calm = λ files is triples serves.
+      subst (λ (f : DataFault). IsDone (data_status f)) (sym (data_memory triples fault (s.exact quiet files is (served triples) serves))) (inr refl)
+  service_succeeds name choice config stop_after (Err services.Wire) s quiet fine calm = λ files is triples serves. absurd (calm s.cause)
+  service_succeeds name choice config stop_after (Err services.Sink) s quiet fine calm = λ files is triples serves. absurd (fine s.cause)
+  service_succeeds name choice config stop_after (Err services.OutOfMemory) s quiet fine calm = λ files is triples serves. inr refl
+
+  made_succeeds : (count : ℕ) (result : Result (Unit {0}) Fault) → Writes a count result → ¬ (Rose a.out a.out') → IsDone (made_status result)
+  made_succeeds count (Ok nothing) h fine = inl refl
+  made_succeeds count (Err sinks.Failed) h fine = absurd (fine h.3)
+  made_succeeds count (Err sinks.OutOfMemory) h fine = inr refl
+
+  -- ---- commands
+
+  budget_small : (n : ℕ) → n ≤ 1000000000000 → n < 2 ^ 63
+  budget_small n h = omega (arith, h)
+
+  table_command : (command : Command) → IsInRange command → (end : EndOfRun) → Does a command end → KeepsTableOf a (Some command) (status_of end)
+  table_command (local name query_name choice page client seed fail_every) r (answered data_name asked answer) h = file_table (view_of name query_name choice page client seed fail_every) answer (budget_small client.budget r.2.budget) h.2
+  table_command (local name query_name choice page client seed fail_every) r usage h = absurd h
+  table_command (local name query_name choice page client seed fail_every) r no_words h = absurd h
+  table_command (local name query_name choice page client seed fail_every) r (ends.served file service) h = absurd h
+  table_command (local name query_name choice page client seed fail_every) r (made written) h = absurd h
+  table_command (local name query_name choice page client seed fail_every) r (counted asked result) h = absurd h
+  table_command (query url query_name client) r (answered data_name asked answer) h = not_twelve answer
+  table_command (query url query_name client) r usage h = absurd h
+  table_command (query url query_name client) r no_words h = absurd h
+  table_command (query url query_name client) r (ends.served file service) h = absurd h
+  table_command (query url query_name client) r (made written) h = absurd h
+  table_command (query url query_name client) r (counted asked result) h = absurd h
+  table_command (serve name base choice page stop_after reload) r end h = tt
+  table_command (make count None) r end h = tt
+  table_command (make count (Some name)) r (counted asked result) h = generated_table count name result h.1
+  table_command (make count (Some name)) r usage h = absurd h
+  table_command (make count (Some name)) r no_words h = absurd h
+  table_command (make count (Some name)) r (answered data_name asked answer) h = absurd h
+  table_command (make count (Some name)) r (ends.served file service) h = absurd h
+  table_command (make count (Some name)) r (made written) h = absurd h
+
+  succeeds_command : (command : Command) → IsInRange command → (end : EndOfRun) → Does a command end → SucceedsOf a (Some command) (status_of end)
+  succeeds_command (local name query_name choice page client seed fail_every) r (answered data_name asked answer) h = file_succeeds (view_of name query_name choice page client seed fail_every) answer (budget_small client.budget r.2.budget) h.2
+  succeeds_command (local name query_name choice page client seed fail_every) r usage h = absurd h
+  succeeds_command (local name query_name choice page client seed fail_every) r no_words h = absurd h
+  succeeds_command (local name query_name choice page client seed fail_every) r (ends.served file service) h = absurd h
+  succeeds_command (local name query_name choice page client seed fail_every) r (made written) h = absurd h
+  succeeds_command (local name query_name choice page client seed fail_every) r (counted asked result) h = absurd h
+  succeeds_command (query url query_name client) r (answered data_name asked answer) h = server_succeeds query_name client answer url h.1
+  succeeds_command (query url query_name client) r usage h = absurd h
+  succeeds_command (query url query_name client) r no_words h = absurd h
+  succeeds_command (query url query_name client) r (ends.served file service) h = absurd h
+  succeeds_command (query url query_name client) r (made written) h = absurd h
+  succeeds_command (query url query_name client) r (counted asked result) h = absurd h
+  succeeds_command (serve name base choice page stop_after reload) r (ends.served file service) h = service_succeeds name choice (config_by base page reload) stop_after service h.1
+  succeeds_command (serve name base choice page stop_after reload) r usage h = absurd h
+  succeeds_command (serve name base choice page stop_after reload) r no_words h = absurd h
+  succeeds_command (serve name base choice page stop_after reload) r (answered data_name asked answer) h = absurd h
+  succeeds_command (serve name base choice page stop_after reload) r (made written) h = absurd h
+  succeeds_command (serve name base choice page stop_after reload) r (counted asked result) h = absurd h
+  succeeds_command (make count None) r (made written) h = made_succeeds count written h
+  succeeds_command (make count None) r usage h = absurd h
+  succeeds_command (make count None) r no_words h = absurd h
+  succeeds_command (make count None) r (answered data_name asked answer) h = absurd h
+  succeeds_command (make count None) r (ends.served file service) h = absurd h
+  succeeds_command (make count None) r (counted asked result) h = absurd h
+  succeeds_command (make count (Some name)) r (counted asked result) h = generated_succeeds count name result h.1
+  succeeds_command (make count (Some name)) r usage h = absurd h
+  succeeds_command (make count (Some name)) r no_words h = absurd h
+  succeeds_command (make count (Some name)) r (answered data_name asked answer) h = absurd h
+  succeeds_command (make count (Some name)) r (ends.served file service) h = absurd h
+  succeeds_command (make count (Some name)) r (made written) h = absurd h
+
+  -- ---- want of memory
+
+  memory_keeps : (command : Option Command) → KeepsTableOf a command 8
+  memory_keeps None = tt
+  memory_keeps (Some (local name query_name choice page client seed fail_every)) = λ files is triples q serves holds. memory_table fail_every (options_of client) triples (local_config page) q
+  memory_keeps (Some (query url query_name client)) = λ e. omega (arith, e)
+  memory_keeps (Some (serve name base choice page stop_after reload)) = tt
+  memory_keeps (Some (make count None)) = tt
+  memory_keeps (Some (make count (Some name))) = λ files is triples q serves holds. memory_table 0 usual_options triples (local_config 100) q
+
+  memory_succeeds : (command : Option Command) → SucceedsOf a command 8
+  memory_succeeds None = tt
+  memory_succeeds (Some (local name query_name choice page client seed fail_every)) = λ quiet fine files is triples q serves holds within. inr refl
+  memory_succeeds (Some (query url query_name client)) = λ quiet fine files is q holds triples config fits. inr refl
+  memory_succeeds (Some (serve name base choice page stop_after reload)) = λ quiet fine calm files is triples serves. inr refl
+  memory_succeeds (Some (make count None)) = λ fine. inr refl
+  memory_succeeds (Some (make count (Some name))) = λ quiet fine files is triples q serves holds within. inr refl
+
+  -- ---- runs
+
+  table_of : (command : Option Command) → ((c : Command) → command ≡ Some c → IsInRange c) → (end : EndOfRun) → DoesOf a command end → KeepsTableOf a command (status_of end)
+  table_of None ranged end h = tt
+  table_of (Some command) ranged end (inl h) = table_command command (ranged command refl) end h
+  table_of (Some command) ranged end (inr h) = subst (λ (e : EndOfRun). KeepsTableOf a (Some command) (status_of e)) (sym h.0) (memory_keeps (Some command))
+
+  succeeds_of : (command : Option Command) → ((c : Command) → command ≡ Some c → IsInRange c) → (end : EndOfRun) → DoesOf a command end → SucceedsOf a command (status_of end)
+  succeeds_of None ranged end h = tt
+  succeeds_of (Some command) ranged end (inl h) = succeeds_command command (ranged command refl) end h
+  succeeds_of (Some command) ranged end (inr h) = subst (λ (e : EndOfRun). SucceedsOf a (Some command) (status_of e)) (sym h.0) (memory_succeeds (Some command))
+
+  -- the status is that of the ending, or 8
+  pub run_table : (command : Option Command) → ((c : Command) → command ≡ Some c → IsInRange c) → (end : EndOfRun) (result faults faults' : ℕ) (old new : Option (List ℕ)) → DoesOf a command end → Says result end faults faults' old new → KeepsTableOf a command result
+  run_table command ranged end result faults faults' old new h (inl s) = subst (KeepsTableOf a command) (sym s.0) (table_of command ranged end h)
+  run_table command ranged end result faults faults' old new h (inr s) = subst (KeepsTableOf a command) (sym s.0) (memory_keeps command)
+
+  pub run_succeeds : (command : Option Command) → ((c : Command) → command ≡ Some c → IsInRange c) → (end : EndOfRun) (result faults faults' : ℕ) (old new : Option (List ℕ)) → DoesOf a command end → Says result end faults faults' old new → SucceedsOf a command result
+  run_succeeds command ranged end result faults faults' old new h (inl s) = subst (SucceedsOf a command) (sym s.0) (succeeds_of command ranged end h)
+  run_succeeds command ranged end result faults faults' old new h (inr s) = subst (SucceedsOf a command) (sym s.0) (memory_succeeds command)
+
+  -- ---- the requests that are told
+
+  told_requests : (view : LocalView) (answer : Result Report AnswerFault) → view.options.budget < 2 ^ 63 → AsksFile a view answer → (data_name asked : List ℕ) (result faults faults' : ℕ) (old new : Option (List ℕ)) → Says result (answered data_name asked answer) faults faults' old new
+      → result ≡ 0 → OfFiles a.told view (λ triples q. TellsRequests view.fail_every view.options.retries (length (plan_of triples (local_config view.page_size) q)) faults faults' old new)
+  told_requests view (Ok report) small h data_name asked result faults faults' old new (inl s) zero_status = λ files is triples q serves holds.
+      record { requests = report.requests; rows = report.rows; counts = h.2.ends small files is triples q serves holds; told = s.1 }
+  told_requests view (Ok report) small h data_name asked result faults faults' old new (inr s) zero_status = let eight = s.0 in absurd (omega (arith, eight, zero_status))
+  told_requests view (Err fault) small h data_name asked result faults faults' old new (inl s) zero_status = let known = known_fault fault in let is = s.0 in absurd (omega (arith, known.0, is, zero_status))
+  told_requests view (Err fault) small h data_name asked result faults faults' old new (inr s) zero_status = let eight = s.0 in absurd (omega (arith, eight, zero_status))
+
+  requests_command : (command : Command) → IsInRange command → (end : EndOfRun) (result faults faults' : ℕ) (old new : Option (List ℕ)) → Does a command end → Says result end faults faults' old new → TellsRequestsOf a (Some command) result faults faults' old new
+  requests_command (local name query_name choice page client seed fail_every) r (answered data_name asked answer) result faults faults' old new h s = told_requests (view_of name query_name choice page client seed fail_every) answer (budget_small client.budget r.2.budget) h.2 data_name asked result faults faults' old new s
+  requests_command (local name query_name choice page client seed fail_every) r usage result faults faults' old new h s = absurd h
+  requests_command (local name query_name choice page client seed fail_every) r no_words result faults faults' old new h s = absurd h
+  requests_command (local name query_name choice page client seed fail_every) r (ends.served file service) result faults faults' old new h s = absurd h
+  requests_command (local name query_name choice page client seed fail_every) r (made written) result faults faults' old new h s = absurd h
+  requests_command (local name query_name choice page client seed fail_every) r (counted asked given) result faults faults' old new h s = absurd h
+  requests_command (query url query_name client) r end result faults faults' old new h s = tt
+  requests_command (serve name base choice page stop_after reload) r end result faults faults' old new h s = tt
+  requests_command (make count asked) r end result faults faults' old new h s = tt
+
+  -- memory ran out over the words
+  no_requests : (command : Command) (end : EndOfRun) (result faults faults' : ℕ) (old new : Option (List ℕ)) → end ≡ no_words → Says result end faults faults' old new → TellsRequestsOf a (Some command) result faults faults' old new
+  no_requests (local name query_name choice page client seed fail_every) end result faults faults' old new e s = λ zero_status. absurd (eight (subst (λ (x : EndOfRun). Says result x faults faults' old new) e s) zero_status)
+    where
+      eight : Says result no_words faults faults' old new → result ≡ 0 → ⊥
+      eight (inl t) z = let is = t.0 in omega (arith, is, z)
+      eight (inr t) z = let is = t.0 in omega (arith, is, z)
+  no_requests (query url query_name client) end result faults faults' old new e s = tt
+  no_requests (serve name base choice page stop_after reload) end result faults faults' old new e s = tt
+  no_requests (make count asked) end result faults faults' old new e s = tt
+
+  pub run_requests : (command : Option Command) → ((c : Command) → command ≡ Some c → IsInRange c) → (end : EndOfRun) (result faults faults' : ℕ) (old new : Option (List ℕ)) → DoesOf a command end → Says result end faults faults' old new → TellsRequestsOf a command result faults faults' old new
+  run_requests None ranged end result faults faults' old new h s = tt
+  run_requests (Some command) ranged end result faults faults' old new (inl h) s = requests_command command (ranged command refl) end result faults faults' old new h s
+  run_requests (Some command) ranged end result faults faults' old new (inr h) s = no_requests command end result faults faults' old new h.0 s

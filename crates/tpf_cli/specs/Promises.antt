@@ -1,0 +1,82 @@
+-- Which status may come of a run, and when a run succeeds.
+use Rattle.std.specs.Prelude.{ℕ, ◌≡◌, ◌⊎◌, ◌++◌, List, length, codes, decimal, Option, Some, None, [], ◌∷◌}
+use Rattle.std.specs.Io.KnownBytes.{Appends}
+use Rattle.rdf_terms.specs.declared.term.Triple.{Triple}
+use Rattle.tpf_base.specs.Addresses.{authority_of}
+use Rattle.tpf_base.specs.Causes.{Rose}
+use Rattle.tpf_base.specs.Wrote.{AppendsPrefix}
+use Rattle.template_fill.specs.Metadata.{Config}
+use Rattle.bgp_core.specs.Queries.{QueryData}
+use Rattle.tpf_client.specs.declared.options.Options.{Options}
+use Rattle.tpf_client.specs.Plans.{HasLongPage}
+use Rattle.data_files.specs.Data.{IfTold, Serves}
+use Rattle.query_command.specs.Answers.{FitsOver, OfQuery}
+use Rattle.query_command.specs.Generated.{usual_options}
+use Rattle.query_command.specs.Loops.{local_config}
+use Rattle.query_command.specs.Plans.{plan_of, CountsRequests, FailsOften, PassesBudget, OfFiles, OfGenerated, PlanIsWithin}
+use Rattle.command_words.specs.Commands.{Command, local, query, serve, make}
+use Rattle.tpf_cli.specs.Runs.{Around, options_of, view_of}
+
+-- ---- the table of a query in one process, where each n-th dial fails
+
+-- 5 comes only where so many dials fail, 6 only where a body of the plan is longer than the limit, 7 only where the plan and the requests that fail pass the budget; 11 and 12 never come
+pub record KeepsTable (n : ℕ) (options : Options) (triples : List Triple) (config : Config) (q : QueryData) (status : ℕ) : Type 0 where
+  pub exchange : status ≡ 5 → FailsOften n options.retries (length (plan_of triples config q))
+  pub reply : status ≡ 6 → (received : List ℕ) × HasLongPage (triples ∷ []) config options.max_body (plan_of triples config q) received
+  pub budget : status ≡ 7 → PassesBudget n options.retries options.budget (length (plan_of triples config q))
+  pub changed : status ≡ 11 → ⊥
+  pub wire : status ≡ 12 → ⊥
+
+-- of what the words command
+abbrev pub KeepsTableOf : Around → Option Command → ℕ → Type 0
+KeepsTableOf a None status = Unit {0}
+KeepsTableOf a (Some (local name query_name choice page client seed fail_every)) status =
+    OfFiles a.told (view_of name query_name choice page client seed fail_every) (λ triples q. KeepsTable fail_every (options_of client) triples (local_config page) q status)
+KeepsTableOf a (Some (query url query_name client)) status = status ≡ 12 → ⊥
+KeepsTableOf a (Some (serve name base choice page stop_after reload)) status = Unit {0}
+KeepsTableOf a (Some (make count None)) status = Unit {0}
+KeepsTableOf a (Some (make count (Some asked_name))) status = OfGenerated a.told count asked_name (λ triples q. KeepsTable 0 usual_options triples (local_config 100) q status)
+
+-- ---- the number of requests that is told
+
+-- the line of an answer
+abbrev pub counts_text : ℕ → ℕ → List ℕ
+counts_text requests rows = codes "requests " ++ decimal requests ++ codes " rows " ++ decimal rows ++ codes "\n"
+
+-- so many requests are told as a plan of so many addresses takes, where each n-th dial fails: as many where none does. The standard error took the line, or a part of its front where it failed.
+pub record TellsRequests (n retries addresses faults faults' : ℕ) (old new : Option (List ℕ)) : Type 0 where
+  pub requests : ℕ
+  pub rows : ℕ
+  pub counts : CountsRequests n retries addresses requests
+  pub told : Appends old new (counts_text requests rows) ⊎ (Rose faults faults' × AppendsPrefix old new (counts_text requests rows))
+
+-- of a query of a file that ended with status 0
+abbrev pub TellsRequestsOf : Around → Option Command → ℕ → ℕ → ℕ → Option (List ℕ) → Option (List ℕ) → Type 0
+TellsRequestsOf a None status faults faults' old new = Unit {0}
+TellsRequestsOf a (Some (local name query_name choice page client seed fail_every)) status faults faults' old new =
+    status ≡ 0 → OfFiles a.told (view_of name query_name choice page client seed fail_every) (λ triples q. TellsRequests fail_every client.retries (length (plan_of triples (local_config page) q)) faults faults' old new)
+TellsRequestsOf a (Some (query url query_name client)) status faults faults' old new = Unit {0}
+TellsRequestsOf a (Some (serve name base choice page stop_after reload)) status faults faults' old new = Unit {0}
+TellsRequestsOf a (Some (make count asked)) status faults faults' old new = Unit {0}
+
+-- ---- completeness
+
+-- done, or out of memory
+abbrev pub IsDone : ℕ → Type 0
+IsDone status = (status ≡ 0) ⊎ (status ≡ 8)
+
+-- Where the files are read, no count rose of shelf and output, and of the handed-in wire where that is used, a command is done or memory is wanting: of a query in one process, where none of the causes of the table is there, with nothing assumed of a wire; of a query over the handed-in wire, where that is as a server of some data makes it, and the plan fits; of a service, and of data that are written.
+abbrev pub SucceedsOf : Around → Option Command → ℕ → Type 0
+SucceedsOf a None status = Unit {0}
+SucceedsOf a (Some (local name query_name choice page client seed fail_every)) status =
+    ¬ (Rose a.shelf a.shelf') → ¬ (Rose a.out a.out')
+    → OfFiles a.told (view_of name query_name choice page client seed fail_every) (λ triples q. PlanIsWithin fail_every (options_of client) triples (local_config page) q → IsDone status)
+SucceedsOf a (Some (query url query_name client)) status =
+    ¬ (Rose a.shelf a.shelf') → ¬ (Rose a.out a.out')
+    → OfQuery a.told query_name (λ q. (triples : List Triple) (config : Config) → FitsOver a.allows q url (options_of client) triples config a.wire a.wire' → IsDone status)
+SucceedsOf a (Some (serve name base choice page stop_after reload)) status =
+    ¬ (Rose a.shelf a.shelf') → ¬ (Rose a.out a.out') → ¬ (Rose a.wire.faults a.wire'.faults)
+    → IfTold a.told (λ files. (triples : List Triple) → Serves files name choice (authority_of base) triples → IsDone status)
+SucceedsOf a (Some (make count None)) status = ¬ (Rose a.out a.out') → IsDone status
+SucceedsOf a (Some (make count (Some asked_name))) status =
+    ¬ (Rose a.shelf a.shelf') → ¬ (Rose a.out a.out') → OfGenerated a.told count asked_name (λ triples q. PlanIsWithin 0 usual_options triples (local_config 100) q → IsDone status)
