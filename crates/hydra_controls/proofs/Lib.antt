@@ -1,5 +1,7 @@
 pub mod Iris
 pub mod Labels
-pub mod Lists
+pub mod TermLaws
+pub mod TableLaws
+pub mod LineLaws
 pub mod PageAddresses
 pub mod Classes

@@ -1,3 +1,3 @@
-pub mod Sources
-pub mod Controls
+pub mod TermTexts
+pub mod Facts
 pub mod Laws

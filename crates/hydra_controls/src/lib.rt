@@ -3,11 +3,14 @@
 #![tactic(auto)]
 
 mod config;
+mod facts;
 mod laws;
+mod lines;
 mod pages;
-mod source;
-mod statements;
+mod quad_text;
+mod term_text;
 
 pub use config::Config;
 pub use laws::metadata_is_rdf;
+pub use lines::MetadataLines;
 pub use pages::{address, metadata};

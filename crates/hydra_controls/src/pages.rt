@@ -1,15 +1,13 @@
 // The addresses and the metadata of pages.
-ghost use Rattle.std.specs.Prelude.{◌≡◌, ◌≤◌, ◌++◌, IfOk, OnOk};
+ghost use Rattle.std.specs.Prelude.{◌≡◌, ◌≤◌, IfOk};
 ghost use Rattle.rdf_terms.specs.Fragments.{last_page_of};
 ghost use Rattle.tpf_base.specs.Addresses.{IsAddress, address_text};
 ghost use Rattle.template_fill.specs.Authorities.{ShareAuthority};
 ghost use Rattle.template_fill.specs.Forms.{HasNoBlank};
 ghost use Rattle.template_fill.specs.Pages.{page_address};
 ghost use Rattle.template_fill.specs.Metadata.{page_metadata};
-ghost use Rattle.hydra_controls.specs.Controls.{controls, next_link, previous_link};
 
-use crate::Config;
-use crate::statements::{add_count, add_form, add_link, add_mapping, add_topic, add_version};
+use crate::{Config, MetadataLines};
 use rdf_terms::{Quad, Slots};
 use std::alloc::Global;
 use template_fill::{WebAddress, page_address};
@@ -35,76 +33,12 @@ pub fn address(
     page_address(alloc, config.base(), slots, page)
 }
 
-/// What each page of a fragment says, apart from its links.
-fn controls(
-    alloc: Global,
-    base: &WebAddress,
-    page: &WebAddress,
-    first: &WebAddress,
-    count: u64,
-) -> Result<Vec<Quad>, OutOfMemory>
-    ensures { IfOk result (λ quads. quads.items ≡ controls base.now page.now first.now count) }
-{
-    let mut quads = Vec::with_capacity(alloc, 21)?;
-    add_topic(alloc, &mut quads, base, page, first)?;
-    add_form(alloc, &mut quads, base, page)?;
-    add_mapping(alloc, &mut quads, page, "s", "subject")?;
-    add_mapping(alloc, &mut quads, page, "p", "predicate")?;
-    add_mapping(alloc, &mut quads, page, "o", "object")?;
-    add_count(alloc, &mut quads, page, first, count)?;
-    Ok(quads)
-}
-
 /// The last page of so many triples, of which a page has at most `size`.
-fn last_page(count: u64, size: u64) -> u64
+pub(crate) fn last_page(count: u64, size: u64) -> u64
     requires { 1 ≤ size }
     ensures { result ≡ last_page_of count size }
 {
     count.div_ceil(size).max(1)
-}
-
-/// Adds the link to the next page, unless this is the last.
-fn add_next(
-    alloc: Global,
-    quads: &mut Vec<Quad>,
-    config: &Config,
-    slots: &Slots,
-    this: &WebAddress,
-    page: u64,
-    count: u64,
-) -> Result<(), OutOfMemory>
-    requires slots { HasNoBlank slots.now }
-    requires page { 1 ≤ page }
-    ensures { OnOk result (quads.new.items ≡ quads.old.items ++ next_link config.now slots.now this.now page count) }
-{
-    let last = last_page(count, config.page_size());
-    if page >= last {
-        return Ok(());
-    }
-    let next = address(alloc, config, slots, page + 1)?;
-    add_link(alloc, quads, this, "next", &next)?;
-    Ok(())
-}
-
-/// Adds the link to the previous page, unless this is the first.
-fn add_previous(
-    alloc: Global,
-    quads: &mut Vec<Quad>,
-    config: &Config,
-    slots: &Slots,
-    this: &WebAddress,
-    page: u64,
-) -> Result<(), OutOfMemory>
-    requires slots { HasNoBlank slots.now }
-    requires page { 1 ≤ page }
-    ensures { OnOk result (quads.new.items ≡ quads.old.items ++ previous_link config.now slots.now this.now page) }
-{
-    if page == 1 {
-        return Ok(());
-    }
-    let previous = address(alloc, config, slots, page - 1)?;
-    add_link(alloc, quads, this, "previous", &previous)?;
-    Ok(())
 }
 
 /// The metadata of a page of the fragment with these slots, which has so many triples, in data of
@@ -113,8 +47,9 @@ fn add_previous(
 /// page is about, how many triples its fragment has, where the first, next and previous pages are, by
 /// which form the other fragments are asked for and, last, the version of the data (OWL 2, section 3.5).
 ///
-/// No fixed place is a blank node, and the page is one of 1 to the fragment's last.
-/// `OutOfMemory` comes for want of memory alone.
+/// Each quad has its own terms, so the page's address stands in them 27 times and more;
+/// [`MetadataLines`] are the same quads as lines that are made one by one. No fixed place is a blank
+/// node, and the page is one of 1 to the fragment's last. `OutOfMemory` comes for want of memory alone.
 pub fn metadata(
     alloc: Global,
     config: &Config,
@@ -128,11 +63,5 @@ pub fn metadata(
     requires last { page ≤ last_page_of count config.now.page_size }
     ensures { IfOk result (λ quads. quads.items ≡ page_metadata config.now slots.now page count version) }
 {
-    let this = address(alloc, config, slots, page)?;
-    let first = address(alloc, config, slots, 1)?;
-    let mut quads = controls(alloc, config.base(), &this, &first, count)?;
-    add_next(alloc, &mut quads, config, slots, &this, page, count)?;
-    add_previous(alloc, &mut quads, config, slots, &this, page)?;
-    add_version(alloc, &mut quads, config.base(), &this, version)?;
-    Ok(quads)
+    MetadataLines::new(alloc, config, slots, page, count, version)?.quads(alloc)
 }

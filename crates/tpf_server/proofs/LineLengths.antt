@@ -1,7 +1,8 @@
 -- The lengths of lines.
 use Rattle.std.proofs.Common.{◌≡◌, ℕ, zero, suc, ◌+◌, ◌<◌, ◌≤◌, List, [], ◌∷◌, ◌++◌, length, drop, refl, ap, sym, ◌∙◌, arith, length-append, append-nil, length-drop}
-use Rattle.std.specs.Prelude.{slice_index_or}
+use Rattle.std.specs.Prelude.{None, slice_index_or}
 use Rattle.std.specs.List.{concat}
+use Rattle.rdf_terms.specs.declared.term.Term.TheVariants.{Iri}
 use Rattle.rdf_terms.specs.declared.term.Triple.{Triple}
 use Rattle.rdf_terms.specs.declared.term.Quad.{Quad}
 use Rattle.rdf_terms.specs.Canon.{canonical_term, canonical_graph, canonical_line}
@@ -24,10 +25,16 @@ drop_at [] i d h = absurd (omega arith)
 drop_at (x ∷ xs) zero d h = refl
 drop_at (x ∷ xs) (suc i) d h = drop_at xs i d (omega arith)
 
+-- any quad
+abbrev pub some_quad : Quad
+some_quad = record { triple = record { subject = Iri []; predicate = Iri []; object = Iri [] }; graph = None }
+
 pub next_quad : (quads : List Quad) (i : ℕ) (d : Quad) → i < length quads
-    → length (concat (quad_lines (drop i quads))) ≡ length (canonical_line (slice_index_or quads i d)) + length (concat (quad_lines (drop (suc i) quads)))
+    → length (concat (quad_lines (drop i quads))) ≡ length (canonical_line (slice_index_or quads i d)) + length (concat (quad_lines (drop (i + 1) quads)))
 next_quad quads i d h =
-    ap (λ (l : List Quad). length (concat (quad_lines l))) (drop_at quads i d h) ∙ length-append (canonical_line (slice_index_or quads i d)) (concat (quad_lines (drop (suc i) quads)))
+    let e : suc i ≡ i + 1 = omega arith in
+    ap (λ (l : List Quad). length (concat (quad_lines l))) (drop_at quads i d h ∙ ap (λ (n : ℕ). slice_index_or quads i d ∷ drop n quads) e)
+    ∙ length-append (canonical_line (slice_index_or quads i d)) (concat (quad_lines (drop (i + 1) quads)))
 
 pub next_triple : (triples : List Triple) (i : ℕ) (d : Triple) → i < length triples
     → length (concat (triple_lines (drop i triples))) ≡ length (triple_line (slice_index_or triples i d)) + length (concat (triple_lines (drop (i + 1) triples)))

@@ -31,22 +31,22 @@ use Rattle.tpf_server.specs.Opened.{Opens, OpensNumber, OpensPage, body_pieces, 
 use Rattle.tpf_server.proofs.StatusLaws.{body_is}
 use Rattle.tpf_server.proofs.PageLaws.{page_length, page_lines_are}
 
-pub opens_page : (server : Serving) (slots : Slots) (page : ℕ) (view : PageView) (table shared : Stored) (number : ℕ) (range : Range) (quads slice : List Quad) (p : PageLines) (a b : ℕ)
+pub opens_page : (server : Serving) (slots : Slots) (page : ℕ) (view : PageView) (table shared : Stored) (number : ℕ) (range : Range) (quads : List Quad) (p : PageLines) (a b : ℕ)
     → table ≡ server.table → shared ≡ server.table → number ≡ server.version → IsPage server.table slots page server.config.page_size view
     → IsPart table range → listed table range ≡ shown table view
-    → quads ≡ page_metadata server.config slots page view.count number → slice ≡ quads
-    → a ≡ length (concat (triple_lines (listed table range))) → b ≡ length (concat (quad_lines slice))
+    → quads ≡ page_metadata server.config slots page view.count number
+    → a ≡ length (concat (triple_lines (listed table range))) → b ≡ length (concat (quad_lines quads))
     → p ≡ record { table = shared; triples = range; quads = quads }
     → OpensPage server slots page (record { status = Success; media = NQuads; length = a + b; body = rests.Page p })
 unfolding rest_pieces
-opens_page server slots page view table shared number range quads slice p a b of_table of_shared of_number is within lists meta whole of_triples of_quads parts =
+opens_page server slots page view table shared number range quads p a b of_table of_shared of_number is within lists meta of_triples of_quads parts =
     let same = subst (λ (t : Stored). listed t range ≡ shown t view) of_table lists ∙ is.triples in
     let about = meta ∙ ap (λ (n : ℕ). page_metadata server.config slots page view.count n) of_number ∙ ap (λ (n : ℕ). page_metadata server.config slots page n server.version) is.count in
     let own : p ≡ record { table = server.table; triples = range; quads = quads } = parts ∙ ap (λ (t : Stored). record { table = t; triples = range; quads = quads }) of_shared in
     record {
       status = refl;
       media = refl;
-      length = page_length server slots page range quads a b same about (of_triples ∙ ap (λ (t : Stored). length (concat (triple_lines (listed t range)))) of_table) (of_quads ∙ ap (λ (q : List Quad). length (concat (quad_lines q))) whole);
+      length = page_length server slots page range quads a b same about (of_triples ∙ ap (λ (t : Stored). length (concat (triple_lines (listed t range)))) of_table) of_quads;
       body = ap page_pieces own ∙ page_lines_are server slots page range quads same about;
       range = subst (λ (q : PageLines). IsPart q.table q.triples) (sym own) (subst (λ (t : Stored). IsPart t range) of_table within);
     }

@@ -14,7 +14,7 @@ use Rattle.triple_table.specs.Rows.{id_triple_of}
 use Rattle.triple_table.specs.Stored.{Stored, IsRange, listed, rows_in, triple_at, triples_in}
 use Rattle.fragment_pages.specs.declared.view.PageView.{PageView}
 use Rattle.fragment_pages.specs.Pages.{IsPage, IsPageNumber, shown}
-use Rattle.template_fill.specs.Metadata.{Config, page_metadata, topic_quads, form_quads, mapping_quads, count_quads, link_quads, version_quads, metadata_at, page_addresses}
+use Rattle.template_fill.specs.Metadata.{Config, page_metadata}
 use Rattle.template_fill.specs.Bodies.{in_default_graph}
 use Rattle.tpf_server.specs.Lines.{quad_lines, triple_lines}
 use Rattle.tpf_server.specs.PageRests.{IsPart, page_pieces}
@@ -115,40 +115,3 @@ module _ (server : Serving) (slots : Slots) (page : ℕ) where
       let whole : concat (triple_lines (listed server.table range)) ++ concat (quad_lines quads) ≡ body_at server slots page =
       sym (concat_more (triple_lines (listed server.table range)) (quad_lines quads)) ∙ ap concat (page_lines_are range quads same meta) ∙ sym body_is_lines in
       omega (arith, of_triples, of_quads, length-append (concat (triple_lines (listed server.table range))) (concat (quad_lines quads)), ap (λ (l : List ℕ). length l) whole)
-
--- ---- the metadata are few
-
-link_few : (there : Bool) (graph page name target : List ℕ) → length (link_quads there graph page name target) ≤ 1
-unfolding link_quads
-link_few true graph page name target = omega arith
-link_few false graph page name target = omega arith
-
-topic_few : (graph page first base : List ℕ) → length (topic_quads graph page first base) ≡ 3
-unfolding topic_quads
-topic_few graph page first base = refl
-
-form_few : (graph template : List ℕ) → length (form_quads graph template) ≡ 2
-unfolding form_quads
-form_few graph template = refl
-
-mapping_few : (graph label name : List ℕ) → length (mapping_quads graph label name) ≡ 3
-unfolding mapping_quads
-mapping_few graph label name = refl
-
-count_few : (graph page first : List ℕ) (count : ℕ) → length (count_quads graph page first count) ≡ 4
-unfolding count_quads
-count_few graph page first count = refl
-
-version_few : (graph base : List ℕ) (version : ℕ) → length (version_quads graph base version) ≡ 1
-unfolding version_quads
-version_few graph base version = refl
-
-joined_few : (a b c d e f g h i : List Quad) → length a ≡ 3 → length b ≡ 2 → length c ≡ 3 → length d ≡ 3 → length e ≡ 3 → length f ≡ 4 → length g ≤ 1 → length h ≤ 1 → length i ≡ 1
-    → length (a ++ b ++ c ++ d ++ e ++ f ++ g ++ h ++ i) ≤ 21
-joined_few a b c d e f g h i ha hb hc hd he hf hg hh hi =
-    omega (arith, ha, hb, hc, hd, he, hf, hg, hh, hi, length-append a b, length-append (a ++ b) c, length-append (a ++ b ++ c) d, length-append (a ++ b ++ c ++ d) e, length-append (a ++ b ++ c ++ d ++ e) f, length-append (a ++ b ++ c ++ d ++ e ++ f) g, length-append (a ++ b ++ c ++ d ++ e ++ f ++ g) h, length-append (a ++ b ++ c ++ d ++ e ++ f ++ g ++ h) i)
-
-pub metadata_few : (config : Config) (slots : Slots) (k count version : ℕ) → length (page_metadata config slots k count version) ≤ 21
-unfolding page_metadata metadata_at page_addresses
-metadata_few config slots k count version =
-    joined_few _ _ _ _ _ _ _ _ _ (topic_few _ _ _ _) (form_few _ _) (mapping_few _ _ _) (mapping_few _ _ _) (mapping_few _ _ _) (count_few _ _ _ _) (link_few _ _ _ _ _) (link_few _ _ _ _ _) (version_few _ _ _)

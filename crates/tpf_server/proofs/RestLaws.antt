@@ -88,25 +88,31 @@ given_triple s range quads p t before after same some count is appended = record
   appended = appended;
 }
 
-pub given_quad : (s : Stored) (range : Range) (quads : List Quad) (i : ℕ) (p : PageLines) (q : Quad) (before after : List ℕ) → record { table = s; triples = range; quads = drop i quads } ≡ p
+pub given_quad : (s : Stored) (range : Range) (quads : List Quad) (i : ℕ) (p : PageLines) (d : Quad) (before after : List ℕ) → record { table = s; triples = range; quads = drop i quads } ≡ p
     → p.triples.to ≤ p.triples.from → 0 < length p.quads
-    → q ≡ slice_index_or quads i q → after ≡ before ++ canonical_line q
+    → after ≡ before ++ canonical_line (slice_index_or quads i d)
     → IsGiven (page_pieces p) (page_pieces (record { table = s; triples = range; quads = drop (i + 1) quads })) before after
 unfolding page_pieces
-given_quad s range quads i p q before after same none some is appended =
+given_quad s range quads i p d before after same none some appended =
     let over : range.to ≤ range.from = subst (λ (x : PageLines). x.triples.to ≤ x.triples.from) (sym same) none in
     let more : 0 < length (drop i quads) = subst (λ (x : PageLines). 0 < length x.quads) (sym same) some in
     let within : i < length quads = omega (arith, more, length-drop i quads) in
     let e : suc i ≡ i + 1 = omega arith in
+    let line = canonical_line (slice_index_or quads i d) in
     record {
-      piece = canonical_line q;
+      piece = line;
       pieces =
           ap (λ (x : PageLines). triple_lines (listed x.table x.triples) ++ quad_lines x.quads) (sym same)
           ∙ ap (λ (l : List Triple). triple_lines l ++ quad_lines (drop i quads)) (none_listed s range over)
-          ∙ ap quad_lines (drop_at quads i q within ∙ ap₂ (λ (x : Quad) (n : ℕ). x ∷ drop n quads) (sym is) e)
-          ∙ ap (λ (l : List Triple). canonical_line q ∷ (triple_lines l ++ quad_lines (drop (i + 1) quads))) (sym (none_listed s range over));
+          ∙ ap quad_lines (drop_at quads i d within ∙ ap (λ (n : ℕ). slice_index_or quads i d ∷ drop n quads) e)
+          ∙ ap (λ (l : List Triple). line ∷ (triple_lines l ++ quad_lines (drop (i + 1) quads))) (sym (none_listed s range over));
       appended = appended;
     }
+
+pub quads_within : (s : Stored) (range : Range) (quads : List Quad) (i : ℕ) (p : PageLines) → record { table = s; triples = range; quads = drop i quads } ≡ p → 0 < length p.quads → i < length quads
+quads_within s range quads i p same some =
+    let more : 0 < length (drop i quads) = subst (λ (x : PageLines). 0 < length x.quads) (sym same) some in
+    omega (arith, more, length-drop i quads)
 
 pub given_line : (rest : Rest) (status : Status) (before after : List ℕ) → rest ≡ Line status → after ≡ before ++ (refusal (code status)).body
     → IsGiven (rest_pieces rest) (rest_pieces Nothing) before after
@@ -155,9 +161,9 @@ left_is quads zero = refl
 left_is [] (suc i) = below_none (suc i)
 left_is (q ∷ quads) (suc i) = below_suc i (length quads) ∙ left_is quads i
 
-pub left_else : (s : Stored) (range : Range) (quads : List Quad) (i : ℕ) (p : PageLines) → record { table = s; triples = range; quads = drop i quads } ≡ p → nat_lt range.from range.to ≡ false → nat_lt i (length quads) ≡ page_left p
-left_else s range quads i p same none =
-    left_is quads i ∙ ap (λ (b : Bool). b || nat_lt 0 (length (drop i quads))) (sym none) ∙ ap page_left same
+pub left_else : (s : Stored) (range : Range) (quads : List Quad) (i n : ℕ) (p : PageLines) → record { table = s; triples = range; quads = drop i quads } ≡ p → nat_lt range.from range.to ≡ false → n ≡ length quads → nat_lt i n ≡ page_left p
+left_else s range quads i n p same none size =
+    ap (nat_lt i) size ∙ left_is quads i ∙ ap (λ (b : Bool). b || nat_lt 0 (length (drop i quads))) (sym none) ∙ ap page_left same
 
 pub left_then : (s : Stored) (range : Range) (quads : List Quad) (p : PageLines) → record { table = s; triples = range; quads = quads } ≡ p → nat_lt range.from range.to ≡ true → true ≡ page_left p
 left_then s range quads p same some = ap (λ (b : Bool). b || nat_lt 0 (length quads)) (sym some) ∙ ap page_left same

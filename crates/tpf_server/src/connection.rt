@@ -20,6 +20,10 @@ use std::marker::Model;
 use std::mem;
 use tpf_base::OutOfMemory;
 
+/// The most bytes of a buffer that a connection keeps while nothing is owed on it: a page of a hundred
+/// triples has its place there.
+const KEPT: usize = 16384;
+
 /// One connection of a server: it takes the bytes that come and gives those of the response in
 /// pieces. A piece is the head of an answer or one line of a body; no body is made whole.
 ///
@@ -62,6 +66,10 @@ fn compact(bytes: &mut Vec<u8>, given: usize) -> usize
     ensures pending { drop result bytes.new.items ≡ drop given bytes.old.items }
     ensures half { result + result ≤ length bytes.new.items }
 {
+    if given == bytes.len() {
+        bytes.clear();
+        return 0;
+    }
     if given > bytes.len() - given {
         bytes.drain(..given);
         return 0;
@@ -317,12 +325,13 @@ impl Connection {
         &self.bytes[self.given..]
     }
 
-    /// Gives back the memory of bytes that were all taken, where nothing is owed.
+    /// Gives back the memory of bytes that were all taken, where nothing is owed, but for a buffer in which
+    /// the next page has its place.
     fn release(&mut self)
         requires { self.old.pending ≡ [] }
         ensures { self.new ≡ self.old }
     {
-        if self.debt.is_left() {
+        if self.debt.is_left() || self.bytes.capacity() <= KEPT {
             self.bytes.clear();
         } else {
             self.bytes = Vec::new(self.alloc);

@@ -1,41 +1,18 @@
-// The lines of triples and quads: their lengths, and their bytes.
+// The lines of a page: their lengths, and the bytes of those of triples.
 ghost use Rattle.std.specs.Prelude.{ℕ, ◌≡◌, ◌+◌, ◌*◌, ◌-◌, ◌<◌, ◌≤◌, ◌^◌, ◌++◌, ◌∷◌, [], Some, None, List, length, take, drop, OnOk};
 ghost use Rattle.std.specs.List.{concat};
 ghost use Rattle.rdf_terms.specs.declared.term.Triple.{Triple};
-ghost use Rattle.rdf_terms.specs.Canon.{canonical_graph, canonical_term, canonical_line};
+ghost use Rattle.rdf_terms.specs.Canon.{canonical_term, canonical_line};
 ghost use Rattle.list_laws.specs.Begins.{Begins};
 ghost use Rattle.triple_table.specs.Stored.{IsRange, IsIdTriple, held_terms, listed, term_at, triple_at};
 ghost use Rattle.template_fill.specs.Bodies.{in_default_graph};
 ghost use Rattle.tpf_server.specs.Lines.{quad_lines, triple_lines};
 
+use hydra_controls::MetadataLines;
 use nquads_text::canonical;
-use rdf_terms::{Quad, Term};
+use rdf_terms::Term;
 use tpf_base::OutOfMemory;
 use triple_table::{IdTriple, Range, Table};
-
-/// The length of a graph and the space before it.
-fn graph_length(graph: &Option<Term>) -> u128
-    ensures length { result ≡ length (canonical_graph graph.now) }
-    ensures small { result < 2 ^ 68 }
-{
-    match graph {
-        None => 0,
-        Some(graph) => graph.canonical_len() + 1,
-    }
-}
-
-/// The length of the line of a quad.
-#[tactic(auto, using(crate::proofs::LineLengths::line_length))]
-fn quad_length(quad: &Quad) -> u128
-    ensures length { result ≡ length (canonical_line quad.now) }
-    ensures small { result < 2 ^ 70 }
-{
-    quad.triple.subject.canonical_len()
-        + quad.triple.predicate.canonical_len()
-        + quad.triple.object.canonical_len()
-        + graph_length(&quad.graph)
-        + 5
-}
 
 /// The length of the line of a triple of the table.
 #[tactic(auto, using(crate::proofs::LineLengths::triple_line_length))]
@@ -50,16 +27,14 @@ fn triple_length(table: &Table, ids: IdTriple) -> u128
         + 5
 }
 
-/// The length of the lines of quads, of which there are at most 1000.
-#[tactic(auto, using(crate::proofs::LineLengths::next_quad))]
-pub fn quads_length(quads: &[Quad]) -> u128
-    requires { length quads.now ≤ 1000 }
-    ensures length { result ≡ length (concat (quad_lines quads.now)) }
+/// The length of the lines of a page's metadata.
+pub fn metadata_length(lines: &MetadataLines) -> u128
+    ensures length { result ≡ length (concat (quad_lines lines.now)) }
     ensures small { result ≤ 1000 * 2 ^ 70 }
 {
     let mut sum = 0;
-    for quad in quads {
-        sum += quad_length(quad);
+    for i in 0..lines.count() {
+        sum += lines.length(i);
     }
     sum
 }

@@ -11,12 +11,12 @@ ghost use Rattle.tpf_server.specs.Opened.{Opens, OpensNumber, OpensPage};
 
 use crate::asked::Asking;
 use crate::head::MediaType;
-use crate::lines::{quads_length, triples_length};
+use crate::lines::{metadata_length, triples_length};
 use crate::rest::{PageRest, Rest};
 use crate::snapshot::Snapshot;
 use crate::status::Status;
 use fragment_pages::{PageView, page};
-use hydra_controls::{Config, metadata};
+use hydra_controls::{Config, MetadataLines};
 use itoa::Buffer;
 use rdf_terms::Slots;
 use std::alloc::Global;
@@ -93,8 +93,9 @@ fn open_page(
 {
     let table = snapshot.table();
     let triples = shown(table, slots, number, config.page_size(), view);
-    let metadata = metadata(alloc, config, slots, number, view.count, snapshot.number())?;
-    let length = triples_length(table, &triples) + quads_length(metadata.as_slice());
+    let version = snapshot.number();
+    let metadata = MetadataLines::new(alloc, config, slots, number, view.count, version)?;
+    let length = triples_length(table, &triples) + metadata_length(&metadata);
     Ok(Opened {
         status: Status::Success,
         media: MediaType::NQuads,

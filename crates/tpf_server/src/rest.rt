@@ -9,18 +9,18 @@ ghost use Rattle.tpf_server.specs.Rests.{IsWithin, is_left, rest_pieces};
 use crate::lines::write_triple;
 use crate::snapshot::Snapshot;
 use crate::status::Status;
-use nquads_text::write_quad;
-use rdf_terms::Quad;
+use hydra_controls::MetadataLines;
 use std::marker::Model;
 use tpf_base::{OutOfMemory, Text};
 use triple_table::Range;
 
-/// The lines of a page that are left: a range of the table, and then the metadata from a place on.
+/// The lines of a page that are left: a range of the table, and then the metadata from a place on, whose
+/// lines are made one by one.
 #[derive(Drop)]
 pub struct PageRest {
     snapshot: Snapshot,
     triples: Range,
-    metadata: Vec<Quad>,
+    metadata: MetadataLines,
     next: usize,
 }
 
@@ -30,12 +30,12 @@ impl Model for PageRest {
 
     ghost Value = { rests.PageLines };
 
-    ghost view = { λ p. record { table = p.snapshot.table; triples = p.triples; quads = drop p.next p.metadata.items } };
+    ghost view = { λ p. record { table = p.snapshot.table; triples = p.triples; quads = drop p.next p.metadata } };
 }
 
 impl PageRest {
-    pub fn new(snapshot: Snapshot, triples: Range, metadata: Vec<Quad>) -> PageRest
-        ensures { result ≡ record { table = snapshot.table; triples = triples; quads = metadata.items } }
+    pub fn new(snapshot: Snapshot, triples: Range, metadata: MetadataLines) -> PageRest
+        ensures { result ≡ record { table = snapshot.table; triples = triples; quads = metadata } }
     {
         PageRest {
             snapshot,
@@ -49,7 +49,7 @@ impl PageRest {
     fn is_left(&self) -> bool
         ensures { result ≡ page_left self.now }
     {
-        self.triples.from < self.triples.to || self.next < self.metadata.len()
+        self.triples.from < self.triples.to || self.next < self.metadata.count()
     }
 
     /// Appends the next line of a triple.
@@ -80,7 +80,8 @@ impl PageRest {
         ensures table { self.new.table ≡ self.old.table }
         ensures front { Begins out.old.items out.new.items }
     {
-        write_quad(&self.metadata[self.next], out)?;
+        let _count = self.metadata.count();
+        self.metadata.write(self.next, out)?;
         self.next += 1;
         Ok(())
     }

@@ -4,7 +4,7 @@ ghost use Rattle.rdf_terms.specs.Fragments.{last_page_of};
 ghost use Rattle.template_fill.specs.Forms.{HasNoBlank};
 
 use control_reader::{Page, PageFault, read_page};
-use hydra_controls::{Config, metadata};
+use hydra_controls::{Config, MetadataLines, metadata};
 use nquads_text::{read_all, write_quad};
 use rdf_terms::{Quad, Slot, Slots};
 use std::alloc::Global;
@@ -139,6 +139,61 @@ fn seven_triples_by_three_have_links_among_three_pages(rt: HostRuntime) -> Resul
     for (page, wanted) in [(1u64, LINKS_OF_1), (2, LINKS_OF_2), (3, LINKS_OF_3)] {
         let quads = metadata(rt.alloc(), &config, &free(), page, 7, 1)?;
         let text = links(rt.alloc(), quads.as_slice())?;
+        assert_eq!(rt; text.as_slice(), wanted, "page {page}");
+    }
+    Ok(())
+}
+
+/// The lines of the metadata of a page from this one on, made one by one.
+fn lines_from(alloc: Global, lines: &MetadataLines, from: usize) -> Result<Vec<u8>, OutOfMemory> {
+    let mut text = Vec::new(alloc);
+    for i in from..lines.count() {
+        lines.write(i, &mut text)?;
+    }
+    Ok(text)
+}
+
+/// The length of the line in a place, which is also that of the line that is written.
+fn length_at(alloc: Global, lines: &MetadataLines, place: usize) -> Result<u128, Fail> {
+    if place >= lines.count() {
+        return Err(Fail::new("no such line"));
+    }
+    let mut line = Vec::new(alloc);
+    lines.write(place, &mut line)?;
+    let length = lines.length(place);
+    if length != line.len() as u128 {
+        return Err(Fail::new("another length"));
+    }
+    Ok(length)
+}
+
+#[test]
+fn lines_made_one_by_one_have_the_worked_lengths(rt: HostRuntime) -> Result<(), Fail> {
+    let config = config(&rt, rt.alloc(), "http://localhost/data", 100)?;
+    let lines = MetadataLines::new(rt.alloc(), &config, &free(), 1, 0, 1)?;
+    for (place, wanted) in LENGTHS.into_iter().enumerate() {
+        let length = length_at(rt.alloc(), &lines, place)?;
+        assert_eq!(rt; length, wanted as u128, "line {place}");
+    }
+    Ok(())
+}
+
+#[test]
+fn lines_made_one_by_one_have_2258_bytes(rt: HostRuntime) -> Result<(), Fail> {
+    let config = config(&rt, rt.alloc(), "http://localhost/data", 100)?;
+    let lines = MetadataLines::new(rt.alloc(), &config, &free(), 1, 0, 1)?;
+    let text = lines_from(rt.alloc(), &lines, 0)?;
+    assert!(rt; text.as_slice().starts_with(FIRST));
+    assert_eq!(rt; text.len(), 2258);
+    Ok(())
+}
+
+#[test]
+fn links_made_one_by_one_are_as_worked(rt: HostRuntime) -> Result<(), Fail> {
+    let config = config(&rt, rt.alloc(), "http://localhost/data", 3)?;
+    for (page, wanted) in [(1u64, LINKS_OF_1), (2, LINKS_OF_2), (3, LINKS_OF_3)] {
+        let lines = MetadataLines::new(rt.alloc(), &config, &free(), page, 7, 1)?;
+        let text = lines_from(rt.alloc(), &lines, 18)?;
         assert_eq!(rt; text.as_slice(), wanted, "page {page}");
     }
     Ok(())

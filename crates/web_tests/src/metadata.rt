@@ -2,7 +2,8 @@
 ghost use Rattle.std.specs.Prelude.{◌≡◌, IfOk};
 ghost use Rattle.template_fill.specs.Forms.{HasNoBlank};
 
-use hydra_controls::{Config, address, metadata, metadata_is_rdf};
+use hydra_controls::{Config, MetadataLines, address, metadata, metadata_is_rdf};
+use nquads_text::write_quad;
 use rdf_terms::{IriText, Slot, Slots, Term};
 use std::alloc::Global;
 use std::process::Abort;
@@ -66,6 +67,74 @@ fn addresses_have_the_fixed_places_and_the_page(rt: HostRuntime) -> Result<(), F
     );
     assert_eq!(rt; address(rt.alloc(), &config, &one, 1)?.text(), fixed);
     assert_eq!(rt; address(rt.alloc(), &config, &one, 2)?.text(), fixed_2);
+    Ok(())
+}
+
+/// The lines of the metadata of a page, by way of the quads.
+fn by_quads(alloc: Global, lines: &MetadataLines) -> Result<Vec<u8>, OutOfMemory> {
+    let mut text = Vec::new(alloc);
+    for quad in &lines.quads(alloc)? {
+        write_quad(quad, &mut text)?;
+    }
+    Ok(text)
+}
+
+/// The same lines, made one by one.
+fn by_lines(alloc: Global, lines: &MetadataLines) -> Result<Vec<u8>, OutOfMemory> {
+    let mut text = Vec::new(alloc);
+    for i in 0..lines.count() {
+        lines.write(i, &mut text)?;
+    }
+    Ok(text)
+}
+
+#[test]
+fn lines_of_pages_with_a_fixed_place_are_those_of_the_quads(rt: HostRuntime) -> Result<(), Fail> {
+    let config = config(&rt, rt.alloc(), "http://localhost/data", 3)?;
+    let one = about_key(rt.alloc())?;
+    for (page, count) in [(1u64, 0u64), (1, 7), (2, 7), (3, 7), (10, 40)] {
+        let lines = MetadataLines::new(rt.alloc(), &config, &one, page, count, 5)?;
+        let wanted = by_quads(rt.alloc(), &lines)?;
+        let text = by_lines(rt.alloc(), &lines)?;
+        assert_eq!(rt; text.as_slice(), wanted.as_slice(), "page {page}");
+    }
+    Ok(())
+}
+
+/// Slots whose subject is an IRI of 9 characters and so many more.
+fn about_long(alloc: Global, more: usize) -> Result<Slots, Fail>
+    ensures { IfOk result HasNoBlank }
+{
+    let mut name = String::from_str(alloc, "http://e/")?;
+    for _ in 0..more {
+        name.push('a')?;
+    }
+    let subject = Term::iri(alloc, name.as_str())?;
+    Ok(Slots {
+        subject: Slot::Fixed(subject),
+        predicate: Slot::Any,
+        object: Slot::Any,
+    })
+}
+
+/// The length of the first line, and that of the line that is written.
+fn first_lengths(alloc: Global, lines: &MetadataLines) -> Result<(u128, u128), Fail> {
+    if lines.count() == 0 {
+        return Err(Fail::new("no line"));
+    }
+    let mut line = Vec::new(alloc);
+    lines.write(0, &mut line)?;
+    Ok((lines.length(0), line.len() as u128))
+}
+
+#[test]
+fn a_megabyte_in_a_place_stands_three_times_in_the_first_line(rt: HostRuntime) -> Result<(), Fail> {
+    let config = config(&rt, rt.alloc(), "http://localhost/data", 100)?;
+    let slots = about_long(rt.alloc(), 1000000)?;
+    let lines = MetadataLines::new(rt.alloc(), &config, &slots, 1, 0, 1)?;
+    let wanted = 133 + 3 * ("?subject=http%3A%2F%2Fe%2F".len() as u128 + 1000000);
+    let lengths = first_lengths(rt.alloc(), &lines)?;
+    assert_eq!(rt; lengths, (wanted, wanted));
     Ok(())
 }
 

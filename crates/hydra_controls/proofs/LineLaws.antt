@@ -1,0 +1,101 @@
+-- The lines of a page's metadata: the quads that they are of, and what is written of them.
+use Rattle.std.proofs.Common.{◌≡◌, ℕ, ◌+◌, ◌-◌, ◌<◌, Bool, nat_lt, List, [], ◌∷◌, ◌++◌, length, take, Result, Ok, Err, refl, sym, ap, subst, ◌∙◌, arith, append_assoc, append-nil, length-append}
+use Rattle.std.specs.Prelude.{OnOk, codes, slice_index_or}
+use Rattle.std.proofs.lemmas.List.{take_more}
+use Rattle.rdf_terms.specs.Canon.{canonical_line}
+use Rattle.rdf_terms.specs.Fragments.{last_page_of}
+use Rattle.rdf_terms.specs.declared.term.Quad.{Quad}
+use Rattle.rdf_terms.specs.declared.slots.Slots.{Slots}
+use Rattle.tpf_base.specs.Addresses.{Address, address_text}
+use Rattle.template_fill.specs.Pages.{page_address, page_mark, page_pair, places_text, template_text}
+use Rattle.template_fill.specs.Metadata.{Config, graph_at, topic_quads, form_quads, version_quads, metadata_at, page_addresses, page_metadata}
+use Rattle.hydra_controls.specs.declared.facts.PageFacts.{PageFacts}
+use Rattle.hydra_controls.specs.Facts.{addresses_by, addresses_of, closing_of, counts_of, links_of, mapping_of, mappings_of, mark_of, next_of, page_text, previous_of, quads_of}
+use Rattle.hydra_controls.proofs.TableLaws.{is_above, is_below}
+
+-- ---- the quads of what the lines speak of
+
+regrouped : (a b c d e f g h i : List Quad) → a ++ (b ++ ((c ++ (d ++ e)) ++ (f ++ (g ++ (h ++ i))))) ≡ a ++ b ++ c ++ d ++ e ++ f ++ g ++ h ++ i
+regrouped a b c d e f g h i = simp append_assoc
+
+-- the quads with another text of the base
+abbrev with_base : PageFacts → List ℕ → List Quad
+with_base f base =
+    topic_quads (graph_at (addresses_of f)) (addresses_of f).page (addresses_of f).first base
+    ++ (form_quads (graph_at (addresses_of f)) (base ++ codes "{?subject,predicate,object}")
+    ++ (mappings_of f ++ (counts_of f ++ (next_of f ++ (previous_of f ++ version_quads (graph_at (addresses_of f)) base f.version)))))
+
+of_base : (f : PageFacts) (base : Address) → with_base f (address_text base) ≡ metadata_at base (addresses_of f) (nat_lt f.number f.last) (nat_lt 1 f.number) f.count f.version
+unfolding metadata_at
+of_base f base =
+    let graph = graph_at (addresses_of f) in
+    regrouped (topic_quads graph (addresses_of f).page (addresses_of f).first (address_text base)) (form_quads graph (template_text base)) (mapping_of f (codes "s") (codes "subject")) (mapping_of f (codes "p") (codes "predicate"))
+    (mapping_of f (codes "o") (codes "object")) (counts_of f) (next_of f) (previous_of f) (version_quads graph (address_text base) f.version)
+
+facts_quads : (f : PageFacts) (base : Address) → f.base.now ≡ address_text base → quads_of f ≡ metadata_at base (addresses_of f) (nat_lt f.number f.last) (nat_lt 1 f.number) f.count f.version
+unfolding quads_of links_of closing_of
+facts_quads f base is = ap (with_base f) is ∙ of_base f base
+
+pub facts_are : (f : PageFacts) (base first : Address) (value : List Quad) → f.base.now ≡ address_text base → f.first.now ≡ address_text first
+    → metadata_at base (addresses_by (address_text first) f.fixed f.number) (nat_lt f.number f.last) (nat_lt 1 f.number) f.count f.version ≡ value → quads_of f ≡ value
+facts_are f base first value of_first of_page is =
+    facts_quads f base of_first ∙ ap (λ (t : List ℕ). metadata_at base (addresses_by t f.fixed f.number) (nat_lt f.number f.last) (nat_lt 1 f.number) f.count f.version) of_page ∙ is
+
+-- ---- the addresses
+
+page_is : (base : Address) (slots : Slots) (first : List ℕ) (fixed : Bool) (k : ℕ) → first ≡ page_address base slots 1 → mark_of fixed ≡ page_mark (places_text slots) → page_text first fixed k ≡ page_address base slots k
+unfolding page_address
+page_is base slots first fixed k is mark =
+    let pair = page_pair (page_mark (places_text slots)) k in
+    ap (λ (m : ℕ). first ++ page_pair m k) mark
+    ∙ ap (λ (l : List ℕ). l ++ pair) is
+    ∙ append_assoc (address_text base) (places_text slots ++ []) pair
+    ∙ ap (λ (l : List ℕ). address_text base ++ (l ++ pair)) (append-nil (places_text slots))
+
+addresses_are : (base : Address) (slots : Slots) (first : List ℕ) (fixed : Bool) (k : ℕ) → first ≡ page_address base slots 1 → mark_of fixed ≡ page_mark (places_text slots) → addresses_by first fixed k ≡ page_addresses base slots k
+unfolding page_addresses
+addresses_are base slots first fixed k is mark = λ i. record {
+  page = page_is base slots first fixed k is mark i;
+  first = page_is base slots first fixed 1 is mark i;
+  next = page_is base slots first fixed (k + 1) is mark i;
+  previous = page_is base slots first fixed (k - 1) is mark i;
+}
+
+mark_is : (base places : List ℕ) → mark_of (nat_lt (length base) (length (base ++ (places ++ [])))) ≡ page_mark places
+mark_is base [] = ap mark_of (is_above (length base) (length (base ++ [])) (omega (arith, length-append base [])))
+mark_is base (b ∷ places) = ap mark_of (is_below (length base) (length (base ++ (b ∷ (places ++ [])))) (omega (arith, length-append base (b ∷ (places ++ [])))))
+
+mark_by : (base : Address) (slots : Slots) → mark_of (nat_lt (length (address_text base)) (length (page_address base slots 1))) ≡ page_mark (places_text slots)
+unfolding page_address
+mark_by base slots = mark_is (address_text base) (places_text slots)
+
+pub lines_are : (config : Config) (slots : Slots) (k count version last : ℕ) (base first : Address) (fixed : Bool) → base ≡ config.base → address_text first ≡ page_address config.base slots 1
+    → fixed ≡ nat_lt (length (address_text base)) (length (address_text first)) → last ≡ last_page_of count config.page_size
+    → metadata_at base (addresses_by (address_text first) fixed k) (nat_lt k last) (nat_lt 1 k) count version ≡ page_metadata config slots k count version
+unfolding page_metadata
+lines_are config slots k count version last base first fixed of_base of_first of_fixed of_last =
+    let lengths : nat_lt (length (address_text base)) (length (address_text first)) ≡ nat_lt (length (address_text config.base)) (length (page_address config.base slots 1)) =
+    λ i. nat_lt (length (address_text (of_base i))) (length (of_first i)) in
+    let mark : mark_of fixed ≡ page_mark (places_text slots) = ap mark_of (of_fixed ∙ lengths) ∙ mark_by config.base slots in
+    let addresses = addresses_are config.base slots (address_text first) fixed k of_first mark in
+    λ i. metadata_at (of_base i) (addresses i) (nat_lt k (of_last i)) (nat_lt 1 k) count version
+
+-- ---- one line
+
+pub placed : (quads value : List Quad) (i : ℕ) (d q : Quad) → quads ≡ value → slice_index_or quads i d ≡ q → slice_index_or value i d ≡ q
+placed quads value i d q same is = ap (λ (l : List Quad). slice_index_or l i d) (sym same) ∙ is
+
+pub within : (quads value : List Quad) (i : ℕ) → quads ≡ value → i < length value → i < length quads
+within quads value i same h = subst (λ (l : List Quad). i < length l) (sym same) h
+
+appended : {T E : Type 0} (r : Result T E) (old middle new : List ℕ) (q at : Quad) → OnOk r (new ≡ middle) → OnOk r (middle ≡ old ++ canonical_line q) → at ≡ q → OnOk r (new ≡ old ++ canonical_line at)
+appended (Ok x) old middle new q at kept written is = kept ∙ written ∙ ap (λ (x : Quad). old ++ canonical_line x) (sym is)
+appended (Err e) old middle new q at kept written is = kept
+
+pub line_appended : {T E : Type 0} (r s : Result T E) (old middle new : List ℕ) (q at : Quad) → r ≡ s → OnOk r (new ≡ middle) → OnOk s (middle ≡ old ++ canonical_line q) → at ≡ q → OnOk r (new ≡ old ++ canonical_line at)
+line_appended r s old middle new q at same kept written is = appended r old middle new q at kept (subst (λ (x : Result _ _). OnOk x (middle ≡ old ++ canonical_line q)) (sym same) written) is
+
+-- one quad more was made
+pub quad_taken : (value before after : List Quad) (i : ℕ) (q made : Quad) → i < length value → before ≡ take i value → ((d : Quad) → slice_index_or value i d ≡ made) → q ≡ made → after ≡ before ++ q ∷ [] → after ≡ take (i + 1) value
+quad_taken value before after i q made h is at same pushed =
+    pushed ∙ (λ k. is k ++ (same ∙ sym (at q)) k ∷ []) ∙ sym (take_more value i q h)

@@ -1,0 +1,241 @@
+-- The statements of the metadata by their places.
+use Rattle.std.proofs.Common.{◌≡◌, ℕ, ◌+◌, ◌-◌, ◌<◌, ◌≤◌, Bool, true, false, nat_lt, List, [], ◌∷◌, ◌++◌, length, refl, sym, ap, subst, ◌∙◌, arith, append_assoc, append-nil, length-append, if◌then◌else◌}
+use Rattle.std.specs.Prelude.{Some, codes, slice_index_or}
+use Rattle.std.specs.List.{list_all}
+use Rattle.std.proofs.lemmas.Bool.{lt-ltb, le-ltb, ne_eqb}
+use Rattle.std.proofs.lemmas.List.{get_or-append-add, get_or_append_left}
+use Rattle.rdf_terms.specs.Iri.{is_iri, is_iri_byte}
+use Rattle.rdf_terms.specs.declared.term.Term.{Term}
+use Rattle.rdf_terms.specs.declared.term.Term.TheVariants.{Iri}
+use Rattle.rdf_terms.specs.declared.term.Quad.{Quad}
+use Rattle.tpf_base.specs.Decimals.{decimal_text}
+use Rattle.template_fill.specs.Pages.{page_pair}
+use Rattle.template_fill.specs.Metadata.{graph_at, hydra, statement, topic_quads, form_quads, mapping_quads, count_quads, link_quads, version_quads}
+use Rattle.hydra_controls.specs.declared.facts.PageFacts.{PageFacts}
+use Rattle.hydra_controls.specs.Facts.{addresses_of, closing_of, counts_of, form_of, links_of, mapping_of, mappings_of, mark_of, next_of, previous_of, quads_of, topic_of, version_of}
+use Rattle.hydra_controls.proofs.Iris.{all_joined, decimal-iri, is_iri-append}
+
+-- ---- the address of a page
+
+pub page_1 : (first name : List ℕ) (mark k : ℕ) → k ≡ 1 → first ++ name ≡ (first ++ page_pair mark k) ++ name
+page_1 first name mark k is = ap (λ (l : List ℕ). l ++ name) (sym (append-nil first) ∙ ap (λ (n : ℕ). first ++ page_pair mark n) (sym is))
+
+pair_is : (mark k : ℕ) → (k ≡ 1 → ⊥) → mark ∷ (codes "page=" ++ decimal_text k) ≡ page_pair mark k
+pair_is mark k other = ap (λ (b : Bool). if b then [] else mark ∷ (codes "page=" ++ decimal_text k)) (sym (ne_eqb k 1 other))
+
+pub page_above : (first middle name : List ℕ) (fixed : Bool) (k : ℕ) → (k ≡ 1 → ⊥) → middle ≡ mark_of fixed ∷ codes "page="
+    → first ++ (middle ++ (decimal_text k ++ name)) ≡ (first ++ page_pair (mark_of fixed) k) ++ name
+page_above first middle name fixed k other is =
+    ap (λ (l : List ℕ). first ++ (l ++ (decimal_text k ++ name))) is
+    ∙ ap (λ (l : List ℕ). first ++ (l ++ name)) (pair_is (mark_of fixed) k other)
+    ∙ sym (append_assoc first (page_pair (mark_of fixed) k) name)
+
+mark-iri : (fixed : Bool) (more : List ℕ) → list_all is_iri_byte more ≡ true → list_all is_iri_byte ((mark_of fixed ∷ codes "page=") ++ more) ≡ true
+mark-iri true more own = own
+mark-iri false more own = own
+
+pub page_above-iri : (first middle name : List ℕ) (fixed : Bool) (k : ℕ) → middle ≡ mark_of fixed ∷ codes "page=" → is_iri first ≡ true → list_all is_iri_byte name ≡ true
+    → is_iri (first ++ (middle ++ (decimal_text k ++ name))) ≡ true
+page_above-iri first middle name fixed k is own all =
+    is_iri-append first (middle ++ (decimal_text k ++ name)) own
+    (subst (λ (l : List ℕ). list_all is_iri_byte (l ++ (decimal_text k ++ name)) ≡ true) (sym is) (mark-iri fixed (decimal_text k ++ name) (all_joined is_iri_byte (decimal_text k) name (decimal-iri k) all)))
+
+-- ---- a statement in a list
+
+-- a statement of terms that are equal to given ones
+said : (graph : List ℕ) (s p o x y z : Term) → s ≡ x → p ≡ y → o ≡ z → statement graph s p o ≡ statement graph x y z
+said graph s p o x y z es ep eo = λ i. statement graph (es i) (ep i) (eo i)
+
+pub says_is : (s p o g : Term) (graph : List ℕ) → g ≡ Iri graph → (let quad : Quad = record { triple = record { subject = s; predicate = p; object = o }; graph = Some g } in quad ≡ statement graph s p o)
+says_is s p o g graph is = ap (λ (t : Term). record { triple = record { subject = s; predicate = p; object = o }; graph = Some t }) is
+
+-- the statement in place n of a list
+pub row : (quads : List Quad) (i n : ℕ) (q : Quad) (graph : List ℕ) (s p o x y z : Term) (d : Quad) → i ≡ n → q ≡ statement graph s p o → s ≡ x → p ≡ y → o ≡ z
+    → slice_index_or quads n d ≡ statement graph x y z → slice_index_or quads i d ≡ q
+row quads i n q graph s p o x y z d is same es ep eo at = ap (λ (k : ℕ). slice_index_or quads k d) is ∙ at ∙ sym (same ∙ said graph s p o x y z es ep eo)
+
+-- the statement that stands alone
+pub alone : (quads : List Quad) (q : Quad) (graph : List ℕ) (s p o x y z : Term) → q ≡ statement graph s p o → s ≡ x → p ≡ y → o ≡ z → quads ≡ statement graph x y z ∷ [] → quads ≡ q ∷ []
+alone quads q graph s p o x y z same es ep eo is = is ∙ ap (λ (x : Quad). x ∷ []) (sym (same ∙ said graph s p o x y z es ep eo))
+
+-- ---- parts of a list
+
+behind : (xs ys : List Quad) (n i j : ℕ) (d : Quad) → length xs ≡ n → i ≡ n + j → slice_index_or (xs ++ ys) i d ≡ slice_index_or ys j d
+behind xs ys n i j d size is =
+    ap (λ (k : ℕ). slice_index_or (xs ++ ys) k d) (is ∙ ap (λ (k : ℕ). k + j) (sym size)) ∙ get_or-append-add xs ys j d
+
+before : (xs ys : List Quad) (i : ℕ) (d : Quad) → i < length xs → slice_index_or (xs ++ ys) i d ≡ slice_index_or xs i d
+before xs ys i d within = get_or_append_left xs ys d i within
+
+topic_size : (f : PageFacts) → length (topic_of f) ≡ 3
+unfolding topic_quads
+topic_size f = refl
+
+form_size : (f : PageFacts) → length (form_of f) ≡ 2
+unfolding form_quads
+form_size f = refl
+
+mapping_size : (f : PageFacts) (label name : List ℕ) → length (mapping_of f label name) ≡ 3
+unfolding mapping_quads
+mapping_size f label name = refl
+
+mappings_size : (f : PageFacts) → length (mappings_of f) ≡ 9
+unfolding mapping_quads
+mappings_size f = refl
+
+counts_size : (f : PageFacts) → length (counts_of f) ≡ 4
+unfolding count_quads
+counts_size f = refl
+
+version_size : (f : PageFacts) → length (version_of f) ≡ 1
+unfolding version_quads
+version_size f = refl
+
+link_size : (there : Bool) (graph page name target : List ℕ) → length (link_quads there graph page name target) ≡ (if there then 1 else 0)
+unfolding link_quads
+link_size true graph page name target = refl
+link_size false graph page name target = refl
+
+closing_size : (f : PageFacts) → length (closing_of f) ≡ (if nat_lt 1 f.number then 1 else 0) + 1
+unfolding closing_of
+closing_size f = omega (arith, length-append (previous_of f) (version_of f), version_size f, link_size (nat_lt 1 f.number) (graph_at (addresses_of f)) (addresses_of f).page (codes "previous") (addresses_of f).previous)
+
+links_size : (f : PageFacts) → length (links_of f) ≡ (if nat_lt f.number f.last then 1 else 0) + ((if nat_lt 1 f.number then 1 else 0) + 1)
+unfolding links_of
+links_size f = omega (arith, length-append (next_of f) (closing_of f), closing_size f, link_size (nat_lt f.number f.last) (graph_at (addresses_of f)) (addresses_of f).page (codes "next") (addresses_of f).next)
+
+parts_size : (f : PageFacts) → length (quads_of f) ≡ 18 + length (links_of f)
+unfolding quads_of
+parts_size f =
+    omega (arith, length-append (topic_of f) (form_of f ++ (mappings_of f ++ (counts_of f ++ links_of f))), length-append (form_of f) (mappings_of f ++ (counts_of f ++ links_of f)), length-append (mappings_of f) (counts_of f ++ links_of f), length-append (counts_of f) (links_of f), topic_size f, form_size f, mappings_size f, counts_size f)
+
+pub quads_size : (f : PageFacts) (next previous : ℕ) → next ≡ (if nat_lt f.number f.last then 1 else 0) → previous ≡ (if nat_lt 1 f.number then 1 else 0) → 19 + next + previous ≡ length (quads_of f)
+quads_size f next previous a b = omega (arith, a, b, parts_size f, links_size f)
+
+-- ---- where each part stands
+
+pub in_topic : (f : PageFacts) (i : ℕ) (d : Quad) → i < 3 → slice_index_or (quads_of f) i d ≡ slice_index_or (topic_of f) i d
+unfolding quads_of
+in_topic f i d within = before (topic_of f) (form_of f ++ (mappings_of f ++ (counts_of f ++ links_of f))) i d (omega (arith, within, topic_size f))
+
+behind_topic : (f : PageFacts) (i j : ℕ) (d : Quad) → i ≡ 3 + j → slice_index_or (quads_of f) i d ≡ slice_index_or (form_of f ++ (mappings_of f ++ (counts_of f ++ links_of f))) j d
+unfolding quads_of
+behind_topic f i j d is = behind (topic_of f) (form_of f ++ (mappings_of f ++ (counts_of f ++ links_of f))) 3 i j d (topic_size f) is
+
+pub in_form : (f : PageFacts) (i j : ℕ) (d : Quad) → i ≡ 3 + j → j < 2 → slice_index_or (quads_of f) i d ≡ slice_index_or (form_of f) j d
+in_form f i j d is within = behind_topic f i j d is ∙ before (form_of f) (mappings_of f ++ (counts_of f ++ links_of f)) j d (omega (arith, within, form_size f))
+
+behind_form : (f : PageFacts) (i j : ℕ) (d : Quad) → i ≡ 5 + j → slice_index_or (quads_of f) i d ≡ slice_index_or (mappings_of f ++ (counts_of f ++ links_of f)) j d
+behind_form f i j d is = behind_topic f i (2 + j) d (omega (arith, is)) ∙ behind (form_of f) (mappings_of f ++ (counts_of f ++ links_of f)) 2 (2 + j) j d (form_size f) refl
+
+pub in_mappings : (f : PageFacts) (i j : ℕ) (d : Quad) → i ≡ 5 + j → j < 9 → slice_index_or (quads_of f) i d ≡ slice_index_or (mappings_of f) j d
+in_mappings f i j d is within = behind_form f i j d is ∙ before (mappings_of f) (counts_of f ++ links_of f) j d (omega (arith, within, mappings_size f))
+
+behind_mappings : (f : PageFacts) (i j : ℕ) (d : Quad) → i ≡ 14 + j → slice_index_or (quads_of f) i d ≡ slice_index_or (counts_of f ++ links_of f) j d
+behind_mappings f i j d is = behind_form f i (9 + j) d (omega (arith, is)) ∙ behind (mappings_of f) (counts_of f ++ links_of f) 9 (9 + j) j d (mappings_size f) refl
+
+pub in_counts : (f : PageFacts) (i j : ℕ) (d : Quad) → i ≡ 14 + j → j < 4 → slice_index_or (quads_of f) i d ≡ slice_index_or (counts_of f) j d
+in_counts f i j d is within = behind_mappings f i j d is ∙ before (counts_of f) (links_of f) j d (omega (arith, within, counts_size f))
+
+pub in_links : (f : PageFacts) (i j : ℕ) (d : Quad) → i ≡ 18 + j → slice_index_or (quads_of f) i d ≡ slice_index_or (links_of f) j d
+in_links f i j d is = behind_mappings f i (4 + j) d (omega (arith, is)) ∙ behind (counts_of f) (links_of f) 4 (4 + j) j d (counts_size f) refl
+
+pub links_within : (f : PageFacts) (i : ℕ) → i < length (quads_of f) → 18 ≤ i → i - 18 < length (links_of f)
+links_within f i within high = omega (arith, within, high, parts_size f)
+
+-- ---- the three mappings
+
+pub first_mapping : (f : PageFacts) (i : ℕ) (d : Quad) → i < 3 → slice_index_or (mappings_of f) i d ≡ slice_index_or (mapping_of f (codes "s") (codes "subject")) i d
+first_mapping f i d within =
+    before (mapping_of f (codes "s") (codes "subject")) (mapping_of f (codes "p") (codes "predicate") ++ mapping_of f (codes "o") (codes "object")) i d (omega (arith, within, mapping_size f (codes "s") (codes "subject")))
+
+behind_first : (f : PageFacts) (i j : ℕ) (d : Quad) → i ≡ 3 + j → slice_index_or (mappings_of f) i d ≡ slice_index_or (mapping_of f (codes "p") (codes "predicate") ++ mapping_of f (codes "o") (codes "object")) j d
+behind_first f i j d is =
+    behind (mapping_of f (codes "s") (codes "subject")) (mapping_of f (codes "p") (codes "predicate") ++ mapping_of f (codes "o") (codes "object")) 3 i j d (mapping_size f (codes "s") (codes "subject")) is
+
+pub second_mapping : (f : PageFacts) (i j : ℕ) (d : Quad) → i ≡ 3 + j → j < 3 → slice_index_or (mappings_of f) i d ≡ slice_index_or (mapping_of f (codes "p") (codes "predicate")) j d
+second_mapping f i j d is within =
+    behind_first f i j d is ∙ before (mapping_of f (codes "p") (codes "predicate")) (mapping_of f (codes "o") (codes "object")) j d (omega (arith, within, mapping_size f (codes "p") (codes "predicate")))
+
+pub third_mapping : (f : PageFacts) (i j : ℕ) (d : Quad) → i ≡ 6 + j → slice_index_or (mappings_of f) i d ≡ slice_index_or (mapping_of f (codes "o") (codes "object")) j d
+third_mapping f i j d is =
+    behind_first f i (3 + j) d (omega (arith, is)) ∙ behind (mapping_of f (codes "p") (codes "predicate")) (mapping_of f (codes "o") (codes "object")) 3 (3 + j) j d (mapping_size f (codes "p") (codes "predicate")) refl
+
+pub is_below : (m n : ℕ) → m < n → nat_lt m n ≡ true
+is_below m n h = lt-ltb m n h
+
+pub is_above : (m n : ℕ) → n ≤ m → nat_lt m n ≡ false
+is_above m n h = le-ltb m n h
+
+-- ---- links and the version
+
+module _ (there : Bool) (graph page name target : List ℕ) (rest : List Quad) (d : Quad) where
+  -- the first of two lists where the link is there
+  pub link_first : (q : Quad) (i : ℕ) → there ≡ true → i ≡ 0 → link_quads true graph page name target ≡ q ∷ [] → slice_index_or (link_quads there graph page name target ++ rest) i d ≡ q
+  link_first q i is zero one =
+      ap (λ (b : Bool). slice_index_or (link_quads b graph page name target ++ rest) i d) is
+      ∙ ap (λ (l : List Quad). slice_index_or (l ++ rest) i d) one
+      ∙ ap (λ (n : ℕ). slice_index_or (q ∷ rest) n d) zero
+
+  pub link_passed : (i j : ℕ) → there ≡ true → i ≡ 1 + j → slice_index_or (link_quads there graph page name target ++ rest) i d ≡ slice_index_or rest j d
+  link_passed i j is next = behind (link_quads there graph page name target) rest 1 i j d (link_size there graph page name target ∙ ap (λ (b : Bool). if b then 1 else 0) is) next
+
+  pub link_missing : (i : ℕ) → there ≡ false → slice_index_or (link_quads there graph page name target ++ rest) i d ≡ slice_index_or rest i d
+  link_missing i is = behind (link_quads there graph page name target) rest 0 i i d (link_size there graph page name target ∙ ap (λ (b : Bool). if b then 1 else 0) is) (omega arith)
+
+-- the version that stands alone
+version_alone : (f : PageFacts) (q : Quad) (i : ℕ) (d : Quad) → version_of f ≡ q ∷ [] → i ≡ 0 → slice_index_or (version_of f) i d ≡ q
+version_alone f q i d one zero = ap (λ (l : List Quad). slice_index_or l i d) one ∙ ap (λ (n : ℕ). slice_index_or (q ∷ []) n d) zero
+
+previous_size : (f : PageFacts) → 1 < f.number → length (closing_of f) ≡ 2
+previous_size f some = closing_size f ∙ ap (λ (b : Bool). (if b then 1 else 0) + 1) (is_below 1 f.number some)
+
+no_previous_size : (f : PageFacts) → f.number ≤ 1 → length (closing_of f) ≡ 1
+no_previous_size f none = closing_size f ∙ ap (λ (b : Bool). (if b then 1 else 0) + 1) (is_above 1 f.number none)
+
+pub previous_first : (f : PageFacts) (q : Quad) (i : ℕ) (d : Quad) → 1 < f.number → i ≡ 0
+    → link_quads true (graph_at (addresses_of f)) (addresses_of f).page (codes "previous") (addresses_of f).previous ≡ q ∷ [] → slice_index_or (closing_of f) i d ≡ q
+unfolding closing_of
+previous_first f q i d some zero one =
+    link_first (nat_lt 1 f.number) (graph_at (addresses_of f)) (addresses_of f).page (codes "previous") (addresses_of f).previous (version_of f) d q i (is_below 1 f.number some) zero one
+
+pub version_behind : (f : PageFacts) (q : Quad) (i : ℕ) (d : Quad) → 1 < f.number → (i ≡ 0 → ⊥) → i < length (closing_of f) → version_of f ≡ q ∷ [] → slice_index_or (closing_of f) i d ≡ q
+unfolding closing_of
+version_behind f q i d some other within one =
+    let last : i ≡ 1 + 0 = omega (arith, other, within, previous_size f some) in
+    link_passed (nat_lt 1 f.number) (graph_at (addresses_of f)) (addresses_of f).page (codes "previous") (addresses_of f).previous (version_of f) d i 0 (is_below 1 f.number some) last
+    ∙ version_alone f q 0 d one refl
+
+pub version_first : (f : PageFacts) (q : Quad) (i : ℕ) (d : Quad) → f.number ≤ 1 → i < length (closing_of f) → version_of f ≡ q ∷ [] → slice_index_or (closing_of f) i d ≡ q
+unfolding closing_of
+version_first f q i d none within one =
+    link_missing (nat_lt 1 f.number) (graph_at (addresses_of f)) (addresses_of f).page (codes "previous") (addresses_of f).previous (version_of f) d i (is_above 1 f.number none)
+    ∙ version_alone f q i d one (omega (arith, within, no_previous_size f none))
+
+next_size : (f : PageFacts) → f.number < f.last → length (links_of f) ≡ 1 + length (closing_of f)
+next_size f some = links_size f ∙ ap (λ (b : Bool). (if b then 1 else 0) + ((if nat_lt 1 f.number then 1 else 0) + 1)) (is_below f.number f.last some) ∙ ap (λ (n : ℕ). 1 + n) (sym (closing_size f))
+
+no_next_size : (f : PageFacts) → f.last ≤ f.number → length (links_of f) ≡ length (closing_of f)
+no_next_size f none = omega (arith, links_size f, ap (λ (b : Bool). (if b then 1 else 0) + ((if nat_lt 1 f.number then 1 else 0) + 1)) (is_above f.number f.last none), closing_size f)
+
+pub next_first : (f : PageFacts) (q : Quad) (i : ℕ) (d : Quad) → f.number < f.last → i ≡ 0
+    → link_quads true (graph_at (addresses_of f)) (addresses_of f).page (codes "next") (addresses_of f).next ≡ q ∷ [] → slice_index_or (links_of f) i d ≡ q
+unfolding links_of
+next_first f q i d some zero one =
+    link_first (nat_lt f.number f.last) (graph_at (addresses_of f)) (addresses_of f).page (codes "next") (addresses_of f).next (closing_of f) d q i (is_below f.number f.last some) zero one
+
+pub behind_next : (f : PageFacts) (q : Quad) (i : ℕ) (d : Quad) → f.number < f.last → (i ≡ 0 → ⊥) → slice_index_or (closing_of f) (i - 1) d ≡ q → slice_index_or (links_of f) i d ≡ q
+unfolding links_of
+behind_next f q i d some other is =
+    link_passed (nat_lt f.number f.last) (graph_at (addresses_of f)) (addresses_of f).page (codes "next") (addresses_of f).next (closing_of f) d i (i - 1) (is_below f.number f.last some) (omega (arith, other)) ∙ is
+
+pub without_next : (f : PageFacts) (q : Quad) (i : ℕ) (d : Quad) → f.last ≤ f.number → slice_index_or (closing_of f) i d ≡ q → slice_index_or (links_of f) i d ≡ q
+unfolding links_of
+without_next f q i d none is =
+    link_missing (nat_lt f.number f.last) (graph_at (addresses_of f)) (addresses_of f).page (codes "next") (addresses_of f).next (closing_of f) d i (is_above f.number f.last none) ∙ is
+
+pub behind_next_within : (f : PageFacts) (i : ℕ) → f.number < f.last → (i ≡ 0 → ⊥) → i < length (links_of f) → i - 1 < length (closing_of f)
+behind_next_within f i some other within = omega (arith, other, within, next_size f some)
+
+pub without_next_within : (f : PageFacts) (i : ℕ) → f.last ≤ f.number → i < length (links_of f) → i < length (closing_of f)
+without_next_within f i none within = omega (arith, within, no_next_size f none)

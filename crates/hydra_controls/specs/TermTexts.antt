@@ -1,0 +1,77 @@
+-- Terms and quads by the texts that they are written with.
+use Rattle.std.specs.Prelude.{ℕ, ◌≡◌, Bool, not, true, List, [], ◌∷◌, ◌++◌, codes, Option, Some, None}
+use Rattle.std.specs.List.{list_all}
+use Rattle.rdf_terms.specs.Canon.{is_marked}
+use Rattle.rdf_terms.specs.Iri.{is_iri}
+use Rattle.rdf_terms.specs.Label.{is_label}
+use Rattle.rdf_terms.specs.declared.term.Term.{Term}
+use Rattle.rdf_terms.specs.declared.term.Term.TheVariants as terms
+use Rattle.rdf_terms.specs.declared.term.Kind.TheVariants as literals
+use Rattle.rdf_terms.specs.declared.term.Quad.{Quad}
+use Rattle.tpf_base.specs.Decimals.{decimal_text}
+use Rattle.hydra_controls.specs.declared.term_text.TermKind.{TermKind}
+use Rattle.hydra_controls.specs.declared.term_text.TermKind.TheVariants as kinds
+use Rattle.hydra_controls.specs.declared.term_text.TermText.{TermText}
+use Rattle.hydra_controls.specs.declared.quad_text.QuadText.{QuadText}
+
+-- the datatype of whole numbers
+abbrev pub xsd_integer : List ℕ
+xsd_integer = codes "http://www.w3.org/2001/XMLSchema#integer"
+
+-- the digits of a number, if there is one
+abbrev pub digits_of : Option ℕ → List ℕ
+digits_of None = []
+digits_of (Some number) = decimal_text number
+
+-- the text of a term: the IRI, the label, or the form of the literal
+abbrev pub text_of : TermText → List ℕ
+text_of t = t.front.now ++ (t.middle.now ++ (digits_of t.number ++ t.end.now))
+
+-- the term of a kind with a text
+abbrev pub term_as : TermKind → List ℕ → Term
+term_as kinds.Iri text = terms.Iri text
+term_as kinds.Blank text = terms.Blank text
+term_as kinds.Plain text = terms.Literal text literals.Plain
+term_as kinds.Integer text = terms.Literal text (literals.Typed xsd_integer)
+
+unfoldable pub term_of : TermText → Term
+term_of t = term_as t.kind (text_of t)
+
+unfoldable pub quad_of : QuadText → Quad
+quad_of q = record {
+  triple = record { subject = term_of q.subject; predicate = term_of q.predicate; object = term_of q.object };
+  graph = Some (term_of q.graph);
+}
+
+-- a byte of a literal's form that is written without a backslash
+abbrev pub is_plain_byte : ℕ → Bool
+is_plain_byte b = not (is_marked b)
+
+-- the text is one of the kind, and no byte of a form is written with a backslash
+abbrev pub IsTextOf : TermKind → List ℕ → Type 0
+IsTextOf kinds.Iri text = is_iri text ≡ true
+IsTextOf kinds.Blank text = is_label text ≡ true
+IsTextOf kinds.Plain text = list_all is_plain_byte text ≡ true
+IsTextOf kinds.Integer text = list_all is_plain_byte text ≡ true
+
+pub record IsTerm (t : TermText) : Type 0 where
+  pub text : IsTextOf t.kind (text_of t)
+
+pub record AreTerms (q : QuadText) : Type 0 where
+  pub subject : IsTerm q.subject
+  pub predicate : IsTerm q.predicate
+  pub object : IsTerm q.object
+  pub graph : IsTerm q.graph
+
+-- what stands before and behind the text of a term in its canonical text
+abbrev pub opening : TermKind → List ℕ
+opening kinds.Iri = codes "<"
+opening kinds.Blank = codes "_:"
+opening kinds.Plain = codes "\""
+opening kinds.Integer = codes "\""
+
+abbrev pub closing : TermKind → List ℕ
+closing kinds.Iri = codes ">"
+closing kinds.Blank = []
+closing kinds.Plain = codes "\""
+closing kinds.Integer = codes "\"^^<http://www.w3.org/2001/XMLSchema#integer>"

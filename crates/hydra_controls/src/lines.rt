@@ -1,0 +1,189 @@
+// The lines of a page's metadata, each made when it is written.
+ghost use Rattle.std.specs.Prelude.{◌≡◌, ◌≤◌, ◌<◌, ◌^◌, ◌++◌, length, take, nat_lt, slice_index_or, IfOk, OnOk, OnErr};
+ghost use Rattle.rdf_terms.specs.Canon.{canonical_line};
+ghost use Rattle.rdf_terms.specs.declared.term.Quad.{Quad};
+ghost use Rattle.list_laws.specs.Begins.{Begins};
+ghost use Rattle.tpf_base.specs.Addresses.{address_text};
+ghost use Rattle.template_fill.specs.Forms.{HasNoBlank};
+ghost use Rattle.template_fill.specs.Metadata.{page_metadata};
+ghost use Rattle.hydra_controls.specs.TermTexts.{AreTerms, quad_of};
+ghost use Rattle.hydra_controls.specs.Facts.{AreFacts, quads_of};
+
+use crate::Config;
+use crate::facts::PageFacts;
+use crate::pages::{address, last_page};
+use crate::quad_text::QuadText;
+use rdf_terms::{Quad, Slots};
+use std::alloc::Global;
+use std::marker::Model;
+use template_fill::WebAddress;
+use tpf_base::OutOfMemory;
+
+/// The lines of a page's metadata, of which each is made when it is written. It keeps the base and the
+/// address of page 1 once, of which the other addresses are longer by a number.
+///
+/// Contracts see it as the list of the quads.
+#[derive(Drop)]
+pub struct MetadataLines {
+    base: WebAddress,
+    first: WebAddress,
+    fixed: bool,
+    number: u64,
+    last: u64,
+    count: u64,
+    version: u64,
+}
+
+impl Model for MetadataLines {
+    ghost use Rattle.std.specs.Prelude.{nat_lt, List};
+    ghost use Rattle.rdf_terms.specs.declared.term.Quad.{Quad};
+
+    ghost Value = { List Quad };
+
+    ghost use Rattle.tpf_base.specs.Addresses.{address_text};
+    ghost use Rattle.template_fill.specs.Metadata.{metadata_at};
+    ghost use Rattle.hydra_controls.specs.Facts.{addresses_by};
+
+    ghost view = { λ l. metadata_at l.base (addresses_by (address_text l.first) l.fixed l.number) (nat_lt l.number l.last) (nat_lt 1 l.number) l.count l.version };
+}
+
+/// Whether the address of page 1 has more than the base.
+fn has_fixed(base: &WebAddress, first: &WebAddress) -> bool
+    ensures { result ≡ nat_lt (length (address_text base.now)) (length (address_text first.now)) }
+{
+    base.text().len() < first.text().len()
+}
+
+/// Makes room for so many bytes more at once, so that a line of any length is copied once.
+fn make_room(length: u128, out: &mut Vec<u8>) -> Result<(), OutOfMemory>
+    ensures { out.new.items ≡ out.old.items }
+{
+    match usize::try_from(length) {
+        Ok(room) => {
+            out.reserve(room)?;
+            Ok(())
+        }
+        Err(_) => Err(OutOfMemory),
+    }
+}
+
+/// Appends the line of a quad.
+#[tactic(auto, using(list_laws::proofs::Begins::same_begins, list_laws::proofs::Begins::begins_on))]
+fn write_line(quad: QuadText<'_>, out: &mut Vec<u8>) -> Result<(), OutOfMemory>
+    requires { AreTerms quad }
+    ensures ok { OnOk result (out.new.items ≡ out.old.items ++ canonical_line (quad_of quad.entry)) }
+    ensures front { Begins out.old.items out.new.items }
+{
+    make_room(quad.length(), out)?;
+    quad.write(out)?;
+    Ok(())
+}
+
+/// Takes back what was appended since `out` had this length, where the writing failed.
+#[tactic(auto, using(list_laws::proofs::Begins::cut_back))]
+fn taken_back(
+    written: Result<(), OutOfMemory>,
+    before: usize,
+    out: &mut Vec<u8>,
+) -> Result<(), OutOfMemory>
+    ensures same { result ≡ written }
+    ensures ok { OnOk result (out.new.items ≡ out.old.items) }
+    ensures err { OnErr result (out.new.items ≡ take before out.old.items) }
+{
+    if written.is_err() {
+        out.truncate(before);
+    }
+    written
+}
+
+impl MetadataLines {
+    /// The lines of the metadata of a page of the fragment with these slots, which has so many
+    /// triples, in data of this version (Triple Pattern Fragments, "Metadata" and "Controls"). No fixed
+    /// place is a blank node, and the page is 1 or more.
+    ///
+    /// `OutOfMemory` comes for want of memory alone.
+    pub fn new(
+        alloc: Global,
+        config: &Config,
+        slots: &Slots,
+        page: u64,
+        count: u64,
+        version: u64,
+    ) -> Result<MetadataLines, OutOfMemory>
+        requires slots { HasNoBlank slots.now }
+        requires page { 1 ≤ page }
+        ensures { IfOk result (λ lines. lines ≡ page_metadata config.now slots.now page count version) }
+    {
+        let first = address(alloc, config, slots, 1)?;
+        let base = config.base().copy(alloc)?;
+        let fixed = has_fixed(&base, &first);
+        Ok(MetadataLines {
+            base,
+            first,
+            fixed,
+            number: page,
+            last: last_page(count, config.page_size()),
+            count,
+            version,
+        })
+    }
+
+    /// What the lines speak of.
+    fn facts(&self) -> PageFacts<'_>
+        ensures quads { quads_of result ≡ self.now }
+        ensures facts { AreFacts result }
+    {
+        PageFacts {
+            base: self.base.text(),
+            first: self.first.text(),
+            fixed: self.fixed,
+            number: self.number,
+            last: self.last,
+            count: self.count,
+            version: self.version,
+        }
+    }
+
+    /// How many lines there are: 19 to 21.
+    pub fn count(&self) -> usize
+        ensures count { result ≡ length self.now }
+        ensures few { result ≤ 21 }
+    {
+        self.facts().quad_count()
+    }
+
+    /// How many bytes the line in this place has, its end LF with it, found without making it.
+    pub fn length(&self, i: usize) -> u128
+        requires { i < length self.now }
+        ensures length { (d : Quad) → result ≡ length (canonical_line (slice_index_or self.now i d)) }
+        ensures small { result < 2 ^ 70 }
+    {
+        self.facts().quad(i).length()
+    }
+
+    /// Appends the line in this place, its end LF with it (N-Quads, canonical form). After
+    /// `OutOfMemory`, which comes for want of memory alone, `out` is as before.
+    #[tactic(auto, using(list_laws::proofs::Begins::cut_back))]
+    pub fn write(&self, i: usize, out: &mut Vec<u8>) -> Result<(), OutOfMemory>
+        requires { i < length self.now }
+        ensures ok { (d : Quad) → OnOk result (out.new.items ≡ out.old.items ++ canonical_line (slice_index_or self.now i d)) }
+        ensures err { OnErr result (out.new.items ≡ out.old.items) }
+    {
+        let before = out.len();
+        let written = write_line(self.facts().quad(i), out);
+        taken_back(written, before, out)
+    }
+
+    /// The quads. `OutOfMemory` comes for want of memory alone.
+    pub fn quads(&self, alloc: Global) -> Result<Vec<Quad>, OutOfMemory>
+        ensures { IfOk result (λ quads. quads.items ≡ self.now) }
+    {
+        let count = self.count();
+        let mut quads = Vec::with_capacity(alloc, count)?;
+        for i in 0..count {
+            let quad = self.facts().quad(i).quad(alloc)?;
+            quads.push(quad)?;
+        }
+        Ok(quads)
+    }
+}

@@ -1,0 +1,67 @@
+// Quads as the texts that they are written with.
+ghost use Rattle.std.specs.Prelude.{◌≡◌, ◌<◌, ◌^◌, ◌++◌, length, IfOk, OnOk};
+ghost use Rattle.rdf_terms.specs.Canon.{canonical_line};
+ghost use Rattle.list_laws.specs.Begins.{Begins};
+ghost use Rattle.hydra_controls.specs.TermTexts.{AreTerms, quad_of};
+
+use crate::term_text::{TermText, push};
+use rdf_terms::{Quad, Triple};
+use std::alloc::Global;
+use tpf_base::OutOfMemory;
+
+/// A quad by the texts of its terms.
+#[derive(Clone, Copy)]
+pub(crate) struct QuadText<'a> {
+    pub subject: TermText<'a>,
+    pub predicate: TermText<'a>,
+    pub object: TermText<'a>,
+    pub graph: TermText<'a>,
+}
+
+impl<'a> QuadText<'a> {
+    /// The quad.
+    pub(crate) fn quad(self, alloc: Global) -> Result<Quad, OutOfMemory>
+        requires { AreTerms self }
+        ensures { IfOk result (λ quad. quad ≡ quad_of self.entry) }
+    {
+        let subject = self.subject.term(alloc)?;
+        let predicate = self.predicate.term(alloc)?;
+        let object = self.object.term(alloc)?;
+        let graph = self.graph.term(alloc)?;
+        let triple = Triple {
+            subject,
+            predicate,
+            object,
+        };
+        let graph = Some(graph);
+        Ok(Quad { triple, graph })
+    }
+
+    /// How many bytes its canonical line has, found without making it.
+    pub(crate) fn length(self) -> u128
+        requires { AreTerms self }
+        ensures length { result ≡ length (canonical_line (quad_of self.entry)) }
+        ensures small { result < 2 ^ 70 }
+    {
+        self.subject.length()
+            + self.predicate.length()
+            + self.object.length()
+            + self.graph.length()
+            + 6
+    }
+
+    /// Appends its canonical line.
+    #[tactic(auto, using(list_laws::proofs::Begins::begins_on))]
+    pub(crate) fn write(self, out: &mut Vec<u8>) -> Result<(), OutOfMemory>
+        requires { AreTerms self }
+        ensures ok { OnOk result (out.new.items ≡ out.old.items ++ canonical_line (quad_of self.entry)) }
+        ensures front { Begins out.old.items out.new.items }
+    {
+        self.subject.write_spaced(out)?;
+        self.predicate.write_spaced(out)?;
+        self.object.write_spaced(out)?;
+        self.graph.write_spaced(out)?;
+        push(".\n", out)?;
+        Ok(())
+    }
+}
