@@ -5,7 +5,7 @@ use Rattle.std.specs.declared.cmp.Ordering.TheVariants.{Less, Equal, Greater}
 use Rattle.std.specs.Ordering.{nat_cmp}
 use Rattle.std.proofs.lemmas.Bool.{true≢false}
 use Rattle.triple_table.specs.declared.ids.Row.{Row}
-use Rattle.triple_table.specs.Rows.{row_order, goes_before}
+use Rattle.triple_table.specs.Rows.{key, row_order, goes_before}
 
 -- ---- numbers compared
 
@@ -27,9 +27,6 @@ three_ways x y = by (ltb x y) (ltb y x) refl refl
     by false false e f = inr (inl (grind (arith, e, f)))
 
 -- ---- a row as one number
-
-unfoldable pub key : Row → ℕ
-key r = r.first * 18446744073709551616 + r.second * 4294967296 + r.third
 
 pub record IsSmall (r : Row) : Type 0 where
   pub first : r.first < 4294967296

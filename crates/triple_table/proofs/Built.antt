@@ -1,14 +1,14 @@
 -- What the building of a table makes of triples, terms and sorted rows.
-use Rattle.std.proofs.Common.{ℕ, ◌≡◌, ◌+◌, ◌*◌, ◌^◌, ◌<◌, ◌≤◌, Bool, true, false, List, [], ◌∷◌, ◌++◌, refl, sym, ap, subst, ◌∙◌, length, get_or, take, map, arith, ⊎_elim, All}
+use Rattle.std.proofs.Common.{ℕ, ◌≡◌, ◌+◌, ◌*◌, ◌^◌, ◌<◌, ◌≤◌, Bool, true, false, List, [], ◌∷◌, refl, sym, ap, subst, ◌∙◌, length, get_or, map, arith, ⊎_elim, All}
 use Rattle.std.specs.Prelude.{◌↔◌}
 use Rattle.std.specs.List.{Contains, AllByRecursion, IsDistinct}
-use Rattle.std.specs.List.Sorted.{IsStrictlySortedBy, IsSorted, IsPermutation}
+use Rattle.std.specs.List.Sorted.{IsStrictlySortedBy, IsSorted, IsSortedByKey, IsPermutation}
 use Rattle.std.specs.declared.cmp.Ordering.TheVariants.{Less, Equal}
-use Rattle.std.specs.Ordering.{nat_cmp, eq_by_cmp}
+use Rattle.std.specs.Ordering.{is_lt, nat_cmp, eq_by_cmp}
 use Rattle.std.proofs.lemmas.Cmp.{eq_by_cmp_equiv, tied_itself}
 use Rattle.std.proofs.lemmas.Map.Keys.{IsDistinct-IsPermutation}
-use Rattle.std.proofs.lemmas.List.{length-map, map-append, take_more}
-use Rattle.std.proofs.lemmas.List.Elements.{All-from_recursion, recursion_from_All, All-map, All-weaker, All-contains, Contains-get_or}
+use Rattle.std.proofs.lemmas.List.{length-map}
+use Rattle.std.proofs.lemmas.List.Elements.{All-from_recursion, All-get_or, recursion_from_All, All-map, All-weaker, All-contains, Contains-get_or}
 use Rattle.std.proofs.lemmas.List.Sorted.{All-permutation, Contains-permutation, IsPermutation-sym, length_permutation}
 use Rattle.list_laws.proofs.Ascending.{greater_not_equal, is_equal, less_not_equal, strict_from, strict_on, then_equal}
 use Rattle.list_laws.proofs.Members.{Contains-map, at_head, from_flat_map, from_map, in_flat_map, in_tail}
@@ -21,10 +21,10 @@ use Rattle.triple_table.specs.declared.ids.Row.{Row}
 use Rattle.triple_table.specs.declared.ids.IdTriple.{IdTriple}
 use Rattle.triple_table.specs.declared.ids.Order.{Order}
 use Rattle.triple_table.specs.declared.ids.Order.TheVariants.{Spo, Pos, Osp}
-use Rattle.triple_table.specs.Rows.{row_order, row_of, id_triple_of}
+use Rattle.triple_table.specs.Rows.{key, row_order, row_of, id_triple_of}
 use Rattle.triple_table.specs.Served.{terms_in, terms_of}
 use Rattle.triple_table.specs.Stored.{Stored, IsStored, IsOrdered, IsRanking, IsIdTriple, triple_at, triples_in, rows_in}
-use Rattle.triple_table.proofs.Bounds.{cmp_less, cmp_greater, three_ways}
+use Rattle.triple_table.proofs.Bounds.{cmp_less, cmp_greater, key_cmp, three_ways, IsSmall}
 use Rattle.triple_table.proofs.Ranges.{back_there}
 use Rattle.triple_table.proofs.Ranks.{rows_cmp}
 use Rattle.triple_table.proofs.RowOrder.{row_total}
@@ -80,12 +80,6 @@ predicate_in t = in_tail t.subject t.predicate (t.predicate ∷ t.object ∷ [])
 
 pub object_in : (t : Triple) → Contains (terms_in t) t.object
 object_in t = in_tail t.subject t.object (t.predicate ∷ t.object ∷ []) (in_tail t.predicate t.object (t.object ∷ []) (at_head t.object []))
-
--- the triples of one more triple of ids
-pub more_ids : (terms : List Term) (ids : List IdTriple) (x : IdTriple) (triples : List Triple) (i : ℕ) (t : Triple) → map (triple_at terms) ids ≡ take i triples → triple_at terms x ≡ t → i < length triples → t ≡ get_or triples i t →
-    map (triple_at terms) (ids ++ x ∷ []) ≡ take (i + 1) triples
-more_ids terms ids x triples i t e f l is =
-    map-append (triple_at terms) ids (x ∷ []) ∙ ap (λ ys. ys ++ triple_at terms x ∷ []) e ∙ ap (λ y. take i triples ++ y ∷ []) (f ∙ is) ∙ sym (take_more triples i t l)
 
 -- ---- the stored table
 
@@ -164,3 +158,26 @@ module _ (triples : List Triple) (data_set : IsDataSet triples) (terms : List Te
 
   pub stored_ranking : IsRanking (triples_in record { terms = terms; spo = spo; pos = pos; osp = osp }) terms
   stored_ranking = is_stored.ranking
+
+-- ---- rows sorted as numbers
+
+small_of : (terms : List Term) → length terms < 2 ^ 32 → (o : Order) (t : IdTriple) → IsIdTriple terms t → IsSmall (row_of o t)
+small_of terms small Spo t h = let a = h.subject in let b = h.predicate in let c = h.object in record { first = omega (arith, small, a); second = omega (arith, small, b); third = omega (arith, small, c) }
+small_of terms small Pos t h = let a = h.subject in let b = h.predicate in let c = h.object in record { first = omega (arith, small, b); second = omega (arith, small, c); third = omega (arith, small, a) }
+small_of terms small Osp t h = let a = h.subject in let b = h.predicate in let c = h.object in record { first = omega (arith, small, c); second = omega (arith, small, a); third = omega (arith, small, b) }
+
+by_key : (rows : List Row) → All IsSmall rows → IsSortedByKey key nat_cmp rows → IsSorted row_order rows
+by_key rows small s k d l m =
+    let next = All-get_or IsSmall rows (k + 1) d m small in let here = All-get_or IsSmall rows k d (omega (arith, m)) small in
+    ap is_lt (key_cmp (get_or rows (k + 1) d) (get_or rows k d) next here) ∙ s k d l m
+
+pub rows_sorted : (terms : List Term) → length terms < 2 ^ 32 → (o : Order) (ids : List IdTriple) (rows : List Row) → All (IsIdTriple terms) ids → IsPermutation (map (row_of o) ids) rows → IsSortedByKey key nat_cmp rows → IsSorted row_order rows
+rows_sorted terms small o ids rows each moved s =
+    by_key rows (All-permutation IsSmall (map (row_of o) ids) rows moved (All-map IsSmall (row_of o) ids (All-weaker (IsIdTriple terms) (λ t. IsSmall (row_of o t)) (small_of terms small o) ids each))) s
+
+-- the same of triples by ids
+pub ids_sorted : (terms : List Term) → length terms < 2 ^ 32 → (ids : List IdTriple) → All (IsIdTriple terms) ids → IsSortedByKey (λ (t : IdTriple). key (row_of Spo t)) nat_cmp ids → IsSorted (λ (x y : IdTriple). row_order (row_of Spo x) (row_of Spo y)) ids
+ids_sorted terms small ids each s k d l m =
+    let next = small_of terms small Spo (get_or ids (k + 1) d) (All-get_or (IsIdTriple terms) ids (k + 1) d m each) in
+    let here = small_of terms small Spo (get_or ids k d) (All-get_or (IsIdTriple terms) ids k d (omega (arith, m)) each) in
+    ap is_lt (key_cmp (row_of Spo (get_or ids (k + 1) d)) (row_of Spo (get_or ids k d)) next here) ∙ s k d l m

@@ -1,9 +1,9 @@
 -- Triples by ids, each once.
-use Rattle.std.proofs.Common.{ℕ, nat_eq, ◌&&◌, ◌≡◌, ◌*◌, ◌<◌, ◌≤◌, Bool, true, List, [], ◌∷◌, refl, sym, ap, subst, ◌∙◌, length, get_or, map, arith, All, inl, inr, Ok, Err}
+use Rattle.std.proofs.Common.{ℕ, nat_eq, ◌&&◌, ◌≡◌, ◌*◌, ◌^◌, ◌<◌, ◌≤◌, Bool, true, List, [], ◌∷◌, refl, sym, ap, subst, ◌∙◌, length, get_or, map, arith, All, inl, inr, Ok, Err}
 use Rattle.std.specs.Prelude.{Result, IfOk}
 use Rattle.std.specs.List.{Contains, AllByRecursion}
 use Rattle.std.specs.List.Retain.{IsFiltered, DiffersFromLast}
-use Rattle.std.specs.List.Sorted.{IsStrictlySortedBy, IsSorted, IsPermutation}
+use Rattle.std.specs.List.Sorted.{IsStrictlySortedBy, IsSortedByKey, IsPermutation}
 use Rattle.std.specs.Cmp.{IsTotalOrder, unsigned_ties}
 use Rattle.std.specs.Cmp.Derive.{tie, on_tied, then_tied}
 use Rattle.std.specs.declared.cmp.Ordering.{Ordering}
@@ -12,6 +12,7 @@ use Rattle.std.specs.Ordering.{nat_cmp, ordering_then, eq_by_cmp, is_eq}
 use Rattle.std.proofs.lemmas.Cmp.{nat_cmp_total, on_total, then_total, eq_by_cmp_equiv}
 use Rattle.std.proofs.lemmas.List.{length-map}
 use Rattle.std.proofs.lemmas.List.Elements.{recursion_from_All, All-contains, Contains-get_or}
+use Rattle.std.proofs.lemmas.List.Sorted.{All-permutation}
 use Rattle.std.proofs.lemmas.Map.Keys.{IsDistinct-from_sorted}
 use Rattle.std.proofs.lemmas.Map.Made.{length-le_from_is_member, is_member-Decides}
 use Rattle.list_laws.proofs.Ascending.{is_equal, strict_on}
@@ -27,12 +28,12 @@ use Rattle.rdf_terms.specs.Fragments.{fragment}
 use Rattle.rdf_terms.proofs.FragmentLaws.{fragment_is}
 use Rattle.triple_table.specs.declared.ids.IdTriple.{IdTriple}
 use Rattle.triple_table.specs.declared.ids.Order.TheVariants.{Spo}
-use Rattle.triple_table.specs.Rows.{row_of}
+use Rattle.triple_table.specs.Rows.{key, row_of}
 use Rattle.triple_table.specs.Genid.{skolem_triple}
 use Rattle.triple_table.specs.Ranking.{SameMembers, HoldsMore}
 use Rattle.triple_table.specs.Served.{terms_of, Clashes, IsServed}
 use Rattle.triple_table.specs.Stored.{IsRanking, IsIdTriple, PassesMost, triple_at}
-use Rattle.triple_table.proofs.Built.{same_terms, same_row, same_triple}
+use Rattle.triple_table.proofs.Built.{ids_sorted, same_terms, same_row, same_triple}
 use Rattle.triple_table.proofs.Ranks.{rows_cmp}
 
 -- the order of triples by ids
@@ -51,29 +52,30 @@ id_ties = (then_tied (on_tied (λ (t : IdTriple). t.subject) (tie nat_cmp unsign
 
 -- ---- a sort and a dedup
 
-module _ {E : IdTriple → IdTriple → Bool} (ties : (x y : IdTriple) → E x y ≡ eq_by_cmp id_order x y) (terms : List Term) (ascend : IsStrictlySortedBy term_order terms) (raw : List Triple) (xs ys zs : List IdTriple)
-    (each : All (IsIdTriple terms) xs) (are : map (triple_at terms) xs ≡ raw) (moved : IsPermutation xs ys) (kept : IsFiltered (DiffersFromLast E) [] ys zs) where
-  each_left : All (IsIdTriple terms) zs
-  each_left = λ k d l. All-contains (IsIdTriple terms) xs (get_or zs k d) each (from_deduped id_total ties xs ys zs moved kept (get_or zs k d) (Contains-get_or zs k d l))
+module _ {E : IdTriple → IdTriple → Bool} (ties : (x y : IdTriple) → E x y ≡ eq_by_cmp id_order x y) (terms : List Term) (xs ys zs : List IdTriple)
+    (moved : IsPermutation xs ys) (kept : IsFiltered (DiffersFromLast E) [] ys zs) where
+  pub left_ids : All (IsIdTriple terms) xs → All (IsIdTriple terms) zs
+  left_ids each = λ k d l. All-contains (IsIdTriple terms) xs (get_or zs k d) each (from_deduped id_total ties xs ys zs moved kept (get_or zs k d) (Contains-get_or zs k d l))
 
-  pub left_ascend : IsSorted id_order ys → IsStrictlySortedBy triple_order (map (triple_at terms) zs)
-  left_ascend s = ids_ascend terms ascend zs each_left (deduped_ascends id_total ties xs ys zs moved kept s)
+  pub left_ascend : length terms < 2 ^ 32 → IsStrictlySortedBy term_order terms → All (IsIdTriple terms) xs → IsSortedByKey (λ (t : IdTriple). key (row_of Spo t)) nat_cmp ys → IsStrictlySortedBy triple_order (map (triple_at terms) zs)
+  left_ascend small ascend each s =
+      ids_ascend terms ascend zs (left_ids each) (deduped_ascends id_total ties xs ys zs moved kept (ids_sorted terms small ys (All-permutation (IsIdTriple terms) xs ys moved each) s))
 
   id_same : (x y : IdTriple) → E x y ≡ true → x ≡ y
   id_same x y h = same_triple Spo x y (same_row (row_of Spo x) (row_of Spo y) (is_equal (id_order x y) (sym (ties x y) ∙ h)))
 
-  there : (t : Triple) → Contains (map (triple_at terms) zs) t → Contains raw t
+  there : (t : Triple) → Contains (map (triple_at terms) zs) t → Contains (map (triple_at terms) xs) t
   there t h =
       let x = from_map (triple_at terms) zs t h in
-      subst (Contains raw) x.2 (subst (λ l. Contains l (triple_at terms x.0)) are (Contains-map (triple_at terms) xs x.0 (from_deduped id_total ties xs ys zs moved kept x.0 x.1)))
+      subst (Contains (map (triple_at terms) xs)) x.2 (Contains-map (triple_at terms) xs x.0 (from_deduped id_total ties xs ys zs moved kept x.0 x.1))
 
-  back : (t : Triple) → Contains raw t → Contains (map (triple_at terms) zs) t
+  back : (t : Triple) → Contains (map (triple_at terms) xs) t → Contains (map (triple_at terms) zs) t
   back t h =
-      let x = from_map (triple_at terms) xs t (subst (λ l. Contains l t) (sym are) h) in
+      let x = from_map (triple_at terms) xs t h in
       let left = in_deduped id_total ties xs ys zs moved kept x.0 x.1 in
       subst (Contains (map (triple_at terms) zs)) (ap (triple_at terms) (sym (id_same x.0 left.1 left.4)) ∙ x.2) (Contains-map (triple_at terms) zs left.1 (left.0, left.2, left.3))
 
-  pub left_members : SameMembers (map (triple_at terms) zs) raw
+  pub left_members : SameMembers (map (triple_at terms) zs) (map (triple_at terms) xs)
   left_members t = (there t, back t)
 
 -- ---- the terms are at most three times the triples

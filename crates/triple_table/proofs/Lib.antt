@@ -15,7 +15,7 @@ pub mod Patterns
 pub mod Ranks
 pub mod Ranges
 pub mod Built
-pub mod TermMembers
 pub mod Gathered
+pub mod Ranked
 pub mod Distinct
 pub mod Kept

@@ -3,8 +3,8 @@ use Rattle.std.proofs.Common.{ℕ, ◌≡◌, ◌<◌, ◌≤◌, Option, Some, 
 use Rattle.triple_table.specs.declared.ids.Row.{Row}
 use Rattle.triple_table.specs.declared.ids.IdTriple.{IdTriple}
 use Rattle.triple_table.specs.declared.ids.IdPattern.{IdPattern}
-use Rattle.triple_table.specs.Rows.{id_triple_of, order_by, bound_of}
-use Rattle.triple_table.proofs.Bounds.{key, IsSmall, one_is, two_are, three_are}
+use Rattle.triple_table.specs.Rows.{key, id_triple_of, order_by, bound_of}
+use Rattle.triple_table.proofs.Bounds.{IsSmall, one_is, two_are, three_are}
 
 -- an open place fits every id
 abbrev pub FitsId : Option ℕ → ℕ → Type 0

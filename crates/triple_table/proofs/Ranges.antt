@@ -21,9 +21,9 @@ use Rattle.triple_table.specs.declared.ids.IdPattern.{IdPattern}
 use Rattle.triple_table.specs.declared.ids.Order.{Order}
 use Rattle.triple_table.specs.declared.ids.Order.TheVariants.{Spo, Pos, Osp}
 use Rattle.triple_table.specs.declared.ids.Range.{Range}
-use Rattle.triple_table.specs.Rows.{row_order, row_of, id_triple_of, order_for, order_by, bound_of, goes_before}
+use Rattle.triple_table.specs.Rows.{key, row_order, row_of, id_triple_of, order_for, order_by, bound_of, goes_before}
 use Rattle.triple_table.specs.Stored.{Stored, IsStored, IsOrdered, IsRange, IsIdPattern, IsIdTriple, IsIdOrOpen, term_at, triple_at, triples_by, triples_in, rows_in, listed, slot_at, slots_at}
-use Rattle.triple_table.proofs.Bounds.{key, IsSmall, not_before, is_not_before, up_to, is_up_to}
+use Rattle.triple_table.proofs.Bounds.{IsSmall, not_before, is_not_before, up_to, is_up_to}
 use Rattle.triple_table.proofs.Patterns.{FitsId, IsSmallId, MatchesIds, pattern, from_bounds, to_bounds, bound_small}
 use Rattle.triple_table.proofs.Ranks.{same_rank, rows_cmp, triples_cmp, kind_is}
 

@@ -1,5 +1,5 @@
 -- Rows of numbers and their order.
-use Rattle.std.specs.Prelude.{ℕ, Bool, true, false, Option, Some, None, unwrap_or}
+use Rattle.std.specs.Prelude.{ℕ, ◌+◌, ◌*◌, Bool, true, false, Option, Some, None, unwrap_or}
 use Rattle.std.specs.declared.cmp.Ordering.{Ordering}
 use Rattle.std.specs.declared.cmp.Ordering.TheVariants.{Less, Equal, Greater}
 use Rattle.std.specs.Ordering.{nat_cmp, ordering_then}
@@ -12,6 +12,10 @@ use Rattle.triple_table.specs.declared.ids.Order.TheVariants.{Spo, Pos, Osp}
 -- first, second, third
 abbrev pub row_order : Row → Row → Ordering
 row_order a b = ordering_then (nat_cmp a.first b.first) (ordering_then (nat_cmp a.second b.second) (nat_cmp a.third b.third))
+
+-- a row of numbers below 2 ^ 32 as one number, which is ordered as the row is
+unfoldable pub key : Row → ℕ
+key r = r.first * 18446744073709551616 + r.second * 4294967296 + r.third
 
 -- the row of a triple in an order
 abbrev pub row_of : Order → IdTriple → Row

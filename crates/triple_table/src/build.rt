@@ -1,7 +1,8 @@
 // Building the table: the terms by rank, and the triples as rows in each order.
 ghost use Rattle.std.specs.Prelude.{ℕ, ◌≡◌, ◌↔◌, ◌+◌, ◌*◌, ◌<◌, ◌≤◌, ◌^◌, ◌++◌, List, [], ◌∷◌, map, length, All, IfOk, OnOk, IsErrOf, slice_index_or};
 ghost use Rattle.std.specs.List.{Contains};
-ghost use Rattle.std.specs.List.Sorted.{IsPermutation, IsSorted, IsStrictlySortedBy};
+ghost use Rattle.std.specs.List.Sorted.{IsPermutation, IsSortedByKey, IsStrictlySortedBy};
+ghost use Rattle.std.specs.Ordering.{nat_cmp};
 ghost use Rattle.rdf_terms.specs.declared.term.Term.{Term};
 ghost use Rattle.rdf_terms.specs.declared.term.Triple.{Triple};
 ghost use Rattle.rdf_terms.specs.Order.{term_order, triple_order};
@@ -9,73 +10,22 @@ ghost use Rattle.rdf_terms.specs.Triples.{IsDataSet, IsGroundTriple, IsRdfQuad};
 ghost use Rattle.rdf_terms.specs.Valid.{IsValidTerm};
 ghost use Rattle.tpf_base.specs.Addresses.{IsAuthority};
 ghost use Rattle.triple_table.specs.Chosen.{chosen};
-ghost use Rattle.triple_table.specs.Ranking.{borrowed_terms, HoldsMore, SameMembers};
-ghost use Rattle.triple_table.specs.Rows.{row_order, row_of};
-ghost use Rattle.triple_table.specs.Served.{terms_in, terms_of, Clashes, IsLeastClash, IsServed};
+ghost use Rattle.triple_table.specs.Genid.{skolem_triple};
+ghost use Rattle.triple_table.specs.Ranking.{borrowed_terms, HasMoreTerms, HoldsMore, SameMembers};
+ghost use Rattle.triple_table.specs.Rows.{key, row_of};
+ghost use Rattle.triple_table.specs.Served.{Clashes, IsLeastClash, IsServed};
 ghost use Rattle.triple_table.specs.Stored.{IsRanking, IsIdTriple, PassesMost, triple_at, triples_in, held_terms};
 
-use crate::data_set::{all_served, refuse_clash};
+use crate::data_set::refuse_clash;
+use crate::gather::{gather, genid_terms, served_terms};
 use crate::ids::{IdTriple, Order};
-use crate::recent::Recent;
-use crate::rows::Rows;
+use crate::ranking::{id_triples, rank_terms};
+use crate::rows::{Rows, key};
 use crate::term_list::TermList;
 use crate::{BuildFault, Choice, Table};
-use rdf_terms::{Quad, Term, Triple};
+use rdf_terms::{Quad, Term};
 use std::alloc::Global;
-use std::marker::Brand;
-use std::sync::ledger::{Blank, Ledger};
-use tpf_base::{OutOfMemory, Steps};
-
-/// Adds a term, unless it is found where it was noted last. So a term may be added again, but seldom.
-fn push_term<'a>(
-    terms: &mut Vec<&'a Term>,
-    recent: &mut Recent,
-    term: &'a Term,
-) -> Result<(), OutOfMemory>
-    ensures { OnOk result (SameMembers (borrowed_terms terms.new.items) (borrowed_terms terms.old.items ++ term.entry.now ∷ [])) }
-{
-    let place = recent.place(term);
-    if place < terms.len() && *terms[place] == *term {
-        return Ok(());
-    }
-    recent.note(term, terms.len());
-    terms.push(term)?;
-    Ok(())
-}
-
-fn push_terms<'a>(
-    terms: &mut Vec<&'a Term>,
-    recent: &mut Recent,
-    triple: &'a Triple,
-) -> Result<(), OutOfMemory>
-    ensures { OnOk result (SameMembers (borrowed_terms terms.new.items) (borrowed_terms terms.old.items ++ terms_in triple.entry.now)) }
-{
-    push_term(terms, recent, &triple.subject)?;
-    push_term(terms, recent, &triple.predicate)?;
-    push_term(terms, recent, &triple.object)
-}
-
-/// The terms of the triples, of which few stand more than once.
-fn all_terms<'a>(alloc: Global, triples: &'a [Triple]) -> Result<Vec<&'a Term>, OutOfMemory>
-    ensures { IfOk result (λ v. SameMembers (borrowed_terms v.items) (terms_of triples.entry.now)) }
-{
-    let mut terms = Vec::new(alloc);
-    let mut recent = Recent::new(alloc, triples.len())?;
-    for triple in triples {
-        push_terms(&mut terms, &mut recent, triple)?;
-    }
-    Ok(terms)
-}
-
-/// The terms of the triples, each once, in their order.
-fn ranked_terms<'a>(alloc: Global, triples: &'a [Triple]) -> Result<Vec<&'a Term>, OutOfMemory>
-    ensures { IfOk result (λ v. IsRanking triples.entry.now (borrowed_terms v.items)) }
-{
-    let mut terms = all_terms(alloc, triples)?;
-    terms.sort_unstable();
-    terms.dedup();
-    Ok(terms)
-}
+use tpf_base::OutOfMemory;
 
 fn copied(alloc: Global, terms: &[&Term]) -> Result<Vec<Term>, OutOfMemory>
     ensures copies { IfOk result (λ v. v.items ≡ borrowed_terms terms.now) }
@@ -90,105 +40,57 @@ fn copied(alloc: Global, terms: &[&Term]) -> Result<Vec<Term>, OutOfMemory>
     Ok(copies)
 }
 
-/// The ranks of the terms, to be guessed from them.
-fn noted_ranks(alloc: Global, terms: &TermList) -> Result<Recent, OutOfMemory> {
-    let mut recent = Recent::new(alloc, terms.len())?;
-    for rank in 0..terms.len() {
-        recent.note(terms.get(rank), rank);
-    }
-    Ok(recent)
-}
-
-/// The rank of a term that is held.
-fn rank<L: Ledger>(terms: &TermList, ranks: &Recent, term: &Term, steps: &mut Steps<L>) -> u32
-    requires ascending { IsStrictlySortedBy term_order terms.now }
-    requires small { length terms.now < 2 ^ 32 }
-    requires held { Contains terms.now term.now }
-    ensures within { result < length terms.now }
-    ensures term { (d : Term) → slice_index_or terms.now result d ≡ term.now }
-{
-    let guess = ranks.place(term);
-    if guess < terms.len() && *terms.get(guess) == *term {
-        return guess as u32;
-    }
-    match terms.find(term, steps) {
-        Some(place) => place as u32,
-        None => 0,
-    }
-}
-
-fn id_triple<L: Ledger>(
-    terms: &TermList,
-    ranks: &Recent,
-    triple: &Triple,
-    steps: &mut Steps<L>,
-) -> IdTriple
-    requires ascending { IsStrictlySortedBy term_order terms.now }
-    requires small { length terms.now < 2 ^ 32 }
-    requires subject { Contains terms.now triple.now.subject }
-    requires predicate { Contains terms.now triple.now.predicate }
-    requires object { Contains terms.now triple.now.object }
-    ensures ids { IsIdTriple terms.now result }
-    ensures triple { triple_at terms.now result ≡ triple.now }
-{
-    IdTriple {
-        subject: rank(terms, ranks, &triple.subject, steps),
-        predicate: rank(terms, ranks, &triple.predicate, steps),
-        object: rank(terms, ranks, &triple.object, steps),
-    }
-}
-
-fn id_triples<L: Ledger>(
+/// The served terms in their order, each once, and the chosen triples as they are served, with repeats,
+/// by their ids.
+fn ranked_triples(
     alloc: Global,
-    triples: &[Triple],
-    terms: &TermList,
-    blank: Blank,
-) -> Result<Vec<IdTriple>, OutOfMemory>
-    requires name { blank.name ≡ L.name }
-    requires parts { blank.parts ≡ L.parts }
-    requires some { 0 < blank.parts }
-    requires ranking { IsRanking triples.now terms.now }
-    requires small { length terms.now < 2 ^ 32 }
-    ensures ids { IfOk result (λ v. All (IsIdTriple terms.now) v.items) }
-    ensures triples { IfOk result (λ v. map (triple_at terms.now) v.items ≡ triples.now) }
+    quads: &[Quad],
+    choice: &Choice,
+    authority: &str,
+    most: u32,
+) -> Result<(TermList, Vec<IdTriple>), BuildFault>
+    requires { IsAuthority authority.now }
+    ensures ranking { IfOk result (λ r. IsRanking (map (skolem_triple authority.now) (chosen choice.now quads.now)) r.0) }
+    ensures few { IfOk result (λ r. length r.0 ≤ most) }
+    ensures ids { IfOk result (λ r. All (IsIdTriple r.0) r.1.items) }
+    ensures triples { IfOk result (λ r. map (triple_at r.0) r.1.items ≡ map (skolem_triple authority.now) (chosen choice.now quads.now)) }
+    ensures too_many { IsErrOf result BuildFault.TooMany → HasMoreTerms most (map (skolem_triple authority.now) (chosen choice.now quads.now)) }
+    ensures never { (label : List ℕ) → ¬ (IsErrOf result (BuildFault.GenidClash label)) }
 {
-    let mut steps: Steps<L> = Steps::new(blank);
-    let ranks = noted_ranks(alloc, terms)?;
-    let mut ids = Vec::with_capacity(alloc, triples.len())?;
-    for triple in triples {
-        ids.push(id_triple(terms, &ranks, triple, &mut steps))?;
+    let gathered = gather(alloc, quads, choice)?;
+    let genids = genid_terms(alloc, gathered.terms.as_slice(), authority)?;
+    let served = served_terms(alloc, gathered.terms.as_slice(), genids.as_slice())?;
+    let ranked = rank_terms(alloc, served.as_slice())?;
+    if ranked.terms.len() > most as usize {
+        return Err(BuildFault::TooMany);
     }
-    Ok(ids)
+    let ids = id_triples(alloc, gathered.triples.as_slice(), ranked.ranks.as_slice())?;
+    let terms = TermList::from_vec(copied(alloc, ranked.terms.as_slice())?);
+    Ok((terms, ids))
 }
 
 /// The triples by ids, each once, in their order.
-fn distinct_ids(
-    alloc: Global,
-    triples: &[Triple],
-    terms: &TermList,
-) -> Result<Vec<IdTriple>, OutOfMemory>
-    requires ranking { IsRanking triples.now terms.now }
-    requires small { length terms.now < 2 ^ 32 }
-    ensures ids { IfOk result (λ v. All (IsIdTriple terms.now) v.items) }
-    ensures ascending { IfOk result (λ v. IsStrictlySortedBy triple_order (map (triple_at terms.now) v.items)) }
-    ensures members { IfOk result (λ v. SameMembers (map (triple_at terms.now) v.items) triples.now) }
+fn distinct_ids(triples: Vec<IdTriple>) -> Vec<IdTriple>
+    ensures ids { (terms : List Term) → All (IsIdTriple terms) triples.items → All (IsIdTriple terms) result.items }
+    ensures ascending { (terms : List Term) → length terms < 2 ^ 32 → IsStrictlySortedBy term_order terms → All (IsIdTriple terms) triples.items → IsStrictlySortedBy triple_order (map (triple_at terms) result.items) }
+    ensures members { (terms : List Term) → SameMembers (map (triple_at terms) result.items) (map (triple_at terms) triples.items) }
 {
-    let mut ids = id_triples::<Brand>(alloc, triples, terms, Blank::new(1))?;
-    ids.sort_unstable();
+    let mut ids = triples;
+    ids.sort_unstable_by_key(|triple| key(Order::Spo.row(*triple)));
     ids.dedup();
-    Ok(ids)
+    ids
 }
 
-/// The rows of an order.
+/// The rows of an order, sorted as numbers.
 fn ordered_rows(alloc: Global, ids: &[IdTriple], order: Order) -> Result<Rows, OutOfMemory>
     ensures permutation { IfOk result (λ rows. IsPermutation (map (row_of order) ids.now) rows) }
-    ensures sorted { IfOk result (λ rows. IsSorted row_order rows) }
+    ensures sorted { IfOk result (λ rows. IsSortedByKey key nat_cmp rows) }
 {
     let mut rows = Vec::with_capacity(alloc, ids.len())?;
     for triple in ids {
         rows.push(order.row(*triple))?;
     }
-    rows.sort_unstable();
+    rows.sort_unstable_by_key(|row| key(*row));
     Ok(Rows::from_vec(rows))
 }
 
@@ -216,23 +118,26 @@ fn filled(alloc: Global, ids: &[IdTriple], terms: TermList) -> Result<Table, Out
     })
 }
 
-/// The table of triples that may repeat, where they and their terms are not too many.
-fn table_of(alloc: Global, triples: &[Triple], most: u32) -> Result<Table, BuildFault>
-    requires { (t : Triple) → Contains triples.now t → IsGroundTriple t }
-    ensures members { IfOk result (λ table. SameMembers (triples_in table) triples.now) }
+/// The table of triples by ids that may repeat, where they are not too many.
+fn table_of(
+    alloc: Global,
+    terms: TermList,
+    triples: Vec<IdTriple>,
+    most: u32,
+) -> Result<Table, BuildFault>
+    requires ids { All (IsIdTriple terms) triples.items }
+    requires ground { (t : Triple) → Contains (map (triple_at terms) triples.items) t → IsGroundTriple t }
+    requires ranking { IsRanking (map (triple_at terms) triples.items) terms }
+    requires few { length terms ≤ most }
+    ensures members { IfOk result (λ table. SameMembers (triples_in table) (map (triple_at terms) triples.items)) }
     ensures data_set { IfOk result (λ table. IsDataSet (triples_in table)) }
     ensures ranking { IfOk result (λ table. IsRanking (triples_in table) (held_terms table)) }
     ensures few_triples { IfOk result (λ table. length (triples_in table) ≤ most) }
     ensures few_terms { IfOk result (λ table. length (held_terms table) ≤ most) }
-    ensures too_many { IsErrOf result BuildFault.TooMany → HoldsMore most triples.now }
+    ensures too_many { IsErrOf result BuildFault.TooMany → HoldsMore most (map (triple_at terms) triples.items) }
     ensures never { (label : List ℕ) → ¬ (IsErrOf result (BuildFault.GenidClash label)) }
 {
-    let ranked = ranked_terms(alloc, triples)?;
-    if ranked.len() > most as usize {
-        return Err(BuildFault::TooMany);
-    }
-    let terms = TermList::from_vec(copied(alloc, ranked.as_slice())?);
-    let ids = distinct_ids(alloc, triples, &terms)?;
+    let ids = distinct_ids(triples);
     if ids.len() > most as usize {
         return Err(BuildFault::TooMany);
     }
@@ -247,8 +152,9 @@ impl Table {
     /// distinct triples, or their distinct terms, are more than `most`. `OutOfMemory` comes at want
     /// of memory, at any point. The conditions on the authority and the quads are those of `served`.
     ///
-    /// Whole triples are never compared: each term gets its rank in the order of terms, and the
-    /// triples are sorted as numbers. The work is that of sorting the terms.
+    /// No triple is copied or compared whole: the terms are ranked where they stand in the quads, each
+    /// distinct term is copied once, and the triples are sorted as numbers. The work is that of
+    /// sorting the terms.
     pub fn build(
         alloc: Global,
         quads: &[Quad],
@@ -267,7 +173,7 @@ impl Table {
         ensures too_many { IsErrOf result BuildFault.TooMany → PassesMost most authority.now (chosen choice.now quads.now) }
     {
         refuse_clash(alloc, quads, choice, authority)?;
-        let triples = all_served(alloc, quads, choice, authority)?;
-        table_of(alloc, triples.as_slice(), most)
+        let (terms, triples) = ranked_triples(alloc, quads, choice, authority, most)?;
+        table_of(alloc, terms, triples, most)
     }
 }

@@ -110,7 +110,8 @@ fn clash_of_quad(labels: &[&str], authority: &str, quad: &Quad, choice: &Choice)
     }
 }
 
-/// The place of the first label whose IRI stands in a chosen triple, or the number of labels.
+/// The place of the first label whose IRI stands in a chosen triple, or the number of labels. Where
+/// there are none, nothing is looked at.
 pub(crate) fn first_clash(
     labels: &[&str],
     quads: &[Quad],
@@ -121,6 +122,9 @@ pub(crate) fn first_clash(
     ensures { IsFirstClash authority.now (texts labels.now) (terms_of (chosen choice.now quads.now)) result }
 {
     let mut first = labels.len();
+    if first == 0 {
+        return 0;
+    }
     for quad in quads {
         first = first.min(clash_of_quad(labels, authority, quad, choice));
     }

@@ -4,9 +4,11 @@
 mod build;
 mod choice;
 mod data_set;
+mod gather;
 mod genid;
 mod ids;
 mod labels;
+mod ranking;
 mod recent;
 mod rows;
 mod table;

@@ -2,7 +2,7 @@
 ghost use Rattle.std.specs.Prelude.{ℕ, ◌≡◌, ◌+◌, ◌<◌, ◌≤◌, ◌^◌, Bool, true, false, List, length, slice_index_or};
 ghost use Rattle.std.specs.List.Sorted.{IsStrictlySortedBy};
 ghost use Rattle.triple_table.specs.declared.ids.Row.{Row};
-ghost use Rattle.triple_table.specs.Rows.{row_order, goes_before};
+ghost use Rattle.triple_table.specs.Rows.{key, row_order, goes_before};
 
 use crate::ids::Row;
 use std::cmp::Ordering;
@@ -78,6 +78,14 @@ impl Rows {
         }
         low
     }
+}
+
+/// A row as one number, which is ordered as the row is and compared without a branch.
+#[tactic(auto, unfolding(crate::specs::Rows::key))]
+pub(crate) fn key(row: Row) -> u128
+    ensures { result ≡ key row }
+{
+    row.first as u128 * 18446744073709551616 + row.second as u128 * 4294967296 + row.third as u128
 }
 
 /// Whether an answer puts a row before the bound.

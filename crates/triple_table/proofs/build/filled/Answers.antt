@@ -1,32 +1,33 @@
 use Rattle.std.proofs.Common.{refl, map, ◌∙◌}
 use Rattle.std.proofs.lemmas.List.{length-map}
+use Rattle.triple_table.specs.declared.ids.Order.TheVariants.{Spo, Pos, Osp}
 use Rattle.triple_table.specs.Stored.{triple_at}
-use Rattle.triple_table.proofs.Built.{is_stored, built_members, built_size, stored_data, stored_ranking}
+use Rattle.triple_table.proofs.Built.{is_stored, built_members, built_size, rows_sorted, stored_data, stored_ranking}
 use Rattle.triple_table.proofs.Distinct.{few_of}
 use Rattle.triple_table.proofs.build.filled.Goals as goal
 
 pub invariant_of-result : goal.invariant_of-result
 invariant_of-result c =
     is_stored (map (triple_at c.args.terms) c.args.ids.now) c.requires.data_set c.args.terms c.requires.ranking (few_of c.args.terms c.args.ids.now c.requires.few) c.requires.small c.args.ids.now c.requires.ids refl c.in_ok-spo.spo c.in_ok-pos.pos c.in_ok-osp.osp
-    c.in_ok-spo.ensures.permutation c.in_ok-spo.ensures.sorted c.in_ok-pos.ensures.permutation c.in_ok-pos.ensures.sorted c.in_ok-osp.ensures.permutation c.in_ok-osp.ensures.sorted
+    c.in_ok-spo.ensures.permutation (rows_sorted c.args.terms c.requires.small Spo c.args.ids.now c.in_ok-spo.spo c.requires.ids c.in_ok-spo.ensures.permutation c.in_ok-spo.ensures.sorted) c.in_ok-pos.ensures.permutation (rows_sorted c.args.terms c.requires.small Pos c.args.ids.now c.in_ok-pos.pos c.requires.ids c.in_ok-pos.ensures.permutation c.in_ok-pos.ensures.sorted) c.in_ok-osp.ensures.permutation (rows_sorted c.args.terms c.requires.small Osp c.args.ids.now c.in_ok-osp.osp c.requires.ids c.in_ok-osp.ensures.permutation c.in_ok-osp.ensures.sorted)
 
 pub returns-clause-members : goal.returns-clause-members
 returns-clause-members c =
     built_members (map (triple_at c.args.terms) c.args.ids.now) c.requires.data_set c.args.terms c.requires.ranking (few_of c.args.terms c.args.ids.now c.requires.few) c.requires.small c.args.ids.now c.requires.ids refl c.in_ok-spo.spo c.in_ok-pos.pos c.in_ok-osp.osp
-    c.in_ok-spo.ensures.permutation c.in_ok-spo.ensures.sorted c.in_ok-pos.ensures.permutation c.in_ok-pos.ensures.sorted c.in_ok-osp.ensures.permutation c.in_ok-osp.ensures.sorted
+    c.in_ok-spo.ensures.permutation (rows_sorted c.args.terms c.requires.small Spo c.args.ids.now c.in_ok-spo.spo c.requires.ids c.in_ok-spo.ensures.permutation c.in_ok-spo.ensures.sorted) c.in_ok-pos.ensures.permutation (rows_sorted c.args.terms c.requires.small Pos c.args.ids.now c.in_ok-pos.pos c.requires.ids c.in_ok-pos.ensures.permutation c.in_ok-pos.ensures.sorted) c.in_ok-osp.ensures.permutation (rows_sorted c.args.terms c.requires.small Osp c.args.ids.now c.in_ok-osp.osp c.requires.ids c.in_ok-osp.ensures.permutation c.in_ok-osp.ensures.sorted)
 
 pub returns-clause-data_set : goal.returns-clause-data_set
 returns-clause-data_set c =
     stored_data (map (triple_at c.args.terms) c.args.ids.now) c.requires.data_set c.args.terms c.requires.ranking (few_of c.args.terms c.args.ids.now c.requires.few) c.requires.small c.args.ids.now c.requires.ids refl c.in_ok-spo.spo c.in_ok-pos.pos c.in_ok-osp.osp
-    c.in_ok-spo.ensures.permutation c.in_ok-spo.ensures.sorted c.in_ok-pos.ensures.permutation c.in_ok-pos.ensures.sorted c.in_ok-osp.ensures.permutation c.in_ok-osp.ensures.sorted
+    c.in_ok-spo.ensures.permutation (rows_sorted c.args.terms c.requires.small Spo c.args.ids.now c.in_ok-spo.spo c.requires.ids c.in_ok-spo.ensures.permutation c.in_ok-spo.ensures.sorted) c.in_ok-pos.ensures.permutation (rows_sorted c.args.terms c.requires.small Pos c.args.ids.now c.in_ok-pos.pos c.requires.ids c.in_ok-pos.ensures.permutation c.in_ok-pos.ensures.sorted) c.in_ok-osp.ensures.permutation (rows_sorted c.args.terms c.requires.small Osp c.args.ids.now c.in_ok-osp.osp c.requires.ids c.in_ok-osp.ensures.permutation c.in_ok-osp.ensures.sorted)
 
 pub returns-clause-ranking : goal.returns-clause-ranking
 returns-clause-ranking c =
     stored_ranking (map (triple_at c.args.terms) c.args.ids.now) c.requires.data_set c.args.terms c.requires.ranking (few_of c.args.terms c.args.ids.now c.requires.few) c.requires.small c.args.ids.now c.requires.ids refl c.in_ok-spo.spo c.in_ok-pos.pos c.in_ok-osp.osp
-    c.in_ok-spo.ensures.permutation c.in_ok-spo.ensures.sorted c.in_ok-pos.ensures.permutation c.in_ok-pos.ensures.sorted c.in_ok-osp.ensures.permutation c.in_ok-osp.ensures.sorted
+    c.in_ok-spo.ensures.permutation (rows_sorted c.args.terms c.requires.small Spo c.args.ids.now c.in_ok-spo.spo c.requires.ids c.in_ok-spo.ensures.permutation c.in_ok-spo.ensures.sorted) c.in_ok-pos.ensures.permutation (rows_sorted c.args.terms c.requires.small Pos c.args.ids.now c.in_ok-pos.pos c.requires.ids c.in_ok-pos.ensures.permutation c.in_ok-pos.ensures.sorted) c.in_ok-osp.ensures.permutation (rows_sorted c.args.terms c.requires.small Osp c.args.ids.now c.in_ok-osp.osp c.requires.ids c.in_ok-osp.ensures.permutation c.in_ok-osp.ensures.sorted)
 
 pub returns-clause-size : goal.returns-clause-size
 returns-clause-size c =
     built_size (map (triple_at c.args.terms) c.args.ids.now) c.requires.data_set c.args.terms c.requires.ranking (few_of c.args.terms c.args.ids.now c.requires.few) c.requires.small c.args.ids.now c.requires.ids refl c.in_ok-spo.spo c.in_ok-pos.pos c.in_ok-osp.osp
-    c.in_ok-spo.ensures.permutation c.in_ok-spo.ensures.sorted c.in_ok-pos.ensures.permutation c.in_ok-pos.ensures.sorted c.in_ok-osp.ensures.permutation c.in_ok-osp.ensures.sorted
+    c.in_ok-spo.ensures.permutation (rows_sorted c.args.terms c.requires.small Spo c.args.ids.now c.in_ok-spo.spo c.requires.ids c.in_ok-spo.ensures.permutation c.in_ok-spo.ensures.sorted) c.in_ok-pos.ensures.permutation (rows_sorted c.args.terms c.requires.small Pos c.args.ids.now c.in_ok-pos.pos c.requires.ids c.in_ok-pos.ensures.permutation c.in_ok-pos.ensures.sorted) c.in_ok-osp.ensures.permutation (rows_sorted c.args.terms c.requires.small Osp c.args.ids.now c.in_ok-osp.osp c.requires.ids c.in_ok-osp.ensures.permutation c.in_ok-osp.ensures.sorted)
     ∙ length-map c.args.ids.now (triple_at c.args.terms)
