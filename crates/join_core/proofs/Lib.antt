@@ -11,6 +11,11 @@ pub mod Marks
 pub mod Promises
 pub mod Accounts
 pub mod Scans
+pub mod Keyed
+pub mod Books
+pub mod Kept
+pub mod Plain
+pub mod Took
 pub mod Starts
 pub mod Keeping
 pub mod Small

@@ -215,7 +215,7 @@ none-next : (t ticket : ℕ) (b : Bool) → nat_eq t ticket ≡ b → is_some (i
 none-next t ticket true e h x = cc
 none-next t ticket false e h x = grind (arith, nat_tests)
 
-no-ticket-in : (ticket : ℕ) (row : Places) (ps : List Pattern) (s : Stage) → is_some (waits_for ticket (node row ps s)) ≡ false → All (λ t. t ≡ ticket → ⊥) (tickets_of (node row ps s))
+pub no-ticket-in : (ticket : ℕ) (row : Places) (ps : List Pattern) (s : Stage) → is_some (waits_for ticket (node row ps s)) ≡ false → All (λ t. t ≡ ticket → ⊥) (tickets_of (node row ps s))
 no-ticket-in ticket row ps (Asking fs) h = no-first ticket fs (none-map ForFirst (first_waiting ticket fs) h)
 no-ticket-in ticket row ps (Walking p k next None) h = All-nil (λ t. t ≡ ticket → ⊥)
 no-ticket-in ticket row ps (Walking p k next (Some t)) h = All-cons (λ t. t ≡ ticket → ⊥) t [] (none-next t ticket (nat_eq t ticket) refl h) (All-nil (λ t. t ≡ ticket → ⊥))

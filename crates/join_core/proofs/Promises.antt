@@ -73,40 +73,6 @@ asks-at w old new n ticket address one is r can next e f =
       out = grown (outs w) old.levels new.levels n (asked ticket n) (ticket, address) r h.1;
     }
 
-pub record Asks (view : JoinData) (levels : List (List NodeData)) (d i ticket : ℕ) (address : Address) (l after : List NodeData) : Type 0 where
-  pub level : l ≡ get_or view.levels d l
-  pub done : (n : NodeData) → n ≡ get_or l i n → after ≡ set l i (asked ticket n)
-  pub next : (n : NodeData) → n ≡ get_or l i n → IsNextAddress view.form n address
-  pub whole : levels ≡ set view.levels d after
-
-level-is : (levels : List (List NodeData)) (d : ℕ) (l : List NodeData) → d < length levels → l ≡ get_or levels d l → get_or levels d [] ≡ l
-level-is levels d l deep is = get_or_default levels d [] l deep ∙ sym is
-
-pub asked-replaces : (view : JoinData) (levels : List (List NodeData)) (d i ticket : ℕ) (address : Address) (l after : List NodeData) → Stands view.levels d i → Asks view levels d i ticket address l after → (n : NodeData) → IsAt view.levels d i n → Replaces view.levels levels n (asked ticket n ∷ [])
-asked-replaces view levels d i ticket address l after stands a n at =
-    let here : get_or view.levels d [] ≡ l = level-is view.levels d l stands.deep a.level in
-    let there : n ≡ get_or l i n = subst (λ (x : List NodeData). n ≡ get_or x i n) here at in
-    let whole : levels ≡ set view.levels d (set (get_or view.levels d []) i (asked ticket n)) = a.whole ∙ ap (λ (x : List NodeData). set view.levels d x) (a.done n there ∙ ap (λ (x : List NodeData). set x i (asked ticket n)) (sym here)) in
-    subst (λ (x : List (List NodeData)). Replaces view.levels x n (asked ticket n ∷ [])) (sym whole) (set-replaces view.levels d i n (asked ticket n) stands at)
-
-pub hands-out : (view old new : JoinData) (d i ticket : ℕ) (address : Address) (l after : List NodeData) → view ≡ old → OneAddress → Stands old.levels d i → ((n : NodeData) → IsAt old.levels d i n → CanAsk n) → Asks view new.levels d i ticket address l after → new.waiting ≡ view.waiting → new.form ≡ view.form → (w : World) → Suits w old → HandsOut w old new ticket address
-hands-out view old new d i ticket address l after seen one stands can a waiting form w suits =
-    let here : Stands view.levels d i = subst (λ (s : JoinData). Stands s.levels d i) (sym seen) stands in
-    let n = node-at view.levels d i here in
-    let able : CanAsk n.0 = can n.0 (subst (λ (s : JoinData). IsAt s.levels d i n.0) seen n.1) in
-    let level : get_or view.levels d [] ≡ l = level-is view.levels d l here.deep a.level in
-    let next : IsNextAddress view.form n.0 address = a.next n.0 (subst (λ (x : List NodeData). n.0 ≡ get_or x i n.0) level n.1) in
-    subst (λ (s : JoinData). HandsOut w s new ticket address) seen
-    (asks-at w view new n.0 ticket address one (subst (λ (s : JoinData). Suits w s) (sym seen) suits) (asked-replaces view new.levels d i ticket address l after here a n.0 n.1) able next waiting form)
-
-pub hands-ticket : (view old : JoinData) (levels : List (List NodeData)) (d i ticket : ℕ) (address : Address) (l after : List NodeData) → view ≡ old → Stands old.levels d i → ((n : NodeData) → IsAt old.levels d i n → CanAsk n) → Asks view levels d i ticket address l after → IsPermutation (flat_map tickets_of (nodes levels)) (ticket ∷ tickets_out old)
-hands-ticket view old levels d i ticket address l after seen stands can a =
-    let here : Stands view.levels d i = subst (λ (s : JoinData). Stands s.levels d i) (sym seen) stands in
-    let n = node-at view.levels d i here in
-    let able : CanAsk n.0 = can n.0 (subst (λ (s : JoinData). IsAt s.levels d i n.0) seen n.1) in
-    subst (λ (s : JoinData). IsPermutation (flat_map tickets_of (nodes levels)) (ticket ∷ tickets_out s)) seen
-    (grown tickets_of view.levels levels n.0 (asked ticket n.0) ticket (asked-replaces view levels d i ticket address l after here a n.0 n.1) (tickets-ask n.0 ticket able))
-
 -- ---- a page of a walk
 
 pub takes-next : (w : World) (old : JoinData) (d i : ℕ) (n : NodeData) (ticket : ℕ) (page : Page) (made : List NodeData) (rows : List Places) (after : Option NodeData) → Suits w old → IsTrueFor w old ticket page → Stands old.levels d i → IsAt old.levels d i n → waits_for ticket n ≡ Some ForNext →
@@ -202,40 +168,12 @@ row-taken w old new (Some row) h e f is =
       out = ap (λ (ls : List (List NodeData)). flat_map (outs w) (nodes ls)) e;
     }
 
--- ---- places
-
--- the node at a place, in the level that was looked up
-pub level-at : (view old : JoinData) (d i : ℕ) (l : List NodeData) (n : NodeData) → view ≡ old → Stands old.levels d i → l ≡ get_or view.levels d l → IsAt old.levels d i n → n ≡ get_or l i n
-level-at view old d i l n seen stands is at =
-    let here : get_or old.levels d [] ≡ l = get_or_default old.levels d [] l stands.deep ∙ sym (subst (λ (s : JoinData). l ≡ get_or s.levels d l) seen is) in
-    subst (λ (x : List NodeData). n ≡ get_or x i n) here at
-
--- the same the other way round
-pub at-level : (view old : JoinData) (d i : ℕ) (l : List NodeData) (n : NodeData) → view ≡ old → d < length old.levels → l ≡ get_or view.levels d l → n ≡ get_or l i n → IsAt old.levels d i n
-at-level view old d i l n seen deep is at =
-    let here : get_or old.levels d [] ≡ l = get_or_default old.levels d [] l deep ∙ sym (subst (λ (s : JoinData). l ≡ get_or s.levels d l) seen is) in
-    subst (λ (x : List NodeData). n ≡ get_or x i n) (sym here) at
-
-pub within-level : (view old : JoinData) (d i : ℕ) (l : List NodeData) → view ≡ old → Stands old.levels d i → l ≡ get_or view.levels d l → i < length l
-within-level view old d i l seen stands is =
-    let here : get_or old.levels d [] ≡ l = get_or_default old.levels d [] l stands.deep ∙ sym (subst (λ (s : JoinData). l ≡ get_or s.levels d l) seen is) in
-    subst (λ (x : List NodeData). i < length x) here stands.within
-
-pub stands-level : (view old : JoinData) (d i : ℕ) (l : List NodeData) → view ≡ old → d < length view.levels → l ≡ get_or view.levels d l → i < length l → Stands old.levels d i
-stands-level view old d i l seen deep is within =
-    subst (λ (s : JoinData). Stands s.levels d i) seen (record { deep = deep; within = subst (λ (x : List NodeData). i < length x) (sym (get_or_default view.levels d [] l deep ∙ sym is)) within })
-
--- ---- what was held is put back
+-- ---- a node that was written over
 
 set-set : {X : Type 0} (l : List X) (i : ℕ) (x y : X) → set (set l i x) i y ≡ set l i y
 set-set [] i x y = refl
 set-set (z ∷ zs) zero x y = refl
 set-set (z ∷ zs) (suc i) x y = ap (λ l. z ∷ l) (set-set zs i x y)
-
-set-get : {X : Type 0} (l : List X) (i : ℕ) (x : X) → i < length l → x ≡ get_or l i x → set l i x ≡ l
-set-get [] i x h e = refl
-set-get (z ∷ zs) zero x h e = ap (λ y. y ∷ zs) e
-set-get (z ∷ zs) (suc i) x h e = ap (λ l. z ∷ l) (set-get zs i x (omega arith) e)
 
 -- the place stands, and the node that was written is there
 pub held-stands : (old : JoinData) (d i : ℕ) (x : NodeData) → Stands old.levels d i → Stands (held_at old d i x).levels d i
@@ -243,28 +181,10 @@ held-stands old d i x s =
     let e : get_or (set old.levels d (set (get_or old.levels d []) i x)) d [] ≡ set (get_or old.levels d []) i x = get_or-set_same old.levels d (set (get_or old.levels d []) i x) [] s.deep in
     record { deep = omega (arith, length-set old.levels d (set (get_or old.levels d []) i x), s.deep); within = subst (λ (l : List NodeData). i < length l) (sym e) (omega (arith, length-set (get_or old.levels d []) i x, s.within)) }
 
-pub held-is : (old : JoinData) (d i : ℕ) (x n : NodeData) → Stands old.levels d i → IsAt (held_at old d i x).levels d i n → n ≡ x
-held-is old d i x n s at =
-    let e : get_or (set old.levels d (set (get_or old.levels d []) i x)) d [] ≡ set (get_or old.levels d []) i x = get_or-set_same old.levels d (set (get_or old.levels d []) i x) [] s.deep in
-    at ∙ ap (λ (l : List NodeData). get_or l i n) e ∙ get_or-set_same (get_or old.levels d []) i x n s.within
-
 pub held-there : (old : JoinData) (d i : ℕ) (x : NodeData) → Stands old.levels d i → IsAt (held_at old d i x).levels d i x
 held-there old d i x s =
     let e : get_or (set old.levels d (set (get_or old.levels d []) i x)) d [] ≡ set (get_or old.levels d []) i x = get_or-set_same old.levels d (set (get_or old.levels d []) i x) [] s.deep in
     sym (ap (λ (l : List NodeData). get_or l i x) e ∙ get_or-set_same (get_or old.levels d []) i x x s.within)
-
-pub put-back-at : (old mid new : JoinData) (d i k : ℕ) (n : NodeData) (ticket : ℕ) (page : Page) → Stands old.levels d i → IsAt old.levels d i n → waits_for ticket n ≡ Some (ForFirst k) → mid ≡ held_at old d i (with_first_at k (Got page) n) → ((m : NodeData) → IsAt mid.levels d i m → new ≡ held_at mid d i (with_first_at k (Out ticket) m)) → new ≡ old
-put-back-at old mid new d i k n ticket page s at waits e h =
-    let x = with_first_at k (Got page) n in
-    let level : get_or (set old.levels d (set (get_or old.levels d []) i x)) d [] ≡ set (get_or old.levels d []) i x = get_or-set_same old.levels d (set (get_or old.levels d []) i x) [] s.deep in
-    let one : new ≡ held_at mid d i (with_first_at k (Out ticket) x) = h x (subst (λ (j : JoinData). IsAt j.levels d i x) (sym e) (held-there old d i x s)) in
-    let two : held_at mid d i (with_first_at k (Out ticket) x) ≡ held_at mid d i n = ap (λ (m : NodeData). held_at mid d i m) (first-back n ticket k page waits) in
-    let three : held_at mid d i n ≡ held_at (held_at old d i x) d i n = ap (λ (j : JoinData). held_at j d i n) e in
-    let inner : set (set (get_or old.levels d []) i x) i n ≡ get_or old.levels d [] = set-set (get_or old.levels d []) i x n ∙ set-get (get_or old.levels d []) i n s.within at in
-    let levels : set (set old.levels d (set (get_or old.levels d []) i x)) d (set (get_or (set old.levels d (set (get_or old.levels d []) i x)) d []) i n) ≡ old.levels =
-    ap (λ (l : List NodeData). set (set old.levels d (set (get_or old.levels d []) i x)) d (set l i n)) level ∙ ap (λ (l : List NodeData). set (set old.levels d (set (get_or old.levels d []) i x)) d l) inner
-    ∙ set-set old.levels d (set (get_or old.levels d []) i x) (get_or old.levels d []) ∙ set-get old.levels d (get_or old.levels d []) s.deep (get_or_default old.levels d [] (get_or old.levels d []) s.deep) in
-    one ∙ two ∙ three ∙ ap (λ (ls : List (List NodeData)). with_levels old ls) levels
 
 -- a first page that was taken, where the node does not hold all
 pub first-taken : (w : World) (old new : JoinData) (d i k : ℕ) (n : NodeData) (ticket : ℕ) (page : Page) → Suits w old → IsTrueFor w old ticket page → Stands old.levels d i → IsAt old.levels d i n → waits_for ticket n ≡ Some (ForFirst k) → new ≡ held_at old d i (with_first_at k (Got page) n) → TakesPage w old new ticket
@@ -283,17 +203,6 @@ noted w old mid new ticket longest e t =
     (record { suits = record { world = t.suits.world; form = t.suits.form; holds = t.suits.holds }; owed = t.owed; left = t.left; address = t.address; out = t.out })
 
 -- ---- what each call makes of a join
-
--- the join after an ask
-pub asked-is : (view old new : JoinData) (d i : ℕ) (address : Address) (l after : List NodeData) → view ≡ old → Stands old.levels d i → Asks view new.levels d i view.tickets address l after → new ≡ record { form = view.form; window = view.window; tickets = view.tickets + 1; longest = view.longest; levels = new.levels; waiting = view.waiting } → (n : NodeData) → IsAt old.levels d i n → new ≡ asked_at old d i n
-asked-is view old new d i address l after seen stands a e n at =
-    let here : Stands view.levels d i = subst (λ (s : JoinData). Stands s.levels d i) (sym seen) stands in
-    let there : IsAt view.levels d i n = subst (λ (s : JoinData). IsAt s.levels d i n) (sym seen) at in
-    let level : get_or view.levels d [] ≡ l = level-is view.levels d l here.deep a.level in
-    let found : n ≡ get_or l i n = subst (λ (x : List NodeData). n ≡ get_or x i n) level there in
-    let whole : new.levels ≡ set view.levels d (set (get_or view.levels d []) i (asked view.tickets n)) = a.whole ∙ ap (λ (x : List NodeData). set view.levels d x) (a.done n found ∙ ap (λ (x : List NodeData). set x i (asked view.tickets n)) (sym level)) in
-    let one : new ≡ asked_at view d i n = e ∙ ap (λ (ls : List (List NodeData)). let j : JoinData = record { form = view.form; window = view.window; tickets = view.tickets + 1; longest = view.longest; levels = ls; waiting = view.waiting } in j) whole in
-    one ∙ ap (λ (s : JoinData). asked_at s d i n) seen
 
 set-remove : {X : Type 0} (l : List X) (i : ℕ) (x : X) → remove (set l i x) i ≡ remove l i
 set-remove [] i x = refl
@@ -319,22 +228,6 @@ taken-over old d i x made rows after s =
     let three : levels_after (set ls d (settled l i after)) (d + 1) made ≡ levels_after (set old.levels d (settled l i after)) (d + 1) made = ap (λ (z : List (List NodeData)). levels_after z (d + 1) made) (set-set old.levels d y (settled l i after)) in
     let four : levels_after (set old.levels d (settled l i after)) (d + 1) made ≡ set (levels_after old.levels (d + 1) made) d (settled l i after) = sym (levels-set old.levels d made (settled l i after) s.deep) in
     ap (λ (z : List (List NodeData)). with_made old z rows) (one ∙ two ∙ three ∙ four)
-
--- the first pages were all there, so the choice was made
-pub chosen-over : (old mid new : JoinData) (d i : ℕ) (x : NodeData) → Stands old.levels d i → mid ≡ held_at old d i x → ((n : NodeData) → IsAt mid.levels d i n → ChoosesAt mid new d i n) → ChoosesAt old new d i x
-chosen-over old mid new d i x s e h =
-    let c : ChoosesAt mid new d i x = h x (subst (λ (j : JoinData). IsAt j.levels d i x) (sym e) (held-there old d i x s)) in
-    record {
-      made = c.made;
-      rows = c.rows;
-      after = c.after;
-      chosen = c.chosen;
-      done = c.done ∙ ap (λ (j : JoinData). taken_at j d i c.made c.rows c.after) e ∙ taken-over old d i x c.made c.rows c.after s;
-    }
-
-pub taken-same : (j : JoinData) (d i : ℕ) (made more : List NodeData) (rows others : List Places) (after next : Option NodeData) → made ≡ more → rows ≡ others → after ≡ next → taken_at j d i made rows after ≡ taken_at j d i more others next
-taken-same j d i made more rows others after next e f g =
-    ap (λ (x : List NodeData). taken_at j d i x rows after) e ∙ ap (λ (x : List Places). taken_at j d i more x after) f ∙ ap (λ (x : Option NodeData). taken_at j d i more others x) g
 
 -- no row that waits is lost, and the longest page is as before
 pub first-more : (old new : JoinData) (d i : ℕ) (n : NodeData) → TakesFirstAt old new d i n → WaitsMore old new × (new.longest ≡ old.longest)

@@ -10,14 +10,6 @@ use Rattle.std.proofs.lemmas.List.Elements.{All-nil, All-cons, All-head, All-tai
 use Rattle.join_core.specs.Nodes.{NodeData}
 use Rattle.join_core.specs.Joins.{nodes, NoneIn}
 
--- one more element passes
-pub scan-step : {X : Type 0} (P : X → Type 0) (xs : List X) (i : ℕ) (x : X) → i < length xs → x ≡ get_or xs i x → P x → All P (take i xs) → All P (take (i + 1) xs)
-scan-step P xs i x h e p a =
-    subst (All P) (sym (take_more xs i x h)) (All-append P (take i xs) (get_or xs i x ∷ []) a (All-cons P (get_or xs i x) [] (subst P e p) (All-nil P)))
-
-pub scan-end : {X : Type 0} (P : X → Type 0) (xs : List X) (i : ℕ) → length xs ≤ i → All P (take i xs) → All P xs
-scan-end P xs i h a = subst (All P) (take_all i xs h) a
-
 -- the same for the nodes of levels, level by level
 nodes-more : (P : NodeData → Type 0) (ls : List (List NodeData)) (i : ℕ) (l : List NodeData) → i < length ls → l ≡ get_or ls i l → All P l → All P (nodes (take i ls)) → All P (nodes (take (i + 1) ls))
 nodes-more P ls i l h e p a =
@@ -65,18 +57,9 @@ pub nothing-open : (xs : List NodeData) → length xs ≡ 0 → xs ≡ []
 nothing-open [] e = refl
 nothing-open (x ∷ xs) e = absurd (omega (arith, e))
 
-pub none-some : {X : Type 0} (a b : Option X) → a ≡ b → ((x : X) → a ≡ Some x → ⊥) → b ≡ None
-none-some None b e h = sym e
-none-some (Some x) b e h = absurd (h x refl)
-
 pub if-none : {X : Type 0} (o : Option X) (P : Type 0) → o ≡ None → IfNone o P → P
 if-none None P e h = h
 if-none (Some x) P e h = cc
-
-pub back-start : (old : List (List NodeData)) (test : NodeData → Bool) → NoneIn test (drop (length old - 0) old)
-back-start old test =
-    let none : drop (length old - 0) old ≡ [] = drop_all (length old - 0) old (let h : length old ≤ length old - 0 = omega arith in h) in
-    subst (λ (x : List (List NodeData)). All (λ n. test n ≡ false) (nodes x)) (sym none) (All-nil (λ n. test n ≡ false))
 
 pub back-end : (old : List (List NodeData)) (test : NodeData → Bool) (back : ℕ) → length old ≤ back → NoneIn test (drop (length old - back) old) → NoneIn test old
 back-end old test back h a =

@@ -3,6 +3,7 @@ pub mod Nodes
 pub mod Shown
 pub mod Events
 pub mod Joins
+pub mod Levels
 pub mod Outcomes
 pub mod Runs
 pub mod Evaluations

@@ -1,11 +1,12 @@
 // What the triples of a page make of a row.
-ghost use Rattle.std.specs.Prelude.{ℕ, ◌≡◌, ◌<◌, List, [], ◌∷◌, ◌++◌, length, IfOk, OnOk, Option, Some, None, drop};
+ghost use Rattle.std.specs.Prelude.{ℕ, ◌≡◌, ◌<◌, List, [], ◌∷◌, ◌++◌, length, map, IfOk, OnOk, Option, Some, None, drop};
 ghost use Rattle.std.specs.List.{AllByRecursion};
 ghost use Rattle.bgp_core.specs.declared.pattern.Pattern.{Pattern};
 ghost use Rattle.bgp_core.specs.Queries.{HasPlacesFor};
 ghost use Rattle.join_core.specs.Nodes.{put_out, opened, rows_out, nodes_in, all_askable};
+ghost use Rattle.join_core.specs.Levels.{seed_node};
 
-use crate::node::Node;
+use crate::opening::Opening;
 use crate::pattern_list::PatternList;
 use bgp_core::{Pattern, Row, instance_askable, match_triple};
 use rdf_terms::Triple;
@@ -35,17 +36,17 @@ pub(crate) fn add_match(
     alloc: Global,
     others: &Rc<PatternList>,
     row: Row,
-    nodes: &mut Vec<Node>,
+    nodes: &mut Vec<Opening>,
     rows: &mut Vec<Row>,
 ) -> Result<(), OutOfMemory>
     requires { AllByRecursion (HasPlacesFor (length row)) others.now.value }
-    ensures nodes { OnOk result (nodes.new.items ≡ nodes.old.items ++ nodes_in others.now.value row) }
+    ensures nodes { OnOk result (map seed_node nodes.new.items ≡ map seed_node nodes.old.items ++ nodes_in others.now.value row) }
     ensures rows { OnOk result (rows.new.items ≡ rows.old.items ++ rows_out others.now.value row) }
 {
     if others.len() == 0 {
         rows.push(row)?;
     } else if are_askable(others, &row) {
-        nodes.push(Node::fresh(alloc, row, others.clone()?))?;
+        nodes.push(Opening::new(row, others.clone()?))?;
     }
     Ok(())
 }
@@ -57,12 +58,12 @@ pub(crate) fn expand(
     others: &Rc<PatternList>,
     row: &Row,
     triples: &[Triple],
-    nodes: &mut Vec<Node>,
+    nodes: &mut Vec<Opening>,
     rows: &mut Vec<Row>,
 ) -> Result<(), OutOfMemory>
     requires chosen { HasPlacesFor (length row.now) chosen.now }
     requires others { AllByRecursion (HasPlacesFor (length row.now)) others.now.value }
-    ensures nodes { OnOk result (nodes.new.items ≡ nodes.old.items ++ opened chosen.now others.now.value row.now triples.now) }
+    ensures nodes { OnOk result (map seed_node nodes.new.items ≡ map seed_node nodes.old.items ++ opened chosen.now others.now.value row.now triples.now) }
     ensures rows { OnOk result (rows.new.items ≡ rows.old.items ++ put_out chosen.now others.now.value row.now triples.now) }
 {
     for triple in triples {

@@ -6,21 +6,21 @@ ghost use Rattle.control_reader.specs.declared.page.Page.{Page};
 ghost use Rattle.join_core.specs.Worlds.{World, IsWorld, HasForm};
 ghost use Rattle.std.specs.List.Sorted.{IsPermutation};
 ghost use Rattle.join_core.specs.Nodes.{NodeData, nodes_in, rows_out};
-ghost use Rattle.join_core.specs.Events.{CanAsk, asked, waits_for, with_first_at, is_full, IsFirstOf, has_ask, is_idle, works};
+ghost use Rattle.join_core.specs.Events.{works};
+ghost use Rattle.join_core.specs.Levels.{nodes_of};
 ghost use Rattle.tpf_base.specs.Addresses.{Address};
 ghost use Rattle.join_core.specs.Evaluations.{Terms, HasHome, AsksAtHome, NextAtHome};
-ghost use Rattle.join_core.specs.Sound.{IsAskedBy, KeepsTo, IsKeptSmall};
-ghost use Rattle.join_core.specs.Joins.{MayAsk, ChoosesAt, TakesFirstAt, asked_at, walked_at, level_at};
-ghost use Rattle.join_core.specs.Joins.{JoinData, nodes, out, Suits, Keeps, Begins, HandsOut, IsTrueFor, TakesPage, GivesRow, tickets_out, Stands, IsAt, settled, levels_after, with_levels, with_made, with_longest, taken_at, NoneIn};
+ghost use Rattle.join_core.specs.Sound.{KeepsTo, IsKeptSmall};
+ghost use Rattle.join_core.specs.Joins.{JoinData, nodes, out, Suits, Begins, IsTrueFor, GivesRow, tickets_out, with_longest};
 ghost use Rattle.join_core.specs.Outcomes.{AskDone, AskNumbered, NothingToAsk, AnswerDone, AnswerNumbered, AskStarts, WaitsMore, LongestAfter};
 ghost use Rattle.join_core.specs.Runs.{IsDone};
 ghost use Rattle.join_core.specs.JoinAccounts.{is_over};
 
 use crate::evaluation::{Answered, Ask};
 use crate::expand::add_match;
-use crate::first::First;
 use crate::level::Level;
-use crate::node::{Made, Node, Waits};
+use crate::levels::{ask_at, find, open_nodes, place_to_ask, take_first, take_next, working_nodes};
+use crate::node::Waits;
 use crate::pattern_list::PatternList;
 use bgp_core::{Query, Row};
 use control_reader::Page;
@@ -29,20 +29,6 @@ use std::marker::Model;
 use std::rc::Rc;
 use template_fill::{Form, an_address_is_one};
 use tpf_base::OutOfMemory;
-
-/// The place of a node: its depth, and its place among the nodes of that depth.
-#[derive(Clone, Copy, Debug, Drop)]
-struct Place {
-    depth: usize,
-    index: usize,
-}
-
-/// Where a ticket is.
-#[derive(Clone, Copy, Debug, Drop)]
-struct Found {
-    place: Place,
-    waits: Waits,
-}
 
 /// The join of a query's patterns over the pages of their fragments. A node is a row with the patterns that are still to
 /// be matched; its depth is the number of patterns that were. The deepest node is started first, and at most a window of
@@ -58,211 +44,22 @@ pub struct Join {
 }
 
 impl Model for Join {
-    ghost use Rattle.join_core.specs.Joins.{JoinData};
+    ghost use Rattle.std.specs.Prelude.{◌<◌};
+    ghost use Rattle.std.specs.List.{All, flat_map};
+    ghost use Rattle.join_core.specs.Joins.{JoinData, nodes, tickets_of};
+    ghost use Rattle.join_core.specs.Levels.{plain};
 
     ghost Value = { JoinData };
 
-    ghost view = { λ j. record { form = j.form; window = j.window; tickets = j.tickets; longest = j.longest; levels = j.levels.items; waiting = j.waiting.items } };
+    ghost view = { λ j. record { form = j.form; window = j.window; tickets = j.tickets; longest = j.longest; levels = plain j.levels.items; waiting = j.waiting.items } };
+
+    ghost invariant = { λ j. All (λ t. t < j.tickets) (flat_map tickets_of (nodes (plain j.levels.items))) };
 }
 
 impl Join {
-    /// Hands out the next address of a node.
-    fn hand_out(&mut self, alloc: Global, place: Place) -> Result<Ask, OutOfMemory>
-        requires stands { Stands self.old.levels place.depth place.index }
-        requires can_ask { (n : NodeData) → IsAt self.old.levels place.depth place.index n → CanAsk n }
-        requires tickets { self.old.tickets < 2 ^ 64 - 1 }
-        ensures asks { (w : World) → Suits w self.old → IfOk result (λ a. AskDone w self.old self.new (Some a)) }
-        ensures numbered { IfOk result (λ a. AskNumbered self.old self.new (Some a)) }
-        ensures done { (n : NodeData) → IsAt self.old.levels place.depth place.index n → OnOk result (self.new ≡ asked_at self.old place.depth place.index n) }
-        ensures asked_by { (n : NodeData) → IsAt self.old.levels place.depth place.index n → IfOk result (λ a. IsAskedBy self.old.form n.stage a.address) }
-        ensures failed { OnErr result (self.new ≡ self.old) }
-    {
-        an_address_is_one();
-        let ticket = self.tickets;
-        let address = self.levels[place.depth].ask_at(alloc, place.index, &self.form, ticket)?;
-        self.tickets += 1;
-        Ok(Ask { ticket, address })
-    }
-
-    /// The place of a node that was started and has a first page to hand out.
-    fn place_with_ask(&self) -> Option<Place>
-        ensures some { IfSome result (λ p. Stands self.now.levels p.depth p.index × ((n : NodeData) → IsAt self.now.levels p.depth p.index n → (has_ask n ≡ true) × CanAsk n)) }
-        ensures none { IfNone result (NoneIn has_ask self.now.levels) }
-    {
-        for depth in 0..self.levels.len() {
-            if let Some(index) = self.levels[depth].first_with_ask() {
-                return Some(Place { depth, index });
-            }
-        }
-        None
-    }
-
-    /// The place of the node that is to be started: the deepest, and of these the first.
-    fn place_idle(&self) -> Option<Place>
-        ensures some { IfSome result (λ p. Stands self.now.levels p.depth p.index × ((n : NodeData) → IsAt self.now.levels p.depth p.index n → (is_idle n ≡ true) × CanAsk n)) }
-        ensures deepest { IfSome result (λ p. (e : ℕ) → p.depth < e → All (λ n. is_idle n ≡ false) (level_at self.now.levels e)) }
-        ensures earliest { IfSome result (λ p. All (λ n. is_idle n ≡ false) (take p.index (level_at self.now.levels p.depth))) }
-        ensures none { IfNone result (NoneIn is_idle self.now.levels) }
-    {
-        let count = self.levels.len();
-        for back in 0..count {
-            let depth = count - 1 - back;
-            if let Some(index) = self.levels[depth].first_idle() {
-                return Some(Place { depth, index });
-            }
-        }
-        None
-    }
-
-    /// The node that waits for a page under a ticket.
-    fn find(&self, ticket: u64) -> Option<Found>
-        ensures some { IfSome result (λ f. Stands self.now.levels f.place.depth f.place.index × ((n : NodeData) → IsAt self.now.levels f.place.depth f.place.index n → waits_for ticket n ≡ Some f.waits)) }
-        ensures none { IfNone result (NoneIn (λ n. is_some (waits_for ticket n)) self.now.levels) }
-    {
-        for depth in 0..self.levels.len() {
-            if let Some(spot) = self.levels[depth].find(ticket) {
-                let place = Place {
-                    depth,
-                    index: spot.index,
-                };
-                return Some(Found {
-                    place,
-                    waits: spot.waits,
-                });
-            }
-        }
-        None
-    }
-
-    /// Adds nodes at the end of a level, which may be a new one.
-    fn add_nodes(&mut self, depth: usize, opened: Vec<Node>) -> Result<(), OutOfMemory>
-        requires { depth ≤ length self.old.levels }
-        ensures done { OnOk result (self.new ≡ with_levels self.old (levels_after self.old.levels depth opened.items)) }
-        ensures failed { OnErr result (self.new ≡ self.old) }
-    {
-        if depth < self.levels.len() {
-            self.levels[depth].append(opened)?;
-        } else {
-            self.levels.push(Level::from_vec(opened))?;
-        }
-        Ok(())
-    }
-
-    /// Adds nodes below a level and rows that wait. Where memory is missing nothing changes.
-    fn add_made(
-        &mut self,
-        depth: usize,
-        opened: Vec<Node>,
-        mut rows: Vec<Row>,
-    ) -> Result<(), OutOfMemory>
-        requires { depth ≤ length self.old.levels }
-        ensures done { OnOk result (self.new ≡ with_made self.old (levels_after self.old.levels depth opened.items) rows.items) }
-        ensures failed { OnErr result (self.new ≡ self.old) }
-    {
-        let before = self.waiting.len();
-        self.waiting.append(&mut rows)?;
-        match self.add_nodes(depth, opened) {
-            Ok(()) => Ok(()),
-            Err(error) => {
-                self.waiting.truncate(before);
-                Err(error)
-            }
-        }
-    }
-
-    /// Takes what a page made of the node at a place.
-    fn take_made(&mut self, place: Place, made: Made) -> Result<(), OutOfMemory>
-        requires { Stands self.old.levels place.depth place.index }
-        ensures done { OnOk result (self.new ≡ taken_at self.old place.depth place.index made.opened.items made.rows.items made.after) }
-        ensures failed { OnErr result (self.new ≡ self.old) }
-    {
-        let Made {
-            opened,
-            rows,
-            after,
-        } = made;
-        let _count = self.levels.len();
-        self.add_made(place.depth + 1, opened, rows)?;
-        self.levels[place.depth].settle(place.index, after);
-        Ok(())
-    }
-
-    /// Writes over a first page of the node at a place.
-    fn set_first(&mut self, place: Place, index: usize, first: First)
-        requires stands { Stands self.old.levels place.depth place.index }
-        requires first { (n : NodeData) → IsAt self.old.levels place.depth place.index n → IsFirstOf index n }
-        ensures { (n : NodeData) → IsAt self.old.levels place.depth place.index n → self.new ≡ with_levels self.old (slice_set self.old.levels place.depth (slice_set (slice_index_or self.old.levels place.depth []) place.index (with_first_at index first n))) }
-    {
-        self.levels[place.depth].set_first_at(place.index, index, first);
-    }
-
-    /// Takes the next page of a walk.
-    fn take_next(
-        &mut self,
-        alloc: Global,
-        place: Place,
-        ticket: u64,
-        page: &Page,
-    ) -> Result<(), OutOfMemory>
-        requires stands { Stands self.old.levels place.depth place.index }
-        requires waits { (n : NodeData) → IsAt self.old.levels place.depth place.index n → waits_for ticket n ≡ Some Waits.Next }
-        ensures taken { (w : World) → Suits w self.old → IsTrueFor w self.old ticket page.now → OnOk result (TakesPage w self.old self.new ticket) }
-        ensures numbered { OnOk result (IsPermutation (tickets_out self.old) (ticket ∷ tickets_out self.new)) }
-        ensures turned { (n : NodeData) → IsAt self.old.levels place.depth place.index n → OnOk result (self.new ≡ walked_at self.old place.depth place.index n page.now) }
-        ensures kept { self.new.tickets ≡ self.old.tickets }
-        ensures failed { OnErr result (self.new ≡ self.old) }
-    {
-        let made = self.levels[place.depth].next_page_at(alloc, place.index, page)?;
-        self.take_made(place, made)
-    }
-
-    /// Chooses the pattern with the least count, where the node at a place holds all first pages, and takes its page.
-    fn choose(&mut self, alloc: Global, place: Place) -> Result<(), OutOfMemory>
-        requires stands { Stands self.old.levels place.depth place.index }
-        requires full { (n : NodeData) → IsAt self.old.levels place.depth place.index n → is_full n ≡ true }
-        ensures keeps { (w : World) → Suits w self.old → OnOk result (Keeps w self.old self.new × IsPermutation (out w self.old) (out w self.new)) }
-        ensures numbered { OnOk result (IsPermutation (tickets_out self.old) (tickets_out self.new)) }
-        ensures turned { (n : NodeData) → IsAt self.old.levels place.depth place.index n → OnOk result (ChoosesAt self.old self.new place.depth place.index n) }
-        ensures kept { self.new.tickets ≡ self.old.tickets }
-        ensures failed { OnErr result (self.new ≡ self.old) }
-    {
-        let made = self.levels[place.depth].choose_at(alloc, place.index)?;
-        self.take_made(place, made)
-    }
-
-    /// Takes a first page of a pattern; where it is the last to come, the pattern with the least count is chosen.
-    fn take_first(
-        &mut self,
-        alloc: Global,
-        place: Place,
-        index: usize,
-        ticket: u64,
-        page: Page,
-    ) -> Result<(), OutOfMemory>
-        requires stands { Stands self.old.levels place.depth place.index }
-        requires waits { (n : NodeData) → IsAt self.old.levels place.depth place.index n → waits_for ticket n ≡ Some (Waits.First index) }
-        ensures taken { (w : World) → Suits w self.old → IsTrueFor w self.old ticket page → OnOk result (TakesPage w self.old self.new ticket) }
-        ensures numbered { OnOk result (IsPermutation (tickets_out self.old) (ticket ∷ tickets_out self.new)) }
-        ensures turned { (n : NodeData) → IsAt self.old.levels place.depth place.index n → OnOk result (TakesFirstAt self.old self.new place.depth place.index (with_first_at index (First.Got page) n)) }
-        ensures kept { self.new.tickets ≡ self.old.tickets }
-        ensures failed { OnErr result (self.new ≡ self.old) }
-    {
-        self.set_first(place, index, First::Got(page));
-        if !self.levels[place.depth].is_full_at(place.index) {
-            return Ok(());
-        }
-        match self.choose(alloc, place) {
-            Ok(()) => Ok(()),
-            Err(error) => {
-                self.set_first(place, index, First::Out(ticket));
-                Err(error)
-            }
-        }
-    }
-
     /// The first node of a query, or its one row where it has no pattern.
     fn first_level(alloc: Global, query: &Query, rows: &mut Vec<Row>) -> Result<Level, OutOfMemory>
-        ensures nodes { IfOk result (λ l. l ≡ nodes_in query.now.patterns (replicate (length query.now.names) None)) }
+        ensures nodes { IfOk result (λ l. nodes_of l ≡ nodes_in query.now.patterns (replicate (length query.now.names) None)) }
         ensures rows { OnOk result (rows.new.items ≡ rows.old.items ++ rows_out query.now.patterns (replicate (length query.now.names) None)) }
         ensures valid { OnOk result (AllByRecursion IsValidPattern query.now.patterns) }
     {
@@ -270,7 +67,7 @@ impl Join {
         let row = Row::empty(alloc, query.names().len());
         let mut opened = Vec::new(alloc);
         add_match(alloc, &rest, row, &mut opened, rows)?;
-        Ok(Level::from_vec(opened))
+        Ok(Level::from_openings(alloc, opened))
     }
 
     /// The join of a query's patterns, whose first pages have the addresses of a form, with at most `window` nodes at work.
@@ -304,27 +101,7 @@ impl Join {
     pub fn working(&self) -> usize
         ensures { result ≡ min (count_by works (nodes self.now.levels)) (2 ^ 64 - 1) }
     {
-        let mut count: usize = 0;
-        for level in &self.levels {
-            count = count.saturating_add(level.working());
-        }
-        count
-    }
-
-    /// The place of the node that asks next: one that was started and has a first page to hand out, or else, where fewer
-    /// than `window` nodes work, the deepest that may be started, and of these the earliest opened.
-    fn place_to_ask(&self) -> Option<Place>
-        ensures stands { IfSome result (λ p. Stands self.now.levels p.depth p.index) }
-        ensures some { IfSome result (λ p. (n : NodeData) → IsAt self.now.levels p.depth p.index n → CanAsk n × MayAsk self.now p.depth p.index n) }
-        ensures none { IfNone result (NothingToAsk self.now) }
-    {
-        if let Some(place) = self.place_with_ask() {
-            return Some(place);
-        }
-        if self.working() >= self.window as usize {
-            return None;
-        }
-        self.place_idle()
+        working_nodes(self.levels.as_slice())
     }
 
     /// The next page to ask for, if there is one, under a ticket with a new number. A node that was started asks for the
@@ -343,10 +120,15 @@ impl Join {
         ensures small { (n m : ℕ) → IsKeptSmall n m self.old → IsKeptSmall n m self.new }
         ensures failed { OnErr result (self.new ≡ self.old) }
     {
-        let Some(place) = self.place_to_ask() else {
+        an_address_is_one();
+        let asker = place_to_ask(&mut self.levels, alloc, self.window)?;
+        let Some(place) = asker else {
             return Ok(None);
         };
-        Ok(Some(self.hand_out(alloc, place)?))
+        let ticket = self.tickets;
+        let address = ask_at(&mut self.levels, alloc, place, &self.form, ticket)?;
+        self.tickets += 1;
+        Ok(Some(Ask { ticket, address }))
     }
 
     /// Keeps the count of the longest page.
@@ -367,16 +149,20 @@ impl Join {
         ensures kept { (self.new.tickets ≡ self.old.tickets) × (self.new.longest ≡ self.old.longest) }
         ensures failed { OnErr result (self.new ≡ self.old) }
     {
-        let Some(found) = self.find(ticket) else {
+        let Some(found) = find(self.levels.as_slice(), ticket) else {
             return Ok(Answered::Stranger);
         };
         match found.waits {
             Waits::First(index) => {
-                self.take_first(alloc, found.place, index, ticket, page)?;
+                let levels = &mut self.levels;
+                let waiting = &mut self.waiting;
+                take_first(levels, waiting, alloc, found.place, index, ticket, page)?;
                 Ok(Answered::Taken)
             }
             Waits::Next => {
-                self.take_next(alloc, found.place, ticket, &page)?;
+                let levels = &mut self.levels;
+                let waiting = &mut self.waiting;
+                take_next(levels, waiting, alloc, found.place, ticket, &page)?;
                 Ok(Answered::Taken)
             }
         }
@@ -431,11 +217,7 @@ impl Join {
         ensures value { result ≡ min (length (nodes self.now.levels)) (2 ^ 64 - 1) }
         ensures small { (n m : ℕ) → IsKeptSmall n m self.now → result ≤ 1 + (n - 1) * (m * self.now.window) }
     {
-        let mut count: usize = 0;
-        for level in &self.levels {
-            count = count.saturating_add(level.len());
-        }
-        count
+        open_nodes(self.levels.as_slice())
     }
 
     /// Whether no node is open, no ticket is out and no row waits. It takes no memory.

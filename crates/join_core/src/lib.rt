@@ -9,8 +9,11 @@ mod first;
 mod join;
 mod laws;
 mod level;
+mod levels;
 mod node;
+mod opening;
 mod pattern_list;
+mod started;
 
 pub use evaluation::{Answered, Ask, Evaluates};
 pub use join::Join;

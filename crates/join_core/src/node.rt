@@ -1,5 +1,5 @@
 // The nodes of a join.
-ghost use Rattle.std.specs.Prelude.{ℕ, ◌≡◌, ◌<◌, ◌+◌, ◌≤◌, List, length, IfOk, OnOk, OnErr, IfSome, [], Option, Some, None, true, false, IsTrue, ◌++◌, map, min, slice_index_or, option_to_list};
+ghost use Rattle.std.specs.Prelude.{ℕ, ◌≡◌, ◌<◌, ◌+◌, ◌≤◌, List, length, IfOk, OnOk, OnErr, IfSome, [], Option, Some, None, true, false, IsTrue, ◌++◌, map, min, slice_index_or, option_to_list, IfNone};
 ghost use Rattle.std.specs.List.{list_all, All, AllByRecursion, remove};
 ghost use Rattle.bgp_core.specs.declared.pattern.Pattern.{Pattern};
 ghost use Rattle.bgp_core.specs.Queries.{HasPlacesFor};
@@ -12,11 +12,13 @@ ghost use Rattle.template_fill.specs.Authorities.{ShareAuthority};
 ghost use Rattle.join_core.specs.Sound.{IsAskedBy};
 ghost use Rattle.join_core.specs.Nodes.{Stage, NodeData, all_askable, fresh, opened, put_out, is_got, count_of};
 ghost use Rattle.join_core.specs.Events.{CanAsk, asked, IsNextAddress, waits_for, first_waiting, with_first_at, is_full, next_walk, one_more, chosen_page};
+ghost use Rattle.join_core.specs.Levels.{seed_node};
 ghost use Rattle.join_core.specs.Events.{IsFirstOf, opened_by, out_by, after_by, IsChosen, has_ask, is_idle};
 
 use crate::choice::least_count;
 use crate::expand::expand;
 use crate::first::First;
+use crate::opening::Opening;
 use crate::pattern_list::PatternList;
 use bgp_core::{Pattern, Row, instance};
 use control_reader::Page;
@@ -52,7 +54,7 @@ pub(crate) enum Waits {
 /// What a page makes of a node: nodes that it opens, rows that it puts out, and the node after it, if it goes on.
 #[derive(Debug, Drop)]
 pub(crate) struct Made {
-    pub(crate) opened: Vec<Node>,
+    pub(crate) opened: Vec<Opening>,
     pub(crate) rows: Vec<Row>,
     pub(crate) after: Option<Node>,
 }
@@ -179,7 +181,7 @@ impl Node {
     }
 
     /// Writes over what is held of a first page.
-    pub(crate) fn set_first(&mut self, index: usize, first: First)
+    fn set_first(&mut self, index: usize, first: First)
         requires { IsFirstOf index self.old }
         ensures { self.new ≡ with_first_at index first self.old }
     {
@@ -190,7 +192,7 @@ impl Node {
     }
 
     /// Whether it holds all first pages.
-    pub(crate) fn is_full(&self) -> bool
+    fn is_full(&self) -> bool
         ensures { result ≡ is_full self.now }
     {
         match &self.progress {
@@ -262,10 +264,10 @@ fn made_of(
 ) -> Result<Made, OutOfMemory>
     requires places { AllByRecursion (HasPlacesFor (length row.now)) rest.value }
     requires chosen { HasPlacesFor (length row.now) chosen.now.value }
-    ensures opened { IfOk result (λ m. m.opened.items ≡ opened chosen.now.value rest.value row.now page.now.triples) }
+    ensures opened { IfOk result (λ m. map seed_node m.opened.items ≡ opened chosen.now.value rest.value row.now page.now.triples) }
     ensures rows { IfOk result (λ m. m.rows.items ≡ put_out chosen.now.value rest.value row.now page.now.triples) }
     ensures after { IfOk result (λ m. m.after ≡ next_walk chosen.now.value rest.value row.now pages page.now.next) }
-    ensures idle { IfOk result (λ m. All (λ n. is_idle n ≡ true) (m.opened.items ++ option_to_list m.after)) }
+    ensures idle { IfOk result (λ m. All (λ n. is_idle n ≡ true) (map seed_node m.opened.items ++ option_to_list m.after)) }
 {
     let mut opened = Vec::new(alloc);
     let mut rows = Vec::new(alloc);
@@ -291,7 +293,7 @@ fn nothing(alloc: Global) -> Made
     ensures opened { result.opened.items ≡ [] }
     ensures rows { result.rows.items ≡ [] }
     ensures after { result.after ≡ None }
-    ensures idle { All (λ n. is_idle n ≡ true) (result.opened.items ++ option_to_list result.after) }
+    ensures idle { All (λ n. is_idle n ≡ true) (map seed_node result.opened.items ++ option_to_list result.after) }
 {
     Made {
         opened: Vec::new(alloc),
@@ -310,10 +312,10 @@ fn made_first(
 ) -> Result<Made, OutOfMemory>
     requires places { AllByRecursion (HasPlacesFor (length row.now)) rest.value }
     requires chosen { HasPlacesFor (length row.now) chosen.now.value }
-    ensures opened { IfOk result (λ m. m.opened.items ≡ opened chosen.now.value rest.value row.now (chosen_page page.now).triples) }
+    ensures opened { IfOk result (λ m. map seed_node m.opened.items ≡ opened chosen.now.value rest.value row.now (chosen_page page.now).triples) }
     ensures rows { IfOk result (λ m. m.rows.items ≡ put_out chosen.now.value rest.value row.now (chosen_page page.now).triples) }
     ensures after { IfOk result (λ m. m.after ≡ next_walk chosen.now.value rest.value row.now 1 (chosen_page page.now).next) }
-    ensures idle { IfOk result (λ m. All (λ n. is_idle n ≡ true) (m.opened.items ++ option_to_list m.after)) }
+    ensures idle { IfOk result (λ m. All (λ n. is_idle n ≡ true) (map seed_node m.opened.items ++ option_to_list m.after)) }
 {
     if page.count == 0 {
         return Ok(nothing(alloc));
@@ -324,10 +326,10 @@ fn made_first(
 impl Node {
     /// What the next page of a walk makes of the node.
     pub(crate) fn next_page(&self, alloc: Global, page: &Page) -> Result<Made, OutOfMemory>
-        ensures opened { IfOk result (λ m. m.opened.items ≡ opened_by self.now page.now.triples) }
+        ensures opened { IfOk result (λ m. map seed_node m.opened.items ≡ opened_by self.now page.now.triples) }
         ensures rows { IfOk result (λ m. m.rows.items ≡ out_by self.now page.now.triples) }
         ensures after { IfOk result (λ m. m.after ≡ after_by self.now page.now.next) }
-        ensures idle { IfOk result (λ m. All (λ n. is_idle n ≡ true) (m.opened.items ++ option_to_list m.after)) }
+        ensures idle { IfOk result (λ m. All (λ n. is_idle n ≡ true) (map seed_node m.opened.items ++ option_to_list m.after)) }
     {
         let Progress::Walks(walk) = &self.progress else {
             return Ok(nothing(alloc));
@@ -344,10 +346,10 @@ impl Node {
     }
 
     /// What the held first page of the pattern with the least count makes of the node: nothing where the count is 0.
-    pub(crate) fn choose(&self, alloc: Global) -> Result<Made, OutOfMemory>
+    fn choose(&self, alloc: Global) -> Result<Made, OutOfMemory>
         requires { is_full self.now ≡ true }
-        ensures chosen { IfOk result (λ m. IsChosen self.now m.opened.items m.rows.items m.after) }
-        ensures idle { IfOk result (λ m. All (λ n. is_idle n ≡ true) (m.opened.items ++ option_to_list m.after)) }
+        ensures chosen { IfOk result (λ m. IsChosen self.now (map seed_node m.opened.items) m.rows.items m.after) }
+        ensures idle { IfOk result (λ m. All (λ n. is_idle n ≡ true) (map seed_node m.opened.items ++ option_to_list m.after)) }
     {
         let Progress::Asks(firsts) = &self.progress else {
             return Ok(nothing(alloc));
@@ -361,5 +363,33 @@ impl Node {
         };
         let rest = Rc::new(alloc, self.rest.without(alloc, index)?)?;
         made_first(alloc, &self.row, rest, self.rest.at(index), page)
+    }
+
+    /// Takes a first page. Where it is the last to come, the pattern with the least count is chosen, and the answer is what
+    /// its page makes of the node, which is as it was: it is to be replaced. Out of memory, the node is as it was.
+    pub(crate) fn take_first(
+        &mut self,
+        alloc: Global,
+        index: usize,
+        ticket: u64,
+        page: Page,
+    ) -> Result<Option<Made>, OutOfMemory>
+        requires { waits_for ticket self.old ≡ Some (Waits.First index) }
+        ensures held { IfOk result (λ o. IfNone o ((is_full (with_first_at index (First.Got page) self.old) ≡ false) × (self.new ≡ with_first_at index (First.Got page) self.old))) }
+        ensures full { IfOk result (λ o. IfSome o (λ m. (is_full (with_first_at index (First.Got page) self.old) ≡ true) × (self.new ≡ self.old))) }
+        ensures chosen { IfOk result (λ o. IfSome o (λ m. IsChosen (with_first_at index (First.Got page) self.old) (map seed_node m.opened.items) m.rows.items m.after)) }
+        ensures idle { IfOk result (λ o. IfSome o (λ m. All (λ n. is_idle n ≡ true) (map seed_node m.opened.items ++ option_to_list m.after))) }
+        ensures failed { OnErr result (self.new ≡ self.old) }
+    {
+        self.set_first(index, First::Got(page));
+        if !self.is_full() {
+            return Ok(None);
+        }
+        let made = self.choose(alloc);
+        self.set_first(index, First::Out(ticket));
+        match made {
+            Ok(made) => Ok(Some(made)),
+            Err(error) => Err(error),
+        }
     }
 }

@@ -1,21 +1,10 @@
-use Rattle.std.proofs.Common.{ℕ, ◌≡◌, ◌+◌, ◌<◌, ◌≤◌, List, min, length, get_or, ap, ◌∙◌, arith}
-use Rattle.std.proofs.lemmas.List.{take_all}
+use Rattle.std.proofs.Common.{ℕ, ◌≡◌, List, min, ap, ◌∙◌}
 use Rattle.std.specs.List.{count_by}
 use Rattle.join_core.specs.Events.{works}
-use Rattle.join_core.specs.Nodes.{NodeData}
 use Rattle.join_core.specs.Joins.{JoinData, nodes}
-use Rattle.join_core.proofs.Scans.{working-step}
+use Rattle.join_core.specs.Levels.{LevelData, plain}
 use Rattle.join_core.proofs.join.Join.working.Goals as goal
-
-pub loop-level-preserved : goal.loop-level-preserved
-loop-level-preserved c =
-    let seen : c.deref-level-items.result.now ≡ c.args.self.now.levels = c.deref-level-items.ensures.value ∙ ap (λ (s : JoinData). s.levels) c.self.view_is in
-    let below : c.loop-level.level-index < length c.args.self.now.levels = omega (arith, ap length seen) in
-    let at : c.level-item.result ≡ get_or c.args.self.now.levels c.loop-level.level-index c.level-item.result = c.level-item.is ∙ ap (λ (x : List (List NodeData)). get_or x c.loop-level.level-index c.level-item.result) seen in
-    c.saturating_add-count.ensures ∙ ap (λ (k : ℕ). min (c.loop-level.count + k) 18446744073709551615) c.working.ensures ∙ working-step c.args.self.now.levels c.loop-level.level-index c.level-item.result c.loop-level.count below at c.loop-level.invariant
 
 pub returns : goal.returns
 returns c =
-    let seen : c.deref-level-items.result.now ≡ c.args.self.now.levels = c.deref-level-items.ensures.value ∙ ap (λ (s : JoinData). s.levels) c.self.view_is in
-    let past : length c.args.self.now.levels ≤ c.loop-level.level-index = omega (arith, ap length seen) in
-    c.loop-level.invariant ∙ ap (λ (x : List (List NodeData)). min (count_by works (nodes x)) 18446744073709551615) (take_all c.loop-level.level-index c.args.self.now.levels past)
+    c.working_nodes.ensures ∙ ap (λ (ls : List LevelData). min (count_by works (nodes (plain ls))) 18446744073709551615) c.as_slice.ensures.value ∙ ap (λ (s : JoinData). min (count_by works (nodes s.levels)) 18446744073709551615) c.self.view_is

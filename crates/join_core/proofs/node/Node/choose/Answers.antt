@@ -4,6 +4,7 @@ use Rattle.join_core.specs.Nodes.{NodeData, IsAsking, least, count_of}
 use Rattle.join_core.specs.Events.{IsChosen, IsChosenIn}
 use Rattle.join_core.specs.Shown.{stage_of, IsMadeStage}
 use Rattle.join_core.specs.declared.node.Progress.{Progress}
+use Rattle.join_core.specs.Levels.{seed_node}
 use Rattle.join_core.proofs.Valid.{found-every}
 use Rattle.join_core.proofs.node.Node.choose.Goals as goal
 
@@ -18,5 +19,5 @@ pub returns-then-index-len-clause-chosen : goal.returns-then-index-len-clause-ch
 returns-then-index-len-clause-chosen c =
     let e : c.least_count-index.result ≡ least (map count_of c.in-Asks.firsts.items) = c.least_count-index.ensures.value ∙ ap (λ l. least (map count_of l)) c.deref.ensures.value in
     let r = c.nothing-then-index-len.result in
-    subst (λ (n : NodeData). IsChosen n r.opened.items r.rows.items r.after) c.self.view_is
-    (subst (λ (s : Progress). IsChosenIn c.self.inside.row c.self.inside.rest.value (stage_of s) r.opened.items r.rows.items r.after) (sym c.in-Asks.is) (λ p page h x y. absurd (omega (arith, h, e))))
+    subst (λ (n : NodeData). IsChosen n (map seed_node r.opened.items) r.rows.items r.after) c.self.view_is
+    (subst (λ (s : Progress). IsChosenIn c.self.inside.row c.self.inside.rest.value (stage_of s) (map seed_node r.opened.items) r.rows.items r.after) (sym c.in-Asks.is) (λ p page h x y. absurd (omega (arith, h, e))))

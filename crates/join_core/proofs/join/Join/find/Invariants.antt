@@ -1,8 +1,0 @@
-use Rattle.std.proofs.Common.{take}
-use Rattle.std.specs.Prelude.{is_some}
-use Rattle.join_core.specs.Events.{waits_for}
-use Rattle.join_core.specs.Joins.{NoneIn}
-use Rattle.join_core.proofs.join.Join.find.Given as goal
-
-abbrev pub invariant-loop-depth : goal.invariant-loop-depth
-invariant-loop-depth l = NoneIn (λ n. is_some (waits_for l.ticket n)) (take l.depth l.self.levels)
