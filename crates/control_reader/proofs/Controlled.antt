@@ -13,12 +13,14 @@ use Rattle.rdf_terms.specs.Same.{term_eq, triple_eq}
 use Rattle.std.specs.Ordering.{is_eq}
 use Rattle.std.proofs.lemmas.Bool.{and_from, and_parts}
 use Rattle.list_laws.proofs.Members.{Contains-filter_map, any_of, from_filter_map, some_of}
-use Rattle.rdf_terms.specs.Order.{term_order, triple_order}
+use Rattle.rdf_terms.specs.Order.{term_order}
 use Rattle.rdf_terms.specs.EqualityLaws.{triple_decides}
-use Rattle.rdf_terms.specs.OrderLaws.{triple_total, triple_ties, term_ties}
+use Rattle.rdf_terms.specs.OrderLaws.{term_ties}
 use Rattle.control_reader.specs.declared.topic.GraphTopic.{GraphTopic}
 use Rattle.control_reader.specs.Controls.{IsAbout, Says}
 use Rattle.control_reader.specs.Parts.{Source, About, about, abouts, abouts_of, borrowed_triples, is_about, is_about_in, has_about, is_control, control_of, AreControls, triple}
+use Rattle.control_reader.specs.Ranges.{length_triple_order}
+use Rattle.control_reader.specs.LengthLaws.{length_triple_total, length_triple_ties}
 use Rattle.control_reader.proofs.Sorted.{from_sorted, in_sorted, sorted_ascends}
 use Rattle.control_reader.proofs.TermTests.{term_same, term_itself}
 use Rattle.control_reader.proofs.Topics.{iri_same, listed_about, about_listed}
@@ -69,12 +71,12 @@ says_listed quads topic s p o h =
 -- ---- sorted
 
 pub are_controls : (quads : List Quad) (topic : List ℕ) (t : Term) (xs ys zs : List (Bor Triple)) → t ≡ Iri topic → borrowed_triples xs ≡ filter_map (control_of quads t) quads → IsPermutation xs ys →
-    IsFiltered (DiffersFromLast (λ x y. triple_eq x.now y.now)) [] ys zs → IsSorted (λ (x y : Bor Triple). triple_order x.now y.now) ys → AreControls quads topic (borrowed_triples zs)
+    IsFiltered (DiffersFromLast (λ x y. triple_eq x.now y.now)) [] ys zs → IsSorted (λ (x y : Bor Triple). length_triple_order x.now y.now) ys → AreControls quads topic (borrowed_triples zs)
 are_controls quads topic t xs ys zs e triples moved kept s =
     let all : borrowed_triples xs ≡ filter_map (control_of quads (Iri topic)) quads = triples ∙ ap (λ (x : Term). filter_map (control_of quads x) quads) e in
     record {
-      ascending = sorted_ascends (λ (t : Bor Triple). t.now) triple_total (λ x y. triple_ties x.now y.now) (λ x y h. (triple_decides x.now y.now).0 h) _ xs ys zs all moved kept s;
-      members = λ s p o. ((λ h. listed_says quads topic s p o (from_sorted (λ (t : Bor Triple). t.now) triple_total (λ x y. triple_ties x.now y.now) (λ x y h. (triple_decides x.now y.now).0 h) _ xs ys zs all moved kept (triple s p o) h)), (λ h. in_sorted (λ (t : Bor Triple). t.now) triple_total (λ x y. triple_ties x.now y.now) (λ x y h. (triple_decides x.now y.now).0 h) _ xs ys zs all moved kept (triple s p o) (says_listed quads topic s p o h)));
+      ascending = sorted_ascends (λ (t : Bor Triple). t.now) length_triple_total (λ x y. length_triple_ties x.now y.now) (λ x y h. (triple_decides x.now y.now).0 h) _ xs ys zs all moved kept s;
+      members = λ s p o. ((λ h. listed_says quads topic s p o (from_sorted (λ (t : Bor Triple). t.now) length_triple_total (λ x y. length_triple_ties x.now y.now) (λ x y h. (triple_decides x.now y.now).0 h) _ xs ys zs all moved kept (triple s p o) h)), (λ h. in_sorted (λ (t : Bor Triple). t.now) length_triple_total (λ x y. length_triple_ties x.now y.now) (λ x y h. (triple_decides x.now y.now).0 h) _ xs ys zs all moved kept (triple s p o) (says_listed quads topic s p o h)));
     }
 
 -- ---- graphs

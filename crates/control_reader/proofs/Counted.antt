@@ -10,8 +10,6 @@ use Rattle.list_laws.proofs.Ascending.{less_not_equal}
 use Rattle.list_laws.proofs.Members.{at_head, head_or_tail, in_tail, none_in}
 use Rattle.rdf_terms.specs.declared.term.Term.{Term}
 use Rattle.rdf_terms.specs.declared.term.Triple.{Triple}
-use Rattle.rdf_terms.specs.Order.{term_order}
-use Rattle.rdf_terms.specs.OrderLaws.{term_total}
 use Rattle.rdf_terms.specs.declared.term.Term.TheVariants.{Iri}
 use Rattle.rdf_terms.specs.declared.term.Quad.{Quad}
 use Rattle.tpf_base.specs.Addresses.{Address, IsAddress, authority_of}
@@ -22,6 +20,8 @@ use Rattle.control_reader.specs.Vocabulary.{total_items, void_triples}
 use Rattle.control_reader.specs.Controls.{IsOnly, HasTwo, Says, IsCountObject, IsNextObject, IsLink}
 use Rattle.control_reader.specs.Counts.{WhyNoNext, IsNoLink}
 use Rattle.control_reader.specs.Outcomes.{IsFaultOf}
+use Rattle.control_reader.specs.Ranges.{length_order}
+use Rattle.control_reader.specs.LengthLaws.{length_total}
 use Rattle.control_reader.proofs.Fine.{only_not_two}
 use Rattle.control_reader.specs.Parts.{objects_in}
 
@@ -35,7 +35,7 @@ module _ (P : Term → Type 0) where
   only_of (x ∷ []) d e m = ((m x.now.object).0 (at_head x.now.object []), λ o p. ⊎_elim (λ s. sym s) (λ t. absurd (none_in o t)) (head_or_tail x.now.object o [] ((m o).1 p)))
   only_of (x ∷ y ∷ xs) d e m = absurd (omega arith)
 
-  pub two_of : (xs : List (Bor Triple)) → 2 ≤ length xs → IsStrictlySortedBy term_order (objects_in xs) → ((o : Term) → Contains (objects_in xs) o ↔ P o) → HasTwo P
+  pub two_of : (xs : List (Bor Triple)) → 2 ≤ length xs → IsStrictlySortedBy length_order (objects_in xs) → ((o : Term) → Contains (objects_in xs) o ↔ P o) → HasTwo P
   unfolding IsStrictlySortedBy
   two_of [] e s m = absurd (omega arith)
   two_of (x ∷ []) e s m = absurd (omega arith)
@@ -44,7 +44,7 @@ module _ (P : Term → Type 0) where
     y.now.object,
     (m x.now.object).0 (at_head x.now.object (objects_in (y ∷ xs))),
     (m y.now.object).0 (in_tail x.now.object y.now.object (objects_in (y ∷ xs)) (at_head y.now.object (objects_in xs))),
-    λ same. less_not_equal (sym s.0.0 ∙ subst (λ (o : Term). term_order x.now.object o ≡ Equal) same (tied_itself term_total x.now.object)),
+    λ same. less_not_equal (sym s.0.0 ∙ subst (λ (o : Term). length_order x.now.object o ≡ Equal) same (tied_itself length_total x.now.object)),
   )
 
 -- ---- the count

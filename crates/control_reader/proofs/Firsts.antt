@@ -7,13 +7,13 @@ use Rattle.std.proofs.Math.ListN.{drop_of_length-le}
 use Rattle.std.specs.List.{list_any, filter, zip}
 use Rattle.std.specs.Ordering.{is_eq}
 use Rattle.rdf_terms.specs.Same.{triple_eq}
-use Rattle.rdf_terms.specs.Order.{triple_order}
-use Rattle.rdf_terms.specs.OrderLaws.{triple_ties}
 use Rattle.rdf_terms.specs.declared.term.Term.{Term}
 use Rattle.rdf_terms.specs.declared.term.Triple.{Triple}
 use Rattle.rdf_terms.specs.declared.term.Quad.{Quad}
 use Rattle.control_reader.specs.Contents.{firsts, default_triples, page_triples}
 use Rattle.control_reader.specs.Seen.{once_more, is_new}
+use Rattle.control_reader.specs.Ranges.{length_triple_order}
+use Rattle.control_reader.specs.LengthLaws.{length_triple_ties}
 use Rattle.control_reader.specs.Marks.{is_first, is_data, marked}
 use Rattle.control_reader.proofs.Steps.{map-append, taken_more}
 
@@ -22,15 +22,15 @@ not_not true = refl
 not_not false = refl
 
 -- a set with one key more has that key and those it had
-key_added : (new old : Bool) (key q : Triple) → new ≡ cond (is_eq (triple_order key q)) true old → new ≡ (triple_eq key q || old)
-key_added new old key q e = e ∙ ap (λ b. cond b true old) (sym (triple_ties key q)) ∙ either (triple_eq key q) old
+key_added : (new old : Bool) (key q : Triple) → new ≡ cond (is_eq (length_triple_order key q)) true old → new ≡ (triple_eq key q || old)
+key_added new old key q e = e ∙ ap (λ b. cond b true old) (sym (length_triple_ties key q)) ∙ either (triple_eq key q) old
   where
     either : (a b : Bool) → cond a true b ≡ (a || b)
     either true b = refl
     either false b = refl
 
 -- the set of the triples seen, after a quad of the default graph
-pub data_added : (new old : Bool) (graph : Option Term) (key q : Triple) → is_some graph ≡ false → new ≡ cond (is_eq (triple_order key q)) true old → new ≡ ((is_none graph && triple_eq key q) || old)
+pub data_added : (new old : Bool) (graph : Option Term) (key q : Triple) → is_some graph ≡ false → new ≡ cond (is_eq (length_triple_order key q)) true old → new ≡ ((is_none graph && triple_eq key q) || old)
 data_added new old None key q none e = key_added new old key q e
 data_added new old (Some g) key q none e = absurd (cc)
 

@@ -1,6 +1,7 @@
 pub mod TermTests
 pub mod Topics
 pub mod Controlled
+pub mod LengthOrder
 pub mod Ranged
 pub mod Steps
 pub mod Sorted

@@ -15,9 +15,8 @@ use Rattle.list_laws.proofs.Places.{any_default, between, in_between}
 use Rattle.list_laws.proofs.Tests.{not_both_ways}
 use Rattle.rdf_terms.specs.declared.term.Term.{Term}
 use Rattle.rdf_terms.specs.declared.term.Triple.{Triple}
-use Rattle.rdf_terms.specs.Order.{term_order, triple_order}
-use Rattle.rdf_terms.specs.OrderLaws.{term_total, term_equal}
-use Rattle.control_reader.specs.Ranges.{pair_order, is_before, goes_before, is_object_before}
+use Rattle.control_reader.specs.Ranges.{length_order, length_triple_order, pair_order, is_before, goes_before, is_object_before}
+use Rattle.control_reader.specs.LengthLaws.{length_total, length_equal}
 use Rattle.control_reader.specs.Parts.{borrowed_triples, objects_in, triple}
 
 -- ---- an element before another goes before a bound where that one does
@@ -96,7 +95,7 @@ module _ {X : Type 0} (c : X → Ordering) (xs : List X) (from to : ℕ) (low : 
 -- ---- control triples
 
 pub pair_total : IsTotalOrder pair_order
-pair_total = then_total (on_total (λ (t : Triple). t.subject) term_total) (on_total (λ (t : Triple). t.predicate) term_total)
+pair_total = then_total (on_total (λ (t : Triple). t.subject) length_total) (on_total (λ (t : Triple). t.predicate) length_total)
 
 not_greater : (s p o : Ordering) → ordering_then s (ordering_then p o) ≡ Less → ordering_then s p ≢ Greater
 not_greater Less p o h e = less_not_greater e
@@ -105,38 +104,38 @@ not_greater Equal Equal o h e = let x : Equal ≡ Greater = e in cc
 not_greater Equal Greater o h e = let x : Greater ≡ Less = h in cc
 not_greater Greater p o h e = let x : Greater ≡ Less = h in cc
 
-pub triples_parted : (xs : List (Bor Triple)) (w : Bool) (subject predicate : Term) → IsStrictlySortedBy triple_order (borrowed_triples xs) → IsPartitionedBy (λ (t : Bor Triple). goes_before w subject predicate t.now) xs
+pub triples_parted : (xs : List (Bor Triple)) (w : Bool) (subject predicate : Term) → IsStrictlySortedBy length_triple_order (borrowed_triples xs) → IsPartitionedBy (λ (t : Bor Triple). goes_before w subject predicate t.now) xs
 triples_parted xs w subject predicate s =
     partitioned pair_total (λ (t : Bor Triple). t.now) xs w (triple subject predicate subject)
-    (λ i j d l m. not_greater (term_order (get_or xs i d).now.subject (get_or xs j d).now.subject) (term_order (get_or xs i d).now.predicate (get_or xs j d).now.predicate) (term_order (get_or xs i d).now.object (get_or xs j d).now.object)
-    (pair_less (λ (x y : Bor Triple). triple_order x.now y.now) xs (ascending_unmap (λ (t : Bor Triple). t.now) triple_order xs s) i j d d l m))
+    (λ i j d l m. not_greater (length_order (get_or xs i d).now.subject (get_or xs j d).now.subject) (length_order (get_or xs i d).now.predicate (get_or xs j d).now.predicate) (length_order (get_or xs i d).now.object (get_or xs j d).now.object)
+    (pair_less (λ (x y : Bor Triple). length_triple_order x.now y.now) xs (ascending_unmap (λ (t : Bor Triple). t.now) length_triple_order xs s) i j d d l m))
 
-same_pair : (t : Triple) (s p : Term) → ordering_then (term_order t.subject s) (term_order t.predicate p) ≡ Equal → (t.subject ≡ s) × (t.predicate ≡ p)
-same_pair t s p h = let e = then_equal _ _ h in ((term_equal t.subject s).0 e.0, (term_equal t.predicate p).0 e.1)
+same_pair : (t : Triple) (s p : Term) → ordering_then (length_order t.subject s) (length_order t.predicate p) ≡ Equal → (t.subject ≡ s) × (t.predicate ≡ p)
+same_pair t s p h = let e = then_equal _ _ h in ((length_equal t.subject s).0 e.0, (length_equal t.predicate p).0 e.1)
 
-pair_tied : (t : Triple) (s p o : Term) → t ≡ triple s p o → ordering_then (term_order t.subject s) (term_order t.predicate p) ≡ Equal
+pair_tied : (t : Triple) (s p o : Term) → t ≡ triple s p o → ordering_then (length_order t.subject s) (length_order t.predicate p) ≡ Equal
 pair_tied t s p o e =
-    let a : term_order t.subject s ≡ Equal = (term_equal t.subject s).1 (ap (λ (x : Triple). x.subject) e) in
-    let b : term_order t.predicate p ≡ Equal = (term_equal t.predicate p).1 (ap (λ (x : Triple). x.predicate) e) in
+    let a : length_order t.subject s ≡ Equal = (length_equal t.subject s).1 (ap (λ (x : Triple). x.subject) e) in
+    let b : length_order t.predicate p ≡ Equal = (length_equal t.predicate p).1 (ap (λ (x : Triple). x.predicate) e) in
     rw (a, b) refl
 
 same_triple : (t : Triple) (s p o : Term) → t.subject ≡ s → t.predicate ≡ p → t.object ≡ o → t ≡ triple s p o
 same_triple t s p o e f h = λ i. record { subject = e i; predicate = f i; object = h i }
 
-both_tied : (a b : Triple) (s p : Term) → (a.subject ≡ s) × (a.predicate ≡ p) → (b.subject ≡ s) × (b.predicate ≡ p) → triple_order a b ≡ term_order a.object b.object
+both_tied : (a b : Triple) (s p : Term) → (a.subject ≡ s) × (a.predicate ≡ p) → (b.subject ≡ s) × (b.predicate ≡ p) → length_triple_order a b ≡ length_order a.object b.object
 both_tied a b s p e f =
-    let x : term_order a.subject b.subject ≡ Equal = (term_equal a.subject b.subject).1 (e.0 ∙ sym f.0) in
-    let y : term_order a.predicate b.predicate ≡ Equal = (term_equal a.predicate b.predicate).1 (e.1 ∙ sym f.1) in
-    ap (λ (o : Ordering). ordering_then o (ordering_then (term_order a.predicate b.predicate) (term_order a.object b.object))) x ∙ ap (λ (o : Ordering). ordering_then o (term_order a.object b.object)) y
+    let x : length_order a.subject b.subject ≡ Equal = (length_equal a.subject b.subject).1 (e.0 ∙ sym f.0) in
+    let y : length_order a.predicate b.predicate ≡ Equal = (length_equal a.predicate b.predicate).1 (e.1 ∙ sym f.1) in
+    ap (λ (o : Ordering). ordering_then o (ordering_then (length_order a.predicate b.predicate) (length_order a.object b.object))) x ∙ ap (λ (o : Ordering). ordering_then o (length_order a.object b.object)) y
 
-module _ (xs : List (Bor Triple)) (s p : Term) (sorted : IsStrictlySortedBy triple_order (borrowed_triples xs)) (from to : ℕ) (low : from ≤ length xs) (high : to ≤ length xs)
+module _ (xs : List (Bor Triple)) (s p : Term) (sorted : IsStrictlySortedBy length_triple_order (borrowed_triples xs)) (from to : ℕ) (low : from ≤ length xs) (high : to ≤ length xs)
     (from_before : (k : ℕ) (d : Bor Triple) → k < from → goes_before false s p (get_or xs k d).now ≡ true)
     (from_behind : (k : ℕ) (d : Bor Triple) → from ≤ k → k < length xs → goes_before false s p (get_or xs k d).now ≡ false)
     (to_before : (k : ℕ) (d : Bor Triple) → k < to → goes_before true s p (get_or xs k d).now ≡ true)
     (to_behind : (k : ℕ) (d : Bor Triple) → to ≤ k → k < length xs → goes_before true s p (get_or xs k d).now ≡ false) where
   inside : (t : Bor Triple) → Contains (take (to - from) (drop from xs)) t → Contains xs t × ((t.now.subject ≡ s) × (t.now.predicate ≡ p))
   inside t h =
-      let r = in_part (λ (t : Bor Triple). ordering_then (term_order t.now.subject s) (term_order t.now.predicate p)) xs from to low high from_before from_behind to_before to_behind t h in
+      let r = in_part (λ (t : Bor Triple). ordering_then (length_order t.now.subject s) (length_order t.now.predicate p)) xs from to low high from_before from_behind to_before to_behind t h in
       (r.0, same_pair t.now s p r.1)
 
   pub range_has : (o : Term) → Contains (objects_in (take (to - from) (drop from xs))) o → Contains (borrowed_triples xs) (triple s p o)
@@ -150,34 +149,34 @@ module _ (xs : List (Bor Triple)) (s p : Term) (sorted : IsStrictlySortedBy trip
   has_range o h =
       let found = from_map (λ (t : Bor Triple). t.now) xs (triple s p o) h in
       let t = found.0 in
-      let there = part_in (λ (t : Bor Triple). ordering_then (term_order t.now.subject s) (term_order t.now.predicate p)) xs from to low high from_before from_behind to_before to_behind t found.1 (pair_tied t.now s p o found.2) in
+      let there = part_in (λ (t : Bor Triple). ordering_then (length_order t.now.subject s) (length_order t.now.predicate p)) xs from to low high from_before from_behind to_before to_behind t found.1 (pair_tied t.now s p o found.2) in
       subst (λ (x : Term). Contains (objects_in (take (to - from) (drop from xs))) x) (ap (λ (x : Triple). x.object) found.2) (Contains-map (λ (t : Bor Triple). t.now.object) (take (to - from) (drop from xs)) t there)
 
-  pub range_ascends : IsStrictlySortedBy term_order (objects_in (take (to - from) (drop from xs)))
+  pub range_ascends : IsStrictlySortedBy length_order (objects_in (take (to - from) (drop from xs)))
   range_ascends =
-      strict_on (λ (t : Bor Triple). t.now.object) term_order (λ (x y : Bor Triple). triple_order x.now y.now) (λ (t : Bor Triple). (t.now.subject ≡ s) × (t.now.predicate ≡ p))
+      strict_on (λ (t : Bor Triple). t.now.object) length_order (λ (x y : Bor Triple). length_triple_order x.now y.now) (λ (t : Bor Triple). (t.now.subject ≡ s) × (t.now.predicate ≡ p))
       (λ x y e f. both_tied x.now y.now s p e f) (take (to - from) (drop from xs))
       (all_from (λ (t : Bor Triple). (t.now.subject ≡ s) × (t.now.predicate ≡ p)) (take (to - from) (drop from xs)) (λ t h. (inside t h).1))
-      (strict_take (λ (x y : Bor Triple). triple_order x.now y.now) (to - from) (drop from xs) (strict_drop (λ (x y : Bor Triple). triple_order x.now y.now) from xs (ascending_unmap (λ (t : Bor Triple). t.now) triple_order xs sorted)))
+      (strict_take (λ (x y : Bor Triple). length_triple_order x.now y.now) (to - from) (drop from xs) (strict_drop (λ (x y : Bor Triple). length_triple_order x.now y.now) from xs (ascending_unmap (λ (t : Bor Triple). t.now) length_triple_order xs sorted)))
 
   pub range_in_order : from ≤ to
-  range_in_order = in_order (λ (t : Bor Triple). ordering_then (term_order t.now.subject s) (term_order t.now.predicate p)) xs from to low high from_before from_behind to_before to_behind
+  range_in_order = in_order (λ (t : Bor Triple). ordering_then (length_order t.now.subject s) (length_order t.now.predicate p)) xs from to low high from_before from_behind to_before to_behind
 
 -- ---- one object of a range
 
-pub objects_parted : (xs : List (Bor Triple)) (object : Term) → IsStrictlySortedBy term_order (objects_in xs) → IsPartitionedBy (λ (t : Bor Triple). is_object_before object t.now) xs
+pub objects_parted : (xs : List (Bor Triple)) (object : Term) → IsStrictlySortedBy length_order (objects_in xs) → IsPartitionedBy (λ (t : Bor Triple). is_object_before object t.now) xs
 objects_parted xs object s =
-    partitioned term_total (λ (t : Bor Triple). t.now.object) xs false object
-    (λ i j d l m e. less_not_greater (sym (pair_less (λ (x y : Bor Triple). term_order x.now.object y.now.object) xs (ascending_unmap (λ (t : Bor Triple). t.now.object) term_order xs s) i j d d l m) ∙ e))
+    partitioned length_total (λ (t : Bor Triple). t.now.object) xs false object
+    (λ i j d l m e. less_not_greater (sym (pair_less (λ (x y : Bor Triple). length_order x.now.object y.now.object) xs (ascending_unmap (λ (t : Bor Triple). t.now.object) length_order xs s) i j d d l m) ∙ e))
 
-module _ (xs : List (Bor Triple)) (object : Term) (place : ℕ) (s : IsStrictlySortedBy term_order (objects_in xs))
+module _ (xs : List (Bor Triple)) (object : Term) (place : ℕ) (s : IsStrictlySortedBy length_order (objects_in xs))
     (before : (k : ℕ) (d : Bor Triple) → k < place → is_object_before object (get_or xs k d).now ≡ true)
     (behind : (k : ℕ) (d : Bor Triple) → place ≤ k → k < length xs → is_object_before object (get_or xs k d).now ≡ false) where
   not_below : (k : ℕ) (t : Bor Triple) → get_or xs k t ≡ t → t.now.object ≡ object → place ≤ k
   not_below k t at same = by (ltb k place) refl
     where
       tied : is_object_before object t.now ≡ false
-      tied = ap (is_before false) ((term_equal t.now.object object).1 same)
+      tied = ap (is_before false) ((length_equal t.now.object object).1 same)
 
       by : (b : Bool) → ltb k place ≡ b → place ≤ k
       by true e = absurd (not_both_ways _ (subst (λ (x : Bor Triple). is_object_before object x.now ≡ true) at (before k t (grind (arith, e)))) tied)
@@ -188,8 +187,8 @@ module _ (xs : List (Bor Triple)) (object : Term) (place : ℕ) (s : IsStrictlyS
     where
       less : place < k → is_object_before object (get_or xs place t).now ≡ true
       less m =
-          ap (is_before false) (ap (λ (o : Term). term_order (get_or xs place t).now.object o) (sym (ap (λ (x : Bor Triple). x.now.object) at ∙ same))
-          ∙ pair_less (λ (x y : Bor Triple). term_order x.now.object y.now.object) xs (ascending_unmap (λ (t : Bor Triple). t.now.object) term_order xs s) place k t t m l)
+          ap (is_before false) (ap (λ (o : Term). length_order (get_or xs place t).now.object o) (sym (ap (λ (x : Bor Triple). x.now.object) at ∙ same))
+          ∙ pair_less (λ (x y : Bor Triple). length_order x.now.object y.now.object) xs (ascending_unmap (λ (t : Bor Triple). t.now.object) length_order xs s) place k t t m l)
 
       by : (b : Bool) → ltb place k ≡ b → k ≡ place
       by true e = let m : place < k = grind (arith, e) in absurd (not_both_ways _ (less m) (behind place t (omega arith) (omega (arith, m, l))))

@@ -4,6 +4,8 @@ pub mod Contents
 pub mod Takes
 pub mod Parts
 pub mod Ranges
+pub mod LengthLaws
+pub mod KeyLaws
 pub mod Variables
 pub mod Places
 pub mod Outcomes

@@ -3,15 +3,15 @@ use Rattle.std.specs.Prelude.{Bool, not, ◌&&◌, is_none, List, map}
 use Rattle.std.specs.List.{list_any, filter, zip}
 use Rattle.std.specs.Ordering.{is_eq}
 use Rattle.std.specs.BTreeSet.{BTreeSet}
-use Rattle.std.specs.Borrow.{Bor}
-use Rattle.rdf_terms.specs.Order.{triple_order}
 use Rattle.rdf_terms.specs.Same.{triple_eq}
 use Rattle.rdf_terms.specs.declared.term.Triple.{Triple}
 use Rattle.rdf_terms.specs.declared.term.Quad.{Quad}
+use Rattle.control_reader.specs.declared.order.TripleKey.{TripleKey}
+use Rattle.control_reader.specs.Ranges.{length_triple_order}
 
 -- a triple of the set is this one
-abbrev pub is_seen : BTreeSet (Bor Triple) → Triple → Bool
-is_seen seen t = list_any (λ key. is_eq (triple_order t key.now)) seen.keys
+abbrev pub is_seen : BTreeSet TripleKey → Triple → Bool
+is_seen seen t = list_any (λ (key : TripleKey). is_eq (length_triple_order t key.triple.now)) seen.keys
 
 -- the quad has this triple in the default graph
 abbrev pub is_data : Triple → Quad → Bool

@@ -8,10 +8,10 @@ use Rattle.rdf_terms.specs.declared.term.Term.TheVariants.{Iri, Blank, Literal}
 use Rattle.rdf_terms.specs.declared.term.Triple.{Triple}
 use Rattle.rdf_terms.specs.declared.term.Quad.{Quad}
 use Rattle.rdf_terms.specs.Same.{term_eq}
-use Rattle.rdf_terms.specs.Order.{triple_order}
 use Rattle.control_reader.specs.Vocabulary.{primary_topic}
 use Rattle.control_reader.specs.declared.topic.GraphTopic.{GraphTopic}
 use Rattle.control_reader.specs.Controls.{Says}
+use Rattle.control_reader.specs.Ranges.{length_triple_order}
 
 -- ---- borrowed values
 
@@ -100,9 +100,9 @@ pub record Source : Type 0 where
 abbrev pub triple : Term → Term → Term → Triple
 triple subject predicate object = record { subject = subject; predicate = predicate; object = object }
 
--- the control triples, each once, in the order of triples
+-- the control triples, each once, in the order of the lengths of their terms
 pub record AreControls (quads : List Quad) (topic : List ℕ) (triples : List Triple) : Type 0 where
-  pub ascending : IsStrictlySortedBy triple_order triples
+  pub ascending : IsStrictlySortedBy length_triple_order triples
   pub members : (subject predicate object : Term) → Contains triples (triple subject predicate object) ↔ Says quads topic subject predicate object
 
 -- the form of a literal

@@ -8,26 +8,30 @@ ghost use Rattle.control_reader.specs.Marks.{is_seen, is_data, is_first, marked}
 ghost use Rattle.control_reader.specs.Seen.{is_blank, holds_blank, TakesTriples};
 
 use crate::PageFault;
+use crate::order::TripleKey;
 use rdf_terms::{Quad, Term, Triple};
 use std::alloc::Global;
 use std::collections::BTreeSet;
 use tpf_base::OutOfMemory;
 
 /// Whether the quad stands in the default graph and its triple was not seen before.
-fn is_first<'a>(seen: &mut BTreeSet<&'a Triple>, quad: &'a Quad) -> Result<bool, OutOfMemory>
+fn is_first<'a>(seen: &mut BTreeSet<TripleKey<'a>>, quad: &'a Quad) -> Result<bool, OutOfMemory>
     ensures first { IfOk result (λ first. first ≡ is_first (is_seen seen.old quad.entry.now.triple) quad.entry.now) }
     ensures seen { OnOk result ((t : Triple) → is_seen seen.new t ≡ (is_data t quad.entry.now || is_seen seen.old t)) }
 {
     if quad.graph.is_some() {
         return Ok(false);
     }
-    Ok(seen.insert(&quad.triple)?)
+    let key = TripleKey {
+        triple: &quad.triple,
+    };
+    Ok(seen.insert(key)?)
 }
 
 /// Adds at the end whether the quad is the first with its triple in the default graph.
 pub(crate) fn add_mark<'a>(
     marks: &mut Vec<bool>,
-    seen: &mut BTreeSet<&'a Triple>,
+    seen: &mut BTreeSet<TripleKey<'a>>,
     quad: &'a Quad,
 ) -> Result<(), OutOfMemory>
     ensures marks { OnOk result (marks.new.items ≡ marks.old.items ++ is_first (is_seen seen.old quad.entry.now.triple) quad.entry.now ∷ []) }

@@ -7,14 +7,14 @@ ghost use Rattle.std.specs.Option.{option_copied, option_to_list};
 ghost use Rattle.rdf_terms.specs.declared.term.Term.{Term};
 ghost use Rattle.rdf_terms.specs.declared.term.Term.TheVariants as terms;
 ghost use Rattle.rdf_terms.specs.declared.term.Triple.{Triple};
-ghost use Rattle.rdf_terms.specs.Order.{term_order, triple_order};
 ghost use Rattle.control_reader.specs.Controls.{Says};
 ghost use Rattle.control_reader.specs.Parts.{borrowed_triples, objects_in, is_about_in, has_about, abouts, abouts_of, control_of, AreControls, triple};
 ghost use Rattle.control_reader.specs.Contents.{page_triples};
 ghost use Rattle.control_reader.specs.Marks.{marked};
-ghost use Rattle.control_reader.specs.Ranges.{holds_term, goes_before, is_object_before};
+ghost use Rattle.control_reader.specs.Ranges.{holds_term, goes_before, is_object_before, length_order, length_triple_order};
 
 use crate::contents::add_mark;
+use crate::order::{compare, compare_pair, compare_triples};
 use crate::topic::GraphTopic;
 use rdf_terms::{Quad, Term, Triple};
 use std::alloc::Global;
@@ -23,8 +23,9 @@ use std::collections::BTreeSet;
 use std::marker::Model;
 use tpf_base::OutOfMemory;
 
-/// The triples of the control quads: those of the named graphs that are about the topic. Each once, in the order of
-/// triples, so that what has one subject and one predicate stands side by side.
+/// The triples of the control quads: those of the named graphs that are about the topic. Each once, in the order of the
+/// lengths of their terms, so that what has one subject and one predicate stands side by side, and most terms are told
+/// apart without a look at their bytes.
 #[derive(Drop)]
 pub(crate) struct Controls<'a> {
     quads: &'a [Quad],
@@ -123,7 +124,7 @@ pub(crate) fn split_quads<'a>(
     ensures marks { IfOk result (λ s. marked quads.entry.now s.marks.items ≡ page_triples quads.entry.now) }
 {
     let graphs = graphs_about(alloc, topics, topic)?;
-    let mut controls = Vec::new(alloc);
+    let mut controls = Vec::with_capacity(alloc, quads.len())?;
     let mut seen = BTreeSet::new(alloc);
     let mut marks = Vec::with_capacity(alloc, quads.len())?;
     for quad in quads {
@@ -137,7 +138,7 @@ pub(crate) fn split_quads<'a>(
 fn sorted_controls<'a>(mut controls: Vec<&'a Triple>) -> Vec<&'a Triple>
     ensures { (quads : List Quad) (topic : Term) (text : List ℕ) → borrowed_triples controls.entry.items ≡ filter_map (control_of quads topic) quads → topic ≡ terms.Iri text → AreControls quads text (borrowed_triples result.items) }
 {
-    controls.sort_unstable();
+    controls.sort_unstable_by(|a, b| compare_triples(a, b));
     controls.dedup();
     controls
 }
@@ -146,11 +147,7 @@ fn sorted_controls<'a>(mut controls: Vec<&'a Triple>) -> Vec<&'a Triple>
 fn goes_before(triple: &Triple, subject: &Term, predicate: &Term, with_equal: bool) -> bool
     ensures { result ≡ goes_before with_equal subject.now predicate.now triple.now }
 {
-    match triple
-        .subject
-        .cmp(subject)
-        .then(triple.predicate.cmp(predicate))
-    {
+    match compare_pair(triple, subject, predicate) {
         Ordering::Less => true,
         Ordering::Equal => with_equal,
         Ordering::Greater => false,
@@ -159,7 +156,7 @@ fn goes_before(triple: &Triple, subject: &Term, predicate: &Term, with_equal: bo
 
 /// How many triples stand before those with this subject and predicate, these counted where that is asked.
 fn place(triples: &[&Triple], subject: &Term, predicate: &Term, with_equal: bool) -> usize
-    requires { IsStrictlySortedBy triple_order (borrowed_triples triples.now) }
+    requires { IsStrictlySortedBy length_triple_order (borrowed_triples triples.now) }
     ensures within { result ≤ length triples.now }
     ensures before { (k : ℕ) (d : Bor Triple) → k < result → goes_before with_equal subject.now predicate.now (slice_index_or triples.now k d).now ≡ true }
     ensures behind { (k : ℕ) (d : Bor Triple) → result ≤ k → k < length triples.now → goes_before with_equal subject.now predicate.now (slice_index_or triples.now k d).now ≡ false }
@@ -169,8 +166,8 @@ fn place(triples: &[&Triple], subject: &Term, predicate: &Term, with_equal: bool
 
 /// The triples with this subject and predicate, in the order of their objects.
 fn range_of<'b, 'a>(triples: &'b [&'a Triple], subject: &Term, predicate: &Term) -> &'b [&'a Triple]
-    requires { IsStrictlySortedBy triple_order (borrowed_triples triples.now) }
-    ensures ascending { IsStrictlySortedBy term_order (objects_in result.now) }
+    requires { IsStrictlySortedBy length_triple_order (borrowed_triples triples.now) }
+    ensures ascending { IsStrictlySortedBy length_order (objects_in result.now) }
     ensures members { (object : Term) → Contains (objects_in result.now) object ↔ Contains (borrowed_triples triples.entry.now) (triple subject.now predicate.now object) }
 {
     let from = place(triples, subject, predicate, false);
@@ -181,12 +178,12 @@ fn range_of<'b, 'a>(triples: &'b [&'a Triple], subject: &Term, predicate: &Term)
 fn is_object_before(triple: &Triple, object: &Term) -> bool
     ensures { result ≡ is_object_before object.now triple.now }
 {
-    matches!(triple.object.cmp(object), Ordering::Less)
+    matches!(compare(&triple.object, object), Ordering::Less)
 }
 
 /// Whether one of the triples, which stand in the order of their objects, has this object.
 pub(crate) fn has_object(triples: &[&Triple], object: &Term) -> bool
-    requires { IsStrictlySortedBy term_order (objects_in triples.now) }
+    requires { IsStrictlySortedBy length_order (objects_in triples.now) }
     ensures { IsTrue result ↔ Contains (objects_in triples.now) object.now }
 {
     let place = triples.partition_point(|triple| is_object_before(triple, object));
@@ -225,7 +222,7 @@ impl<'a> Controls<'a> {
 
     /// The control triples with this subject and predicate, in the order of their objects.
     pub(crate) fn objects(&self, subject: &Term, predicate: &Term) -> &[&'a Triple]
-        ensures ascending { IsStrictlySortedBy term_order (objects_in result.now) }
+        ensures ascending { IsStrictlySortedBy length_order (objects_in result.now) }
         ensures members { (object : Term) → Contains (objects_in result.now) object ↔ Says self.now.quads self.now.topic subject.now predicate.now object }
     {
         range_of(self.triples.as_slice(), subject, predicate)

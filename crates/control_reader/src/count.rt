@@ -5,11 +5,11 @@ ghost use Rattle.std.specs.List.Sorted.{IsStrictlySortedBy};
 ghost use Rattle.std.specs.Char.{is_ascii_digit};
 ghost use Rattle.std.specs.Str.Parse.{digits_value};
 ghost use Rattle.rdf_terms.specs.declared.term.Term.{Term};
-ghost use Rattle.rdf_terms.specs.Order.{term_order};
 ghost use Rattle.control_reader.specs.Vocabulary.{total_items, void_triples};
 ghost use Rattle.control_reader.specs.Controls.{IsCountObject, is_count_text, IsNumber, IsCount, HasNoCount, HasBadCount};
 ghost use Rattle.control_reader.specs.Outcomes.{Answers};
 ghost use Rattle.control_reader.specs.Parts.{objects_in};
+ghost use Rattle.control_reader.specs.Ranges.{length_order};
 ghost use Rattle.control_reader.specs.Counts.{WhyNoCount};
 
 use crate::PageFault;
@@ -61,7 +61,7 @@ fn count_objects<'b, 'a>(
 ) -> &'b [&'a Triple]
     requires total { total.now ≡ total_items }
     requires triples { triples.now ≡ void_triples }
-    ensures ascending { IsStrictlySortedBy term_order (objects_in result.now) }
+    ensures ascending { IsStrictlySortedBy length_order (objects_in result.now) }
     ensures members { (object : Term) → Contains (objects_in result.now) object ↔ IsCountObject controls.entry.now.quads controls.entry.now.topic object }
 {
     let objects = controls.objects(controls.topic(), total);

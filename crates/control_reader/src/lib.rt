@@ -8,6 +8,7 @@ mod form;
 mod law;
 mod laws;
 mod link;
+mod order;
 mod page;
 mod read;
 mod topic;

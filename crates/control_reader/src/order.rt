@@ -1,0 +1,118 @@
+// The order of terms by the lengths of their texts.
+ghost use Rattle.std.specs.Prelude.{◌≡◌};
+ghost use Rattle.std.specs.Ordering.{ordering_then};
+ghost use Rattle.control_reader.specs.Ranges.{length_order, length_triple_order, text_length};
+
+use rdf_terms::{Term, Triple};
+use std::cmp::Ordering;
+
+/// The length of a term's own text.
+fn text_length(term: &Term) -> usize
+    ensures { result ≡ text_length term.now }
+{
+    match term {
+        Term::Iri(iri) => iri.as_str().len(),
+        Term::Blank(label) => label.as_str().len(),
+        Term::Literal { form, .. } => form.as_str().len(),
+    }
+}
+
+/// The shorter text comes first; the order of terms decides between texts of one length.
+#[tactic(auto, unfolding(crate::specs::Ranges::length_order))]
+pub(crate) fn compare(a: &Term, b: &Term) -> Ordering
+    ensures { result ≡ length_order a.now b.now }
+{
+    match text_length(a).cmp(&text_length(b)) {
+        Ordering::Less => Ordering::Less,
+        Ordering::Equal => a.cmp(b),
+        Ordering::Greater => Ordering::Greater,
+    }
+}
+
+/// Predicate, then object.
+fn compare_ends(a: &Triple, b: &Triple) -> Ordering
+    ensures { result ≡ ordering_then (length_order a.now.predicate b.now.predicate) (length_order a.now.object b.now.object) }
+{
+    match compare(&a.predicate, &b.predicate) {
+        Ordering::Less => Ordering::Less,
+        Ordering::Equal => compare(&a.object, &b.object),
+        Ordering::Greater => Ordering::Greater,
+    }
+}
+
+/// Subject, predicate, object.
+pub(crate) fn compare_triples(a: &Triple, b: &Triple) -> Ordering
+    ensures { result ≡ length_triple_order a.now b.now }
+{
+    match compare(&a.subject, &b.subject) {
+        Ordering::Less => Ordering::Less,
+        Ordering::Equal => compare_ends(a, b),
+        Ordering::Greater => Ordering::Greater,
+    }
+}
+
+/// The subject and the predicate of a triple beside these.
+pub(crate) fn compare_pair(triple: &Triple, subject: &Term, predicate: &Term) -> Ordering
+    ensures { result ≡ ordering_then (length_order triple.now.subject subject.now) (length_order triple.now.predicate predicate.now) }
+{
+    match compare(&triple.subject, subject) {
+        Ordering::Less => Ordering::Less,
+        Ordering::Equal => compare(&triple.predicate, predicate),
+        Ordering::Greater => Ordering::Greater,
+    }
+}
+
+/// A triple, as it is looked for in an ordered set.
+#[derive(Clone, Copy)]
+pub(crate) struct TripleKey<'a> {
+    pub(crate) triple: &'a Triple,
+}
+
+impl<'a> PartialEq for TripleKey<'a> {
+    ghost use Rattle.control_reader.specs.KeyLaws.{key_eq, key_per};
+
+    ghost eq = { key_eq };
+
+    ghost laws = { key_per };
+
+    fn eq(&self, other: &TripleKey<'a>) -> bool {
+        self.triple.same(other.triple)
+    }
+}
+
+impl<'a> Eq for TripleKey<'a> {
+    ghost use Rattle.control_reader.specs.KeyLaws.{key_equiv};
+
+    ghost laws = { key_equiv };
+}
+
+impl<'a> PartialOrd for TripleKey<'a> {
+    ghost use Rattle.std.specs.Ordering.{as_partial_cmp};
+    ghost use Rattle.control_reader.specs.KeyLaws.{key_order, key_partial};
+
+    ghost partial_cmp = { as_partial_cmp key_order };
+
+    ghost laws = { key_partial };
+
+    fn partial_cmp(&self, other: &TripleKey<'a>) -> Option<Ordering> {
+        Some(self.cmp(other))
+    }
+}
+
+/// The shorter text comes first, of the subjects, then of the predicates, then of the objects.
+impl<'a> Ord for TripleKey<'a> {
+    ghost use Rattle.std.proofs.Common.{refl};
+    ghost use Rattle.control_reader.specs.KeyLaws.{key_order, key_total, key_ties};
+
+    ghost cmp = { key_order };
+
+    ghost total = { key_total };
+
+    ghost matches_partial_cmp = { λ _ _. refl };
+
+    ghost matches_eq = { key_ties };
+
+    fn cmp(&self, other: &TripleKey<'a>) -> Ordering {
+        compare_triples(self.triple, other.triple)
+    }
+}
