@@ -324,16 +324,46 @@ fn each_call_that_fails_ends_the_exchange(rt: HostRuntime) -> Result<(), Fail> {
     Ok(())
 }
 
+/// Adds the letter x up to so many bytes.
+fn fill(text: &mut String, most: usize) -> Result<(), Fail> {
+    for _ in text.len()..most {
+        text.push('x')?;
+    }
+    Ok(())
+}
+
+/// Adds so many chunks of one byte, each behind a line of 1000 bytes.
+fn add_chunks(reply: &mut String, chunks: usize) -> Result<(), Fail> {
+    for _ in 0..chunks {
+        let begins = reply.len();
+        reply.push_str("1;")?;
+        fill(reply, begins.saturating_add(998))?;
+        reply.push_str("\r\na\r\n")?;
+    }
+    Ok(())
+}
+
 /// A reply of so many chunks of one byte, each behind a line of 1000 bytes.
 fn padded(alloc: Global, chunks: usize) -> Result<String, Fail> {
     let mut reply = with_ok(alloc, "Transfer-Encoding: chunked\r\n\r\n")?;
-    for _ in 0..chunks {
-        reply.push_str("1;")?;
-        for _ in 0..996 {
-            reply.push('x')?;
-        }
-        reply.push_str("\r\na\r\n")?;
-    }
+    add_chunks(&mut reply, chunks)?;
+    Ok(reply)
+}
+
+/// A reply that is as long as one can be before it is too long, where a body may have 1054 bytes: a
+/// head of 65536 bytes, 1054 chunks of one byte, whose lines and that of the last chunk have the
+/// 1057008 bytes which may stand there, and 65536 bytes of trailers.
+fn longest(alloc: Global) -> Result<String, Fail> {
+    let mut reply = with_ok(alloc, "Transfer-Encoding: chunked\r\nX: ")?;
+    fill(&mut reply, 65_532)?;
+    reply.push_str("\r\n\r\n")?;
+    add_chunks(&mut reply, 1054)?;
+    let last = reply.len();
+    reply.push_str("0;")?;
+    fill(&mut reply, last.saturating_add(898))?;
+    reply.push_str("\r\n")?;
+    let trailers = reply.len().saturating_add(65_536);
+    fill(&mut reply, trailers)?;
     Ok(reply)
 }
 
@@ -351,13 +381,24 @@ fn is_cut(answer: Result<Reply, ExchangeFault>, bytes: &[u8]) -> bool {
     }
 }
 
+/// How many bytes are kept of a reply that is too long.
+fn kept_of(answer: Result<Reply, ExchangeFault>) -> Option<usize> {
+    match answer {
+        Err(
+            ExchangeFault::Bad {
+                fault: ReplyFault::TooLong,
+                received,
+            },
+        ) => Some(received.as_slice().len()),
+        _ => None,
+    }
+}
+
 /// Whether the reply is too long, and no more than so many bytes are kept.
 fn is_too_long(answer: Result<Reply, ExchangeFault>, most: usize) -> bool {
-    match answer {
-        Err(ExchangeFault::Bad { fault, received }) => {
-            fault == ReplyFault::TooLong && received.as_slice().len() <= most
-        }
-        _ => false,
+    match kept_of(answer) {
+        Some(kept) => kept <= most,
+        None => false,
     }
 }
 
@@ -382,6 +423,18 @@ fn a_reply_padded_too_much_is_too_long(rt: HostRuntime) -> Result<(), Fail> {
     let reply = padded(rt.alloc(), 1055)?;
     let answer = answer_to(rt.alloc(), 2000, reply.as_str())?;
     assert!(rt; is_too_long(answer, reply.len()));
+    Ok(())
+}
+
+#[test]
+fn no_more_is_kept_than_the_bound_and_as_much_can_be(rt: HostRuntime) -> Result<(), Fail> {
+    let alloc = rt.alloc();
+    let reply = longest(alloc)?;
+    let mut behind = String::new(alloc);
+    fill(&mut behind, 8192)?;
+    let mut wire = wire(alloc, &[reply.as_bytes(), behind.as_bytes()], true, 65536)?;
+    let kept = kept_of(ended(alloc, 1054, &mut wire)?.answer);
+    assert_eq!(rt; kept, Some(9 * 1054 + 1_187_840));
     Ok(())
 }
 

@@ -1,0 +1,161 @@
+// The cases. Each prints what was seen: the stored output of this program says what is to be seen.
+
+use crate::answers::show;
+use crate::programs::{Server, serve, start};
+use std::io::{Read, Write};
+use std::net::{Ipv4Addr, Net, TcpStream};
+use std::process::{Child, OpenProcess, Output, Processes};
+use std::rt::Files;
+use std::{fs, io};
+
+/// What a whole answer to a query ends with.
+const END_OF_ANSWER: &[u8] = b"]}}\n";
+
+/// More bytes than the head of an answer has, and fewer than that with the rows of a page.
+const SOME: usize = 1024;
+
+/// Prints how a program ended and what it said. It is a fault where the status is not the one that is
+/// wanted, so that nobody waits for what does not come.
+fn tell<R: Print>(rt: &R, who: &str, ended: &Output, wanted: i32) -> io::Result<()> {
+    let code = ended.status.code();
+    match code {
+        Some(number) => println!(rt; "{who}: status {number}")?,
+        None => println!(rt; "{who}: ended by a signal")?,
+    }
+    rt.write_all(ended.stderr.as_slice())?;
+    if code == Some(wanted) {
+        Ok(())
+    } else {
+        Err(io::Error::other("a program ended with another status"))
+    }
+}
+
+/// Asks a server the query of a file, one request at a time, and prints the answer.
+fn ask<R: Processes + Files + Print + AllocGlobal>(
+    rt: &R,
+    base: &str,
+    query: &str,
+) -> io::Result<()> {
+    let client = start(rt, &["query", base, query], &["--links", "1"])?;
+    let ended = client.wait_with_output(rt.alloc())?;
+    show(rt, ended.stdout.as_slice())?;
+    tell(rt, "query", &ended, 0)
+}
+
+/// Has a server read its file again, and prints the body of what it answers.
+fn reload<R: Net + Print + AllocGlobal>(rt: &R, port: u16) -> io::Result<()> {
+    let mut stream = TcpStream::connect(rt, (Ipv4Addr::LOCALHOST, port))?;
+    stream.write_all(
+        b"POST /reload HTTP/1.1\r\nHost: localhost\r\nContent-Length: 0\r\nConnection: close\r\n\r\n",
+    )?;
+    let answer = io::read_to_string(rt.alloc(), stream)?;
+    match answer.as_str().split_once("\r\n\r\n") {
+        Some((_, body)) => print!(rt; "reload: {body}"),
+        None => Err(io::Error::other("the answer to a reload has no body")),
+    }
+}
+
+/// Waits for the end of a server and prints how it ended. Where something went wrong before, the server
+/// is ended, since it may wait for connections that do not come.
+fn end<R: Print + AllocGlobal, P: OpenProcess + Drop>(
+    rt: &R,
+    server: Server<P>,
+    so_far: io::Result<()>,
+) -> io::Result<()> {
+    let Server { mut child, .. } = server;
+    if so_far.is_err() {
+        let _ = child.kill();
+    }
+    let ended = child.wait_with_output(rt.alloc())?;
+    so_far?;
+    tell(rt, "serve", &ended, 0)
+}
+
+/// A query that is answered by a server, which ends once its one connection has.
+fn query<R: Processes + Files + Net + Print + AllocGlobal>(rt: &R) -> io::Result<()> {
+    println!(rt; "a query")?;
+    let server = serve(rt, "people.nq", &["--stop-after", "1"])?;
+    let asked = ask(rt, server.base.as_str(), "friends.rq");
+    end(rt, server, asked)
+}
+
+/// A query, new data, a reload, and the query again.
+fn ask_around_a_reload<R: Processes + Files + Net + Print + AllocGlobal>(
+    rt: &R,
+    base: &str,
+    port: u16,
+) -> io::Result<()> {
+    ask(rt, base, "friends.rq")?;
+    fs::copy(rt, "more_people.nq", "next.nq")?;
+    fs::rename(rt, "next.nq", "served.nq")?;
+    reload(rt, port)?;
+    ask(rt, base, "friends.rq")
+}
+
+/// A server whose data change between two queries.
+fn reload_between_queries<R: Processes + Files + Net + Print + AllocGlobal>(
+    rt: &R,
+) -> io::Result<()> {
+    println!(rt; "a reload between two queries")?;
+    fs::copy(rt, "people.nq", "served.nq")?;
+    let server = serve(
+        rt,
+        "served.nq",
+        &["--reload", "/reload", "--stop-after", "3"],
+    )?;
+    let asked = ask_around_a_reload(rt, server.base.as_str(), server.port);
+    end(rt, server, asked)
+}
+
+/// Waits until a client has written some bytes.
+fn read_some<P: OpenProcess>(client: &mut Child<P>) -> io::Result<()> {
+    let mut bytes = [0u8; SOME];
+    match client.stdout.as_mut() {
+        Some(output) => output.read_exact(&mut bytes),
+        None => Ok(()),
+    }
+}
+
+/// Asks for all triples, and has the server read its file again when rows of the first page have come. The
+/// client can't have asked for the last page by then: its answer is longer than what a pipe holds, and
+/// nobody reads it until the reload is done.
+fn ask_across_a_reload<R: Processes + Files + Net + Print + AllocGlobal>(
+    rt: &R,
+    base: &str,
+    port: u16,
+) -> io::Result<()> {
+    let mut client = start(rt, &["query", base, "all.rq"], &["--links", "1"])?;
+    read_some(&mut client)?;
+    reload(rt, port)?;
+    let ended = client.wait_with_output(rt.alloc())?;
+    if ended.stdout.as_slice().ends_with(END_OF_ANSWER) {
+        println!(rt; "the answer is whole")?;
+    } else {
+        println!(rt; "the answer breaks off")?;
+    }
+    tell(rt, "query", &ended, 11)
+}
+
+/// A server whose data change while a query asks for them.
+fn reload_between_pages<R: Processes + Files + Net + Print + AllocGlobal>(
+    rt: &R,
+) -> io::Result<()> {
+    println!(rt; "a reload between two pages of a query")?;
+    let made = start(rt, &["make", "2000"], &[])?.wait_with_output(rt.alloc())?;
+    tell(rt, "make", &made, 0)?;
+    fs::write(rt, "persons.nq", &made.stdout)?;
+    let server = serve(
+        rt,
+        "persons.nq",
+        &["--reload", "/reload", "--stop-after", "2"],
+    )?;
+    let asked = ask_across_a_reload(rt, server.base.as_str(), server.port);
+    end(rt, server, asked)
+}
+
+/// Runs every case.
+pub fn run_cases<R: Processes + Files + Net + Print + AllocGlobal>(rt: &R) -> io::Result<()> {
+    query(rt)?;
+    reload_between_queries(rt)?;
+    reload_between_pages(rt)
+}

@@ -1,0 +1,55 @@
+//! The program as a process: the words, files, streams and sockets that the system gives it, handed to
+//! the top call.
+#![tactic(auto)]
+
+use std::alloc::Global;
+use std::env::Env;
+use std::net::Net;
+use std::process::ExitCode;
+use std::rt::Files;
+use std::sync::Wait;
+use std::time::Clock;
+use std::{env, io};
+use tpf_cli::{Inside, run};
+use wire_real::{DiskShelf, NetWire, StreamSink, Streams};
+
+/// The words with which the process was started, its name the first.
+///
+/// It fails with `OutOfMemory` where there is no memory for them, and with another kind where one of
+/// them is no text.
+pub fn words_of<R: Env + AllocGlobal>(rt: &R) -> io::Result<Vec<String>> {
+    let words = env::args(rt)?;
+    Ok(words.collect(rt.alloc())?)
+}
+
+/// Runs the program with the words of the process over the files, the standard output and error, and
+/// the sockets of the system.
+///
+/// The status is that of the top call; 8 where there is no memory for the words, and 2 where one of them
+/// is no text.
+pub fn run_process<R: Env + Files + Streams + Net + Clock + Wait + AllocGlobal>(
+    rt: &R,
+) -> ExitCode {
+    let words = match words_of(rt) {
+        Ok(words) => words,
+        Err(error) if error.kind() == io::ErrorKind::OutOfMemory => return ExitCode::from(8),
+        Err(_) => return ExitCode::from(2),
+    };
+    let alloc: Global = rt.alloc();
+    let mut shelf = DiskShelf::new(rt);
+    let mut wire = NetWire::new(rt);
+    let mut out = StreamSink::output(rt);
+    let mut err = StreamSink::errors(rt);
+    let mut inside = Inside::Unused;
+    let status = run(
+        rt,
+        alloc,
+        &words,
+        &mut shelf,
+        &mut wire,
+        &mut out,
+        &mut err,
+        &mut inside,
+    );
+    ExitCode::from(status)
+}
