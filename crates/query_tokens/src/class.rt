@@ -42,6 +42,38 @@ pub enum Class {
     Other,
 }
 
+// The sets of classes that the productions name, each as the one before it with more.
+
+macro_rules! letter {
+    () => {
+        Class::LetterE | Class::Hex | Class::Letter
+    };
+}
+
+macro_rules! letter_or_digit {
+    () => {
+        letter!() | Class::Digit
+    };
+}
+
+macro_rules! name_start {
+    () => {
+        letter_or_digit!() | Class::Base | Class::Underscore
+    };
+}
+
+macro_rules! variable_char {
+    () => {
+        name_start!() | Class::Extending
+    };
+}
+
+macro_rules! name_char {
+    () => {
+        variable_char!() | Class::Minus
+    };
+}
+
 impl Class {
     /// Whether it is this class.
     pub fn is(self, other: Class) -> bool
@@ -61,99 +93,49 @@ impl Class {
     pub fn is_letter(self) -> bool
         ensures { result ≡ is_in letter self }
     {
-        matches!(self, Class::LetterE | Class::Hex | Class::Letter)
+        matches!(self, letter!())
     }
 
     /// Whether it is an ASCII letter or digit.
     pub fn is_letter_or_digit(self) -> bool
         ensures { result ≡ is_in letter_or_digit self }
     {
-        matches!(
-            self,
-            Class::Digit | Class::LetterE | Class::Hex | Class::Letter
-        )
+        matches!(self, letter_or_digit!())
     }
 
     /// Whether it is PN_CHARS_U or a digit.
     pub fn is_name_start(self) -> bool
         ensures { result ≡ is_in name_start self }
     {
-        matches!(
-            self,
-            Class::Underscore
-                | Class::Digit
-                | Class::LetterE
-                | Class::Hex
-                | Class::Letter
-                | Class::Base
-        )
+        matches!(self, name_start!())
     }
 
     /// Whether it is PN_CHARS but `-`.
     pub fn is_variable_char(self) -> bool
         ensures { result ≡ is_in variable_char self }
     {
-        matches!(
-            self,
-            Class::Underscore
-                | Class::Digit
-                | Class::LetterE
-                | Class::Hex
-                | Class::Letter
-                | Class::Base
-                | Class::Extending
-        )
+        matches!(self, variable_char!())
     }
 
     /// Whether it is PN_CHARS.
     pub fn is_name_char(self) -> bool
         ensures { result ≡ is_in name_char self }
     {
-        matches!(
-            self,
-            Class::Underscore
-                | Class::Minus
-                | Class::Digit
-                | Class::LetterE
-                | Class::Hex
-                | Class::Letter
-                | Class::Base
-                | Class::Extending
-        )
+        matches!(self, name_char!())
     }
 
     /// Whether it is PN_CHARS_U, `:` or a digit.
     pub fn is_local_start(self) -> bool
         ensures { result ≡ is_in local_start self }
     {
-        matches!(
-            self,
-            Class::Underscore
-                | Class::Colon
-                | Class::Digit
-                | Class::LetterE
-                | Class::Hex
-                | Class::Letter
-                | Class::Base
-        )
+        matches!(self, name_start!() | Class::Colon)
     }
 
     /// Whether it is PN_CHARS or `:`.
     pub fn is_local_char(self) -> bool
         ensures { result ≡ is_in local_char self }
     {
-        matches!(
-            self,
-            Class::Underscore
-                | Class::Colon
-                | Class::Minus
-                | Class::Digit
-                | Class::LetterE
-                | Class::Hex
-                | Class::Letter
-                | Class::Base
-                | Class::Extending
-        )
+        matches!(self, name_char!() | Class::Colon)
     }
 
     /// Whether it is a hexadecimal digit.
