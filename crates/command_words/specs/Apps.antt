@@ -4,6 +4,8 @@ use Rattle.std.specs.Str.{bytes_eq}
 use Rattle.clap.specs.Words.{App, Rule, Row, new_app, new_rule, first_of, found_of, rows_of}
 use Rattle.clap.specs.declared.parser.matches.ArgMatches.{ArgMatches}
 use Rattle.clap.specs.declared.builder.ArgAction.TheVariants.{Set, SetTrue}
+use Rattle.command_words.specs.declared.arguments.Role.{Role}
+use Rattle.command_words.specs.declared.arguments.Role.TheVariants as roles
 use Rattle.command_words.specs.Words.{Form, Text, Kind, option, ends, refused, plain, Values, kind_of, is_among}
 
 abbrev pub option_rule : Text → Rule
@@ -14,6 +16,12 @@ flag_rule name = record (new_rule name) { long = Some name; action = Some SetTru
 
 abbrev pub positional_rule : Text → Rule
 positional_rule name = record (new_rule name) { action = Some Set }
+
+-- the rule of an argument by its role
+abbrev pub rule_of : Role → Text → Rule
+rule_of roles.Positional = positional_rule
+rule_of roles.Option = option_rule
+rule_of roles.Flag = flag_rule
 
 -- a command with no help and no version, all whose words are its arguments
 abbrev pub bare_app : App

@@ -1,5 +1,6 @@
 pub mod Apps
-pub mod Commands
+pub mod CommandNames
 pub mod CommandViews
+pub mod Commands
 pub mod Forms
 pub mod Words

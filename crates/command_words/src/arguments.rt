@@ -1,8 +1,8 @@
 // The arguments of a command, read by clap.
 ghost use Rattle.std.specs.Prelude.{◌≡◌, ◌≢◌, IfOk, Option, map, string_bytes, List, [], Ok, Err, true, false};
 ghost use Rattle.std.specs.Option.{option_map};
-ghost use Rattle.clap.specs.Words.{app_of, found_of, rows_of, matches_of, fault_of, with_rule, is_simple, is_simple_and_free};
-ghost use Rattle.command_words.specs.Apps.{option_rule, flag_rule, positional_rule, bare_app, app_of_form, with_rules, found_in, has_lone_dash, asks, HasFew};
+ghost use Rattle.clap.specs.Words.{app_of, found_of, rows_of, matches_of, fault_of, with_rule, is_simple_and_free};
+ghost use Rattle.command_words.specs.Apps.{rule_of, bare_app, app_of_form, with_rules, found_in, has_lone_dash, asks, HasFew};
 ghost use Rattle.command_words.specs.Words.{arguments, kind_of, is_among};
 ghost use Rattle.command_words.specs.Forms.{form_of, texts};
 
@@ -18,74 +18,40 @@ enum WordsFault {
     OutOfMemory,
 }
 
-fn with_positional<'a>(
-    command: Command<'a>,
-    alloc: Global,
-    name: &'a str,
-) -> Result<Command<'a>, AllocError>
-    ensures { IfOk result (λ c. app_of c ≡ with_rule (app_of command.entry) (positional_rule name.entry.now)) }
-{
-    command.arg(Arg::new(alloc, name).action(ArgAction::Set))
+/// What an argument is: one by its place, `--name value` or `--name`.
+#[derive(Clone, Copy, Debug, PartialEq, Eq)]
+enum Role {
+    Positional,
+    Option,
+    Flag,
 }
 
-fn with_positionals<'a>(
+fn with_argument<'a>(
     command: Command<'a>,
     alloc: Global,
-    names: &[&'a str],
+    role: Role,
+    name: &'a str,
 ) -> Result<Command<'a>, AllocError>
-    ensures { IfOk result (λ c. app_of c ≡ with_rules (app_of command.entry) (map positional_rule (texts names.now))) }
+    ensures { IfOk result (λ c. app_of c ≡ with_rule (app_of command.entry) (rule_of role name.entry.now)) }
 {
-    let mut command = command;
-    for name in names {
-        command = with_positional(command, alloc, name)?;
+    match role {
+        Role::Positional => command.arg(Arg::new(alloc, name).action(ArgAction::Set)),
+        Role::Option => command.arg(Arg::new(alloc, name).long(name).action(ArgAction::Set)),
+        Role::Flag => command.arg(Arg::new(alloc, name).long(name).action(ArgAction::SetTrue)),
     }
-    Ok(command)
 }
 
-fn with_option<'a>(
+fn with_arguments<'a>(
     command: Command<'a>,
     alloc: Global,
-    name: &'a str,
-) -> Result<Command<'a>, AllocError>
-    ensures { IfOk result (λ c. app_of c ≡ with_rule (app_of command.entry) (option_rule name.entry.now)) }
-{
-    command.arg(Arg::new(alloc, name).long(name).action(ArgAction::Set))
-}
-
-fn with_options<'a>(
-    command: Command<'a>,
-    alloc: Global,
+    role: Role,
     names: &[&'a str],
 ) -> Result<Command<'a>, AllocError>
-    ensures { IfOk result (λ c. app_of c ≡ with_rules (app_of command.entry) (map option_rule (texts names.now))) }
+    ensures { IfOk result (λ c. app_of c ≡ with_rules (app_of command.entry) (map (rule_of role) (texts names.now))) }
 {
     let mut command = command;
     for name in names {
-        command = with_option(command, alloc, name)?;
-    }
-    Ok(command)
-}
-
-fn with_flag<'a>(
-    command: Command<'a>,
-    alloc: Global,
-    name: &'a str,
-) -> Result<Command<'a>, AllocError>
-    ensures { IfOk result (λ c. app_of c ≡ with_rule (app_of command.entry) (flag_rule name.entry.now)) }
-{
-    command.arg(Arg::new(alloc, name).long(name).action(ArgAction::SetTrue))
-}
-
-fn with_flags<'a>(
-    command: Command<'a>,
-    alloc: Global,
-    names: &[&'a str],
-) -> Result<Command<'a>, AllocError>
-    ensures { IfOk result (λ c. app_of c ≡ with_rules (app_of command.entry) (map flag_rule (texts names.now))) }
-{
-    let mut command = command;
-    for name in names {
-        command = with_flag(command, alloc, name)?;
+        command = with_argument(command, alloc, role, name)?;
     }
     Ok(command)
 }
@@ -110,15 +76,14 @@ fn command_with<'a>(
     ensures { IfOk result (λ c. app_of c ≡ app_of_form (form_of positionals.now options.now flags.now)) }
 {
     let command = bare_command(alloc);
-    let command = with_positionals(command, alloc, positionals)?;
-    let command = with_options(command, alloc, options)?;
-    with_flags(command, alloc, flags)
+    let command = with_arguments(command, alloc, Role::Positional, positionals)?;
+    let command = with_arguments(command, alloc, Role::Option, options)?;
+    with_arguments(command, alloc, Role::Flag, flags)
 }
 
 /// The arguments that a command reads in words.
 fn matches_by<'a>(command: Command<'a>, words: &'a [String]) -> Result<ArgMatches<'a>, WordsFault>
-    requires simple { is_simple (app_of command) ≡ true }
-    requires free { is_simple_and_free (app_of command) ≡ true }
+    requires { is_simple_and_free (app_of command) ≡ true }
     ensures rows { IfOk result (λ m. rows_of (found_of m) ≡ matches_of (app_of command.entry) (map string_bytes words.entry.now)) }
     ensures taken { IfOk result (λ m. fault_of (app_of command.entry) (map string_bytes words.entry.now) ≡ []) }
     ensures refused { result ≡ Err WordsFault.Usage → fault_of (app_of command.entry) (map string_bytes words.entry.now) ≢ [] }
@@ -183,7 +148,6 @@ pub fn arguments_of<'a>(
     words: &'a [String],
 ) -> Result<Option<ArgMatches<'a>>, OutOfMemory>
     requires few { HasFew (texts positionals.now) }
-    requires simple { is_simple (app_of_form (form_of positionals.now options.now flags.now)) ≡ true }
     requires free { is_simple_and_free (app_of_form (form_of positionals.now options.now flags.now)) ≡ true }
     ensures { IfOk result (λ o. option_map found_in o ≡ arguments (form_of positionals.now options.now flags.now) (map string_bytes words.entry.now)) }
 {

@@ -2,7 +2,8 @@
 ghost use Rattle.std.specs.Prelude.{ℕ, ◌≡◌, ◌^◌, ◌≤◌, Option, Some, None, IfOk, IfSome, option_map, map, string_bytes};
 ghost use Rattle.command_words.specs.Apps.{found_in};
 ghost use Rattle.command_words.specs.Words.{arguments};
-ghost use Rattle.command_words.specs.Commands.{local_form, query_form, serve_form, make_form, number_in, client_in, choice_in, page_in, local_with, local_from, query_with, query_from, serve_with, serve_from, make_from, local_of, query_of, serve_of, make_of, command_by, command_of};
+ghost use Rattle.command_words.specs.Commands.{words_of, number_in, client_in, choice_in, page_in, local_with, local_from, query_with, query_from, serve_with, serve_from, make_from, command_by, command_of};
+ghost use Rattle.command_words.specs.CommandNames.{form_by, from_by};
 ghost use Rattle.command_words.specs.CommandViews.{command_view};
 
 use crate::arguments::arguments_of;
@@ -226,111 +227,86 @@ static SERVE_OPTIONS: [&str; 5] = ["base", "page", "graph", "stop-after", "reloa
 
 static MAKE_OPTIONS: [&str; 1] = ["run"];
 
-#[tactic(auto, using(crate::proofs::Shapes::local_is_simple, crate::proofs::Shapes::local_is_free), unfolding(crate::specs::Commands::local_form))]
-fn local_arguments<'a>(
-    alloc: Global,
-    words: &'a [String],
-) -> Result<Option<ArgMatches<'a>>, OutOfMemory>
-    ensures { IfOk result (λ o. option_map found_in o ≡ arguments local_form (map string_bytes words.entry.now)) }
-{
-    arguments_of(
-        alloc,
-        FILE_AND_QUERY.as_slice(),
-        LOCAL_OPTIONS.as_slice(),
-        UNION.as_slice(),
-        words,
-    )
+/// A command of the program.
+#[derive(Clone, Copy, Debug, PartialEq, Eq)]
+enum Name {
+    Local,
+    Query,
+    Serve,
+    Make,
 }
 
-#[tactic(auto, using(crate::proofs::Shapes::query_is_simple, crate::proofs::Shapes::query_is_free), unfolding(crate::specs::Commands::query_form))]
-fn query_arguments<'a>(
+/// The arguments of a command in the words after its name.
+#[tactic(auto, using(crate::proofs::Shapes::local_is_free, crate::proofs::Shapes::query_is_free, crate::proofs::Shapes::serve_is_free, crate::proofs::Shapes::make_is_free), unfolding(crate::specs::Commands::local_form, crate::specs::Commands::query_form, crate::specs::Commands::serve_form, crate::specs::Commands::make_form))]
+fn arguments_by<'a>(
     alloc: Global,
+    name: Name,
     words: &'a [String],
 ) -> Result<Option<ArgMatches<'a>>, OutOfMemory>
-    ensures { IfOk result (λ o. option_map found_in o ≡ arguments query_form (map string_bytes words.entry.now)) }
+    ensures { IfOk result (λ o. option_map found_in o ≡ arguments (form_by name) (map string_bytes words.entry.now)) }
 {
-    arguments_of(
-        alloc,
-        URL_AND_QUERY.as_slice(),
-        CLIENT_OPTIONS.as_slice(),
-        NONE.as_slice(),
-        words,
-    )
-}
-
-#[tactic(auto, using(crate::proofs::Shapes::serve_is_simple, crate::proofs::Shapes::serve_is_free), unfolding(crate::specs::Commands::serve_form))]
-fn serve_arguments<'a>(
-    alloc: Global,
-    words: &'a [String],
-) -> Result<Option<ArgMatches<'a>>, OutOfMemory>
-    ensures { IfOk result (λ o. option_map found_in o ≡ arguments serve_form (map string_bytes words.entry.now)) }
-{
-    arguments_of(
-        alloc,
-        FILE.as_slice(),
-        SERVE_OPTIONS.as_slice(),
-        UNION.as_slice(),
-        words,
-    )
-}
-
-#[tactic(auto, using(crate::proofs::Shapes::make_is_simple, crate::proofs::Shapes::make_is_free), unfolding(crate::specs::Commands::make_form))]
-fn make_arguments<'a>(
-    alloc: Global,
-    words: &'a [String],
-) -> Result<Option<ArgMatches<'a>>, OutOfMemory>
-    ensures { IfOk result (λ o. option_map found_in o ≡ arguments make_form (map string_bytes words.entry.now)) }
-{
-    arguments_of(
-        alloc,
-        COUNT.as_slice(),
-        MAKE_OPTIONS.as_slice(),
-        NONE.as_slice(),
-        words,
-    )
-}
-
-#[tactic(auto, unfolding(crate::specs::Commands::local_of))]
-fn local_of<'a>(alloc: Global, words: &'a [String]) -> Result<Option<Command<'a>>, OutOfMemory>
-    ensures { IfOk result (λ o. option_map command_view o ≡ local_of (map string_bytes words.entry.now)) }
-{
-    match local_arguments(alloc, words)? {
-        Some(matches) => local_from(alloc, &matches),
-        None => Ok(None),
+    match name {
+        Name::Local => arguments_of(
+            alloc,
+            FILE_AND_QUERY.as_slice(),
+            LOCAL_OPTIONS.as_slice(),
+            UNION.as_slice(),
+            words,
+        ),
+        Name::Query => arguments_of(
+            alloc,
+            URL_AND_QUERY.as_slice(),
+            CLIENT_OPTIONS.as_slice(),
+            NONE.as_slice(),
+            words,
+        ),
+        Name::Serve => arguments_of(
+            alloc,
+            FILE.as_slice(),
+            SERVE_OPTIONS.as_slice(),
+            UNION.as_slice(),
+            words,
+        ),
+        Name::Make => arguments_of(
+            alloc,
+            COUNT.as_slice(),
+            MAKE_OPTIONS.as_slice(),
+            NONE.as_slice(),
+            words,
+        ),
     }
 }
 
-#[tactic(auto, unfolding(crate::specs::Commands::query_of))]
-fn query_of<'a>(alloc: Global, words: &'a [String]) -> Result<Option<Command<'a>>, OutOfMemory>
-    ensures { IfOk result (λ o. option_map command_view o ≡ query_of (map string_bytes words.entry.now)) }
+fn command_from<'a>(
+    alloc: Global,
+    name: Name,
+    matches: &ArgMatches<'a>,
+) -> Result<Option<Command<'a>>, OutOfMemory>
+    ensures { IfOk result (λ o. option_map command_view o ≡ from_by name (found_in matches.now)) }
 {
-    match query_arguments(alloc, words)? {
-        Some(matches) => query_from(alloc, &matches),
-        None => Ok(None),
+    match name {
+        Name::Local => local_from(alloc, matches),
+        Name::Query => query_from(alloc, matches),
+        Name::Serve => serve_from(alloc, matches),
+        Name::Make => Ok(make_from(matches)),
     }
 }
 
-#[tactic(auto, unfolding(crate::specs::Commands::serve_of))]
-fn serve_of<'a>(alloc: Global, words: &'a [String]) -> Result<Option<Command<'a>>, OutOfMemory>
-    ensures { IfOk result (λ o. option_map command_view o ≡ serve_of (map string_bytes words.entry.now)) }
+fn command_named<'a>(
+    alloc: Global,
+    name: Name,
+    words: &'a [String],
+) -> Result<Option<Command<'a>>, OutOfMemory>
+    ensures { IfOk result (λ o. option_map command_view o ≡ words_of (form_by name) (from_by name) (map string_bytes words.entry.now)) }
 {
-    match serve_arguments(alloc, words)? {
-        Some(matches) => serve_from(alloc, &matches),
-        None => Ok(None),
-    }
-}
-
-#[tactic(auto, unfolding(crate::specs::Commands::make_of))]
-fn make_of<'a>(alloc: Global, words: &'a [String]) -> Result<Option<Command<'a>>, OutOfMemory>
-    ensures { IfOk result (λ o. option_map command_view o ≡ make_of (map string_bytes words.entry.now)) }
-{
-    match make_arguments(alloc, words)? {
-        Some(matches) => Ok(make_from(&matches)),
+    match arguments_by(alloc, name, words)? {
+        Some(matches) => command_from(alloc, name, &matches),
         None => Ok(None),
     }
 }
 
 /// The command of this name, with the words after it.
+#[tactic(auto, unfolding(crate::specs::Commands::local_of, crate::specs::Commands::query_of, crate::specs::Commands::serve_of, crate::specs::Commands::make_of))]
 fn command_by<'a>(
     alloc: Global,
     name: &str,
@@ -339,10 +315,10 @@ fn command_by<'a>(
     ensures { IfOk result (λ o. option_map command_view o ≡ command_by name.now (map string_bytes words.entry.now)) }
 {
     match name {
-        "local" => local_of(alloc, words),
-        "query" => query_of(alloc, words),
-        "serve" => serve_of(alloc, words),
-        "make" => make_of(alloc, words),
+        "local" => command_named(alloc, Name::Local, words),
+        "query" => command_named(alloc, Name::Query, words),
+        "serve" => command_named(alloc, Name::Serve, words),
+        "make" => command_named(alloc, Name::Make, words),
         _ => Ok(None),
     }
 }

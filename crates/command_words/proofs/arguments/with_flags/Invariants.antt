@@ -1,8 +1,0 @@
-use Rattle.std.proofs.Common.{◌≡◌, map, take}
-use Rattle.clap.specs.Words.{app_of}
-use Rattle.command_words.specs.Apps.{flag_rule, with_rules}
-use Rattle.command_words.specs.Forms.{texts}
-use Rattle.command_words.proofs.arguments.with_flags.Given as goal
-
-abbrev pub invariant-loop-name : goal.invariant-loop-name
-invariant-loop-name l = app_of l.command ≡ with_rules (app_of l.initial.command) (map flag_rule (texts (take l.name-index l.names)))
