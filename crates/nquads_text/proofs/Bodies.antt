@@ -37,7 +37,7 @@ some_left n h = let some : nat_eq n 0 ≡ false = grind arith in rw some refl
 
 -- ---- IRIs
 
-iri_goes : (s u : Awaits) (i b : ℕ) (bs : List ℕ) → (is_item s && nat_eq b 62) ≡ false → iri_step s b ≡ Some u → iri_end s i (b ∷ bs) ≡ iri_end u (i + 1) bs
+pub iri_goes : (s u : Awaits) (i b : ℕ) (bs : List ℕ) → (is_item s && nat_eq b 62) ≡ false → iri_step s b ≡ Some u → iri_end s i (b ∷ bs) ≡ iri_end u (i + 1) bs
 iri_goes s u i b bs z e = not_here (is_item s && nat_eq b 62) i (iri_step s b >>= λ t. iri_end t (i + 1) bs) z ∙ ap (λ (o : Option Awaits). o >>= λ t. iri_end t (i + 1) bs) e
 
 iri_hex : (more b : ℕ) → is_hex b ≡ true → iri_step (Digits more) b ≡ Some (digits_left more)
@@ -56,7 +56,7 @@ iri_digits (b ∷ digits) n i rest d =
     let place : (i + 1) + (n - 1) ≡ i + n = omega arith in
     ap (λ (s : Awaits). iri_end s i (b ∷ (digits ++ rest))) (some_left n some) ∙ iri_goes (Digits (n - 1)) (digits_left (n - 1)) i b (digits ++ rest) refl (iri_hex (n - 1) b p.0) ∙ more ∙ ap (λ (k : ℕ). iri_end Item k rest) place
 
-iri_not : (b : ℕ) → is_iri_byte b ≡ true → (nat_eq b 62 ≡ false) × (nat_eq b 92 ≡ false)
+pub iri_not : (b : ℕ) → is_iri_byte b ≡ true → (nat_eq b 62 ≡ false) × (nat_eq b 92 ≡ false)
 iri_not b h = (grind (arith, h), grind (arith, h))
 
 iri_numeric : (item digits : List ℕ) (i : ℕ) (rest : List ℕ) → ((item ≡ 92 ∷ 117 ∷ digits) × AreDigits 4 digits) ⊎ ((item ≡ 92 ∷ 85 ∷ digits) × AreDigits 8 digits) → iri_end Item i (item ++ rest) ≡ iri_end Item (i + length item) rest

@@ -15,7 +15,7 @@ use Rattle.nquads_text.proofs.Bodies.{not_here, plain_step, take_front, drop_fro
 
 -- ---- forms
 
-form_goes : (s u : Awaits) (i b : ℕ) (bs : List ℕ) → (is_item s && nat_eq b 34) ≡ false → form_step s b ≡ Some u → form_end s i (b ∷ bs) ≡ form_end u (i + 1) bs
+pub form_goes : (s u : Awaits) (i b : ℕ) (bs : List ℕ) → (is_item s && nat_eq b 34) ≡ false → form_step s b ≡ Some u → form_end s i (b ∷ bs) ≡ form_end u (i + 1) bs
 form_goes s u i b bs z e = not_here (is_item s && nat_eq b 34) i (form_step s b >>= λ t. form_end t (i + 1) bs) z ∙ ap (λ (o : Option Awaits). o >>= λ t. form_end t (i + 1) bs) e
 
 form_hex : (more b : ℕ) → is_hex b ≡ true → form_step (Digits more) b ≡ Some (digits_left more)
@@ -34,7 +34,7 @@ form_digits (b ∷ digits) n i rest d =
     let place : (i + 1) + (n - 1) ≡ i + n = omega arith in
     ap (λ (s : Awaits). form_end s i (b ∷ (digits ++ rest))) (some_left n some) ∙ form_goes (Digits (n - 1)) (digits_left (n - 1)) i b (digits ++ rest) refl (form_hex (n - 1) b p.0) ∙ more ∙ ap (λ (k : ℕ). form_end Item k rest) place
 
-form_not : (b : ℕ) → is_form_byte b ≡ true → (nat_eq b 34 ≡ false) × (nat_eq b 92 ≡ false)
+pub form_not : (b : ℕ) → is_form_byte b ≡ true → (nat_eq b 34 ≡ false) × (nat_eq b 92 ≡ false)
 form_not b h = (grind (arith, h), grind (arith, h))
 
 form_numeric : (item digits : List ℕ) (i : ℕ) (rest : List ℕ) → ((item ≡ 92 ∷ 117 ∷ digits) × AreDigits 4 digits) ⊎ ((item ≡ 92 ∷ 85 ∷ digits) × AreDigits 8 digits) → form_end Item i (item ++ rest) ≡ form_end Item (i + length item) rest

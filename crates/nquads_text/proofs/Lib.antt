@@ -20,3 +20,5 @@ pub mod FedLaws
 pub mod Utf8
 pub mod Written
 pub mod EndedLaws
+pub mod Loads
+pub mod Plain

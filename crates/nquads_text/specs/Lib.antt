@@ -12,3 +12,4 @@ pub mod Lines
 pub mod Feed
 pub mod Pieces
 pub mod Laws
+pub mod Runs

@@ -4,6 +4,7 @@
 mod escape;
 mod fault;
 mod feed;
+mod lanes;
 mod line;
 mod loose;
 mod raw;

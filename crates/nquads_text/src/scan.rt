@@ -1,5 +1,5 @@
 // How far the parts of a line reach.
-ghost use Rattle.std.specs.Prelude.{ℕ, ◌≡◌, ◌+◌, ◌<◌, ◌≤◌, length, false, true, Option, Some, None, MatchOption, IfSome};
+ghost use Rattle.std.specs.Prelude.{ℕ, ◌≡◌, ◌+◌, ◌<◌, ◌≤◌, length, drop, false, true, Option, Some, None, MatchOption, IfSome};
 ghost use Rattle.std.specs.Str.{is_utf8};
 ghost use Rattle.rdf_terms.specs.Iri.{is_iri_byte, is_letter, is_digit};
 ghost use Rattle.rdf_terms.specs.Label.{is_label};
@@ -8,6 +8,7 @@ ghost use Rattle.nquads_text.specs.Grammar.{is_blank, is_hex, is_form_byte, is_s
 ghost use Rattle.nquads_text.specs.declared.scan.Awaits.TheVariants.{Item};
 ghost use Rattle.nquads_text.specs.Scan.{skipped, opened, is_over, is_item, digits_left, digits_after, iri_step, form_step, iri_end, form_end, is_label_byte, label_len, is_tag_byte, tag_len};
 
+use crate::lanes::{form_run_end, iri_run_end};
 use rdf_terms::is_marked;
 use std::str;
 
@@ -56,7 +57,7 @@ fn is_hex(b: u8) -> bool
 }
 
 /// The test of `rdf_terms::is_iri_byte`, small letters first: it is made of nearly each byte of the data.
-fn is_iri_byte(b: u8) -> bool
+pub fn is_iri_byte(b: u8) -> bool
     ensures { result ≡ is_iri_byte b }
 {
     (b >= b'a' && b <= b'z')
@@ -67,7 +68,7 @@ fn is_iri_byte(b: u8) -> bool
             )
 }
 
-fn is_form_byte(b: u8) -> bool
+pub fn is_form_byte(b: u8) -> bool
     ensures { result ≡ is_form_byte b }
 {
     !is_marked(b)
@@ -171,17 +172,42 @@ fn form_step(awaits: Awaits, b: u8) -> Option<Awaits>
     }
 }
 
+/// The place of the mark that ends an IRI, from a place where an item may begin.
+fn iri_end_from(bytes: &[u8], from: usize) -> Option<usize>
+    requires { from ≤ length bytes.now }
+    ensures place { result ≡ iri_end Item from (drop from bytes.now) }
+    ensures within { IfSome result (λ n. n < length bytes.now) }
+{
+    let mut awaits = Awaits::Item;
+    for i in from..bytes.len() {
+        if is_item(awaits) && bytes[i] == b'>' {
+            return Some(i);
+        }
+        awaits = iri_step(awaits, bytes[i])?;
+    }
+    None
+}
+
 /// The place of the mark that ends an IRI.
 pub fn iri_end(bytes: &[u8]) -> Option<usize>
     ensures place { result ≡ iri_end Item 0 bytes.now }
     ensures within { IfSome result (λ n. n < length bytes.now) }
 {
+    iri_end_from(bytes, iri_run_end(bytes))
+}
+
+/// The place of the quote that ends a form, from a place where an item may begin.
+fn form_end_from(bytes: &[u8], from: usize) -> Option<usize>
+    requires { from ≤ length bytes.now }
+    ensures place { result ≡ form_end Item from (drop from bytes.now) }
+    ensures within { IfSome result (λ n. n < length bytes.now) }
+{
     let mut awaits = Awaits::Item;
-    for (i, b) in bytes.iter().enumerate() {
-        if is_item(awaits) && *b == b'>' {
+    for i in from..bytes.len() {
+        if is_item(awaits) && bytes[i] == b'"' {
             return Some(i);
         }
-        awaits = iri_step(awaits, *b)?;
+        awaits = form_step(awaits, bytes[i])?;
     }
     None
 }
@@ -191,14 +217,7 @@ pub fn form_end(bytes: &[u8]) -> Option<usize>
     ensures place { result ≡ form_end Item 0 bytes.now }
     ensures within { IfSome result (λ n. n < length bytes.now) }
 {
-    let mut awaits = Awaits::Item;
-    for (i, b) in bytes.iter().enumerate() {
-        if is_item(awaits) && *b == b'"' {
-            return Some(i);
-        }
-        awaits = form_step(awaits, *b)?;
-    }
-    None
+    form_end_from(bytes, form_run_end(bytes))
 }
 
 fn is_label_byte(b: u8) -> bool
