@@ -1,5 +1,5 @@
 // The order of terms by the lengths of their texts.
-ghost use Rattle.std.specs.Prelude.{◌≡◌};
+ghost use Rattle.std.specs.Prelude.{◌≡◌, IsTrue};
 ghost use Rattle.std.specs.Ordering.{ordering_then};
 ghost use Rattle.control_reader.specs.Ranges.{length_order, length_triple_order, text_length};
 
@@ -17,11 +17,22 @@ fn text_length(term: &Term) -> usize
     }
 }
 
-/// The shorter text comes first; the order of terms decides between texts of one length.
+/// Whether two terms are one. Most that are not differ in the lengths of their texts.
+fn is_same(a: &Term, b: &Term) -> bool
+    ensures { IsTrue result → a.now ≡ b.now }
+{
+    text_length(a) == text_length(b) && a.same(b)
+}
+
+/// The shorter text comes first; the order of terms decides between texts of one length. That two terms are one is found
+/// faster than their order, and most terms of a page that have one length are.
 #[tactic(auto, unfolding(crate::specs::Ranges::length_order))]
 pub(crate) fn compare(a: &Term, b: &Term) -> Ordering
     ensures { result ≡ length_order a.now b.now }
 {
+    if is_same(a, b) {
+        return Ordering::Equal;
+    }
     match text_length(a).cmp(&text_length(b)) {
         Ordering::Less => Ordering::Less,
         Ordering::Equal => a.cmp(b),
