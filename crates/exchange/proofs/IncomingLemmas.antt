@@ -1,5 +1,5 @@
 -- What is read of the bytes that came, piece by piece.
-use Rattle.std.proofs.Common.{ℕ, ◌≡◌, ◌+◌, ◌*◌, ◌≤◌, ◌↔◌, ◌++◌, List, [], length, Option, Some, None, Bool, true, false, refl, sym, ◌∙◌, ap, arith, append-nil, length-append, subst}
+use Rattle.std.proofs.Common.{ℕ, ◌≡◌, ◌+◌, ◌*◌, ◌≤◌, ◌↔◌, ◌++◌, List, [], length, Option, Some, None, Bool, true, false, refl, sym, ◌∙◌, ap, arith, append-nil, length-append, subst, if◌then◌else◌}
 use Rattle.tpf_base.specs.HttpReply as reply
 use Rattle.tpf_base.specs.HttpReply.{Place, InHeads, InSized, InUnsized, InLine, InChunk, AtReturn, AtNewline, InTrailer, Finished, Failed, Gathered, Reading, begun, is_open, after_bytes, reading_from, at_the_end, reply_of}
 use Rattle.http_wire.specs.Replies.{Feeding, starting, fed, shown, shown_fault, longer, reply_at, closed_at}
@@ -137,22 +137,26 @@ ends_open c i cuts o =
 coming_at : (limit : ℕ) (items : List ℕ) (place : Place) → items ≡ [] → place ≡ begun → IsComing (record { limit = limit; received = items; place = place; spare = 0 })
 coming_at limit items place i p = rw (i, p) (none_is limit)
 
-pub new_is : (limit : ℕ) (items : List ℕ) (f : Feeding) → items ≡ [] → f ≡ starting limit
-    → (f.limit ≡ limit) × IsComing (record { limit = limit; received = items; place = f.place; spare = 0 })
-new_is limit items f i e = (ap (λ g. g.limit) e, coming_at limit items f.place i (ap (λ g. g.place) e))
+pub new_is : (limit : ℕ) (f : Feeding) → f ≡ starting limit → (f.limit ≡ limit) × IsComing (record { limit = limit; received = f.received; place = f.place; spare = 0 })
+new_is limit f e = (ap (λ g. g.limit) e, coming_at limit f.received f.place (ap (λ g. g.received) e) (ap (λ g. g.place) e))
 
-pub read_whole : (limit : ℕ) (before piece received' : List ℕ) (f f' : Feeding) (old_spare spare : ℕ) (answer : Fed) → CutsReading → WhatIsReadIsGiven
+-- a feed that goes on keeps each piece
+pub fed_received : (f f' : Feeding) (piece : List ℕ) → f' ≡ fed f piece → is_open f.place ≡ true → f'.received ≡ f.received ++ piece
+fed_received f f' piece e o = ap (λ g. g.received) e ∙ ap (λ (v : Bool). if v then f.received ++ piece else f.received) o
+
+pub read_whole : (limit : ℕ) (piece : List ℕ) (f f' : Feeding) (old_spare spare : ℕ) (answer : Fed) → CutsReading → WhatIsReadIsGiven
     → ((limit : ℕ) (place : Place) (xs ys : List ℕ) → after_bytes limit place (xs ++ ys) ≡ after_bytes limit (after_bytes limit place xs) ys)
     → ((limit : ℕ) (bytes : List ℕ) (at_end : Bool) → reply_of bytes at_end limit ≡ reply.More → length bytes ≤ 9 * limit + 1179648)
-    → f.limit ≡ limit → IsComing (record { limit = limit; received = before; place = f.place; spare = old_spare }) → is_open f.place ≡ true → length piece ≤ 8192
-    → received' ≡ before ++ piece → f' ≡ fed f piece → answer ≡ shown (reading_from f.limit f.place piece false)
+    → f.limit ≡ limit → IsComing (record { limit = limit; received = f.received; place = f.place; spare = old_spare }) → is_open f.place ≡ true → length piece ≤ 8192
+    → f' ≡ fed f piece → answer ≡ shown (reading_from f.limit f.place piece false)
     → ((used : ℕ) → answer ≡ feds.Done used → used ≤ length piece → used + spare ≡ length piece)
-    → (f'.limit ≡ limit) × IsComing (record { limit = limit; received = received'; place = f'.place; spare = spare })
-read_whole limit before piece received' f f' old_spare spare answer cuts given places few l c o small r p a s =
+    → (f'.limit ≡ limit) × IsComing (record { limit = limit; received = f'.received; place = f'.place; spare = spare })
+read_whole limit piece f f' old_spare spare answer cuts given places few l c o small p a s =
     let place : f'.place ≡ after_bytes limit f.place piece = ap (λ g. g.place) p ∙ ap (λ m. after_bytes m f.place piece) l in
-    let b = read_is limit before piece f.place f'.place old_spare spare answer cuts given (places limit begun) (λ bytes. few limit bytes false) c o small place
+    let received : f'.received ≡ f.received ++ piece = fed_received f f' piece p o in
+    let b = read_is limit f.received piece f.place f'.place old_spare spare answer cuts given (places limit begun) (λ bytes. few limit bytes false) c o small place
     (a ∙ ap (λ m. shown (reading_from m f.place piece false)) l) s in
-    (ap (λ g. g.limit) p ∙ l, rw r b)
+    (ap (λ g. g.limit) p ∙ l, rw received b)
 
 pub goes_on_is : (piece : List ℕ) (f f' : Feeding) (answer : Fed) (b : Bool) → WhatIsReadIsGiven → f' ≡ fed f piece → answer ≡ shown (reading_from f.limit f.place piece false)
     → (b ≡ true ↔ answer ≡ feds.More) → is_open f'.place ≡ b

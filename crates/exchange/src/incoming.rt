@@ -22,11 +22,11 @@ pub(crate) enum Conclusion {
     Refused(ReplyFault, Bytes),
 }
 
-/// The bytes that came in reply to a request, as they were received, and how far they are read.
+/// The bytes that came in reply to a request, as they were received, and how far they are read. The
+/// feed holds them, once.
 #[derive(Drop)]
 pub(crate) struct Incoming {
     limit: u64,
-    received: Vec<u8>,
     feed: ReplyFeed,
     spare: usize,
 }
@@ -37,9 +37,9 @@ impl Model for Incoming {
 
     ghost Value = { Coming };
 
-    ghost view = { λ c. record { limit = c.limit; received = c.received.items; place = c.feed.place; spare = c.spare } };
+    ghost view = { λ c. record { limit = c.limit; received = c.feed.received; place = c.feed.place; spare = c.spare } };
 
-    ghost invariant = { λ c. (c.feed.limit ≡ c.limit) × IsComing (record { limit = c.limit; received = c.received.items; place = c.feed.place; spare = c.spare }) };
+    ghost invariant = { λ c. (c.feed.limit ≡ c.limit) × IsComing (record { limit = c.limit; received = c.feed.received; place = c.feed.place; spare = c.spare }) };
 }
 
 /// How many bytes of the piece stand behind the reply.
@@ -69,7 +69,6 @@ impl Incoming {
     {
         Incoming {
             limit,
-            received: Vec::new(alloc),
             feed: ReplyFeed::new(alloc, limit),
             spare: 0,
         }
@@ -100,7 +99,7 @@ impl Incoming {
         ensures length { result ≡ length self.now.received }
         ensures bound { result ≤ 9 * self.now.limit + 1187840 }
     {
-        self.received.len()
+        self.feed.received().len()
     }
 
     /// Reads the next bytes, and says whether the reply goes on. After a refusal all is as it was.
@@ -116,18 +115,9 @@ impl Incoming {
         cuts_do_not_matter();
         what_is_read_is_given();
         a_reply_is_bounded();
-        let before = self.received.len();
-        self.received.extend_from_slice(piece)?;
-        match self.feed.feed(piece) {
-            Ok(fed) => {
-                self.spare = spare_of(fed, piece.len());
-                Ok(goes_on(fed))
-            }
-            Err(err) => {
-                self.received.truncate(before);
-                Err(err)
-            }
-        }
+        let fed = self.feed.feed(piece)?;
+        self.spare = spare_of(fed, piece.len());
+        Ok(goes_on(fed))
     }
 
     /// What the bytes come to, where no more are received.
@@ -138,8 +128,8 @@ impl Incoming {
         what_is_read_is_given();
         let mut feed = self.feed;
         match feed.end() {
-            Fed::More => Conclusion::Cut(Bytes::from_vec(self.received)),
-            Fed::Bad(fault) => Conclusion::Refused(fault, Bytes::from_vec(self.received)),
+            Fed::More => Conclusion::Cut(feed.into_received()),
+            Fed::Bad(fault) => Conclusion::Refused(fault, feed.into_received()),
             Fed::Done { .. } => match feed.take() {
                 Some(reply) => Conclusion::Whole(reply),
                 None => unreachable!(),

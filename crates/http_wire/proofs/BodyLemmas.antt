@@ -1,21 +1,20 @@
 -- Bytes of a body, taken at once.
-use Rattle.std.proofs.Common.{◌≡◌, ℕ, suc, zero, ◌+◌, ◌-◌, ◌<◌, ◌≤◌, Bool, true, false, List, [], ◌∷◌, ◌++◌, length, take, drop, refl, sym, ap, ap₂, ◌∙◌, if◌then◌else◌, arith, append_assoc, append-nil, length-append}
-use Rattle.std.specs.Prelude.{nat_lt, nat_le, min}
-use Rattle.std.proofs.Math.Seq.{take-append_seam, take-length}
-use Rattle.std.proofs.lemmas.List.{length-take, length-take-le, take-take}
+use Rattle.std.proofs.Common.{◌≡◌, ℕ, ◌+◌, ◌-◌, ◌<◌, ◌≤◌, Bool, true, false, List, [], ◌∷◌, ◌++◌, length, take, refl, sym, ap, ap₂, ◌∙◌, if◌then◌else◌, arith, append_assoc, append-nil, length-append}
+use Rattle.std.specs.Prelude.{nat_lt, nat_le}
+use Rattle.std.proofs.lemmas.List.{length-take-le}
 use Rattle.std.proofs.lemmas.Grind.{common_steps}
-use Rattle.tpf_base.specs.HttpReply.{Place, InHeads, InSized, InUnsized, InLine, InChunk, AtReturn, AtNewline, InTrailer, Finished, Failed, Gathered, TooLong, is_open, is_over, unless, with_byte, after_byte, after_bytes, reading_from}
-use Rattle.http_wire.specs.declared.state.State.{State}
-use Rattle.http_wire.specs.Places.{room_at, with_bytes, with_run, Keeps, GoesOn}
-use Rattle.http_wire.specs.Replies.{Runs, longer}
+use Rattle.tpf_base.specs.HttpReply.{Place, InHeads, InSized, InUnsized, InLine, InChunk, AtReturn, AtNewline, InTrailer, Finished, Failed, Gathered, TooLong, is_open, is_over, with_byte, after_bytes}
+use Rattle.http_wire.specs.Places.{room_at, with_bytes, with_run}
+use Rattle.http_wire.specs.Replies.{Runs}
 use Rattle.http_wire.proofs.RunLemmas.{runs_run}
 
--- a body that stays, or to which bytes come
-pub ruleset fronts = (take-length, take-append_seam)
+-- a body with one more byte
+pub one_longer : (body : List ℕ) (b : ℕ) → length (body ++ b ∷ []) ≡ length body + 1
+one_longer body b = length-append body (b ∷ [])
 
-pub keeps_go_on : (old new : State) → Keeps old new → GoesOn old new
-keeps_go_on old new keeps =
-    record { limit = keeps.limit; kept = keeps.kept; body = ap (λ (x : List ℕ). take (length old.body.items) x) keeps.body ∙ take-length old.body.items }
+pub none_long : (body : List ℕ) → length body ≡ 0 → body ≡ []
+none_long [] e = refl
+none_long (b ∷ bs) e = absurd (omega (arith, e))
 
 -- ---- a run of bytes
 
@@ -107,10 +106,3 @@ pub body_runs : (limit : ℕ) (place : Place) (bytes : List ℕ) (n : ℕ) (next
 body_runs limit place bytes n next within few goes is =
     let count : length (take n bytes) ≡ n = length-take-le n bytes within in
     runs_run limit place bytes n next within (is ∙ sym (run_is limit place (take n bytes) (omega arith))) (ap is_open is ∙ run_open place (take n bytes) ∙ goes)
-
--- ---- back to a mark
-
-pub front_again : (xs ys zs : List ℕ) → take (length xs) ys ≡ xs → take (length ys) zs ≡ ys → take (length xs) zs ≡ xs
-front_again xs ys zs first second =
-    let few : length xs ≤ length ys = (let count = ap (λ (x : List ℕ). length x) first in let most = length-take (length xs) ys in omega arith) in
-    sym (take-take (length xs) (length ys) zs few) ∙ ap (take (length xs)) second ∙ first

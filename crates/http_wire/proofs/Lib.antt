@@ -9,6 +9,8 @@ pub mod ReplyLemmas
 pub mod ChunkLemmas
 pub mod RunLemmas
 pub mod BodyLemmas
+pub mod ReadLemmas
+pub mod KeptLemmas
 pub mod LawLemmas
 pub mod GivenLemmas
 pub mod StayLemmas

@@ -1,25 +1,30 @@
 -- What a reply feed holds, and what it answers.
-use Rattle.std.specs.Prelude.{◌≡◌, ◌+◌, ℕ, List, drop, false, Option, Some, None}
+use Rattle.std.specs.Prelude.{◌≡◌, ◌+◌, ◌++◌, ℕ, Bool, List, [], drop, false, Option, Some, None, if◌then◌else◌}
 use Rattle.tpf_base.specs.HttpReply as reply
-use Rattle.tpf_base.specs.HttpReply.{Place, InHeads, InSized, InUnsized, InLine, InChunk, AtReturn, AtNewline, InTrailer, Finished, Failed, Gathered, gathering, Reading, begun, after_bytes, reading_from, at_the_end}
+use Rattle.tpf_base.specs.HttpReply.{Place, InHeads, InSized, InUnsized, InLine, InChunk, AtReturn, AtNewline, InTrailer, Finished, Failed, Gathered, gathering, Reading, begun, is_open, after_bytes, reading_from, at_the_end}
 use Rattle.http_wire.specs.declared.message.ReplyFault.{ReplyFault}
 use Rattle.http_wire.specs.declared.message.ReplyFault.TheVariants.{Head, Status, MediaType, Coding, Framing, TooLong}
 use Rattle.http_wire.specs.declared.message.Fed.{Fed}
 use Rattle.http_wire.specs.declared.message.Fed.TheVariants.{More, Done, Bad}
 use Rattle.http_wire.specs.declared.message.Reply.{Reply}
 
--- the limit of the body, and the place in the reply
+-- the limit of the body, the place in the reply, and the bytes that led to it
 pub record Feeding : Type 0 where
   pub limit : ℕ
   pub place : Place
+  pub received : List ℕ
 
 -- a feed to which nothing was fed
 abbrev pub starting : ℕ → Feeding
-starting limit = record { limit = limit; place = begun }
+starting limit = record { limit = limit; place = begun; received = [] }
+
+-- the bytes that a feed keeps: a reply that is over keeps no more
+abbrev pub kept_with : Bool → List ℕ → List ℕ → List ℕ
+kept_with goes_on received piece = if goes_on then received ++ piece else received
 
 -- the feed with these bytes
 abbrev pub fed : Feeding → List ℕ → Feeding
-fed f piece = record { limit = f.limit; place = after_bytes f.limit f.place piece }
+fed f piece = record { limit = f.limit; place = after_bytes f.limit f.place piece; received = kept_with (is_open f.place) f.received piece }
 
 -- a fault of a reply, by the code's name
 abbrev pub shown_fault : reply.ReplyFault → ReplyFault
@@ -59,7 +64,7 @@ closed_at (Failed fault) = Failed fault
 
 -- the feed where the bytes end
 abbrev pub ended : Feeding → Feeding
-ended f = record { limit = f.limit; place = closed_at f.place }
+ended f = record { limit = f.limit; place = closed_at f.place; received = f.received }
 
 abbrev pub reply_at : Place → Option Reply
 reply_at (Finished g) = Some (record { body = g.body; keeps = g.keeps })

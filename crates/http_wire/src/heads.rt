@@ -1,5 +1,6 @@
 // Where a head begins and ends.
 ghost use Rattle.std.specs.Prelude.{ℕ, ◌≡◌, ◌+◌, ◌≤◌, ◌==◌, length, count_by, take, drop, None, IfSome};
+ghost use Rattle.std.specs.List.{between};
 ghost use Rattle.tpf_base.specs.HttpHeads.{blank_length, ends_empty, least_below, head_length};
 
 /// The bytes from a place on.
@@ -16,6 +17,15 @@ pub fn front(bytes: &[u8], n: usize) -> &[u8]
     ensures { result.now ≡ take n bytes.now }
 {
     &bytes[..n]
+}
+
+/// The bytes from one place up to another.
+pub fn part_of(bytes: &[u8], from: usize, to: usize) -> &[u8]
+    requires ordered { from ≤ to }
+    requires within { to ≤ length bytes.now }
+    ensures { result.now ≡ between from to bytes.now }
+{
+    &bytes[from..to]
 }
 
 /// Whether the first `n` bytes end in an empty line after another line.

@@ -2,15 +2,16 @@
 #![tactic(auto)]
 
 mod chunk;
+mod compact;
 mod fields;
 mod framing;
 mod heads;
 mod judge;
 mod laws;
-mod line_buffer;
 mod message;
 mod reply;
 mod request;
+mod stages;
 mod state;
 mod target;
 mod write;

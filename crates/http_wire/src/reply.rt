@@ -1,33 +1,16 @@
 // The reply to a request, as its bytes come.
-ghost use Rattle.std.specs.Prelude.{ℕ, List, ◌≡◌, ◌≤◌, length, take, drop, false, true, IfOk, OnOk, OnErr};
-ghost use Rattle.tpf_base.specs.HttpReply.{Gathered, is_open, after_bytes, reading_from, at_the_end};
+ghost use Rattle.std.specs.Prelude.{ℕ, List, ◌≡◌, ◌≤◌, ◌↔◌, length, true, false, IfOk, OnOk, OnErr};
+ghost use Rattle.tpf_base.specs.HttpReply.{Gathered, begun, after_bytes, reading_from, at_the_end};
 ghost use Rattle.http_wire.specs.Replies.{Feeding, starting, fed, ended, shown, longer, reply_at};
-ghost use Rattle.http_wire.specs.Places.{place_of, place_for, GoesOn};
+ghost use Rattle.http_wire.specs.Places.{place_for, read_place, RunsOn, IsRead};
 
-use crate::heads::behind;
-use crate::line_buffer::LineBuffer;
+use crate::compact::compact;
 use crate::message::{Fed, Reply};
+use crate::stages::is_open;
 use crate::state::{Stage, State};
 use std::alloc::Global;
 use std::marker::Model;
 use tpf_base::{Bytes, OutOfMemory};
-
-/// Whether a reply goes on at this stage.
-fn is_open(stage: Stage) -> bool
-    ensures { (passed : ℕ) (held : List ℕ) (g : Gathered) → is_open (place_for stage passed held g) ≡ result }
-{
-    match stage {
-        Stage::Finished | Stage::Failed(_) => false,
-        Stage::Heads
-        | Stage::Sized(_)
-        | Stage::Unsized
-        | Stage::Line
-        | Stage::Chunk(_)
-        | Stage::Return
-        | Stage::Newline
-        | Stage::Trailer => true,
-    }
-}
 
 /// What a feed answers at a stage, where so many bytes of the piece were read.
 #[tactic(auto, using(crate::proofs::RunLemmas::fault_back, crate::proofs::RunLemmas::done_at))]
@@ -48,31 +31,47 @@ fn answer(stage: Stage, used: usize) -> Fed
     }
 }
 
-/// Reads the bytes up to the end of the reply, or a fault, and answers how many it read.
-fn run(state: &mut State, piece: &[u8]) -> Result<usize, OutOfMemory>
-    ensures place { OnOk result (place_of state.new ≡ after_bytes state.old.limit (place_of state.old) piece.now) }
-    ensures reading { IfOk result (λ n. reading_from state.old.limit (place_of state.old) piece.now false ≡ longer n (at_the_end false (place_of state.new))) }
-    ensures goes_on { GoesOn state.old state.new }
+/// Whether two stages are the same.
+fn is_at(stage: Stage, other: Stage) -> bool
+    ensures { result ≡ true ↔ stage ≡ other }
 {
-    let mut used = 0usize;
-    while used < piece.len() && is_open(state.stage) {
-        used += state.read(behind(piece, used))?;
+    stage == other
+}
+
+/// Reads the bytes from a place on, up to the end of the reply or a fault, and answers how many it read.
+fn run(state: &mut State, bytes: &[u8], start: usize) -> usize
+    requires within { start ≤ length bytes.now }
+    requires begins { state.old.begins ≤ start }
+    requires few { state.old.count ≤ state.old.begins }
+    ensures { (body : List ℕ) → length body ≡ state.old.count → RunsOn state.old state.new bytes.now start result body }
+{
+    let mut at = start;
+    while at < bytes.len() && is_open(state.stage) {
+        at = state.read(bytes, at).0;
     }
-    Ok(used)
+    at - start
 }
 
 /// Reads the reply to one request, whose bytes come in pieces, cut at any places (RFC 9112, sections
-/// 4, 6 and 7). Heads with a status of 100 to 199 are passed over. Contracts see the limit of the
-/// body and the place in the reply.
+/// 4, 6 and 7). Heads with a status of 100 to 199 are passed over. It keeps the bytes as they came,
+/// once, and makes the body of them at the end. Contracts see the limit of the body, the place in the
+/// reply, and the bytes that led to it.
 #[derive(Drop)]
 pub struct ReplyFeed {
     state: State,
+    received: Vec<u8>,
 }
 
 impl Model for ReplyFeed {
     ghost Value = { Feeding };
 
-    ghost view = { λ f. record { limit = f.state.limit; place = place_of f.state } };
+    ghost view = { λ f. record {
+      limit = f.state.limit;
+      place = read_place f.state.stage (after_bytes f.state.limit begun f.received.items);
+      received = f.received.items;
+    } };
+
+    ghost invariant = { λ f. IsRead f.state f.received.items };
 }
 
 impl ReplyFeed {
@@ -81,15 +80,8 @@ impl ReplyFeed {
         ensures { result ≡ starting limit }
     {
         ReplyFeed {
-            state: State {
-                limit,
-                stage: Stage::Heads,
-                passed: 0,
-                held: LineBuffer::new(alloc),
-                keeps: false,
-                body: Vec::new(alloc),
-                extra: 0,
-            },
+            state: State::new(limit),
+            received: Vec::new(alloc),
         }
     }
 
@@ -105,60 +97,54 @@ impl ReplyFeed {
         if !is_open(self.state.stage) {
             return Ok(answer(self.state.stage, 0));
         }
-        let mark = self.state.mark();
-        match run(&mut self.state, piece) {
-            Ok(used) => Ok(answer(self.state.stage, used)),
-            Err(err) => {
-                self.state.go_back(mark);
-                Err(err)
-            }
-        }
+        let start = self.received.len();
+        self.received.extend_from_slice(piece)?;
+        let used = run(&mut self.state, self.received.as_slice(), start);
+        Ok(answer(self.state.stage, used))
     }
 
     /// Says that no further byte comes: a reply that runs to the close is then whole (RFC 9112,
     /// section 6.3), and one that wants more is cut off, which `More` says. After `Done` or `Bad` the
     /// answer is the same, with `used` 0.
-    #[tactic(auto, using(crate::proofs::RunLemmas::fault_back))]
     pub fn end(&mut self) -> Fed
         ensures answer { result ≡ shown (at_the_end true self.old.place) }
         ensures after { self.new ≡ ended self.old }
     {
-        match self.state.stage {
-            Stage::Unsized => {
-                self.state.stage = Stage::Finished;
-                Fed::Done { used: 0 }
-            }
-            Stage::Finished => Fed::Done { used: 0 },
-            Stage::Failed(fault) => Fed::Bad(fault),
-            Stage::Heads
-            | Stage::Sized(_)
-            | Stage::Line
-            | Stage::Chunk(_)
-            | Stage::Return
-            | Stage::Newline
-            | Stage::Trailer => Fed::More,
+        if is_at(self.state.stage, Stage::Unsized) {
+            self.state.stage = Stage::Finished;
+            return Fed::Done { used: 0 };
         }
+        answer(self.state.stage, 0)
     }
 
-    /// The reply, where `Done` was answered, and else nothing.
+    /// The bytes of the pieces that were fed, as they came: each piece whole, up to the one with
+    /// which the reply was over.
+    pub fn received(&self) -> &[u8]
+        ensures { result.now ≡ self.now.received }
+    {
+        self.received.as_slice()
+    }
+
+    /// Gives these bytes back, and takes no memory.
+    pub fn into_received(self) -> Bytes
+        ensures { result ≡ self.received }
+    {
+        Bytes::from_vec(self.received)
+    }
+
+    /// The reply, where `Done` was answered, and else nothing. Its body is made of the bytes that the
+    /// feed keeps, in place.
     pub fn take(self) -> Option<Reply>
         ensures { result ≡ reply_at self.place }
     {
-        let keeps = self.state.keeps;
-        match self.state.stage {
-            Stage::Finished => Some(Reply {
-                body: Bytes::from_vec(self.state.body),
-                keeps,
-            }),
-            Stage::Heads
-            | Stage::Sized(_)
-            | Stage::Unsized
-            | Stage::Line
-            | Stage::Chunk(_)
-            | Stage::Return
-            | Stage::Newline
-            | Stage::Trailer
-            | Stage::Failed(_) => None,
+        if !is_at(self.state.stage, Stage::Finished) {
+            return None;
         }
+        let mut bytes = self.received;
+        let keeps = compact(self.state.limit, &mut bytes);
+        Some(Reply {
+            body: Bytes::from_vec(bytes),
+            keeps,
+        })
     }
 }

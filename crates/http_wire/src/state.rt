@@ -1,15 +1,13 @@
 // What was read of a reply so far, and one byte further.
-ghost use Rattle.std.specs.Prelude.{ℕ, ◌≡◌, ◌+◌, ◌*◌, ◌^◌, ◌≤◌, ◌<◌, ◌∷◌, ◌++◌, [], length, false, true, IfOk, OnOk};
+ghost use Rattle.std.specs.Prelude.{ℕ, List, ◌≡◌, ◌≢◌, ◌+◌, ◌*◌, ◌^◌, ◌≤◌, ◌<◌, ◌∷◌, ◌++◌, [], length, false, true};
 ghost use Rattle.tpf_base.specs.HttpHeads.{ends_empty};
 ghost use Rattle.tpf_base.specs.HttpReply.{Gathered, Failed, InSized, InUnsized, InChunk, AtReturn, AtNewline, after_byte, is_over, is_open, is_padded, line_place, after_head_byte, after_line_byte, after_trailer_byte, with_extra, chunk_size};
 ghost use Rattle.http_wire.specs.declared.state.Stage.{Stage};
 
 use crate::chunk::chunk_size;
 use crate::framing::{Next, judge_reply};
-use crate::heads::{ends_empty, front};
-use crate::line_buffer::LineBuffer;
+use crate::heads::{ends_empty, part_of};
 use crate::message::ReplyFault;
-use tpf_base::OutOfMemory;
 
 /// The most bytes of heads, and of trailing lines.
 const HEADS_LIMIT: u128 = 65536;
@@ -40,33 +38,33 @@ pub enum Stage {
     Failed(ReplyFault),
 }
 
-/// What was read of a reply so far.
-#[derive(Drop)]
+/// Where the bytes belong that were read last.
+#[derive(Clone, Copy, Debug, PartialEq, Eq)]
+pub enum Part {
+    /// To the body.
+    Body,
+    /// To a head or a line, which goes on.
+    Line,
+    /// To what frames the body, and no head or line goes on behind them.
+    Frame,
+}
+
+/// What was read so far of a reply, whose bytes stand elsewhere.
+#[derive(Clone, Copy)]
 pub struct State {
     pub limit: u64,
     pub stage: Stage,
     /// The bytes of the heads that were passed over.
     pub passed: u64,
-    pub held: LineBuffer,
+    /// Where the head or the line that goes on begins, and else the place behind what was read.
+    pub begins: usize,
     pub keeps: bool,
-    pub body: Vec<u8>,
+    /// The length of the body so far.
+    pub count: usize,
     /// The bytes of chunk lines and of line ends behind chunks.
     pub extra: u128,
-    ghost padded: { extra ≤ 1048576 + 8 * length body.items },
-    ghost fresh: { stage ≡ Stage.Heads → body.items ≡ [] },
-}
-
-/// Where a state stood before a piece.
-#[derive(Clone, Copy)]
-pub struct Mark {
-    stage: Stage,
-    passed: u64,
-    keeps: bool,
-    /// The length of the body.
-    body: usize,
-    extra: u128,
-    ghost padded: { extra ≤ 1048576 + 8 * body },
-    ghost fresh: { stage ≡ Stage.Heads → body ≡ 0 },
+    ghost padded: { extra ≤ 1048576 + 8 * count },
+    ghost fresh: { stage ≡ Stage.Heads → count ≡ 0 },
 }
 
 /// Whether these lines end in an empty one, the first line counted.
@@ -83,11 +81,30 @@ fn ends_trailer(lines: &[u8]) -> bool
 }
 
 impl State {
-    ghost use Rattle.http_wire.specs.Places.{place_of, gathered_of, start_place, judged_place, room_at, with_run, Keeps, GoesOn, IsMarkOf};
-    ghost use Rattle.http_wire.specs.Replies.{Runs, fault_of};
+    ghost use Rattle.http_wire.specs.Places.{place_for, place_of, gathered_of, start_place, judged_place, room_for, with_run, line_behind, body_behind, count_behind, Keeps, ReadsTo};
+    ghost use Rattle.http_wire.specs.Replies.{fault_of};
+
+    /// No byte was read.
+    pub fn new(limit: u64) -> State
+        ensures limit { result.limit ≡ limit }
+        ensures stage { result.stage ≡ Stage.Heads }
+        ensures passed { result.passed ≡ 0 }
+        ensures begins { result.begins ≡ 0 }
+        ensures count { result.count ≡ 0 }
+    {
+        State {
+            limit,
+            stage: Stage::Heads,
+            passed: 0,
+            begins: 0,
+            keeps: false,
+            count: 0,
+            extra: 0,
+        }
+    }
 
     fn fail(&mut self, fault: ReplyFault)
-        ensures place { place_of self.new ≡ Failed (fault_of fault) }
+        ensures place { (line body : List ℕ) → place_of self.new line body ≡ Failed (fault_of fault) }
         ensures keeps { Keeps self.old self.new }
     {
         self.stage = Stage::Failed(fault);
@@ -96,10 +113,9 @@ impl State {
     /// Begins the body.
     fn start(&mut self, next: Next)
         requires { self.old.stage ≡ Stage.Heads }
-        ensures place { place_of self.new ≡ start_place next }
+        ensures place { place_of self.new [] [] ≡ start_place next }
         ensures keeps { Keeps self.old self.new }
     {
-        self.held.clear();
         self.extra = 0;
         match next {
             Next::Refused(fault) => self.stage = Stage::Failed(fault),
@@ -122,92 +138,101 @@ impl State {
         }
     }
 
-    /// The bytes of the heads so far.
-    fn head_bytes(&self) -> u128
-        ensures is { result ≡ self.now.passed + length self.now.held.line }
+    /// The bytes of the heads so far, with those of this one.
+    fn head_bytes(&self, head: &[u8]) -> u128
+        ensures is { result ≡ self.now.passed + length head.now }
         ensures fits { result < 2 ^ 65 }
     {
-        u128::from(self.passed) + self.held.len() as u128
+        u128::from(self.passed) + head.len() as u128
     }
 
     /// What becomes of a whole head.
-    fn head_end(&mut self)
+    fn head_end(&mut self, head: &[u8])
         requires { self.old.stage ≡ Stage.Heads }
-        ensures place { place_of self.new ≡ judged_place self.old.limit (self.old.passed + length self.old.held.line) self.old.held.line }
+        ensures place { place_of self.new [] [] ≡ judged_place self.old.limit (self.old.passed + length head.now) head.now }
         ensures keeps { Keeps self.old self.new }
     {
-        let total = self.head_bytes();
-        match judge_reply(self.held.line(), self.limit) {
+        let total = self.head_bytes(head);
+        match judge_reply(head, self.limit) {
             Some(next) => self.start(next),
             None => {
                 if total >= HEADS_LIMIT {
                     self.fail(ReplyFault::TooLong);
                 } else {
                     self.passed = total as u64;
-                    self.held.clear();
                 }
             }
         }
     }
 
+    /// Reads the last byte of this much of a head.
     #[tactic(auto, unfolding(tpf_base::specs::HttpReply::after_head_byte, crate::specs::Places::judged_place))]
-    fn head_byte(&mut self, b: u8) -> Result<(), OutOfMemory>
+    fn head_byte(&mut self, head: &[u8]) -> Part
         requires { self.old.stage ≡ Stage.Heads }
-        ensures ok { OnOk result (place_of self.new ≡ after_head_byte self.old.limit self.old.passed (self.old.held.line ++ b ∷ [])) }
+        ensures place { place_of self.new (line_behind result head.now) [] ≡ after_head_byte self.old.limit self.old.passed head.now }
+        ensures part { result ≢ Part.Body }
         ensures keeps { Keeps self.old self.new }
     {
-        self.held.push(b)?;
-        if ends_empty(self.held.line(), self.held.len()) {
-            self.head_end();
-        } else if self.head_bytes() >= HEADS_LIMIT {
+        if ends_empty(head, head.len()) {
+            self.head_end(head);
+            return Part::Frame;
+        }
+        if self.head_bytes(head) >= HEADS_LIMIT {
             self.fail(ReplyFault::TooLong);
         }
-        Ok(())
+        Part::Line
     }
 
-    #[tactic(auto, using(crate::proofs::BodyLemmas::fronts))]
-    fn sized_byte(&mut self, wanted: u64, b: u8) -> Result<(), OutOfMemory>
-        requires { self.old.stage ≡ Stage.Sized wanted }
-        ensures ok { OnOk result (place_of self.new ≡ after_byte self.old.limit (InSized wanted (gathered_of self.old)) b) }
-        ensures goes_on { GoesOn self.old self.new }
+    #[tactic(auto, using(crate::proofs::BodyLemmas::one_longer))]
+    fn sized_byte(&mut self, wanted: u64)
+        requires sized { self.old.stage ≡ Stage.Sized wanted }
+        requires room { self.old.count < 2 ^ 63 }
+        ensures place { (body : List ℕ) (b : ℕ) → place_of self.new [] (body ++ b ∷ []) ≡ after_byte self.old.limit (InSized wanted (gathered_of self.old body)) b }
+        ensures count { self.new.count ≡ self.old.count + 1 }
+        ensures limit { self.new.limit ≡ self.old.limit }
+        ensures begins { self.new.begins ≡ self.old.begins }
     {
-        self.body.push(b)?;
+        self.count += 1;
         self.stage = if wanted <= 1 {
             Stage::Finished
         } else {
             Stage::Sized(wanted - 1)
         };
-        Ok(())
     }
 
     /// Whether the body passes the limit.
     #[tactic(auto, unfolding(tpf_base::specs::HttpReply::is_over))]
     fn is_over(&self) -> bool
-        ensures { result ≡ is_over self.now.limit (gathered_of self.now) }
+        ensures { (body : List ℕ) → length body ≡ self.now.count → result ≡ is_over self.now.limit (gathered_of self.now body) }
     {
-        self.body.len() as u64 > self.limit
+        self.count as u64 > self.limit
     }
 
-    #[tactic(auto, using(crate::proofs::BodyLemmas::fronts))]
-    fn unsized_byte(&mut self, b: u8) -> Result<(), OutOfMemory>
-        requires { self.old.stage ≡ Stage.Unsized }
-        ensures ok { OnOk result (place_of self.new ≡ after_byte self.old.limit (InUnsized (gathered_of self.old)) b) }
-        ensures goes_on { GoesOn self.old self.new }
+    #[tactic(auto, using(crate::proofs::BodyLemmas::one_longer))]
+    fn unsized_byte(&mut self)
+        requires unsized_ { self.old.stage ≡ Stage.Unsized }
+        requires room { self.old.count < 2 ^ 63 }
+        ensures place { (body : List ℕ) (b : ℕ) → length body ≡ self.old.count → place_of self.new [] (body ++ b ∷ []) ≡ after_byte self.old.limit (InUnsized (gathered_of self.old body)) b }
+        ensures count { self.new.count ≡ self.old.count + 1 }
+        ensures limit { self.new.limit ≡ self.old.limit }
+        ensures begins { self.new.begins ≡ self.old.begins }
     {
-        self.body.push(b)?;
+        self.count += 1;
         if self.is_over() {
             self.fail(ReplyFault::TooLong);
         }
-        Ok(())
     }
 
-    #[tactic(auto, using(crate::proofs::BodyLemmas::fronts))]
-    fn chunk_byte(&mut self, wanted: u64, b: u8) -> Result<(), OutOfMemory>
-        requires { self.old.stage ≡ Stage.Chunk wanted }
-        ensures ok { OnOk result (place_of self.new ≡ after_byte self.old.limit (InChunk wanted (gathered_of self.old)) b) }
-        ensures goes_on { GoesOn self.old self.new }
+    #[tactic(auto, using(crate::proofs::BodyLemmas::one_longer))]
+    fn chunk_byte(&mut self, wanted: u64)
+        requires chunk { self.old.stage ≡ Stage.Chunk wanted }
+        requires room { self.old.count < 2 ^ 63 }
+        ensures place { (body : List ℕ) (b : ℕ) → length body ≡ self.old.count → place_of self.new [] (body ++ b ∷ []) ≡ after_byte self.old.limit (InChunk wanted (gathered_of self.old body)) b }
+        ensures count { self.new.count ≡ self.old.count + 1 }
+        ensures limit { self.new.limit ≡ self.old.limit }
+        ensures begins { self.new.begins ≡ self.old.begins }
     {
-        self.body.push(b)?;
+        self.count += 1;
         if self.is_over() {
             self.fail(ReplyFault::TooLong);
         } else if wanted <= 1 {
@@ -215,20 +240,19 @@ impl State {
         } else {
             self.stage = Stage::Chunk(wanted - 1);
         }
-        Ok(())
     }
 
     /// Counts one more byte that is none of the body. Whether those are now too many; then the
     /// count stays.
     #[tactic(auto, unfolding(tpf_base::specs::HttpReply::is_padded))]
     fn count_extra(&mut self) -> bool
-        ensures padded { result ≡ is_padded (with_extra (gathered_of self.old)) }
-        ensures counted { result ≡ false → gathered_of self.new ≡ with_extra (gathered_of self.old) }
-        ensures kept { (self.new.stage ≡ self.old.stage) × (self.new.held ≡ self.old.held) × (self.new.passed ≡ self.old.passed) }
+        ensures padded { (body : List ℕ) → length body ≡ self.old.count → result ≡ is_padded (with_extra (gathered_of self.old body)) }
+        ensures counted { (body : List ℕ) → result ≡ false → gathered_of self.new body ≡ with_extra (gathered_of self.old body) }
+        ensures kept { (self.new.stage ≡ self.old.stage) × (self.new.passed ≡ self.old.passed) }
         ensures keeps { Keeps self.old self.new }
     {
         let extra = self.extra + 1;
-        if extra > 1048576 + 8 * (self.body.len() as u128) {
+        if extra > 1048576 + 8 * (self.count as u128) {
             return true;
         }
         self.extra = extra;
@@ -237,17 +261,16 @@ impl State {
 
     /// What becomes of a whole chunk line.
     #[tactic(auto, unfolding(tpf_base::specs::HttpReply::line_place))]
-    fn line_end(&mut self, padded: bool)
-        ensures place { (g : Gathered) → is_padded g ≡ padded → (padded ≡ false → gathered_of self.old ≡ g) → place_of self.new ≡ line_place g (chunk_size self.old.held.line) }
+    fn line_end(&mut self, line: &[u8], padded: bool)
+        ensures place { (body : List ℕ) (g : Gathered) → is_padded g ≡ padded → (padded ≡ false → gathered_of self.old body ≡ g) → place_of self.new [] body ≡ line_place g (chunk_size line.now) }
         ensures keeps { Keeps self.old self.new }
     {
-        match chunk_size(self.held.line()) {
+        match chunk_size(line) {
             None => self.fail(ReplyFault::Framing),
             Some(size) => {
                 if padded {
                     self.fail(ReplyFault::TooLong);
                 } else {
-                    self.held.clear();
                     self.stage = if size == 0 {
                         Stage::Trailer
                     } else {
@@ -258,26 +281,28 @@ impl State {
         }
     }
 
+    /// Reads the last byte of this much of a chunk line.
     #[tactic(auto, unfolding(tpf_base::specs::HttpReply::after_line_byte))]
-    fn line_byte(&mut self, b: u8) -> Result<(), OutOfMemory>
+    fn line_byte(&mut self, line: &[u8], b: u8) -> Part
         requires { self.old.stage ≡ Stage.Line }
-        ensures ok { OnOk result (place_of self.new ≡ after_line_byte (self.old.held.line ++ b ∷ []) b (with_extra (gathered_of self.old))) }
+        ensures place { (body : List ℕ) → length body ≡ self.old.count → place_of self.new (line_behind result line.now) body ≡ after_line_byte line.now b (with_extra (gathered_of self.old body)) }
+        ensures part { result ≢ Part.Body }
         ensures keeps { Keeps self.old self.new }
     {
-        self.held.push(b)?;
         let padded = self.count_extra();
-        if self.held.len() > LINE_LIMIT {
+        if line.len() > LINE_LIMIT {
             self.fail(ReplyFault::Framing);
         } else if b == b'\n' {
-            self.line_end(padded);
+            self.line_end(line, padded);
+            return Part::Frame;
         } else if padded {
             self.fail(ReplyFault::TooLong);
         }
-        Ok(())
+        Part::Line
     }
 
     fn return_byte(&mut self, b: u8)
-        ensures place { place_of self.new ≡ after_byte self.old.limit (AtReturn (gathered_of self.old)) b }
+        ensures place { (body : List ℕ) → length body ≡ self.old.count → place_of self.new [] body ≡ after_byte self.old.limit (AtReturn (gathered_of self.old body)) b }
         ensures keeps { Keeps self.old self.new }
     {
         if b != b'\r' {
@@ -290,7 +315,7 @@ impl State {
     }
 
     fn newline_byte(&mut self, b: u8)
-        ensures place { place_of self.new ≡ after_byte self.old.limit (AtNewline (gathered_of self.old)) b }
+        ensures place { (body : List ℕ) → length body ≡ self.old.count → place_of self.new [] body ≡ after_byte self.old.limit (AtNewline (gathered_of self.old body)) b }
         ensures keeps { Keeps self.old self.new }
     {
         if b != b'\n' {
@@ -298,56 +323,68 @@ impl State {
         } else if self.count_extra() {
             self.fail(ReplyFault::TooLong);
         } else {
-            self.held.clear();
             self.stage = Stage::Line;
         }
     }
 
+    /// Reads the last byte of these lines behind the last chunk.
     #[tactic(auto, unfolding(tpf_base::specs::HttpReply::after_trailer_byte))]
-    fn trailer_byte(&mut self, b: u8) -> Result<(), OutOfMemory>
+    fn trailer_byte(&mut self, lines: &[u8])
         requires { self.old.stage ≡ Stage.Trailer }
-        ensures ok { OnOk result (place_of self.new ≡ after_trailer_byte (self.old.held.line ++ b ∷ []) (gathered_of self.old)) }
+        ensures place { (body : List ℕ) → place_of self.new lines.now body ≡ after_trailer_byte lines.now (gathered_of self.old body) }
         ensures keeps { Keeps self.old self.new }
     {
-        self.held.push(b)?;
-        if self.held.len() as u128 > HEADS_LIMIT {
+        if lines.len() as u128 > HEADS_LIMIT {
             self.fail(ReplyFault::TooLong);
-        } else if ends_trailer(self.held.line()) {
+        } else if ends_trailer(lines) {
             self.stage = Stage::Finished;
         }
-        Ok(())
     }
 
-    /// Reads one more byte.
-    #[tactic(auto, using(crate::proofs::BodyLemmas::keeps_go_on))]
-    fn byte(&mut self, b: u8) -> Result<(), OutOfMemory>
-        ensures ok { OnOk result (place_of self.new ≡ after_byte self.old.limit (place_of self.old) b) }
-        ensures goes_on { GoesOn self.old self.new }
+    /// Reads one more byte, which is the last of this much of a head or a line.
+    fn byte(&mut self, line: &[u8], b: u8) -> Part
+        requires room { self.old.count < 2 ^ 63 }
+        ensures place { (held body : List ℕ) → line.now ≡ held ++ b ∷ [] → length body ≡ self.old.count → place_of self.new (line_behind result line.now) (body_behind result body (b ∷ [])) ≡ after_byte self.old.limit (place_of self.old held body) b }
+        ensures count { self.new.count ≡ count_behind result self.old.count 1 }
+        ensures limit { self.new.limit ≡ self.old.limit }
+        ensures begins { self.new.begins ≡ self.old.begins }
     {
         match self.stage {
-            Stage::Heads => self.head_byte(b),
-            Stage::Sized(wanted) => self.sized_byte(wanted, b),
-            Stage::Unsized => self.unsized_byte(b),
-            Stage::Line => self.line_byte(b),
-            Stage::Chunk(wanted) => self.chunk_byte(wanted, b),
+            Stage::Heads => self.head_byte(line),
+            Stage::Line => self.line_byte(line, b),
+            Stage::Trailer => {
+                self.trailer_byte(line);
+                Part::Line
+            }
+            Stage::Sized(wanted) => {
+                self.sized_byte(wanted);
+                Part::Body
+            }
+            Stage::Unsized => {
+                self.unsized_byte();
+                Part::Body
+            }
+            Stage::Chunk(wanted) => {
+                self.chunk_byte(wanted);
+                Part::Body
+            }
             Stage::Return => {
                 self.return_byte(b);
-                Ok(())
+                Part::Frame
             }
             Stage::Newline => {
                 self.newline_byte(b);
-                Ok(())
+                Part::Frame
             }
-            Stage::Trailer => self.trailer_byte(b),
-            Stage::Finished | Stage::Failed(_) => Ok(()),
+            Stage::Finished | Stage::Failed(_) => Part::Frame,
         }
     }
 
     /// How many bytes the body takes before its last one, or the one that passes the limit.
     fn body_room(&self) -> u64
-        ensures { result ≡ room_at self.now.limit (place_of self.now) }
+        ensures { result ≡ room_for self.now.limit self.now.stage self.now.count }
     {
-        let left = self.limit.saturating_sub(self.body.len() as u64);
+        let left = self.limit.saturating_sub(self.count as u64);
         match self.stage {
             Stage::Sized(wanted) => wanted.saturating_sub(1),
             Stage::Unsized => left,
@@ -362,25 +399,22 @@ impl State {
         }
     }
 
-    /// Takes bytes of the body at once.
-    #[tactic(auto, using(crate::proofs::BodyLemmas::fronts))]
-    fn body_run(&mut self, run: &[u8]) -> Result<(), OutOfMemory>
-        requires some { 0 < length run.now }
-        requires room { length run.now ≤ room_at self.old.limit (place_of self.old) }
-        ensures ok { OnOk result (place_of self.new ≡ with_run (place_of self.old) run.now) }
-        ensures goes_on { GoesOn self.old self.new }
+    /// Reads so many bytes of the body at once.
+    fn body_run(&mut self, n: usize)
+        requires some { 0 < n }
+        requires room { n ≤ room_for self.old.limit self.old.stage self.old.count }
+        requires fits { self.old.count + n < 2 ^ 63 }
+        ensures place { (line body run : List ℕ) → length body ≡ self.old.count → length run ≡ n → place_of self.new [] (body ++ run) ≡ with_run (place_of self.old line body) run }
+        ensures count { self.new.count ≡ self.old.count + n }
+        ensures limit { self.new.limit ≡ self.old.limit }
+        ensures begins { self.new.begins ≡ self.old.begins }
     {
+        self.count += n;
         match self.stage {
-            Stage::Sized(wanted) => {
-                self.body.extend_from_slice(run)?;
-                self.stage = Stage::Sized(wanted - run.len() as u64);
-            }
-            Stage::Unsized => self.body.extend_from_slice(run)?,
-            Stage::Chunk(wanted) => {
-                self.body.extend_from_slice(run)?;
-                self.stage = Stage::Chunk(wanted - run.len() as u64);
-            }
+            Stage::Sized(wanted) => self.stage = Stage::Sized(wanted - n as u64),
+            Stage::Chunk(wanted) => self.stage = Stage::Chunk(wanted - n as u64),
             Stage::Heads
+            | Stage::Unsized
             | Stage::Line
             | Stage::Return
             | Stage::Newline
@@ -388,54 +422,39 @@ impl State {
             | Stage::Finished
             | Stage::Failed(_) => {}
         }
-        Ok(())
     }
 
-    /// Reads the bytes of the body at the front, or one byte, and answers how many it read.
-    pub fn read(&mut self, bytes: &[u8]) -> Result<usize, OutOfMemory>
-        requires some { 0 < length bytes.now }
-        requires goes { is_open (place_of self.old) ≡ true }
-        ensures some { IfOk result (λ n. 0 < n) }
-        ensures within { IfOk result (λ n. n ≤ length bytes.now) }
-        ensures runs { IfOk result (λ n. Runs self.old.limit (place_of self.old) bytes.now n (place_of self.new)) }
-        ensures goes_on { GoesOn self.old self.new }
-    {
-        let n = self.body_room().min(bytes.len() as u64) as usize;
-        if n == 0 {
-            self.byte(bytes[0])?;
-            return Ok(1);
-        }
-        self.body_run(front(bytes, n))?;
-        Ok(n)
-    }
-
-    /// Notes where the state stands.
-    pub fn mark(&mut self) -> Mark
-        ensures place { place_of self.new ≡ place_of self.old }
+    /// Begins behind what was read, unless a head or a line goes on.
+    fn pass(&mut self, part: Part, next: usize)
+        ensures place { (line body : List ℕ) → place_of self.new line body ≡ place_of self.old line body }
+        ensures goes_on { part ≡ Part.Line → self.new.begins ≡ self.old.begins }
+        ensures over { part ≢ Part.Line → self.new.begins ≡ next }
+        ensures count { self.new.count ≡ self.old.count }
         ensures limit { self.new.limit ≡ self.old.limit }
-        ensures mark { IsMarkOf result self.new }
     {
-        self.held.keep();
-        Mark {
-            stage: self.stage,
-            passed: self.passed,
-            keeps: self.keeps,
-            body: self.body.len(),
-            extra: self.extra,
+        match part {
+            Part::Line => {}
+            Part::Body | Part::Frame => self.begins = next,
         }
     }
 
-    /// Goes back to the mark.
-    pub fn go_back(&mut self, mark: Mark)
-        requires { mark.body ≤ length self.old.body.items }
-        ensures place { (s : State) → IsMarkOf mark s → GoesOn s self.old → place_of self.new ≡ place_of s }
-        ensures limit { self.new.limit ≡ self.old.limit }
+    /// Reads the bytes of the body that stand at a place, or one byte, and answers the place behind
+    /// them and where they belong.
+    pub fn read(&mut self, bytes: &[u8], at: usize) -> (usize, Part)
+        requires more { at < length bytes.now }
+        requires begins { self.old.begins ≤ at }
+        requires few { self.old.count ≤ self.old.begins }
+        requires goes_on { (passed : ℕ) (held : List ℕ) (g : Gathered) → is_open (place_for self.old.stage passed held g) ≡ true }
+        ensures { ReadsTo self.old self.new bytes.now at result.0 result.1 }
     {
-        self.stage = mark.stage;
-        self.passed = mark.passed;
-        self.held.go_back();
-        self.keeps = mark.keeps;
-        self.extra = mark.extra;
-        self.body.truncate(mark.body);
+        let n = self.body_room().min((bytes.len() - at) as u64) as usize;
+        if n > 0 {
+            self.body_run(n);
+            self.begins = at + n;
+            return (at + n, Part::Body);
+        }
+        let part = self.byte(part_of(bytes, self.begins, at + 1), bytes[at]);
+        self.pass(part, at + 1);
+        (at + 1, part)
     }
 }

@@ -1,26 +1,39 @@
-use Rattle.std.proofs.Common.{◌∙◌, arith}
-use Rattle.http_wire.specs.Places.{place_of, gathered_of}
-use Rattle.http_wire.proofs.RunLemmas.{runs_over, runs_out}
+use Rattle.std.proofs.Common.{refl, ◌∙◌, arith}
+use Rattle.http_wire.proofs.ReadLemmas.{along_first, along_more, along_over, along_out, few_behind}
 use Rattle.http_wire.proofs.reply.run.Goals as goal
+use Rattle.http_wire.proofs.reply.run.Goals.{then-loop-at-test+else-is_open, else-loop-at-test}
 
-pub returns-else-is_open-clause-place : goal.returns-else-is_open-clause-place
-returns-else-is_open-clause-place c =
-    (runs_over c.args.state.now.limit (place_of c.args.state.now) c.args.piece.now c.loop-used.used (place_of c.loop-used.state) c.loop-used.invariant.runs
-    (c.is_open.ensures c.loop-used.state.passed c.loop-used.state.held.line (gathered_of c.loop-used.state) ∙ c.if-is_open.false)).0
+pub loop-at-init : goal.loop-at-init
+loop-at-init c = record {
+  later = omega arith;
+  within = c.requires.within;
+  limit = refl;
+  begins = c.requires.begins;
+  few = c.requires.few;
+  runs = λ body is. along_first c.args.state.now c.args.bytes.now c.args.start body is;
+}
 
-pub returns-else-is_open-clause-reading : goal.returns-else-is_open-clause-reading
-returns-else-is_open-clause-reading c =
-    (runs_over c.args.state.now.limit (place_of c.args.state.now) c.args.piece.now c.loop-used.used (place_of c.loop-used.state) c.loop-used.invariant.runs
-    (c.is_open.ensures c.loop-used.state.passed c.loop-used.state.held.line (gathered_of c.loop-used.state) ∙ c.if-is_open.false)).1
+pub loop-at-preserved : goal.loop-at-preserved
+loop-at-preserved c =
+    let v = c.loop-at.invariant in
+    let r = c.read-at.ensures in
+    let later = v.later in
+    let more = r.more in
+    record {
+      later = omega arith;
+      within = r.within;
+      limit = r.limit ∙ v.limit;
+      begins = r.begins;
+      few = few_behind _ _ _ _ _ _ r v.begins v.few;
+      runs = λ body is. along_more _ _ _ _ _ _ _ _ body v.limit v.later (v.runs body is) r;
+    }
 
-pub returns-after-loop-used-clause-place : goal.returns-after-loop-used-clause-place
-returns-after-loop-used-clause-place c =
-    let least = c.loop-used-test.false in
-    let most = c.loop-used.invariant.within in
-    (runs_out c.args.state.now.limit (place_of c.args.state.now) c.args.piece.now c.loop-used.used (place_of c.loop-used.state) c.loop-used.invariant.runs (omega arith)).0
-
-pub returns-after-loop-used-clause-reading : goal.returns-after-loop-used-clause-reading
-returns-after-loop-used-clause-reading c =
-    let least = c.loop-used-test.false in
-    let most = c.loop-used.invariant.within in
-    (runs_out c.args.state.now.limit (place_of c.args.state.now) c.args.piece.now c.loop-used.used (place_of c.loop-used.state) c.loop-used.invariant.runs (omega arith)).1
+pub returns : goal.returns
+returns c =
+    let v = c.loop-at.invariant in
+    let begins = v.begins in
+    let within = v.within in
+    λ body is. elim c.loop-at-test.branch [
+      | then-loop-at-test+else-is_open w ↦ along_over _ _ _ _ _ body v.limit (omega arith) v.few (v.runs body is) (λ passed held g. w.is_open.ensures passed held g ∙ w.if-is_open.false)
+      | else-loop-at-test w ↦ (let end = w.loop-at-test.false in along_out _ _ _ _ _ body v.limit (omega arith) v.few (v.runs body is) (omega arith))
+    ]

@@ -1,14 +1,16 @@
-use Rattle.std.proofs.Common.{◌≡◌, ◌≤◌, ◌-◌, length}
-use Rattle.http_wire.specs.Places.{place_of, GoesOn}
-use Rattle.http_wire.specs.Replies.{Runs}
+use Rattle.std.proofs.Common.{◌≡◌, ◌≤◌, ◌-◌, ℕ, List, length}
+use Rattle.http_wire.proofs.ReadLemmas.{Along}
 use Rattle.http_wire.proofs.reply.run.Given as goal
 
-abbrev pub invariant-loop-used : goal.invariant-loop-used
-invariant-loop-used l = record {
-  within : l.used ≤ length l.piece;
-  runs : Runs l.fn.state.limit (place_of l.fn.state) l.piece l.used (place_of l.state);
-  goes_on : GoesOn l.fn.state l.state;
+abbrev pub invariant-loop-at : goal.invariant-loop-at
+invariant-loop-at l = record {
+  later : l.start ≤ l.at;
+  within : l.at ≤ length l.bytes;
+  limit : l.state.limit ≡ l.fn.state.limit;
+  begins : l.state.begins ≤ l.at;
+  few : l.state.count ≤ l.state.begins;
+  runs : (body : List ℕ) → length body ≡ l.fn.state.count → Along l.fn.state l.state l.bytes l.start l.at body;
 }
 
-abbrev pub decreases-loop-used : goal.decreases-loop-used
-decreases-loop-used l = length l.piece - l.used
+abbrev pub decreases-loop-at : goal.decreases-loop-at
+decreases-loop-at l = length l.bytes - l.at

@@ -1,16 +1,19 @@
-use Rattle.std.proofs.Common.{ap, ◌∙◌, arith, take}
-use Rattle.http_wire.specs.Places.{place_of, with_run}
-use Rattle.http_wire.proofs.RunLemmas.{runs_one}
-use Rattle.http_wire.proofs.BodyLemmas.{body_runs}
+use Rattle.std.proofs.Common.{ℕ, List, ◌∷◌, [], get_or, refl, ◌∙◌, sym, ap, arith}
+use Rattle.http_wire.specs.Places.{place_of, line_behind, body_behind}
+use Rattle.http_wire.proofs.ReadLemmas.{read_run, read_byte}
 use Rattle.http_wire.proofs.state.State.read.Goals as goal
 
-pub returns-then-n-eq0-clause-runs : goal.returns-then-n-eq0-clause-runs
-returns-then-n-eq0-clause-runs c =
-    runs_one c.args.self.now.limit (place_of c.args.self.now) c.args.bytes.now (place_of c.byte.new.self) c.requires.some c.requires.goes c.in_ok-byte.ensures.ok
-
-pub returns-clause-runs : goal.returns-clause-runs
-returns-clause-runs c =
+pub returns-then-n-gt0 : goal.returns-then-n-gt0
+returns-then-n-gt0 c =
     let least = c.min-n.ensures in
     let room = c.body_room.ensures in
-    body_runs c.args.self.now.limit (place_of c.args.self.now) c.args.bytes.now c.min-n.result (place_of c.body_run.new.self) (omega arith) (omega arith) c.requires.goes
-    (c.in_ok-body_run.ensures.ok ∙ ap (with_run (place_of c.args.self.now)) c.front.ensures)
+    let more = c.requires.more in
+    read_run c.args.self.now _ c.args.bytes.now c.args.at c.min-n.result c.body_run.ensures.limit refl c.body_run.ensures.count c.requires.begins (omega arith) c.if-n-gt0.true (omega arith) c.requires.goes_on c.body_run.ensures.place
+
+pub returns : goal.returns
+returns c =
+    read_byte c.args.self.now c.pass.new.self c.args.bytes.now c.args.at c.byte-part.result (c.pass.ensures.limit ∙ c.byte-part.ensures.limit)
+    (λ e. c.pass.ensures.goes_on e ∙ c.byte-part.ensures.begins) c.pass.ensures.over (c.pass.ensures.count ∙ c.byte-part.ensures.count) c.requires.begins c.requires.more c.requires.goes_on
+    (λ held body is count. c.pass.ensures.place _ _
+    ∙ ap (λ (x : List ℕ). place_of c.byte-part.new.self (line_behind c.byte-part.result x) (body_behind c.byte-part.result body (get_or c.args.bytes.now c.args.at 0 ∷ []))) (sym c.part_of.ensures)
+    ∙ c.byte-part.ensures.place held body (c.part_of.ensures ∙ is) count)
