@@ -21,3 +21,5 @@ pub mod Keeping
 pub mod Small
 pub mod Servers
 pub mod Evaluating
+pub mod Bindings
+pub mod Choices

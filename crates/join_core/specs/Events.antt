@@ -1,5 +1,5 @@
 -- What a node does: it hands out an address, holds a page, takes one, and opens others.
-use Rattle.std.specs.Prelude.{ℕ, suc, ◌≡◌, ◌+◌, ◌<◌, ◌==◌, ◌&&◌, min, Bool, true, false, not, List, [], ◌∷◌, ◌++◌, length, map, Option, Some, None, slice_index_or, slice_set, if◌then◌else◌, nat_lt, ⊤}
+use Rattle.std.specs.Prelude.{ℕ, suc, ◌≡◌, ◌+◌, ◌<◌, ◌==◌, ◌&&◌, min, Bool, true, false, not, List, [], ◌∷◌, ◌++◌, length, map, Option, Some, None, slice_index_or, slice_get, slice_set, if◌then◌else◌, nat_lt, ⊤}
 use Rattle.std.specs.Option.{option_map}
 use Rattle.std.specs.List.{remove, list_all}
 use Rattle.tpf_base.specs.Addresses.{Address, IsAddress}
@@ -70,6 +70,14 @@ with_first index first (Walking p k next out) = Walking p k next out
 abbrev pub with_first_at : ℕ → First → NodeData → NodeData
 with_first_at index first n = node n.row n.rest (with_first index first n.stage)
 
+abbrev pub first_in : ℕ → Stage → Option First
+first_in index (Asking fs) = slice_get fs index
+first_in index (Walking p k next out) = None
+
+-- the first page at a place
+abbrev pub first_at : ℕ → NodeData → Option First
+first_at index n = first_in index n.stage
+
 -- all first pages are held
 abbrev pub is_full_stage : List Pattern → Stage → Bool
 is_full_stage rest (Asking fs) = (length fs == length rest) && list_all is_got fs
@@ -126,6 +134,11 @@ chosen_page page = chosen_page_by (page.count == 0) page
 abbrev pub IsChosenIn : Places → List Pattern → Stage → List NodeData → List Places → Option NodeData → Type 0
 IsChosenIn row rest (Asking fs) made rows after = (p : Pattern) (page : Page) → least (map count_of fs) < length fs → p ≡ slice_index_or rest (least (map count_of fs)) p → Got page ≡ slice_index_or fs (least (map count_of fs)) (Got page) → MadeOf p (remove rest (least (map count_of fs))) row (1) (chosen_page page) made rows after
 IsChosenIn row rest (Walking p k next out) made rows after = ⊤
+
+-- the place of the least count of the first pages
+abbrev pub least_in : Stage → ℕ
+least_in (Asking fs) = least (map count_of fs)
+least_in (Walking p k next out) = 0
 
 -- what the first page with the least count makes of the node
 abbrev pub IsChosen : NodeData → List NodeData → List Places → Option NodeData → Type 0

@@ -1,5 +1,6 @@
 pub mod Worlds
 pub mod Nodes
+pub mod NextPages
 pub mod Shown
 pub mod Events
 pub mod Joins

@@ -5,12 +5,13 @@ use Rattle.bgp_core.specs.Solutions.{Places}
 use Rattle.bgp_core.specs.Queries.{HasPlacesFor}
 use Rattle.join_core.specs.declared.node.Progress.{Progress}
 use Rattle.join_core.specs.declared.node.Progress.TheVariants.{Asks, Walks}
+use Rattle.join_core.specs.NextPages.{address_of, ticket_of}
 use Rattle.join_core.specs.Nodes.{Stage, IsAsking}
 use Rattle.join_core.specs.Nodes.Stage.{Asking, Walking}
 
 abbrev pub stage_of : Progress → Stage
 stage_of (Asks firsts) = Asking firsts.items
-stage_of (Walks walk) = Walking walk.chosen.value walk.pages walk.next walk.out
+stage_of (Walks walk) = Walking walk.chosen.value walk.pages (address_of walk.next) (ticket_of walk.next)
 
 -- what each node keeps: a fresh or asking one has patterns left, all of which can be asked for, and no more first pages than these;
 -- the row has a place for each name of a walking one's pattern

@@ -6,6 +6,7 @@ ghost use Rattle.bgp_core.specs.Queries.{HasPlacesFor};
 ghost use Rattle.join_core.specs.Nodes.{put_out, opened, rows_out, nodes_in, all_askable};
 ghost use Rattle.join_core.specs.Levels.{seed_node};
 
+use crate::binding::extended;
 use crate::opening::Opening;
 use crate::pattern_list::PatternList;
 use bgp_core::{Pattern, Row, instance_askable, match_triple};
@@ -51,22 +52,45 @@ pub(crate) fn add_match(
     Ok(())
 }
 
-/// Adds what the triples make of a row.
+/// Adds what the triples of a page make of a row. Each is moved into a row or dropped as it is walked.
 pub(crate) fn expand(
     alloc: Global,
     chosen: &Pattern,
     others: &Rc<PatternList>,
     row: &Row,
-    triples: &[Triple],
+    triples: Vec<Triple>,
     nodes: &mut Vec<Opening>,
     rows: &mut Vec<Row>,
 ) -> Result<(), OutOfMemory>
     requires chosen { HasPlacesFor (length row.now) chosen.now }
     requires others { AllByRecursion (HasPlacesFor (length row.now)) others.now.value }
-    ensures nodes { OnOk result (map seed_node nodes.new.items ≡ map seed_node nodes.old.items ++ opened chosen.now others.now.value row.now triples.now) }
-    ensures rows { OnOk result (rows.new.items ≡ rows.old.items ++ put_out chosen.now others.now.value row.now triples.now) }
+    ensures nodes { OnOk result (map seed_node nodes.new.items ≡ map seed_node nodes.old.items ++ opened chosen.now others.now.value row.now triples.items) }
+    ensures rows { OnOk result (rows.new.items ≡ rows.old.items ++ put_out chosen.now others.now.value row.now triples.items) }
 {
     for triple in triples {
+        if let Some(next) = extended(alloc, chosen, row, triple)? {
+            add_match(alloc, others, next, nodes, rows)?;
+        }
+    }
+    Ok(())
+}
+
+/// Adds what the triples of a page that is held, and stays held, make of a row. A term that is bound anew is copied.
+pub(crate) fn expand_held(
+    alloc: Global,
+    chosen: &Pattern,
+    others: &Rc<PatternList>,
+    row: &Row,
+    held: &[Triple],
+    nodes: &mut Vec<Opening>,
+    rows: &mut Vec<Row>,
+) -> Result<(), OutOfMemory>
+    requires chosen { HasPlacesFor (length row.now) chosen.now }
+    requires others { AllByRecursion (HasPlacesFor (length row.now)) others.now.value }
+    ensures nodes { OnOk result (map seed_node nodes.new.items ≡ map seed_node nodes.old.items ++ opened chosen.now others.now.value row.now held.now) }
+    ensures rows { OnOk result (rows.new.items ≡ rows.old.items ++ put_out chosen.now others.now.value row.now held.now) }
+{
+    for triple in held {
         if let Some(next) = match_triple(alloc, chosen, row, triple)? {
             add_match(alloc, others, next, nodes, rows)?;
         }

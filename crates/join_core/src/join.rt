@@ -162,7 +162,7 @@ impl Join {
             Waits::Next => {
                 let levels = &mut self.levels;
                 let waiting = &mut self.waiting;
-                take_next(levels, waiting, alloc, found.place, ticket, &page)?;
+                take_next(levels, waiting, alloc, found.place, ticket, page)?;
                 Ok(Answered::Taken)
             }
         }

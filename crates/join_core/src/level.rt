@@ -246,16 +246,11 @@ impl Level {
     }
 
     /// What the next page of a walk makes of a node.
-    pub(crate) fn next_page(
-        &self,
-        alloc: Global,
-        key: u64,
-        page: &Page,
-    ) -> Result<Made, OutOfMemory>
+    pub(crate) fn next_page(&self, alloc: Global, key: u64, page: Page) -> Result<Made, OutOfMemory>
         requires { Has self.now.started key }
-        ensures opened { (n : NodeData) → lookup (is_key key) self.now.started ≡ Some n → IfOk result (λ m. map seed_node m.opened.items ≡ opened_by n page.now.triples) }
-        ensures rows { (n : NodeData) → lookup (is_key key) self.now.started ≡ Some n → IfOk result (λ m. m.rows.items ≡ out_by n page.now.triples) }
-        ensures after { (n : NodeData) → lookup (is_key key) self.now.started ≡ Some n → IfOk result (λ m. m.after ≡ after_by n page.now.next) }
+        ensures opened { (n : NodeData) → lookup (is_key key) self.now.started ≡ Some n → IfOk result (λ m. map seed_node m.opened.items ≡ opened_by n page.triples) }
+        ensures rows { (n : NodeData) → lookup (is_key key) self.now.started ≡ Some n → IfOk result (λ m. m.rows.items ≡ out_by n page.triples) }
+        ensures after { (n : NodeData) → lookup (is_key key) self.now.started ≡ Some n → IfOk result (λ m. m.after ≡ after_by n page.next) }
         ensures idle { IfOk result (λ m. All (λ n. is_idle n ≡ true) (map seed_node m.opened.items ++ option_to_list m.after)) }
     {
         next_page_of(&self.started, alloc, key, page)

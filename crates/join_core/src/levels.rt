@@ -250,10 +250,10 @@ pub(crate) fn take_next(
     alloc: Global,
     place: Place,
     ticket: u64,
-    page: &Page,
+    page: Page,
 ) -> Result<(), OutOfMemory>
     requires { WaitsAt levels.old.items place.depth place.key ticket Waits.Next }
-    ensures taken { (n : NodeData) → found_at levels.old.items place.depth place.key ≡ Some n → OnOk result (TakesMade (plain levels.old.items) waiting.old.items (plain levels.new.items) waiting.new.items place.depth (index_at levels.old.items place.depth place.key) (opened_by n page.now.triples) (out_by n page.now.triples) (after_by n page.now.next)) }
+    ensures taken { (n : NodeData) → found_at levels.old.items place.depth place.key ≡ Some n → OnOk result (TakesMade (plain levels.old.items) waiting.old.items (plain levels.new.items) waiting.new.items place.depth (index_at levels.old.items place.depth place.key) (opened_by n page.triples) (out_by n page.triples) (after_by n page.next)) }
     ensures failed { OnErr result (plain levels.new.items ≡ plain levels.old.items) }
     ensures failed_rows { OnErr result (waiting.new.items ≡ waiting.old.items) }
 {

@@ -1,6 +1,7 @@
 //! The join of the patterns of a query over the pages of their fragments: what to ask next, and the rows that come of it.
 #![tactic(auto)]
 
+mod binding;
 mod choice;
 mod evaluates;
 mod evaluation;
@@ -10,6 +11,7 @@ mod join;
 mod laws;
 mod level;
 mod levels;
+mod next_page;
 mod node;
 mod opening;
 mod pattern_list;

@@ -1,5 +1,5 @@
 // The nodes of a join.
-ghost use Rattle.std.specs.Prelude.{ℕ, ◌≡◌, ◌<◌, ◌+◌, ◌≤◌, List, length, IfOk, OnOk, OnErr, IfSome, [], Option, Some, None, true, false, IsTrue, ◌++◌, map, min, slice_index_or, option_to_list, IfNone};
+ghost use Rattle.std.specs.Prelude.{ℕ, ◌≡◌, ◌<◌, ◌+◌, ◌≤◌, List, length, IfOk, OnOk, OnErr, IfSome, [], Option, Some, None, true, false, IsTrue, ◌++◌, ◌==◌, map, min, slice_index_or, option_to_list, IfNone};
 ghost use Rattle.std.specs.List.{list_all, All, AllByRecursion, remove};
 ghost use Rattle.bgp_core.specs.declared.pattern.Pattern.{Pattern};
 ghost use Rattle.bgp_core.specs.Queries.{HasPlacesFor};
@@ -13,17 +13,19 @@ ghost use Rattle.join_core.specs.Sound.{IsAskedBy};
 ghost use Rattle.join_core.specs.Nodes.{Stage, NodeData, all_askable, fresh, opened, put_out, is_got, count_of};
 ghost use Rattle.join_core.specs.Events.{CanAsk, asked, IsNextAddress, waits_for, first_waiting, with_first_at, is_full, next_walk, one_more, chosen_page};
 ghost use Rattle.join_core.specs.Levels.{seed_node};
-ghost use Rattle.join_core.specs.Events.{IsFirstOf, opened_by, out_by, after_by, IsChosen, has_ask, is_idle};
+ghost use Rattle.join_core.specs.Events.{IsFirstOf, first_at, least_in, opened_by, out_by, after_by, MadeOf, IsChosen, has_ask, is_idle};
 
 use crate::choice::least_count;
-use crate::expand::expand;
+use crate::expand::{expand, expand_held};
 use crate::first::First;
+use crate::next_page::NextPage;
 use crate::opening::Opening;
 use crate::pattern_list::PatternList;
 use bgp_core::{Pattern, Row, instance};
 use control_reader::Page;
 use std::alloc::Global;
 use std::marker::Model;
+use std::mem;
 use std::rc::Rc;
 use template_fill::{Form, WebAddress};
 use tpf_base::OutOfMemory;
@@ -33,8 +35,7 @@ use tpf_base::OutOfMemory;
 pub(crate) struct Walk {
     pub(crate) chosen: Rc<Pattern>,
     pub(crate) pages: u64,
-    pub(crate) next: WebAddress,
-    pub(crate) out: Option<u64>,
+    pub(crate) next: NextPage,
 }
 
 /// What a node does: it asks for the first pages of its patterns, or walks over the pages of the chosen one.
@@ -156,11 +157,7 @@ impl Node {
                 firsts.push(First::Out(ticket))?;
                 Ok(address)
             }
-            Progress::Walks(walk) => {
-                let address = walk.next.copy(alloc)?;
-                walk.out = Some(ticket);
-                Ok(address)
-            }
+            Progress::Walks(walk) => Ok(walk.next.hand_out(ticket)),
         }
     }
 
@@ -173,7 +170,7 @@ impl Node {
                 Some(index) => Some(Waits::First(index)),
                 None => None,
             },
-            Progress::Walks(walk) => match walk.out {
+            Progress::Walks(walk) => match walk.next.ticket() {
                 Some(out) if out == ticket => Some(Waits::Next),
                 _ => None,
             },
@@ -188,6 +185,18 @@ impl Node {
         match &mut self.progress {
             Progress::Asks(firsts) => firsts[index] = first,
             Progress::Walks(_) => {}
+        }
+    }
+
+    /// Writes over what is held of a first page, and gives back what was there.
+    fn swap_first(&mut self, index: usize, first: First) -> Option<First>
+        requires { IsFirstOf index self.old }
+        ensures after { self.new ≡ with_first_at index first self.old }
+        ensures before { result ≡ first_at index self.old }
+    {
+        match &mut self.progress {
+            Progress::Asks(firsts) => Some(mem::replace(&mut firsts[index], first)),
+            Progress::Walks(_) => None,
         }
     }
 
@@ -219,32 +228,31 @@ impl Node {
     {
         match &self.progress {
             Progress::Asks(firsts) => firsts.is_empty(),
-            Progress::Walks(walk) => walk.out.is_none(),
+            Progress::Walks(walk) => walk.next.ticket().is_none(),
         }
     }
 }
 
-/// The node that walks on after some pages, if there is a further one.
+/// The node that walks on after some pages, if there is a further one, whose address it takes.
 fn walk_on(
     alloc: Global,
     row: &Row,
     rest: Rc<PatternList>,
     chosen: &Rc<Pattern>,
     pages: u64,
-    next: &Option<WebAddress>,
+    next: Option<WebAddress>,
 ) -> Result<Option<Node>, OutOfMemory>
     requires places { AllByRecursion (HasPlacesFor (length row.now)) rest.value }
     requires chosen { HasPlacesFor (length row.now) chosen.now.value }
-    ensures { IfOk result (λ o. o ≡ next_walk chosen.now.value rest.value row.now pages next.now) }
+    ensures { IfOk result (λ o. o ≡ next_walk chosen.now.value rest.value row.now pages next) }
 {
-    let Some(next) = next else {
+    let Some(address) = next else {
         return Ok(None);
     };
     let walk = Walk {
         chosen: chosen.clone()?,
         pages,
-        next: next.copy(alloc)?,
-        out: None,
+        next: NextPage::Held(address),
     };
     Ok(Some(Node {
         row: row.copy(alloc)?,
@@ -253,8 +261,46 @@ fn walk_on(
     }))
 }
 
-/// What a page of a pattern makes of a row.
+/// What a page of a pattern makes of a row. Its triples are moved or dropped one by one.
 fn made_of(
+    alloc: Global,
+    row: &Row,
+    rest: Rc<PatternList>,
+    chosen: &Rc<Pattern>,
+    pages: u64,
+    page: Page,
+) -> Result<Made, OutOfMemory>
+    requires places { AllByRecursion (HasPlacesFor (length row.now)) rest.value }
+    requires chosen { HasPlacesFor (length row.now) chosen.now.value }
+    ensures opened { IfOk result (λ m. map seed_node m.opened.items ≡ opened chosen.now.value rest.value row.now page.triples) }
+    ensures rows { IfOk result (λ m. m.rows.items ≡ put_out chosen.now.value rest.value row.now page.triples) }
+    ensures after { IfOk result (λ m. m.after ≡ next_walk chosen.now.value rest.value row.now pages page.next) }
+    ensures idle { IfOk result (λ m. All (λ n. is_idle n ≡ true) (map seed_node m.opened.items ++ option_to_list m.after)) }
+{
+    let mut opened = Vec::new(alloc);
+    let mut rows = Vec::new(alloc);
+    let triples = page.triples.into_vec();
+    expand(alloc, chosen, &rest, row, triples, &mut opened, &mut rows)?;
+    let after = walk_on(alloc, row, rest, chosen, pages, page.next)?;
+    Ok(Made {
+        opened,
+        rows,
+        after,
+    })
+}
+
+/// The address of a next page again, if there is one.
+fn copy_next(alloc: Global, next: &Option<WebAddress>) -> Result<Option<WebAddress>, OutOfMemory>
+    ensures { IfOk result (λ o. o ≡ next.now) }
+{
+    match next {
+        Some(address) => Ok(Some(address.copy(alloc)?)),
+        None => Ok(None),
+    }
+}
+
+/// What a page that stays held makes of a row, as `made_of`.
+fn made_of_held(
     alloc: Global,
     row: &Row,
     rest: Rc<PatternList>,
@@ -271,16 +317,10 @@ fn made_of(
 {
     let mut opened = Vec::new(alloc);
     let mut rows = Vec::new(alloc);
-    expand(
-        alloc,
-        chosen,
-        &rest,
-        row,
-        page.triples.as_slice(),
-        &mut opened,
-        &mut rows,
-    )?;
-    let after = walk_on(alloc, row, rest, chosen, pages, &page.next)?;
+    let triples = page.triples.as_slice();
+    expand_held(alloc, chosen, &rest, row, triples, &mut opened, &mut rows)?;
+    let next = copy_next(alloc, &page.next)?;
+    let after = walk_on(alloc, row, rest, chosen, pages, next)?;
     Ok(Made {
         opened,
         rows,
@@ -302,8 +342,36 @@ fn nothing(alloc: Global) -> Made
     }
 }
 
+/// Whether a page says that its fragment has no triple.
+fn counts_none(page: &Page) -> bool
+    ensures { result ≡ (page.now.count == 0) }
+{
+    page.count == 0
+}
+
 /// What the first page of the chosen pattern makes of a row: nothing where its count is 0.
 fn made_first(
+    alloc: Global,
+    row: &Row,
+    rest: Rc<PatternList>,
+    chosen: &Rc<Pattern>,
+    page: Page,
+) -> Result<Made, OutOfMemory>
+    requires places { AllByRecursion (HasPlacesFor (length row.now)) rest.value }
+    requires chosen { HasPlacesFor (length row.now) chosen.now.value }
+    ensures opened { IfOk result (λ m. map seed_node m.opened.items ≡ opened chosen.now.value rest.value row.now (chosen_page page).triples) }
+    ensures rows { IfOk result (λ m. m.rows.items ≡ put_out chosen.now.value rest.value row.now (chosen_page page).triples) }
+    ensures after { IfOk result (λ m. m.after ≡ next_walk chosen.now.value rest.value row.now 1 (chosen_page page).next) }
+    ensures idle { IfOk result (λ m. All (λ n. is_idle n ≡ true) (map seed_node m.opened.items ++ option_to_list m.after)) }
+{
+    if counts_none(&page) {
+        return Ok(nothing(alloc));
+    }
+    made_of(alloc, row, rest, chosen, 1, page)
+}
+
+/// What the first page of the chosen pattern makes of a row where it stays held, as `made_first`.
+fn made_first_held(
     alloc: Global,
     row: &Row,
     rest: Rc<PatternList>,
@@ -317,18 +385,18 @@ fn made_first(
     ensures after { IfOk result (λ m. m.after ≡ next_walk chosen.now.value rest.value row.now 1 (chosen_page page.now).next) }
     ensures idle { IfOk result (λ m. All (λ n. is_idle n ≡ true) (map seed_node m.opened.items ++ option_to_list m.after)) }
 {
-    if page.count == 0 {
+    if counts_none(page) {
         return Ok(nothing(alloc));
     }
-    made_of(alloc, row, rest, chosen, 1, page)
+    made_of_held(alloc, row, rest, chosen, 1, page)
 }
 
 impl Node {
     /// What the next page of a walk makes of the node.
-    pub(crate) fn next_page(&self, alloc: Global, page: &Page) -> Result<Made, OutOfMemory>
-        ensures opened { IfOk result (λ m. map seed_node m.opened.items ≡ opened_by self.now page.now.triples) }
-        ensures rows { IfOk result (λ m. m.rows.items ≡ out_by self.now page.now.triples) }
-        ensures after { IfOk result (λ m. m.after ≡ after_by self.now page.now.next) }
+    pub(crate) fn next_page(&self, alloc: Global, page: Page) -> Result<Made, OutOfMemory>
+        ensures opened { IfOk result (λ m. map seed_node m.opened.items ≡ opened_by self.now page.triples) }
+        ensures rows { IfOk result (λ m. m.rows.items ≡ out_by self.now page.triples) }
+        ensures after { IfOk result (λ m. m.after ≡ after_by self.now page.next) }
         ensures idle { IfOk result (λ m. All (λ n. is_idle n ≡ true) (map seed_node m.opened.items ++ option_to_list m.after)) }
     {
         let Progress::Walks(walk) = &self.progress else {
@@ -345,7 +413,27 @@ impl Node {
         )
     }
 
-    /// What the held first page of the pattern with the least count makes of the node: nothing where the count is 0.
+    /// What the first page of the pattern at a place makes of the node: nothing where the count is 0.
+    fn go_on(&self, alloc: Global, index: usize, page: Page) -> Result<Made, OutOfMemory>
+        requires { index < length self.now.rest }
+        ensures made { IfOk result (λ m. (p : Pattern) → p ≡ slice_index_or self.now.rest index p → MadeOf p (remove self.now.rest index) self.now.row (1) (chosen_page page) (map seed_node m.opened.items) m.rows.items m.after) }
+        ensures idle { IfOk result (λ m. All (λ n. is_idle n ≡ true) (map seed_node m.opened.items ++ option_to_list m.after)) }
+    {
+        let rest = Rc::new(alloc, self.rest.without(alloc, index)?)?;
+        made_first(alloc, &self.row, rest, self.rest.at(index), page)
+    }
+
+    /// The place of the least count of the first pages, the first on a tie.
+    fn least(&self) -> usize
+        ensures { result ≡ least_in self.now.stage }
+    {
+        match &self.progress {
+            Progress::Asks(firsts) => least_count(firsts),
+            Progress::Walks(_) => 0,
+        }
+    }
+
+    /// What the held first page of the pattern with the least count makes of the node, as `go_on`. The page stays held.
     fn choose(&self, alloc: Global) -> Result<Made, OutOfMemory>
         requires { is_full self.now ≡ true }
         ensures chosen { IfOk result (λ m. IsChosen self.now (map seed_node m.opened.items) m.rows.items m.after) }
@@ -362,7 +450,41 @@ impl Node {
             return Ok(nothing(alloc));
         };
         let rest = Rc::new(alloc, self.rest.without(alloc, index)?)?;
-        made_first(alloc, &self.row, rest, self.rest.at(index), page)
+        made_first_held(alloc, &self.row, rest, self.rest.at(index), page)
+    }
+
+    /// Puts a ticket back in the place of the page that came last and has the least count, and goes on with the page.
+    fn choose_last(&mut self, alloc: Global, index: usize, ticket: u64) -> Result<Made, OutOfMemory>
+        requires full { is_full self.old ≡ true }
+        requires place { IsFirstOf index self.old }
+        requires least { least_in self.old.stage ≡ index }
+        ensures back { self.new ≡ with_first_at index (First.Out ticket) self.old }
+        ensures chosen { IfOk result (λ m. IsChosen self.old (map seed_node m.opened.items) m.rows.items m.after) }
+        ensures idle { IfOk result (λ m. All (λ n. is_idle n ≡ true) (map seed_node m.opened.items ++ option_to_list m.after)) }
+    {
+        match self.swap_first(index, First::Out(ticket)) {
+            Some(First::Got(page)) => self.go_on(alloc, index, page),
+            Some(First::Out(_)) => unreachable!(),
+            None => unreachable!(),
+        }
+    }
+
+    /// What the pattern with the least count makes of a node that holds all first pages, the last of which came to a place.
+    /// That page is moved where it is chosen, and gone either way: the ticket stands there again. A page that was held before
+    /// stays held, since it has to be there if memory runs out, and what is new of it is copied.
+    fn take_last(&mut self, alloc: Global, index: usize, ticket: u64) -> Result<Made, OutOfMemory>
+        requires full { is_full self.old ≡ true }
+        requires place { IsFirstOf index self.old }
+        ensures back { self.new ≡ with_first_at index (First.Out ticket) self.old }
+        ensures chosen { IfOk result (λ m. IsChosen self.old (map seed_node m.opened.items) m.rows.items m.after) }
+        ensures idle { IfOk result (λ m. All (λ n. is_idle n ≡ true) (map seed_node m.opened.items ++ option_to_list m.after)) }
+    {
+        if self.least() == index {
+            return self.choose_last(alloc, index, ticket);
+        }
+        let made = self.choose(alloc);
+        self.set_first(index, First::Out(ticket));
+        made
     }
 
     /// Takes a first page. Where it is the last to come, the pattern with the least count is chosen, and the answer is what
@@ -385,9 +507,7 @@ impl Node {
         if !self.is_full() {
             return Ok(None);
         }
-        let made = self.choose(alloc);
-        self.set_first(index, First::Out(ticket));
-        match made {
+        match self.take_last(alloc, index, ticket) {
             Ok(made) => Ok(Some(made)),
             Err(error) => Err(error),
         }

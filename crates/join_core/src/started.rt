@@ -76,12 +76,12 @@ pub(crate) fn next_page_of(
     started: &BTreeMap<u64, Node>,
     alloc: Global,
     key: u64,
-    page: &Page,
+    page: Page,
 ) -> Result<Made, OutOfMemory>
     requires { Has started.now.entries key }
-    ensures opened { (n : NodeData) → get nat_cmp started.now key ≡ Some n → IfOk result (λ m. map seed_node m.opened.items ≡ opened_by n page.now.triples) }
-    ensures rows { (n : NodeData) → get nat_cmp started.now key ≡ Some n → IfOk result (λ m. m.rows.items ≡ out_by n page.now.triples) }
-    ensures after { (n : NodeData) → get nat_cmp started.now key ≡ Some n → IfOk result (λ m. m.after ≡ after_by n page.now.next) }
+    ensures opened { (n : NodeData) → get nat_cmp started.now key ≡ Some n → IfOk result (λ m. map seed_node m.opened.items ≡ opened_by n page.triples) }
+    ensures rows { (n : NodeData) → get nat_cmp started.now key ≡ Some n → IfOk result (λ m. m.rows.items ≡ out_by n page.triples) }
+    ensures after { (n : NodeData) → get nat_cmp started.now key ≡ Some n → IfOk result (λ m. m.after ≡ after_by n page.next) }
     ensures idle { IfOk result (λ m. All (λ n. is_idle n ≡ true) (map seed_node m.opened.items ++ option_to_list m.after)) }
 {
     match started.get(&key) {

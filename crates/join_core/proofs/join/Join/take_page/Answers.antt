@@ -153,8 +153,8 @@ invariant_of-self-in-First c =
     let took = took-first c.self.inside.form c.self.inside.window c.self.inside.tickets c.self.inside.longest old c.self.inside.levels.items c.take_first.new.levels.items c.self.inside.waiting.items c.take_first.new.waiting.items d k c.args.ticket c.in-First.index c.args.page refl at c.in_ok-take_first-in-First.ensures.taken in
     fewer-below c.self.inside.tickets c.args.ticket (tickets_out old) _ (first-number old _ c.args.ticket c.in-First.index c.args.page took) c.self.invariant
 
-pub invariant_of-self-in-Next-1 : goal.invariant_of-self-in-Next-1
-invariant_of-self-in-Next-1 c =
+pub invariant_of-self-in-Next : goal.invariant_of-self-in-Next
+invariant_of-self-in-Next c =
     let old = joined c.self.inside.form c.self.inside.window c.self.inside.tickets c.self.inside.longest (plain c.self.inside.levels.items) c.self.inside.waiting.items in
     let d = c.in-Some.found.place.depth in
     let k = c.in-Some.found.place.key in

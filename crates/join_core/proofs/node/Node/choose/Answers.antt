@@ -8,8 +8,8 @@ use Rattle.join_core.specs.Levels.{seed_node}
 use Rattle.join_core.proofs.Valid.{found-every}
 use Rattle.join_core.proofs.node.Node.choose.Goals as goal
 
-pub made_first-requires-clause-chosen : goal.made_first-requires-clause-chosen
-made_first-requires-clause-chosen c =
+pub made_first_held-requires-clause-chosen : goal.made_first_held-requires-clause-chosen
+made_first_held-requires-clause-chosen c =
     let made : IsAsking c.self.inside.row c.self.inside.rest.value c.in-Asks.firsts.items = subst (λ (s : Progress). IsMadeStage c.self.inside.row c.self.inside.rest.value (stage_of s)) c.in-Asks.is c.self.invariant.1 in
     let below : c.least_count-index.result < length c.self.inside.rest.value = omega (arith, made.within) in
     found-every (λ p. HasPlacesFor (length c.self.inside.row) p) c.self.inside.rest.value c.least_count-index.result c.at.result.now.value c.self.invariant.0 below

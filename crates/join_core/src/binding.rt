@@ -1,0 +1,107 @@
+// The extension of a row by a triple that is taken apart.
+ghost use Rattle.std.specs.Prelude.{◌≡◌, length, IfOk, IfSome, Option, Some, None, true};
+ghost use Rattle.rdf_terms.specs.declared.term.Term.{Term};
+ghost use Rattle.rdf_terms.specs.declared.term.Triple.{Triple};
+ghost use Rattle.bgp_core.specs.declared.pattern.Pattern.{Pattern};
+ghost use Rattle.bgp_core.specs.Queries.{HasPlaceFor, HasPlacesFor};
+ghost use Rattle.bgp_core.specs.Solutions.{bind, extension};
+ghost use Rattle.bgp_core.specs.Fits.{allows, agree, fits};
+
+use bgp_core::{Part, Pattern, Row};
+use rdf_terms::{Term, Triple};
+use std::alloc::Global;
+use tpf_base::OutOfMemory;
+
+/// Whether a row lets a part become a term.
+fn allows(part: &Part, term: &Term, row: &Row) -> bool
+    ensures { result ≡ allows part.now term.now row.now }
+{
+    match part {
+        Part::Fixed(fixed) => fixed.same(term),
+        Part::Name(name) => match row.term(*name) {
+            Some(bound) => bound.same(term),
+            None => true,
+        },
+    }
+}
+
+/// Whether two parts may become two terms: not where they are one name and the terms differ.
+fn agree(part: &Part, term: &Term, other: &Part, other_term: &Term) -> bool
+    ensures { result ≡ agree part.now term.now other.now other_term.now }
+{
+    match (part, other) {
+        (Part::Name(name), Part::Name(other_name)) => *name != *other_name || term.same(other_term),
+        _ => true,
+    }
+}
+
+/// Whether the row has an extension, found before anything is moved.
+fn fits(pattern: &Pattern, row: &Row, triple: &Triple) -> bool
+    ensures { result ≡ fits pattern.now row.now triple.now }
+{
+    allows(&pattern.subject, &triple.subject, row)
+        && allows(&pattern.predicate, &triple.predicate, row)
+        && allows(&pattern.object, &triple.object, row)
+        && agree(
+            &pattern.subject,
+            &triple.subject,
+            &pattern.predicate,
+            &triple.predicate,
+        )
+        && agree(
+            &pattern.subject,
+            &triple.subject,
+            &pattern.object,
+            &triple.object,
+        )
+        && agree(
+            &pattern.predicate,
+            &triple.predicate,
+            &pattern.object,
+            &triple.object,
+        )
+}
+
+/// The row with the name of a part bound to a term. The term is moved where the name was not bound, and dropped where it
+/// was, or where the part is a term. Condition: the row lets the part become the term.
+fn bind(alloc: Global, part: &Part, term: Term, mut row: Row) -> Result<Row, OutOfMemory>
+    requires place { HasPlaceFor (length row) part.now }
+    requires allowed { allows part.now term row ≡ true }
+    ensures value { IfOk result (λ r. bind part.now term row ≡ Some r) }
+    ensures length { IfOk result (λ r. length r ≡ length row) }
+{
+    if let Part::Name(name) = part {
+        if row.term(*name).is_none() {
+            row.bind(alloc, *name, term)?;
+        }
+    }
+    Ok(row)
+}
+
+/// The row extended by the names of the pattern so that the pattern becomes the triple: `None` exactly where there is no
+/// such row. The row is copied only where there is one, and shares what was bound with it; the terms of the names that are
+/// bound anew are moved out of the triple, each once, and the others are dropped. Condition: the row has a place for every
+/// name of the pattern.
+pub(crate) fn extended(
+    alloc: Global,
+    pattern: &Pattern,
+    row: &Row,
+    triple: Triple,
+) -> Result<Option<Row>, OutOfMemory>
+    requires { HasPlacesFor (length row.now) pattern.now }
+    ensures value { IfOk result (λ o. o ≡ extension pattern.now row.now triple) }
+    ensures length { IfOk result (λ o. IfSome o (λ r. length r ≡ length row.now)) }
+{
+    if !fits(pattern, row, &triple) {
+        return Ok(None);
+    }
+    let Triple {
+        subject,
+        predicate,
+        object,
+    } = triple;
+    let begun = bind(alloc, &pattern.subject, subject, row.copy(alloc)?)?;
+    let grown = bind(alloc, &pattern.predicate, predicate, begun)?;
+    let whole = bind(alloc, &pattern.object, object, grown)?;
+    Ok(Some(whole))
+}
