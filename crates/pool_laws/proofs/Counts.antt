@@ -1,5 +1,5 @@
 -- How often addresses are counted, over lists and over links.
-use Rattle.std.proofs.Common.{ℕ, zero, suc, ◌≡◌, ◌≢◌, ◌+◌, ◌-◌, ◌*◌, ◌<◌, ◌≤◌, ◌==◌, ◌⊎◌, inl, inr, ◌++◌, Bool, true, false, cond, if◌then◌else◌, List, [], ◌∷◌, count_by, Option, Some, None, refl, sym, ◌∙◌, ap, arith}
+use Rattle.std.proofs.Common.{ℕ, zero, suc, ◌≡◌, ◌≢◌, ◌+◌, ◌-◌, ◌*◌, ◌<◌, ◌≤◌, ◌==◌, ◌⊎◌, inl, inr, ◌++◌, Bool, true, false, cond, if◌then◌else◌, List, [], ◌∷◌, length, count_by, Option, Some, None, refl, sym, ◌∙◌, ap, arith}
 use Rattle.std.proofs.Math.Nat.{mul-add}
 use Rattle.std.proofs.lemmas.Bool.Decides.{eqb_tells}
 use Rattle.std.proofs.lemmas.List.{map-append}
@@ -8,7 +8,7 @@ use Rattle.tpf_base.specs.Addresses.{Address}
 use Rattle.request_pool.specs.declared.asks.Flight.{Flight}
 use Rattle.request_pool.specs.declared.asks.Waiting.{Waiting}
 use Rattle.request_pool.proofs.Owned.{at_or_off}
-use Rattle.pool_laws.specs.Requested.{Exchanged, addresses_of, NoneWhole, Unanswered, LinkRequests, last_whole, last_answered, over_links, left_waiting, left_flying, unsent}
+use Rattle.pool_laws.specs.Requested.{Exchanged, addresses_of, NoneWhole, Unanswered, LinkRequests, last_whole, last_answered, over_links, any, left_waiting, left_flying, unsent}
 
 -- ---- lists
 
@@ -23,6 +23,10 @@ count-one test xs x = let e : count_by test (x ∷ []) ≡ cond (test x) 1 0 + c
 
 pub count-nil : (test : Address → Bool) (xs : List Address) → count_by test (xs ++ []) ≡ count_by test xs
 count-nil test xs = omega (arith, count-append test xs [])
+
+pub all_count : (xs : List Address) → count_by any xs ≡ length xs
+all_count [] = refl
+all_count (x ∷ xs) = let one : count_by any (x ∷ xs) ≡ 1 + count_by any xs = count-cons any x xs in omega (arith, one, all_count xs)
 
 pub nothing_counts : (v : Bool) (n : ℕ) → n ≡ 0 → cond v n 0 ≡ 0
 nothing_counts true n e = e

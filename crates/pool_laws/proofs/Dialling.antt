@@ -25,7 +25,7 @@ use Rattle.pool_laws.proofs.KeptBySteps.{IsKept, by_step}
 use Rattle.pool_laws.proofs.Trying.{flight_tries}
 
 -- a poll of an exchange without a link dials once
-abbrev dial_for : Option ℕ → ℕ
+abbrev pub dial_for : Option ℕ → ℕ
 dial_for None = 1
 dial_for (Some k) = 0
 

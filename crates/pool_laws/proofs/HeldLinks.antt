@@ -129,7 +129,7 @@ module _ (home : Address → Type 0) (links : (ℕ → ℕ) → WireState → Ty
 
   -- ---- a poll
 
-  flight_owns : (result : Result Polled PoolFault) (f : Flight) (p q : Pooled) (a b : WireState) → home f.exchange.address → AsksAt home p → links (λ k. on_link f.exchange.link k + held_on p k) a
+  pub flight_owns : (result : Result Polled PoolFault) (f : Flight) (p q : Pooled) (a b : WireState) → home f.exchange.address → AsksAt home p → links (λ k. on_link f.exchange.link k + held_on p k) a
       → FlightTo result f p q a b → Owning home links q b
   flight_owns (Ok polls.Pending) f p q a b is asks h t =
       let g : Flight = record f { exchange = t.0.now } in
@@ -226,7 +226,7 @@ module _ (home : Address → Type 0) (links : (ℕ → ℕ) → WireState → Ty
   fails_own fault (Ok done) f p q a t is h = own_as _ q a t.1 (record { asks = record { waiting = (is, h.asks.waiting); polled = h.asks.polled; due = h.asks.due }; known = kept.same (held_on p) _ a (λ k. refl) h.known })
   fails_own fault (Err shown) f p q a t is h = own_as p q a t.0 h
 
-  split_flights : (p : Pooled) (f : Flight) (rest : List Flight) → in_flight p ≡ f ∷ rest → (k : ℕ) → on_link f.exchange.link k + flights_on rest k ≡ flights_on p.polled k + flights_on p.due k
+  pub split_flights : (p : Pooled) (f : Flight) (rest : List Flight) → in_flight p ≡ f ∷ rest → (k : ℕ) → on_link f.exchange.link k + flights_on rest k ≡ flights_on p.polled k + flights_on p.due k
   split_flights p f rest e k = sym (ap (λ (x : List Flight). flights_on x k) e) ∙ flights_on-append p.polled p.due k
 
   gives_up_owns : (fault : PoolFault) (result : Result Stepped PoolFault) (p q : Pooled) (a b : WireState) → Owning home links p a → GivesUp fault result p q a b → Owning home links q b

@@ -28,3 +28,5 @@ pub mod RequestSteps
 pub mod RequestLaws
 pub mod RequestCuts
 pub mod RequestExact
+pub mod Spending
+pub mod Failing

@@ -1,8 +1,8 @@
 -- Where no more was sent than was asked for, and all was answered, just that was sent.
-use Rattle.std.proofs.Common.{ℕ, zero, suc, ◌≡◌, ◌+◌, ◌-◌, ◌≤◌, ◌++◌, Bool, true, false, not, cond, List, [], ◌∷◌, length, count_by, refl, arith}
+use Rattle.std.proofs.Common.{ℕ, zero, suc, ◌≡◌, ◌+◌, ◌-◌, ◌≤◌, ◌++◌, Bool, true, false, not, cond, List, [], ◌∷◌, length, count_by, arith}
 use Rattle.tpf_base.specs.Addresses.{Address}
 use Rattle.pool_laws.specs.Requested.{LastRequest, NoneWhole, Unanswered, Replied, LinkRequests, addresses_of, last_whole, last_answered, whole_requests, whole_answers, over_links, count_sent, count_answered, any, RequestsAreExact}
-use Rattle.pool_laws.proofs.Counts.{count-cons, count-one, count-nil}
+use Rattle.pool_laws.proofs.Counts.{count-cons, count-one, count-nil, all_count}
 use Rattle.pool_laws.proofs.RequestLaws.{asks_answered}
 
 -- ---- what was answered was sent
@@ -33,10 +33,6 @@ both test [] = omega arith
 both test (x ∷ xs) =
     let one : count_by any (x ∷ xs) ≡ 1 + count_by any xs = count-cons any x xs in
     omega (arith, count-cons test x xs, count-cons (λ (y : Address). not (test y)) x xs, one, one_or_other (test x), both test xs)
-
-all_count : (xs : List Address) → count_by any xs ≡ length xs
-all_count [] = refl
-all_count (x ∷ xs) = let one : count_by any (x ∷ xs) ≡ 1 + count_by any xs = count-cons any x xs in omega (arith, one, all_count xs)
 
 over_both : (f g h : ℕ → ℕ) (first n : ℕ) → ((i : ℕ) → f i + g i ≡ h i) → over_links f first n + over_links g first n ≡ over_links h first n
 over_both f g h first zero e = omega arith

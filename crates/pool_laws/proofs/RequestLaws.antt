@@ -1,30 +1,34 @@
 -- The laws of what was requested and answered on the links that were given since a moment.
-use Rattle.std.proofs.Common.{ℕ, ◌≡◌, ◌+◌, ◌-◌, ◌*◌, ◌≤◌, inl, inr, ◌++◌, Bool, true, false, cond, List, [], ◌∷◌, map, count_by, Result, Ok, refl, sym, ◌∙◌, ap, subst, arith}
+use Rattle.std.proofs.Common.{ℕ, ◌≡◌, ◌+◌, ◌-◌, ◌*◌, ◌≤◌, ◌⊎◌, inl, inr, ◌++◌, Bool, true, false, cond, List, [], ◌∷◌, length, map, count_by, Result, Ok, Err, refl, sym, ◌∙◌, ap, subst, arith}
 use Rattle.std.proofs.lemmas.Bool.{cases_lt}
-use Rattle.std.proofs.lemmas.List.{map-append}
+use Rattle.std.specs.List.Sorted.{IsPermutation}
+use Rattle.std.proofs.lemmas.List.{map-append, length-map}
 use Rattle.tpf_base.specs.Addresses.{Address}
 use Rattle.tpf_base.specs.Links.{WireState, OpensGiven}
 use Rattle.http_wire.specs.declared.message.Reply.{Reply}
 use Rattle.request_pool.specs.declared.asks.Waiting.{Waiting}
+use Rattle.request_pool.specs.declared.fault.Polled.{Polled}
 use Rattle.request_pool.specs.declared.fault.Polled.TheVariants as polls
 use Rattle.request_pool.specs.declared.fault.PoolFault.{PoolFault}
+use Rattle.request_pool.specs.declared.fault.PoolFault.TheVariants as faults
 use Rattle.request_pool.specs.declared.fault.Stepped.{Stepped}
 use Rattle.request_pool.specs.declared.fault.Stepped.TheVariants.{Came, Waited, Idle}
 use Rattle.request_pool.specs.Pools.{Pooled, Ask, ask_waiting, ask_flying, held, in_flight}
 use Rattle.request_pool.specs.Owned.{SuitsWire, held_on}
 use Rattle.request_pool.specs.Closing.{ClosesSome}
-use Rattle.request_pool.specs.Runs.{Ended}
-use Rattle.request_pool.specs.Steps.{StepsTo}
+use Rattle.request_pool.specs.Runs.{Overruns, Flies, Starves, Last, OfStart, OfPoll, Ended}
+use Rattle.request_pool.specs.Steps.{WaitsTo, Passes, Stalls, Misses, Lacks, Breaks, AtOnce, InRun, InWait, StepsTo}
 use Rattle.request_pool.proofs.Holding.{running_holds, step_holds}
 use Rattle.request_pool.proofs.Risen.{fares_first, running_fares}
 use Rattle.request_pool.proofs.Steps.{suits_gathered}
 use Rattle.pool_laws.specs.Following.{IsWebAddress}
 use Rattle.pool_laws.specs.Requested.{NoneWhole, over_links, count_sent, count_answered, any, whole_requests, whole_answers, left_waiting, left_flying, unsent, RequestedSince, AnsweredSince, RequestsAreFew, RequestsAreStarted, RequestsAreRises, AsksAreAnswered, EmptyPoolsRequested, EmptyPoolsAnswered, PutsRequested, PutsAnswered, FaultsRequested, StepsRequested, StepsAnswered, ClosingRequested, ClosingAnswered}
+use Rattle.pool_laws.specs.Spending.{AnsweredMost, BudgetsAnswered, ClosingAnsweredMost}
 use Rattle.pool_laws.proofs.Lists.{all_append}
 use Rattle.pool_laws.proofs.KeptBySteps.{by_running, by_step}
 use Rattle.pool_laws.proofs.Came.{gathered_held}
 use Rattle.pool_laws.proofs.Trying.{few_in, few_own, put_few}
-use Rattle.pool_laws.proofs.Counts.{count-append, count-one, left-append, unsent-append, waiting-append, regroup, group_again, one_more}
+use Rattle.pool_laws.proofs.Counts.{count-append, count-one, all_count, left-append, unsent-append, waiting-append, regroup, group_again, one_more}
 use Rattle.pool_laws.proofs.Requesting.{StillTold, still_same, tells_told}
 use Rattle.pool_laws.proofs.Requests.{Known}
 use Rattle.pool_laws.proofs.RequestSteps.{requests_are_kept, held_addresses, permuted_count, last_came}
@@ -311,3 +315,53 @@ closing_answered asked since old new wire wire' h none e c =
   where
     closed_answers : (n m m' : ℕ) → m' ≡ m → n ≤ m → n ≤ m' + 0
     closed_answers n m m' e i = omega (arith, e, i)
+
+-- ---- where the budget is spent
+
+budget_last : (p q : Pooled) (a b : WireState) → Last (Err faults.Budget) p q a b → held q ≡ held p
+budget_last p q a b (OfStart (Overruns e budget f g)) = ap held f
+budget_last p q a b (OfStart (Flies mid f budget begins to)) = absurd to
+budget_last p q a b (OfStart (Starves e mid f begins is shuts)) = absurd (let x : ◌≡◌ {A = Result Polled PoolFault} (Err faults.Budget) (Err faults.OutOfMemory) = e in cc)
+budget_last p q a b (OfPoll n) = absurd n.to
+
+not_stalled : (A : Type 0) → (faults.Budget ≡ faults.OutOfMemory) ⊎ ((faults.Budget ≡ faults.Stalled) × A) → ⊥
+not_stalled A (inl e) = cc
+not_stalled A (inr e) = let x : faults.Budget ≡ faults.Stalled = e.0 in cc
+
+not_failed : (A : Type 0) → (faults.Budget ≡ faults.OutOfMemory) ⊎ ((faults.Budget ≡ faults.Exchange) × A) → ⊥
+not_failed A (inl e) = cc
+not_failed A (inr e) = let x : faults.Budget ≡ faults.Exchange = e.0 in cc
+
+budget_waits : (p q : Pooled) (a b : WireState) → WaitsTo (Err faults.Budget) p q a b → ⊥
+budget_waits p q a b (Passes ready e w i f) = let x : ◌≡◌ {A = Result Stepped PoolFault} (Err faults.Budget) (Ok Waited) = e in cc
+budget_waits p q a b (Stalls ready mid w i u) = not_stalled _ u.to.1
+budget_waits p q a b (Misses mid w u) = not_failed _ u.to.1
+budget_waits p q a b (Lacks w e f) = let x : ◌≡◌ {A = Result Stepped PoolFault} (Err faults.Budget) (Err faults.OutOfMemory) = e in cc
+
+budget_holds : (p q : Pooled) (a b : WireState) → Breaks faults.Budget p q a b → IsPermutation (held p) (held q)
+budget_holds p q a b (AtOnce e f i) = absurd (let x : faults.Budget ≡ faults.OutOfMemory = e in cc)
+budget_holds p q a b (InRun e) =
+    subst (λ (l : List Ask). IsPermutation (held p) l) (sym (budget_last e.mid q e.between b e.last))
+    (subst (λ (l : List Ask). IsPermutation l (held e.mid)) (gathered_held p) (running_holds (record p { polled = in_flight p; due = [] }) e.mid a e.between e.running))
+budget_holds p q a b (InWait e) = absurd (budget_waits e.mid q e.between b e.waits)
+
+pub budget_answered : BudgetsAnswered
+budget_answered asked since old new wire wire' given suits h to =
+    let s = by_any asked since (λ test. count_answered test h.requested.requests since wire) old new wire wire' given suits h.requested (λ test. omega arith) (Err faults.Budget) to in
+    record {
+      requested = s.requested;
+      all = λ test. still_held (count_by test asked) (count_answered test h.requested.requests since wire) (count_answered test s.requested.requests since wire') (count_answered test s.requested.requests since wire') (count_by test (held_addresses old)) (count_by test (held_addresses new))
+          (h.all test) (sym (permuted_count test (held old) (held new) (budget_holds old new wire wire' to))) (s.answers test) refl;
+    }
+
+pub closing_most : ClosingAnsweredMost
+closing_most asked since old new wire wire' h e c =
+    let c' = subst (λ (q : Pooled). ClosesSome (held_on old) (held_on q) wire wire') e c in
+    subst (λ (q : Pooled). AnsweredMost (length asked - length (held old)) asked since q wire') (sym e) (record {
+      requested = closed_now asked since old wire wire' h.requested c';
+      most = most_closed (count_by any asked) (length asked) (count_answered any h.requested.requests since wire) (count_answered any h.requested.requests since wire') (count_by any (held_addresses old)) (length (held_addresses old)) (length (held old)) (h.all any)
+          (all_count asked) (all_count (held_addresses old)) (length-map (held old) (λ (ask : Ask). ask.address)) (counted_as (λ k. count_by any (whole_answers (h.requested.requests k))) since wire wire' c'.given);
+    })
+  where
+    most_closed : (c n m m' d l k : ℕ) → c ≤ m + d → c ≡ n → d ≡ l → l ≡ k → m' ≡ m → n - k ≤ m'
+    most_closed c n m m' d l k h e f g i = omega (arith, h, e, f, g, i)

@@ -202,7 +202,7 @@ failed_again n k m l w p failed e up rose h =
 open_given : (a : WireState) (k : ℕ) → OpensGiven a → (a.links k).is_open ≡ true → k < a.given
 open_given a k g h = elim (cases_lt k a.given) [ inl l ↦ l | inr l ↦ absurd (let e : true ≡ false = sym h ∙ g k l in cc) ]
 
-polled_given : (address : Address) (o p : Option ℕ) (a b : WireState) → LinkAfter address o p a b → OpensGiven a → IsLinked o a → (k : ℕ) → p ≡ Some k → k < b.given
+pub polled_given : (address : Address) (o p : Option ℕ) (a b : WireState) → LinkAfter address o p a b → OpensGiven a → IsLinked o a → (k : ℕ) → p ≡ Some k → k < b.given
 polled_given address (Some j) (Some i) a b l g linked k e = let same : i ≡ k = cc in omega (arith, same, l.0, l.1, open_given a j g linked)
 polled_given address (Some j) None a b l g linked k e = absurd l
 polled_given address None None a b l g linked k e = cc

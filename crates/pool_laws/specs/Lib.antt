@@ -7,3 +7,5 @@ pub mod Rising
 pub mod Sending
 pub mod Provoking
 pub mod Requested
+pub mod Failing
+pub mod Spending

@@ -9,6 +9,8 @@ ghost use Rattle.pool_laws.specs.Causes.{FaultsHaveCauses, RepliesAreRead};
 ghost use Rattle.pool_laws.specs.Counting.{ClosingDials, EmptyPoolsDial, EmptyPoolsFewFailed, FaultsDial, PutsDial, PutsFewFailed, StepsCountTries, StepsDial, StepsFewFailed};
 ghost use Rattle.pool_laws.specs.Rising.{EmptyPoolsRose, FaultsRose, PutsRose, StepsRose};
 ghost use Rattle.pool_laws.specs.Requested.{AsksAreAnswered, ClosingAnswered, ClosingRequested, EmptyPoolsAnswered, EmptyPoolsRequested, FaultsRequested, PutsAnswered, PutsRequested, RequestsAreExact, RequestsAreFew, RequestsAreOne, RequestsAreRises, RequestsAreStarted, StepsAnswered, StepsRequested};
+ghost use Rattle.pool_laws.specs.Failing.{EmptyPoolsFail, FaultsFail, PutsFail, StepsFail};
+ghost use Rattle.pool_laws.specs.Spending.{BudgetsAnswered, ClosingAnsweredMost, EmptyPoolsSpend, FaultsSpend, PutsSpend, StepsSpend};
 ghost use Rattle.pool_laws.specs.Provoking.{EmptyPoolsReady, NoneHang, PutsReady, StepsSpare};
 ghost use Rattle.pool_laws.specs.Sending.{ClosingSent, EmptyPoolsSent, FaultsSent, PutsSent, StepsSent};
 ghost use Rattle.pool_laws.specs.Following.{ClosedPoolsFollow, EmptyPoolsFollow, FaultsFollow, FlightsFollow, OthersFollow, PollsFollow, PutsFollow, RunningFollows, RunsFollow, StartsFollow, StepsFollow, TurnsFollow};
@@ -151,6 +153,30 @@ pub fn asks_are_answered()
     ensures close { ClosingAnswered }
     ensures all { AsksAreAnswered }
     ensures exact { RequestsAreExact }
+{}
+
+/// Whatever the other ends answer, each failure of an ask is a rise of the wire's faults or the end of
+/// a link that was given since the pool was empty, where never 1000 waits follow one another (`step`).
+/// So a step ends with `Exchange` or `Cut` only where the faults rose and links ended, together, at
+/// least once more than an ask may be tried again, and never with `Stalled`.
+pub fn failures_are_ends()
+    ensures empty { EmptyPoolsFail }
+    ensures put { PutsFail }
+    ensures fault { FaultsFail }
+    ensures step { StepsFail }
+{}
+
+/// Unless memory is wanting, no more exchanges are started, since the pool was empty, than links are
+/// given, faults rise and replies come (`step`). Where a step ends for the budget each ask is held
+/// still, or was answered (`budget`), and what was answered stays so when the links are closed
+/// (`close`).
+pub fn starts_are_spent()
+    ensures empty { EmptyPoolsSpend }
+    ensures put { PutsSpend }
+    ensures fault { FaultsSpend }
+    ensures step { StepsSpend }
+    ensures budget { BudgetsAnswered }
+    ensures close { ClosingAnsweredMost }
 {}
 
 /// Over a steady wire on which no link is open but those of a pool, below 2^63 links, a step provokes

@@ -1,5 +1,5 @@
 -- The causes of the faults of a call.
-use Rattle.std.proofs.Common.{ℕ, ◌≡◌, ◌≤◌, ◌+◌, ◌++◌, Bool, true, false, List, [], ◌∷◌, length, Option, None, refl, sym, ap, subst, ◌∙◌, arith}
+use Rattle.std.proofs.Common.{ℕ, ◌≡◌, ◌≤◌, ◌+◌, ◌++◌, Bool, true, false, List, [], ◌∷◌, Option, None, sym, ap, subst, ◌∙◌, arith}
 use Rattle.tpf_base.specs.Causes.{Rose}
 use Rattle.tpf_base.specs.Addresses.{Address}
 use Rattle.tpf_base.specs.Links.{WireState}
@@ -32,6 +32,7 @@ use Rattle.tpf_client.proofs.Known.{begun}
 use Rattle.tpf_client.proofs.Received.{replied-closed}
 use Rattle.tpf_client.proofs.Endings.{travels-onward, Ending, ending, lost-in, same-bounds}
 use Rattle.tpf_client.proofs.Going.{explains-later}
+use Rattle.tpf_client.proofs.Planned.{RunOf}
 
 rose-up : (x y n m : ℕ) → Rose y n → x ≤ y → n ≤ m → Rose x m
 rose-up x y n m r h i = omega (arith, r, h, i)
@@ -39,6 +40,27 @@ rose-up x y n m r h i = omega (arith, r, h, i)
 distinct-after : (allows : List ℕ → ℕ → List ℕ → List ℕ → Type 0) (events : List Event) (p q : Pooled) (v w : WireState) → (p.fault ≡ None → AreDistinct (held p)) → Travels allows events p q v w → q.fault ≡ None → AreDistinct (held q)
 distinct-after allows [] p q v w d t none = subst (λ (x : Pooled). AreDistinct (held x)) (sym t.0) (d (ap (λ (x : Pooled). x.fault) (sym t.0) ∙ none))
 distinct-after allows (event ∷ events) p q v w d t none = distinct-after allows events t.0.pool q t.0.wire w t.1.distinct t.2 none
+
+-- ---- the run of a call that ended with a fault
+
+pub record CausedRun (allows : List ℕ → ℕ → List ℕ → List ℕ → Type 0) (options : Options) (since now : WireState) (start : Address) (fault : ClientFault) : Type 0 where
+  pub version : Option ℕ
+  pub run : RunOf allows options start since now
+  pub explains : Explains version options.budget fault run.events
+
+module _ (allows : List ℕ → ℕ → List ℕ → List ℕ → Type 0) (options : Options) (since now : WireState) (start : Address) (q : QueryData) (fault : ClientFault) (t u : Option (List ℕ)) where
+  pub some-caused : WritesSome (RunsPool allows options since now) q start options.budget fault t u → CausedRun allows options since now start fault
+  some-caused (Before b) = record { version = None; run = record { events = b.events; pool = b.pool; runs = b.runs; asks = start-alone start b.events b.asked }; explains = b.explains None }
+  some-caused (Behind b) = record {
+    version = b.reads.page.version;
+    run = record { events = b.first ++ b.later; pool = b.pool; runs = b.runs; asks = b.asks };
+    explains = explains-later b.reads.page.version options.budget fault b.first b.later b.explains;
+  }
+  some-caused (AtEnd b) = record {
+    version = b.reads.page.version;
+    run = record { events = b.first ++ b.later; pool = b.pool; runs = b.runs; asks = b.asks };
+    explains = explains-later b.reads.page.version options.budget fault b.first b.later b.explains;
+  }
 
 -- ---- each cause
 
@@ -148,6 +170,6 @@ module _ (laws : Laws) (traffic : TrafficLaws) (allows : List ℕ → ℕ → Li
   cause-of faults.OutOfMemory version events p e r a = tt
 
   pub fault-caused : (q : QueryData) (fault : ClientFault) (t u : Option (List ℕ)) → WritesSome (RunsPool allows options since now) q start options.budget fault t u → IsCause allows options since now fault
-  fault-caused q fault t u (Before b) = cause-of fault None b.events b.pool (b.explains None) b.runs (start-alone start b.events b.asked)
-  fault-caused q fault t u (Behind b) = cause-of fault b.reads.page.version (b.first ++ b.later) b.pool (explains-later b.reads.page.version options.budget fault b.first b.later b.explains) b.runs b.asks
-  fault-caused q fault t u (AtEnd b) = cause-of fault b.reads.page.version (b.first ++ b.later) b.pool (explains-later b.reads.page.version options.budget fault b.first b.later b.explains) b.runs b.asks
+  fault-caused q fault t u w =
+      let x : CausedRun allows options since now start fault = some-caused allows options since now start q fault t u w in
+      cause-of fault x.version x.run.events x.run.pool x.explains x.run.runs x.run.asks

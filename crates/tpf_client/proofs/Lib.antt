@@ -29,6 +29,8 @@ pub mod Sparing
 pub mod HonestCauses
 pub mod LivelyCauses
 pub mod Requested
+pub mod Failing
+pub mod Spending
 pub mod Completing
 pub mod Shutting
 pub mod Exits

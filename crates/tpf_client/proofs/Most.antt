@@ -1,5 +1,5 @@
 -- At most so many exchanges are started as asks may be tried: each ask that is held has as many tries left as it may have but for those that it had.
-use Rattle.std.proofs.Common.{ℕ, ◌≡◌, ◌+◌, ◌<◌, ◌≤◌, ◌++◌, List, [], ◌∷◌, Option, Result, Ok, Err, refl, sym, ◌∙◌, ap, subst, arith}
+use Rattle.std.proofs.Common.{ℕ, ◌≡◌, ◌≢◌, ◌+◌, ◌<◌, ◌≤◌, ◌++◌, List, [], ◌∷◌, Option, Result, Ok, Err, refl, sym, ◌∙◌, ap, subst, arith}
 use Rattle.std.specs.List.{AllByRecursion}
 use Rattle.tpf_base.specs.Addresses.{Address}
 use Rattle.tpf_base.specs.Links.{WireState}
@@ -47,6 +47,10 @@ room-waiting-append k (x ∷ xs) ys = omega (arith, room-waiting-append k xs ys)
 waiting-room : (k : ℕ) (ws : List Waiting) → AllByRecursion (λ w. w.failed < k) ws → tries_waiting ws ≤ room_waiting k ws
 waiting-room k [] h = omega arith
 waiting-room k (w ∷ ws) h = omega (arith, h.0, waiting-room k ws h.1)
+
+waiting-left : (k : ℕ) (ws : List Waiting) → ws ≢ [] → AllByRecursion (λ w. w.failed < k) ws → tries_waiting ws + 1 ≤ room_waiting k ws
+waiting-left k [] some h = absurd (some refl)
+waiting-left k (w ∷ ws) some h = omega (arith, h.0, waiting-room k ws h.1)
 
 flying-room : (k : ℕ) (fs : List Flight) → AllByRecursion (λ f. f.failed < k) fs → tries_flying fs ≤ room_flying k fs
 flying-room k [] h = omega arith
@@ -163,6 +167,10 @@ module _ (k most : ℕ) where
 
   pub most_started : (p : Pooled) → Most k most p → p.started ≤ most
   most_started p h = omega (arith, h.few, waiting-room k p.waiting h.waiting, flying-room k p.polled h.polled, flying-room k p.due h.due)
+
+  -- where an ask waits, one more may be
+  pub most_waits : (p : Pooled) → p.waiting ≢ [] → Most k most p → p.started < most
+  most_waits p some h = omega (arith, h.few, waiting-left k p.waiting some h.waiting, flying-room k p.polled h.polled, flying-room k p.due h.due)
 
   -- an ask more, and its tries
   pub most_put : (ticket : ℕ) (address : Address) (p : Pooled) → 1 ≤ k → Most k most p → Most k (most + k) (record p { waiting = p.waiting ++ (record { ticket = ticket; address = address; failed = 0 }) ∷ [] })

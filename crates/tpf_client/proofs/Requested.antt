@@ -75,7 +75,7 @@ answers-le test r =
     let c = last-le test r.last in
     omega (arith, a, b, c)
 
-all-answers : (test : Address → Bool) (on : ℕ → LinkRequests) (since now : WireState) → count_answered test on since now ≤ count_sent test on since now
+pub all-answers : (test : Address → Bool) (on : ℕ → LinkRequests) (since now : WireState) → count_answered test on since now ≤ count_sent test on since now
 all-answers test on since now = over-le (λ k. count_by test (whole_answers (on k))) (λ k. count_by test (whole_requests (on k))) (λ k. answers-le test (on k)) since.given (now.given - since.given)
 
 all-split : (test : Address → Bool) (on : ℕ → LinkRequests) (since now : WireState) → count_sent any on since now ≡ count_sent test on since now + count_sent (λ a. not (test a)) on since now
@@ -107,7 +107,7 @@ module _ (history : List (List Triple)) (config : Config) (q : QueryData) (start
       omega (arith, a, b)
 
 -- a pool whose links were closed
-abbrev shut : Pooled → Pooled
+abbrev pub shut : Pooled → Pooled
 shut p = record p { waiting = []; polled = []; due = []; spare = [] }
 
 -- ---- what was requested, and what was answered
@@ -119,7 +119,7 @@ module _ (laws : Laws) (traffic : TrafficLaws) (allows : List ℕ → ℕ → Li
   abbrev WereRequested : List Ask → Pooled → WireState → Type 0
   WereRequested asks p v = RequestedSince (map address_of asks) since p v
 
-  abbrev WereAnswered : List Ask → Pooled → WireState → Type 0
+  abbrev pub WereAnswered : List Ask → Pooled → WireState → Type 0
   WereAnswered asks p v = p.fault ≡ None → AnsweredSince (map address_of asks) since p v
 
   requested-kept : IsKeptWith allows (begun options) IsAt WereRequested
@@ -131,7 +131,7 @@ module _ (laws : Laws) (traffic : TrafficLaws) (allows : List ℕ → ℕ → Li
     breaks = λ asks fault p q v w at i t kept. traffic.faults_requested (map address_of asks) since q w (traffic.steps_requested (map address_of asks) since (Err fault) p (without_fault q) v w at.given at.suits i t);
   }
 
-  answered-kept : IsKeptWith allows (begun options) IsAt WereAnswered
+  pub answered-kept : IsKeptWith allows (begun options) IsAt WereAnswered
   answered-kept = record {
     puts = λ asks ask p v own web i none.
         subst (λ (l : List Address). AnsweredSince l since (record p { waiting = p.waiting ++ (record { ticket = ask.ticket; address = ask.address; failed = 0 }) ∷ [] }) v) (sym (map-append address_of asks (ask ∷ [])))

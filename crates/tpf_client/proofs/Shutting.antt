@@ -12,6 +12,7 @@ use Rattle.tpf_client.specs.declared.options.Options.{Options}
 use Rattle.tpf_client.specs.declared.options.Report.{Report}
 use Rattle.tpf_client.specs.declared.fault.ClientFault.{ClientFault}
 use Rattle.tpf_client.specs.Traffic.{Event, Travels}
+use Rattle.tpf_client.specs.Shown.{ShowsGiven}
 use Rattle.tpf_client.specs.Calls.{Ran, RunsPool, Returns, WritesAll, WritesSome, Before, Behind, AtEnd}
 
 pub if-ok : {A B : Type 0} (r : Result A B) (P Q : A → Type 0) → ((x : A) → P x → Q x) → IfOk r P → IfOk r Q
@@ -87,6 +88,13 @@ module _ (ran ran' : List Event → Pooled → Type 0) (goes : (events : List Ev
   writes-some-so q start budget fault t u (Before b) = Before (record { events = b.events; pool = b.pool; runs = goes b.events b.pool b.runs; asked = b.asked; explains = b.explains; nothing = b.nothing })
   writes-some-so q start budget fault t u (Behind b) = Behind (record { first = b.first; later = b.later; pool = b.pool; runs = goes (b.first ++ b.later) b.pool b.runs; reads = b.reads; asks = b.asks; explains = b.explains; rows = b.rows; gives = b.gives; text = b.text })
   writes-some-so q start budget fault t u (AtEnd b) = AtEnd (record { first = b.first; later = b.later; pool = b.pool; runs = goes (b.first ++ b.later) b.pool b.runs; reads = b.reads; asks = b.asks; explains = b.explains; rows = b.rows; gives = b.gives; text = b.text })
+
+  pub shows-some-so : (q : QueryData) (start : Address) (budget : ℕ) (fault : ClientFault) (before now : ℕ) (t u : Option (List ℕ)) (w : WritesSome ran q start budget fault t u)
+      → ShowsGiven ran q start budget fault before now t u w → ShowsGiven ran' q start budget fault before now t u (writes-some-so q start budget fault t u w)
+  unfolding writes-some-so
+  shows-some-so q start budget fault before now t u (Before b) s = s
+  shows-some-so q start budget fault before now t u (Behind b) s = s
+  shows-some-so q start budget fault before now t u (AtEnd b) s = s
 
 -- what the pool held is closed
 pub ran-closed : (allows : List ℕ → ℕ → List ℕ → List ℕ → Type 0) (options : Options) (begun new : Pooled) (since between now : WireState) → begun ≡ empty_pool options.links options.retries options.budget options.max_body → ClosesSome (held_on new) (λ k. 0) between now

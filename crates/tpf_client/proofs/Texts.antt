@@ -1,27 +1,27 @@
 -- The text of a result, as its pieces go to a sink.
 use Rattle.std.proofs.Common.{ℕ, ◌≡◌, ◌++◌, false, List, [], length, Option, refl, sym, ap, subst, ◌∙◌, append_assoc, append-nil, arith}
-use Rattle.std.specs.Prelude.{Result, Ok, Err, OnOk, OnErr}
 use Rattle.std.specs.Io.KnownBytes.{Appends}
 use Rattle.std.proofs.KnownBytes.{Appends-nil, Appends-trans}
 use Rattle.tpf_base.specs.Causes.{counted_by}
 use Rattle.tpf_base.specs.Wrote.{AppendsPrefix}
-use Rattle.tpf_base.specs.declared.fault.Fault.{Fault}
 use Rattle.bgp_core.specs.Queries.{QueryData}
 use Rattle.bgp_core.specs.Solutions.{Places}
 use Rattle.result_json.specs.Results.{result_text}
 use Rattle.result_json.specs.Pieces.{front_text, rows_text, end_text, after_rows, PiecesMakeTheText, RowsGoOn}
 use Rattle.tpf_client.specs.Rows.{Text, begun, WritesRows, WritesFront}
 
--- what was handed on of a text
+-- what was given of a text
 pub record HandsOn (text : Text) (t t' : Option (List ℕ)) : Type 0 where
   pub front : List ℕ
   pub rest : List ℕ
   pub bytes : Appends t t' front
   pub whole : text.writer.pending ≡ front ++ rest
 
-pub handed-on : (text text' : Text) (t t' : Option (List ℕ)) (r : Result (Unit {0}) Fault) → OnOk r (WritesRows [] text text' t t') → OnErr r (WritesFront [] text text' t t') → HandsOn text t t'
-handed-on text text' t t' (Ok u) ok err = record { front = ok.front; rest = text'.writer.pending; bytes = ok.bytes; whole = sym (append-nil text.writer.pending) ∙ ok.whole }
-handed-on text text' t t' (Err e) ok err = record { front = err.front; rest = text'.writer.pending ++ err.rest; bytes = err.bytes; whole = sym (append-nil text.writer.pending) ∙ err.whole }
+pub all-given : (text : Text) (t t' : Option (List ℕ)) → Appends t t' text.writer.pending → HandsOn text t t'
+all-given text t t' b = record { front = text.writer.pending; rest = []; bytes = b; whole = sym (append-nil text.writer.pending) }
+
+pub some-given : (text : Text) (t t' : Option (List ℕ)) → AppendsPrefix t t' text.writer.pending → HandsOn text t t'
+some-given text t t' b = record { front = b.front; rest = b.rest; bytes = b.bytes; whole = b.whole }
 
 fronts : (a f x r : List ℕ) → a ++ ((f ++ x) ++ r) ≡ (a ++ f) ++ (x ++ r)
 fronts a f x r = ap (λ (l : List ℕ). a ++ l) (append_assoc f x r) ∙ sym (append_assoc a f (x ++ r))
@@ -34,6 +34,10 @@ front-handed q rows text t u v w h = record {
   whole = w.whole ∙ (ap (λ (l : List ℕ). w.front ++ (l ++ w.rest)) h.whole ∙ fronts w.front h.front h.rest w.rest);
   bytes = Appends-trans t u v w.front h.front w.bytes h.bytes;
 }
+
+-- all of the rows, and all that was left of them at the end
+pub rows-shown : (q : QueryData) (rows : List Places) (text : Text) (t u v : Option (List ℕ)) → WritesRows rows (begun q) text t u → Appends u v text.writer.pending → Appends t v (front_text q ++ rows_text q false rows)
+rows-shown q rows text t u v w b = subst (λ (l : List ℕ). Appends t v l) (sym w.whole) (Appends-trans t u v w.front text.writer.pending w.bytes b)
 
 pub nothing-written : (text : List ℕ) (t : Option (List ℕ)) → AppendsPrefix t t text
 nothing-written text t = record { front = []; rest = text; whole = refl; bytes = Appends-nil t }

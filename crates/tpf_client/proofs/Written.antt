@@ -17,6 +17,8 @@ use Rattle.tpf_client.specs.declared.fault.ClientFault.{ClientFault}
 use Rattle.tpf_client.specs.declared.fault.ClientFault.TheVariants as faults
 use Rattle.tpf_client.specs.Traffic.{Event, Travels}
 use Rattle.template_fill.specs.Authorities.{ShareAuthority}
+use Rattle.tpf_client.specs.Causes.{Explains, IsLocal}
+use Rattle.tpf_client.specs.Shown.{ShowsRest, ShowsGiven}
 use Rattle.tpf_client.specs.Turns.{AsksAt}
 use Rattle.tpf_client.specs.Starts.{HasStart, HasNoStart, start_ask}
 use Rattle.tpf_client.proofs.Homes.{asks-behind}
@@ -86,6 +88,12 @@ module _ (allows between-allows : List ℕ → ℕ → List ℕ → List ℕ →
     text = text;
   })
 
+  pub some-shown : (budget : ℕ) (fault : ClientFault) (before now : ℕ) (t u : Option (List ℕ)) (w : WritesLess between-allows q page.form page.version budget fault mid new between wire' t u)
+      → ShowsRest between-allows q page.form page.version budget fault mid new between wire' before now t u w → ShowsGiven (Ran allows old new wire wire') q start budget fault before now t u (some-written budget fault t u w)
+  unfolding some-written
+  some-shown budget fault before now t u (PartOf events rows j text) s = s
+  some-shown budget fault before now t u (WholeOf events rows j e text) s = s
+
   pub all-gathered : (report : Report) (rows : List Places) → GathersRest between-allows q page.form page.version report rows mid new between wire' → Returns (Ran allows old new wire wire') q start report rows
   all-gathered report rows w = record {
     first = s.events;
@@ -127,8 +135,18 @@ nothing-joined allows q form version budget p w s = record {
   };
 }
 
+-- the same with another fault, which these events explain too
+pub with-fault : (allows : List ℕ → ℕ → List ℕ → List ℕ → Type 0) (q : QueryData) (form : Form) (version : Option ℕ) (budget : ℕ) (fault other : ClientFault) (events : List Event) (rows : List Places) (p p' : Pooled) (w w' : WireState)
+    → Explains version budget other events → JoinsSome allows q form version budget fault events rows p p' w w' → JoinsSome allows q form version budget other events rows p p' w w'
+with-fault allows q form version budget fault other events rows p p' w w' explains j = record { travels = j.travels; on_wire = j.on_wire; explains = explains; asks = j.asks; gives = j.gives }
+
 pub nothing-begun : (allows : List ℕ → ℕ → List ℕ → List ℕ → Type 0) (q : QueryData) (form : Form) (version : Option ℕ) (budget : ℕ) (p : Pooled) (w : WireState) (t : Option (List ℕ)) → SuitsWire p w → WritesLess allows q form version budget faults.OutOfMemory p p w w t t
 nothing-begun allows q form version budget p w t s = PartOf [] [] (nothing-joined allows q form version budget p w s) (nothing-written _ t)
+
+pub nothing-shown : (allows : List ℕ → ℕ → List ℕ → List ℕ → Type 0) (q : QueryData) (form : Form) (version : Option ℕ) (budget : ℕ) (p : Pooled) (w : WireState) (t : Option (List ℕ)) (suits : SuitsWire p w) (before now : ℕ)
+    → ShowsRest allows q form version budget faults.OutOfMemory p p w w before now t t (nothing-begun allows q form version budget p w t suits)
+unfolding nothing-begun
+nothing-shown allows q form version budget p w t suits before now = λ other rose. absurd (other tt)
 
 pub none-written : (allows : List ℕ → ℕ → List ℕ → List ℕ → Type 0) (q : QueryData) (start : Address) (budget : ℕ) (fault : ClientFault) (old new : Pooled) (wire wire' : WireState) (t : Option (List ℕ)) → HasNoStart allows start (start_ask start ∷ []) budget fault old new wire wire' → WritesSome (Ran allows old new wire wire') q start budget fault t t
 none-written allows q start budget fault old new wire wire' t s = Before (record {
@@ -139,6 +157,11 @@ none-written allows q start budget fault old new wire wire' t s = Before (record
   explains = s.explains;
   nothing = refl;
 })
+
+pub none-shown : (allows : List ℕ → ℕ → List ℕ → List ℕ → Type 0) (q : QueryData) (start : Address) (budget : ℕ) (fault : ClientFault) (old new : Pooled) (wire wire' : WireState) (t : Option (List ℕ)) (s : HasNoStart allows start (start_ask start ∷ []) budget fault old new wire wire') (before now : ℕ)
+    → ShowsGiven (Ran allows old new wire wire') q start budget fault before now t t (none-written allows q start budget fault old new wire wire' t s)
+unfolding none-written
+none-shown allows q start budget fault old new wire wire' t s before now = tt
 
 -- ---- what is told of the text alone
 

@@ -6,7 +6,9 @@ pub mod RowLaws
 pub mod Starts
 pub mod Turns
 pub mod Calls
+pub mod Shown
 pub mod Honest
 pub mod Requests
 pub mod Plans
 pub mod Requested
+pub mod Failing

@@ -12,6 +12,8 @@ use Rattle.pool_laws.specs.Counting.{EmptyPoolsFewFailed, PutsFewFailed, StepsFe
 use Rattle.pool_laws.specs.Causes.{RepliesAreRead, FaultsHaveCauses}
 use Rattle.pool_laws.specs.Sending.{EmptyPoolsSent, PutsSent, FaultsSent, StepsSent, ClosingSent}
 use Rattle.pool_laws.specs.Rising.{EmptyPoolsRose, PutsRose, FaultsRose}
+use Rattle.pool_laws.specs.Failing.{EmptyPoolsFail, PutsFail, FaultsFail, StepsFail}
+use Rattle.pool_laws.specs.Spending.{EmptyPoolsSpend, PutsSpend, FaultsSpend, StepsSpend, BudgetsAnswered, ClosingAnsweredMost}
 use Rattle.pool_laws.specs.Provoking.{EmptyPoolsReady, PutsReady, StepsSpare}
 use Rattle.pool_laws.specs.Requested.{EmptyPoolsRequested, PutsRequested, FaultsRequested, StepsRequested, ClosingRequested, RequestsAreFew, RequestsAreRises, EmptyPoolsAnswered, PutsAnswered, StepsAnswered, ClosingAnswered, AsksAreAnswered}
 use Rattle.request_pool.specs.Pools.{Pooled}
@@ -109,6 +111,16 @@ pub record TrafficLaws : Type 0 where
   pub empty_rose : EmptyPoolsRose
   pub puts_rose : PutsRose
   pub faults_rose : FaultsRose
+  pub empty_fail : EmptyPoolsFail
+  pub puts_fail : PutsFail
+  pub faults_fail : FaultsFail
+  pub steps_fail : StepsFail
+  pub empty_spend : EmptyPoolsSpend
+  pub puts_spend : PutsSpend
+  pub faults_spend : FaultsSpend
+  pub steps_spend : StepsSpend
+  pub budget_answered : BudgetsAnswered
+  pub closing_most : ClosingAnsweredMost
   pub empty_ready : EmptyPoolsReady
   pub puts_ready : PutsReady
   pub spare : StepsSpare

@@ -1,5 +1,5 @@
 // The calls.
-ghost use Rattle.std.specs.Prelude.{ℕ, ◌≡◌, ◌≢◌, ◌≤◌, ◌<◌, [], ◌∷◌, ◌++◌, List, length, false, true, IfOk, IfErr, OnOk, OnErr, IsErrOf, None};
+ghost use Rattle.std.specs.Prelude.{ℕ, ◌≡◌, ◌≢◌, ◌≤◌, ◌<◌, ◌⊎◌, [], ◌∷◌, ◌++◌, List, length, false, true, IfOk, IfErr, OnOk, OnErr, IsErrOf, None};
 ghost use Rattle.std.specs.Io.KnownBytes.{Appends};
 ghost use Rattle.tpf_base.specs.Causes.{Rose, counted_by};
 ghost use Rattle.result_json.specs.Results.{result_text};
@@ -12,10 +12,13 @@ ghost use Rattle.request_pool.specs.Owned.{SuitsWire};
 ghost use Rattle.join_core.specs.Evaluations.{HasHome};
 ghost use Rattle.tpf_client.specs.Traffic.{Event};
 ghost use Rattle.tpf_client.specs.Calls.{Joins, JoinsSome, GathersRest, WritesRest, WritesLess, WritesAll, WritesSome, Returns, Ran, RunsPool, WritesResult, WritesPrefix, IsCause};
+ghost use Rattle.tpf_client.specs.Causes.{IsLocal};
+ghost use Rattle.tpf_client.specs.Shown.{ShowsGiven, ShowsRest};
 ghost use Rattle.tpf_client.specs.Honest.{Laws, IsSolutions, WritesSolutions, WritesSolutionsFront};
 ghost use Rattle.tpf_client.specs.Requests.{AreClosed, AreDialledFor, OthersStay, DialsAtMost, GivesAtMost, AnswersAll, RequestsAreTries, DialsAreTries, TrafficLaws};
 ghost use Rattle.tpf_client.specs.Plans.{SendsAsked, AsksPlan, OverHonest, OverLively, CountsRises, PacesRequests, IsHonestCause, IsLivelyCause, RisesFew, PlanFits, MayStill, StaysUnprovoked};
 ghost use Rattle.tpf_client.specs.Requested.{RequestsPlan, AnswersPlan};
+ghost use Rattle.tpf_client.specs.Failing.{IsFailedOften, ForBudget, SpendsRequests, SpendsTries, SpendsPlan};
 
 use crate::asks::{Asks, is_lawful};
 use crate::fault::of_sink;
@@ -27,16 +30,16 @@ use bgp_core::{Query, Row};
 use control_reader::{Page, a_body_is_one_page, controls_read_back, pages_keep_authority};
 use join_core::{Join, a_server_is_a_world};
 use pool_laws::{
-    a_step_has_a_cause, asks_are_answered, exchanges_are_counted, failures_are_rises,
-    links_are_closed, requests_are_counted, steps_provoke_nothing, whole_replies_come_first,
-    whole_requests_are_sent,
+    a_step_has_a_cause, asks_are_answered, exchanges_are_counted, failures_are_ends,
+    failures_are_rises, links_are_closed, requests_are_counted, starts_are_spent,
+    steps_provoke_nothing, whole_replies_come_first, whole_requests_are_sent,
 };
 use rdf_terms::askable_slots_are_kept;
 use result_json::{ResultWriter, pieces_make_the_text, rows_go_on};
 use std::alloc::Global;
 use std::sync::Wait;
 use template_fill::{Form, WebAddress, pages_are_answered, pages_share_authority};
-use tpf_base::{Dial, Sink};
+use tpf_base::{Dial, Fault, Sink};
 
 /// Joins the pages of a query whose start page told a form.
 fn join_pages<R: Wait, W: Dial, B, T: TakesRows<B>>(
@@ -60,7 +63,7 @@ fn join_pages<R: Wait, W: Dial, B, T: TakesRows<B>>(
     ensures joins { OnOk result ((events : List Event) × (given : List Places) × Joins (W.allows wire.old) query.now form bounds.version events given asks.old asks.new (W.state wire.old) (W.state wire.new)
         × T.takes given rows.old rows.new behind.old behind.new) }
     ensures some { IfErr result (λ fault. (events : List Event) × (given : List Places) × JoinsSome (W.allows wire.old) query.now form bounds.version bounds.budget fault events given asks.old asks.new (W.state wire.old) (W.state wire.new)
-        × T.takes_front given rows.old rows.new behind.old behind.new) }
+        × T.takes_front given rows.old rows.new behind.old behind.new × (IsLocal fault ⊎ T.takes given rows.old rows.new behind.old behind.new)) }
     ensures later { T.faults behind.old ≤ T.faults behind.new }
     ensures sink { IsErrOf result ClientFault.Sink → Rose (T.faults behind.old) (T.faults behind.new) }
     ensures faultless { T.faultless behind.new ≡ T.faultless behind.old }
@@ -77,7 +80,8 @@ fn join_pages<R: Wait, W: Dial, B, T: TakesRows<B>>(
 }
 
 /// Writes the result to its end: the rows that the join gives, and then the end of the text. At a
-/// fault what was made so far is handed on.
+/// fault what was made so far is given to the sink, and where that ends for want of memory the call
+/// does.
 fn write_joined<'a, R: Wait, W: Dial, K: Sink>(
     rt: &R,
     alloc: Global,
@@ -100,6 +104,8 @@ fn write_joined<'a, R: Wait, W: Dial, K: Sink>(
     ensures ok { OnOk result ((events : List Event) × (rows : List Places) × Joins (W.allows wire.old) query.now form bounds.version events rows asks.old asks.new (W.state wire.old) (W.state wire.new)
         × Appends (K.taken out.old) (K.taken out.new) (result_text query.now rows) × (text.new.count ≡ counted_by (length rows) 0)) }
     ensures err { IfErr result (λ fault. WritesLess (W.allows wire.old) query.now form bounds.version bounds.budget fault asks.old asks.new (W.state wire.old) (W.state wire.new) (K.taken out.old) (K.taken out.new)) }
+    ensures shown { IfErr result (λ fault. (less : WritesLess (W.allows wire.old) query.now form bounds.version bounds.budget fault asks.old asks.new (W.state wire.old) (W.state wire.new) (K.taken out.old) (K.taken out.new))
+        × ShowsRest (W.allows wire.old) query.now form bounds.version bounds.budget fault asks.old asks.new (W.state wire.old) (W.state wire.new) (K.faults out.old) (K.faults out.new) (K.taken out.old) (K.taken out.new) less) }
     ensures later { K.faults out.old ≤ K.faults out.new }
     ensures sink { IsErrOf result ClientFault.Sink → Rose (K.faults out.old) (K.faults out.new) }
     ensures faultless { K.faultless out.new ≡ K.faultless out.old }
@@ -114,10 +120,11 @@ fn write_joined<'a, R: Wait, W: Dial, K: Sink>(
             Ok(()) => Ok(()),
             Err(fault) => Err(of_sink(fault)),
         },
-        Err(fault) => {
-            let _handed_on = text.hand_on(out);
-            Err(fault)
-        }
+        Err(fault) => match text.give(out) {
+            Ok(()) => Err(fault),
+            Err(Fault::Failed) => Err(fault),
+            Err(Fault::OutOfMemory) => Err(ClientFault::OutOfMemory),
+        },
     }
 }
 
@@ -140,6 +147,8 @@ fn write_rows<R: Wait, W: Dial, K: Sink>(
     requires suits { SuitsWire asks.old (W.state wire.old) }
     ensures ok { IfOk result (λ report. WritesRest (W.allows wire.old) query.now page.form page.version report asks.old asks.new (W.state wire.old) (W.state wire.new) (K.taken out.old) (K.taken out.new)) }
     ensures err { IfErr result (λ fault. WritesLess (W.allows wire.old) query.now page.form page.version options.now.budget fault asks.old asks.new (W.state wire.old) (W.state wire.new) (K.taken out.old) (K.taken out.new)) }
+    ensures shown { IfErr result (λ fault. (less : WritesLess (W.allows wire.old) query.now page.form page.version options.now.budget fault asks.old asks.new (W.state wire.old) (W.state wire.new) (K.taken out.old) (K.taken out.new))
+        × ShowsRest (W.allows wire.old) query.now page.form page.version options.now.budget fault asks.old asks.new (W.state wire.old) (W.state wire.new) (K.faults out.old) (K.faults out.new) (K.taken out.old) (K.taken out.new) less) }
     ensures later { K.faults out.old ≤ K.faults out.new }
     ensures sink { IsErrOf result ClientFault.Sink → Rose (K.faults out.old) (K.faults out.new) }
     ensures faultless { K.faultless out.new ≡ K.faultless out.old }
@@ -196,6 +205,8 @@ fn write_result<R: Wait, W: Dial, K: Sink>(
     requires suits { SuitsWire asks.old (W.state wire.old) }
     ensures ok { IfOk result (λ report. WritesAll (Ran (W.allows wire.old) asks.old asks.new (W.state wire.old) (W.state wire.new)) query.now start.now report (K.taken out.old) (K.taken out.new)) }
     ensures err { IfErr result (λ fault. WritesSome (Ran (W.allows wire.old) asks.old asks.new (W.state wire.old) (W.state wire.new)) query.now start.now options.now.budget fault (K.taken out.old) (K.taken out.new)) }
+    ensures shown { IfErr result (λ fault. (some : WritesSome (Ran (W.allows wire.old) asks.old asks.new (W.state wire.old) (W.state wire.new)) query.now start.now options.now.budget fault (K.taken out.old) (K.taken out.new))
+        × ShowsGiven (Ran (W.allows wire.old) asks.old asks.new (W.state wire.old) (W.state wire.new)) query.now start.now options.now.budget fault (K.faults out.old) (K.faults out.new) (K.taken out.old) (K.taken out.new) some) }
     ensures suits { SuitsWire asks.new (W.state wire.new) }
     ensures later { K.faults out.old ≤ K.faults out.new }
     ensures sink { IsErrOf result ClientFault.Sink → Rose (K.faults out.old) (K.faults out.new) }
@@ -237,6 +248,8 @@ fn traffic_rests_on_laws<W: Dial>(wire: &W)
     requests_are_counted();
     asks_are_answered();
     failures_are_rises(wire);
+    failures_are_ends();
+    starts_are_spent();
     steps_provoke_nothing(wire);
 }
 
@@ -244,9 +257,10 @@ fn traffic_rests_on_laws<W: Dial>(wire: &W)
 /// Pattern Fragments; SPARQL 1.1 Query Results JSON Format).
 ///
 /// The front of the text is written once the start page is read, then each row as it comes, and the
-/// end. At a fault the sink took a front of such a text. At each exit every link of this call is
-/// closed; each was dialled for the host and port of the start, and no more requests were started
-/// than the budget allows.
+/// end. At a fault the sink took a front of such a text: before the start page was read nothing, and
+/// then, where neither it nor memory failed, what stands in front of the rows and all rows that were
+/// given. At each exit every link of this call is closed; each was dialled for the host and port of
+/// the start, and no more requests were started than the budget allows.
 ///
 /// Over a wire whose other ends answer as a server does, requests are sent for the start and the plan
 /// of the query alone, and no more of them than these and the failures of the wire. Where each answer
@@ -273,6 +287,8 @@ pub fn query<R: Wait, W: Dial, K: Sink>(
     ensures front { OnErr result (WritesPrefix query.now (K.taken out.old) (K.taken out.new)) }
     ensures ok { IfOk result (λ report. WritesAll (RunsPool (W.allows wire.old) options.now (W.state wire.old) (W.state wire.new)) query.now start.now report (K.taken out.old) (K.taken out.new)) }
     ensures err { IfErr result (λ fault. WritesSome (RunsPool (W.allows wire.old) options.now (W.state wire.old) (W.state wire.new)) query.now start.now options.now.budget fault (K.taken out.old) (K.taken out.new)) }
+    ensures shown { IfErr result (λ fault. (some : WritesSome (RunsPool (W.allows wire.old) options.now (W.state wire.old) (W.state wire.new)) query.now start.now options.now.budget fault (K.taken out.old) (K.taken out.new))
+        × ShowsGiven (RunsPool (W.allows wire.old) options.now (W.state wire.old) (W.state wire.new)) query.now start.now options.now.budget fault (K.faults out.old) (K.faults out.new) (K.taken out.old) (K.taken out.new) some) }
     ensures headline { OverHonest (W.allows wire.old) (W.state wire.old) (λ history config. IfOk result (λ report. WritesSolutions history query.now report.version report.rows (K.taken out.old) (K.taken out.new))) }
     ensures prefix { OverHonest (W.allows wire.old) (W.state wire.old) (λ history config. OnErr result (WritesSolutionsFront history query.now (K.taken out.old) (K.taken out.new))) }
     ensures cause { IfErr result (IsCause (W.allows wire.old) options.now (W.state wire.old) (W.state wire.new)) }
@@ -295,6 +311,10 @@ pub fn query<R: Wait, W: Dial, K: Sink>(
     ensures counted { OverLively (W.allows wire.old) (W.state wire.old) (λ history config. CountsRises (W.allows wire.old) history config options.now query.now start.now (W.state wire.old) (W.state wire.new)) }
     ensures paced { OverLively (W.allows wire.old) (W.state wire.old) (λ history config. IfOk result (λ report. PacesRequests history config query.now start.now report (W.state wire.old) (W.state wire.new))) }
     ensures lively_cause { OverLively (W.allows wire.old) (W.state wire.old) (λ history config. IfErr result (IsLivelyCause history config options.now query.now start.now (W.state wire.old) (W.state wire.new))) }
+    ensures failed_often { (W.state wire.old).nature.lively ≡ true → IfErr result (IsFailedOften options.now (W.state wire.old) (W.state wire.new)) }
+    ensures spent_requests { IfErr result (ForBudget (SpendsRequests options.now (W.state wire.old) (W.state wire.new))) }
+    ensures spent_tries { IfErr result (ForBudget (SpendsTries (W.allows wire.old) options.now start.now (W.state wire.old) (W.state wire.new))) }
+    ensures spent_plan { OverHonest (W.allows wire.old) (W.state wire.old) (λ history config. IfErr result (ForBudget (SpendsPlan history config options.now query.now start.now))) }
     ensures complete { OverHonest (W.allows wire.old) (W.state wire.old) (λ history config. (W.state wire.old).nature.lively ≡ true → (rise : ℕ) → RisesFew options.now rise (W.state wire.old) (W.state wire.new)
         → PlanFits history config options.now query.now start.now rise → (Rose (K.faults out.old) (K.faults out.new) → ⊥) → IfErr result (MayStill history)) }
     ensures unprovoked { OverHonest (W.allows wire.old) (W.state wire.old) (λ history config. StaysUnprovoked options.now (W.state wire.old) (W.state wire.new)) }
@@ -395,7 +415,8 @@ fn gather<R: Wait, W: Dial>(
 }
 
 /// Asks the server of a start page for what a query needs, and gives the rows of its result in a
-/// list, each with all names of the query. The rest is as with `query`; `Sink` never comes.
+/// list, each with all names of the query. At a fault no rows are given. The rest is as with `query`;
+/// `Sink` never comes.
 pub fn collect<R: Wait, W: Dial>(
     rt: &R,
     alloc: Global,
@@ -430,6 +451,10 @@ pub fn collect<R: Wait, W: Dial>(
     ensures counted { OverLively (W.allows wire.old) (W.state wire.old) (λ history config. CountsRises (W.allows wire.old) history config options.now query.now start.now (W.state wire.old) (W.state wire.new)) }
     ensures paced { OverLively (W.allows wire.old) (W.state wire.old) (λ history config. IfOk result (λ r. PacesRequests history config query.now start.now r.1 (W.state wire.old) (W.state wire.new))) }
     ensures lively_cause { OverLively (W.allows wire.old) (W.state wire.old) (λ history config. IfErr result (IsLivelyCause history config options.now query.now start.now (W.state wire.old) (W.state wire.new))) }
+    ensures failed_often { (W.state wire.old).nature.lively ≡ true → IfErr result (IsFailedOften options.now (W.state wire.old) (W.state wire.new)) }
+    ensures spent_requests { IfErr result (ForBudget (SpendsRequests options.now (W.state wire.old) (W.state wire.new))) }
+    ensures spent_tries { IfErr result (ForBudget (SpendsTries (W.allows wire.old) options.now start.now (W.state wire.old) (W.state wire.new))) }
+    ensures spent_plan { OverHonest (W.allows wire.old) (W.state wire.old) (λ history config. IfErr result (ForBudget (SpendsPlan history config options.now query.now start.now))) }
     ensures complete { OverHonest (W.allows wire.old) (W.state wire.old) (λ history config. (W.state wire.old).nature.lively ≡ true → (rise : ℕ) → RisesFew options.now rise (W.state wire.old) (W.state wire.new)
         → PlanFits history config options.now query.now start.now rise → IfErr result (MayStill history)) }
     ensures unprovoked { OverHonest (W.allows wire.old) (W.state wire.old) (λ history config. StaysUnprovoked options.now (W.state wire.old) (W.state wire.new)) }

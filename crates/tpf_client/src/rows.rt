@@ -28,7 +28,7 @@ pub(crate) trait TakesRows<B> {
     /// How often what stands behind it has failed.
     ghost faults: { B → ℕ };
 
-    /// Whether what stands behind it fails but for memory.
+    /// Whether what stands behind it never fails but for memory.
     ghost faultless: { B → Bool };
 
     /// Takes a row. `Failed` only where what stands behind failed in this call.
@@ -118,6 +118,18 @@ impl<'a> ResultText<'a> {
             return Err(Fault::OutOfMemory);
         }
         given
+    }
+
+    /// Gives all that is held to the sink.
+    pub(crate) fn give<K: Sink>(&mut self, out: &mut K) -> Result<(), Fault>
+        ensures ok { OnOk result (Appends (K.taken out.old) (K.taken out.new) self.old.writer.pending) }
+        ensures err { OnErr result (AppendsPrefix (K.taken out.old) (K.taken out.new) self.old.writer.pending) }
+        ensures later { K.faults out.old ≤ K.faults out.new }
+        ensures failed { IsErrOf result Fault.Failed → Rose (K.faults out.old) (K.faults out.new) }
+        ensures faultless { K.faultless out.new ≡ K.faultless out.old }
+        ensures spared { K.faultless out.old ≡ true → DoesNotFail (K.faults out.old) (K.faults out.new) result }
+    {
+        self.writer.give(out)
     }
 
     /// Whether so many bytes are held that they are given to the sink.

@@ -220,7 +220,7 @@ fn turn<R: Wait, E: Evaluates, W: Dial, B, T: TakesRows<B>>(
     ensures given { OnOk result (tickets.new ≡ (E.standing evaluation.new).given) }
     ensures done { result ≡ Ok true → (E.standing evaluation.new).done ≡ true }
     ensures failed { IfErr result (λ fault. (events : List Event) × (taken : List Places) × Failed E.suits E.account E.keeps_to E.standing E.is_true (W.allows wire.old) evaluation.old bounds.version bounds.budget fault events taken asks.old asks.new (W.state wire.old) (W.state wire.new)
-        × T.takes_front taken rows.old rows.new behind.old behind.new) }
+        × T.takes_front taken rows.old rows.new behind.old behind.new × (IsLocal fault ⊎ T.takes taken rows.old rows.new behind.old behind.new)) }
     ensures later { T.faults behind.old ≤ T.faults behind.new }
     ensures sink { IsErrOf result ClientFault.Sink → Rose (T.faults behind.old) (T.faults behind.new) }
     ensures faultless { T.faultless behind.new ≡ T.faultless behind.old }
@@ -273,7 +273,7 @@ pub(crate) fn evaluate<R: Wait, E: Evaluates, W: Dial, B, T: TakesRows<B>>(
         × T.takes taken rows.old rows.new behind.old behind.new) }
     ensures done { OnOk result ((E.standing evaluation.new).done ≡ true) }
     ensures failed { IfErr result (λ fault. (events : List Event) × (taken : List Places) × Failed E.suits E.account E.keeps_to E.standing E.is_true (W.allows wire.old) evaluation.old bounds.version bounds.budget fault events taken asks.old asks.new (W.state wire.old) (W.state wire.new)
-        × T.takes_front taken rows.old rows.new behind.old behind.new) }
+        × T.takes_front taken rows.old rows.new behind.old behind.new × (IsLocal fault ⊎ T.takes taken rows.old rows.new behind.old behind.new)) }
     ensures later { T.faults behind.old ≤ T.faults behind.new }
     ensures sink { IsErrOf result ClientFault.Sink → Rose (T.faults behind.old) (T.faults behind.new) }
     ensures faultless { T.faultless behind.new ≡ T.faultless behind.old }

@@ -11,6 +11,8 @@ use Rattle.tpf_client.specs.Plans.{IsHonestCause, IsLivelyCause}
 use Rattle.tpf_client.proofs.Shutting.{if-ok, if-ok-from, if-err, if-err-from, returns-so, writes-some-so, ran-closed, suits-empty}
 use Rattle.tpf_client.proofs.Headline.{solutions-given}
 use Rattle.tpf_client.proofs.Caused.{fault-caused}
+use Rattle.tpf_client.proofs.Failing.{fault-failed}
+use Rattle.tpf_client.proofs.Spending.{fault-requests, fault-tries, plan-spent}
 use Rattle.tpf_client.proofs.Planned.{RunOf, PlannedRun}
 use Rattle.tpf_client.proofs.HonestCauses.{honest-cause}
 use Rattle.tpf_client.proofs.LivelyCauses.{counts-so, paces-so, lively-cause}
@@ -98,6 +100,30 @@ returns-clause-honest_cause g c = λ history config honest. honestly g c history
 
 pub returns-clause-lively_cause : goal.returns-clause-lively_cause
 returns-clause-lively_cause g c = λ history config honest alive. livelily g c history config honest alive
+
+pub returns-clause-failed_often : goal.returns-clause-failed_often
+returns-clause-failed_often g c = λ alive.
+    if-err c.gather-ended.result _ _ (λ fault w.
+    fault-failed c.solutions_rest_on_laws.ensures c.traffic_rests_on_laws.ensures (g.W.Wire.allows c.args.wire.now) c.args.options.now (g.W.Wire.state c.args.wire.now) c.is_lawful.ensures c.args.start.now alive (g.W.Wire.state c.close.new.wire) c.args.query.now fault _ _
+    (writes-some-so _ _ (closes g c) c.args.query.now c.args.start.now c.args.options.now.budget fault _ _ w)) c.gather-ended.ensures.err
+
+pub returns-clause-spent_requests : goal.returns-clause-spent_requests
+returns-clause-spent_requests g c =
+    if-err c.gather-ended.result _ _ (λ fault w.
+    fault-requests c.solutions_rest_on_laws.ensures c.traffic_rests_on_laws.ensures (g.W.Wire.allows c.args.wire.now) c.args.options.now (g.W.Wire.state c.args.wire.now) (g.W.Wire.state c.close.new.wire) c.is_lawful.ensures c.args.start.now c.args.query.now fault _ _
+    (writes-some-so _ _ (closes g c) c.args.query.now c.args.start.now c.args.options.now.budget fault _ _ w)) c.gather-ended.ensures.err
+
+pub returns-clause-spent_tries : goal.returns-clause-spent_tries
+returns-clause-spent_tries g c =
+    if-err c.gather-ended.result _ _ (λ fault w.
+    fault-tries c.solutions_rest_on_laws.ensures c.traffic_rests_on_laws.ensures (g.W.Wire.allows c.args.wire.now) c.args.options.now (g.W.Wire.state c.args.wire.now) (g.W.Wire.state c.close.new.wire) c.is_lawful.ensures c.args.start.now c.args.query.now fault _ _
+    (writes-some-so _ _ (closes g c) c.args.query.now c.args.start.now c.args.options.now.budget fault _ _ w)) c.gather-ended.ensures.err
+
+pub returns-clause-spent_plan : goal.returns-clause-spent_plan
+returns-clause-spent_plan g c = λ history config honest. if-err-from c.gather-ended.result _ _ c.gather-ended.ensures.err (λ fault w.
+    plan-spent c.solutions_rest_on_laws.ensures c.traffic_rests_on_laws.ensures (g.W.Wire.allows c.args.wire.now) c.args.options.now (g.W.Wire.state c.args.wire.now) (g.W.Wire.state c.close.new.wire) c.is_lawful.ensures c.args.start.now history config c.args.query.now fault
+    (at-explained (g.W.Wire.allows c.args.wire.now) c.args.options.now (g.W.Wire.state c.args.wire.now) (g.W.Wire.state c.gather-ended.new.wire) (g.W.Wire.state c.close.new.wire) c.args.start.now c.args.query.now c.new-asks.result c.gather-ended.new.asks c.new-asks.ensures.empty c.close.ensures.closes
+    c.solutions_rest_on_laws.ensures c.is_lawful.ensures history config honest c.new-asks.ensures.limit fault _ _ w))
 
 pub returns-clause-complete : goal.returns-clause-complete
 returns-clause-complete g c = λ history config honest alive rise few fits.

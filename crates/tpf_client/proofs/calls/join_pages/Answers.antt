@@ -1,5 +1,5 @@
 -- A join that begins meets a pool that holds nothing, and the rows that it gives till it is done are the solutions.
-use Rattle.std.proofs.Common.{[], ◌∷◌, length}
+use Rattle.std.proofs.Common.{[], ◌∷◌, length, inl}
 use Rattle.join_core.specs.Evaluations.{Terms}
 use Rattle.tpf_client.proofs.Homes.{own-home}
 use Rattle.tpf_client.proofs.Joining.{begins-meets, joins-of, some-of}
@@ -36,6 +36,7 @@ returns-in-Ok-clause-some g c =
       some-of (g.W.Wire.allows c.args.wire.now) c.args.query.now c.args.form c.args.bounds.version c.in-Ok.join c.args.asks.now c.evaluate.new.asks (g.W.Wire.state c.args.wire.now) (g.W.Wire.state c.evaluate.new.wire)
           c.requires.none c.requires.no_fault c.in-Ok.ensures.tickets.1 (c.in-Ok.ensures.keeps (c.args.form.template.start ∷ []) (own-home c.args.form.template.start)) (λ world is. c.in-Ok.ensures.begins world is.world is.form_is) c.args.bounds.budget fault f.0 f.1 f.2,
       f.3,
+      f.4,
     ))
 
 pub returns-in-Err-clause-some : goal.returns-in-Err-clause-some
@@ -44,6 +45,7 @@ returns-in-Err-clause-some g c = (
   [],
   nothing-joined (g.W.Wire.allows c.args.wire.now) c.args.query.now c.args.form c.args.bounds.version c.args.bounds.budget c.args.asks.now (g.W.Wire.state c.args.wire.now) c.requires.suits,
   g.met.T.TakesRows.front_all [] _ _ _ _ (g.met.T.TakesRows.takes_none c.args.rows.now c.args.behind.now),
+  inl tt,
 )
 
 pub returns-in-Err-clause-allowed : goal.returns-in-Err-clause-allowed

@@ -1,11 +1,14 @@
 -- All rows, and then the end of the text; or what was made of it so far.
-use Rattle.std.proofs.Common.{◌∙◌, sym, subst, arith}
+use Rattle.std.proofs.Common.{◌∙◌, sym, ap, subst, ⊎_elim, arith}
+use Rattle.std.specs.Prelude.{Err}
+use Rattle.tpf_base.specs.declared.fault.Fault.{Fault}
 use Rattle.tpf_client.specs.Rows.{Text, WritesRows, WritesFront}
 use Rattle.tpf_client.specs.declared.fault.ClientFault.{ClientFault}
 use Rattle.tpf_client.specs.Causes.{IsLocal}
 use Rattle.tpf_client.specs.Calls.{PartOf, WholeOf}
-use Rattle.tpf_client.proofs.Texts.{whole-written, part-written, front-handed, handed-on, count-is}
-use Rattle.tpf_client.proofs.Going.{explains-local, sink-local}
+use Rattle.tpf_client.proofs.Texts.{whole-written, part-written, front-handed, all-given, some-given, rows-shown, count-is}
+use Rattle.tpf_client.proofs.Written.{with-fault}
+use Rattle.tpf_client.proofs.Going.{explains-local, sink-local, rose-then}
 use Rattle.tpf_client.proofs.calls.write_joined.Goals as goal
 
 pub returns-in-Ok-finish-clause-ok : goal.returns-in-Ok-finish-clause-ok
@@ -26,20 +29,45 @@ returns-in-Err-finish-clause-err g c =
     WholeOf j.0 j.1 j.2 (explains-local c.args.bounds.version c.args.bounds.budget c.of_sink.result j.0 (subst (λ (f : ClientFault). IsLocal f) (sym c.of_sink.ensures) (sink-local c.in-Err-finish.fault)))
     (part-written c.args.query.now j.1 c.join_pages.new.rows _ _ _ c.pieces_make_the_text.ensures w c.in-Err-finish.ensures.err)
 
-pub returns-in-Err-clause-err : goal.returns-in-Err-clause-err
-returns-in-Err-clause-err g c =
+pub returns-in-Err-finish-clause-shown : goal.returns-in-Err-finish-clause-shown
+returns-in-Err-finish-clause-shown g c =
+    let j = c.in-Ok.ensures.joins in
+    let w = subst (λ (x : Text). WritesRows j.1 x c.join_pages.new.rows (g.K.Sink.taken c.args.out.now) (g.K.Sink.taken c.join_pages.new.behind)) c.requires.fresh j.3 in
+    let is = subst (λ (f : ClientFault). IsLocal f) (sym c.of_sink.ensures) (sink-local c.in-Err-finish.fault) in
+    (WholeOf j.0 j.1 j.2 (explains-local c.args.bounds.version c.args.bounds.budget c.of_sink.result j.0 is) (part-written c.args.query.now j.1 c.join_pages.new.rows _ _ _ c.pieces_make_the_text.ensures w c.in-Err-finish.ensures.err), is)
+
+pub returns-in-Ok-give-clause-err : goal.returns-in-Ok-give-clause-err
+returns-in-Ok-give-clause-err g c =
     let s = c.in-Err.ensures.some in
     let w = subst (λ (x : Text). WritesFront s.1 x c.join_pages.new.rows (g.K.Sink.taken c.args.out.now) (g.K.Sink.taken c.join_pages.new.behind)) c.requires.fresh s.3 in
-    PartOf s.0 s.1 s.2 (front-handed c.args.query.now s.1 c.join_pages.new.rows _ _ _ w (handed-on c.join_pages.new.rows c.hand_on-handed_on.new.self _ _ c.hand_on-handed_on.result c.hand_on-handed_on.ensures.ok c.hand_on-handed_on.ensures.err))
+    PartOf s.0 s.1 s.2 (front-handed c.args.query.now s.1 c.join_pages.new.rows _ _ _ w (all-given c.join_pages.new.rows _ _ c.in-Ok-give.ensures.ok))
 
-pub returns-in-Err-clause-later : goal.returns-in-Err-clause-later
-returns-in-Err-clause-later g c = let a = c.in-Err.ensures.later in let b = c.hand_on-handed_on.ensures.later in omega arith
+pub returns-in-Ok-give-clause-shown : goal.returns-in-Ok-give-clause-shown
+returns-in-Ok-give-clause-shown g c =
+    let s = c.in-Err.ensures.some in
+    let w = subst (λ (x : Text). WritesFront s.1 x c.join_pages.new.rows (g.K.Sink.taken c.args.out.now) (g.K.Sink.taken c.join_pages.new.behind)) c.requires.fresh s.3 in
+    (PartOf s.0 s.1 s.2 (front-handed c.args.query.now s.1 c.join_pages.new.rows _ _ _ w (all-given c.join_pages.new.rows _ _ c.in-Ok-give.ensures.ok)), λ other rose. ⊎_elim (λ l. absurd (other l)) (λ t. rows-shown c.args.query.now s.1 c.join_pages.new.rows _ _ _ (subst (λ (x : Text). WritesRows s.1 x c.join_pages.new.rows (g.K.Sink.taken c.args.out.now) (g.K.Sink.taken c.join_pages.new.behind)) c.requires.fresh t) c.in-Ok-give.ensures.ok) s.4)
 
-pub returns-in-Err-clause-sink : goal.returns-in-Err-clause-sink
-returns-in-Err-clause-sink g c = λ e. let a = c.in-Err.ensures.sink e in let b = c.hand_on-handed_on.ensures.later in omega arith
+pub returns-in-Err-Failed-clause-err : goal.returns-in-Err-Failed-clause-err
+returns-in-Err-Failed-clause-err g c =
+    let s = c.in-Err.ensures.some in
+    let w = subst (λ (x : Text). WritesFront s.1 x c.join_pages.new.rows (g.K.Sink.taken c.args.out.now) (g.K.Sink.taken c.join_pages.new.behind)) c.requires.fresh s.3 in
+    PartOf s.0 s.1 s.2 (front-handed c.args.query.now s.1 c.join_pages.new.rows _ _ _ w (some-given c.join_pages.new.rows _ _ c.in-Err-Failed.ensures.err))
 
-pub returns-in-Err-clause-faultless : goal.returns-in-Err-clause-faultless
-returns-in-Err-clause-faultless g c = c.hand_on-handed_on.ensures.faultless ∙ c.in-Err.ensures.faultless
+pub returns-in-Err-Failed-clause-shown : goal.returns-in-Err-Failed-clause-shown
+returns-in-Err-Failed-clause-shown g c =
+    let s = c.in-Err.ensures.some in
+    let w = subst (λ (x : Text). WritesFront s.1 x c.join_pages.new.rows (g.K.Sink.taken c.args.out.now) (g.K.Sink.taken c.join_pages.new.behind)) c.requires.fresh s.3 in
+    (PartOf s.0 s.1 s.2 (front-handed c.args.query.now s.1 c.join_pages.new.rows _ _ _ w (some-given c.join_pages.new.rows _ _ c.in-Err-Failed.ensures.err)), λ other rose. absurd (rose (rose-then _ _ _ c.in-Err.ensures.later (c.in-Err-Failed.ensures.failed (ap (λ (f : Fault). Err f) c.in-Err-Failed.field-0-is)))))
 
-pub returns-in-Err-clause-spared : goal.returns-in-Err-clause-spared
-returns-in-Err-clause-spared g c = λ h. let d = c.in-Err.ensures.spared h in ((c.hand_on-handed_on.ensures.spared (c.in-Err.ensures.faultless ∙ h)).same ∙ d.0, d.1)
+pub returns-in-Err-OutOfMemory-clause-err : goal.returns-in-Err-OutOfMemory-clause-err
+returns-in-Err-OutOfMemory-clause-err g c =
+    let s = c.in-Err.ensures.some in
+    let w = subst (λ (x : Text). WritesFront s.1 x c.join_pages.new.rows (g.K.Sink.taken c.args.out.now) (g.K.Sink.taken c.join_pages.new.behind)) c.requires.fresh s.3 in
+    PartOf s.0 s.1 (with-fault _ _ _ _ _ _ _ s.0 s.1 _ _ _ _ tt s.2) (front-handed c.args.query.now s.1 c.join_pages.new.rows _ _ _ w (some-given c.join_pages.new.rows _ _ c.in-Err-OutOfMemory.ensures.err))
+
+pub returns-in-Err-OutOfMemory-clause-shown : goal.returns-in-Err-OutOfMemory-clause-shown
+returns-in-Err-OutOfMemory-clause-shown g c =
+    let s = c.in-Err.ensures.some in
+    let w = subst (λ (x : Text). WritesFront s.1 x c.join_pages.new.rows (g.K.Sink.taken c.args.out.now) (g.K.Sink.taken c.join_pages.new.behind)) c.requires.fresh s.3 in
+    (PartOf s.0 s.1 (with-fault _ _ _ _ _ _ _ s.0 s.1 _ _ _ _ tt s.2) (front-handed c.args.query.now s.1 c.join_pages.new.rows _ _ _ w (some-given c.join_pages.new.rows _ _ c.in-Err-OutOfMemory.ensures.err)), λ other rose. absurd (other tt))

@@ -2,7 +2,7 @@
 use Rattle.std.proofs.Common.{[]}
 use Rattle.list_laws.proofs.Members.{at_head}
 use Rattle.tpf_client.proofs.Shutting.{if-ok, if-err}
-use Rattle.tpf_client.proofs.Written.{all-written, some-written, none-written, rest-suits}
+use Rattle.tpf_client.proofs.Written.{all-written, some-written, some-shown, none-written, none-shown, rest-suits}
 use Rattle.tpf_client.proofs.Waiting.{allowed-then}
 use Rattle.tpf_client.proofs.calls.write_result.Goals as goal
 
@@ -42,3 +42,15 @@ returns-in-Err-clause-err g c = none-written (g.W.Wire.allows c.args.wire.now) c
 
 pub returns-in-Err-clause-suits : goal.returns-in-Err-clause-suits
 returns-in-Err-clause-suits g c = c.in-Err.ensures.starts.suits
+
+pub returns-in-Ok-clause-shown : goal.returns-in-Ok-clause-shown
+returns-in-Ok-clause-shown g c =
+    if-err c.write_rows.result _ _ (λ fault w. (
+      some-written (g.W.Wire.allows c.args.wire.now) (g.W.Wire.allows c.ask_start.new.wire) c.in-Ok.ensures.allowed c.args.query.now c.args.start.now c.in-Ok.page c.args.asks.now c.ask_start.new.asks c.write_rows.new.asks
+          (g.W.Wire.state c.args.wire.now) (g.W.Wire.state c.ask_start.new.wire) (g.W.Wire.state c.write_rows.new.wire) c.in-Ok.ensures.starts (c.pages_keep_authority.ensures _ c.in-Ok.ensures.starts.reply.body c.args.start.now c.in-Ok.page c.is_valid.ensures c.in-Ok.ensures.starts.taken).form c.args.options.now.budget fault _ _ w.0,
+      some-shown (g.W.Wire.allows c.args.wire.now) (g.W.Wire.allows c.ask_start.new.wire) c.in-Ok.ensures.allowed c.args.query.now c.args.start.now c.in-Ok.page c.args.asks.now c.ask_start.new.asks c.write_rows.new.asks
+          (g.W.Wire.state c.args.wire.now) (g.W.Wire.state c.ask_start.new.wire) (g.W.Wire.state c.write_rows.new.wire) c.in-Ok.ensures.starts (c.pages_keep_authority.ensures _ c.in-Ok.ensures.starts.reply.body c.args.start.now c.in-Ok.page c.is_valid.ensures c.in-Ok.ensures.starts.taken).form c.args.options.now.budget fault _ _ _ _ w.0 w.1,
+    )) c.write_rows.ensures.shown
+
+pub returns-in-Err-clause-shown : goal.returns-in-Err-clause-shown
+returns-in-Err-clause-shown g c = (none-written (g.W.Wire.allows c.args.wire.now) c.args.query.now c.args.start.now c.args.options.now.budget c.in-Err.fault c.args.asks.now c.ask_start.new.asks (g.W.Wire.state c.args.wire.now) (g.W.Wire.state c.ask_start.new.wire) _ c.in-Err.ensures.starts, none-shown _ _ _ _ _ _ _ _ _ _ c.in-Err.ensures.starts _ _)

@@ -1,7 +1,7 @@
 -- The text begins with what stands in front of the rows.
 use Rattle.std.proofs.Common.{◌∙◌, ap}
 use Rattle.result_json.specs.Pieces.{Writing}
-use Rattle.tpf_client.proofs.Written.{nothing-begun}
+use Rattle.tpf_client.proofs.Written.{nothing-begun, nothing-shown}
 use Rattle.tpf_client.proofs.Waiting.{same-allowed}
 use Rattle.tpf_client.proofs.calls.write_rows.Goals as goal
 
@@ -13,3 +13,6 @@ returns-in-Err-clause-err g c = nothing-begun (g.W.Wire.allows c.args.wire.now) 
 
 pub returns-in-Err-clause-allowed : goal.returns-in-Err-clause-allowed
 returns-in-Err-clause-allowed g c = same-allowed (g.W.Wire.allows c.args.wire.now)
+
+pub returns-in-Err-clause-shown : goal.returns-in-Err-clause-shown
+returns-in-Err-clause-shown g c = (nothing-begun (g.W.Wire.allows c.args.wire.now) c.args.query.now c.args.page.form c.args.page.version c.args.options.now.budget c.args.asks.now (g.W.Wire.state c.args.wire.now) _ c.requires.suits, nothing-shown _ _ _ _ _ _ _ _ c.requires.suits _ _)

@@ -1,10 +1,15 @@
 -- One turn more.
-use Rattle.std.proofs.Common.{Bool, [], ◌++◌, ◌∙◌, refl, sym, ap, arith}
+use Rattle.std.proofs.Common.{Bool, [], ◌++◌, ◌∙◌, ◌⊎◌, inl, inr, refl, sym, ap, arith}
 use Rattle.std.specs.Prelude.{Ok}
 use Rattle.tpf_client.specs.declared.fault.ClientFault.TheVariants as faults
 use Rattle.tpf_client.proofs.Going.{went-none, went-then, failed-then, rose-then, err-as}
 use Rattle.tpf_client.proofs.Waiting.{same-allowed, allowed-then}
 use Rattle.tpf_client.proofs.turns.evaluate.Goals as goal
+
+-- what was taken behind the rows that were taken before
+behind-takes : (A B C : Type 0) → (B → C) → A ⊎ B → A ⊎ C
+behind-takes A B C f (inl a) = inl a
+behind-takes A B C f (inr b) = inr (f b)
 
 pub loop-init : goal.loop-init
 loop-init g c = record {
@@ -76,6 +81,7 @@ returns-in-Err-clause-failed g c =
       failed-then g.E.Evaluates.suits g.E.Evaluates.account g.E.Evaluates.keeps_to g.E.Evaluates.standing g.E.Evaluates.is_true c.args.bounds.version (g.W.Wire.allows c.args.wire.now) (g.W.Wire.allows c.loop.wire) c.args.evaluation.now c.loop.evaluation c.args.bounds.budget c.in-Err.fault i.went.0 t.0 i.went.1 t.1 c.args.asks.now c.loop.asks c.turn.new.asks
           (g.W.Wire.state c.args.wire.now) (g.W.Wire.state c.loop.wire) (g.W.Wire.state c.turn.new.wire) i.allowed i.went.2 t.2,
       g.met.T.TakesRows.front_then i.went.1 t.1 _ _ _ _ _ _ i.went.3 t.3,
+      behind-takes _ _ _ (g.met.T.TakesRows.takes_then i.went.1 t.1 _ _ _ _ _ _ i.went.3) t.4,
     )
 
 pub returns-in-Err-clause-later : goal.returns-in-Err-clause-later

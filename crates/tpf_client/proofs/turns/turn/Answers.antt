@@ -1,5 +1,5 @@
 -- Rows and asks, and then the next reply.
-use Rattle.std.proofs.Common.{Bool, List, [], ◌++◌, ◌∙◌, sym, map, subst, append-nil, arith}
+use Rattle.std.proofs.Common.{Bool, List, [], ◌++◌, ◌∙◌, sym, map, subst, append-nil, inl, inr, arith}
 use Rattle.bgp_core.specs.Solutions.{Places}
 use Rattle.tpf_client.specs.declared.fault.ClientFault.{ClientFault}
 use Rattle.tpf_client.specs.declared.fault.ClientFault.TheVariants as faults
@@ -30,7 +30,7 @@ take_next-requires-clause-suits g c = let r = c.in-Ok.ensures.ok in (went-ready 
 pub returns-in-Err-clause-failed : goal.returns-in-Err-clause-failed
 returns-in-Err-clause-failed g c =
     let r = c.in-Err.ensures.err in
-    (map Asked r.1, r.0, failed-ready g.E.Evaluates.suits g.E.Evaluates.account g.E.Evaluates.keeps_to g.E.Evaluates.standing g.E.Evaluates.is_true c.args.bounds.version (g.W.Wire.allows c.args.wire.now) c.args.evaluation.now r.2 c.args.bounds.budget c.in-Err.fault r.0 r.1 c.args.asks.now c.prepare.new.asks (g.W.Wire.state c.args.wire.now) c.requires.suits c.is_lawful.ensures r.3 r.5, r.4)
+    (map Asked r.1, r.0, failed-ready g.E.Evaluates.suits g.E.Evaluates.account g.E.Evaluates.keeps_to g.E.Evaluates.standing g.E.Evaluates.is_true c.args.bounds.version (g.W.Wire.allows c.args.wire.now) c.args.evaluation.now r.2 c.args.bounds.budget c.in-Err.fault r.0 r.1 c.args.asks.now c.prepare.new.asks (g.W.Wire.state c.args.wire.now) c.requires.suits c.is_lawful.ensures r.3 r.5, r.4, inl r.5)
 
 pub returns-in-Err-clause-allowed : goal.returns-in-Err-clause-allowed
 returns-in-Err-clause-allowed g c = same-allowed (g.W.Wire.allows c.args.wire.now)
@@ -53,6 +53,7 @@ returns-in-Err-hand_on-clause-failed g c =
           (explains-local c.args.bounds.version c.args.bounds.budget c.of_sink.result (map Asked r.1) (subst (λ (f : ClientFault). IsLocal f) (sym c.of_sink.ensures) (sink-local c.in-Err-hand_on.fault)))
           (went-ready g.E.Evaluates.suits g.E.Evaluates.account g.E.Evaluates.keeps_to g.E.Evaluates.standing g.E.Evaluates.is_true c.args.bounds.version (g.W.Wire.allows c.args.wire.now) c.args.evaluation.now c.prepare.new.evaluation r.0 r.1 c.args.asks.now c.prepare.new.asks (g.W.Wire.state c.args.wire.now) c.requires.suits c.is_lawful.ensures r.2),
       subst (λ (l : List Places). g.T.TakesRows.takes_front l c.args.rows.now c.hand_on.new.self c.args.behind.now c.hand_on.new.behind) (append-nil r.0) (g.met.T.TakesRows.front_then r.0 [] _ _ _ _ _ _ r.3 c.in-Err-hand_on.ensures.err),
+      inl (subst (λ (f : ClientFault). IsLocal f) (sym c.of_sink.ensures) (sink-local c.in-Err-hand_on.fault)),
     )
 
 pub returns-in-Err-hand_on-clause-later : goal.returns-in-Err-hand_on-clause-later
@@ -78,6 +79,7 @@ returns-in-Err-take_next-clause-failed g c =
       failed-then g.E.Evaluates.suits g.E.Evaluates.account g.E.Evaluates.keeps_to g.E.Evaluates.standing g.E.Evaluates.is_true c.args.bounds.version (g.W.Wire.allows c.args.wire.now) (g.W.Wire.allows c.args.wire.now) c.args.evaluation.now c.prepare.new.evaluation c.args.bounds.budget c.in-Err-take_next.fault (map Asked r.1) f.0 r.0 [] c.args.asks.now c.prepare.new.asks c.take_next.new.asks
           (g.W.Wire.state c.args.wire.now) (g.W.Wire.state c.args.wire.now) (g.W.Wire.state c.take_next.new.wire) (same-allowed (g.W.Wire.allows c.args.wire.now)) (went-ready g.E.Evaluates.suits g.E.Evaluates.account g.E.Evaluates.keeps_to g.E.Evaluates.standing g.E.Evaluates.is_true c.args.bounds.version (g.W.Wire.allows c.args.wire.now) c.args.evaluation.now c.prepare.new.evaluation r.0 r.1 c.args.asks.now c.prepare.new.asks (g.W.Wire.state c.args.wire.now) c.requires.suits c.is_lawful.ensures r.2) f.1,
       g.met.T.TakesRows.front_all (r.0 ++ []) _ _ _ _ (g.met.T.TakesRows.takes_then r.0 [] _ _ _ _ _ _ r.3 c.in-Ok-hand_on.ensures.ok),
+      inr (g.met.T.TakesRows.takes_then r.0 [] _ _ _ _ _ _ r.3 c.in-Ok-hand_on.ensures.ok),
     )
 
 pub returns-in-Ok-take_next-clause-went : goal.returns-in-Ok-take_next-clause-went

@@ -1,0 +1,208 @@
+-- What was spent where a call ended for its budget.
+use Rattle.std.proofs.Common.{ℕ, ◌≡◌, ◌≢◌, ◌≤◌, ◌<◌, ◌+◌, ◌-◌, ◌*◌, List, [], ◌∷◌, map, length, Option, None, refl, ap, subst, arith}
+use Rattle.std.proofs.Math.Nat.{mul-le-mul_left}
+use Rattle.std.specs.Prelude.{Result, Ok, Err}
+use Rattle.std.proofs.lemmas.List.{length-map}
+use Rattle.rdf_terms.specs.declared.term.Triple.{Triple}
+use Rattle.tpf_base.specs.Addresses.{Address}
+use Rattle.tpf_base.specs.Causes.{RoseBy}
+use Rattle.tpf_base.specs.Links.{WireState}
+use Rattle.template_fill.specs.Authorities.{ShareAuthority}
+use Rattle.template_fill.specs.Metadata.{Config}
+use Rattle.bgp_core.specs.Queries.{QueryData}
+use Rattle.request_pool.specs.declared.fault.PoolFault.{PoolFault}
+use Rattle.request_pool.specs.declared.fault.PoolFault.TheVariants as pool
+use Rattle.request_pool.specs.declared.fault.Stepped.{Stepped}
+use Rattle.request_pool.specs.Pools.{Pooled, Ask, IsOverBudget, held}
+use Rattle.pool_laws.specs.Spending.{SpentSince, AnsweredMost}
+use Rattle.pool_laws.specs.Requested.{AnsweredSince, TellsRequests, count_answered, any}
+use Rattle.tpf_client.specs.declared.options.Options.{Options}
+use Rattle.tpf_client.specs.declared.fault.ClientFault.{ClientFault}
+use Rattle.tpf_client.specs.declared.fault.ClientFault.TheVariants as faults
+use Rattle.tpf_client.specs.Traffic.{Event, Broke, EndsWith, IsLawful, without_fault, Breaks}
+use Rattle.tpf_client.specs.Causes.{Explains}
+use Rattle.tpf_client.specs.Turns.{AsksAt, asked_in, address_of}
+use Rattle.tpf_client.specs.Calls.{WritesSome, RunsPool}
+use Rattle.tpf_client.specs.Honest.{Laws}
+use Rattle.tpf_client.specs.Requests.{TrafficLaws, addresses_of, tries_of}
+use Rattle.tpf_client.specs.Failing.{ForBudget, SpendsRequests, SpendsTries, SpendsPlan}
+use Rattle.tpf_client.proofs.Caused.{CausedRun, some-caused}
+use Rattle.tpf_client.proofs.Homes.{asks-front}
+use Rattle.tpf_client.proofs.Keeping.{IsKeptBy, not-some, by-events, with-asks}
+use Rattle.tpf_client.proofs.Known.{begun, begun-between, knows-so, exit-of}
+use Rattle.tpf_client.proofs.Most.{most_waits}
+use Rattle.tpf_client.proofs.Endings.{ending, same-pool, same-bounds}
+use Rattle.tpf_client.proofs.Planned.{ExplainedRun, few-asked}
+use Rattle.tpf_client.proofs.Requested.{shut, all-answers, WereAnswered, answered-kept}
+
+not-error : (answer : Stepped) → ◌≡◌ {A = Result Stepped PoolFault} (Ok answer) (Err pool.OutOfMemory) → ⊥
+not-error answer e = cc
+
+no-error : (answer : Stepped) → ◌≢◌ {A = Result Stepped PoolFault} (Ok answer) (Err pool.OutOfMemory)
+no-error answer = λ e. not-error answer e
+
+not-memory : ◌≡◌ {A = Result Stepped PoolFault} (Err pool.Budget) (Err pool.OutOfMemory) → ⊥
+not-memory e = cc
+
+other-fault : ◌≢◌ {A = Result Stepped PoolFault} (Err pool.Budget) (Err pool.OutOfMemory)
+other-fault = λ e. not-memory e
+
+less-than : (a b c : ℕ) → a < b → b ≤ c → a < c
+less-than a b c l m = omega (arith, l, m)
+
+rose-same : (n before x y : ℕ) → y ≡ x → RoseBy n before x → RoseBy n before y
+rose-same n before x y e h = omega (arith, e, h)
+
+module _ (laws : Laws) (traffic : TrafficLaws) (allows : List ℕ → ℕ → List ℕ → List ℕ → Type 0) (options : Options) (since now : WireState) (lawful : IsLawful allows since) (start : Address) where
+  abbrev IsAt : Ask → Type 0
+  IsAt ask = ShareAuthority start ask.address
+
+  abbrev WasSpent : ℕ → Pooled → WireState → Type 0
+  WasSpent n p v = p.fault ≡ None → SpentSince since n p v
+
+  spent-kept : IsKeptBy allows (begun options) IsAt WasSpent
+  spent-kept = record {
+    puts = λ n ask p v own web i none. traffic.puts_spend since n ask.ticket ask.address p v (i none);
+    steps = λ n answer p q v w at i t none. traffic.steps_spend since n (Ok answer) p q v w at.given at.suits (no-error answer) (i at.no_fault) t;
+    breaks = λ n fault p q v w at i t kept none. absurd (not-some q.fault fault kept none);
+  }
+
+  -- ---- the last step
+
+  -- what is so of the pool that ended for the budget
+  record Spent (p : Pooled) : Type 0 where
+    asked : List Ask
+    on : AnsweredMost (length (map address_of asked) - length (held p)) (map address_of asked) since (shut (without_fault p)) now
+    rises : ℕ
+    rose : RoseBy rises since.faults now.faults
+    few : p.started + length (held p) ≤ (now.given - since.given) + rises + length asked
+    over : IsOverBudget (without_fault p)
+
+  spent-so : (events : List Event) (p : Pooled) → EndsWith (Broke pool.Budget) events → RunsPool allows options since now events p → AsksAt start events → Spent p
+  spent-so events p e r a =
+      let x = ending laws traffic allows options since now lawful start events (Broke pool.Budget) p e r a in
+      let h : Breaks pool.Budget x.mid p x.between r.between = x.last.happens in
+      let front = asks-front IsAt x.before (Broke pool.Budget ∷ []) (subst (λ (l : List Event). AsksAt start l) x.is_last a) in
+      let first = begun-between laws traffic start options allows since lawful IsAt in
+      let answered : AnsweredSince (map address_of (asked_in x.before)) since x.mid x.between =
+      with-asks allows (begun options) IsAt (WereAnswered laws traffic allows options since now lawful start) (answered-kept laws traffic allows options since now lawful start) x.before (begun options) x.mid since x.between first front
+      (λ none. traffic.empty_answered options.links options.retries options.budget options.max_body since) x.first h.had_none in
+      let spent : SpentSince since (length (asked_in x.before)) x.mid x.between =
+      by-events allows (begun options) IsAt WasSpent spent-kept x.before (begun options) x.mid since x.between first front
+      (λ none. traffic.empty_spend options.links options.retries options.budget options.max_body since) x.first h.had_none in
+      let still = traffic.budget_answered (map address_of (asked_in x.before)) since x.mid (without_fault p) x.between r.between x.given x.suits answered h.steps in
+      let last = traffic.steps_spend since (length (asked_in x.before)) (Err pool.Budget) x.mid (without_fault p) x.between r.between x.given x.suits other-fault spent h.steps in
+      record {
+        asked = asked_in x.before;
+        on = traffic.closing_most (map address_of (asked_in x.before)) since (without_fault p) (shut (without_fault p)) r.between now still refl r.closes;
+        rises = last.rises;
+        rose = rose-same last.rises since.faults r.between.faults now.faults r.closes.faults last.rose;
+        few = fewer p.started (length p.spare) (length (held p)) r.between.given now.given last.rises (length (asked_in x.before)) last.few r.closes.given;
+        over = traffic.causes pool.Budget x.mid (without_fault p) x.between r.between x.given x.suits x.knows.answers h.steps;
+      }
+    where
+      fewer : (s x h g n r k : ℕ) → s + (x + h) ≤ (g - since.given) + r + k → n ≡ g → s + h ≤ (n - since.given) + r + k
+      fewer s x h g n r k l e = omega (arith, l, e)
+
+  -- ---- the budget
+
+  limit-of : (events : List Event) (p : Pooled) → RunsPool allows options since now events p → AsksAt start events → p.limit ≡ options.max_body
+  limit-of events p r a = ap (λ (x : Pooled). x.limit) (same-pool laws traffic allows options since now lawful start events p a r)
+
+  requests-of : (events : List Event) (p : Pooled) → EndsWith (Broke pool.Budget) events → RunsPool allows options since now events p → AsksAt start events → SpendsRequests options since now
+  requests-of events p e r a =
+      let s = spent-so events p e r a in
+      let budget = same-bounds laws traffic allows options since now lawful start events p a r in
+      let over : p.budget ≤ p.started = s.over.spent in
+      let most = s.on.most in
+      let sent = all-answers any s.on.requested.requests since now in
+      let size = length-map s.asked address_of in
+      let enough : options.budget ≤ (now.given - since.given) + count_answered any s.on.requested.requests since now + s.rises =
+      together options.budget p.budget p.started (length (held p)) (now.given - since.given) s.rises (length s.asked) (length (map address_of s.asked)) (count_answered any s.on.requested.requests since now) budget over s.few size most in
+      record {
+        on = s.on.requested.requests;
+        told = λ k low high. subst (λ (n : ℕ). TellsRequests n (now.links k) (s.on.requested.requests k)) (limit-of events p r a) (s.on.requested.given k low high);
+        rises = s.rises;
+        rose = s.rose;
+        answered = enough;
+        sent = omega (arith, enough, sent);
+      }
+    where
+      together : (n b s h g r k l x : ℕ) → b ≡ n → b ≤ s → s + h ≤ g + r + k → l ≡ k → l - h ≤ x → n ≤ g + x + r
+      together n b s h g r k l x e o f i m = omega (arith, e, o, f, i, m)
+
+  few-tries : (events : List Event) (p : Pooled) → EndsWith (Broke pool.Budget) events → RunsPool allows options since now events p → AsksAt start events → options.budget < (options.retries + 1) * length (asked_in events)
+  few-tries events p e r a =
+      let s = spent-so events p e r a in
+      let budget = same-bounds laws traffic allows options since now lawful start events p a r in
+      let over : p.budget ≤ p.started = s.over.spent in
+      let k = knows-so laws traffic start options allows since lawful events p r.between a r.travels in
+      let most : p.started < (options.retries + 1) * length (asked_in events) = most_waits (options.retries + 1) ((options.retries + 1) * length (asked_in events)) p s.over.waits k.most in
+      omega (arith, budget, over, most)
+
+  tries-of : (events : List Event) (p : Pooled) → EndsWith (Broke pool.Budget) events → RunsPool allows options since now events p → AsksAt start events → SpendsTries allows options start since now
+  tries-of events p e r a =
+      let s = spent-so events p e r a in
+      let budget = same-bounds laws traffic allows options since now lawful start events p a r in
+      let over : p.budget ≤ p.started = s.over.spent in
+      let within = (exit-of laws traffic start options allows since lawful now events p a r budget).within in
+      record { events = events; pool = p; runs = r; asks = a; spent = omega (arith, budget, over, within); tries = few-tries events p e r a }
+
+  -- ---- of a call
+
+  spends-requests : (fault : ClientFault) (version : Option ℕ) (events : List Event) (p : Pooled) → Explains version options.budget fault events → RunsPool allows options since now events p → AsksAt start events → ForBudget (SpendsRequests options since now) fault
+  spends-requests faults.Exchange version events p e r a = tt
+  spends-requests faults.Stalled version events p e r a = tt
+  spends-requests (faults.Cut received) version events p e r a = tt
+  spends-requests (faults.Reply fault received) version events p e r a = tt
+  spends-requests (faults.Page fault body) version events p e r a = tt
+  spends-requests (faults.Changed first other) version events p e r a = tt
+  spends-requests (faults.Budget n) version events p e r a = requests-of events p e.1 r a
+  spends-requests faults.Sink version events p e r a = tt
+  spends-requests faults.OutOfMemory version events p e r a = tt
+
+  spends-tries : (fault : ClientFault) (version : Option ℕ) (events : List Event) (p : Pooled) → Explains version options.budget fault events → RunsPool allows options since now events p → AsksAt start events → ForBudget (SpendsTries allows options start since now) fault
+  spends-tries faults.Exchange version events p e r a = tt
+  spends-tries faults.Stalled version events p e r a = tt
+  spends-tries (faults.Cut received) version events p e r a = tt
+  spends-tries (faults.Reply fault received) version events p e r a = tt
+  spends-tries (faults.Page fault body) version events p e r a = tt
+  spends-tries (faults.Changed first other) version events p e r a = tt
+  spends-tries (faults.Budget n) version events p e r a = tries-of events p e.1 r a
+  spends-tries faults.Sink version events p e r a = tt
+  spends-tries faults.OutOfMemory version events p e r a = tt
+
+  module _ (q : QueryData) (fault : ClientFault) (t u : Option (List ℕ)) (w : WritesSome (RunsPool allows options since now) q start options.budget fault t u) where
+    caused : CausedRun allows options since now start fault
+    caused = some-caused allows options since now start q fault t u w
+
+    pub fault-requests : ForBudget (SpendsRequests options since now) fault
+    fault-requests = spends-requests fault caused.version caused.run.events caused.run.pool caused.explains caused.run.runs caused.run.asks
+
+    pub fault-tries : ForBudget (SpendsTries allows options start since now) fault
+    fault-tries = spends-tries fault caused.version caused.run.events caused.run.pool caused.explains caused.run.runs caused.run.asks
+
+  -- ---- over an honest wire
+
+  module _ (history : List (List Triple)) (config : Config) (q : QueryData) where
+    abbrev Run : ClientFault → Type 0
+    Run fault = ExplainedRun allows history config options since now start q fault
+
+    plan-of : (n : ℕ) → Run (faults.Budget n) → SpendsPlan history config options q start
+    plan-of n x =
+        let run = x.planned.run in
+        let version = x.planned.version in
+        let low : options.budget < (options.retries + 1) * length (asked_in run.events) = few-tries run.events run.pool x.explains.1 run.runs run.asks in
+        let times = mul-le-mul_left (options.retries + 1) (few-asked history config q start (asked_in run.events) version x.planned.of_plan) in
+        record { version = version; is_version = x.planned.of_plan.is_version; tries = less-than options.budget ((options.retries + 1) * length (asked_in run.events)) (tries_of options (addresses_of history config q start version)) low times }
+
+    pub plan-spent : (fault : ClientFault) → Run fault → ForBudget (SpendsPlan history config options q start) fault
+    plan-spent faults.Exchange x = tt
+    plan-spent faults.Stalled x = tt
+    plan-spent (faults.Cut received) x = tt
+    plan-spent (faults.Reply fault received) x = tt
+    plan-spent (faults.Page fault body) x = tt
+    plan-spent (faults.Changed first other) x = tt
+    plan-spent (faults.Budget n) x = plan-of n x
+    plan-spent faults.Sink x = tt
+    plan-spent faults.OutOfMemory x = tt

@@ -1,0 +1,71 @@
+-- Why a call failed too often or spent its budget, whatever the other ends of its wire answer.
+use Rattle.std.specs.Prelude.{ℕ, ◌≡◌, ◌≤◌, ◌<◌, ◌+◌, ◌-◌, ◌*◌, List, length}
+use Rattle.rdf_terms.specs.declared.term.Triple.{Triple}
+use Rattle.tpf_base.specs.Addresses.{Address}
+use Rattle.tpf_base.specs.Causes.{RoseBy}
+use Rattle.tpf_base.specs.Links.{WireState}
+use Rattle.template_fill.specs.Metadata.{Config}
+use Rattle.bgp_core.specs.Queries.{QueryData}
+use Rattle.request_pool.specs.Pools.{Pooled}
+use Rattle.pool_laws.specs.Failing.{FailsBy, ended_links}
+use Rattle.pool_laws.specs.Requested.{LinkRequests, TellsRequests, count_sent, count_answered, any}
+use Rattle.tpf_client.specs.declared.options.Options.{Options}
+use Rattle.tpf_client.specs.declared.fault.ClientFault.{ClientFault}
+use Rattle.tpf_client.specs.declared.fault.ClientFault.TheVariants as faults
+use Rattle.tpf_client.specs.Traffic.{Event}
+use Rattle.tpf_client.specs.Turns.{AsksAt, asked_in}
+use Rattle.tpf_client.specs.Calls.{RunsPool}
+use Rattle.tpf_client.specs.Honest.{IsVersionOf}
+use Rattle.tpf_client.specs.Requests.{addresses_of, tries_of}
+
+-- ---- failures
+
+-- Over a lively wire: a request failed too often only where the rise of the wire's faults and the links of the call that ended are together at least once more than it may be asked again, and never for a stall.
+abbrev pub IsFailedOften : Options → WireState → WireState → ClientFault → Type 0
+IsFailedOften options since now faults.Exchange = FailsBy (options.retries + 1) since.faults now.faults (ended_links since now)
+IsFailedOften options since now faults.Stalled = ⊥
+IsFailedOften options since now (faults.Cut received) = FailsBy (options.retries + 1) since.faults now.faults (ended_links since now)
+IsFailedOften options since now (faults.Reply fault received) = Unit {0}
+IsFailedOften options since now (faults.Page fault body) = Unit {0}
+IsFailedOften options since now (faults.Changed first other) = Unit {0}
+IsFailedOften options since now (faults.Budget n) = Unit {0}
+IsFailedOften options since now faults.Sink = Unit {0}
+IsFailedOften options since now faults.OutOfMemory = Unit {0}
+
+-- ---- the budget
+
+-- of a call that ended for its budget
+abbrev pub ForBudget : Type 0 → ClientFault → Type 0
+ForBudget holds faults.Exchange = Unit {0}
+ForBudget holds faults.Stalled = Unit {0}
+ForBudget holds (faults.Cut received) = Unit {0}
+ForBudget holds (faults.Reply fault received) = Unit {0}
+ForBudget holds (faults.Page fault body) = Unit {0}
+ForBudget holds (faults.Changed first other) = Unit {0}
+ForBudget holds (faults.Budget n) = holds
+ForBudget holds faults.Sink = Unit {0}
+ForBudget holds faults.OutOfMemory = Unit {0}
+
+-- The requests on the links that were given in the call, where the wire tells them. These links, the whole requests that were answered on them, and the rise of the wire's faults are together at least the budget; and so with the whole requests that were sent.
+pub record SpendsRequests (options : Options) (since now : WireState) : Type 0 where
+  pub on : ℕ → LinkRequests
+  pub told : (k : ℕ) → since.given ≤ k → k < now.given → TellsRequests options.max_body (now.links k) (on k)
+  pub rises : ℕ
+  pub rose : RoseBy rises since.faults now.faults
+  pub answered : options.budget ≤ (now.given - since.given) + count_answered any on since now + rises
+  pub sent : options.budget ≤ (now.given - since.given) + count_sent any on since now + rises
+
+-- The events of a call, in which each ask was for the authority of the start: just as many requests were started as the budget says, and fewer than the asks may be tried.
+pub record SpendsTries (allows : List ℕ → ℕ → List ℕ → List ℕ → Type 0) (options : Options) (start : Address) (since now : WireState) : Type 0 where
+  pub events : List Event
+  pub pool : Pooled
+  pub runs : RunsPool allows options since now events pool
+  pub asks : AsksAt start events
+  pub spent : pool.started ≡ options.budget
+  pub tries : options.budget < (options.retries + 1) * length (asked_in events)
+
+-- The budget is less than the addresses that one of the versions has to ask for may need requests.
+pub record SpendsPlan (history : List (List Triple)) (config : Config) (options : Options) (q : QueryData) (start : Address) : Type 0 where
+  pub version : ℕ
+  pub is_version : IsVersionOf history version
+  pub tries : options.budget < tries_of options (addresses_of history config q start version)
