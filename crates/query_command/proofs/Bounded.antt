@@ -1,24 +1,20 @@
 -- Files and generated data are within the limits under which plans are read.
-use Rattle.std.proofs.Common.{ℕ, ◌≡◌, ◌+◌, ◌≤◌, List, [], ◌∷◌, length, codes, refl, arith, lit≤}
+use Rattle.std.proofs.Common.{◌≡◌, List, [], ◌∷◌, length, codes, refl, arith}
 use Rattle.std.specs.List.{AllByRecursion}
 use Rattle.std.proofs.lemmas.List.Elements.{All-from_recursion}
-use Rattle.rdf_terms.specs.declared.term.Triple.{Triple}
 use Rattle.rdf_terms.specs.declared.term.Quad.{Quad}
 use Rattle.rdf_terms.specs.Sizes.{IsShortTriple}
 use Rattle.tpf_base.specs.Addresses.{IsAuthority}
 use Rattle.nquads_text.specs.Laws.{ReadIsReadable}
 use Rattle.nquads_text.specs.Quads.{IsReadable}
-use Rattle.triple_table.specs.declared.choice.Choice.{Choice}
 use Rattle.triple_table.specs.Short.{ServedAreShort}
 use Rattle.bgp_core.specs.declared.pattern.Part.{Part}
 use Rattle.bgp_core.specs.declared.pattern.Part.TheVariants.{Fixed, Name}
 use Rattle.bgp_core.specs.declared.pattern.Pattern.{Pattern}
-use Rattle.bgp_core.specs.Queries.{QueryData, IsValidPattern}
+use Rattle.bgp_core.specs.Queries.{IsValidPattern}
 use Rattle.pattern_parser.specs.Short.{IsShortPart, IsShortPattern, TermsAreShort}
-use Rattle.plan_laws.specs.Fitting.{AreServable, IsAskablePart, IsAskable}
+use Rattle.plan_laws.specs.Fitting.{IsAskablePart, IsAskable}
 use Rattle.generated_server.specs.Starts.{AreSmall, GeneratedAreSmall}
-use Rattle.data_files.specs.Data.{Files, Serves}
-use Rattle.data_files.specs.Queries.{HoldsQuery}
 use Rattle.query_command.specs.Limits.{FilesAreServable, GeneratedAreServable, QueriesAreAskable}
 
 abbrev IsShort : Quad → Type 0

@@ -1,7 +1,7 @@
 -- Where none of the causes is there, a command succeeds, or memory is wanting.
-use Rattle.std.proofs.Common.{ℕ, ◌≡◌, ◌≢◌, ◌<◌, ◌^◌, [], ◌∷◌, List, Option, Result, Ok, Err, IfOk, IfErr, codes, refl, sym, subst, ◌∙◌}
+use Rattle.std.proofs.Common.{ℕ, ◌≡◌, ◌≤◌, [], ◌∷◌, List, length, Option, Result, Ok, Err, IfErr, codes, refl, sym, subst, ◌∙◌}
 use Rattle.std.specs.List.{AllByRecursion}
-use Rattle.tpf_base.specs.Addresses.{Address}
+use Rattle.tpf_base.specs.Addresses.{Address, address_text}
 use Rattle.tpf_base.specs.Links.{WireState}
 use Rattle.template_fill.specs.Metadata.{Config}
 use Rattle.template_fill.specs.Answered.{AnsweredGivePages}
@@ -24,7 +24,7 @@ use Rattle.data_files.specs.declared.fault.DataFault.TheVariants as data_faults
 use Rattle.data_files.specs.declared.fault.QueryFileFault.{QueryFileFault}
 use Rattle.data_files.specs.declared.fault.QueryFileFault.TheVariants as query_faults
 use Rattle.data_files.specs.Data.{Files, IfTold, Outcome, IsOutcome, served}
-use Rattle.data_files.specs.Queries.{QueryOutcome, IsQueryOutcome, HoldsQuery, reads}
+use Rattle.data_files.specs.Queries.{QueryOutcome, IsQueryOutcome, reads}
 use Rattle.data_files.specs.Causes.{Gives, GivesQuery}
 use Rattle.query_command.specs.declared.fault.AnswerFault.{AnswerFault}
 use Rattle.query_command.specs.declared.fault.AnswerFault.TheVariants as faults
@@ -32,7 +32,7 @@ use Rattle.query_command.specs.declared.generated_query.Counts.{Counts}
 use Rattle.query_command.specs.Answers.{GivesAnswer, AskCause, AnswersSome, FitsOver, OfQuery, IsWanting, IsClientWanting}
 use Rattle.query_command.specs.Generated.{usual_options, GeneratedCause}
 use Rattle.query_command.specs.Loops.{LocalView, LocalCause, GivesData, local_config}
-use Rattle.query_command.specs.Plans.{EndsLocally, EndsCounted, OfFiles, OfGenerated, PlanIsWithin}
+use Rattle.query_command.specs.Plans.{EndsCounted, EndsByPlan, SucceedsByPlan, OfGenerated, PlanIsWithin}
 use Rattle.query_command.proofs.Fitting.{one_version, plan_fits}
 use Rattle.query_command.proofs.Planned.{is_memory}
 
@@ -55,13 +55,11 @@ module _ (told : Option Files) (view : LocalView) (inside : Option (Looped Fragm
   pub local_complete : (result : Result Report AnswerFault) → IfErr result (LocalCause told view inside shelf shelf' out out' taken taken')
       → (¬ (Rose shelf shelf') → IfTold told (λ files. (outcome : Outcome) → IsOutcome files view.name view.choice (codes "localhost") outcome → GivesData outcome result))
       → (¬ (Rose shelf shelf') → IfTold told (λ files. (outcome : QueryOutcome) → IsQueryOutcome files view.query outcome → GivesAnswer outcome result))
-      → (view.options.budget < 2 ^ 63 → OfFiles told view (λ triples q. EndsLocally view.fail_every view.options triples (local_config view.page_size) q result))
-      → view.options.budget < 2 ^ 63 → ¬ (Rose shelf shelf') → ¬ (Rose out out')
-      → OfFiles told view (λ triples q. PlanIsWithin view.fail_every view.options triples (local_config view.page_size) q → IfErr result IsWanting)
-  local_complete (Ok report) cause data_exact query_exact ends small quiet fine = λ files is triples q serves holds within. tt
-  local_complete (Err (faults.Data fault)) cause data_exact query_exact ends small quiet fine = λ files is triples q serves holds within. data_memory triples fault (data_exact quiet files is (served triples) serves)
-  local_complete (Err (faults.Query fault)) cause data_exact query_exact ends small quiet fine = λ files is triples q serves holds within. query_memory q fault (query_exact quiet files is (reads q) holds)
-  local_complete (Err (faults.Client fault)) cause data_exact query_exact ends small quiet fine = λ files is triples q serves holds within.
+      → EndsByPlan told view result → ¬ (Rose shelf shelf') → ¬ (Rose out out') → SucceedsByPlan told view result
+  local_complete (Ok report) cause data_exact query_exact ends quiet fine = λ small files is triples q serves holds within. tt
+  local_complete (Err (faults.Data fault)) cause data_exact query_exact ends quiet fine = λ small files is triples q serves holds within. data_memory triples fault (data_exact quiet files is (served triples) serves)
+  local_complete (Err (faults.Query fault)) cause data_exact query_exact ends quiet fine = λ small files is triples q serves holds within. query_memory q fault (query_exact quiet files is (reads q) holds)
+  local_complete (Err (faults.Client fault)) cause data_exact query_exact ends quiet fine = λ small files is triples q serves holds within.
       is_memory view.fail_every view.options triples (local_config view.page_size) q fault within (λ e. fine (cause.1.loops.says.writes.sink e)) (ends small files is triples q serves holds)
 
 module _ (told : Option Files) (persons : ℕ) (name : List ℕ) (inside : Option (Looped FragmentServer)) (shelf shelf' : ℕ) where
@@ -97,17 +95,17 @@ same_query one other e = cc
 module _ (told : Option Files) (name : List ℕ) (allows : List ℕ → ℕ → List ℕ → List ℕ → Type 0) (start : Address) (options : Options) (old new : WireState) (out out' : ℕ) (taken taken' : Option (List ℕ)) where
   -- a call that failed over a wire, and the valid patterns of its query
   pub asked_complete : PlansAreRead → StartsAreRead → AnsweredGivePages → QueriesAreAskable → (fault : ClientFault) → (a : AnswersSome told name allows start options fault old new out out' taken taken') → AllByRecursion IsValidPattern a.q.patterns
-      → ¬ (Rose out out') → OfQuery told name (λ q. (triples : List Triple) (config : Config) → FitsOver allows q start options triples config old new → fault ≡ clients.OutOfMemory)
-  asked_complete plans starts gives askable fault a valid fine = λ files is q holds triples config fits.
+      → length (address_text start) ≤ 65536 → ¬ (Rose out out') → OfQuery told name (λ q. (triples : List Triple) (config : Config) → FitsOver allows q start options triples config old new → fault ≡ clients.OutOfMemory)
+  asked_complete plans starts gives askable fault a valid short fine = λ files is q holds triples config fits.
       let same : q ≡ a.q = same_query q a.q (one_query files name (reads q) (reads a.q) holds (a.is_read files is)) in
       let own : FitsOver allows a.q start options triples config old new = subst (λ (x : QueryData). FitsOver allows x start options triples config old new) same fits in
-      still_memory triples fault (a.writes.complete (triples ∷ []) config own.honest own.lively own.rise own.rises (plan_fits plans starts gives allows a.q start options triples config old new (askable files name a.q (a.is_read files is) valid) own) fine)
+      still_memory triples fault (a.writes.complete (triples ∷ []) config own.honest own.lively own.rise own.rises (plan_fits plans starts gives allows a.q start options triples config old new (askable files name a.q (a.is_read files is) valid) short own) fine)
 
   pub query_complete : (shelf shelf' : ℕ) (result : Result Report AnswerFault) → IfErr result (AskCause told name allows start options shelf shelf' old new out out' taken taken')
       → (¬ (Rose shelf shelf') → IfTold told (λ files. (outcome : QueryOutcome) → IsQueryOutcome files name outcome → GivesAnswer outcome result))
-      → (¬ (Rose out out') → OfQuery told name (λ q. (triples : List Triple) (config : Config) → FitsOver allows q start options triples config old new → IfErr result IsClientWanting))
-      → ¬ (Rose shelf shelf') → ¬ (Rose out out') → OfQuery told name (λ q. (triples : List Triple) (config : Config) → FitsOver allows q start options triples config old new → IfErr result IsWanting)
-  query_complete shelf shelf' (Ok report) cause exact asked quiet fine = λ files is q holds triples config fits. tt
-  query_complete shelf shelf' (Err (faults.Data fault)) cause exact asked quiet fine = λ files is q holds triples config fits. absurd cause
-  query_complete shelf shelf' (Err (faults.Query fault)) cause exact asked quiet fine = λ files is q holds triples config fits. query_memory q fault (exact quiet files is (reads q) holds)
-  query_complete shelf shelf' (Err (faults.Client fault)) cause exact asked quiet fine = λ files is q holds triples config fits. asked fine files is q holds triples config fits
+      → (length (address_text start) ≤ 65536 → ¬ (Rose out out') → OfQuery told name (λ q. (triples : List Triple) (config : Config) → FitsOver allows q start options triples config old new → IfErr result IsClientWanting))
+      → length (address_text start) ≤ 65536 → ¬ (Rose shelf shelf') → ¬ (Rose out out') → OfQuery told name (λ q. (triples : List Triple) (config : Config) → FitsOver allows q start options triples config old new → IfErr result IsWanting)
+  query_complete shelf shelf' (Ok report) cause exact asked short quiet fine = λ files is q holds triples config fits. tt
+  query_complete shelf shelf' (Err (faults.Data fault)) cause exact asked short quiet fine = λ files is q holds triples config fits. absurd cause
+  query_complete shelf shelf' (Err (faults.Query fault)) cause exact asked short quiet fine = λ files is q holds triples config fits. query_memory q fault (exact quiet files is (reads q) holds)
+  query_complete shelf shelf' (Err (faults.Client fault)) cause exact asked short quiet fine = λ files is q holds triples config fits. asked short fine files is q holds triples config fits

@@ -17,7 +17,6 @@ use Rattle.generated_server.specs.Starts.{StartsGenerated}
 use Rattle.tpf_client.specs.declared.options.Options.{Options}
 use Rattle.tpf_client.specs.declared.options.Report.{Report}
 use Rattle.tpf_client.specs.declared.fault.ClientFault.{ClientFault}
-use Rattle.tpf_client.specs.declared.fault.ClientFault.TheVariants as client_faults
 use Rattle.tpf_client.specs.Calls.{solutions_of}
 use Rattle.data_files.specs.Data.{Files, IfTold}
 use Rattle.data_files.specs.Queries.{HoldsQuery, QueryOutcome, IsQueryOutcome, reads}

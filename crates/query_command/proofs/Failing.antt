@@ -5,19 +5,18 @@ use Rattle.loop_wire.specs.Looped.{FewFaults}
 use Rattle.query_command.specs.Plans.{CountsRequests, FailsOften, PassesBudget}
 
 -- so many faults of dials, among so many addresses
-pub record FewFailed (n retries addresses faults : ℕ) : Type 0 where
+pub record FewFailed (n addresses faults : ℕ) : Type 0 where
   pub below : faults < 2 ^ 63
   pub none : n ≡ 0 → faults ≡ 0
   pub often : (n - 1) * faults ≤ addresses
-  pub tries : faults ≤ (retries + 1) * addresses
 
-pub few_failed : (n retries addresses faults dials provoked rises budget : ℕ) → FewFaults n dials faults provoked → provoked ≡ 0 → budget < 2 ^ 63 → dials ≤ 0 + budget
-    → RoseBy rises 0 faults → dials ≤ 0 + (addresses + rises) → dials ≤ 0 + (retries + 1) * addresses → FewFailed n retries addresses faults
-few_failed zero retries addresses faults dials provoked rises budget h none small within rose few tries =
+pub few_failed : (n addresses faults dials provoked rises budget : ℕ) → FewFaults n dials faults provoked → provoked ≡ 0 → budget < 2 ^ 63 → dials ≤ 0 + budget
+    → RoseBy rises 0 faults → dials ≤ 0 + (addresses + rises) → FewFailed n addresses faults
+few_failed zero addresses faults dials provoked rises budget h none small within rose few =
     let due : h.due ≡ 0 = h.none refl in
     let zero_faults : faults ≡ 0 = omega (arith, h.failed, due, none) in
-    record { below = omega (arith, zero_faults); none = λ e. zero_faults; often = omega (arith, zero_faults); tries = omega (arith, zero_faults) }
-few_failed (suc m) retries addresses faults dials provoked rises budget h none small within rose few tries =
+    record { below = omega (arith, zero_faults); none = λ e. zero_faults; often = omega (arith, zero_faults) }
+few_failed (suc m) addresses faults dials provoked rises budget h none small within rose few =
     let split : h.due * suc m ≡ h.due * m + h.due = mul-suc h.due m in
     let below : h.due ≤ dials = omega (arith, h.within, split) in
     let failed : faults ≤ h.due = omega (arith, h.failed, none) in
@@ -28,10 +27,9 @@ few_failed (suc m) retries addresses faults dials provoked rises budget h none s
       below = omega (arith, failed, below, within, small);
       none = λ e. absurd (omega (arith, e));
       often = subst (λ (k : ℕ). k * faults ≤ addresses) (sym one) (omega (arith, times, mul_comm m h.due, rest));
-      tries = omega (arith, failed, below, tries);
     }
 
-module _ (n retries addresses faults : ℕ) (h : FewFailed n retries addresses faults) where
+module _ (n retries addresses faults : ℕ) (h : FewFailed n addresses faults) where
   -- a rise of the faults is no more than they are
   rises_within : (rises : ℕ) → RoseBy rises 0 faults → rises ≤ faults
   rises_within rises rose = omega (arith, h.below, rose)
@@ -64,11 +62,11 @@ module _ (n retries addresses faults : ℕ) (h : FewFailed n retries addresses f
       positive zero some = absurd (some refl)
       positive (suc k) some = omega arith
 
-  pub passes_budget : (budget rises : ℕ) → RoseBy rises 0 faults → budget < addresses + rises → PassesBudget n retries budget addresses
-  passes_budget budget rises rose over = record {
+  pub passes_budget : (budget rises : ℕ) → RoseBy rises 0 faults → budget < addresses + rises → budget < (retries + 1) * addresses → PassesBudget n retries budget addresses
+  passes_budget budget rises rose over tries = record {
     none = λ zero_n. let none = h.none zero_n in omega (arith, over, rises_within rises rose, none);
-    all = λ one. omega (arith, over, rises_within rises rose, h.tries);
     some = λ two. omega (arith, over, rises_within rises rose, quotient two);
+    tries = tries;
   }
 
 -- ---- none of the causes

@@ -1,26 +1,20 @@
 -- What a query asks of a server in the same process is answered with pages that are read, within the limits of the program.
-use Rattle.std.proofs.Common.{ℕ, suc, ◌≡◌, ◌==◌, ◌+◌, ◌≤◌, ◌<◌, ◌++◌, Bool, true, false, [], ◌∷◌, List, length, codes, Option, Some, None, if◌then◌else◌, refl, sym, ap, subst, ◌∙◌, arith, lit≤, length-append, append-nil}
-use Rattle.std.specs.List.{AllByRecursion, Contains}
+use Rattle.std.proofs.Common.{ℕ, suc, ◌≡◌, ◌==◌, ◌+◌, ◌≤◌, ◌++◌, Bool, true, false, [], ◌∷◌, List, length, codes, Option, None, if◌then◌else◌, refl, sym, ap, subst, ◌∙◌, arith, lit≤, length-append, append-nil}
+use Rattle.std.specs.List.{AllByRecursion}
 use Rattle.std.proofs.lemmas.Bool.Decides.{nat_tests}
-use Rattle.list_laws.proofs.Told.{all_in}
 use Rattle.rdf_terms.specs.declared.term.Triple.{Triple}
 use Rattle.tpf_base.specs.Addresses.{Address, address_text, authority_of, query_text, target_of}
 use Rattle.tpf_base.specs.Links.{WireState}
-use Rattle.tpf_base.specs.HttpHeads.{head_limit}
 use Rattle.tpf_base.specs.Marks.{Served}
-use Rattle.template_fill.specs.HttpAnswer.{Answer}
 use Rattle.template_fill.specs.Metadata.{Config}
 use Rattle.template_fill.specs.Configurations.{IsConfig, IsValidDataSet}
 use Rattle.template_fill.specs.ReadAddress.{path_of}
-use Rattle.template_fill.specs.Answered.{address_answer, is_answered, AnsweredGivePages}
-use Rattle.http_ends.specs.Requests.{request_for, asks}
-use Rattle.control_reader.specs.declared.page.Page.{Page}
+use Rattle.template_fill.specs.Answered.{address_answer, AnsweredGivePages}
 use Rattle.control_reader.specs.Takes.{Takes}
 use Rattle.bgp_core.specs.Queries.{QueryData}
 use Rattle.plan_laws.specs.Fitting.{IsRead, AreServable, IsAskable, IsServable, PlansAreRead, BasesAreRead, StartsAreRead}
 use Rattle.tpf_client.specs.Honest.{IsVersionOf}
 use Rattle.tpf_client.specs.Requests.{addresses_of}
-use Rattle.tpf_client.specs.Honest.{IsHonestWire}
 use Rattle.tpf_client.specs.declared.options.Options.{Options}
 use Rattle.tpf_client.specs.Plans.{IsAnswered, IsReadByAll, IsSmallByAll, IsFit, PlanFits, answer_at}
 use Rattle.query_command.specs.Loops.{local_base}
@@ -103,7 +97,7 @@ path_short (b ∷ rest) = by (b == 63) (path_short rest)
     by false h = omega (arith, h)
 
 -- the text of an address is its authority and its target, behind the scheme
-text_length : (address : Address) → length (address_text address) ≡ 7 + (length (authority_of address) + length (target_of address))
+pub text_length : (address : Address) → length (address_text address) ≡ 7 + (length (authority_of address) + length (target_of address))
 text_length address = omega (arith, length-append (codes "http://" ++ authority_of address) (target_of address), length-append (codes "http://") (authority_of address), scheme_long)
   where
     scheme_long : length (codes "http://") ≡ 7
@@ -121,17 +115,17 @@ target_of_start : (start : Address) → length (address_text start) ≤ 65536 �
 target_of_start start few = omega (arith, few, text_length start)
 
 pub plan_fits : PlansAreRead → StartsAreRead → AnsweredGivePages → (allows : List ℕ → ℕ → List ℕ → List ℕ → Type 0) (q : QueryData) (start : Address) (options : Options) (triples : List Triple) (config : Config) (old new : WireState)
-    → AllByRecursion IsAskable q.patterns → (f : FitsOver allows q start options triples config old new) → PlanFits (triples ∷ []) config options q start f.rise
-plan_fits plans starts gives allows q start options triples config old new askable f =
+    → AllByRecursion IsAskable q.patterns → length (address_text start) ≤ 65536 → (f : FitsOver allows q start options triples config old new) → PlanFits (triples ∷ []) config options q start f.rise
+plan_fits plans starts gives allows q start options triples config old new askable text f =
     let s : IsServable (triples ∷ []) (Served 1) config = record {
       is_history = f.honest.is_history;
       is_config = f.honest.is_config;
       version = record { low = omega arith; high = omega arith };
       triples = f.servable;
-      base = base_of_start config.base start f.honest.is_config.no_query f.authority ((gives (triples ∷ []) (Served 1) config start).0 f.answered).gives.asks.path f.text;
+      base = base_of_start config.base start f.honest.is_config.no_query f.authority ((gives (triples ∷ []) (Served 1) config start).0 f.answered).gives.asks.path text;
     } in
     let reads : AllByRecursion (IsRead (triples ∷ []) (Served 1) config) (addresses_of (triples ∷ []) config q start 1) = (
-      starts (triples ∷ []) (Served 1) config start s f.authority (target_of_start start f.text) f.answered,
+      starts (triples ∷ []) (Served 1) config start s f.authority (target_of_start start text) f.answered,
       plans (triples ∷ []) (Served 1) config q.patterns (length q.names) s askable,
     ) in
     record {

@@ -1,21 +1,19 @@
 -- The wire in one process to a server of version 1 answers as that server does, over a history of one data set; so what is written over it are the solutions over that data set.
-use Rattle.std.proofs.Common.{ℕ, ◌≡◌, ◌≤◌, ◌<◌, ◌-◌, ◌^◌, ◌∷◌, ◌++◌, [], Bool, true, false, List, length, replicate, nat_le, Option, Some, None, if◌then◌else◌, refl, sym, ap, subst, ◌∙◌, arith}
+use Rattle.std.proofs.Common.{ℕ, ◌≡◌, ◌≤◌, ◌<◌, ◌-◌, ◌^◌, ◌∷◌, ◌++◌, [], Bool, true, false, List, length, replicate, nat_le, Option, if◌then◌else◌, refl, sym, ap, subst, ◌∙◌, arith}
 use Rattle.std.specs.List.{AllByRecursion, AllZip}
 use Rattle.std.specs.List.Sorted.{IsPermutation}
 use Rattle.rdf_terms.specs.declared.term.Triple.{Triple}
 use Rattle.tpf_base.specs.HttpHeads.{Verdict, Accepted, Rejected}
 use Rattle.tpf_base.specs.HttpConnection.{heads_of}
-use Rattle.tpf_base.specs.Marks.{Mark, Served, Failed, Starved, version_at}
+use Rattle.tpf_base.specs.Marks.{Mark, Served, Failed, version_at}
 use Rattle.template_fill.specs.Metadata.{Config}
 use Rattle.template_fill.specs.Bodies.{version_of}
-use Rattle.template_fill.specs.Configurations.{IsConfig, IsHistory, IsValidDataSet}
+use Rattle.template_fill.specs.Configurations.{IsConfig, IsValidDataSet}
 use Rattle.template_fill.specs.Responses.{answering, asks_reload, response_by, FitsHead, IsVersion, IsRising, AreMarks, IsHonest}
 use Rattle.connections.specs.Versions.{Serving}
-use Rattle.loop_wire.specs.Looped.{Looped}
 use Rattle.fragment_server.specs.declared.server.FragmentServer.{FragmentServer}
 use Rattle.fragment_server.specs.Failing.{failing_mark, failing_marks, failing_response, history_to}
 use Rattle.bgp_core.specs.Queries.{QueryData}
-use Rattle.bgp_core.specs.Solutions.{Places}
 use Rattle.tpf_client.specs.declared.options.Report.{Report}
 use Rattle.tpf_client.specs.Calls.{solutions_of}
 use Rattle.tpf_client.specs.Honest.{IsHonestWire, WritesSolutions, WritesSolutionsFront}

@@ -3,7 +3,6 @@ use Rattle.std.proofs.Common.{ℕ, ◌≡◌, ◌<◌, ◌^◌, ◌∷◌, [], t
 use Rattle.rdf_terms.specs.declared.term.Triple.{Triple}
 use Rattle.tpf_base.specs.Addresses.{Address}
 use Rattle.tpf_base.specs.Causes.{Rose}
-use Rattle.tpf_base.specs.Links.{WireState}
 use Rattle.template_fill.specs.Metadata.{Config}
 use Rattle.template_fill.specs.Configurations.{IsConfig, IsValidDataSet}
 use Rattle.loop_wire.specs.Looped.{Looped}
@@ -17,6 +16,8 @@ use Rattle.tpf_client.specs.Calls.{RunsPool, WritesResult, WritesPrefix, WritesA
 use Rattle.tpf_client.specs.Honest.{IsHonestWire, WritesSolutions, WritesSolutionsFront}
 use Rattle.tpf_client.specs.Requests.{AnswersAll, RequestsAreTries}
 use Rattle.tpf_client.specs.Requested.{AnswersPlan}
+use Rattle.tpf_client.specs.Shown.{ShowsGiven}
+use Rattle.tpf_client.specs.Failing.{IsFailedOften, ForBudget, SpendsRequests, SpendsTries, SpendsPlan}
 use Rattle.tpf_client.specs.Plans.{OverHonest, OverLively, PacesRequests, IsHonestCause, IsLivelyCause, RisesFew, PlanFits, MayStill}
 use Rattle.file_server.specs.Servers.{serving}
 use Rattle.tpf_server.specs.Serving as core
@@ -59,6 +60,7 @@ module _ (server : FragmentServer) (seed fail_every : ℕ) (old after : Looped F
   pub loops_err : (result : Result Report ClientFault)
       → OnErr result (WritesPrefix q taken taken')
       → IfErr result (λ fault. WritesSome (RunsPool (allows_of old) options (wire_of old) (wire_of after)) q asked options.budget fault taken taken')
+      → IfErr result (λ fault. (some : WritesSome (RunsPool (allows_of old) options (wire_of old) (wire_of after)) q asked options.budget fault taken taken') × ShowsGiven (RunsPool (allows_of old) options (wire_of old) (wire_of after)) q asked options.budget fault out out' taken taken' some)
       → ((history : List (List Triple)) (config : Config) → IsHonestWire (allows_of old) history config (wire_of old) → OnErr result (WritesSolutionsFront history q taken taken'))
       → IfErr result (IsCause (allows_of old) options (wire_of old) (wire_of after))
       → (result ≡ Err clients.Sink → Rose out out')
@@ -66,15 +68,20 @@ module _ (server : FragmentServer) (seed fail_every : ℕ) (old after : Looped F
       → OverHonest (allows_of old) (wire_of old) (λ history config. IfErr result (IsHonestCause history config options q asked))
       → OverLively (allows_of old) (wire_of old) (λ history config. IfErr result (IsLivelyCause history config options q asked (wire_of old) (wire_of after)))
       → OverHonest (allows_of old) (wire_of old) (λ history config. (wire_of old).nature.lively ≡ true → (rise : ℕ) → RisesFew options rise (wire_of old) (wire_of after) → PlanFits history config options q asked rise → (Rose out out' → ⊥) → IfErr result (MayStill history))
+      → ((wire_of old).nature.lively ≡ true → IfErr result (IsFailedOften options (wire_of old) (wire_of after)))
+      → IfErr result (ForBudget (SpendsRequests options (wire_of old) (wire_of after)))
+      → IfErr result (ForBudget (SpendsTries (allows_of old) options asked (wire_of old) (wire_of after)))
+      → OverHonest (allows_of old) (wire_of old) (λ history config. IfErr result (ForBudget (SpendsPlan history config options q asked)))
       → IfErr result (λ fault. LoopsServer server seed fail_every (Some after) (λ wire wire'. FailsOver (allows_of wire) q start options fault (wire_of wire) (wire_of wire') out out' taken taken'))
-  loops_err (Ok report) front some headline cause sink plan honest_cause lively_cause complete = tt
-  loops_err (Err fault) front some headline cause sink plan honest_cause lively_cause complete = record {
+  loops_err (Ok report) front some shown headline cause sink plan honest_cause lively_cause complete failed_often spent_requests spent_tries spent_plan = tt
+  loops_err (Err fault) front some shown headline cause sink plan honest_cause lively_cause complete failed_often spent_requests spent_tries spent_plan = record {
     after = after;
     is_inside = refl;
     says = subst (λ (wire : Looped FragmentServer). Failed wire start fault) is
         (subst (λ (at : Address). Failed old at fault) same (record {
           front = front;
           writes = some;
+          shown = shown;
           headline = headline;
           cause = cause;
           sink = λ e. sink (ap Err e);
@@ -82,6 +89,10 @@ module _ (server : FragmentServer) (seed fail_every : ℕ) (old after : Looped F
           honest_cause = honest_cause;
           lively_cause = lively_cause;
           complete = complete;
+          failed_often = failed_often;
+          spent_requests = spent_requests;
+          spent_tries = spent_tries;
+          spent_plan = spent_plan;
         }));
   }
 

@@ -1,19 +1,16 @@
 -- How a query ends over the wire in one process to a server, within the limits of the program.
-use Rattle.std.proofs.Common.{ℕ, ◌≡◌, ◌≢◌, ◌+◌, ◌-◌, ◌*◌, ◌^◌, ◌<◌, ◌≤◌, ◌++◌, false, true, [], ◌∷◌, List, length, Option, Some, None, Result, Ok, Err, IfOk, IfErr, refl, sym, ap, subst, ◌∙◌, arith}
-use Rattle.std.specs.List.{AllByRecursion, Contains}
+use Rattle.std.proofs.Common.{ℕ, ◌≡◌, ◌≢◌, ◌+◌, ◌*◌, ◌^◌, ◌<◌, ◌≤◌, ◌++◌, [], ◌∷◌, List, length, Option, Some, Result, Ok, Err, IfOk, IfErr, refl, sym, ap, subst, ◌∙◌, arith}
+use Rattle.std.specs.List.{AllByRecursion}
 use Rattle.std.specs.List.Sorted.{IsPermutation}
 use Rattle.list_laws.proofs.Told.{all_in}
 use Rattle.rdf_terms.specs.declared.term.Triple.{Triple}
 use Rattle.tpf_base.specs.Addresses.{Address}
-use Rattle.tpf_base.specs.Causes.{Rose, RoseBy}
 use Rattle.tpf_base.specs.Links.{WireState, Nature}
 use Rattle.tpf_base.specs.Marks.{Served, version_at}
 use Rattle.template_fill.specs.HttpAnswer.{Answer}
 use Rattle.template_fill.specs.Metadata.{Config}
-use Rattle.http_ends.specs.Requests.{asks}
 use Rattle.bgp_core.specs.Queries.{QueryData}
 use Rattle.request_pool.specs.Pools.{Pooled, empty_pool}
-use Rattle.pool_laws.specs.Provoking.{SparesWire}
 use Rattle.loop_wire.specs.Looped.{Looped, CountsDue, FewFaults, every_of}
 use Rattle.fragment_server.specs.declared.server.FragmentServer.{FragmentServer}
 use Rattle.file_server.specs.Servers.{serving}
@@ -26,7 +23,8 @@ use Rattle.tpf_client.specs.Calls.{RunsPool}
 use Rattle.tpf_client.specs.Honest.{IsHonestWire, IsVersionOf}
 use Rattle.tpf_client.specs.Requests.{addresses_of}
 use Rattle.tpf_client.specs.Requested.{AnswersPlan}
-use Rattle.tpf_client.specs.Plans.{CountsRises, PacesRequests, AsksPlan, IsSmallByAll, HasLongPage, OverrunsPlan, NoneOpen, answer_at}
+use Rattle.tpf_client.specs.Failing.{SpendsPlan}
+use Rattle.tpf_client.specs.Plans.{CountsRises, AsksPlan, IsSmallByAll, HasLongPage, OverrunsPlan, answer_at}
 use Rattle.tpf_client.proofs.Endings.{travels-onward}
 use Rattle.plan_laws.specs.Fitting.{IsRead}
 use Rattle.query_command.specs.Answers.{KeepsToPlan, WritesOver, FailsOver}
@@ -75,18 +73,15 @@ module _ (server : FragmentServer) (seed n : ℕ) (after : Looped FragmentServer
   length_is : (version : ℕ) → IsVersionOf (triples ∷ []) version → length (addresses_of (triples ∷ []) config q local_base version) ≡ most
   length_is version is = at_version triples config q local_base (λ (list : List Address). length list ≡ most) version is refl
 
-  few : FewFailed n options.retries most now.faults
+  few : FewFailed n most now.faults
   few =
       let spares = plan.unprovoked (triples ∷ []) config honest refl (λ k. refl) (omega (arith, small)) in
       let every : every_of after.counts.failing ≡ Some n = ap (λ (x : Nature). x.every) (nature_stays (allows_of (begun server seed n)) options since now counted.events counted.pool counted.runs) in
       let dials = plan.dials in
       let f : FewFaults n now.dials now.faults now.provoked = due n every (omega (arith, dials, small)) in
-      let tries = plan.tries (triples ∷ []) config honest in
       let made = counted.dials in
-      let tried = tries.few in
-      few_failed n options.retries most now.faults now.dials now.provoked counted.rises options.budget f spares.provoked small dials counted.rose
+      few_failed n most now.faults now.dials now.provoked counted.rises options.budget f spares.provoked small dials counted.rose
       (subst (λ (k : ℕ). now.dials ≤ 0 + (k + counted.rises)) (length_is counted.version counted.is_version) made)
-      (subst (λ (k : ℕ). now.dials ≤ 0 + (options.retries + 1) * k) (length_is tries.version tries.is_version) tried)
 
   -- ---- an answer
 
@@ -105,8 +100,10 @@ module _ (server : FragmentServer) (seed n : ℕ) (after : Looped FragmentServer
   no_versions : (one two : ℕ) → IsVersionOf (triples ∷ []) one → IsVersionOf (triples ∷ []) two → one ≢ two → ⊥
   no_versions one two a b differ = differ (sym (one_version triples one a) ∙ one_version triples two b)
 
-  overruns : OverrunsPlan (triples ∷ []) config options q local_base since now → PassesBudget n options.retries options.budget most
-  overruns o = passes_budget n options.retries most now.faults few options.budget o.rises o.rose (subst (λ (k : ℕ). options.budget < k + o.rises) (length_is o.version o.is_version) o.over)
+  overruns : OverrunsPlan (triples ∷ []) config options q local_base since now → SpendsPlan (triples ∷ []) config options q local_base → PassesBudget n options.retries options.budget most
+  overruns o s =
+      passes_budget n options.retries most now.faults few options.budget o.rises o.rose (subst (λ (k : ℕ). options.budget < k + o.rises) (length_is o.version o.is_version) o.over)
+      (subst (λ (k : ℕ). options.budget < (options.retries + 1) * k) (length_is s.version s.is_version) s.tries)
 
   pub may_end : (fault : ClientFault) (out out' : ℕ) (taken taken' : Option (List ℕ)) → FailsOver (allows_of (begun server seed n)) q local_base options fault since now out out' taken taken' → MayEnd n options triples config q fault
   may_end faults.Exchange out out' taken taken' f = fails_often n options.retries most now.faults few (f.lively_cause (triples ∷ []) config honest refl)
@@ -120,7 +117,7 @@ module _ (server : FragmentServer) (seed n : ℕ) (after : Looped FragmentServer
       )
   may_end (faults.Page fault body) out out' taken taken' f = let c = f.honest_cause (triples ∷ []) config honest in c.unread (all_read triples config q reads c.version c.is_version)
   may_end (faults.Changed first other) out out' taken taken' f = let c = f.honest_cause (triples ∷ []) config honest in no_versions c.one c.two c.is_one c.is_two c.differ
-  may_end (faults.Budget m) out out' taken taken' f = (f.cause.0, overruns (f.lively_cause (triples ∷ []) config honest refl))
+  may_end (faults.Budget m) out out' taken taken' f = (f.cause.0, overruns (f.lively_cause (triples ∷ []) config honest refl) (f.spent_plan (triples ∷ []) config honest))
   may_end faults.Sink out out' taken taken' f = tt
   may_end faults.OutOfMemory out out' taken taken' f = tt
 

@@ -1,7 +1,7 @@
 -- What a query of a file over a wire came to.
 use Rattle.std.specs.Prelude.{ℕ, ◌≡◌, ◌+◌, ◌≤◌, true, [], ◌∷◌, List, length, Option, Result, Ok, Err}
 use Rattle.std.specs.List.{AllByRecursion}
-use Rattle.tpf_base.specs.Addresses.{Address, address_text, authority_of}
+use Rattle.tpf_base.specs.Addresses.{Address, authority_of}
 use Rattle.tpf_base.specs.Marks.{Served}
 use Rattle.tpf_base.specs.Causes.{Rose}
 use Rattle.tpf_base.specs.Links.{WireState}
@@ -18,8 +18,9 @@ use Rattle.tpf_client.specs.Calls.{RunsPool, WritesResult, WritesPrefix, WritesA
 use Rattle.tpf_client.specs.Honest.{IsHonestWire, WritesSolutions, WritesSolutionsFront}
 use Rattle.tpf_client.specs.Requests.{AnswersAll, DialsAtMost, DialsAreTries, RequestsAreTries, addresses_of}
 use Rattle.tpf_client.specs.Requested.{RequestsPlan, AnswersPlan}
+use Rattle.tpf_client.specs.Shown.{ShowsGiven}
+use Rattle.tpf_client.specs.Failing.{IsFailedOften, ForBudget, SpendsRequests, SpendsTries, SpendsPlan}
 use Rattle.tpf_client.specs.Plans.{SendsAsked, AsksPlan, OverHonest, OverLively, CountsRises, PacesRequests, IsHonestCause, IsLivelyCause, RisesFew, PlanFits, MayStill, StaysUnprovoked, IsSmallByAll}
-use Rattle.data_files.specs.declared.fault.QueryFileFault.{QueryFileFault}
 use Rattle.data_files.specs.declared.fault.QueryFileFault.TheVariants as query_faults
 use Rattle.data_files.specs.declared.fault.DataFault.TheVariants as data_faults
 use Rattle.data_files.specs.Data.{Files, IfTold}
@@ -49,10 +50,11 @@ pub record WritesOver (allows : List ℕ → ℕ → List ℕ → List ℕ → T
   pub paced : OverLively allows old (λ history config. PacesRequests history config q start report old new)
   pub replied : OverHonest allows old (λ history config. AnswersPlan history config options q start report old new)
 
--- A front of such a text was written, and the call over the wire ended with this fault. Over an honest wire, and a lively one, it has these causes; and where the plan fits and the faults are few it is want of memory, or the data changed.
+-- A front of such a text was written, with all rows that were given where neither the sink nor memory failed, and the call over the wire ended with this fault. Over an honest wire, and a lively one, it has these causes; and where the plan fits and the faults are few it is want of memory, or the data changed. Over a lively wire a request failed too often only for as many rises of the faults and ends of links; and the budget is spent only on links, requests and failures, and is less than what was asked may be tried, over an honest wire than what the plan has.
 pub record FailsOver (allows : List ℕ → ℕ → List ℕ → List ℕ → Type 0) (q : QueryData) (start : Address) (options : Options) (fault : ClientFault) (old new : WireState) (out out' : ℕ) (taken taken' : Option (List ℕ)) : Type 0 where
   pub front : WritesPrefix q taken taken'
   pub writes : WritesSome (RunsPool allows options old new) q start options.budget fault taken taken'
+  pub shown : (some : WritesSome (RunsPool allows options old new) q start options.budget fault taken taken') × ShowsGiven (RunsPool allows options old new) q start options.budget fault out out' taken taken' some
   pub headline : (history : List (List Triple)) (config : Config) → IsHonestWire allows history config old → WritesSolutionsFront history q taken taken'
   pub cause : IsCause allows options old new fault
   pub sink : fault ≡ client_faults.Sink → Rose out out'
@@ -60,6 +62,10 @@ pub record FailsOver (allows : List ℕ → ℕ → List ℕ → List ℕ → Ty
   pub honest_cause : OverHonest allows old (λ history config. IsHonestCause history config options q start fault)
   pub lively_cause : OverLively allows old (λ history config. IsLivelyCause history config options q start old new fault)
   pub complete : OverHonest allows old (λ history config. old.nature.lively ≡ true → (rise : ℕ) → RisesFew options rise old new → PlanFits history config options q start rise → (Rose out out' → ⊥) → MayStill history fault)
+  pub failed_often : old.nature.lively ≡ true → IsFailedOften options old new fault
+  pub spent_requests : ForBudget (SpendsRequests options old new) fault
+  pub spent_tries : ForBudget (SpendsTries allows options start old new) fault
+  pub spent_plan : OverHonest allows old (λ history config. ForBudget (SpendsPlan history config options q start) fault)
 
 -- the query of the file was asked, and the text of its result written
 pub record Answers (told : Option Files) (name : List ℕ) (allows : List ℕ → ℕ → List ℕ → List ℕ → Type 0) (start : Address) (options : Options) (report : Report) (old new : WireState) (taken taken' : Option (List ℕ)) : Type 0 where
@@ -104,13 +110,12 @@ IsClientWanting (faults.Data fault) = Unit {0}
 IsClientWanting (faults.Query fault) = Unit {0}
 IsClientWanting (faults.Client fault) = fault ≡ client_faults.OutOfMemory
 
--- Nothing stands in the way of a query over a wire: the other ends answer as a server of these data does, within the limits of the program; never 1000 waits follow one another; the server has the authority of the start, whose text has at most 65536 bytes, and answers it with the status 200; the faults rise at most as often as a request may be asked again; each body of the plan is within the limit; and the addresses and the rise are within the budget.
+-- Nothing stands in the way of a query over a wire: the other ends answer as a server of these data does, within the limits of the program; never 1000 waits follow one another; the server has the authority of the start and answers it with the status 200; the faults rise at most as often as a request may be asked again; each body of the plan is within the limit; and the addresses and the rise are within the budget.
 pub record FitsOver (allows : List ℕ → ℕ → List ℕ → List ℕ → Type 0) (q : QueryData) (start : Address) (options : Options) (triples : List Triple) (config : Config) (old new : WireState) : Type 0 where
   pub honest : IsHonestWire allows (triples ∷ []) config old
   pub lively : old.nature.lively ≡ true
   pub servable : AreServable triples
   pub authority : authority_of start ≡ authority_of config.base
-  pub text : length (address_text start) ≤ 65536
   pub answered : is_answered (triples ∷ []) (Served 1) config start ≡ true
   pub rise : ℕ
   pub rises : RisesFew options rise old new

@@ -1,5 +1,5 @@
 -- The query of generated data.
-use Rattle.std.specs.Prelude.{ℕ, ◌≡◌, ◌≢◌, List, length, codes, Option, None, Result, Ok, Err}
+use Rattle.std.specs.Prelude.{ℕ, ◌≡◌, ◌≢◌, List, length, codes, Option, None}
 use Rattle.rdf_terms.specs.declared.term.Triple.{Triple}
 use Rattle.tpf_base.specs.Causes.{counted_by}
 use Rattle.bgp_core.specs.Queries.{QueryData}

@@ -1,5 +1,5 @@
 -- What a query asks of a server in the same process, and how it may end there.
-use Rattle.std.specs.Prelude.{ℕ, ◌≡◌, ◌⊎◌, ◌+◌, ◌-◌, ◌*◌, ◌/◌, ◌≤◌, ◌<◌, ◌++◌, [], ◌∷◌, List, length, codes, Option, Some, None, Result, Ok, Err}
+use Rattle.std.specs.Prelude.{ℕ, ◌≡◌, ◌⊎◌, ◌+◌, ◌-◌, ◌*◌, ◌/◌, ◌^◌, ◌≤◌, ◌<◌, ◌++◌, [], ◌∷◌, List, length, codes, Option, Some, None, Result, Ok, Err, IfOk, IfErr}
 use Rattle.std.specs.List.{AllByRecursion, Contains}
 use Rattle.std.specs.List.Sorted.{IsPermutation}
 use Rattle.rdf_terms.specs.declared.term.Triple.{Triple}
@@ -27,6 +27,7 @@ use Rattle.data_files.specs.Queries.{HoldsQuery}
 use Rattle.query_command.specs.declared.fault.AnswerFault.{AnswerFault}
 use Rattle.query_command.specs.declared.fault.AnswerFault.TheVariants as faults
 use Rattle.query_command.specs.declared.generated_query.Counts.{Counts}
+use Rattle.query_command.specs.Answers.{IsWanting}
 use Rattle.query_command.specs.Loops.{LocalView, LoopsFile, local_base, local_config, wire_of}
 
 -- the addresses that a query asks the server of these data for: the base, and the plan of its join (Verborgh et al.)
@@ -66,11 +67,11 @@ pub record FailsOften (n retries addresses : ℕ) : Type 0 where
   pub some : 0 < n
   pub often : (n - 1) * (retries + 1) ≤ addresses
 
--- the addresses, and the requests that failed among them, are together more than the budget
+-- the addresses, and the requests that failed among them, are together more than the budget; and so are the tries that the addresses may take
 pub record PassesBudget (n retries budget addresses : ℕ) : Type 0 where
   pub none : n ≡ 0 → budget < addresses
-  pub all : n ≡ 1 → budget < addresses + (retries + 1) * addresses
   pub some : 2 ≤ n → budget < addresses + addresses / (n - 1)
+  pub tries : budget < (retries + 1) * addresses
 
 -- which faults may come: a request fails too often, but is never stalled; a body of the plan is too long; the budget is too small; the output fails; memory is wanting
 abbrev pub MayEnd : ℕ → Options → List Triple → Config → QueryData → ClientFault → Type 0
@@ -123,3 +124,21 @@ pub record PlanIsWithin (n : ℕ) (options : Options) (triples : List Triple) (c
   pub small : AllByRecursion (IsSmallByAll (triples ∷ []) config options.max_body) (plan_of triples config q)
   pub none : n ≡ 0 → length (plan_of triples config q) ≤ options.budget
   pub some : 2 ≤ n → length (plan_of triples config q) + length (plan_of triples config q) / (n - 1) ≤ options.budget
+
+-- ---- what the query of a file keeps to
+
+-- requests were sent for addresses of the plan alone
+abbrev pub SendsLocally : Option Files → LocalView → Option (Looped FragmentServer) → Type 0
+SendsLocally told local inside = OfFiles told local (λ triples q. SendsInside inside triples (local_config local.page_size) q)
+
+-- at an answer each address of the plan was answered
+abbrev pub RepliesLocally : Option Files → LocalView → Option (Looped FragmentServer) → Result Report AnswerFault → Type 0
+RepliesLocally told local inside answer = IfOk answer (λ report. OfFiles told local (RepliedInside told local inside report))
+
+-- it took so many requests, or ended for one of the causes
+abbrev pub EndsByPlan : Option Files → LocalView → Result Report AnswerFault → Type 0
+EndsByPlan told local answer = local.options.budget < 2 ^ 63 → OfFiles told local (λ triples q. EndsLocally local.fail_every local.options triples (local_config local.page_size) q answer)
+
+-- where none of the causes is there it succeeded, or memory is wanting
+abbrev pub SucceedsByPlan : Option Files → LocalView → Result Report AnswerFault → Type 0
+SucceedsByPlan told local answer = local.options.budget < 2 ^ 63 → OfFiles told local (λ triples q. PlanIsWithin local.fail_every local.options triples (local_config local.page_size) q → IfErr answer IsWanting)

@@ -1,5 +1,5 @@
 // The query of generated data through a server in the same process.
-ghost use Rattle.std.specs.Prelude.{ℕ, ◌≡◌, ◌≢◌, ◌<◌, ◌≤◌, ◌^◌, codes, length, None, IfOk, IfErr};
+ghost use Rattle.std.specs.Prelude.{◌≡◌, ◌≤◌, None, IfOk, IfErr};
 ghost use Rattle.tpf_base.specs.Causes.{Rose};
 ghost use Rattle.data_files.specs.Data.{IfTold};
 ghost use Rattle.data_files.specs.Queries.{QueryOutcome, IsQueryOutcome};

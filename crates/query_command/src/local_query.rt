@@ -1,16 +1,16 @@
 // The query of a file through a server in the same process.
-ghost use Rattle.std.specs.Prelude.{ℕ, ◌≡◌, ◌<◌, ◌≤◌, ◌^◌, [], ◌∷◌, codes, length, None, IfOk, IfErr, OnErr};
+ghost use Rattle.std.specs.Prelude.{◌≡◌, ◌<◌, ◌≤◌, ◌^◌, [], ◌∷◌, codes, length, None, IfOk, IfErr, OnErr};
 ghost use Rattle.std.specs.List.{AllByRecursion};
 ghost use Rattle.tpf_base.specs.Causes.{Rose};
 ghost use Rattle.data_files.specs.Data.{IfTold, Outcome, IsOutcome};
 ghost use Rattle.data_files.specs.Queries.{QueryOutcome, IsQueryOutcome};
 ghost use Rattle.data_files.specs.Causes.{DataCause};
 ghost use Rattle.file_server.specs.Servers.{Starts, GivesServer, serving};
-ghost use Rattle.query_command.specs.Answers.{WritesOver, FailsOver, GivesAnswer, IsWanting};
+ghost use Rattle.query_command.specs.Answers.{WritesOver, FailsOver, GivesAnswer};
 ghost use Rattle.plan_laws.specs.Fitting.{AreServable, IsAskable};
 ghost use Rattle.tpf_client.specs.Requested.{AnswersPlan};
 ghost use Rattle.query_command.specs.Loops.{LoopsServer, WritesAnswer, WritesAnswerFront, LocalAnswers, LocalCause, GivesData, local_view, allows_of, local_base, local_config, wire_of};
-ghost use Rattle.query_command.specs.Plans.{SendsPlan, SendsInside, RepliedInside, EndsAsPlanned, EndsLocally, OfFiles, PlanIsWithin};
+ghost use Rattle.query_command.specs.Plans.{SendsPlan, EndsAsPlanned, SendsLocally, RepliesLocally, EndsByPlan, SucceedsByPlan};
 
 use crate::AnswerFault;
 use crate::limits::commands_keep_limits;
@@ -133,9 +133,9 @@ fn serve_and_ask<R: Wait, F: Shelf, K: Sink>(
     requires few { asked.now.options.links ≤ 256 }
     ensures answers { IfOk result (λ report. LocalAnswers (F.told shelf.old) (local_view asked.now) inside.new report (K.taken out.old) (K.taken out.new)) }
     ensures cause { IfErr result (LocalCause (F.told shelf.old) (local_view asked.now) inside.new (F.faults shelf.old) (F.faults shelf.new) (K.faults out.old) (K.faults out.new) (K.taken out.old) (K.taken out.new)) }
-    ensures sent { OfFiles (F.told shelf.old) (local_view asked.now) (λ triples q. SendsInside inside.new triples (local_config asked.now.page_size) q) }
-    ensures replied { IfOk result (λ report. OfFiles (F.told shelf.old) (local_view asked.now) (RepliedInside (F.told shelf.old) (local_view asked.now) inside.new report)) }
-    ensures ends { asked.now.options.budget < 2 ^ 63 → OfFiles (F.told shelf.old) (local_view asked.now) (λ triples q. EndsLocally asked.now.fail_every asked.now.options triples (local_config asked.now.page_size) q result) }
+    ensures sent { SendsLocally (F.told shelf.old) (local_view asked.now) inside.new }
+    ensures replied { RepliesLocally (F.told shelf.old) (local_view asked.now) inside.new result }
+    ensures ends { EndsByPlan (F.told shelf.old) (local_view asked.now) result }
     ensures told { F.told shelf.new ≡ F.told shelf.old }
     ensures shelf_later { F.faults shelf.old ≤ F.faults shelf.new }
     ensures out_later { K.faults out.old ≤ K.faults out.new }
@@ -180,12 +180,13 @@ fn serve_and_ask<R: Wait, F: Shelf, K: Sink>(
 /// then. `Client` where the call over the wire ended before the result was whole: the output took a front
 /// of such a text.
 ///
-/// Nothing is assumed of the wire. Requests are sent for addresses of the plan alone (`sent`). Where no
-/// dial fails, an answer takes one request for each of them; else it takes the more that failed dials
-/// make necessary, and a fault comes only where too many fail, a body is longer than the limit, or the
-/// budget is too small, and never by a stall, a body that is no page, or another version (`ends`). Where
-/// none of these is so and shelf and output do not fail, the call succeeds unless memory is wanting
-/// (`complete`). What is said of the plan holds where the shelf tells both files.
+/// Nothing is assumed of the wire. Requests are sent for addresses of the plan alone (`sent`), and at an
+/// answer each of these was answered, as often as the plan has it or more (`replied`). Where no dial fails,
+/// an answer takes one request for each of them; else it takes the more that failed dials make necessary,
+/// and a fault comes only where too many fail, a body is longer than the limit, or the budget is too small,
+/// and never by a stall, a body that is no page, or another version (`ends`). Where none of these is so and
+/// shelf and output do not fail, the call succeeds unless memory is wanting (`complete`). What is said of
+/// the plan holds where the shelf tells both files.
 pub fn local<R: Wait, F: Shelf, K: Sink>(
     rt: &R,
     alloc: Global,
@@ -204,11 +205,10 @@ pub fn local<R: Wait, F: Shelf, K: Sink>(
     ensures cause { IfErr result (LocalCause (F.told shelf.old) (local_view asked.now) inside.new (F.faults shelf.old) (F.faults shelf.new) (K.faults out.old) (K.faults out.new) (K.taken out.old) (K.taken out.new)) }
     ensures data_exact { ¬ (Rose (F.faults shelf.old) (F.faults shelf.new)) → IfTold (F.told shelf.old) (λ files. (outcome : Outcome) → IsOutcome files asked.now.name.now asked.now.choice.now (codes "localhost") outcome → GivesData outcome result) }
     ensures query_exact { ¬ (Rose (F.faults shelf.old) (F.faults shelf.new)) → IfTold (F.told shelf.old) (λ files. (outcome : QueryOutcome) → IsQueryOutcome files asked.now.query.now outcome → GivesAnswer outcome result) }
-    ensures sent { OfFiles (F.told shelf.old) (local_view asked.now) (λ triples q. SendsInside inside.new triples (local_config asked.now.page_size) q) }
-    ensures replied { IfOk result (λ report. OfFiles (F.told shelf.old) (local_view asked.now) (RepliedInside (F.told shelf.old) (local_view asked.now) inside.new report)) }
-    ensures ends { asked.now.options.budget < 2 ^ 63 → OfFiles (F.told shelf.old) (local_view asked.now) (λ triples q. EndsLocally asked.now.fail_every asked.now.options triples (local_config asked.now.page_size) q result) }
-    ensures complete { asked.now.options.budget < 2 ^ 63 → ¬ (Rose (F.faults shelf.old) (F.faults shelf.new)) → ¬ (Rose (K.faults out.old) (K.faults out.new))
-        → OfFiles (F.told shelf.old) (local_view asked.now) (λ triples q. PlanIsWithin asked.now.fail_every asked.now.options triples (local_config asked.now.page_size) q → IfErr result IsWanting) }
+    ensures sent { SendsLocally (F.told shelf.old) (local_view asked.now) inside.new }
+    ensures replied { RepliesLocally (F.told shelf.old) (local_view asked.now) inside.new result }
+    ensures ends { EndsByPlan (F.told shelf.old) (local_view asked.now) result }
+    ensures complete { ¬ (Rose (F.faults shelf.old) (F.faults shelf.new)) → ¬ (Rose (K.faults out.old) (K.faults out.new)) → SucceedsByPlan (F.told shelf.old) (local_view asked.now) result }
     ensures told { F.told shelf.new ≡ F.told shelf.old }
     ensures shelf_later { F.faults shelf.old ≤ F.faults shelf.new }
     ensures out_later { K.faults out.old ≤ K.faults out.new }

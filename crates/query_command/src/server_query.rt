@@ -1,5 +1,6 @@
 // The query of a file over a wire.
-ghost use Rattle.std.specs.Prelude.{ℕ, ◌≡◌, ◌≤◌, List, IfOk, IfErr};
+ghost use Rattle.std.specs.Prelude.{◌≡◌, ◌≤◌, List, length, IfOk, IfErr};
+ghost use Rattle.tpf_base.specs.Addresses.{address_text};
 ghost use Rattle.tpf_base.specs.Causes.{Rose};
 ghost use Rattle.tpf_base.specs.Links.{SameAllowed};
 ghost use Rattle.data_files.specs.Data.{IfTold};
@@ -33,7 +34,7 @@ fn read_and_ask<R: Wait, F: Shelf, W: Dial, K: Sink>(
     requires few { options.now.links ≤ 256 }
     ensures answers { IfOk result (λ report. Answers (F.told shelf.old) name.now (W.allows wire.old) start.now options.now report (W.state wire.old) (W.state wire.new) (K.taken out.old) (K.taken out.new)) }
     ensures cause { IfErr result (AskCause (F.told shelf.old) name.now (W.allows wire.old) start.now options.now (F.faults shelf.old) (F.faults shelf.new) (W.state wire.old) (W.state wire.new) (K.faults out.old) (K.faults out.new) (K.taken out.old) (K.taken out.new)) }
-    ensures fits { ¬ (Rose (K.faults out.old) (K.faults out.new)) → OfQuery (F.told shelf.old) name.now (λ q. (triples : List Triple) (config : Config)
+    ensures fits { length (address_text start.now) ≤ 65536 → ¬ (Rose (K.faults out.old) (K.faults out.new)) → OfQuery (F.told shelf.old) name.now (λ q. (triples : List Triple) (config : Config)
         → FitsOver (W.allows wire.old) q start.now options.now triples config (W.state wire.old) (W.state wire.new) → IfErr result IsClientWanting) }
     ensures allowed { SameAllowed (W.allows wire.old) (W.allows wire.new) }
     ensures told { F.told shelf.new ≡ F.told shelf.old }
@@ -59,11 +60,11 @@ fn read_and_ask<R: Wait, F: Shelf, W: Dial, K: Sink>(
 ///
 /// `Query` where the query is not read: nothing was written then, and the wire is as before. `Client`
 /// where the call over the wire ended before the result was whole: the output took a front of such a
-/// text.
+/// text, with all rows that were given where neither the output nor memory failed.
 ///
-/// Where the wire's other ends answer as a server of data within the limits of the program does, the plan
-/// fits and no count of faults rose beyond what may be asked again, the call succeeds unless memory is
-/// wanting (`complete`).
+/// Where the text of the start has at most 65536 bytes, the wire's other ends answer as a server of data
+/// within the limits of the program does, the plan fits and no count of faults rose beyond what may be
+/// asked again, the call succeeds unless memory is wanting (`complete`).
 pub fn query<R: Wait, F: Shelf, W: Dial, K: Sink>(
     rt: &R,
     alloc: Global,
@@ -80,7 +81,7 @@ pub fn query<R: Wait, F: Shelf, W: Dial, K: Sink>(
     ensures answers { IfOk result (λ report. Answers (F.told shelf.old) name.now (W.allows wire.old) start.now options.now report (W.state wire.old) (W.state wire.new) (K.taken out.old) (K.taken out.new)) }
     ensures cause { IfErr result (AskCause (F.told shelf.old) name.now (W.allows wire.old) start.now options.now (F.faults shelf.old) (F.faults shelf.new) (W.state wire.old) (W.state wire.new) (K.faults out.old) (K.faults out.new) (K.taken out.old) (K.taken out.new)) }
     ensures exact { ¬ (Rose (F.faults shelf.old) (F.faults shelf.new)) → IfTold (F.told shelf.old) (λ files. (outcome : QueryOutcome) → IsQueryOutcome files name.now outcome → GivesAnswer outcome result) }
-    ensures complete { ¬ (Rose (F.faults shelf.old) (F.faults shelf.new)) → ¬ (Rose (K.faults out.old) (K.faults out.new)) → OfQuery (F.told shelf.old) name.now (λ q. (triples : List Triple) (config : Config)
+    ensures complete { length (address_text start.now) ≤ 65536 → ¬ (Rose (F.faults shelf.old) (F.faults shelf.new)) → ¬ (Rose (K.faults out.old) (K.faults out.new)) → OfQuery (F.told shelf.old) name.now (λ q. (triples : List Triple) (config : Config)
         → FitsOver (W.allows wire.old) q start.now options.now triples config (W.state wire.old) (W.state wire.new) → IfErr result IsWanting) }
     ensures allowed { SameAllowed (W.allows wire.old) (W.allows wire.new) }
     ensures told { F.told shelf.new ≡ F.told shelf.old }

@@ -1,5 +1,5 @@
 -- What a query or a service came to is what its command did.
-use Rattle.std.proofs.Common.{ℕ, ◌≡◌, ◌^◌, ◌<◌, inl, inr, List, Option, Result, Ok, Err, IfOk, IfErr, OnOk, ◌≤◌, refl, sym, subst}
+use Rattle.std.proofs.Common.{ℕ, ◌≡◌, inl, inr, List, Option, Result, Ok, Err, IfOk, IfErr, OnOk, ◌≤◌, refl, sym, subst}
 use Rattle.std.specs.Io.KnownBytes.{Appends}
 use Rattle.rdf_terms.specs.declared.term.Triple.{Triple}
 use Rattle.bgp_core.specs.Queries.{QueryData}
@@ -14,7 +14,7 @@ use Rattle.tpf_client.specs.declared.options.Report.{Report}
 use Rattle.query_command.specs.declared.fault.AnswerFault.{AnswerFault}
 use Rattle.query_command.specs.Answers.{Answers, AskCause, IsWanting}
 use Rattle.query_command.specs.Loops.{LocalView, LocalAnswers, LocalCause, local_config}
-use Rattle.query_command.specs.Plans.{SendsInside, RepliedInside, EndsLocally, MayFail, OfFiles, OfGenerated, PlanIsWithin}
+use Rattle.query_command.specs.Plans.{SendsInside, MayFail, OfGenerated, PlanIsWithin, SendsLocally, RepliesLocally, EndsByPlan, SucceedsByPlan}
 use Rattle.query_command.specs.declared.generated_query.Counts.{Counts}
 use Rattle.query_command.specs.Generated.{GeneratedAnswers, GeneratedCause, usual_options}
 use Rattle.command_words.specs.declared.command.ClientWords.{ClientWords}
@@ -28,24 +28,20 @@ pub options_in : (client : ClientWords) (options : Options) → options ≡ opti
 options_in client options is h = subst (λ (o : Options). (1 ≤ o.window) × (1 ≤ o.links) × (o.links ≤ 256)) (sym is) (h.window, h.some, h.few)
 
 module _ (a : Around) where
-  sent_inside : (made : Option (Looped FragmentServer)) (view : LocalView) → wire_inside a.inside' ≡ made → OfFiles a.told view (λ triples q. SendsInside made triples (local_config view.page_size) q)
-      → OfFiles a.told view (λ triples q. SendsInside (wire_inside a.inside') triples (local_config view.page_size) q)
-  sent_inside made view is sent = λ files told triples q serves holds. subst (λ (m : Option (Looped FragmentServer)). SendsInside m triples (local_config view.page_size) q) (sym is) (sent files told triples q serves holds)
+  sent_inside : (made : Option (Looped FragmentServer)) (view : LocalView) → wire_inside a.inside' ≡ made → SendsLocally a.told view made → SendsLocally a.told view (wire_inside a.inside')
+  sent_inside made view is sent = subst (λ (m : Option (Looped FragmentServer)). SendsLocally a.told view m) (sym is) sent
 
-  replied_inside : (made : Option (Looped FragmentServer)) (view : LocalView) (report : Report) → wire_inside a.inside' ≡ made → OfFiles a.told view (RepliedInside a.told view made report) → OfFiles a.told view (RepliedInside a.told view (wire_inside a.inside') report)
-  replied_inside made view report is replied = λ files told triples q serves holds. subst (λ (m : Option (Looped FragmentServer)). RepliedInside a.told view m report triples q) (sym is) (replied files told triples q serves holds)
+  replied_inside : (made : Option (Looped FragmentServer)) (view : LocalView) (answer : Result Report AnswerFault) → wire_inside a.inside' ≡ made → RepliesLocally a.told view made answer → RepliesLocally a.told view (wire_inside a.inside') answer
+  replied_inside made view answer is replied = subst (λ (m : Option (Looped FragmentServer)). RepliesLocally a.told view m answer) (sym is) replied
 
   pub asks_file : (made : Option (Looped FragmentServer)) (view : LocalView) (answer : Result Report AnswerFault) → wire_inside a.inside' ≡ made → a.wire' ≡ a.wire
       → IfOk answer (λ report. LocalAnswers a.told view made report a.taken a.taken') → IfErr answer (LocalCause a.told view made a.shelf a.shelf' a.out a.out' a.taken a.taken')
-      → OfFiles a.told view (λ triples q. SendsInside made triples (local_config view.page_size) q)
-      → IfOk answer (λ report. OfFiles a.told view (RepliedInside a.told view made report))
-      → (view.options.budget < 2 ^ 63 → OfFiles a.told view (λ triples q. EndsLocally view.fail_every view.options triples (local_config view.page_size) q answer))
-      → (view.options.budget < 2 ^ 63 → ¬ (Rose a.shelf a.shelf') → ¬ (Rose a.out a.out') → OfFiles a.told view (λ triples q. PlanIsWithin view.fail_every view.options triples (local_config view.page_size) q → IfErr answer IsWanting))
+      → SendsLocally a.told view made → RepliesLocally a.told view made answer → EndsByPlan a.told view answer → (¬ (Rose a.shelf a.shelf') → ¬ (Rose a.out a.out') → SucceedsByPlan a.told view answer)
       → AsksFile a view answer
   asks_file made view (Ok report) is same ok err sent replied ends complete = (
     subst (λ (m : Option (Looped FragmentServer)). LocalAnswers a.told view m report a.taken a.taken') (sym is) ok,
     same,
-    record { sent = sent_inside made view is sent; replied = replied_inside made view report is replied; ends = ends; complete = complete },
+    record { sent = sent_inside made view is sent; replied = replied_inside made view (Ok report) is replied; ends = ends; complete = complete },
   )
   asks_file made view (Err fault) is same ok err sent replied ends complete = (
     subst (λ (m : Option (Looped FragmentServer)). LocalCause a.told view m a.shelf a.shelf' a.out a.out' a.taken a.taken' fault) (sym is) err,

@@ -1,3 +1,4 @@
+pub mod Typed
 pub mod Ranges
 pub mod Said
 pub mod Decided

@@ -1,5 +1,5 @@
 -- Which status may come of a run, and when a run succeeds.
-use Rattle.std.proofs.Common.{ℕ, ◌≡◌, ◌≢◌, ◌⊎◌, ◌<◌, ◌≤◌, ◌^◌, inl, inr, List, length, Option, Some, None, Result, Ok, Err, IfErr, refl, sym, subst, arith}
+use Rattle.std.proofs.Common.{ℕ, ◌≡◌, ◌⊎◌, ◌<◌, ◌≤◌, ◌^◌, inl, inr, List, length, Option, Some, None, Result, Ok, Err, IfErr, refl, sym, subst, arith}
 use Rattle.rdf_terms.specs.declared.term.Triple.{Triple}
 use Rattle.tpf_base.specs.Addresses.{Address, authority_of}
 use Rattle.tpf_base.specs.Causes.{Rose}
@@ -29,7 +29,7 @@ use Rattle.serve_command.specs.declared.fault.ServiceFault.TheVariants as servic
 use Rattle.command_words.specs.declared.command.ClientWords.{ClientWords}
 use Rattle.command_words.specs.Commands.{Command, local, query, serve, make}
 use Rattle.tpf_cli.specs.Endings as ends
-use Rattle.tpf_cli.specs.Endings.{EndOfRun, usage, no_words, answered, made, counted, data_status, query_status, client_status, fault_status, answer_status, service_status, made_status, counted_status, status_of, line_of, Says}
+use Rattle.tpf_cli.specs.Endings.{EndOfRun, usage, no_words, answered, made, counted, data_status, query_status, client_status, fault_status, answer_status, service_status, made_status, counted_status, status_of, Says}
 use Rattle.tpf_cli.specs.Ranges.{IsInRange}
 use Rattle.tpf_cli.specs.Runs.{Around, AsksFile, AsksServer, ServesFile, Writes, AsksGenerated, Does, DoesOf, options_of, view_of, config_by}
 use Rattle.tpf_cli.specs.Promises.{KeepsTable, KeepsTableOf, TellsRequests, TellsRequestsOf, IsDone, SucceedsOf}
@@ -148,7 +148,7 @@ module _ (a : Around) where
   file_succeeds : (view : LocalView) (answer : Result Report AnswerFault) → view.options.budget < 2 ^ 63 → AsksFile a view answer → ¬ (Rose a.shelf a.shelf') → ¬ (Rose a.out a.out')
       → OfFiles a.told view (λ triples q. PlanIsWithin view.fail_every view.options triples (local_config view.page_size) q → IsDone (answer_status answer))
   file_succeeds view (Ok report) small h quiet fine = λ files is triples q serves holds within. inl refl
-  file_succeeds view (Err fault) small h quiet fine = λ files is triples q serves holds within. wanting_done fault (h.2.complete small quiet fine files is triples q serves holds within)
+  file_succeeds view (Err fault) small h quiet fine = λ files is triples q serves holds within. wanting_done fault (h.2.complete quiet fine small files is triples q serves holds within)
 
   generated_table : (persons : ℕ) (name : List ℕ) (result : Result (Unit {0}) AnswerFault) → AsksGenerated a persons name result → OfGenerated a.told persons name (λ triples q. KeepsTable 0 usual_options triples (local_config 100) q (counted_status result))
   generated_table persons name (Ok nothing) h = λ files is triples q serves holds. done_table 0 usual_options triples (local_config 100) q

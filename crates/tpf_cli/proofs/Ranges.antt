@@ -1,15 +1,17 @@
 -- The words of a command keep to their ranges.
-use Rattle.std.proofs.Common.{ℕ, ◌≡◌, ◌≤◌, ◌⊎◌, inl, inr, List, [], ◌∷◌, Bool, true, false, not, ◌&&◌, nat_le, is_some, Option, Some, None, codes, if◌then◌else◌, refl, subst, arith}
+use Rattle.std.proofs.Common.{ℕ, ◌≡◌, ◌≤◌, ◌⊎◌, inl, inr, List, [], ◌∷◌, Bool, true, false, not, ◌&&◌, nat_le, length, is_some, Option, Some, None, codes, if◌then◌else◌, refl, ap, subst, arith}
 use Rattle.std.proofs.lemmas.Bool.Decides.{nat_tests}
 use Rattle.std.specs.Str.{bytes_eq}
-use Rattle.list_laws.specs.Options.{◌>>=◌}
+use Rattle.list_laws.specs.Options.{◌>>=◌, when}
 use Rattle.list_laws.proofs.Options.{bind_some}
 use Rattle.tpf_base.specs.Addresses.{Address}
 use Rattle.template_fill.specs.Configurations.{HasReloadPath, is_reload_path}
+use Rattle.template_fill.specs.ReadAddress.{read_address}
 use Rattle.command_words.specs.declared.command.ClientWords.{ClientWords}
 use Rattle.command_words.specs.Words.{Text, Values, Form, arguments}
 use Rattle.command_words.specs.Commands.{Command, local_form, query_form, serve_form, make_form, is_number, number_after, number_of, number_or, number_in, count_of, url_of, without_query, base_of, reload_of, choice_in, page_in, client_in, local_from, query_from, serve_from, make_from, words_of, command_of, local_of, query_of, serve_of, make_of}
-use Rattle.tpf_cli.specs.Ranges.{IsClient, IsInRange}
+use Rattle.tpf_cli.specs.Ranges.{IsClient, IsTyped, IsInRange}
+use Rattle.tpf_cli.proofs.Typed.{read_length}
 
 some_same : {A : Type 0} {x y : A} → Some x ≡ Some y → x ≡ y
 some_same e = cc
@@ -67,12 +69,20 @@ local_range values c e =
     let p = page_range values page.0 page.1 in
     subst IsInRange (some_same fail_every.2) (p.0, p.1, client_range values client.0 client.1)
 
+is_typed : (text : Text) (url : Address) → url_of text ≡ Some url → IsTyped url
+is_typed text url e =
+    let given = bind_some (when (nat_le (length text) 2048) text) read_address url e in
+    let p = passes (nat_le (length text) 2048) text given.0 given.1 in
+    let short : length text ≤ 2048 = grind (arith, nat_tests, p.0) in
+    omega (arith, short, ap length p.1, read_length given.0 url given.2)
+
 query_range : (values : Values) (c : Command) → query_from values ≡ Some c → IsInRange c
 query_range values c e =
     let url = bind_some (values (codes "URL") >>= url_of) _ c e in
     let asked = bind_some (values (codes "QUERYFILE")) _ c url.2 in
     let client = bind_some (client_in values) _ c asked.2 in
-    subst IsInRange (some_same client.2) (client_range values client.0 client.1)
+    let text = bind_some (values (codes "URL")) url_of url.0 url.1 in
+    subst IsInRange (some_same client.2) (is_typed text.0 url.0 text.2, client_range values client.0 client.1)
 
 none_there : {A : Type 0} (o : Option A) → not (is_some o) ≡ true → o ≡ None
 none_there None e = refl

@@ -19,7 +19,7 @@ use Rattle.tpf_cli.specs.Runs.{Around, options_of, view_of}
 
 -- ---- the table of a query in one process, where each n-th dial fails
 
--- 5 comes only where so many dials fail, 6 only where a body of the plan is longer than the limit, 7 only where the plan and the requests that fail pass the budget; 11 and 12 never come
+-- 5 comes only where so many dials fail, 6 only where a body of the plan is longer than the limit, 7 only where the plan and the requests that fail pass the budget, and so do the tries of the plan; 11 and 12 never come
 pub record KeepsTable (n : ℕ) (options : Options) (triples : List Triple) (config : Config) (q : QueryData) (status : ℕ) : Type 0 where
   pub exchange : status ≡ 5 → FailsOften n options.retries (length (plan_of triples config q))
   pub reply : status ≡ 6 → (received : List ℕ) × HasLongPage (triples ∷ []) config options.max_body (plan_of triples config q) received

@@ -1,5 +1,5 @@
 -- What a run did, by its command and how it ended.
-use Rattle.std.specs.Prelude.{ℕ, ◌≡◌, ◌⊎◌, ◌+◌, ◌-◌, ◌^◌, ◌<◌, ◌≤◌, true, List, Option, Some, None, Result, Ok, Err, IfOk, IfErr, IfSome, OnOk, codes}
+use Rattle.std.specs.Prelude.{ℕ, ◌≡◌, ◌⊎◌, ◌+◌, ◌-◌, ◌≤◌, List, Option, Some, None, Result, Ok, Err, IfOk, IfErr, IfSome, OnOk, codes}
 use Rattle.std.specs.Io.KnownBytes.{Appends}
 use Rattle.rdf_terms.specs.Canon.{canon}
 use Rattle.rdf_terms.specs.declared.term.Triple.{Triple}
@@ -23,7 +23,7 @@ use Rattle.query_command.specs.declared.fault.AnswerFault.{AnswerFault}
 use Rattle.query_command.specs.Answers.{Answers, AskCause, GivesAnswer, FitsOver, OfQuery, IsWanting}
 use Rattle.query_command.specs.declared.fault.AnswerFault.TheVariants as answer_faults
 use Rattle.query_command.specs.Loops.{LocalView, LocalAnswers, LocalCause, GivesData, local_config}
-use Rattle.query_command.specs.Plans.{SendsInside, RepliedInside, EndsLocally, MayFail, OfFiles, OfGenerated, PlanIsWithin}
+use Rattle.query_command.specs.Plans.{SendsInside, MayFail, OfGenerated, PlanIsWithin, SendsLocally, RepliesLocally, EndsByPlan, SucceedsByPlan}
 use Rattle.query_command.specs.declared.generated_query.Counts.{Counts}
 use Rattle.query_command.specs.Generated.{GeneratedAnswers, GeneratedCause, usual_options}
 use Rattle.tpf_client.specs.declared.fault.ClientFault.TheVariants as clients
@@ -67,11 +67,10 @@ IsIdle a = (a.taken' ≡ a.taken) × (a.wire' ≡ a.wire) × (a.inside' ≡ Unus
 
 -- Of a file that was asked in the process: requests were sent for addresses of the plan alone, and at an answer each was answered; so many were made, or the call ended for one of these causes; and where none of these is there, and shelf and output did not fail, memory is wanting or it succeeded.
 pub record KeepsFile (a : Around) (view : LocalView) (answer : Result Report AnswerFault) : Type 0 where
-  pub sent : OfFiles a.told view (λ triples q. SendsInside (wire_inside a.inside') triples (local_config view.page_size) q)
-  pub replied : IfOk answer (λ report. OfFiles a.told view (RepliedInside a.told view (wire_inside a.inside') report))
-  pub ends : view.options.budget < 2 ^ 63 → OfFiles a.told view (λ triples q. EndsLocally view.fail_every view.options triples (local_config view.page_size) q answer)
-  pub complete : view.options.budget < 2 ^ 63 → ¬ (Rose a.shelf a.shelf') → ¬ (Rose a.out a.out')
-      → OfFiles a.told view (λ triples q. PlanIsWithin view.fail_every view.options triples (local_config view.page_size) q → IfErr answer IsWanting)
+  pub sent : SendsLocally a.told view (wire_inside a.inside')
+  pub replied : RepliesLocally a.told view (wire_inside a.inside') answer
+  pub ends : EndsByPlan a.told view answer
+  pub complete : ¬ (Rose a.shelf a.shelf') → ¬ (Rose a.out a.out') → SucceedsByPlan a.told view answer
 
 -- a file was asked in the process; the handed-in wire is not used
 abbrev pub AsksFile : Around → LocalView → Result Report AnswerFault → Type 0

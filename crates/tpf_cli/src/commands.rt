@@ -4,7 +4,7 @@ ghost use Rattle.std.specs.Io.KnownBytes.{Appends};
 ghost use Rattle.template_fill.specs.Configurations.{HasReloadPath};
 ghost use Rattle.query_command.specs.Loops.{local_view};
 ghost use Rattle.serve_command.specs.Services.{config_of};
-ghost use Rattle.tpf_cli.specs.Ranges.{IsClient};
+ghost use Rattle.tpf_cli.specs.Ranges.{IsClient, IsTyped};
 ghost use Rattle.tpf_cli.specs.Lines.{sizes_text};
 ghost use Rattle.tpf_cli.specs.Runs.{AsksFile, AsksServer, ServesFile, AsksGenerated, CutsLine, options_of, unwritten, wire_inside};
 
@@ -130,6 +130,7 @@ pub fn ask_server<R: Wait, F: Shelf, W: Dial, K: Sink>(
     wire: &mut W,
     out: &mut K,
 ) -> Result<Report, AnswerFault>
+    requires typed { IsTyped url.now }
     requires client { IsClient client }
     ensures asks { AsksServer (record { told = F.told shelf.old; shelf = F.faults shelf.old; shelf' = F.faults shelf.new; allows = W.allows wire.old; wire = W.state wire.old; wire' = W.state wire.new; out = K.faults out.old; out' = K.faults out.new; taken = K.taken out.old; taken' = K.taken out.new; inside' = Inside.Unused }) name.now url.now (options_of client) result }
     ensures told { F.told shelf.new ≡ F.told shelf.old }

@@ -1,5 +1,5 @@
 // Lines on the standard error, and the one on the output.
-ghost use Rattle.std.specs.Prelude.{ℕ, ◌≡◌, ◌≤◌, ◌++◌, codes, decimal, IfOk, OnOk, OnErr, IsErrOf};
+ghost use Rattle.std.specs.Prelude.{◌≡◌, ◌≤◌, ◌++◌, codes, decimal, IfOk, OnOk, OnErr, IsErrOf};
 ghost use Rattle.std.specs.Io.KnownBytes.{Appends};
 ghost use Rattle.tpf_base.specs.Causes.{Rose};
 ghost use Rattle.tpf_base.specs.Wrote.{AppendsPrefix};

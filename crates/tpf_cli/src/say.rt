@@ -1,5 +1,5 @@
 // What is said at the end of a run.
-ghost use Rattle.std.specs.Prelude.{ℕ, ◌≡◌, ◌≤◌};
+ghost use Rattle.std.specs.Prelude.{◌≤◌};
 ghost use Rattle.tpf_cli.specs.Lines.{SaysLine};
 ghost use Rattle.tpf_cli.specs.Endings.{Says, data_status, data_line, query_status, query_line, client_status, client_line, reply_line, made_status, made_line, fault_status, fault_line, counted_status, counted_line, answer_status, answer_line, service_status, service_line};
 ghost use Rattle.tpf_cli.specs.EndingViews.{ending_view};

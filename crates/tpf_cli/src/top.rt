@@ -1,5 +1,5 @@
 // The top call.
-ghost use Rattle.std.specs.Prelude.{ℕ, ◌≡◌, ◌≤◌, Some, map, string_bytes};
+ghost use Rattle.std.specs.Prelude.{◌≡◌, ◌≤◌, Some, map, string_bytes};
 ghost use Rattle.command_words.specs.Commands.{command_of};
 ghost use Rattle.command_words.specs.CommandViews.{command_view};
 ghost use Rattle.tpf_cli.specs.Endings.{EndOfRun, Says};
@@ -179,9 +179,9 @@ fn end_of<'a, R: Wait, F: Shelf, W: Dial + Accept, K: Sink>(
 ///
 /// Of `local` and `make --run`, with nothing assumed of a wire: 5 comes only where so many dials fail
 /// (`--fail-every`), 6 only where a body of the plan is longer than `--max-body`, 7 only where the plan
-/// with the requests that fail passes `--budget`, and 11 and 12 never (`table`). At status 0 of `local` the
-/// number of requests that is told is that of the plan's addresses where no dial fails, and else only by
-/// a quotient more (`requests`). Where the files are read
+/// with the requests that fail passes `--budget`, as do retries + 1 times the plan, and 11 and 12 never
+/// (`table`). At status 0 of `local` the number of requests that is told is that of the plan's addresses
+/// where no dial fails, and else only by a quotient more (`requests`). Where the files are read
 /// and none of these causes is there, and no output or shelf fails, the status is 0 or 8; so it is of
 /// `query` over a wire whose other ends answer as a server does, where the plan fits, of `serve` where
 /// the wire does not fail, and of `make` (`complete`).

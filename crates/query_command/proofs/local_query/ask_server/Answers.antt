@@ -15,9 +15,10 @@ returns-clause-answers g c =
 
 pub returns-clause-cause : goal.returns-clause-cause
 returns-clause-cause g c =
-    loops_err c.args.server c.args.seed c.args.fail_every c.new-wire.result c.query-answer.new.wire c.new-wire.ensures c.args.query.now c.args.start.now local_base c.requires.start c.args.options.now (g.K.Sink.faults c.args.out.now) (g.K.Sink.faults c.query-answer.new.out) (g.K.Sink.taken c.args.out.now) (g.K.Sink.taken c.query-answer.new.out) c.query-answer.result c.query-answer.ensures.front c.query-answer.ensures.err c.query-answer.ensures.prefix c.query-answer.ensures.cause c.query-answer.ensures.sink
+    loops_err c.args.server c.args.seed c.args.fail_every c.new-wire.result c.query-answer.new.wire c.new-wire.ensures c.args.query.now c.args.start.now local_base c.requires.start c.args.options.now (g.K.Sink.faults c.args.out.now) (g.K.Sink.faults c.query-answer.new.out) (g.K.Sink.taken c.args.out.now) (g.K.Sink.taken c.query-answer.new.out) c.query-answer.result c.query-answer.ensures.front c.query-answer.ensures.err c.query-answer.ensures.shown c.query-answer.ensures.prefix c.query-answer.ensures.cause c.query-answer.ensures.sink
     (record { sent = c.query-answer.ensures.sent; dials = c.query-answer.ensures.dials; asked = c.query-answer.ensures.asked; tries = c.query-answer.ensures.planned; counted = c.query-answer.ensures.counted; unprovoked = c.query-answer.ensures.unprovoked; requested = c.query-answer.ensures.requested })
     c.query-answer.ensures.honest_cause c.query-answer.ensures.lively_cause c.query-answer.ensures.complete
+    c.query-answer.ensures.failed_often c.query-answer.ensures.spent_requests c.query-answer.ensures.spent_tries c.query-answer.ensures.spent_plan
 
 pub returns-clause-answer : goal.returns-clause-answer
 returns-clause-answer g c =

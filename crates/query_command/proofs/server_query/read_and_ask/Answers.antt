@@ -30,6 +30,7 @@ returns-clause-cause g c =
       writes = record {
         front = e.front;
         writes = e.err;
+        shown = e.shown;
         headline = e.prefix;
         cause = e.cause;
         sink = λ is. e.sink (cc);
@@ -37,6 +38,10 @@ returns-clause-cause g c =
         honest_cause = e.honest_cause;
         lively_cause = e.lively_cause;
         complete = e.complete;
+        failed_often = e.failed_often;
+        spent_requests = e.spent_requests;
+        spent_tries = e.spent_tries;
+        spent_plan = e.spent_plan;
       };
     }
 

@@ -16,4 +16,4 @@ query-requires-clause-few g c = (options_in _ _ c.options_of.ensures c.requires.
 pub returns-clause-asks : goal.returns-clause-asks
 returns-clause-asks g c =
     let a : Around = record { told = g.F.Shelf.told c.args.shelf.now; shelf = g.F.Shelf.faults c.args.shelf.now; shelf' = g.F.Shelf.faults c.query.new.shelf; allows = g.W.Wire.allows c.args.wire.now; wire = g.W.Wire.state c.args.wire.now; wire' = g.W.Wire.state c.query.new.wire; out = g.K.Sink.faults c.args.out.now; out' = g.K.Sink.faults c.query.new.out; taken = g.K.Sink.taken c.args.out.now; taken' = g.K.Sink.taken c.query.new.out; inside' = Unused } in
-    asks_server a c.args.name.now c.args.url.now c.options_of.result (options_of c.args.client) c.query.result c.options_of.ensures refl c.query.ensures.answers c.query.ensures.cause c.query.ensures.complete
+    asks_server a c.args.name.now c.args.url.now c.options_of.result (options_of c.args.client) c.query.result c.options_of.ensures refl c.query.ensures.answers c.query.ensures.cause (c.query.ensures.complete c.requires.typed)
