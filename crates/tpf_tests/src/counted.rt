@@ -1,6 +1,6 @@
 // Runs of `make N --run`, and the numbers that they write.
 use crate::answers::CITY_QUERY;
-use crate::runs::{Outcome, USAGE, files, run_with};
+use crate::runs::{Outcome, USAGE, ended, files, run_with};
 use std::alloc::Global;
 use std::sync::Wait;
 use std::test::Fail;
@@ -64,20 +64,23 @@ static COUNTED: [(&str, &str, u8, &str, &str, bool); 10] = [
 #[test]
 fn numbers_of_generated_data(rt: HostRuntime) -> Result<(), Fail> {
     for (line, query, status, written, said, made) in COUNTED {
-        let got = run_with(
-            &rt,
-            rt.alloc(),
-            line,
-            files(rt.alloc(), b"", query.as_bytes())?,
-            Failing::Never,
-            Failing::Never,
-        )?;
-        assert_eq!(rt; got.status, status, "{line}");
-        assert_eq!(rt; got.out.taken(), written.as_bytes(), "{line}");
-        assert_eq!(rt; got.err.taken(), said.as_bytes(), "{line}");
+        let got = ended(&rt, rt.alloc(), line, "", query)?;
+        assert!(rt; got.ends(status, written, said), "{line}");
         assert_eq!(rt; got.made, made, "{line}");
     }
     Ok(())
+}
+
+/// The numbers of three persons.
+const FIVE: &str = "triples 5 rows 5\n";
+
+/// Whether the output took the front of these numbers that has so many bytes, and then failed.
+fn is_cut(got: &Outcome, most: usize) -> bool {
+    let taken = got.out.taken();
+    taken.len() == most
+        && FIVE.as_bytes().starts_with(taken)
+        && got.status == 9
+        && got.err.taken() == b"sink\n".as_slice()
 }
 
 /// The numbers of three persons over an output that takes so many bytes.
@@ -94,13 +97,9 @@ fn cut_off<R: Wait>(rt: &R, alloc: Global, most: u64) -> Result<Outcome, Fail> {
 
 #[test]
 fn an_output_that_fails_within_the_numbers(rt: HostRuntime) -> Result<(), Fail> {
-    let line = "triples 5 rows 5\n".as_bytes();
-    for most in 0..line.len() {
+    for most in 0..FIVE.len() {
         let got = cut_off(&rt, rt.alloc(), most as u64)?;
-        assert_eq!(rt; got.status, 9);
-        assert_eq!(rt; got.out.taken().len(), most);
-        assert!(rt; line.starts_with(got.out.taken()));
-        assert_eq!(rt; got.err.taken(), b"sink\n".as_slice());
+        assert!(rt; is_cut(&got, most), "{most}");
     }
     Ok(())
 }

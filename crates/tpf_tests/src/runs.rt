@@ -31,6 +31,15 @@ pub struct Outcome {
     pub made: bool,
 }
 
+impl Outcome {
+    /// Whether the run ended with this status, and wrote this to the output and to the standard error.
+    pub fn ends(&self, status: u8, written: &str, said: &str) -> bool {
+        self.status == status
+            && self.out.taken() == written.as_bytes()
+            && self.err.taken() == said.as_bytes()
+    }
+}
+
 /// A run of these words, with a `|` between each two, over these files. Of the shelf, the output
 /// and the standard error each fails as is said.
 pub fn run_failing<R: Wait>(
@@ -90,13 +99,38 @@ pub fn run_with<R: Wait>(
     )
 }
 
+/// The same over a file `d` of data and a file `q` of a query, where nothing fails.
+pub fn ended<R: Wait>(
+    rt: &R,
+    alloc: Global,
+    line: &str,
+    data: &str,
+    query: &str,
+) -> Result<Outcome, Fail> {
+    let both = files(alloc, data.as_bytes(), query.as_bytes())?;
+    run_with(rt, alloc, line, both, Failing::Never, Failing::Never)
+}
+
 /// `local` with this data and this query.
 pub fn local<R: Wait>(rt: &R, alloc: Global, data: &[u8], query: &[u8]) -> Result<Outcome, Fail> {
+    let both = files(alloc, data, query)?;
     run_with(
         rt,
         alloc,
         "tpf|local|d|q",
-        files(alloc, data, query)?,
+        both,
+        Failing::Never,
+        Failing::Never,
+    )
+}
+
+/// A run that needs no file, where nothing fails.
+pub fn without_files<R: Wait>(rt: &R, alloc: Global, line: &str) -> Result<Outcome, Fail> {
+    run_with(
+        rt,
+        alloc,
+        line,
+        Vec::new(alloc),
         Failing::Never,
         Failing::Never,
     )
@@ -104,14 +138,7 @@ pub fn local<R: Wait>(rt: &R, alloc: Global, data: &[u8], query: &[u8]) -> Resul
 
 /// What a run that needs no file writes, which is text.
 pub fn made<R: Wait>(rt: &R, alloc: Global, line: &str) -> Result<String, Fail> {
-    let got = run_with(
-        rt,
-        alloc,
-        line,
-        Vec::new(alloc),
-        Failing::Never,
-        Failing::Never,
-    )?;
+    let got = without_files(rt, alloc, line)?;
     match std::str::from_utf8(got.out.taken()) {
         Ok(text) => Ok(String::from_str(alloc, text)?),
         Err(_) => Err(Fail::new("no text")),

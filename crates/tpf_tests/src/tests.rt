@@ -1,5 +1,7 @@
 // Runs of `local` and `make`, and what they write.
-use crate::runs::{ONE, ONE_QUERY, ONE_TEXT, Outcome, USAGE, files, local, made, run_with};
+use crate::runs::{
+    ONE, ONE_QUERY, ONE_TEXT, Outcome, USAGE, ended, files, local, made, run_with, without_files,
+};
 use std::alloc::Global;
 use std::sync::Wait;
 use std::test::Fail;
@@ -155,9 +157,7 @@ static RUNS: [(&str, &str, u8, &str, &str); 22] = [
 fn statuses_and_texts_of_runs(rt: HostRuntime) -> Result<(), Fail> {
     for (data, query, status, written, line) in RUNS {
         let got = local(&rt, rt.alloc(), data.as_bytes(), query.as_bytes())?;
-        assert_eq!(rt; got.status, status, "{data}{query}");
-        assert_eq!(rt; got.out.taken(), written.as_bytes(), "{data}{query}");
-        assert_eq!(rt; got.err.taken(), line.as_bytes(), "{data}{query}");
+        assert!(rt; got.ends(status, written, line), "{data}{query}");
     }
     Ok(())
 }
@@ -193,17 +193,8 @@ static REFUSED: [&str; 24] = [
 #[test]
 fn words_that_are_no_command(rt: HostRuntime) -> Result<(), Fail> {
     for line in REFUSED {
-        let got = run_with(
-            &rt,
-            rt.alloc(),
-            line,
-            files(rt.alloc(), ONE.as_bytes(), ONE_QUERY.as_bytes())?,
-            Failing::Never,
-            Failing::Never,
-        )?;
-        assert_eq!(rt; got.status, 2, "{line}");
-        assert_eq!(rt; got.out.taken(), b"".as_slice(), "{line}");
-        assert_eq!(rt; got.err.taken(), USAGE.as_bytes(), "{line}");
+        let got = ended(&rt, rt.alloc(), line, ONE, ONE_QUERY)?;
+        assert!(rt; got.ends(2, "", USAGE), "{line}");
     }
     Ok(())
 }
@@ -221,21 +212,8 @@ static ACCEPTED: [&str; 7] = [
 #[test]
 fn words_that_are_the_command(rt: HostRuntime) -> Result<(), Fail> {
     for line in ACCEPTED {
-        let got = run_with(
-            &rt,
-            rt.alloc(),
-            line,
-            files(rt.alloc(), ONE.as_bytes(), ONE_QUERY.as_bytes())?,
-            Failing::Never,
-            Failing::Never,
-        )?;
-        assert_eq!(rt; got.status, 0, "{line}");
-        assert_eq!(rt; got.out.taken(), ONE_TEXT.as_bytes(), "{line}");
-        assert_eq!(rt;
-            got.err.taken(),
-            b"requests 2 rows 1\n".as_slice(),
-            "{line}"
-        );
+        let got = ended(&rt, rt.alloc(), line, ONE, ONE_QUERY)?;
+        assert!(rt; got.ends(0, ONE_TEXT, "requests 2 rows 1\n"), "{line}");
     }
     Ok(())
 }
@@ -284,17 +262,8 @@ static GRAPHS: [(&str, &str, &str); 6] = [
 #[test]
 fn a_graph_is_chosen(rt: HostRuntime) -> Result<(), Fail> {
     for (line, written, said) in GRAPHS {
-        let got = run_with(
-            &rt,
-            rt.alloc(),
-            line,
-            files(rt.alloc(), PEOPLE.as_bytes(), PEOPLE_QUERY.as_bytes())?,
-            Failing::Never,
-            Failing::Never,
-        )?;
-        assert_eq!(rt; got.status, 0, "{line}");
-        assert_eq!(rt; got.out.taken(), written.as_bytes(), "{line}");
-        assert_eq!(rt; got.err.taken(), said.as_bytes(), "{line}");
+        let got = ended(&rt, rt.alloc(), line, PEOPLE, PEOPLE_QUERY)?;
+        assert!(rt; got.ends(0, written, said), "{line}");
     }
     Ok(())
 }
@@ -380,17 +349,8 @@ static BOUNDED: [(&str, &str, &str, u8, &str, &str); 6] = [
 #[test]
 fn bounds_of_a_client(rt: HostRuntime) -> Result<(), Fail> {
     for (line, data, query, status, written, said) in BOUNDED {
-        let got = run_with(
-            &rt,
-            rt.alloc(),
-            line,
-            files(rt.alloc(), data.as_bytes(), query.as_bytes())?,
-            Failing::Never,
-            Failing::Never,
-        )?;
-        assert_eq!(rt; got.status, status, "{line}");
-        assert_eq!(rt; got.out.taken(), written.as_bytes(), "{line}");
-        assert_eq!(rt; got.err.taken(), said.as_bytes(), "{line}");
+        let got = ended(&rt, rt.alloc(), line, data, query)?;
+        assert!(rt; got.ends(status, written, said), "{line}");
     }
     Ok(())
 }
@@ -417,14 +377,8 @@ fn a_shelf_that_fails_at_each_call(rt: HostRuntime) -> Result<(), Fail> {
             assert_eq!(rt; got.out.taken(), ONE_TEXT.as_bytes());
             return Ok(());
         }
-        let line = if n <= 3 {
-            b"file: d\n".as_slice()
-        } else {
-            b"file: q\n".as_slice()
-        };
-        assert_eq!(rt; got.status, 10, "{n}");
-        assert_eq!(rt; got.out.taken(), b"".as_slice(), "{n}");
-        assert_eq!(rt; got.err.taken(), line, "{n}");
+        let line = if n <= 3 { "file: d\n" } else { "file: q\n" };
+        assert!(rt; got.ends(10, "", line), "{n}");
     }
     Err(Fail::new("each run met a failure"))
 }
@@ -491,17 +445,8 @@ static MADE: [(&str, u8, &str, &str); 11] = [
 #[test]
 fn generated_data(rt: HostRuntime) -> Result<(), Fail> {
     for (line, status, written, message) in MADE {
-        let got = run_with(
-            &rt,
-            rt.alloc(),
-            line,
-            Vec::new(rt.alloc()),
-            Failing::Never,
-            Failing::Never,
-        )?;
-        assert_eq!(rt; got.status, status, "{line}");
-        assert_eq!(rt; got.out.taken(), written.as_bytes(), "{line}");
-        assert_eq!(rt; got.err.taken(), message.as_bytes(), "{line}");
+        let got = without_files(&rt, rt.alloc(), line)?;
+        assert!(rt; got.ends(status, written, message), "{line}");
     }
     Ok(())
 }
@@ -513,73 +458,69 @@ fn a_file_that_is_missing(rt: HostRuntime) -> Result<(), Fail> {
         ("tpf|local|d|none", "file: none\n"),
         ("tpf|local|-|q", "file: -\n"),
     ] {
-        let got = run_with(
-            &rt,
-            rt.alloc(),
-            line,
-            files(rt.alloc(), ONE.as_bytes(), ONE_QUERY.as_bytes())?,
-            Failing::Never,
-            Failing::Never,
-        )?;
-        assert_eq!(rt; got.status, 10, "{line}");
-        assert_eq!(rt; got.out.taken(), b"".as_slice(), "{line}");
-        assert_eq!(rt; got.err.taken(), message.as_bytes(), "{line}");
+        let got = ended(&rt, rt.alloc(), line, ONE, ONE_QUERY)?;
+        assert!(rt; got.ends(10, "", message), "{line}");
     }
     Ok(())
+}
+
+/// A run over the one triple whose output takes so many bytes.
+fn output_ending<R: Wait>(rt: &R, alloc: Global, most: u64) -> Result<Outcome, Fail> {
+    run_with(
+        rt,
+        alloc,
+        "tpf|local|d|q",
+        files(alloc, ONE.as_bytes(), ONE_QUERY.as_bytes())?,
+        Failing::Never,
+        Failing::AfterBytes(most),
+    )
 }
 
 #[test]
 fn an_output_that_fails_after_ten_bytes(rt: HostRuntime) -> Result<(), Fail> {
-    let got = run_with(
-        &rt,
-        rt.alloc(),
-        "tpf|local|d|q",
-        files(rt.alloc(), ONE.as_bytes(), ONE_QUERY.as_bytes())?,
-        Failing::Never,
-        Failing::AfterBytes(10),
-    )?;
-    assert_eq!(rt; got.status, 9);
-    assert_eq!(rt; got.out.taken(), b"{\"head\":{\"".as_slice());
-    assert_eq!(rt; got.err.taken(), b"sink\n".as_slice());
+    let got = output_ending(&rt, rt.alloc(), 10)?;
+    assert!(rt; got.ends(9, "{\"head\":{\"", "sink\n"));
     Ok(())
+}
+
+/// Whether the output took the front of the text that has so many bytes, and then failed.
+fn is_cut(got: &Outcome, most: usize) -> bool {
+    let taken = got.out.taken();
+    taken.len() == most
+        && ONE_TEXT.as_bytes().starts_with(taken)
+        && got.status == 9
+        && got.err.taken() == b"sink\n".as_slice()
 }
 
 #[test]
 fn an_output_that_fails_at_every_place(rt: HostRuntime) -> Result<(), Fail> {
-    let whole = ONE_TEXT.as_bytes();
-    for most in 0..whole.len() {
-        let got = run_with(
-            &rt,
-            rt.alloc(),
-            "tpf|local|d|q",
-            files(rt.alloc(), ONE.as_bytes(), ONE_QUERY.as_bytes())?,
-            Failing::Never,
-            Failing::AfterBytes(most as u64),
-        )?;
-        assert_eq!(rt; got.status, 9, "{most}");
-        assert_eq!(rt; got.out.taken(), &whole[..most], "{most}");
-        assert_eq!(rt; got.err.taken(), b"sink\n".as_slice(), "{most}");
+    for most in 0..ONE_TEXT.len() {
+        let got = output_ending(&rt, rt.alloc(), most as u64)?;
+        assert!(rt; is_cut(&got, most), "{most}");
     }
     Ok(())
 }
 
+/// A run over a file `d` of these bytes, where there is no query.
+fn over_data_alone<R: Wait>(rt: &R, alloc: Global, data: &[u8]) -> Result<Outcome, Fail> {
+    let name = Text::copy(alloc, "d")?;
+    let bytes = Bytes::copy(alloc, data)?;
+    let mut one = Vec::new(alloc);
+    one.push((name, bytes))?;
+    run_with(
+        rt,
+        alloc,
+        "tpf|local|d|q",
+        one,
+        Failing::Never,
+        Failing::Never,
+    )
+}
+
 #[test]
 fn bytes_that_are_no_text(rt: HostRuntime) -> Result<(), Fail> {
-    let mut both = Vec::new(rt.alloc());
-    both.push((
-        Text::copy(rt.alloc(), "d")?,
-        Bytes::copy(rt.alloc(), b"\xff\n".as_slice())?,
-    ))?;
-    let got = run_with(
-        &rt,
-        rt.alloc(),
-        "tpf|local|d|q",
-        both,
-        Failing::Never,
-        Failing::Never,
-    )?;
-    assert_eq!(rt; got.status, 3);
-    assert_eq!(rt; got.err.taken(), b"data: line 1: utf8\n".as_slice());
+    let got = over_data_alone(&rt, rt.alloc(), b"\xff\n".as_slice())?;
+    assert!(rt; got.ends(3, "", "data: line 1: utf8\n"));
     Ok(())
 }
 
@@ -603,25 +544,28 @@ fn generated_data_are_read_back(rt: HostRuntime) -> Result<(), Fail> {
     Ok(())
 }
 
-#[test]
-fn a_dash_is_a_file_name(rt: HostRuntime) -> Result<(), Fail> {
-    let mut both = Vec::new(rt.alloc());
-    both.push((
-        Text::copy(rt.alloc(), "-")?,
-        Bytes::copy(rt.alloc(), ONE.as_bytes())?,
-    ))?;
-    both.push((
-        Text::copy(rt.alloc(), "q")?,
-        Bytes::copy(rt.alloc(), ONE_QUERY.as_bytes())?,
-    ))?;
-    let got = run_with(
-        &rt,
-        rt.alloc(),
+/// A run over a file `-` of the one triple and a file `q` of its query.
+fn over_a_dash<R: Wait>(rt: &R, alloc: Global) -> Result<Outcome, Fail> {
+    let data = Text::copy(alloc, "-")?;
+    let one = Bytes::copy(alloc, ONE.as_bytes())?;
+    let query = Text::copy(alloc, "q")?;
+    let asked = Bytes::copy(alloc, ONE_QUERY.as_bytes())?;
+    let mut both = Vec::new(alloc);
+    both.push((data, one))?;
+    both.push((query, asked))?;
+    run_with(
+        rt,
+        alloc,
         "tpf|local|-|q",
         both,
         Failing::Never,
         Failing::Never,
-    )?;
+    )
+}
+
+#[test]
+fn a_dash_is_a_file_name(rt: HostRuntime) -> Result<(), Fail> {
+    let got = over_a_dash(&rt, rt.alloc())?;
     assert_eq!(rt; got.status, 0);
     assert_eq!(rt; got.out.taken(), ONE_TEXT.as_bytes());
     Ok(())
@@ -631,14 +575,7 @@ fn a_dash_is_a_file_name(rt: HostRuntime) -> Result<(), Fail> {
 fn a_label_in_two_graphs_is_one_node(rt: HostRuntime) -> Result<(), Fail> {
     let data = "_:b <http://e/p> \"x\" <http://e/g> .\n_:b <http://e/p> \"y\" <http://e/h> .\n";
     let query = "SELECT ?o WHERE { <http://localhost/.well-known/genid/b> ?p ?o }";
-    let got = run_with(
-        &rt,
-        rt.alloc(),
-        "tpf|local|--union|d|q",
-        files(rt.alloc(), data.as_bytes(), query.as_bytes())?,
-        Failing::Never,
-        Failing::Never,
-    )?;
+    let got = ended(&rt, rt.alloc(), "tpf|local|--union|d|q", data, query)?;
     let x_first =
         "{\"head\":{\"vars\":[\"o\"]},\"results\":{\"bindings\":[{\"o\":{\"type\":\"literal\",\"value\":\"x\"}},{\"o\":{\"type\":\"literal\",\"value\":\"y\"}}]}}\n";
     let y_first =
