@@ -105,6 +105,17 @@ fn a_file_is_read_whole_or_refused(rt: HostRuntime) -> Result<(), Fail> {
 }
 
 #[test]
+fn a_file_is_found_by_its_name(rt: HostRuntime) -> Result<(), Fail> {
+    let alloc = rt.alloc();
+    let mut files = Vec::new(alloc);
+    files.push((Text::copy(alloc, "a.nq")?, Bytes::copy(alloc, b"abc")?))?;
+    let mut shelf = MemShelf::new(alloc, files, Failing::Never);
+    let bytes = read_file(alloc, &mut shelf, "a.nq", 65536);
+    assert_eq!(rt; bytes, Ok(Vec::from_slice(alloc, b"abc")?));
+    Ok(())
+}
+
+#[test]
 fn a_shelf_fails_where_it_is_told(rt: HostRuntime) -> Result<(), Fail> {
     let alloc = rt.alloc();
     let mut third = shelf(alloc, at(alloc, &[3])?)?;

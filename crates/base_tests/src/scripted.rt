@@ -206,6 +206,22 @@ fn a_wire_of_scripts_tells_the_bytes_of_a_large_reply(rt: HostRuntime) -> Result
 }
 
 #[test]
+fn a_piece_comes_after_a_stall(rt: HostRuntime) -> Result<(), Fail> {
+    let alloc = rt.alloc();
+    let mut buffer = [0u8; 8];
+    let mut scripts = Vec::new(alloc);
+    scripts.push(script(alloc, 0, &["abc"], true, 65536)?)?;
+    let mut wire = ScriptWire::new(alloc, scripts, Failing::Never);
+    let Ok(link) = wire.dial("example.org", 80) else {
+        return Err(Fail::new("the dial"));
+    };
+    assert_eq!(rt; wire.recv(link, &mut buffer), Moved::NotYet);
+    assert_eq!(rt; wire.recv(link, &mut buffer), Moved::Moved(3));
+    assert_eq!(rt; wire.recv(link, &mut buffer), Moved::End);
+    Ok(())
+}
+
+#[test]
 fn nothing_comes_on_a_closed_link(rt: HostRuntime) -> Result<(), Fail> {
     let alloc = rt.alloc();
     let mut scripts = Vec::new(alloc);

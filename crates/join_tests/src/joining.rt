@@ -359,6 +359,25 @@ fn a_window_of_two_starts_two_nodes(rt: HostRuntime) -> Result<(), Fail> {
     Ok(())
 }
 
+/// Whether a join is done with one row, once its one ask was answered with its page.
+fn ended_by_a_row(alloc: Global) -> Result<bool, Fail> {
+    let query = "SELECT * WHERE { ?x <http://e/n> ?y }";
+    let mut run = started(alloc, KNOWS, 100, query, 1)?;
+    let Some(ask) = run.join.next_ask(alloc)? else {
+        return Err(Fail::new("no ask"));
+    };
+    let page = page_at(alloc, &run.server, &ask.address)?;
+    let answered = run.join.answer(alloc, ask.ticket, page)?;
+    let row = run.join.take_row();
+    Ok(answered == Answered::Taken && row.is_some() && run.join.is_done())
+}
+
+#[test]
+fn one_page_of_one_triple_gives_one_row(rt: HostRuntime) -> Result<(), Fail> {
+    assert!(rt; ended_by_a_row(rt.alloc())?);
+    Ok(())
+}
+
 /// Whether a join is done without a row, once its one ask was answered with a page that has a triple
 /// but says that there is none.
 fn ended_by_count(alloc: Global) -> Result<bool, Fail> {

@@ -1,6 +1,6 @@
 // A server of echoes over links that do what scripts say.
 use crate::links::script;
-use connections::NoSupply;
+use connections::{Converses, NoSupply};
 use echo_server::{Echo, EchoServer};
 use script_wire::{Script, ScriptWire};
 use serve_loop::{ServeFault, Served, serve};
@@ -22,6 +22,18 @@ fn echoed<R: Wait>(
     let mut server = EchoServer::new(7);
     let mut supply = NoSupply::new();
     Some(serve::<_, Echo, _, _>(rt, alloc, &mut server, &mut supply, wire, Some(stop_after)))
+}
+
+#[test]
+fn an_echo_hands_over_what_it_was_fed(rt: HostRuntime) -> Result<(), Fail> {
+    let server = EchoServer::new(7);
+    let mut echo = Echo::new(rt.alloc());
+    echo.feed(&server, b"abc")?;
+    echo.fill(&server)?;
+    assert_eq!(rt; echo.pending().len(), 3);
+    echo.take(2);
+    assert_eq!(rt; echo.pending(), b"c".as_slice());
+    Ok(())
 }
 
 #[test]

@@ -29,7 +29,7 @@ fn every_seed_brings_the_same_bytes(rt: HostRuntime) -> Result<(), Fail> {
 #[test]
 fn a_dial_that_is_due_fails(rt: HostRuntime) -> Result<(), Fail> {
     let alloc = rt.alloc();
-    let mut wire = wire(alloc, Failing::Dials(2));
+    let mut wire: LoopWire<Echo> = LoopWire::new(alloc, EchoServer::new(7), 1, Failing::Dials(2));
     assert_eq!(rt; wire.dial("a", 80), Ok(0));
     assert_eq!(rt; wire.dial("b", 80), Err(Fault::Failed));
     assert_eq!(rt; wire.dial("c", 80), Ok(1));

@@ -56,6 +56,20 @@ fn queries_have_no_fault(rt: HostRuntime) -> Result<(), Fail> {
     Ok(())
 }
 
+// `SELECT * { }`, and its first word.
+#[test]
+fn an_empty_group_is_a_query(rt: HostRuntime) -> Result<(), Fail> {
+    let empty = [
+        Kind::SelectWord,
+        Kind::Star,
+        Kind::OpenBrace,
+        Kind::CloseBrace,
+    ];
+    assert_eq!(rt; grammar_fault(empty.as_slice()), None);
+    assert_eq!(rt; grammar_fault([Kind::SelectWord].as_slice()), Some(1));
+    Ok(())
+}
+
 #[test]
 fn faults_have_places(rt: HostRuntime) -> Result<(), Fail> {
     assert_eq!(rt; grammar_fault([].as_slice()), Some(0));

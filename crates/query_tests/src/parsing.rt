@@ -146,6 +146,16 @@ fn names_go_by_first_place(rt: HostRuntime) -> Result<(), Fail> {
 }
 
 #[test]
+fn a_query_has_patterns_names_and_selected_names(rt: HostRuntime) -> Result<(), Fail> {
+    let text = "PREFIX v: <http://e/> SELECT ?x WHERE { ?x v:name 'Alice' ; v:knows ?y }";
+    let query = parse(rt.alloc(), text.as_bytes())?;
+    assert_eq!(rt; query.patterns().len(), 2);
+    assert_eq!(rt; query.names().len(), 2);
+    assert!(rt; query.selected() == [0].as_slice());
+    Ok(())
+}
+
+#[test]
 fn terms_are_resolved(rt: HostRuntime) -> Result<(), Fail> {
     let alloc = rt.alloc();
     let text =

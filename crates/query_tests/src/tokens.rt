@@ -194,6 +194,18 @@ fn faults_are_told_in_bytes(rt: HostRuntime) -> Result<(), Fail> {
     Ok(())
 }
 
+#[test]
+fn a_token_has_a_kind_and_places(rt: HostRuntime) -> Result<(), Fail> {
+    let chars = ['?', 'é', '.'];
+    let tokens = pieces(rt.alloc(), chars.as_slice())?;
+    let [variable, dot] = tokens.as_slice() else {
+        return Err(Fail::new("no two tokens"));
+    };
+    assert!(rt; variable.kind == PieceKind::Variable && variable.at == 0 && variable.to == 3);
+    assert!(rt; dot.kind == PieceKind::Dot && dot.at == 3 && dot.to == 4);
+    Ok(())
+}
+
 fn are_pieces(alloc: Global, text: &str, expected: &[Piece]) -> bool {
     match pieces_of(alloc, text) {
         Ok(found) => found.as_slice() == expected,

@@ -138,6 +138,17 @@ fn has_words(
     Ok(true)
 }
 
+#[test]
+fn characters_have_words_and_kinds(rt: HostRuntime) -> Result<(), Fail> {
+    let alloc = rt.alloc();
+    let chars = ['?', 'x', ' ', 'a'];
+    let tokens = pieces(alloc, chars.as_slice())?;
+    let words = words_of(alloc, chars.as_slice(), tokens.as_slice())?;
+    let kinds = kinds_of(alloc, words.as_slice())?;
+    assert!(rt; kinds.as_slice() == [Kind::Variable, Kind::TypeWord].as_slice());
+    Ok(())
+}
+
 // Made of the examples of sections 4.1 and 4.2.
 #[test]
 fn a_query_has_its_words(rt: HostRuntime) -> Result<(), Fail> {

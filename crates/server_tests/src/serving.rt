@@ -240,6 +240,19 @@ fn two_requests_in_one_piece_have_two_answers(rt: HostRuntime) -> Result<(), Fai
     Ok(())
 }
 
+#[test]
+fn a_page_is_pending_until_it_is_taken(rt: HostRuntime) -> Result<(), Fail> {
+    let server = server_of(rt.alloc(), 0, 100)?;
+    let mut connection = Connection::new(rt.alloc());
+    connection.feed(&server, b"GET /data HTTP/1.1\r\nHost: localhost\r\n\r\n")?;
+    connection.fill(&server)?;
+    assert!(rt; starts(connection.pending(), FIRST));
+    let length = connection.pending().len();
+    connection.take(length);
+    assert!(rt; connection.pending().is_empty() && !connection.owes());
+    Ok(())
+}
+
 const HEAD: &str = "HEAD /data HTTP/1.1\r\nHost: localhost\r\n\r\n";
 
 const HEAD_ANSWER: &str =

@@ -275,6 +275,47 @@ fn a_range_over_1434_triples_compares_at_most_26_times(rt: HostRuntime) -> Resul
     Ok(())
 }
 
+/// How many triples have a term as their object.
+fn with_object<L: Ledger>(table: &Table, term: &Term, blank: Blank) -> Option<usize>
+    requires name { blank.name ≡ L.name }
+    requires parts { blank.parts ≡ L.parts }
+    requires some { 0 < blank.parts }
+{
+    let mut steps: Steps<L> = Steps::new(blank);
+    let object = table.id(term, &mut steps)?;
+    let pattern = IdPattern {
+        subject: None,
+        predicate: None,
+        object: Some(object),
+    };
+    let range = table.range(&pattern, &mut steps);
+    Some(table.count(&range))
+}
+
+fn count_as_object(table: &Table, term: &Term) -> Option<usize> {
+    with_object::<Brand>(table, term, Blank::new(1))
+}
+
+fn count_of_object(alloc: Global, table: &Table, text: &str) -> Result<Option<usize>, TermFault> {
+    let term = Term::iri(alloc, text)?;
+    Ok(count_as_object(table, &term))
+}
+
+#[test]
+fn triples_are_counted_by_their_object(rt: HostRuntime) -> Result<(), Fail> {
+    let quads = letters(rt.alloc())?;
+    let table = Table::build(rt.alloc(), quads.as_slice(), &Choice::Union, host(), 6)?;
+    for (text, count) in [
+        ("http://e/b", Some(1)),
+        ("http://e/c", Some(2)),
+        ("http://e/k", Some(0)),
+        ("http://e/d", None),
+    ] {
+        assert_eq!(rt; count_of_object(rt.alloc(), &table, text)?, count);
+    }
+    Ok(())
+}
+
 /// The id of a term, and whether the term with that id is this one.
 fn read_back<L: Ledger>(table: &Table, term: &Term, blank: Blank) -> Option<(u32, bool)>
     requires name { blank.name ≡ L.name }

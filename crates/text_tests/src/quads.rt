@@ -58,6 +58,20 @@ fn fault(alloc: Global, text: &str, longest: usize) -> Option<TextFault> {
 }
 
 #[test]
+fn a_statement_is_read_and_written(rt: HostRuntime) -> Result<(), Fail> {
+    let alloc = rt.alloc();
+    let text = "<http://e/s> <http://e/p> \"caf\\u00E9\"@FR .# a comment";
+    let line = "<http://e/s> <http://e/p> \"café\"@fr .\n";
+    let quads = read_all(alloc, text.as_bytes(), LONGEST)?;
+    let mut lines = Vec::new(alloc);
+    for quad in &quads {
+        write_quad(quad, &mut lines)?;
+    }
+    assert_eq!(rt; lines.as_slice(), line.as_bytes());
+    Ok(())
+}
+
+#[test]
 fn lines_are_read(rt: HostRuntime) -> Result<(), Fail> {
     let rows = [
         (

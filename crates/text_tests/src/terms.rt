@@ -162,6 +162,18 @@ fn the_datatype_decides_the_kind(rt: HostRuntime) -> Result<(), Fail> {
     Ok(())
 }
 
+#[test]
+fn a_literal_of_xsd_string_is_plain(rt: HostRuntime) -> Result<(), Fail> {
+    let alloc = rt.alloc();
+    let plain = Term::plain(alloc, "1")?;
+    let string = Term::typed(alloc, "1", STRING)?;
+    let integer = Term::typed(alloc, "1", INTEGER)?;
+    assert_eq!(rt; string.same(&plain), true);
+    assert_eq!(rt; integer.same(&plain), false);
+    assert_eq!(rt; Term::iri(alloc, "example").err(), Some(TermFault::Iri));
+    Ok(())
+}
+
 /// Terms in their order. The closing marks count, and a quote or a line end in a form comes where its backslash does.
 fn ascending(alloc: Global) -> Result<Vec<Term>, Fail> {
     let mut terms = Vec::new(alloc);

@@ -56,18 +56,11 @@ pub fn run_failing<R: Wait>(
     let mut wire = NoWire::new();
     let mut out = MemSink::new(alloc, out_fails);
     let mut err = MemSink::new(alloc, err_fails);
-    let mut inside = Inside::Unused;
+    let mut left = Inside::Unused;
     let status = run(
-        rt,
-        alloc,
-        &words,
-        &mut shelf,
-        &mut wire,
-        &mut out,
-        &mut err,
-        &mut inside,
+        rt, alloc, &words, &mut shelf, &mut wire, &mut out, &mut err, &mut left,
     );
-    let made = match inside {
+    let made = match left {
         Inside::Loop(_) => true,
         Inside::Unused => false,
     };

@@ -1,4 +1,4 @@
-//! Tests of addresses, of requests and replies, and of the controls of pages as text and read back.
+//! Tests of addresses, and of the controls of pages as text and read back.
 #![tactic(auto)]
 
 #[cfg(test)]
@@ -9,7 +9,3 @@ mod controls;
 mod metadata;
 #[cfg(test)]
 mod pages;
-#[cfg(test)]
-mod replies;
-#[cfg(test)]
-mod requests;

@@ -180,8 +180,10 @@ fn an_empty_body_has_no_topic(rt: HostRuntime) -> Result<(), Fail> {
 #[test]
 fn a_page_has_its_triples_count_and_next(rt: HostRuntime) -> Result<(), Fail> {
     let alloc = rt.alloc();
-    let text = body_of(alloc, "d9tcnfm")?;
-    let page = page_of(alloc, text.as_str())?.ok().ok_or("a page")?;
+    let body = body_of(alloc, "d9tcnfm")?;
+    let address = WebAddress::read(alloc, "http://h/d")?;
+    let read = read_page(alloc, body.as_bytes(), &address);
+    let page = read.ok().ok_or("a page")?;
     assert_eq!(rt; page.count, 1);
     assert_eq!(rt; page.triples.as_slice().len(), 3);
     let next = page.next.as_ref().ok_or("a next page")?;

@@ -305,6 +305,18 @@ fn words_and_their_commands(rt: HostRuntime) -> Result<(), Fail> {
     Ok(())
 }
 
+#[test]
+fn words_are_a_command_or_none(rt: HostRuntime) -> Result<(), Fail> {
+    let words = words_of(rt.alloc(), "tpf|make|3|--run=people.rq")?;
+    let Some(Command::Make { count, run }) = command_of(rt.alloc(), &words)? else {
+        return Err(Fail::new("no make"));
+    };
+    assert!(rt; count == 3 && run.unwrap_or("") == "people.rq");
+    let twice = words_of(rt.alloc(), "tpf|make|3|--run=q|--run=q")?;
+    assert!(rt; command_of(rt.alloc(), &twice)?.is_none());
+    Ok(())
+}
+
 /// Words that are no command.
 static REFUSED: [&str; 62] = [
     "",

@@ -270,6 +270,49 @@ fn a_body_that_runs_to_the_close(rt: HostRuntime) -> Result<(), Fail> {
     Ok(())
 }
 
+#[test]
+fn a_reply_in_two_pieces(rt: HostRuntime) -> Result<(), Fail> {
+    let mut feed = ReplyFeed::new(rt.alloc(), 9);
+    feed.feed(b"HTTP/1.1 200 OK\r\nContent-Type: application/n-quads\r\n")?;
+    let answer = feed.feed(b"Content-Length: 3\r\n\r\nabcd")?;
+    assert!(rt; answer == Fed::Done { used: 24 });
+    let reply = feed.take().ok_or("a whole reply")?;
+    assert_eq!(rt; reply.body.as_slice(), b"abc".as_slice());
+    assert!(rt; reply.keeps);
+    Ok(())
+}
+
+/// Two pieces, and what is kept of them: each whole, up to the one with which the reply is over.
+const KEPT: [(&str, &str, &str); 4] = [
+    ("HTTP/1.1 2", "00", "HTTP/1.1 200"),
+    ("HTTP/1.1 404 x\n", "\ny", "HTTP/1.1 404 x\n\ny"),
+    ("x\n\n", "HTTP/1.1 200", "x\n\n"),
+    (
+        "HTTP/1.1 200\nContent-Type: application/n-quads\nContent-Length: 1\n\nab",
+        "c",
+        "HTTP/1.1 200\nContent-Type: application/n-quads\nContent-Length: 1\n\nab",
+    ),
+];
+
+/// Whether a feed keeps these bytes of two pieces, and gives them back.
+fn is_kept(alloc: Global, first: &[u8], second: &[u8], kept: &[u8]) -> Result<bool, Fail> {
+    let mut feed = ReplyFeed::new(alloc, 9);
+    feed.feed(first)?;
+    feed.feed(second)?;
+    let keeps = feed.received() == kept;
+    let received = feed.into_received();
+    Ok(keeps && received.as_slice() == kept)
+}
+
+#[test]
+fn bytes_are_kept_as_they_came(rt: HostRuntime) -> Result<(), Fail> {
+    for (first, second, kept) in KEPT {
+        let first = first.as_bytes();
+        assert!(rt; is_kept(rt.alloc(), first, second.as_bytes(), kept.as_bytes())?);
+    }
+    Ok(())
+}
+
 fn is_done_once(alloc: Global, text: &[u8]) -> Result<bool, Fail> {
     let mut feed = ReplyFeed::new(alloc, 9);
     let first = feed.feed(text)? == Fed::Done { used: 74 };
@@ -309,70 +352,55 @@ fn with_run(
     Ok(text)
 }
 
-/// A reply that has a run of `x` in it, and the answer.
-struct Run {
-    front: &'static str,
-    count: usize,
-    end: &'static str,
-    answer: &'static str,
+/// The answer to a reply that has a run of `x` in it.
+fn answer_with_run(alloc: Global, front: &str, count: usize, end: &str) -> Result<String, Fail> {
+    let reply = with_run(alloc, front, 'x', count, end)?;
+    fed(alloc, 9, &[reply.as_bytes()], false)
 }
 
-const RUNS: [Run; 7] = [
-    // chunk lines of 1024 and of 1025 bytes
-    Run {
-        front: "HTTP/1.1 200 OK\r\nContent-Type: application/n-quads\r\nTransfer-Encoding: chunked\r\n\r\n0;",
-        count: 1020,
-        end: "\r\n\r\n",
-        answer: "1108  keeps",
-    },
-    Run {
-        front: "HTTP/1.1 200 OK\r\nContent-Type: application/n-quads\r\nTransfer-Encoding: chunked\r\n\r\n0;",
-        count: 1021,
-        end: "\r\n\r\n",
-        answer: "framing",
-    },
-    // trailers of 65536 and of 65537 bytes
-    Run {
-        front: "HTTP/1.1 200 OK\r\nContent-Type: application/n-quads\r\nTransfer-Encoding: chunked\r\n\r\n0\r\n",
-        count: 65532,
-        end: "\r\n\r\n",
-        answer: "65621  keeps",
-    },
-    Run {
-        front: "HTTP/1.1 200 OK\r\nContent-Type: application/n-quads\r\nTransfer-Encoding: chunked\r\n\r\n0\r\n",
-        count: 65533,
-        end: "\r\n\r\n",
-        answer: "long",
-    },
-    // heads of 65536 and of 65537 bytes
-    Run {
-        front: "HTTP/1.1 404 x\r\na: ",
-        count: 65513,
-        end: "\r\n\r\n",
-        answer: "404",
-    },
-    Run {
-        front: "HTTP/1.1 404 x\r\na: ",
-        count: 65514,
-        end: "\r\n\r\n",
-        answer: "long",
-    },
-    // what is no head, of 65536 bytes
-    Run {
-        front: "",
-        count: 65534,
-        end: "\n\n",
-        answer: "head",
-    },
-];
+/// The same where the front follows the status line and the media type, and an empty line ends it.
+fn answer_behind_ok(alloc: Global, front: &str, count: usize) -> Result<String, Fail> {
+    let front = with_ok(alloc, front)?;
+    answer_with_run(alloc, front.as_str(), count, "\r\n\r\n")
+}
 
 #[test]
-fn lines_and_heads_at_their_limits(rt: HostRuntime) -> Result<(), Fail> {
-    for run in &RUNS {
-        let reply = with_run(rt.alloc(), run.front, 'x', run.count, run.end)?;
-        let got = fed(rt.alloc(), 9, &[reply.as_bytes()], false)?;
-        assert_eq!(rt; got.as_str(), run.answer, "{}", run.count);
+fn chunk_lines_at_their_limit(rt: HostRuntime) -> Result<(), Fail> {
+    // of 1024 and of 1025 bytes
+    let front = "Transfer-Encoding: chunked\r\n\r\n0;";
+    for (count, answer) in [(1020, "1108  keeps"), (1021, "framing")] {
+        let got = answer_behind_ok(rt.alloc(), front, count)?;
+        assert_eq!(rt; got.as_str(), answer);
     }
+    Ok(())
+}
+
+#[test]
+fn trailers_at_their_limit(rt: HostRuntime) -> Result<(), Fail> {
+    // of 65536 and of 65537 bytes
+    let front = "Transfer-Encoding: chunked\r\n\r\n0\r\n";
+    for (count, answer) in [(65532, "65621  keeps"), (65533, "long")] {
+        let got = answer_behind_ok(rt.alloc(), front, count)?;
+        assert_eq!(rt; got.as_str(), answer);
+    }
+    Ok(())
+}
+
+#[test]
+fn heads_at_their_limit(rt: HostRuntime) -> Result<(), Fail> {
+    // of 65536 and of 65537 bytes
+    let front = "HTTP/1.1 404 x\r\na: ";
+    for (count, answer) in [(65513, "404"), (65514, "long")] {
+        let got = answer_with_run(rt.alloc(), front, count, "\r\n\r\n")?;
+        assert_eq!(rt; got.as_str(), answer);
+    }
+    Ok(())
+}
+
+#[test]
+fn what_is_no_head_at_the_limit(rt: HostRuntime) -> Result<(), Fail> {
+    let got = answer_with_run(rt.alloc(), "", 65534, "\n\n")?;
+    assert_eq!(rt; got.as_str(), "head");
     Ok(())
 }
 

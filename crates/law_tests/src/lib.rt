@@ -1,0 +1,26 @@
+//! Callers of laws that proofs cite and no other code calls: what a law says is known where it was
+//! called.
+#![tactic(auto)]
+
+ghost use Rattle.exchange_laws.specs.Honest.{RefusedAsTooLongAlone};
+ghost use Rattle.template_fill.specs.Responses.{LongerHistoriesAgree, ResponseBegins};
+
+use exchange_laws::an_honest_reply_is_refused_as_too_long_alone;
+use response_laws::{marks_go_on, response_goes_on};
+
+/// What was sent of a response stays its prefix where more bytes come on the connection (`more`), and
+/// where the data are read again (`reloaded`).
+pub fn what_was_sent_stays()
+    ensures more { ResponseBegins }
+    ensures reloaded { LongerHistoriesAgree }
+{
+    response_goes_on();
+    marks_go_on();
+}
+
+/// An exchange with an honest server ends with one fault of a reply alone.
+pub fn one_fault_is_left()
+    ensures { RefusedAsTooLongAlone }
+{
+    an_honest_reply_is_refused_as_too_long_alone();
+}
