@@ -7,6 +7,8 @@ use std::alloc::Global;
 use tpf_base::OutOfMemory;
 
 /// A connection: from the bytes that come to those of the response.
+///
+/// After `OutOfMemory` nothing is promised of it: it can only be closed.
 pub trait Converses: Drop {
     /// The server that answers.
     type Server: Serves;
@@ -44,7 +46,7 @@ pub trait Converses: Drop {
     fn pending(&self) -> &[u8]
         ensures { result.now ≡ kind.pending self.now };
 
-    /// Takes the first `n` of the pending bytes.
+    /// Takes the first `n` of the pending bytes, which were sent.
     fn take(&mut self, n: usize)
         requires { n ≤ length (kind.pending self.old) }
         ensures takes { Takes kind n self.old self.new }
@@ -58,7 +60,7 @@ pub trait Converses: Drop {
     fn wants_reload(&self) -> bool
         ensures { result ≡ kind.wants self.now };
 
-    /// Answers the reload request, and reads on.
+    /// Answers the request for a reload by how that came out, and reads the heads behind it.
     fn reloaded(&mut self, server: &Self::Server, outcome: Reloaded) -> Result<(), OutOfMemory>
         requires suits { Suits server.now self.old }
         requires wants { kind.wants self.old ≡ true }

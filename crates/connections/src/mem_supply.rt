@@ -46,8 +46,8 @@ impl<V: Serves> Supply<V> for MemSupply<V::Table> {
 
     ghost keeps_then = { λ a b c first then. tt };
 
-    /// The first table that is left. `Failed` exactly where the call is due, or none is left; out of
-    /// memory never comes.
+    /// The first table that is left. `Failed` exactly where the call is due, or none is left, and then
+    /// what is left stays; out of memory never comes.
     fn next(&mut self) -> Result<V::Table, Fault>
         ensures first { IfOk result (λ table. Some (map V.data_of (tables_left self.old)) ≡ with_first (V.data_of table) (Some (map V.data_of (tables_left self.new)))) }
         ensures rest { IfOk result (λ table. tables_left self.old ≡ table ∷ tables_left self.new) }

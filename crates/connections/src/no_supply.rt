@@ -6,7 +6,7 @@ ghost use Rattle.connections.specs.Supplies.{refusals};
 use crate::{Serves, Supply};
 use tpf_base::Fault;
 
-/// A supply that fails at each call, and counts.
+/// A supply that fails at each call, and counts the calls up to 2^64 - 1.
 #[derive(Debug, Drop)]
 pub struct NoSupply {
     faults: u64,

@@ -24,13 +24,13 @@ pub trait Serves {
     /// The second is the first after any reloads.
     ghost Follows: { Self → Self → Type 0 };
 
-    /// The number of the version: from 1 to 9999999999999999999.
+    /// The number of the version, from 1 to 9999999999999999999.
     fn version(&self) -> u64
         ensures version { result ≡ (serving self.now).version }
         ensures most { result ≤ MOST_VERSIONS };
 
-    /// Serves this table as the next version, and gives its number. It is unchanged where memory is
-    /// wanting.
+    /// Serves this table as the next version, and gives its number. After `OutOfMemory` it serves as
+    /// before.
     fn reload(&mut self, table: Self::Table) -> Result<u64, OutOfMemory>
         requires { (serving self.old).version < MOST_VERSIONS }
         ensures number { IfOk result (λ number. number ≡ (serving self.old).version + 1) }

@@ -22,7 +22,7 @@ pub trait Supply<V: Serves> {
 
     /// The next table.
     ///
-    /// `Failed` where there is none, or it could not be read; what is left stays.
+    /// `Failed` where there is none, or it could not be read. After an error what is left stays.
     fn next(&mut self) -> Result<V::Table, Fault>
         ensures given { IfOk result (λ table. may self.old (V.data_of table)) }
         ensures first { IfOk result (λ table. left self.old ≡ with_first (V.data_of table) (left self.new)) }

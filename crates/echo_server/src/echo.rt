@@ -8,7 +8,7 @@ use connections::{Converses, Reloaded};
 use std::alloc::Global;
 use tpf_base::OutOfMemory;
 
-/// A connection that sends the bytes that came, in order. It closes never, and asks for no reload.
+/// A connection that sends the bytes that came, in order. It never closes, and asks for no reload.
 #[derive(Debug, Drop)]
 pub struct Echo {
     pending: Vec<u8>,
@@ -63,6 +63,7 @@ impl Converses for Echo {
         false
     }
 
+    /// Out of memory always, and nothing changes.
     // It waits for no reload, so this asks nothing: else no call could meet what it asks.
     fn reloaded(&mut self, _server: &EchoServer, _outcome: Reloaded) -> Result<(), OutOfMemory>
         ensures unasked { result ≡ Err record {} }

@@ -15,7 +15,7 @@ pub struct EchoServer {
 }
 
 impl EchoServer {
-    /// A server of the number as version 1.
+    /// A server of this number, as version 1.
     #[tactic(auto, unfolding(connections::specs::Versions::MOST_VERSIONS))]
     pub fn new(number: u64) -> EchoServer
         ensures number { result.number ≡ number }

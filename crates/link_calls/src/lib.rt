@@ -1,4 +1,15 @@
-//! Calls on one open link that belong together: sending a text from where it was left.
+//! Calls on one open connection (a link) that belong together: sending bytes on from where that was left.
+//!
+//! A request is sent with as many polls as that takes, and each answer leads on:
+//!
+//! ```rust
+//! match send_rest(wire, link, self.request.as_slice(), &mut self.sent) {
+//!     Halt::Done => self.receive_reply(wire, buffer, link),
+//!     Halt::NotYet => Poll::Pending,
+//!     Halt::Failed => self.break_off(wire, link, ExchangeFault::Failed),
+//!     Halt::OutOfMemory => self.break_off(wire, link, ExchangeFault::OutOfMemory),
+//! }
+//! ```
 #![tactic(auto)]
 
 ghost use Rattle.std.specs.Prelude.{ℕ, ◌≡◌, ◌≢◌, ◌≤◌, length, true};
@@ -16,13 +27,13 @@ pub enum Halt {
     NotYet,
     /// The wire failed, and its count of faults rose.
     Failed,
-    /// Out of memory.
+    /// Out of memory. What was sent before is counted.
     OutOfMemory,
 }
 
-/// Sends what is left of the bytes on an open link, of which so many were `sent`, until all are
-/// sent or a call moves none. `sent` counts what was sent, unless the wire `Failed`: then more of
-/// the bytes may have been sent than are counted. Nothing else is called.
+/// Sends what is left of the bytes on an open link, of which the first `sent` were sent before, until
+/// all are sent or a call moves none. `sent` counts what was sent, unless the wire `Failed`: then more
+/// of the bytes may have been sent than are counted. Nothing else is called.
 pub fn send_rest<W: Wire>(wire: &mut W, link: u64, bytes: &[u8], sent: &mut usize) -> Halt
     requires is_open { ((W.state wire.old).links link).is_open ≡ true }
     requires within { sent.old ≤ length bytes.now }

@@ -1,4 +1,4 @@
-// A book of distinct terms, each with a number.
+// A term dictionary: distinct terms, each with a number.
 ghost use Rattle.std.specs.Prelude.{ℕ, ◌≡◌, ◌<◌, Some, None, List, [], length, IfOk, OnErr, MatchOption, slice_get};
 ghost use Rattle.std.specs.List.{Contains};
 ghost use Rattle.rdf_terms.specs.Book.{Interns, Finds};
@@ -9,8 +9,9 @@ use std::collections::BTreeMap;
 use std::marker::Model;
 use tpf_base::OutOfMemory;
 
-/// Distinct terms, numbered from 0 as they came, which contracts see as their list. A term is found by the order of terms, in
-/// time that grows with the logarithm of their number. Each term is held twice, in the list and as a key.
+/// A term dictionary: distinct terms, numbered from 0 as they came, which contracts see as their list. The number is the
+/// term's id. A term is found by the order of terms, in time that grows with the logarithm of their number. Each term is
+/// held twice, in the list and as a key.
 #[derive(Drop)]
 pub struct TermBook {
     alloc: Global,
@@ -32,7 +33,7 @@ impl Model for TermBook {
 }
 
 impl TermBook {
-    /// A book that holds no term.
+    /// A dictionary that holds no term. It takes no memory.
     pub fn new(alloc: Global) -> TermBook
         ensures { result ≡ [] }
     {
@@ -65,8 +66,8 @@ impl TermBook {
         self.ids.get(term).copied()
     }
 
-    /// The id of a term, which is added at the end where it is not held. Ids given before keep their terms. After `OutOfMemory`
-    /// the book is as before.
+    /// The id of a term, which is added at the end where it is not held. Ids given before keep their terms. There is room for
+    /// 4294967295 terms. After `OutOfMemory` the dictionary is as before.
     pub fn intern(&mut self, term: &Term) -> Result<u32, OutOfMemory>
         requires { length self.old < 4294967295 }
         ensures interned { IfOk result (λ id. Interns self.old term.now self.new id) }

@@ -4,7 +4,7 @@ ghost use Rattle.rdf_terms.specs.Canon.{is_marked, after_mark, marks, kind_len, 
 
 use crate::{Kind, Term};
 
-/// Whether a byte of a literal's form is written with a backslash: a quote, a backslash, LF or CR.
+/// Whether a byte of a lexical form is written with a backslash: a quote, a backslash, LF or CR.
 #[inline]
 pub fn is_marked(b: u8) -> bool
     ensures { result ≡ is_marked b }
@@ -12,7 +12,7 @@ pub fn is_marked(b: u8) -> bool
     matches!(b, b'"' | b'\\' | b'\n' | b'\r')
 }
 
-/// What stands behind the backslash for such a byte.
+/// What stands behind the backslash for such a byte: `n` for LF, `r` for CR, and else the byte itself.
 #[inline]
 pub fn after_mark(b: u8) -> u8
     ensures { result ≡ after_mark b }
@@ -24,7 +24,7 @@ pub fn after_mark(b: u8) -> u8
     }
 }
 
-/// How many bytes of a form are written with a backslash.
+/// How many bytes of a lexical form are written with a backslash.
 pub fn marks(form: &[u8]) -> usize
     ensures marks { result ≡ marks form.now }
     ensures within { result ≤ length form.now }

@@ -66,7 +66,7 @@ impl Datatype {
         self.text.as_str()
     }
 
-    /// The same datatype again. `OutOfMemory` for want of memory alone.
+    /// The same datatype again. Its one error is out of memory.
     pub fn copy(&self, alloc: Global) -> Result<Datatype, OutOfMemory>
         ensures { IfOk result (λ i. i ≡ self.now) }
     {

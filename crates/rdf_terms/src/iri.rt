@@ -104,7 +104,7 @@ impl IriText {
         IriText { text }
     }
 
-    /// The same IRI again. Fails only for want of memory.
+    /// The same IRI again. Its one error is out of memory.
     pub fn copy(&self, alloc: Global) -> Result<IriText, OutOfMemory>
         ensures { IfOk result (λ i. i ≡ self.now) }
     {

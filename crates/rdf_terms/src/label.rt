@@ -102,7 +102,7 @@ impl Label {
         self.text.as_str()
     }
 
-    /// The same label again. `OutOfMemory` for want of memory alone.
+    /// The same label again. Its one error is out of memory.
     pub fn copy(&self, alloc: Global) -> Result<Label, OutOfMemory>
         ensures { IfOk result (λ i. i ≡ self.now) }
     {

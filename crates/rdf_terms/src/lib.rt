@@ -1,4 +1,16 @@
-//! Terms of RDF: their grammar, equality and order, triples and quads, and the slots of a fragment.
+//! Terms of RDF: their grammar, equality and order, triples and quads, and the slots of a fragment (a
+//! triple pattern).
+//!
+//! A literal of the datatype xsd:string is the plain one, and what is no term is refused:
+//!
+//! ```rust
+//! let plain = Term::plain(alloc, "1")?;
+//! let string = Term::typed(alloc, "1", STRING)?;
+//! let integer = Term::typed(alloc, "1", INTEGER)?;
+//! assert_eq!(rt; string.same(&plain), true);
+//! assert_eq!(rt; integer.same(&plain), false);
+//! assert_eq!(rt; Term::iri(alloc, "example").err(), Some(TermFault::Iri));
+//! ```
 #![tactic(auto)]
 
 mod askable;

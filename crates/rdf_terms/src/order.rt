@@ -34,7 +34,7 @@ fn byte_cmp(x: u8, y: u8) -> Ordering
     }
 }
 
-/// Whether the first text is a front of the second, which is longer.
+/// Whether the first text is a prefix of the second, which is longer.
 #[tactic(auto, using(crate::proofs::Ended::front_short, crate::proofs::Ended::front_long))]
 fn is_front(a: &[u8], b: &[u8]) -> bool
     ensures front { result ≡ is_front a.now b.now }
@@ -43,7 +43,7 @@ fn is_front(a: &[u8], b: &[u8]) -> bool
     a.len() < b.len() && b.starts_with(a)
 }
 
-/// The byte of the second text behind the first, which is a front of it.
+/// The byte of the second text behind the first, which is a prefix of it.
 #[tactic(auto, using(crate::proofs::Ended::behind_is))]
 fn byte_behind(a: &[u8], b: &[u8]) -> u8
     requires front { IsTrue (is_front a.now b.now) }
@@ -53,7 +53,7 @@ fn byte_behind(a: &[u8], b: &[u8]) -> u8
     b[a.len()]
 }
 
-/// Two texts, each with this byte behind it: their own order decides, unless one is a front of the other.
+/// Two texts, each with this byte behind it: their own order decides, unless one is a prefix of the other.
 #[tactic(auto, using(crate::proofs::Ended::by_order, crate::proofs::Ended::by_first, crate::proofs::Ended::by_second))]
 fn ended_cmp(end: u8, a: &str, b: &str) -> Ordering
     ensures { result ≡ ended_cmp end a.now b.now }
@@ -68,7 +68,7 @@ fn ended_cmp(end: u8, a: &str, b: &str) -> Ordering
     }
 }
 
-/// Two forms as they are written; where they are the same, the rest decides.
+/// Two lexical forms as they are written; where they are the same, the rest decides.
 fn form_cmp(rest: Ordering, a: &[u8], b: &[u8]) -> Ordering
     ensures { result ≡ form_cmp rest a.now b.now }
 {

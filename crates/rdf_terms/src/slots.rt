@@ -5,7 +5,7 @@ use crate::{Term, Triple};
 use std::alloc::Global;
 use tpf_base::OutOfMemory;
 
-/// One place of a triple pattern: free, or fixed to a term.
+/// One place of a triple pattern: free (a variable), or fixed to a term.
 #[derive(PartialEq, Eq, Debug, Drop)]
 pub enum Slot {
     Any,
@@ -23,7 +23,7 @@ pub struct Slots {
 impl Slot {
     ghost use Rattle.rdf_terms.specs.Slots.{MatchesSlot, matches_slot};
 
-    /// The same slot again. `OutOfMemory` for want of memory alone.
+    /// The same slot again. Its one error is out of memory.
     pub fn copy(&self, alloc: Global) -> Result<Slot, OutOfMemory>
         ensures { IfOk result (λ t. t ≡ self.now) }
     {
@@ -48,7 +48,7 @@ impl Slot {
 impl Slots {
     ghost use Rattle.rdf_terms.specs.Slots.{Matches, matches};
 
-    /// The same slots again. `OutOfMemory` for want of memory alone.
+    /// The same slots again. Its one error is out of memory.
     pub fn copy(&self, alloc: Global) -> Result<Slots, OutOfMemory>
         ensures { IfOk result (λ t. t ≡ self.now) }
     {

@@ -49,7 +49,7 @@ pub fn is_tag(text: &str) -> bool
     runs_tag(text.as_bytes())
 }
 
-/// A text with A to Z turned to a to z. `OutOfMemory` for want of memory alone.
+/// A text with A to Z turned to a to z. Its one error is out of memory.
 pub fn lowered(alloc: Global, text: &str) -> Result<Text, OutOfMemory>
     ensures { IfOk result (λ t. t ≡ lower text.now) }
 {
@@ -100,7 +100,7 @@ impl Tag {
         self.text.as_str()
     }
 
-    /// The same tag again. `OutOfMemory` for want of memory alone.
+    /// The same tag again. Its one error is out of memory.
     pub fn copy(&self, alloc: Global) -> Result<Tag, OutOfMemory>
         ensures { IfOk result (λ i. i ≡ self.now) }
     {

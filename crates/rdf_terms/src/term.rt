@@ -30,7 +30,7 @@ pub enum Term {
     Literal { form: Text, kind: Kind },
 }
 
-/// Any three terms.
+/// A generalized triple: any three terms (RDF 1.1 Concepts 7).
 #[derive(Debug, Drop)]
 pub struct Triple {
     pub subject: Term,
@@ -45,14 +45,18 @@ pub struct Quad {
     pub graph: Option<Term>,
 }
 
-/// Why a term was not made: `Iri` the text is no IRI with a scheme, `Label` it is no label, `Tag` it is no tag, `LangString`
-/// the datatype rdf:langString was asked for without a tag, `OutOfMemory` want of memory.
+/// Why a term was not made.
 #[derive(Clone, Copy, Debug, PartialEq, Eq)]
 pub enum TermFault {
+    /// The text, or that of the datatype, is no IRI with a scheme.
     Iri,
+    /// The text is no label of a blank node.
     Label,
+    /// The text is no language tag.
     Tag,
+    /// The datatype rdf:langString, which a literal has with a tag alone.
     LangString,
+    /// Out of memory.
     OutOfMemory,
 }
 
@@ -152,7 +156,7 @@ impl Eq for Triple {
 impl Kind {
     ghost use Rattle.rdf_terms.specs.Kinds.{typed_kind};
 
-    /// The kind of a literal with this datatype. `OutOfMemory` for want of memory alone.
+    /// The kind of a literal with this datatype. Its one error is out of memory.
     fn of_datatype(alloc: Global, datatype: &str) -> Result<Kind, OutOfMemory>
         requires iri { IsTrue (is_iri datatype.now) }
         requires no_lang_string { is_lang_string datatype.now ≡ false }
@@ -165,7 +169,7 @@ impl Kind {
         Ok(Kind::Typed(Datatype::from_text(text)))
     }
 
-    /// The same kind again. `OutOfMemory` for want of memory alone.
+    /// The same kind again. Its one error is out of memory.
     pub fn copy(&self, alloc: Global) -> Result<Kind, OutOfMemory>
         ensures { IfOk result (λ t. t ≡ self.now) }
     {
@@ -180,7 +184,7 @@ impl Kind {
 impl Triple {
     ghost use Rattle.rdf_terms.specs.Same.{triple_eq};
 
-    /// The same triple again. `OutOfMemory` for want of memory alone.
+    /// The same triple again. Its one error is out of memory.
     pub fn copy(&self, alloc: Global) -> Result<Triple, OutOfMemory>
         ensures { IfOk result (λ t. t ≡ self.now) }
     {
@@ -203,7 +207,7 @@ impl Triple {
 }
 
 impl Quad {
-    /// The same quad again. `OutOfMemory` for want of memory alone.
+    /// The same quad again. Its one error is out of memory.
     pub fn copy(&self, alloc: Global) -> Result<Quad, OutOfMemory>
         ensures { IfOk result (λ t. t ≡ self.now) }
     {
@@ -222,7 +226,7 @@ impl Term {
     ghost use Rattle.rdf_terms.specs.Kinds.{typed_kind};
     ghost use Rattle.rdf_terms.specs.Same.{term_eq};
 
-    /// The IRI with this text. `Iri` exactly where the text is no IRI with a scheme.
+    /// The IRI with this text. `Iri` exactly where the text is no IRI with a scheme; the only other error is out of memory.
     pub fn iri(alloc: Global, text: &str) -> Result<Term, TermFault>
         ensures iri { IfOk result (λ t. (t ≡ Term.Iri text.now) × IsTrue (is_iri text.now)) }
         ensures refused { IsErrOf result TermFault.Iri → is_iri text.now ≡ false }
@@ -235,7 +239,8 @@ impl Term {
         Ok(Term::Iri(IriText::from_text(Text::copy(alloc, text)?)))
     }
 
-    /// The blank node with this label, which is written without `_:`. `Label` exactly where the text is no label.
+    /// The blank node with this label, which is written without `_:`. `Label` exactly where the text is no label; the only
+    /// other error is out of memory.
     pub fn blank(alloc: Global, label: &str) -> Result<Term, TermFault>
         ensures blank { IfOk result (λ t. (t ≡ Term.Blank label.now) × IsTrue (is_label label.now)) }
         ensures refused { IsErrOf result TermFault.Label → is_label label.now ≡ false }
@@ -248,7 +253,7 @@ impl Term {
         Ok(Term::Blank(Label::from_text(Text::copy(alloc, label)?)))
     }
 
-    /// The plain literal with this form.
+    /// The plain literal with this lexical form. Its one error is out of memory.
     pub fn plain(alloc: Global, form: &str) -> Result<Term, OutOfMemory>
         ensures { IfOk result (λ t. t ≡ Term.Literal form.now Kind.Plain) }
     {
@@ -258,8 +263,9 @@ impl Term {
         })
     }
 
-    /// The literal with this form and datatype; with xsd:string that is the plain literal (RDF 1.1 Concepts 3.3). `Iri` exactly
-    /// where the datatype is no IRI with a scheme, `LangString` exactly where it is rdf:langString.
+    /// The literal with this lexical form and datatype; with xsd:string that is the plain literal (RDF 1.1 Concepts 3.3). `Iri`
+    /// exactly where the datatype is no IRI with a scheme, `LangString` exactly where it is rdf:langString; the only other
+    /// error is out of memory.
     pub fn typed(alloc: Global, form: &str, datatype: &str) -> Result<Term, TermFault>
         ensures literal { IfOk result (λ t. t ≡ Term.Literal form.now (typed_kind datatype.now)) }
         ensures valid { OnOk result (IsTrue (is_iri datatype.now) × (is_lang_string datatype.now ≡ false)) }
@@ -282,7 +288,8 @@ impl Term {
         })
     }
 
-    /// The literal with this form and language tag, which is kept in lower case. `Tag` exactly where the text is no tag.
+    /// The literal with this lexical form and language tag, which is kept in lower case. `Tag` exactly where the text is no
+    /// tag; the only other error is out of memory.
     #[tactic(auto, using(crate::proofs::Tags::lower_is_kept))]
     pub fn tagged(alloc: Global, form: &str, tag: &str) -> Result<Term, TermFault>
         ensures literal { IfOk result (λ t. (t ≡ Term.Literal form.now (Kind.Tagged (lower tag.now))) × IsTrue (is_tag tag.now)) }
@@ -300,7 +307,7 @@ impl Term {
         })
     }
 
-    /// The same term again. `OutOfMemory` for want of memory alone.
+    /// The same term again. Its one error is out of memory.
     pub fn copy(&self, alloc: Global) -> Result<Term, OutOfMemory>
         ensures { IfOk result (λ t. t ≡ self.now) }
     {

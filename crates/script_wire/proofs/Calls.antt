@@ -1,5 +1,5 @@
 -- What a call does to a wire of scripts, from what it does to its link.
-use Rattle.std.proofs.Common.{ℕ, ◌≡◌, ◌<◌, ◌≤◌, ◌++◌, Bool, false, Option, List, length, take, min, set, get_or, slice_get, Some, refl, ap, sym, subst, ◌∙◌, length-set, arith}
+use Rattle.std.proofs.Common.{ℕ, ◌≡◌, ◌<◌, ◌≤◌, ◌++◌, false, Option, List, length, take, min, set, get_or, slice_get, Some, refl, ap, sym, subst, ◌∙◌, length-set, arith}
 use Rattle.std.proofs.lemmas.List.{get_or-set_same, get_or-set_other}
 use Rattle.tpf_base.specs.Causes.{counted}
 use Rattle.tpf_base.specs.Failures.{CallCounts, room}

@@ -12,7 +12,7 @@ pub struct Script {
     pub after: u64,
     /// The bytes that the other end sends.
     pub pieces: Vec<Bytes>,
-    /// Whether a receive after the last piece answers `End`. It answers `NotYet` else.
+    /// Whether a receive after the last piece answers `End`. Else it answers `NotYet`.
     pub ends: bool,
     /// The most bytes that one send takes. Where it is 0 each send answers `NotYet`.
     pub most: usize,

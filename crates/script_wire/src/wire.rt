@@ -1,10 +1,10 @@
 // A wire in memory whose links do what scripts say.
-ghost use Rattle.std.specs.Prelude.{ℕ, ◌≡◌, ◌≢◌, ◌+◌, ◌<◌, ◌≤◌, ◌==◌, ◌||◌, nat_le, List, [], ◌∷◌, ◌++◌, length, take, min, set, get_or, slice_get, Option, Some, None, Ok, Err, Bool, true, false, IfOk, OnOk, OnErr, IfSome, IfNone, IsErrOf, is_err, ◌↔◌, if◌then◌else◌};
-ghost use Rattle.tpf_base.specs.Causes.{HasCause, Rose, counted, counted_by};
+ghost use Rattle.std.specs.Prelude.{ℕ, ◌≡◌, ◌≢◌, ◌+◌, ◌<◌, ◌≤◌, ◌==◌, ◌||◌, nat_le, [], ◌∷◌, ◌++◌, length, min, set, get_or, slice_get, Option, Some, None, Ok, Err, true, false, IfOk, OnOk, OnErr, IfSome, IfNone, IsErrOf, is_err, ◌↔◌, if◌then◌else◌};
+ghost use Rattle.tpf_base.specs.Causes.{HasCause, counted};
 ghost use Rattle.tpf_base.specs.Failures.{no_calls, is_next_due, is_next_dial_due, room};
-ghost use Rattle.tpf_base.specs.Links.{Way, listens};
+ghost use Rattle.tpf_base.specs.Links.{listens};
 ghost use Rattle.tpf_base.specs.Calls.{Sends, Receives, Closes, GivesDialled, GivesAccepted, GivesNone, OnlyDials, OnlyListens, Opens, LeavesDoor, OnlyAccepts, OnlyWaits, Wakes};
-ghost use Rattle.script_wire.specs.Scripts.{Scripted, no_link, new_link, closed, settled, after_send, answer_of, rest_at, answer_to_receive, after_receive, spoken_on, moves_by, may_move, IsFirst, ReceivesBy, WaitsBy, after_wait};
+ghost use Rattle.script_wire.specs.Scripts.{no_link, new_link, closed, settled, after_send, answer_of, rest_at, spoken_on, may_move, IsFirst, ReceivesBy, WaitsBy, after_wait};
 ghost use Rattle.script_wire.specs.Peers.{peer_of};
 
 use crate::Script;
@@ -17,7 +17,7 @@ use tpf_base::{Accept, Dial, Failing, Failures, Fault, Moved, OutOfMemory, Ready
 /// It tells the bytes that were sent and received on each link, and not those that the other end
 /// owes. The calls of `send`, `recv`, `dial`, `listen`, `accept` and `wait` count, also one that
 /// ends in out of memory, and fail where its `Failing` says so; a dial counts among the dials too.
-/// The bytes that moved are those sent and received on all links.
+/// The bytes that moved are those sent and received on all links. Counts stop at 2^64 - 1.
 #[derive(Drop)]
 pub struct ScriptWire {
     scripts: Vec<Script>,
@@ -180,7 +180,7 @@ impl Wire for ScriptWire {
         Moved::Moved(n)
     }
 
-    /// `Failed` exactly where the call is due; it is else what the script says.
+    /// `Failed` exactly where the call is due; else it does what the script says.
     #[tactic(auto, using(crate::proofs::Places::script_at))]
     fn recv(&mut self, link: u64, to: &mut [u8]) -> Moved
         requires is_open { ((state_of self.old).links link).is_open ≡ true }
@@ -236,8 +236,9 @@ impl Wire for ScriptWire {
         self.links[link as usize].close();
     }
 
-    /// The first open link on which a piece or the end may come; where there is none, the door, if it
-    /// is open and a script is left. `Failed` exactly where the call is due, or neither is there.
+    /// The first open link on which a piece or the end may come; where there is none, the door (the
+    /// listener), if it is open and a script is left. `Failed` exactly where the call is due, or neither
+    /// is there.
     fn wait(&mut self) -> Result<Ready, Fault>
         ensures due { is_next_due (counts_of self.old) (moved_of self.old) ≡ true → IsErrOf result Fault.Failed }
         ensures answer { is_next_due (counts_of self.old) (moved_of self.old) ≡ false → WaitsBy (scripts_of self.old) (links_of self.old) (listens (state_of self.old)) result }
@@ -277,7 +278,7 @@ impl Wire for ScriptWire {
 impl Dial for ScriptWire {
     ghost use Rattle.script_wire.specs.Held.{scripts_of, links_of, counts_of, moved_of, state_of, dialled};
 
-    /// `Failed` exactly where the call is due, or no script is left.
+    /// `Failed` exactly where the call is due, or no script is left; after an error no link was given.
     fn dial(&mut self, host: &str, port: u16) -> Result<u64, Fault>
         ensures due { is_next_dial_due (counts_of self.old) (moved_of self.old) ≡ true → IsErrOf result Fault.Failed }
         ensures unscripted { length (scripts_of self.old) ≤ length (links_of self.old) → IsErrOf result Fault.Failed }
@@ -309,11 +310,12 @@ impl Dial for ScriptWire {
 impl Accept for ScriptWire {
     ghost use Rattle.script_wire.specs.Held.{scripts_of, links_of, counts_of, moved_of, state_of, called};
 
-    /// `Failed` exactly where the call is due.
+    /// `Failed` exactly where the call is due. After an error the door is as before.
     fn listen(&mut self, host: &str, port: u16) -> Result<(), Fault>
         ensures failed { IsErrOf result Fault.Failed ↔ (is_next_due (counts_of self.old) (moved_of self.old) ≡ true) }
         ensures counts { counts_of self.new ≡ called (is_next_due (counts_of self.old) (moved_of self.old)) (counts_of self.old) }
         ensures ok { OnOk result (Opens host.now port (state_of self.old) (state_of self.new)) }
+        ensures again { listens (state_of self.old) ≡ true → (state_of self.new).door_stalls ≡ (state_of self.old).door_stalls }
         ensures err { OnErr result (LeavesDoor (state_of self.old) (state_of self.new)) }
         ensures only { OnlyListens (state_of self.old) (state_of self.new) }
         ensures cause { HasCause (counts_of self.old).faults (counts_of self.new).faults result }
@@ -335,8 +337,8 @@ impl Accept for ScriptWire {
         Ok(())
     }
 
-    /// The next link at once, and nothing where no script is left. `Failed` exactly where the call is
-    /// due.
+    /// The next link at once, and `None` where no script is left. `Failed` exactly where the call is due;
+    /// after an error no link was given.
     fn accept(&mut self) -> Result<Option<u64>, Fault>
         requires { listens (state_of self.old) ≡ true }
         ensures failed { IsErrOf result Fault.Failed ↔ (is_next_due (counts_of self.old) (moved_of self.old) ≡ true) }
@@ -345,7 +347,9 @@ impl Accept for ScriptWire {
         ensures nobody { IfOk result (λ link. IfNone link ((length (scripts_of self.old) ≤ length (links_of self.old)) × (links_of self.new ≡ links_of self.old))) }
         ensures given { IfOk result (λ link. IfSome link (λ number. GivesAccepted number (state_of self.old) (state_of self.new))) }
         ensures none { IfOk result (λ link. IfNone link (GivesNone (state_of self.old) (state_of self.new))) }
-        ensures stalled { IfOk result (λ link. IfNone link (Rose (state_of self.old).door_stalls (state_of self.new).door_stalls)) }
+        ensures stalled { IfOk result (λ link. IfNone link ((state_of self.new).door_stalls ≡ counted (state_of self.old).door_stalls)) }
+        ensures unstalled { IfOk result (λ link. IfSome link (λ number. (state_of self.new).door_stalls ≡ (state_of self.old).door_stalls)) }
+        ensures door { OnErr result (LeavesDoor (state_of self.old) (state_of self.new)) }
         ensures err { OnErr result (GivesNone (state_of self.old) (state_of self.new)) }
         ensures only { OnlyAccepts (state_of self.old) (state_of self.new) }
         ensures cause { HasCause (counts_of self.old).faults (counts_of self.new).faults result }

@@ -96,7 +96,7 @@ pub record WireState : Type 0 where
   pub waits : ℕ
   -- how many waits succeeded, one after another, since a byte moved, a receive answered the end, or a link was given
   pub idle : ℕ
-  -- the host and the port at which its door is open, none where it is closed; and how often nobody stood there
+  -- the host and the port at which its door is open, none where it is closed; and how often no connection waited there
   pub door : Option (List ℕ × ℕ)
   pub door_stalls : ℕ
   pub nature : Nature

@@ -6,7 +6,7 @@ use crate::{Fault, Sink};
 use std::marker::Model;
 
 /// A sink that takes each piece whole, counts the bytes and keeps none of them. It never fails.
-/// Contracts see it as the count of the bytes, which stands still at its last value.
+/// Contracts see it as the count of the bytes, which stops at 2^64 - 1.
 #[derive(Debug, Drop)]
 pub struct Drain {
     bytes: u64,
@@ -26,7 +26,7 @@ impl Drain {
         Drain { bytes: 0 }
     }
 
-    /// How many bytes it has taken.
+    /// How many bytes it has taken, at most 2^64 - 1.
     pub fn bytes(&self) -> u64
         ensures { result ≡ self.now }
     {
@@ -43,6 +43,7 @@ impl Sink for Drain {
 
     ghost faultless = { λ _. true };
 
+    /// Takes the piece whole, also an empty one.
     fn write(&mut self, piece: &[u8]) -> Result<usize, Fault>
         ensures whole { result ≡ Ok (length piece.now) }
         ensures counts { self.new ≡ counted_by (length piece.now) self.old }

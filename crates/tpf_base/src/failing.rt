@@ -7,8 +7,8 @@ use std::marker::Model;
 
 /// Which calls an object in memory fails.
 ///
-/// The calls that can answer a fault count from 1, also those that failed, and the count stands
-/// still at its last value.
+/// The calls that can answer a fault count from 1, also those that failed, and the count stops at
+/// 2^64 - 1.
 #[derive(Debug, Drop)]
 pub enum Failing {
     /// No call.
@@ -71,7 +71,7 @@ impl Failing {
 /// What an object in memory counts: its calls that can answer a fault, those of them that are
 /// dials, and those that failed. Contracts see it as these counts and what it fails.
 ///
-/// Each count stands still at its last value.
+/// Each count stops at 2^64 - 1.
 #[derive(Debug, Drop)]
 pub struct Failures {
     failing: Failing,
@@ -100,7 +100,8 @@ impl Failures {
     }
 
     /// Counts a call that is no dial, and answers whether it is failed, where so many bytes have
-    /// moved before. A call that is not failed moves something, where something is there.
+    /// moved before; its fault is counted by `fail`. A call that is not failed moves something, where
+    /// something is there.
     #[tactic(auto, using(crate::proofs::Rooms::room_some))]
     pub fn is_next_due(&mut self, moved: u64) -> bool
         ensures due { result ≡ is_next_due self.old moved }
@@ -112,7 +113,7 @@ impl Failures {
     }
 
     /// Counts a dial, among the calls and by itself, and answers whether it is failed by either
-    /// number, where so many bytes have moved before.
+    /// number, where so many bytes have moved before; its fault is counted by `fail`.
     pub fn is_next_dial_due(&mut self, moved: u64) -> bool
         ensures due { result ≡ is_next_dial_due self.old moved }
         ensures counts { self.new ≡ record self.old { calls = counted self.old.calls; dials = counted self.old.dials } }
@@ -122,7 +123,7 @@ impl Failures {
         self.failing.is_due(self.calls, moved) || self.failing.is_dial_due(self.dials)
     }
 
-    /// Counts a fault.
+    /// Counts a fault: that of a call which was counted before.
     pub fn fail(&mut self)
         ensures counts { self.new ≡ record self.old { faults = counted self.old.faults } }
         ensures later { self.old.faults ≤ self.new.faults }

@@ -10,7 +10,7 @@ pub struct OutOfMemory;
 pub enum Fault {
     /// The object failed. Its count of faults rose in this call.
     Failed,
-    /// Out of memory. Nothing moved, and the count of faults is as before.
+    /// Out of memory. Nothing was read, written or given, and the count of faults is as before.
     OutOfMemory,
 }
 

@@ -1,4 +1,27 @@
-//! What the program is handed from outside: files, a place to write to, and links to other hosts.
+//! What the program is handed from outside, as traits: files (`Shelf`), writers (`Sink`) and connections
+//! to other hosts (`Wire`), each with objects in memory that fail where they are told to.
+//!
+//! A file is found by its name and read whole, at most so many bytes:
+//!
+//! ```rust
+//! let mut files = Vec::new(alloc);
+//! files.push((Text::copy(alloc, "a.nq")?, Bytes::copy(alloc, b"abc")?))?;
+//! let mut shelf = MemShelf::new(alloc, files, Failing::Never);
+//! let bytes = read_file(alloc, &mut shelf, "a.nq", 65536);
+//! assert_eq!(rt; bytes, Ok(Vec::from_slice(alloc, b"abc")?));
+//! ```
+//!
+//! `write_all` writes bytes with as many writes as that takes, until one fails:
+//!
+//! ```rust
+//! let mut whole = MemSink::new(rt.alloc(), Failing::Never);
+//! assert_eq!(rt; write_all(&mut whole, b"abc"), Ok(()));
+//! assert_eq!(rt; write_all(&mut whole, b"def"), Ok(()));
+//! assert_eq!(rt; whole.taken(), b"abcdef".as_slice());
+//! let mut cut = MemSink::new(rt.alloc(), Failing::AfterBytes(4));
+//! assert_eq!(rt; write_all(&mut cut, b"abcdef"), Err(Fault::Failed));
+//! assert_eq!(rt; cut.taken(), b"abcd".as_slice());
+//! ```
 #![tactic(auto)]
 
 mod decimal;

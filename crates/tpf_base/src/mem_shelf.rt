@@ -72,7 +72,8 @@ fn copy_front(failures: &Failures, moved: u64, from: &[u8], to: &mut [u8]) -> us
 impl MemShelf {
     ghost use Rattle.tpf_base.specs.Memory.{shelf_files, shelf_given, shelf_moved, shelf_counts};
 
-    /// A shelf with these files, of which none was found yet. It takes no memory.
+    /// A shelf with these files, each a name and its bytes, of which none was found yet. It takes no
+    /// memory.
     pub fn new(alloc: Global, files: Vec<(Text, Bytes)>, failing: Failing) -> MemShelf
         ensures files { shelf_files result ≡ files.items }
         ensures given { shelf_given result ≡ 0 }
@@ -101,7 +102,8 @@ impl Shelf for MemShelf {
 
     ghost faultless = { λ shelf. spares_calls (shelf_counts shelf).failing };
 
-    /// `Failed` exactly where the call is due, the name is not held, or all 2^32 numbers were given.
+    /// `Failed` exactly where the call is due, the name is not held, or all 2^32 numbers were given;
+    /// after an error no number was given.
     #[tactic(auto, using(crate::proofs::Rooms::spared_next))]
     fn find(&mut self, name: &str) -> Result<u32, Fault>
         ensures ok { IfOk result (Finds (Some (shelf_files self.old)) name.now (shelf_given self.old) (shelf_given self.new) (shelf_rest self.old) (shelf_rest self.new)) }
@@ -137,7 +139,7 @@ impl Shelf for MemShelf {
         }
     }
 
-    /// `Failed` exactly where the call is due; out of memory never comes.
+    /// `Failed` exactly where the call is due, and then nothing was read; out of memory never comes.
     #[tactic(auto, using(crate::proofs::Rooms::spared_next))]
     fn read(&mut self, file: u32, to: &mut [u8]) -> Result<usize, Fault>
         requires given { file < shelf_given self.old }

@@ -45,7 +45,7 @@ impl Sink for MemSink {
 
     ghost faultless = { λ sink. spares_calls (sink_counts sink).failing };
 
-    /// `Failed` exactly where the call is due.
+    /// `Failed` exactly where the call is due. After an error it has taken none of the piece.
     #[tactic(auto, using(crate::proofs::Rooms::spared_next))]
     fn write(&mut self, piece: &[u8]) -> Result<usize, Fault>
         requires { 0 < length piece.now }

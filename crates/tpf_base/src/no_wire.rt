@@ -7,8 +7,8 @@ ghost use Rattle.tpf_base.specs.Calls.{Sends, Receives, OnlyWaits, OnlyDials, On
 use crate::{Accept, Dial, Fault, Moved, Ready, Wire};
 use std::marker::Model;
 
-/// A wire that gives no link. Contracts see it as the counts of its faults, its dials and its waits,
-/// each of which stands still at its last value.
+/// A wire that gives no link: no connection is opened or accepted. Contracts see it as the counts of
+/// its faults, its dials and its waits, each of which stops at 2^64 - 1.
 ///
 /// `send`, `recv`, `dial`, `listen`, `accept` and `wait` answer `Failed`, and each such call counts.
 #[derive(Debug, Drop)]

@@ -6,10 +6,10 @@ ghost use Rattle.tpf_base.specs.Outside.{content_of, HoldsName, Finds, Leaves, L
 use crate::Fault;
 use std::alloc::{AllocError, Global};
 
-/// Files that are found by name and read from their front.
+/// A source of files, which are found by name and read from their beginning.
 ///
 /// A find gives a number, under which the file is read. The count of faults never falls, and
-/// stands still at its last value.
+/// stops at 2^64 - 1.
 pub trait Shelf {
     /// The contents by name, where it tells. No call changes them.
     ghost told: { Self → Option (List (List ℕ × List ℕ)) };
@@ -27,10 +27,11 @@ pub trait Shelf {
     /// of files and for memory. No call changes it.
     ghost faultless: { Self → Bool };
 
-    /// Gives a new number, also for a name found before. Its next bytes are the front of the
+    /// Gives a new number, also for a name found before. Its next bytes are the first of the
     /// contents.
     ///
-    /// `Failed` for a name that it does not hold, and where no number is left.
+    /// `Failed` for a name that it does not hold, where no number is left, and where the file can't
+    /// be opened. After an error no number was given.
     fn find(&mut self, name: &str) -> Result<u32, Fault>
         ensures ok { IfOk result (Finds (told self.old) name.now (given self.old) (given self.new) (rest self.old) (rest self.new)) }
         ensures err { OnErr result (Leaves (given self.old) (given self.new) (rest self.old) (rest self.new)) }
@@ -39,9 +40,10 @@ pub trait Shelf {
         ensures faultless { faultless self.new ≡ faultless self.old }
         ensures holds { faultless self.old ≡ true → HoldsName (told self.old) name.now → given self.old < 2 ^ 32 → DoesNotFail (faults self.old) (faults self.new) result };
 
-    /// Gives the next bytes of a file that was found, and says how many. 0 is the end.
+    /// Reads the next bytes of a file that was found into the beginning of the buffer, and says how
+    /// many. 0 is the end.
     ///
-    /// After a fault the same bytes are still to be read.
+    /// After an error the same bytes are still to be read.
     fn read(&mut self, file: u32, to: &mut [u8]) -> Result<usize, Fault>
         requires given { file < given self.old }
         requires room { 0 < length to.old }
@@ -59,7 +61,7 @@ pub trait Shelf {
 pub enum FileFault {
     /// The shelf failed. Its count of faults rose in this call.
     Failed,
-    /// The file has more bytes than were to be read.
+    /// The file has more bytes than the caller allows.
     TooLong,
     /// Out of memory.
     OutOfMemory,
@@ -131,11 +133,11 @@ fn read_rest<F: Shelf>(
     Err(FileFault::TooLong)
 }
 
-/// Reads the whole of a file of at most so many bytes.
+/// Reads the whole of a file of at most `most` bytes.
 ///
-/// `TooLong` exactly where it has more. The file is found once, and files found before are left as
-/// they were. Over a faultless shelf that holds the name `Failed` never comes, as long as numbers are
-/// left.
+/// `TooLong` only where it has more bytes, and never `Ok` then. `Failed` only where the shelf's count
+/// of faults rose, and never over a faultless shelf that holds the name and has a number left. The
+/// file is found once, and files found before are left as they were.
 pub fn read_file<F: Shelf>(
     alloc: Global,
     shelf: &mut F,

@@ -6,9 +6,9 @@ ghost use Rattle.tpf_base.specs.Wrote.{Writes, AppendsPrefix};
 
 use crate::Fault;
 
-/// A place that takes bytes, one after another.
+/// A writer: it takes bytes, one after another.
 ///
-/// The count of faults never falls, and stands still at its last value.
+/// The count of faults never falls, and stops at 2^64 - 1.
 pub trait Sink {
     /// The bytes taken so far, where it tells.
     ghost taken: { Self → Option (List ℕ) };
@@ -19,9 +19,9 @@ pub trait Sink {
     /// Whether no write fails but for memory. No call changes it.
     ghost faultless: { Self → Bool };
 
-    /// Takes a part of the piece's front, at least one byte, and says how many.
+    /// Takes a prefix of the piece, at least one byte, and says how many bytes.
     ///
-    /// At a fault it takes none.
+    /// After an error it has taken none.
     fn write(&mut self, piece: &[u8]) -> Result<usize, Fault>
         requires { 0 < length piece.now }
         ensures ok { IfOk result (λ n. Writes n piece.now (taken self.old) (taken self.new)) }
@@ -33,7 +33,7 @@ pub trait Sink {
 
 /// Writes the piece whole, with as many writes as that takes.
 ///
-/// At a fault it may have written a part of the front. `Failed` only where the sink's count of
+/// After an error a prefix of the piece may be written. `Failed` only where the sink's count of
 /// faults rose in this call, and never over a faultless sink.
 pub fn write_all<K: Sink>(out: &mut K, piece: &[u8]) -> Result<(), Fault>
     ensures ok { OnOk result (Appends (K.taken out.old) (K.taken out.new) piece.now) }

@@ -21,7 +21,7 @@ impl Model for Text {
 }
 
 impl Text {
-    /// A text of its own, with the same bytes. Fails only for want of memory.
+    /// A text of its own, with the same bytes. Its one error is out of memory.
     pub fn copy(alloc: Global, text: &str) -> Result<Text, OutOfMemory>
         ensures { IfOk result (λ copy. copy ≡ text.now) }
     {
@@ -118,7 +118,7 @@ impl Model for Bytes {
 }
 
 impl Bytes {
-    /// Bytes of their own, the same as these. Fails only for want of memory.
+    /// Bytes of their own, the same as these. Its one error is out of memory.
     pub fn copy(alloc: Global, bytes: &[u8]) -> Result<Bytes, OutOfMemory>
         ensures { IfOk result (λ copy. copy ≡ bytes.now) }
     {

@@ -9,7 +9,7 @@ use crate::Fault;
 /// What a send or a receive did.
 #[derive(Clone, Copy, Debug, PartialEq, Eq)]
 pub enum Moved {
-    /// So many bytes moved, at least one.
+    /// So many bytes were sent or received, at least one.
     Moved(usize),
     /// The other end sends no more. Only a receive answers it.
     End,
@@ -26,14 +26,14 @@ pub enum Moved {
 pub enum Ready {
     /// A link: bytes may move on it.
     Link(u64),
-    /// The door: another host may be there to be accepted.
+    /// The door, which is the listener: a connection may wait to be accepted.
     Door,
 }
 
-/// Links, each of which carries bytes to another host and back.
+/// Connections, which are called links: each carries bytes to another host and back.
 ///
 /// Links have the numbers 0, 1, 2 .. in the order in which they were given, so no number is given
-/// twice. Counts never fall, and one that is kept as a u64 stands still at its last value.
+/// twice. Counts never fall, and one that is kept as a u64 stops at 2^64 - 1.
 ///
 /// A wire tells of its links counts alone, or also the bytes that were sent and received, or also
 /// those that the other end owes. No call changes how much it tells.
@@ -45,19 +45,19 @@ pub trait Wire {
     /// changes it.
     ghost allows: { Self → List ℕ → ℕ → List ℕ → List ℕ → Type 0 };
 
-    /// Sends a part of the piece's front on an open link, at least one byte.
+    /// Sends a prefix of the piece on an open link, at least one byte.
     ///
-    /// `NotYet` sent nothing. `Failed` may have sent a part of the front. `End` never comes.
+    /// `NotYet` and `OutOfMemory` sent nothing. `Failed` may have sent a prefix. `End` never comes.
     fn send(&mut self, link: u64, piece: &[u8]) -> Moved
         requires is_open { ((state self.old).links link).is_open ≡ true }
         requires some { 0 < length piece.now }
         ensures sends { Sends link piece.now (state self.old) (state self.new) result }
         ensures allowed { SameAllowed (allows self.old) (allows self.new) };
 
-    /// Receives the next bytes of an open link into the front of the buffer.
+    /// Receives the next bytes of an open link into the beginning of the buffer.
     ///
     /// `End` says that no more come; where the wire tells what is owed and a part of it was not
-    /// received, that is a fault. `NotYet` and `Failed` received nothing.
+    /// received, that is a fault. `NotYet`, `Failed` and `OutOfMemory` received nothing.
     fn recv(&mut self, link: u64, to: &mut [u8]) -> Moved
         requires is_open { ((state self.old).links link).is_open ≡ true }
         requires room { 0 < length to.old }
@@ -72,7 +72,8 @@ pub trait Wire {
 
     /// Waits until an open link or the door may be ready, and says which.
     ///
-    /// `Failed` where the time for it is over, or nothing can become ready.
+    /// `Failed` where the time for it is over, or nothing can become ready. After an error each link
+    /// is as before.
     fn wait(&mut self) -> Result<Ready, Fault>
         ensures ok { IfOk result (λ answer. Wakes answer (state self.old) (state self.new)) }
         ensures err { OnErr result (GivesNone (state self.old) (state self.new)) }
@@ -106,7 +107,8 @@ pub trait Wire {
 pub trait Dial: Wire {
     /// Opens a link to a host at a port, and gives its number.
     ///
-    /// `Failed` where the host is not there, or no number is left. Each call counts.
+    /// `Failed` where the host is not there, or no number is left. Each call counts, and after an
+    /// error no link was given.
     fn dial(&mut self, host: &str, port: u16) -> Result<u64, Fault>
         ensures ok { IfOk result (λ number. GivesDialled host.now port number (Self.state self.old) (Self.state self.new)) }
         ensures err { OnErr result (GivesNone (Self.state self.old) (Self.state self.new)) }
@@ -118,9 +120,9 @@ pub trait Dial: Wire {
 
 /// A wire to which other hosts open links.
 pub trait Accept: Wire {
-    /// Opens the door at a host and a port of this machine.
+    /// Opens the door, which is the listener, at a host and a port of this machine.
     ///
-    /// `Failed` where it can't be opened; it is then as before.
+    /// `Failed` where it can't be opened. After an error it is as before.
     fn listen(&mut self, host: &str, port: u16) -> Result<(), Fault>
         ensures ok { OnOk result (Opens host.now port (Self.state self.old) (Self.state self.new)) }
         ensures err { OnErr result (LeavesDoor (Self.state self.old) (Self.state self.new)) }
@@ -129,9 +131,9 @@ pub trait Accept: Wire {
         ensures steady { (Self.state self.old).nature.steady ≡ true → ServesSteadily (Self.state self.old) (Self.state self.new) result }
         ensures allowed { SameAllowed (Self.allows self.old) (Self.allows self.new) };
 
-    /// Gives the link of a host that stands at the door, and nothing where nobody does.
+    /// Accepts a connection that waits at the door and gives its number, or `None` where none waits.
     ///
-    /// `Failed` where that can't be found out, or no number is left.
+    /// `Failed` where that can't be found out, or no number is left. After an error no link was given.
     fn accept(&mut self) -> Result<Option<u64>, Fault>
         requires { listens (Self.state self.old) ≡ true }
         ensures given { IfOk result (λ link. IfSome link (λ number. GivesAccepted number (Self.state self.old) (Self.state self.new))) }

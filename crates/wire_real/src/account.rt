@@ -1,5 +1,5 @@
 // What a wire counts, and what it counts of each open link.
-ghost use Rattle.std.specs.Prelude.{◌≡◌, ◌≤◌, Some, None, false, true};
+ghost use Rattle.std.specs.Prelude.{◌≡◌, ◌≤◌, Some, None, false};
 ghost use Rattle.wire_real.specs.Accounts.{no_account, no_counts, account_after, counts_after, Fails};
 
 use std::io::ErrorKind;
@@ -12,7 +12,7 @@ pub enum Direction {
     Receiving,
 }
 
-/// The account of an open link. Its count stands still at its last value.
+/// The account of an open link. Its count stops at 2^64 - 1.
 #[derive(Clone, Copy, Debug)]
 pub struct Account {
     /// How often a call on the link stalled.
@@ -41,19 +41,19 @@ impl Account {
         ensures later { self.stalls ≤ result.stalls }
     {
         match answer {
-            Moved::Moved(_) => self.still(),
-            Moved::End => self.still(),
+            Moved::Moved(_) => self.without_stall(),
+            Moved::End => self.without_stall(),
             Moved::NotYet => Account {
                 stalls: self.stalls.saturating_add(1),
                 stalled: Some(direction),
                 woken: false,
             },
-            Moved::Failed => self.still(),
+            Moved::Failed => self.without_stall(),
             Moved::OutOfMemory => self,
         }
     }
 
-    fn still(self) -> Account
+    fn without_stall(self) -> Account
         ensures { result ≡ record self { stalled = None; woken = false } }
     {
         Account {
@@ -64,7 +64,7 @@ impl Account {
     }
 }
 
-/// The counts of a wire. Each stands still at its last value.
+/// The counts of a wire. Each stops at 2^64 - 1.
 #[derive(Clone, Copy, Debug)]
 pub struct Counts {
     /// How many links were given.
@@ -77,11 +77,12 @@ pub struct Counts {
     pub waits: u64,
     /// How many waits succeeded since a byte moved, an end was received or a link was given.
     pub idle: u64,
-    /// How often nobody stood at the door.
+    /// How often no connection waited at the door.
     pub door_stalls: u64,
 }
 
 impl Counts {
+    /// Of a wire on which nothing happened yet.
     pub fn new() -> Counts
         ensures { result ≡ no_counts }
     {

@@ -1,4 +1,4 @@
-// The door: a listening socket.
+// The door: the listener.
 ghost use Rattle.std.specs.Prelude.{◌≡◌, Some, IfOk};
 ghost use Rattle.wire_real.specs.Sockets.{door_at};
 
@@ -11,20 +11,20 @@ use std::io::ErrorKind;
 use std::net::{Net, SocketAddr};
 use tpf_base::Text;
 
-/// A listening socket, and what the system said of it.
+/// The listener, and what the system said of it.
 #[derive(Drop)]
 pub struct Door {
     listener: TcpListener,
     // What it was asked to listen at.
     host: Text,
     port: u16,
-    // Whether somebody may stand there. Where this does not hold nobody does, until an event says
+    // Whether a connection may wait there. Where this does not hold none does, until an event says
     // more.
     may_come: bool,
 }
 
-/// Whether an accept that failed so lost one guest, and the next one may be asked in.
-fn is_of_one_guest(kind: ErrorKind) -> bool {
+/// Whether an accept that failed so lost one connection, and the next one may be accepted.
+fn is_of_one_connection(kind: ErrorKind) -> bool {
     matches!(
         kind,
         ErrorKind::ConnectionAborted
@@ -105,26 +105,26 @@ impl Door {
         }
     }
 
-    /// Takes in that the system says that somebody stands there.
+    /// Takes in that the system says that a connection waits there.
     pub fn tell(&mut self)
         ensures { door_at (Some self.new) ≡ door_at (Some self.old) }
     {
         self.may_come = true;
     }
 
-    /// Whether somebody may stand there.
+    /// Whether a connection may wait there.
     pub fn may_come(&self) -> bool {
         self.may_come
     }
 
-    /// The stream of the next guest, if there is one.
+    /// The stream of the next connection, if one waits.
     pub fn accept(&mut self) -> Result<Option<TcpStream>, ErrorKind>
         ensures { door_at (Some self.new) ≡ door_at (Some self.old) }
     {
         if !self.may_come {
             return Ok(None);
         }
-        'guests: for _ in 0..u64::MAX {
+        'connections: for _ in 0..u64::MAX {
             match self.listener.accept() {
                 Ok((stream, _)) => return Ok(Some(stream)),
                 Err(error) => {
@@ -133,7 +133,7 @@ impl Door {
                         self.may_come = false;
                         return Ok(None);
                     }
-                    if !is_of_one_guest(kind) {
+                    if !is_of_one_connection(kind) {
                         return Err(kind);
                     }
                 }

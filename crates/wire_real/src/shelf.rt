@@ -1,11 +1,12 @@
 // The files of the system.
-ghost use Rattle.std.specs.Prelude.{ℕ, ◌≡◌, ◌≤◌, ◌<◌, length, IfOk, OnErr};
+ghost use Rattle.std.specs.Prelude.{◌≡◌, ◌≤◌};
 ghost use Rattle.tpf_base.specs.Causes.{counted};
 
+use crate::reading::read_some;
 use std::collections::HashMap;
-use std::io::{ErrorKind, Read};
+use std::fs;
+use std::io::ErrorKind;
 use std::rt::Files;
-use std::{fs, io};
 use tpf_base::{Fault, Shelf};
 
 /// The files of the system, found by their paths. It tells counts alone.
@@ -15,7 +16,7 @@ use tpf_base::{Fault, Shelf};
 /// later read.
 ///
 /// A path that can't be opened and a read that fails answer `Failed`, and count; what the system
-/// answers out of memory answers `OutOfMemory`. The count stands still at its last value.
+/// answers out of memory answers `OutOfMemory`. The count stops at 2^64 - 1.
 #[derive(Drop)]
 pub struct DiskShelf<'a, R: Files + AllocGlobal> {
     rt: &'a R,
@@ -54,20 +55,6 @@ impl<'a, R: Files + AllocGlobal> DiskShelf<'a, R> {
     }
 }
 
-/// Reads from a file. A read that a signal interrupted is tried again.
-fn read_some<F: Read>(file: &mut F, to: &mut [u8]) -> io::Result<usize>
-    ensures length { length to.new ≡ length to.old }
-    ensures within { IfOk result (λ n. n ≤ length to.old) }
-{
-    'tries: for _ in 0..u64::MAX {
-        match file.read(to) {
-            Err(error) if error.kind() == ErrorKind::Interrupted => {}
-            answer => return answer,
-        }
-    }
-    Err(io::Error::from(ErrorKind::Interrupted))
-}
-
 impl<'a, R: Files + AllocGlobal> Shelf for DiskShelf<'a, R> {
     ghost use Rattle.std.specs.Prelude.{None, false};
 
@@ -81,6 +68,7 @@ impl<'a, R: Files + AllocGlobal> Shelf for DiskShelf<'a, R> {
 
     ghost faultless = { λ _. false };
 
+    /// `Failed` where the path can't be opened, or no number is left.
     fn find(&mut self, name: &str) -> Result<u32, Fault> {
         let number = self.given;
         let Some(given) = number.checked_add(1) else {

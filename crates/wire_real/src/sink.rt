@@ -1,5 +1,5 @@
 // The standard streams.
-ghost use Rattle.std.specs.Prelude.{ℕ, ◌≡◌, ◌≤◌, length, IfOk};
+ghost use Rattle.std.specs.Prelude.{◌≡◌, ◌≤◌, length, IfOk};
 
 use std::io;
 use std::io::{ErrorKind, Print};
@@ -35,8 +35,8 @@ enum Stream {
 /// A standard stream of the program. It tells counts alone.
 ///
 /// A write that fails, and one that takes no byte, as on a pipe that nobody reads, answers `Failed`,
-/// and counts; what the system answers out of memory answers `OutOfMemory`. The count stands still at
-/// its last value.
+/// and counts; what the system answers out of memory answers `OutOfMemory`. The count stops at
+/// 2^64 - 1.
 #[derive(Drop)]
 pub struct StreamSink<'a, R: Streams> {
     rt: &'a R,

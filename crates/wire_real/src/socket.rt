@@ -4,11 +4,12 @@ ghost use Rattle.tpf_base.specs.declared.wire.Moved.TheVariants as answers;
 ghost use Rattle.wire_real.specs.Accounts.{account_after, no_account, MovesWithin};
 
 use crate::account::{Account, Direction};
+use crate::reading::read_some;
 use mio::event::Event;
 use mio::net::TcpStream;
 use mio::{Interest, Registry, Token};
 use std::io;
-use std::io::{ErrorKind, Read, Write};
+use std::io::{ErrorKind, Write};
 use std::net::{Net, SocketAddr};
 use tpf_base::Moved;
 
@@ -33,17 +34,19 @@ impl Readiness {
     }
 
     /// A call moved bytes. Where it moved fewer than it could have, the next one would stall.
-    fn moved(&mut self, all: bool) {
+    fn after_move(&mut self, all: bool) {
         self.is_awaited = false;
         self.may_move = all || self.is_over;
     }
 
-    fn stalled(&mut self) {
+    /// A call stalled: the next one waits for an event.
+    fn after_stall(&mut self) {
         self.is_awaited = true;
         self.may_move = false;
     }
 
-    fn told(&mut self, may_move: bool, is_over: bool) {
+    /// An event said so.
+    fn after_event(&mut self, may_move: bool, is_over: bool) {
         self.may_move = self.may_move || may_move || is_over;
         self.is_over = self.is_over || is_over;
     }
@@ -78,21 +81,6 @@ fn answer_to(kind: ErrorKind) -> Moved
         ErrorKind::OutOfMemory => Moved::OutOfMemory,
         _ => Moved::Failed,
     }
-}
-
-/// Reads from a stream. A read that a signal interrupted is tried again.
-fn read_some(stream: &TcpStream, to: &mut [u8]) -> io::Result<usize>
-    ensures length { length to.new ≡ length to.old }
-    ensures within { IfOk result (λ n. n ≤ length to.old) }
-{
-    let mut from = stream;
-    'tries: for _ in 0..u64::MAX {
-        match from.read(to) {
-            Err(error) if error.kind() == ErrorKind::Interrupted => {}
-            answer => return answer,
-        }
-    }
-    Err(io::Error::from(ErrorKind::Interrupted))
 }
 
 /// Writes to a stream. A write that a signal interrupted is tried again.
@@ -224,19 +212,19 @@ impl Socket {
             return Moved::Failed;
         }
         if !self.sending.may_move {
-            self.sending.stalled();
+            self.sending.after_stall();
             return Moved::NotYet;
         }
         match write_some(&self.stream, piece) {
             Ok(0) => Moved::Failed,
             Ok(n) => {
-                self.sending.moved(n == piece.len());
+                self.sending.after_move(n == piece.len());
                 Moved::Moved(n)
             }
             Err(error) => {
                 let kind = error.kind();
                 if kind == ErrorKind::WouldBlock {
-                    self.sending.stalled();
+                    self.sending.after_stall();
                 }
                 answer_to(kind)
             }
@@ -266,20 +254,21 @@ impl Socket {
             return Moved::Failed;
         }
         if !self.receiving.may_move {
-            self.receiving.stalled();
+            self.receiving.after_stall();
             return Moved::NotYet;
         }
         let room = to.len();
-        match read_some(&self.stream, to) {
+        let mut stream = &self.stream;
+        match read_some(&mut stream, to) {
             Ok(0) => Moved::End,
             Ok(n) => {
-                self.receiving.moved(n == room);
+                self.receiving.after_move(n == room);
                 Moved::Moved(n)
             }
             Err(error) => {
                 let kind = error.kind();
                 if kind == ErrorKind::WouldBlock {
-                    self.receiving.stalled();
+                    self.receiving.after_stall();
                 }
                 answer_to(kind)
             }
@@ -295,15 +284,15 @@ impl Socket {
         match &self.connection {
             Connection::Trying(_) => {}
             Connection::Refused => {
-                self.receiving.told(true, true);
-                self.sending.told(true, true);
+                self.receiving.after_event(true, true);
+                self.sending.after_event(true, true);
             }
             Connection::Standing => {
                 let failed = event.is_error();
                 self.receiving
-                    .told(event.is_readable(), failed || event.is_read_closed());
+                    .after_event(event.is_readable(), failed || event.is_read_closed());
                 self.sending
-                    .told(event.is_writable(), failed || event.is_write_closed());
+                    .after_event(event.is_writable(), failed || event.is_write_closed());
             }
         }
     }

@@ -1,5 +1,5 @@
 // What the system is asked to tell, and what it told.
-ghost use Rattle.std.specs.Prelude.{ℕ, ◌≡◌, Bool, true, false, is_some, IfSome, IfNone, OnOk};
+ghost use Rattle.std.specs.Prelude.{◌≡◌, true, false, is_some, IfSome, IfNone};
 ghost use Rattle.wire_real.specs.Accounts.{SameAccounts, Woken};
 ghost use Rattle.wire_real.specs.Sockets.{accounts, door_at};
 
@@ -67,7 +67,7 @@ fn wake_link(sockets: &mut HashMap<u64, Socket>, link: u64, given: u64) -> bool
     }
 }
 
-/// Whether somebody may stand at the door.
+/// Whether a connection may wait at the door.
 fn is_door_ready(door: &Option<Door>) -> bool
     ensures { result ≡ true → is_some (door_at door.now) ≡ true }
 {
@@ -103,6 +103,7 @@ impl Watch {
         }
     }
 
+    /// Where a socket is named that the system is to watch.
     pub fn registry(&self) -> &Registry {
         self.poll.registry()
     }

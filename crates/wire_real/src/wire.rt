@@ -1,11 +1,11 @@
 // Links over sockets.
-ghost use Rattle.std.specs.Prelude.{ℕ, ◌≡◌, ◌≢◌, ◌+◌, ◌<◌, ◌≤◌, length, true, false, is_some, Some, None, IfSome, IfNone, IfOk, IfErr, OnOk, OnErr};
+ghost use Rattle.std.specs.Prelude.{ℕ, ◌≡◌, ◌≢◌, ◌+◌, ◌<◌, length, is_some, Some, None, IfSome, IfNone, IfOk, IfErr, OnOk, OnErr};
 ghost use Rattle.tpf_base.specs.declared.wire.Moved.TheVariants as answers;
 ghost use Rattle.wire_real.specs.declared.account.Direction.{Direction};
 ghost use Rattle.wire_real.specs.Accounts.{no_account, no_counts, Fails, MovesWithin, SameAccounts, OthersSame, Moves, Woken};
 ghost use Rattle.wire_real.specs.Sockets.{accounts, door_at};
 
-use crate::account::{Account, Counts};
+use crate::account::Counts;
 use crate::addresses::addresses_of;
 use crate::door::Door;
 use crate::socket::{Socket, connect_last, register};
@@ -21,9 +21,9 @@ use tpf_base::{Accept, Dial, Fault, Moved, Ready, Wire};
 /// How many seconds a wait lasts at most while there is no door.
 const PATIENCE: u64 = 30;
 
-/// Links over TCP sockets, none of which waits but in `wait`. It tells counts alone, is neither
-/// steady nor lively, and keeps nothing of a closed link, whose count of stalls then stands at its
-/// last value.
+/// Connections (links) over TCP sockets, none of which waits but in `wait`. It tells counts alone, is
+/// neither steady nor lively, and keeps nothing of a closed link, whose count of stalls then stands
+/// at 2^64 - 1.
 ///
 /// A host is named by an IP address, or by a name that the system resolves. `dial` returns before
 /// the link is connected: a name that does not resolve makes `dial` fail, and a connection that is
@@ -35,8 +35,8 @@ const PATIENCE: u64 = 30;
 /// a receive on a link that is not ready answers `NotYet` without asking the system, and `wait` asks
 /// it once for all links, and answers those of which it told one after another.
 ///
-/// While there is no door `wait` fails after 30 seconds in which nothing became ready, and at once
-/// where no link is open. With a door it lasts as long as it takes.
+/// While there is no door, which is the listener, `wait` fails after 30 seconds in which nothing became
+/// ready, and at once where no link is open. With a door it lasts as long as it takes.
 ///
 /// An error of the system that says out of memory is answered `OutOfMemory`, and every other one
 /// `Failed`.
@@ -75,8 +75,8 @@ fn receive_on(sockets: &mut HashMap<u64, Socket>, link: u64, to: &mut [u8]) -> M
     }
 }
 
-/// The stream of the next guest at the door, if there is one.
-fn next_guest(door: &mut Option<Door>) -> Result<Option<TcpStream>, ErrorKind>
+/// The stream of the next connection at the door, if one waits.
+fn next_stream(door: &mut Option<Door>) -> Result<Option<TcpStream>, ErrorKind>
     ensures { door_at door.new ≡ door_at door.old }
 {
     match door {
@@ -102,9 +102,15 @@ impl<'a, R: Net + Clock + AllocGlobal> NetWire<'a, R> {
         }
     }
 
-    /// The port of the door, where there is one: of a door at port 0, the one that the system chose.
-    pub fn door_port(&self) -> Option<u16> {
-        self.door.as_ref()?.port()
+    /// The port of the door: of one that was opened at port 0, the one that the system chose. `None` where
+    /// no door is open, or the system does not say.
+    pub fn door_port(&self) -> Option<u16>
+        ensures { door_at self.now.door ≡ None → result ≡ None }
+    {
+        match &self.door {
+            Some(door) => door.port(),
+            None => None,
+        }
     }
 
     /// Has the system watch links, from the first dial or listen on.
@@ -137,9 +143,9 @@ impl<'a, R: Net + Clock + AllocGlobal> NetWire<'a, R> {
         Ok(Socket::dialled(stream, addresses))
     }
 
-    /// Lets the next guest in, if there is one.
-    fn let_in(&mut self) -> Result<Option<Socket>, ErrorKind>
-        ensures given { IfOk result (λ guest. IfSome guest (λ socket. socket.account ≡ no_account)) }
+    /// Accepts the next connection at the door, if one waits.
+    fn accept_next(&mut self) -> Result<Option<Socket>, ErrorKind>
+        ensures given { IfOk result (λ accepted. IfSome accepted (λ socket. socket.account ≡ no_account)) }
         ensures sockets { self.new.sockets ≡ self.old.sockets }
         ensures counts { self.new.counts ≡ self.old.counts }
         ensures door { door_at self.new.door ≡ door_at self.old.door }
@@ -147,7 +153,7 @@ impl<'a, R: Net + Clock + AllocGlobal> NetWire<'a, R> {
         let Some(watch) = &self.watch else {
             return Err(ErrorKind::NotConnected);
         };
-        let Some(mut stream) = next_guest(&mut self.door)? else {
+        let Some(mut stream) = next_stream(&mut self.door)? else {
             return Ok(None);
         };
         let token = Token(self.counts.given as usize);
@@ -335,7 +341,7 @@ impl<'a, R: Net + Clock + AllocGlobal> Accept for NetWire<'a, R> {
     }
 
     fn accept(&mut self) -> Result<Option<u64>, Fault> {
-        match self.let_in() {
+        match self.accept_next() {
             Ok(Some(socket)) => match self.give(socket) {
                 Ok(number) => Ok(Some(number)),
                 Err(fault) => Err(fault),
