@@ -1,5 +1,5 @@
 -- Triples that hold a blank node.
-use Rattle.std.proofs.Common.{◌≡◌, Bool, true, false, ◌||◌, List, refl, sym, subst, ◌∙◌, inl, inr, ⊎_elim}
+use Rattle.std.proofs.Common.{◌≡◌, Bool, true, false, ◌||◌, List, refl, sym, subst, inl, inr, ⊎_elim}
 use Rattle.std.specs.List.{Contains, list_any}
 use Rattle.std.proofs.lemmas.Bool.{or_right, or_cases}
 use Rattle.list_laws.proofs.Members.{any_of, some_of}
@@ -9,7 +9,7 @@ use Rattle.rdf_terms.specs.declared.term.Term.TheVariants.{Iri, Blank, Literal}
 use Rattle.rdf_terms.specs.declared.term.Triple.{Triple}
 use Rattle.rdf_terms.specs.declared.term.Quad.{Quad}
 use Rattle.control_reader.specs.Contents.{page_triples, IsBlank, HoldsBlank, HasBlankData}
-use Rattle.control_reader.specs.Seen.{is_blank, holds_blank, TakesTriples}
+use Rattle.control_reader.specs.Seen.{is_blank, holds_blank}
 
 blank_is : (t : Term) → is_blank t ≡ true → IsBlank t
 blank_is (Iri text) h = absurd (cc)
@@ -43,6 +43,3 @@ blank_data quads once e h =
 pub no_blank_data : (quads : List Quad) (once : List Triple) → once ≡ page_triples quads → list_any holds_blank once ≡ false → HasBlankData quads → ⊥
 no_blank_data quads once e h has =
     not_both_ways (list_any holds_blank once) (any_of holds_blank once has.0 (subst (λ (l : List Triple). Contains l has.0) (sym e) has.1) (is_holds has.0 has.2)) h
-
-pub takes_triples : (quads : List Quad) (once triples : List Triple) → once ≡ page_triples quads → triples ≡ once → list_any holds_blank once ≡ false → TakesTriples quads triples
-takes_triples quads once triples e f h = record { triples_are = f ∙ e; no_blank = no_blank_data quads once e h }

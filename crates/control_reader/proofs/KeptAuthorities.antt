@@ -7,10 +7,8 @@ use Rattle.rdf_terms.specs.declared.term.Quad.{Quad}
 use Rattle.tpf_base.specs.Addresses.{Address, IsAddress, address_text, authority_of}
 use Rattle.template_fill.specs.Templates.{Template, expansion}
 use Rattle.template_fill.specs.Authorities.{ShareAuthority, IsTemplate, AuthoritiesAreHostsAndPorts, TemplatesAreKept, ExpansionsShareAuthority}
-use Rattle.control_reader.specs.declared.page.Page.{Page}
 use Rattle.control_reader.specs.Controls.{IsLink, IsNext, IsHome}
-use Rattle.control_reader.specs.Takes.{Takes}
-use Rattle.control_reader.specs.Authorities.{KeepsAuthority, PagesKeepAuthority}
+use Rattle.control_reader.specs.Authorities.{PagesKeepAuthority}
 
 module _ (hosts_and_ports : AuthoritiesAreHostsAndPorts) (kept : TemplatesAreKept) (expansions : ExpansionsShareAuthority) where
   start_shares : (text : List ℕ) (address : Address) (template : Template) → IsAddress text address → IsTemplate template → IsHome template (authority_of address) → ShareAuthority address template.start

@@ -1,5 +1,5 @@
 -- Which quads of a list pass a test, and which named quads a body holds.
-use Rattle.std.proofs.Common.{◌≡◌, ℕ, ◌⊎◌, inl, inr, Bool, true, ◌&&◌, List, [], ◌∷◌, ◌++◌, map, Some, None, refl, sym, ap, subst}
+use Rattle.std.proofs.Common.{◌≡◌, ◌⊎◌, inl, inr, Bool, true, ◌&&◌, List, [], ◌∷◌, ◌++◌, map, Some, None, refl, sym, ap, subst}
 use Rattle.std.specs.List.{AllByRecursion, Contains, filter}
 use Rattle.std.proofs.lemmas.List.Elements.{All-from_recursion, All-contains, Contains-append_cases, Contains-append_right}
 use Rattle.std.proofs.lemmas.Bool.{and_from}
@@ -74,9 +74,3 @@ same_subject g s p o h t q r e = ap (λ (x : Quad). x.triple.subject) e
 
 pub same_object : (g s p o h t q r : Term) → named g s p o ≡ named h t q r → o ≡ r
 same_object g s p o h t q r e = ap (λ (x : Quad). x.triple.object) e
-
-from_some : (a b : Term) → Some a ≡ Some b → a ≡ b
-from_some a b e = cc
-
-pub same_graph : (g s p o h t q r : Term) → named g s p o ≡ named h t q r → g ≡ h
-same_graph g s p o h t q r e = from_some g h (ap (λ (x : Quad). x.graph) e)

@@ -15,8 +15,8 @@ use Rattle.list_laws.proofs.Places.{any_default, between, in_between}
 use Rattle.list_laws.proofs.Tests.{not_both_ways}
 use Rattle.rdf_terms.specs.declared.term.Term.{Term}
 use Rattle.rdf_terms.specs.declared.term.Triple.{Triple}
-use Rattle.control_reader.specs.Ranges.{length_order, length_triple_order, pair_order, is_before, goes_before, is_object_before}
-use Rattle.control_reader.specs.LengthLaws.{length_total, length_equal}
+use Rattle.control_reader.specs.Ranges.{length_order, length_triple_order, pair_order, is_before, goes_before, is_triple_before}
+use Rattle.control_reader.specs.LengthLaws.{length_total, length_equal, length_triple_total, length_triple_equal}
 use Rattle.control_reader.specs.Parts.{borrowed_triples, objects_in, triple}
 
 -- ---- an element before another goes before a bound where that one does
@@ -162,49 +162,49 @@ module _ (xs : List (Bor Triple)) (s p : Term) (sorted : IsStrictlySortedBy leng
   pub range_in_order : from ≤ to
   range_in_order = in_order (λ (t : Bor Triple). ordering_then (length_order t.now.subject s) (length_order t.now.predicate p)) xs from to low high from_before from_behind to_before to_behind
 
--- ---- one object of a range
+-- ---- one triple of the list
 
-pub objects_parted : (xs : List (Bor Triple)) (object : Term) → IsStrictlySortedBy length_order (objects_in xs) → IsPartitionedBy (λ (t : Bor Triple). is_object_before object t.now) xs
-objects_parted xs object s =
-    partitioned length_total (λ (t : Bor Triple). t.now.object) xs false object
-    (λ i j d l m e. less_not_greater (sym (pair_less (λ (x y : Bor Triple). length_order x.now.object y.now.object) xs (ascending_unmap (λ (t : Bor Triple). t.now.object) length_order xs s) i j d d l m) ∙ e))
+pub triples_before : (xs : List (Bor Triple)) (t : Triple) → IsStrictlySortedBy length_triple_order (borrowed_triples xs) → IsPartitionedBy (λ (x : Bor Triple). is_triple_before t x.now) xs
+triples_before xs t s =
+    partitioned length_triple_total (λ (x : Bor Triple). x.now) xs false t
+    (λ i j d l m e. less_not_greater (sym (pair_less (λ (x y : Bor Triple). length_triple_order x.now y.now) xs (ascending_unmap (λ (x : Bor Triple). x.now) length_triple_order xs s) i j d d l m) ∙ e))
 
-module _ (xs : List (Bor Triple)) (object : Term) (place : ℕ) (s : IsStrictlySortedBy length_order (objects_in xs))
-    (before : (k : ℕ) (d : Bor Triple) → k < place → is_object_before object (get_or xs k d).now ≡ true)
-    (behind : (k : ℕ) (d : Bor Triple) → place ≤ k → k < length xs → is_object_before object (get_or xs k d).now ≡ false) where
-  not_below : (k : ℕ) (t : Bor Triple) → get_or xs k t ≡ t → t.now.object ≡ object → place ≤ k
-  not_below k t at same = by (ltb k place) refl
+module _ (xs : List (Bor Triple)) (t : Triple) (place : ℕ) (s : IsStrictlySortedBy length_triple_order (borrowed_triples xs))
+    (before : (k : ℕ) (d : Bor Triple) → k < place → is_triple_before t (get_or xs k d).now ≡ true)
+    (behind : (k : ℕ) (d : Bor Triple) → place ≤ k → k < length xs → is_triple_before t (get_or xs k d).now ≡ false) where
+  not_below : (k : ℕ) (x : Bor Triple) → get_or xs k x ≡ x → x.now ≡ t → place ≤ k
+  not_below k x at same = by (ltb k place) refl
     where
-      tied : is_object_before object t.now ≡ false
-      tied = ap (is_before false) ((length_equal t.now.object object).1 same)
+      tied : is_triple_before t x.now ≡ false
+      tied = ap (is_before false) ((length_triple_equal x.now t).1 same)
 
       by : (b : Bool) → ltb k place ≡ b → place ≤ k
-      by true e = absurd (not_both_ways _ (subst (λ (x : Bor Triple). is_object_before object x.now ≡ true) at (before k t (grind (arith, e)))) tied)
+      by true e = absurd (not_both_ways _ (subst (λ (y : Bor Triple). is_triple_before t y.now ≡ true) at (before k x (grind (arith, e)))) tied)
       by false e = grind (arith, e)
 
-  not_above : (k : ℕ) (t : Bor Triple) → k < length xs → place ≤ k → get_or xs k t ≡ t → t.now.object ≡ object → k ≡ place
-  not_above k t l low at same = by (ltb place k) refl
+  not_above : (k : ℕ) (x : Bor Triple) → k < length xs → place ≤ k → get_or xs k x ≡ x → x.now ≡ t → k ≡ place
+  not_above k x l low at same = by (ltb place k) refl
     where
-      less : place < k → is_object_before object (get_or xs place t).now ≡ true
+      less : place < k → is_triple_before t (get_or xs place x).now ≡ true
       less m =
-          ap (is_before false) (ap (λ (o : Term). length_order (get_or xs place t).now.object o) (sym (ap (λ (x : Bor Triple). x.now.object) at ∙ same))
-          ∙ pair_less (λ (x y : Bor Triple). length_order x.now.object y.now.object) xs (ascending_unmap (λ (t : Bor Triple). t.now.object) length_order xs s) place k t t m l)
+          ap (is_before false) (ap (λ (y : Triple). length_triple_order (get_or xs place x).now y) (sym (ap (λ (y : Bor Triple). y.now) at ∙ same))
+          ∙ pair_less (λ (y z : Bor Triple). length_triple_order y.now z.now) xs (ascending_unmap (λ (y : Bor Triple). y.now) length_triple_order xs s) place k x x m l)
 
       by : (b : Bool) → ltb place k ≡ b → k ≡ place
-      by true e = let m : place < k = grind (arith, e) in absurd (not_both_ways _ (less m) (behind place t (omega arith) (omega (arith, m, l))))
+      by true e = let m : place < k = grind (arith, e) in absurd (not_both_ways _ (less m) (behind place x (omega arith) (omega (arith, m, l))))
       by false e = let m : k ≤ place = grind (arith, e) in omega (arith, m, low)
 
-  -- the object stands at the place of the search, if anywhere
-  pub object_at : Contains (objects_in xs) object → (place < length xs) × ((d : Bor Triple) → (get_or xs place d).now.object ≡ object)
-  object_at h =
-      let found = from_map (λ (t : Bor Triple). t.now.object) xs object h in
-      let t = found.0 in
+  -- the triple stands at the place of the search, if anywhere
+  pub triple_at : Contains (borrowed_triples xs) t → (place < length xs) × ((d : Bor Triple) → (get_or xs place d).now ≡ t)
+  triple_at h =
+      let found = from_map (λ (x : Bor Triple). x.now) xs t h in
+      let x = found.0 in
       let k = found.1.0 in
-      let low = not_below k t found.1.2 found.2 in
-      let here = not_above k t found.1.1 low found.1.2 found.2 in
+      let low = not_below k x found.1.2 found.2 in
+      let here = not_above k x found.1.1 low found.1.2 found.2 in
       let l : place < length xs = subst (λ n. n < length xs) here found.1.1 in
-      (l, λ d. ap (λ (x : Bor Triple). x.now.object) (any_default xs place d t l ∙ subst (λ n. get_or xs n t ≡ t) here found.1.2) ∙ found.2)
+      (l, λ d. ap (λ (y : Bor Triple). y.now) (any_default xs place d x l ∙ subst (λ n. get_or xs n x ≡ x) here found.1.2) ∙ found.2)
 
-pub at_place : (xs : List (Bor Triple)) (n : ℕ) (d : Bor Triple) (object : Term) → n < length xs → (get_or xs n d).now.object ≡ object → Contains (objects_in xs) object
-at_place xs n d object l e =
-    subst (λ (o : Term). Contains (objects_in xs) o) e (Contains-map (λ (t : Bor Triple). t.now.object) xs (get_or xs n d) (n, l, any_default xs n (get_or xs n d) d l))
+pub at_place : (xs : List (Bor Triple)) (n : ℕ) (d : Bor Triple) (t : Triple) → n < length xs → (get_or xs n d).now ≡ t → Contains (borrowed_triples xs) t
+at_place xs n d t l e =
+    subst (λ (x : Triple). Contains (borrowed_triples xs) x) e (Contains-map (λ (x : Bor Triple). x.now) xs (get_or xs n d) (n, l, any_default xs n (get_or xs n d) d l))

@@ -1,10 +1,9 @@
 -- The version is that of the only literal that gives one.
-use Rattle.std.proofs.Common.{ℕ, ◌≡◌, Bool, true, false, not, List, [], ◌∷◌, map, drop, refl, sym, ap, subst, ◌∙◌, Option, Some, None}
-use Rattle.std.specs.Prelude.{◌↔◌, ◌&&◌, if◌then◌else◌, MatchOption}
+use Rattle.std.proofs.Common.{ℕ, ◌≡◌, Bool, true, false, not, List, [], ◌∷◌, refl, sym, ap, subst, ◌∙◌, Option, Some, None}
+use Rattle.std.specs.Prelude.{if◌then◌else◌, MatchOption}
 use Rattle.std.specs.Str.Parse.{digits_value}
 use Rattle.std.specs.List.{Contains, list_any}
-use Rattle.std.specs.Borrow.{Bor}
-use Rattle.std.proofs.lemmas.Bool.{and_parts, and_from, false≢true}
+use Rattle.std.proofs.lemmas.Bool.{and_parts, and_from}
 use Rattle.list_laws.proofs.Members.{at_head, in_tail, any_of, some_of}
 use Rattle.list_laws.proofs.Tests.{not_both_ways}
 use Rattle.rdf_terms.specs.Same.{term_eq}
@@ -13,7 +12,7 @@ use Rattle.rdf_terms.specs.declared.term.Term.TheVariants.{Iri, Blank, Literal}
 use Rattle.rdf_terms.specs.declared.term.Triple.{Triple}
 use Rattle.rdf_terms.specs.declared.term.Quad.{Quad}
 use Rattle.control_reader.specs.Vocabulary.{version_info}
-use Rattle.control_reader.specs.Controls.{Says, IsOnly, IsNumber, is_count_text, IsVersionObject, IsVersion}
+use Rattle.control_reader.specs.Controls.{Says, IsNumber, IsVersionObject, IsVersion}
 use Rattle.control_reader.specs.Parts.{AreControls, triple}
 use Rattle.control_reader.specs.Versions.{is_number_term, is_version, is_other_version, first_version}
 use Rattle.control_reader.proofs.TermTests.{term_same, term_itself, term_is}

@@ -42,6 +42,9 @@ triple_same a b h =
 triple_tied : (a b : Triple) → a ≡ b → length_triple_order a b ≡ Equal
 triple_tied a b e = subst (λ (t : Triple). length_triple_order a t ≡ Equal) e (tied_itself length_triple_total a)
 
+pub length_triple_equal : (a b : Triple) → (length_triple_order a b ≡ Equal) ↔ (a ≡ b)
+length_triple_equal a b = (triple_same a b, triple_tied a b)
+
 -- a test of equality answers what the order does
 pub length_triple_ties : (a b : Triple) → triple_eq a b ≡ is_eq (length_triple_order a b)
 length_triple_ties a b =

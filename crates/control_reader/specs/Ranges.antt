@@ -44,6 +44,6 @@ is_before with_equal Greater = false
 abbrev pub goes_before : Bool → Term → Term → Triple → Bool
 goes_before with_equal subject predicate t = is_before with_equal (ordering_then (length_order t.subject subject) (length_order t.predicate predicate))
 
--- the object stands before this one
-abbrev pub is_object_before : Term → Triple → Bool
-is_object_before object t = is_before false (length_order t.object object)
+-- the triple stands before this one
+abbrev pub is_triple_before : Triple → Triple → Bool
+is_triple_before sought t = is_before false (length_triple_order t sought)

@@ -11,10 +11,10 @@ ghost use Rattle.control_reader.specs.Controls.{Says};
 ghost use Rattle.control_reader.specs.Parts.{borrowed_triples, objects_in, is_about_in, has_about, abouts, abouts_of, control_of, AreControls, triple};
 ghost use Rattle.control_reader.specs.Contents.{page_triples};
 ghost use Rattle.control_reader.specs.Marks.{marked};
-ghost use Rattle.control_reader.specs.Ranges.{holds_term, goes_before, is_object_before, length_order, length_triple_order};
+ghost use Rattle.control_reader.specs.Ranges.{holds_term, goes_before, is_triple_before, length_order, length_triple_order};
 
 use crate::contents::add_mark;
-use crate::order::{compare, compare_pair, compare_triples};
+use crate::order::{compare_pair, compare_terms, compare_triples};
 use crate::topic::GraphTopic;
 use rdf_terms::{Quad, Term, Triple};
 use std::alloc::Global;
@@ -175,19 +175,31 @@ fn range_of<'b, 'a>(triples: &'b [&'a Triple], subject: &Term, predicate: &Term)
     &triples[from..to]
 }
 
-fn is_object_before(triple: &Triple, object: &Term) -> bool
-    ensures { result ≡ is_object_before object.now triple.now }
+/// Whether the triple stands before the one of these terms.
+fn is_triple_before(triple: &Triple, subject: &Term, predicate: &Term, object: &Term) -> bool
+    ensures { result ≡ is_triple_before (record { subject = subject.now; predicate = predicate.now; object = object.now }) triple.now }
 {
-    matches!(compare(&triple.object, object), Ordering::Less)
+    matches!(
+        compare_terms(triple, subject, predicate, object),
+        Ordering::Less
+    )
 }
 
-/// Whether one of the triples, which stand in the order of their objects, has this object.
-pub(crate) fn has_object(triples: &[&Triple], object: &Term) -> bool
-    requires { IsStrictlySortedBy length_order (objects_in triples.now) }
-    ensures { IsTrue result ↔ Contains (objects_in triples.now) object.now }
+/// Whether the triple is the one of these terms.
+fn is_triple(triple: &Triple, subject: &Term, predicate: &Term, object: &Term) -> bool
+    ensures { IsTrue result ↔ (triple.now ≡ record { subject = subject.now; predicate = predicate.now; object = object.now }) }
 {
-    let place = triples.partition_point(|triple| is_object_before(triple, object));
-    place < triples.len() && triples[place].object.same(object)
+    triple.subject.same(subject) && triple.predicate.same(predicate) && triple.object.same(object)
+}
+
+/// Whether one of the triples, which stand in their order, is the one of these terms: one search, where their range takes
+/// two.
+fn has_triple(triples: &[&Triple], subject: &Term, predicate: &Term, object: &Term) -> bool
+    requires { IsStrictlySortedBy length_triple_order (borrowed_triples triples.now) }
+    ensures { IsTrue result ↔ Contains (borrowed_triples triples.now) (triple subject.now predicate.now object.now) }
+{
+    let place = triples.partition_point(|one| is_triple_before(one, subject, predicate, object));
+    place < triples.len() && is_triple(triples[place], subject, predicate, object)
 }
 
 impl<'a> Controls<'a> {
@@ -232,6 +244,6 @@ impl<'a> Controls<'a> {
     pub(crate) fn holds(&self, subject: &Term, predicate: &Term, object: &Term) -> bool
         ensures { IsTrue result ↔ Says self.now.quads self.now.topic subject.now predicate.now object.now }
     {
-        has_object(self.objects(subject, predicate), object)
+        has_triple(self.triples(), subject, predicate, object)
     }
 }

@@ -40,13 +40,29 @@ pub(crate) fn compare(a: &Term, b: &Term) -> Ordering
     }
 }
 
-/// Predicate, then object.
-fn compare_ends(a: &Triple, b: &Triple) -> Ordering
-    ensures { result ≡ ordering_then (length_order a.now.predicate b.now.predicate) (length_order a.now.object b.now.object) }
+/// The predicate and the object of a triple beside these.
+fn compare_ends(triple: &Triple, predicate: &Term, object: &Term) -> Ordering
+    ensures { result ≡ ordering_then (length_order triple.now.predicate predicate.now) (length_order triple.now.object object.now) }
 {
-    match compare(&a.predicate, &b.predicate) {
+    match compare(&triple.predicate, predicate) {
         Ordering::Less => Ordering::Less,
-        Ordering::Equal => compare(&a.object, &b.object),
+        Ordering::Equal => compare(&triple.object, object),
+        Ordering::Greater => Ordering::Greater,
+    }
+}
+
+/// The subject, the predicate and the object of a triple beside these.
+pub(crate) fn compare_terms(
+    triple: &Triple,
+    subject: &Term,
+    predicate: &Term,
+    object: &Term,
+) -> Ordering
+    ensures { result ≡ length_triple_order triple.now (record { subject = subject.now; predicate = predicate.now; object = object.now }) }
+{
+    match compare(&triple.subject, subject) {
+        Ordering::Less => Ordering::Less,
+        Ordering::Equal => compare_ends(triple, predicate, object),
         Ordering::Greater => Ordering::Greater,
     }
 }
@@ -55,11 +71,7 @@ fn compare_ends(a: &Triple, b: &Triple) -> Ordering
 pub(crate) fn compare_triples(a: &Triple, b: &Triple) -> Ordering
     ensures { result ≡ length_triple_order a.now b.now }
 {
-    match compare(&a.subject, &b.subject) {
-        Ordering::Less => Ordering::Less,
-        Ordering::Equal => compare_ends(a, b),
-        Ordering::Greater => Ordering::Greater,
-    }
+    compare_terms(a, &b.subject, &b.predicate, &b.object)
 }
 
 /// The subject and the predicate of a triple beside these.

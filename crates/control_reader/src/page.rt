@@ -55,10 +55,10 @@ pub struct Page {
     pub version: Option<u64>,
 }
 
-/// Why a body is no page, in the order in which the first that applies is told.
+/// Why a body is no page. The first that applies, in this order, is told.
 #[derive(Clone, Copy, Debug, PartialEq, Eq)]
 pub enum PageFault {
-    /// It is no N-Quads text, or a term's canonical text has more than 4194304 bytes.
+    /// It is no N-Quads text, or a term's canonical text has more than 4194304 bytes, or a label more than 1024.
     Text,
     /// No named graph tells what it is about, or they tell several things and none is the page.
     NoTopic,
@@ -76,7 +76,7 @@ pub enum PageFault {
     ForeignLink,
     /// A triple of the page holds a blank node.
     BlankData,
-    /// There was not enough memory.
+    /// Memory ran out.
     OutOfMemory,
 }
 

@@ -134,7 +134,7 @@ fn read_exactly(alloc: Global, body: &[u8], address: &WebAddress) -> Result<Page
 /// Reads the page that stands under an address from the body of its reply (Triple Pattern Fragments, "Data", "Metadata"
 /// and "Controls"). Which quads occur decides, and not their order.
 ///
-/// The first fault that the body has, in the order of `PageFault`, is told. `OutOfMemory` comes for want of memory alone.
+/// The first fault that the body has, in the order of `PageFault`, is told. `OutOfMemory` comes only when memory ran out.
 pub fn read_page(alloc: Global, body: &[u8], address: &WebAddress) -> Result<Page, PageFault>
     // What is taken, and what is refused.
     ensures taken { IfOk result (Takes body.now address.now) }

@@ -1,10 +1,7 @@
 -- A reply that runs to the close keeps nothing: a whole reply that keeps the link is whole before the end.
-use Rattle.std.proofs.Common.{◌≡◌, ℕ, ◌+◌, ◌-◌, ◌==◌, Bool, true, false, not, List, [], ◌∷◌, ◌++◌, length, refl, sym, ap, ◌∙◌, if◌then◌else◌, Option, Some, None, inl, inr}
-use Rattle.std.specs.Prelude.{◌&&◌, ◌⊎◌, nat_le, nat_lt, codes}
-use Rattle.std.specs.List.{list_any}
-use Rattle.httparse.specs.Grammar.{ResponseHead, status_code}
-use Rattle.tpf_base.specs.HttpHeads.{ends_empty, field_lines, says_close, pairs_of, values_of}
-use Rattle.tpf_base.specs.HttpReply.{ReplyFault, BadHead, BadStatus, BadMediaType, BadCoding, BadFraming, TooLong, gathering, is_nquads, is_coding, is_interim, heads_limit, line_limit, Place, InHeads, InSized, InUnsized, InLine, InChunk, AtReturn, AtNewline, InTrailer, Finished, Failed, Gathered, with_byte, with_extra, HeadRead, IsRefused, Framing, Sized, Chunked, ToClose, framing_read, framing_of, keeps_open, final_head, body_place, head_place, response_head, after_head_byte, after_line_byte, after_trailer_byte, line_place, chunk_size, is_over, is_padded, unless, Reading, Whole, begun, is_open, one_more, at_the_end, after_byte, reading_from, reply_of}
+use Rattle.std.proofs.Common.{◌≡◌, ℕ, ◌+◌, Bool, true, false, List, [], ◌∷◌, refl, sym, ap, ◌∙◌, inl, inr}
+use Rattle.std.specs.Prelude.{◌⊎◌}
+use Rattle.tpf_base.specs.HttpReply.{Place, InHeads, InSized, InUnsized, InLine, InChunk, AtReturn, AtNewline, InTrailer, Finished, Failed, Reading, Whole, begun, is_open, one_more, at_the_end, after_byte, reading_from, reply_of}
 use Rattle.http_wire.proofs.RunLemmas.{over_reading, open_reading}
 use Rattle.http_wire.proofs.KeepingLemmas.{KeepsNothing, byte_keeps_nothing}
 use Rattle.http_ends.specs.Answers.{KeptBeforeTheEnd}

@@ -1,6 +1,19 @@
 //! What one end of HTTP writes, the other reads: the laws that join the request texts of a client
 //! with the heads that a server finds, and the answers of a server with the replies that a client
 //! reads (RFC 9112).
+//!
+//! A law is a function that does nothing: what its contract says is known where it was called. So a
+//! law above this crate calls those that it rests on:
+//!
+//! ```rust
+//! pub fn an_honest_reply_is_refused_as_too_long_alone()
+//!     ensures { RefusedAsTooLongAlone }
+//! {
+//!     a_response_is_cut();
+//!     an_answer_is_read();
+//!     a_reading_stays();
+//! }
+//! ```
 #![tactic(auto)]
 
 ghost use Rattle.http_ends.specs.Answers.{AnswersAreRead, AnswersHaveStatus, HeadsAreShort, KeptBeforeTheEnd, LongHeadsAreRefused, PagesAreNQuads, ReadingsStay, ServerAnswersAreRead};
@@ -8,14 +21,14 @@ ghost use Rattle.http_ends.specs.Cuts.{NextAnswerIsCut, PartsAreNotOwed, Replies
 ghost use Rattle.http_ends.specs.Requests.{AddressesArePlain, PartsHaveNone, PiecesAreRequests, RequestIsRead, RequestsAreCut, RequestsDiffer};
 
 /// The request for an address of at most 4194304 bytes is read as the GET of its target, which does
-/// not close, and of exactly its length, whatever follows it; a proper front of it is no request
+/// not close, and of exactly its length, whatever follows it; a proper prefix of it is no request
 /// yet. It ends at its only empty line (RFC 9112, sections 2.2 and 3).
 pub fn a_request_is_read()
     ensures { RequestIsRead }
 {}
 
 /// The authority and the target of an address have no space, CR or LF (`plain`), so requests are
-/// told apart: equal bytes begin with equal requests, and none is a proper front of another
+/// told apart: equal bytes begin with equal requests, and none is a proper prefix of another
 /// (`differ`, `part`). The bytes of a link are whole requests and a rest without one in one way
 /// (`once`), and are cut so behind each empty line (`pieces`).
 pub fn requests_are_cut()
@@ -27,7 +40,7 @@ pub fn requests_are_cut()
 {}
 
 /// An answer of N-Quads with status 200 whose body is within the limit is read as its body, of exactly
-/// its length, whatever follows it, and each proper front of it wants more; any other answer is refused
+/// its length, whatever follows it, and each proper prefix of it wants more; any other answer is refused
 /// as soon as its head stands, by its status, by its media type or as too long (`read`, `refused`). A
 /// head is within the limit of heads unless its body's length has tens of thousands of digits
 /// (`short`), so each answer of a server is read so (`server`, `status`). An answer with status 200 is

@@ -1,8 +1,8 @@
 -- What is read of the bytes of a reply is what a feed gives.
-use Rattle.std.proofs.Common.{◌≡◌, ℕ, suc, ◌+◌, ◌≤◌, Bool, true, false, List, [], ◌∷◌, length, take, Some, refl, sym, ap, ◌∙◌, subst, arith, if◌then◌else◌}
+use Rattle.std.proofs.Common.{◌≡◌, ℕ, suc, ◌+◌, ◌≤◌, Bool, true, false, List, [], ◌∷◌, length, take, Some, refl, sym, ap, ◌∙◌, subst, arith}
 use Rattle.tpf_base.specs.HttpReply.{Place, InHeads, InSized, InUnsized, InLine, InChunk, AtReturn, AtNewline, InTrailer, Finished, Failed, Reading, More, Whole, Bad, one_more, is_open, after_byte, after_bytes, reading_from, at_the_end}
 use Rattle.http_wire.specs.Replies.{reply_at}
-use Rattle.http_wire.specs.Laws.{place_behind, IsGiven, WhatIsReadIsGiven}
+use Rattle.http_wire.specs.Laws.{place_behind, WhatIsReadIsGiven}
 use Rattle.http_wire.proofs.RunLemmas.{over_bytes, over_reading, open_reading}
 
 -- the place behind at most so many bytes gives what was read

@@ -35,10 +35,6 @@ ends_empty_front xs ys zero h = refl
 ends_empty_front xs ys (suc zero) h = refl
 ends_empty_front xs ys (suc (suc n)) h = ends_empty_within xs ys (suc (suc n)) (omega arith) h
 
--- more bytes move no end of a head
-pub head_length_front : (xs ys : List ℕ) → least_below (length xs + 1) (ends_empty (xs ++ ys)) ≡ head_length xs
-head_length_front xs ys = least_same (length xs + 1) (ends_empty (xs ++ ys)) (ends_empty xs) (λ k h. ends_empty_front xs ys k (omega arith))
-
 least_case : (n : ℕ) (o : Option ℕ) (v : Bool) (k : ℕ) → ((j : ℕ) → o ≡ Some j → j < n) → or_this o v n ≡ Some k → k < suc n
 least_case n None true k before f = let same : n ≡ k = cc in omega arith
 least_case n None false k before f = absurd cc

@@ -1,6 +1,6 @@
 -- Laws of replies: what is read of their bytes is what a feed gives, and they want only so many bytes.
 use Rattle.std.specs.Prelude.{ℕ, ◌≡◌, ◌+◌, ◌*◌, ◌<◌, ◌≤◌, Bool, true, List, length, take, Some, if◌then◌else◌}
-use Rattle.tpf_base.specs.HttpReply.{Place, Failed, Reading, More, Whole, Bad, is_open, after_bytes, reading_from, reply_of}
+use Rattle.tpf_base.specs.HttpReply.{Place, Failed, More, Whole, Bad, is_open, after_bytes, reading_from, reply_of}
 use Rattle.tpf_base.specs.HttpReply as reply
 use Rattle.http_wire.specs.Replies.{closed_at, reply_at}
 

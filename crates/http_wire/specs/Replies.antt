@@ -1,7 +1,7 @@
 -- What a reply feed holds, and what it answers.
 use Rattle.std.specs.Prelude.{◌≡◌, ◌+◌, ◌++◌, ℕ, Bool, List, [], drop, false, Option, Some, None, if◌then◌else◌}
 use Rattle.tpf_base.specs.HttpReply as reply
-use Rattle.tpf_base.specs.HttpReply.{Place, InHeads, InSized, InUnsized, InLine, InChunk, AtReturn, AtNewline, InTrailer, Finished, Failed, Gathered, gathering, Reading, begun, is_open, after_bytes, reading_from, at_the_end}
+use Rattle.tpf_base.specs.HttpReply.{Place, InHeads, InSized, InUnsized, InLine, InChunk, AtReturn, AtNewline, InTrailer, Finished, Failed, Reading, begun, is_open, after_bytes, reading_from}
 use Rattle.http_wire.specs.declared.message.ReplyFault.{ReplyFault}
 use Rattle.http_wire.specs.declared.message.ReplyFault.TheVariants.{Head, Status, MediaType, Coding, Framing, TooLong}
 use Rattle.http_wire.specs.declared.message.Fed.{Fed}

@@ -1,6 +1,6 @@
 // Chunk lines (RFC 9112, section 7.1), by a grammar of this project: one to fifteen digits, any
 // blanks, and nothing or a semicolon and an extension.
-ghost use Rattle.std.specs.Prelude.{ℕ, ◌≡◌, ◌≤◌, ◌<◌, ◌^◌, ◌&&◌, nat_lt, nat_le, length, true};
+ghost use Rattle.std.specs.Prelude.{◌≡◌, ◌<◌, ◌^◌, ◌&&◌, nat_lt, nat_le, length, true};
 ghost use Rattle.std.specs.List.{list_all};
 ghost use Rattle.std.specs.Char.{is_ascii_hexdigit, digit_value};
 ghost use Rattle.std.specs.Str.Parse.{digits_value};

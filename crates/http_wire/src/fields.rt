@@ -1,5 +1,5 @@
 // The fields of a head, by their names.
-ghost use Rattle.std.specs.Prelude.{ℕ, ◌≡◌, ◌==◌, ◌||◌, ◌<◌, ◌≤◌, List, IfSome, IsNone, length, map, reverse, not, codes, bytes_eq};
+ghost use Rattle.std.specs.Prelude.{◌≡◌, ◌==◌, ◌||◌, ◌≤◌, length, map, reverse, not, codes, bytes_eq};
 ghost use Rattle.std.specs.List.{All, list_any, position_or_len};
 ghost use Rattle.std.specs.Str.{str_eq_ignore_ascii_case};
 ghost use Rattle.httparse.specs.Grammar.{is_ows, skip_ows, trim_ows};

@@ -1,5 +1,5 @@
 // How the body of a reply is framed.
-ghost use Rattle.std.specs.Prelude.{ℕ, Some, None, IsNone, IsSome, nat_le, false, take, ◌≡◌, ◌≤◌, ◌<◌, ◌==◌, ◌&&◌, ◌||◌, ◌^◌, ◌∷◌, [], List, IsTrue, IfSome, MatchOption, not, length, map, codes, bytes_eq, true};
+ghost use Rattle.std.specs.Prelude.{ℕ, Some, None, IsNone, IsSome, nat_le, false, take, ◌≡◌, ◌≤◌, ◌<◌, ◌==◌, ◌&&◌, ◌∷◌, [], List, IfSome, MatchOption, not, length, map, codes, bytes_eq, true};
 ghost use Rattle.std.specs.List.{All, list_all, list_any, before_first};
 ghost use Rattle.std.specs.Char.{is_ascii_digit};
 ghost use Rattle.std.specs.Str.Parse.{digits_value};
@@ -94,7 +94,7 @@ fn is_number(value: &[u8]) -> bool
 
 /// The number of the digits, if it is within the limit.
 #[tactic(auto, using(crate::proofs::FramingLemmas::number_step, crate::proofs::FramingLemmas::number_front, crate::proofs::FramingLemmas::number_low))]
-fn within(digits: &[u8], limit: u64) -> Option<u64>
+fn number_within(digits: &[u8], limit: u64) -> Option<u64>
     requires { is_number digits.now ≡ true }
     ensures { MatchOption result (limit < digits_value 10 digits.now) (λ n. (n ≡ digits_value 10 digits.now) × (n ≤ limit)) }
 {
@@ -149,12 +149,12 @@ fn is_only(head: &[u8], headers: &[HeaderSpan], name: &[u8], value: &[u8], word:
     count_named(head, headers, name) == 1 && is_coding(word, value)
 }
 
-/// A body of the length of these digits.
-fn sized(digits: &[u8], keeps: bool, limit: u64) -> Next
+/// How a reply goes on whose body has the length of these digits.
+fn next_by_digits(digits: &[u8], keeps: bool, limit: u64) -> Next
     requires { is_number digits.now ≡ true }
     ensures { start_place result ≡ body_place limit (announced keeps (Some (Sized (digits_value 10 digits.now)))) }
 {
-    match within(digits, limit) {
+    match number_within(digits, limit) {
         None => Next::Refused(ReplyFault::TooLong),
         Some(n) => {
             if n == 0 {
@@ -166,8 +166,8 @@ fn sized(digits: &[u8], keeps: bool, limit: u64) -> Next
     }
 }
 
-/// The body as its Content-Length gives it.
-fn measured(head: &[u8], headers: &[HeaderSpan], keeps: bool, limit: u64) -> Next
+/// How a reply goes on whose Content-Length frames its body.
+fn next_by_length(head: &[u8], headers: &[HeaderSpan], keeps: bool, limit: u64) -> Next
     requires { All (IsHeaderWithin (length head.now)) headers.now }
     ensures { start_place result ≡ body_place limit (announced keeps (sized_by (values_of (codes "content-length") (map (header_bytes head.now) headers.now)))) }
 {
@@ -175,7 +175,7 @@ fn measured(head: &[u8], headers: &[HeaderSpan], keeps: bool, limit: u64) -> Nex
         None => Next::ToClose,
         Some(value) => {
             if is_length(head, headers, b"content-length", value) {
-                sized(value, keeps, limit)
+                next_by_digits(value, keeps, limit)
             } else {
                 Next::Refused(ReplyFault::Framing)
             }
@@ -183,13 +183,13 @@ fn measured(head: &[u8], headers: &[HeaderSpan], keeps: bool, limit: u64) -> Nex
     }
 }
 
-/// The body as the fields frame it; `keeps` where the head lets the connection be kept.
-fn framed(head: &[u8], headers: &[HeaderSpan], keeps: bool, limit: u64) -> Next
+/// How a reply goes on whose fields frame its body; `keeps` where the connection may be kept.
+fn next_by_fields(head: &[u8], headers: &[HeaderSpan], keeps: bool, limit: u64) -> Next
     requires { All (IsHeaderWithin (length head.now)) headers.now }
     ensures { start_place result ≡ body_place limit (announced keeps (framing_of (map (header_bytes head.now) headers.now))) }
 {
     match first_named(head, headers, b"transfer-encoding") {
-        None => measured(head, headers, keeps, limit),
+        None => next_by_length(head, headers, keeps, limit),
         Some(coding) => {
             if is_only(head, headers, b"transfer-encoding", coding, b"chunked") {
                 Next::Chunked(keeps)
@@ -215,7 +215,7 @@ fn final_head(head: &[u8], headers: &[HeaderSpan], version: u8, code: u16, limit
     if has_other(head, headers, b"content-encoding", b"identity") {
         return Next::Refused(ReplyFault::Coding);
     }
-    framed(
+    next_by_fields(
         head,
         headers,
         version == 1 && !says_close(head, headers),

@@ -1,5 +1,5 @@
 // Where a head begins and ends.
-ghost use Rattle.std.specs.Prelude.{ℕ, ◌≡◌, ◌+◌, ◌≤◌, ◌==◌, length, count_by, take, drop, None, IfSome};
+ghost use Rattle.std.specs.Prelude.{◌≡◌, ◌+◌, ◌≤◌, ◌==◌, length, count_by, take, drop, None, IfSome};
 ghost use Rattle.std.specs.List.{between};
 ghost use Rattle.tpf_base.specs.HttpHeads.{blank_length, ends_empty, least_below, head_length};
 

@@ -1,5 +1,5 @@
 // What becomes of one whole request head.
-ghost use Rattle.std.specs.Prelude.{◌||◌, codes, ℕ, ◌≡◌, ◌≤◌, ◌==◌, ◌&&◌, [], length, count_by, take, map, IfOk, IfSome, IsNone, Some, None};
+ghost use Rattle.std.specs.Prelude.{◌||◌, codes, ◌≡◌, ◌≤◌, ◌==◌, [], length, map, IfOk, IfSome, IsNone, Some, None};
 ghost use Rattle.std.specs.List.{All};
 ghost use Rattle.httparse.specs.Grammar.{RequestHead as HeadTree, ReadsRequest};
 ghost use Rattle.httparse.specs.Spans.{header_bytes, IsHeaderWithin, IsRequestAt, IsRequestWithin};
@@ -18,7 +18,7 @@ use tpf_base::OutOfMemory;
 /// The most field lines of a head.
 pub const MOST_FIELDS: usize = 64;
 
-fn asked(method: &[u8]) -> Asked
+fn method_of(method: &[u8]) -> Asked
     ensures { result ≡ asked_of method.now }
 {
     if method == b"GET".as_slice() {
@@ -84,7 +84,7 @@ fn request_of(
         return Ok(NextHead::Bad(400));
     }
     Ok(NextHead::Head(RequestHead {
-        method: asked(read.method.of(head)),
+        method: method_of(read.method.of(head)),
         target: target::origin_form(alloc, path)?,
         closes: closes(head, headers, read.version),
     }))

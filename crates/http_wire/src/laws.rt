@@ -27,7 +27,8 @@ pub fn a_reply_is_bounded()
     ensures most { (limit : ℕ) (bytes : List ℕ) (at_end : Bool) → reply_of bytes at_end limit ≡ More → length bytes ≤ 9 * limit + 1179648 }
 {}
 
-/// The bytes that follow a whole request, or a refusal, do not change it.
+/// The bytes that follow a whole request, or a refusal, do not change it; a request takes at least
+/// one byte, and no more than there are.
 pub fn a_request_stays()
     ensures taken { (xs ys : List ℕ) (r : Request) (n : ℕ) → next_request xs ≡ Taken r n → next_request (xs ++ ys) ≡ Taken r n }
     ensures within { (xs : List ℕ) (r : Request) (n : ℕ) → next_request xs ≡ Taken r n → (0 < n) × (n ≤ length xs) }

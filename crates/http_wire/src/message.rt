@@ -19,7 +19,9 @@ pub struct RequestHead {
     pub method: Asked,
     /// The path and the query, in the origin form of RFC 9112, section 3.2.1.
     pub target: Text,
-    /// Whether the connection ends with the answer to this request (RFC 9112, sections 6.3 and 9.6).
+    /// Whether the connection ends with the answer to this request: it is of HTTP/1.0, a Connection
+    /// field has the word `close`, or it announces a body, which is not read (RFC 9112, sections 6.3
+    /// and 9.6).
     pub closes: bool,
 }
 
@@ -33,7 +35,8 @@ pub enum NextHead {
     /// The status with which the connection ends: 431 for a head with more than 64 field lines, and
     /// for one that together with the empty lines before it has more than 4194304 bytes; 400 for
     /// what is no head of HTTP/1.0 or 1.1, a head of 1.1 without exactly one Host field, and a
-    /// target that is not answered (RFC 9110, section 15.5.1; RFC 6585, section 5).
+    /// target that begins with neither `/` nor `http://`, or has a `#` or a byte that is no visible
+    /// ASCII (RFC 9110, section 15.5.1; RFC 9112, section 3.2; RFC 6585, section 5).
     Bad(u16),
 }
 
@@ -71,11 +74,12 @@ pub enum Fed {
 pub enum ReplyFault {
     /// What is no head of a reply, or a head with more than 64 field lines.
     Head,
-    /// A status other than 200.
+    /// A status other than 200 and those of 100 to 199, which are passed over.
     Status(u16),
-    /// Not exactly one media type, or one that is not that of N-Quads.
+    /// Not exactly one Content-Type, or one that is not `application/n-quads`, in any case and with
+    /// any parameters (RFC 9110, section 8.3).
     MediaType,
-    /// A content coding other than `identity`.
+    /// A Content-Encoding other than `identity` (RFC 9110, section 8.4).
     Coding,
     /// What is not taken as a length or as chunks: a Transfer-Encoding other than one `chunked`,
     /// Content-Lengths other than the same digits, a chunk line other than one to fifteen

@@ -75,7 +75,7 @@ impl Model for ReplyFeed {
 }
 
 impl ReplyFeed {
-    /// A feed for a reply whose body has at most so many bytes. It takes no memory.
+    /// A feed for a reply whose body has at most so many bytes. It holds none, and takes no memory.
     pub fn new(alloc: Global, limit: u64) -> ReplyFeed
         ensures { result ≡ starting limit }
     {
@@ -87,8 +87,8 @@ impl ReplyFeed {
 
     /// Reads the next bytes: `Done` where the reply is whole with them, `Bad` as soon as a byte leads
     /// to a fault, and else `More`. After `Done` or `Bad` each later call answers the same, with
-    /// `used` 0, and takes no memory. It fails for want of memory alone, and the feed is then as it
-    /// was.
+    /// `used` 0, and takes no memory. It fails only when it is out of memory, and the feed is then as
+    /// it was.
     pub fn feed(&mut self, piece: &[u8]) -> Result<Fed, OutOfMemory>
         ensures ok { IfOk result (λ a. a ≡ shown (reading_from self.old.limit self.old.place piece.now false)) }
         ensures after { OnOk result (self.new ≡ fed self.old piece.now) }
@@ -125,7 +125,7 @@ impl ReplyFeed {
         self.received.as_slice()
     }
 
-    /// Gives these bytes back, and takes no memory.
+    /// Hands these bytes over, and takes no memory.
     pub fn into_received(self) -> Bytes
         ensures { result ≡ self.received }
     {

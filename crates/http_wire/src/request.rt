@@ -1,5 +1,5 @@
 // The heads of the requests of a connection, as its bytes come.
-ghost use Rattle.std.specs.Prelude.{ℕ, ◌≡◌, ◌+◌, ◌^◌, ◌<◌, ◌≤◌, ◌++◌, [], length, take, drop, IfOk, OnOk, OnErr, IfSome, None};
+ghost use Rattle.std.specs.Prelude.{◌≡◌, ◌+◌, ◌^◌, ◌<◌, ◌≤◌, ◌++◌, [], length, take, drop, IfOk, OnOk, OnErr, IfSome, None};
 ghost use Rattle.tpf_base.specs.HttpHeads.{blank_length, head_length, judged, with_length, next_request};
 ghost use Rattle.http_wire.specs.Requests.{Held, holding, refusing, fed, next_of, after_next, after_answer, shown, shown_verdict};
 ghost use Rattle.http_wire.specs.Searches.{IsSearched};
@@ -101,8 +101,8 @@ impl RequestFeed {
         Ok(())
     }
 
-    /// Takes the next bytes of the connection. Behind a refusal they are passed over. It fails for
-    /// want of memory alone, and the feed is then as it was.
+    /// Takes the next bytes of the connection. Behind a refusal they are passed over. It fails only
+    /// when it is out of memory, and the feed is then as it was.
     pub fn feed(&mut self, piece: &[u8]) -> Result<(), OutOfMemory>
         ensures ok { OnOk result (self.new ≡ fed self.old piece.now) }
         ensures err { OnErr result (self.new ≡ self.old) }
@@ -165,7 +165,7 @@ impl RequestFeed {
 
     /// What becomes of the head of `n` bytes behind the empty lines at the front.
     #[tactic(auto, using(crate::proofs::FeedLemmas::head_begins))]
-    fn judged(&self, blank: usize, n: usize) -> Result<NextHead, OutOfMemory>
+    fn verdict(&self, blank: usize, n: usize) -> Result<NextHead, OutOfMemory>
         requires blank { blank ≡ blank_length self.now.bytes }
         requires within { blank + n ≤ length self.now.bytes }
         ensures { IfOk result (λ a. a ≡ shown_verdict (judged (take n (drop blank self.now.bytes)))) }
@@ -184,7 +184,7 @@ impl RequestFeed {
         ensures after { OnOk result (self.new ≡ after_answer self.old (with_length (blank + n) (judged (take n (drop blank self.old.bytes))))) }
         ensures err { OnErr result (self.new ≡ self.old) }
     {
-        match self.judged(blank, n)? {
+        match self.verdict(blank, n)? {
             NextHead::More => Ok(NextHead::More),
             NextHead::Bad(status) => Ok(self.refuse(status)),
             NextHead::Head(head) => {
@@ -223,8 +223,8 @@ impl RequestFeed {
     /// What stands next: the first whole head, behind empty lines that are passed over; `More` where
     /// none stands whole and fewer than 4194304 bytes are held; `Bad(431)` where a head passes its
     /// limits, and `Bad(400)` where what ends like a head is none (RFC 9112, sections 2.2, 3 and
-    /// 3.2). A head that is given is held no more. After `Bad` each later call answers the same. It
-    /// fails for want of memory alone, and the feed is then as it was.
+    /// 3.2). A head that is given is held no more. After `Bad` nothing is held, and each later call
+    /// answers the same. It fails only when it is out of memory, and the feed is then as it was.
     pub fn next(&mut self) -> Result<NextHead, OutOfMemory>
         ensures ok { IfOk result (λ a. a ≡ shown (next_of self.old)) }
         ensures after { OnOk result (self.new ≡ after_next self.old) }

@@ -1,5 +1,5 @@
 // The target of a request.
-ghost use Rattle.std.specs.Prelude.{ℕ, ◌≡◌, ◌==◌, ◌&&◌, nat_le, not, codes, drop, true, IfOk};
+ghost use Rattle.std.specs.Prelude.{◌≡◌, ◌==◌, ◌&&◌, nat_le, not, drop, true, IfOk};
 ghost use Rattle.std.specs.Str.{IsAscii};
 ghost use Rattle.tpf_base.specs.HttpHeads.{begins_with, are_visible, is_target, from_path, with_path, origin_form};
 

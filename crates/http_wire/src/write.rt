@@ -1,5 +1,5 @@
 // The bytes of a request and of the head of an answer.
-ghost use Rattle.std.specs.Prelude.{ℕ, List, ◌≡◌, ◌++◌, ◌∷◌, [], length, take, unwrap_or, OnOk, OnErr};
+ghost use Rattle.std.specs.Prelude.{◌≡◌, ◌++◌, [], length, take, unwrap_or, OnOk, OnErr};
 ghost use Rattle.std.specs.List.{flat_map};
 ghost use Rattle.http.specs.StatusCode.{reason_phrase, code_digits};
 ghost use Rattle.tpf_base.specs.HttpText.{answer_head, status_line, field_line, request_text};
@@ -30,7 +30,7 @@ fn append_parts(out: &mut Vec<u8>, parts: &[&[u8]]) -> Result<(), OutOfMemory>
     Ok(())
 }
 
-/// Appends these parts, or nothing where memory is wanting.
+/// Appends these parts; out of memory, nothing is appended.
 fn append_all(out: &mut Vec<u8>, parts: &[&[u8]]) -> Result<(), OutOfMemory>
     ensures ok { OnOk result (out.new.items ≡ out.old.items ++ flat_map (λ p. p.now) parts.now) }
     ensures err { OnErr result (out.new.items ≡ out.old.items) }
@@ -44,8 +44,8 @@ fn append_all(out: &mut Vec<u8>, parts: &[&[u8]]) -> Result<(), OutOfMemory>
     done
 }
 
-/// Appends the request for a target of an authority (RFC 9112, section 3). Nothing is appended
-/// where memory is wanting.
+/// Appends a GET request for a target of an authority, which its Host field names; it accepts N-Quads
+/// (RFC 9112, section 3). Out of memory, nothing is appended.
 #[tactic(auto, using(crate::proofs::WriteLemmas::request_is))]
 pub fn write_request(authority: &str, target: &str, out: &mut Vec<u8>) -> Result<(), OutOfMemory>
     ensures ok { OnOk result (out.new.items ≡ out.old.items ++ request_text authority.now target.now) }
@@ -115,8 +115,9 @@ fn append_head(
     Ok(())
 }
 
-/// Appends the head of an answer (RFC 9112, sections 4 and 5): the status line, each field in
-/// order, and the empty line. Nothing is appended where memory is wanting.
+/// Appends the head of an answer (RFC 9112, sections 4 and 5): the status line with the phrase that
+/// is registered for the status, each field in order, and the empty line. Out of memory, nothing is
+/// appended.
 pub fn write_head(
     status: StatusCode,
     fields: &[Field],

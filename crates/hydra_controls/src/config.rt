@@ -32,9 +32,9 @@ impl Model for Config {
 }
 
 impl Config {
-    /// Fragments whose template stands after this base, on pages of so many triples, of data that no
-    /// request has read again. `None` exactly where the base has a query part, or the page size is not
-    /// 1 to 1000.
+    /// Fragments whose template stands after this base, on pages of so many triples, without a path on
+    /// which a request has the data read again. `None` exactly where the base has a query part, or the
+    /// page size is not 1 to 1000. It takes no memory.
     pub fn new(base: WebAddress, page_size: u64) -> Option<Config>
         ensures config { IfSome result (λ config. (config.base ≡ base) × (config.page_size ≡ page_size) × (config.reload ≡ None)) }
         ensures valid { IfSome result IsConfig }
@@ -53,7 +53,7 @@ impl Config {
 
     /// The same, with a path on which a request by another method than GET and HEAD has the data read
     /// again. `None` exactly where the text is no written path, which is `/` and characters of a path,
-    /// or is the base's path. It takes no memory.
+    /// or is the base's path; then the config is dropped with the path. It takes no memory.
     pub fn with_reload(self, path: Text) -> Option<Config>
         ensures config { IfSome result (λ config. config ≡ with_reload self path) }
         ensures valid { IfSome result IsConfig }

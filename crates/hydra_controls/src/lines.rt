@@ -101,7 +101,7 @@ impl MetadataLines {
     /// triples, in data of this version (Triple Pattern Fragments, "Metadata" and "Controls"). No fixed
     /// place is a blank node, and the page is 1 or more.
     ///
-    /// `OutOfMemory` comes for want of memory alone.
+    /// `OutOfMemory` comes only when memory ran out.
     pub fn new(
         alloc: Global,
         config: &Config,
@@ -162,7 +162,7 @@ impl MetadataLines {
     }
 
     /// Appends the line in this place, its end LF with it (N-Quads, canonical form). After
-    /// `OutOfMemory`, which comes for want of memory alone, `out` is as before.
+    /// `OutOfMemory`, which comes only when memory ran out, `out` is as before.
     #[tactic(auto, using(list_laws::proofs::Begins::cut_back))]
     pub fn write(&self, i: usize, out: &mut Vec<u8>) -> Result<(), OutOfMemory>
         requires { i < length self.now }
@@ -174,7 +174,7 @@ impl MetadataLines {
         taken_back(written, before, out)
     }
 
-    /// The quads. `OutOfMemory` comes for want of memory alone.
+    /// The quads. `OutOfMemory` comes only when memory ran out.
     pub fn quads(&self, alloc: Global) -> Result<Vec<Quad>, OutOfMemory>
         ensures { IfOk result (λ quads. quads.items ≡ self.now) }
     {

@@ -17,7 +17,7 @@ use tpf_base::OutOfMemory;
 /// the base with the fixed places in a query part, and above page 1 with `page=` and the number.
 /// Its authority is that of the base. No fixed place is a blank node, and the page is 1 or more.
 ///
-/// `OutOfMemory` comes for want of memory alone.
+/// `OutOfMemory` comes only when memory ran out.
 pub fn address(
     alloc: Global,
     config: &Config,
@@ -49,7 +49,7 @@ pub(crate) fn last_page(count: u64, size: u64) -> u64
 ///
 /// Each quad has its own terms, so the page's address stands in them 27 times and more;
 /// [`MetadataLines`] are the same quads as lines that are made one by one. No fixed place is a blank
-/// node, and the page is one of 1 to the fragment's last. `OutOfMemory` comes for want of memory alone.
+/// node, and the page is one of 1 to the fragment's last. `OutOfMemory` comes only when memory ran out.
 pub fn metadata(
     alloc: Global,
     config: &Config,

@@ -15,7 +15,7 @@ use Rattle.nquads_text.specs.Scan.{opened, is_label_byte, label_len, is_tag_byte
 use Rattle.nquads_text.specs.Raw.{label_part, tag_part}
 use Rattle.nquads_text.specs.Grammar.{ReadsLabel, ReadsTag}
 use Rattle.nquads_text.proofs.TagTexts.{tag_bytes}
-use Rattle.nquads_text.proofs.Bodies.{opened_some, take_drop}
+use Rattle.nquads_text.proofs.Items.{opened_some, take_drop}
 
 -- ---- what a label is made of
 

@@ -1,3 +1,4 @@
+pub mod Items
 pub mod Bodies
 pub mod Forms
 pub mod Lengths
@@ -22,3 +23,4 @@ pub mod Written
 pub mod EndedLaws
 pub mod Loads
 pub mod Plain
+pub mod Schemes

@@ -5,7 +5,8 @@ use Rattle.nquads_text.specs.declared.scan.Awaits.TheVariants.{Item}
 use Rattle.nquads_text.specs.Grammar.{is_form_byte}
 use Rattle.nquads_text.specs.Runs.{PassesFrom}
 use Rattle.nquads_text.specs.Scan.{iri_end, form_end}
-use Rattle.nquads_text.proofs.Bodies.{plain_step, iri_goes, iri_not}
+use Rattle.nquads_text.proofs.Items.{plain_step}
+use Rattle.nquads_text.proofs.Bodies.{iri_goes, iri_not}
 use Rattle.nquads_text.proofs.Forms.{form_goes, form_not}
 
 iri_passed : (i : ℕ) (d : List ℕ) (n : ℕ) → n ≤ length d → ((k : ℕ) → k < n → is_iri_byte (slice_index d k) ≡ true) → iri_end Item i d ≡ iri_end Item (i + n) (drop n d)

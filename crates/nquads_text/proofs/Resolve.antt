@@ -9,7 +9,7 @@ use Rattle.nquads_text.specs.Scan.{digits_left}
 use Rattle.nquads_text.specs.Grammar.{is_form_byte, is_short_escape, AreDigits, IsNumeric, all_of, Each, AreItems}
 use Rattle.nquads_text.specs.Meaning.{hex_value, is_scalar, is_nameable, named, item_value, items_value, IsItem, MeansText, HasBadEscape}
 use Rattle.nquads_text.specs.Escape.{Resolving, more_digits, with_named, resolve_from, resolved}
-use Rattle.nquads_text.proofs.Bodies.{some_left}
+use Rattle.nquads_text.proofs.Items.{some_left}
 
 -- ---- digits
 

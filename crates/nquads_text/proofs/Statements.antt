@@ -15,7 +15,8 @@ use Rattle.rdf_terms.specs.declared.term.Kind.TheVariants.{Typed, Tagged}
 use Rattle.nquads_text.specs.Grammar.{is_blank, SkipsBlanks, ReadsDatatype, ReadsKind, ReadsTerm, ReadsGraph, IsComment, HasNoStatement, IsStatement}
 use Rattle.nquads_text.specs.Scan.{skipped, opened, is_over}
 use Rattle.nquads_text.specs.Raw.{iri_part, form_part, label_part, tag_part, datatype_part, or_plain, kind_part, literal_part, node_part, object_part, or_none, graph_part, statement_of}
-use Rattle.nquads_text.proofs.Bodies.{iri_part-some, opened_some}
+use Rattle.nquads_text.proofs.Items.{opened_some}
+use Rattle.nquads_text.proofs.Bodies.{iri_part-some}
 use Rattle.nquads_text.proofs.Forms.{form_part-some}
 use Rattle.nquads_text.proofs.Labels.{label_some, tag_some}
 

@@ -2,12 +2,13 @@
 use std::alloc::{AllocError, AllocFailed};
 use tpf_base::OutOfMemory;
 
-/// The faults of a line. The first of them in this order is told (RDF 1.1 N-Quads 4).
+/// The faults of a line, by the grammar (RDF 1.1 N-Quads 4) and by the limits of the reader. The first of them in this
+/// order is told.
 #[derive(Clone, Copy, Debug, PartialEq, Eq)]
 pub enum Why {
     /// The line's bytes are not UTF-8.
     Utf8,
-    /// The line has something, and it is no statement and no comment.
+    /// The line is neither blank nor a comment, and no statement.
     Statement,
     /// A numeric escape names a surrogate or more than U+10FFFF, or in an IRI a character that an IRI may not hold.
     Escape,
@@ -22,7 +23,7 @@ pub enum Why {
 /// Why a text is not read.
 #[derive(Clone, Copy, Debug, PartialEq, Eq)]
 pub enum TextFault {
-    /// The first line with a fault, counted from 1, and its first fault. The count stands still at the type's end.
+    /// The first line with a fault, counted from 1, and its first fault. A number above `u64::MAX` is told as that.
     Bad { line: u64, why: Why },
     /// Memory ran out.
     OutOfMemory,

@@ -218,7 +218,7 @@ impl QuadFeed {
 
     /// Takes the next piece of the text. Each line that has ended is read, and the line that has no end yet is kept. So `Bad`
     /// comes at the latest with the piece in which the first line with a fault ends, and it stands however the text goes on.
-    /// After a refusal, `OutOfMemory` for want of memory among them, each later call answers the same.
+    /// After a refusal each later call answers the same; `OutOfMemory`, which comes only when memory ran out, is one.
     pub fn feed(&mut self, piece: &[u8]) -> Result<(), TextFault>
         // After a refusal.
         ensures again { IfSome self.old.fault (λ e. (result ≡ Err e) × (self.new ≡ self.old)) }
@@ -245,7 +245,7 @@ impl QuadFeed {
     }
 
     /// The quads of all that was fed, in their order, or its first line with a fault and the first fault of that. After a
-    /// refusal it answers the same; `OutOfMemory` comes for want of memory alone.
+    /// refusal it answers the same; `OutOfMemory` comes only when memory ran out.
     pub fn finish(self) -> Result<Vec<Quad>, TextFault>
         ensures again { IfSome self.fault (λ e. result ≡ Err e) }
         ensures read { self.fault ≡ None → IfOk result (λ v. ReadsWith self [] v.items) }

@@ -20,8 +20,8 @@ use std::alloc::Global;
 use std::str;
 use tpf_base::{OutOfMemory, Text};
 
-/// What follows a form. xsd:string is left out and a tag is in lower case; a datatype may be no IRI with a scheme yet, or
-/// rdf:langString.
+/// What follows a lexical form. xsd:string is left out and a tag is in lower case; a datatype may be no IRI with a scheme
+/// yet, or rdf:langString.
 #[derive(Drop)]
 pub enum LooseKind {
     Plain,
@@ -44,6 +44,18 @@ pub struct LooseQuad {
     pub predicate: LooseTerm,
     pub object: LooseTerm,
     pub graph: Option<LooseTerm>,
+}
+
+/// Whether an IRI has a scheme. Most have that of HTTP, which is told without a walk to the colon.
+#[tactic(auto, using(crate::proofs::Schemes::http_goes))]
+fn is_absolute(text: &str) -> bool
+    ensures { result ≡ has_scheme text.now }
+{
+    let bytes = text.as_bytes();
+    if bytes.starts_with(b"http:") {
+        return true;
+    }
+    has_scheme(bytes)
 }
 
 fn typed(text: Text) -> LooseKind
@@ -159,7 +171,7 @@ impl LooseKind {
     {
         match self {
             LooseKind::Plain => false,
-            LooseKind::Typed(datatype) => !has_scheme(datatype.as_str().as_bytes()),
+            LooseKind::Typed(datatype) => !is_absolute(datatype.as_str()),
             LooseKind::Tagged(_) => false,
         }
     }
@@ -197,7 +209,7 @@ impl LooseTerm {
         ensures { result ≡ is_relative (loose_term self.now) }
     {
         match self {
-            LooseTerm::Iri(text) => !has_scheme(text.as_str().as_bytes()),
+            LooseTerm::Iri(text) => !is_absolute(text.as_str()),
             LooseTerm::Blank(_) => false,
             LooseTerm::Literal { form: _, kind } => kind.is_relative(),
         }

@@ -8,7 +8,7 @@ use crate::scan::{
     form_end, iri_end, is_label, is_over, is_tag, label_len, opened, skipped, tag_len,
 };
 
-/// What follows a form, as written.
+/// What follows a form, the string between the quotes of a literal, as written.
 #[derive(Clone, Copy)]
 pub enum RawKind<'a> {
     Plain,

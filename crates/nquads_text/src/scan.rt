@@ -56,7 +56,8 @@ fn is_hex(b: u8) -> bool
     b.is_ascii_hexdigit()
 }
 
-/// The test of `rdf_terms::is_iri_byte`, small letters first: it is made of nearly each byte of the data.
+/// The test of `rdf_terms::is_iri_byte`. Small letters come first, since most of the bytes that it is made of are such:
+/// those of an IRI that are not passed over sixteen at a time.
 pub fn is_iri_byte(b: u8) -> bool
     ensures { result ≡ is_iri_byte b }
 {
@@ -68,6 +69,7 @@ pub fn is_iri_byte(b: u8) -> bool
             )
 }
 
+/// Whether a byte stands for itself in a form: all but the quote, the backslash, LF and CR.
 pub fn is_form_byte(b: u8) -> bool
     ensures { result ≡ is_form_byte b }
 {
@@ -80,7 +82,7 @@ fn is_short_escape(b: u8) -> bool
     matches!(b, b't' | b'b' | b'n' | b'r' | b'f' | b'"' | b'\'' | b'\\')
 }
 
-/// What the text between two marks awaits.
+/// What the text between two marks, `<` and `>` of an IRI or two quotes, awaits. An item is a character or an escape.
 #[derive(Clone, Copy)]
 pub enum Awaits {
     /// An item.
@@ -91,6 +93,7 @@ pub enum Awaits {
     Digits(u8),
 }
 
+/// Whether an item is awaited.
 pub fn is_item(awaits: Awaits) -> bool
     ensures { result ≡ is_item awaits }
 {
@@ -196,7 +199,7 @@ pub fn iri_end(bytes: &[u8]) -> Option<usize>
     iri_end_from(bytes, iri_run_end(bytes))
 }
 
-/// The place of the quote that ends a form, from a place where an item may begin.
+/// The place of the quote that ends a form, the string of a literal, from a place where an item may begin.
 fn form_end_from(bytes: &[u8], from: usize) -> Option<usize>
     requires { from ≤ length bytes.now }
     ensures place { result ≡ form_end Item from (drop from bytes.now) }

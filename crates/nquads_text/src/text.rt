@@ -16,7 +16,7 @@ use memchr::memchr2;
 use rdf_terms::Quad;
 use std::alloc::Global;
 
-/// The place of the first LF or CR.
+/// The place of the first line feed or carriage return (N-Quads, EOL), LF and CR below.
 pub fn line_end(bytes: &[u8]) -> Option<usize>
     ensures place { result ≡ line_end 0 bytes.now }
     ensures within { IfSome result (λ n. n < length bytes.now) }
@@ -114,9 +114,9 @@ fn read_exactly(alloc: Global, bytes: &[u8], longest: usize) -> Result<Vec<Quad>
     read_rest(alloc, longest, Vec::new(alloc), 1, bytes)
 }
 
-/// Reads a whole text (RDF 1.1 N-Quads): its quads in their order. `Bad` tells the first line with a fault and its first
-/// fault, a term being too long whose canonical text has more than `longest` bytes. `OutOfMemory` comes for want of memory
-/// alone. After a fault nothing of the text is kept.
+/// Reads a whole text (RDF 1.1 N-Quads): its quads in their order. `Bad` tells the first line with a fault and the first
+/// fault of that line, in the order of `Why`. A term is too long whose canonical text has more than `longest` bytes.
+/// `OutOfMemory` comes only when memory ran out. After a fault nothing of the text is kept.
 pub fn read_all(alloc: Global, bytes: &[u8], longest: usize) -> Result<Vec<Quad>, TextFault>
     // What is read.
     ensures read { IfOk result (λ v. Reads bytes.now longest v.items) }

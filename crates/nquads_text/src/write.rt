@@ -205,7 +205,8 @@ fn taken_back(
     written
 }
 
-/// Appends the canonical text of a term. After `OutOfMemory`, which comes for want of memory alone, `out` is as before.
+/// Appends the canonical text of a term (RDF 1.1 N-Triples 4). After `OutOfMemory`, which comes only when memory ran out,
+/// `out` is as before.
 #[tactic(auto, using(list_laws::proofs::Begins::cut_back))]
 pub fn canonical(term: &Term, out: &mut Vec<u8>) -> Result<(), OutOfMemory>
     ensures ok { OnOk result (out.new.items ≡ out.old.items ++ canonical_term term.now) }
@@ -216,7 +217,7 @@ pub fn canonical(term: &Term, out: &mut Vec<u8>) -> Result<(), OutOfMemory>
     taken_back(written, before, out)
 }
 
-/// Appends the canonical line of a quad, its end LF with it. After `OutOfMemory`, which comes for want of memory alone,
+/// Appends the canonical line of a quad, its end LF with it. After `OutOfMemory`, which comes only when memory ran out,
 /// `out` is as before.
 #[tactic(auto, using(list_laws::proofs::Begins::cut_back))]
 pub fn write_quad(quad: &Quad, out: &mut Vec<u8>) -> Result<(), OutOfMemory>
@@ -228,7 +229,7 @@ pub fn write_quad(quad: &Quad, out: &mut Vec<u8>) -> Result<(), OutOfMemory>
     taken_back(written, before, out)
 }
 
-/// The canonical text of quads that text can give is read as these quads.
+/// The canonical text of quads that a text can be read as is read as these quads.
 pub fn canonical_text_reads_back()
     ensures { CanonReadsBack }
 {}

@@ -1,4 +1,16 @@
 //! The laws of the response to the bytes of a connection.
+//!
+//! A law is a function that does nothing: what its contract says is known where it was called.
+//!
+//! ```rust
+//! pub fn what_was_sent_stays()
+//!     ensures more { ResponseBegins }
+//!     ensures reloaded { LongerHistoriesAgree }
+//! {
+//!     response_goes_on();
+//!     marks_go_on();
+//! }
+//! ```
 #![tactic(auto)]
 
 ghost use Rattle.template_fill.specs.Responses.{LongerHistoriesAgree, MarksAreJoined, MarksArePadded, OneVersionIsMarked, ResponseAtGoesOn, ResponseBegins, ResponseGoesOn};
@@ -15,7 +27,7 @@ pub fn response_goes_on()
 
 /// Marks of bytes and of what is behind them are marks of the whole, where no version falls between
 /// them (`joined`). Marks of the first heads are padded to marks of all, by one version and, for a
-/// request of a reload, want of memory; the response begins with the same answers, and no further
+/// request of a reload, out of memory; the response begins with the same answers, and no further
 /// reload is answered (`padded`). A longer history changes neither the marks nor the response
 /// (`longer`). Over one version each head has that version as its mark (`one`).
 pub fn marks_go_on()

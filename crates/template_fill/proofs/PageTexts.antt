@@ -1,5 +1,5 @@
 -- The places of a page's address, one by one.
-use Rattle.std.proofs.Common.{◌≡◌, ℕ, ◌<◌, List, [], ◌∷◌, ◌++◌, true, false, ◌==◌, cond, refl, sym, ◌∙◌, ap, append_assoc, append-nil, lit<}
+use Rattle.std.proofs.Common.{◌≡◌, ℕ, List, [], ◌∷◌, ◌++◌, true, false, ◌==◌, cond, refl, sym, ◌∙◌, ap, append_assoc, append-nil}
 use Rattle.std.specs.Char.{is_ascii_digit}
 use Rattle.std.proofs.lemmas.List.Folds.{list_all-append}
 use Rattle.template_fill.specs.WebAddress.{Extends}
@@ -76,10 +76,6 @@ page-address mark k own digits = elim (k == 1) as (λ v. list_all is_address_byt
 page_mark-address : (written : List ℕ) → is_address_byte (page_mark written) ≡ true
 page_mark-address [] = refl
 page_mark-address (b ∷ written) = refl
-
-pub page_mark-ascii : (written : List ℕ) → page_mark written < 128
-page_mark-ascii [] = lit< tt
-page_mark-ascii (b ∷ written) = lit< tt
 
 -- what a page's address writes after the base
 pub more-address : (slots : Slots) (k : ℕ) → list_all is_ascii_digit (decimal_text k) ≡ true → list_all is_address_byte (places_text slots ++ page_pair (page_mark (places_text slots)) k) ≡ true

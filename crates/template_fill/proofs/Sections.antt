@@ -1,5 +1,5 @@
 -- Texts cut at each of one byte.
-use Rattle.std.proofs.Common.{◌≡◌, ℕ, ◌+◌, ◌<◌, List, [], ◌∷◌, ◌++◌, Bool, true, false, not, ◌||◌, ◌==◌, ◌&&◌, cond, Some, None, Option, length, refl, sym, ◌∙◌, ap, arith, append_assoc, append-nil}
+use Rattle.std.proofs.Common.{◌≡◌, ℕ, ◌+◌, ◌<◌, List, [], ◌∷◌, ◌++◌, Bool, true, false, not, ◌||◌, ◌==◌, ◌&&◌, cond, Some, None, Option, length, refl, sym, ◌∙◌, ap, arith, append_assoc}
 use Rattle.std.specs.List.{list_all, slice_split, onto_first}
 use Rattle.std.specs.Option.{option_map}
 use Rattle.std.proofs.lemmas.List.Folds.{list_all-append}
@@ -101,10 +101,6 @@ name-stop text names bytes name sections is fails =
     let none : list_all is_name (slice_split (λ b. b == 44) text) ≡ false =
     rw (sections, list_all-append is_name names (slice_split (λ b. b == 44) bytes), all-stop is_name 44 bytes name is fails) (and_false (list_all is_name names)) in
     rw none refl
-
-pub name-end : (text : List ℕ) (names : List (List ℕ)) → slice_split (λ b. b == 44) text ≡ names ++ [] → list_all is_name names ≡ true → names_of text ≡ Some names
-unfolding names_of
-name-end text names sections all = rw (sections, append-nil names, all) refl
 
 pub all-push : (names : List (List ℕ)) (name : List ℕ) → list_all is_name names ≡ true → is_name name ≡ true → list_all is_name (names ++ name ∷ []) ≡ true
 all-push names name all own = rw (list_all-append is_name names (name ∷ []), all, own) refl

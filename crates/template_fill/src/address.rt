@@ -19,7 +19,7 @@ use tpf_base::OutOfMemory;
 
 /// An address of a page: `http://`, a host, a port, and a target of path and query
 /// (RFC 3986, section 3). It is kept in the normal form: the host is in lower case,
-/// port 80 is not written, and the path is not empty.
+/// port 80 is not written, and the path is not empty (sections 6.2.2.1 and 6.2.3).
 ///
 /// Contracts see it by its parts, of which `address_text` gives the text.
 #[derive(Debug, Drop)]
@@ -119,7 +119,9 @@ impl WebAddress {
         })
     }
 
-    /// The address that a text is. `BadAddress` exactly where it is none.
+    /// The address that a text is. `BadAddress` exactly where it is none, as with another scheme, a fragment
+    /// identifier, no host or one of more than 255 characters, or a port that is 0, above 65535 or has a
+    /// leading zero. `OutOfMemory` comes only when memory ran out.
     pub fn read(alloc: Global, text: &str) -> Result<WebAddress, AddressFault>
         ensures read { IfOk result (λ a. IsAddress text.now a) }
         ensures refused { IsErrOf result AddressFault.BadAddress ↔ IsNoAddress text.now }
@@ -210,7 +212,7 @@ impl WebAddress {
         self.authority() == other.authority()
     }
 
-    /// The same address again. It fails for want of memory alone.
+    /// The same address again. It fails only when memory ran out.
     pub fn copy(&self, alloc: Global) -> Result<WebAddress, OutOfMemory>
         ensures { IfOk result (λ a. a ≡ self.now) }
     {

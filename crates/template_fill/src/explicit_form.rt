@@ -9,10 +9,10 @@ use rdf_terms::{Kind, Slot, Term, TermFault};
 use std::alloc::{AllocError, Global};
 use tpf_base::{OutOfMemory, Text};
 
-/// The explicit form of an IRI or a literal: an IRI as it is; a literal as its form between
-/// quotes, without escapes, and then nothing, `@` and its tag, or `^^` and its datatype
+/// The explicit form of an IRI or a literal: an IRI as it is; a literal as its lexical form between
+/// quotes, without escapes, and then nothing, `@` and its language tag, or `^^` and its datatype
 /// (Triple Pattern Fragments, controls: hydra:ExplicitRepresentation). Condition: it is no blank
-/// node, which has none. It fails for want of memory alone.
+/// node, which has none. It fails only when memory ran out.
 pub fn explicit(alloc: Global, term: &Term) -> Result<Text, OutOfMemory>
     requires { IsNotBlank term.now }
     ensures { IfOk result (λ text. text ≡ explicit_form term.now) }
@@ -132,7 +132,7 @@ fn fixed(term: Result<Term, ValueFault>) -> Result<Slot, ValueFault>
 /// `Iri` exactly where the text begins with no quote and is no IRI with a scheme; else
 /// `Quote` exactly where it has no second quote; else, of what follows the last quote,
 /// `LangString` exactly where it is `^^` and `rdf:langString`, and `Suffix` exactly where it
-/// is nothing else that may follow.
+/// is nothing else that may follow. `OutOfMemory` comes only when memory ran out.
 pub fn read_explicit(alloc: Global, text: &str) -> Result<Slot, ValueFault>
     ensures given { Gives result (slot_of text.now) }
     ensures refused { IfErr (slot_of text.now) (λ fault. result ≡ Err fault) }
@@ -156,8 +156,8 @@ pub fn explicit_forms_are_text()
     ensures { FormsAreText }
 {}
 
-/// The explicit form of a term has at most four bytes more than the IRI, or than the form with its datatype or tag; and
-/// no more than the canonical text.
+/// The explicit form of a term has at most four bytes more than the IRI, or than the lexical form with its datatype or
+/// tag; and no more than the canonical text.
 pub fn explicit_forms_are_short()
     ensures { FormsAreShort }
 {}

@@ -2,7 +2,7 @@
 use std::alloc::{AllocError, AllocFailed};
 use tpf_base::OutOfMemory;
 
-/// Why a text is no explicit form. At most one of the causes holds of a text.
+/// Why a text is no explicit form. At most one of the causes but `OutOfMemory` holds of a text.
 #[derive(Clone, Copy, Debug, PartialEq, Eq)]
 pub enum ValueFault {
     /// It begins with no quote, and is no IRI with a scheme.
@@ -13,7 +13,7 @@ pub enum ValueFault {
     Suffix,
     /// The datatype is `rdf:langString`, which only a tagged literal has.
     LangString,
-    /// There was not enough memory.
+    /// Memory ran out.
     OutOfMemory,
 }
 
@@ -22,7 +22,7 @@ pub enum ValueFault {
 pub enum AddressFault {
     /// It is none.
     BadAddress,
-    /// There was not enough memory.
+    /// Memory ran out.
     OutOfMemory,
 }
 
@@ -31,7 +31,7 @@ pub enum AddressFault {
 pub enum TemplateFault {
     /// It is none.
     BadTemplate,
-    /// There was not enough memory.
+    /// Memory ran out.
     OutOfMemory,
 }
 

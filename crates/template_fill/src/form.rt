@@ -10,10 +10,11 @@ use rdf_terms::{Slot, Slots};
 use std::alloc::Global;
 use tpf_base::{OutOfMemory, Text};
 
-/// A form of a fragment's server: a template, and the names of the variables for the
+/// A form of a fragment's server (hydra:search): a template, and the names of the variables for the
 /// subject, the predicate and the object.
 #[derive(Debug, Drop)]
 pub struct Form {
+    /// The template of the addresses of first pages.
     pub template: Template,
     /// The name of the variable for the subject.
     pub subject: Text,
@@ -48,7 +49,7 @@ impl Form {
     /// The address of the first page of the fragment with these slots: the template with the
     /// explicit forms of the fixed places. A place whose name the template has not is left out. The
     /// authority is that of the template's start.
-    /// Condition: no fixed place is a blank node. It fails for want of memory alone.
+    /// Condition: no fixed place is a blank node. It fails only when memory ran out.
     pub fn address(&self, alloc: Global, slots: &Slots) -> Result<WebAddress, OutOfMemory>
         requires { HasNoBlank slots.now }
         ensures address { IfOk result (λ address. IsAddress (form_text self.now slots.now) address) }

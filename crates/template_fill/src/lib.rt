@@ -1,4 +1,18 @@
 //! Terms in addresses: explicit forms, web addresses, templates and what fills them.
+//!
+//! The address of a page says which triple pattern is asked for. Where the fragments stand at `base`, here
+//! `http://localhost/data`:
+//!
+//! ```rust
+//! let key = Term::iri(alloc, "http://e/k")?;
+//! let slots = Slots {
+//!     subject: Slot::Any,
+//!     predicate: Slot::Fixed(key),
+//!     object: Slot::Any,
+//! };
+//! let wanted = "http://localhost/data?predicate=http%3A%2F%2Fe%2Fk&page=3";
+//! assert_eq!(rt; page_address(alloc, &base, &slots, 3)?.text(), wanted);
+//! ```
 #![tactic(auto)]
 
 mod address;

@@ -69,7 +69,7 @@ fn push_page(alloc: Global, out: &mut String, mark: char, page: u64) -> Result<(
 /// The address of a page of the fragment with these slots (Triple Pattern Fragments, paging): the
 /// expansion of the template `{?subject,predicate,object}` after the base with the explicit forms of
 /// the fixed places, and for every page but 1 `page=` with the number. The authority is that of the
-/// base. Pages count from 1. Condition: no fixed place is a blank node. It fails for want of memory alone.
+/// base. Pages count from 1. Condition: no fixed place is a blank node. It fails only when memory ran out.
 pub fn page_address(
     alloc: Global,
     base: &WebAddress,

@@ -106,7 +106,7 @@ impl Template {
 
     /// The address that the template is with these values (RFC 6570, section 3.2.1). A name
     /// without a value is left out; of several values with one name the first counts. The authority
-    /// is that of the start. It fails for want of memory alone.
+    /// is that of the start. It fails only when memory ran out.
     #[tactic(auto, unfolding(crate::specs::Templates::expansion))]
     pub fn expand(&self, alloc: Global, values: &[Value]) -> Result<WebAddress, OutOfMemory>
         ensures address { IfOk result (λ address. IsAddress (expansion self.now values.now) address) }

@@ -1,4 +1,4 @@
-use Rattle.std.proofs.Common.{◌≡◌, subst, List}
+use Rattle.std.proofs.Common.{subst, List}
 use Rattle.rdf_terms.specs.declared.term.Quad.{Quad}
 use Rattle.control_reader.specs.Outcomes.{IsFaultOf}
 use Rattle.control_reader.specs.Stages.{TakesPage, WhyNoPage}

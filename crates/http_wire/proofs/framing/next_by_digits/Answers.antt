@@ -3,7 +3,7 @@ use Rattle.tpf_base.specs.HttpReply.{body_place, Sized}
 use Rattle.std.specs.Prelude.{Some}
 use Rattle.http_wire.specs.Places.{announced}
 use Rattle.http_wire.proofs.FramingLemmas.{place_over, place_empty, place_sized}
-use Rattle.http_wire.proofs.framing.sized.Goals as goal
+use Rattle.http_wire.proofs.framing.next_by_digits.Goals as goal
 
 pub returns-in-None : goal.returns-in-None
 returns-in-None c = place_over c.args.limit _ c.args.keeps c.in-None.ensures

@@ -1,6 +1,6 @@
 use Rattle.std.proofs.Common.{arith, ◌+◌}
 use Rattle.http_wire.proofs.FramingLemmas.{number_step, number_front}
-use Rattle.http_wire.proofs.framing.within.Goals as goal
+use Rattle.http_wire.proofs.framing.number_within.Goals as goal
 
 pub returns-then-n-from : goal.returns-then-n-from
 returns-then-n-from c =
