@@ -62,6 +62,7 @@ fn pattern_of<L: Ledger>(table: &Table, slots: &Slots, steps: &mut Steps<L>) -> 
 fn range_of<L: Ledger>(table: &Table, slots: &Slots, steps: &mut Steps<L>) -> Range
     ensures range { IsRange table.now result }
     ensures fragment { listed table.now result ≡ fragment (triples_in table.now) slots.now }
+    ensures counted { steps.old ≤ steps.new }
     ensures cost { (digits : ℕ) → length (triples_in table.now) < 2 ^ digits → steps.new ≤ steps.old + (5 * digits + 10) }
 {
     match pattern_of(table, slots, steps) {
@@ -114,7 +115,7 @@ fn end_of(from: u64, size: u64, count: u64) -> u64
 ///
 /// `None` exactly where `k` is 0 or past the last page. Where the table does not hold a fixed term
 /// the fragment is empty and has one empty page. With d the number of binary digits of the table's
-/// length it compares at most 5 d + 10 times. It takes no memory.
+/// length it compares at most 5 d + 10 times, each a step. It takes no memory.
 pub fn page<L: Ledger>(
     table: &Table,
     slots: &Slots,
@@ -124,6 +125,7 @@ pub fn page<L: Ledger>(
 ) -> Option<PageView>
     requires { 1 ≤ size }
     ensures page { MatchOption result (IsPageNumber table.now slots.now k size → ⊥) (λ view. IsPageNumber table.now slots.now k size × IsPage table.now slots.now k size view) }
+    ensures counted { steps.old ≤ steps.new }
     ensures cost { (digits : ℕ) → length (triples_in table.now) < 2 ^ digits → steps.new ≤ steps.old + (5 * digits + 10) }
 {
     let range = range_of(table, slots, steps);

@@ -2,7 +2,7 @@
 use rdf_terms::Triple;
 use std::marker::Model;
 
-/// A data set, of which contracts alone speak: they see it as the list of its triples.
+/// A data set (RDF graph), of which contracts alone speak: they see it as the list of its triples.
 #[derive(Drop)]
 pub struct DataSet {
     triples: Vec<Triple>,

@@ -1,4 +1,17 @@
-//! A server of Triple Pattern Fragments as the server's loop and the wire in one process know one.
+//! A server of Triple Pattern Fragments as the server's loop (`serve_loop`) and the transport in one
+//! process, or wire (`loop_wire`), take one.
+//!
+//! Such a wire: at its other end stands the server, and its calls with these numbers fail:
+//!
+//! ```rust
+//! let server = server(alloc)?;
+//! let mut wire: LoopWire<FragmentConnection> = LoopWire::new(
+//!     alloc,
+//!     server,
+//!     seed,
+//!     Failing::At(calls),
+//! );
+//! ```
 #![tactic(auto)]
 
 mod connection;

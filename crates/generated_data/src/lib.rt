@@ -1,4 +1,12 @@
 //! Generated data of any size, for trying the program out and for measuring it.
+//!
+//! The N-Quads of three persons, five lines, are written to a sink in memory:
+//!
+//! ```rust
+//! let mut sink = MemSink::new(rt.alloc(), Failing::Never);
+//! assert_eq!(rt; write_generated(rt.alloc(), 3, &mut sink), Ok(()));
+//! assert_eq!(rt; sink.taken(), THREE);
+//! ```
 #![tactic(auto)]
 
 mod laws;

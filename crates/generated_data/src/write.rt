@@ -1,7 +1,7 @@
 // The generated data, written to a sink.
-ghost use Rattle.std.specs.Prelude.{◌≤◌, OnOk, OnErr, IsErrOf};
+ghost use Rattle.std.specs.Prelude.{◌≡◌, ◌≤◌, true, OnOk, OnErr, IsErrOf};
 ghost use Rattle.std.specs.Io.KnownBytes.{Appends};
-ghost use Rattle.tpf_base.specs.Causes.{Rose};
+ghost use Rattle.tpf_base.specs.Causes.{Rose, DoesNotFail};
 ghost use Rattle.tpf_base.specs.Wrote.{AppendsPrefix};
 ghost use Rattle.rdf_terms.specs.Canon.{canon};
 ghost use Rattle.generated_data.specs.Generated.{generated};
@@ -22,13 +22,15 @@ const ROOM: usize = 1024;
 /// line in the canonical form of N-Triples, and no persons give no line.
 ///
 /// Nothing is kept: the one buffer that the pieces share is made before the first is written.
-/// At a fault a part of the text's front is written. `Failed` comes only where the sink's count of
-/// faults rose in this call, and `OutOfMemory` at want of memory.
+/// At a fault a prefix of the text is written. `Failed` comes only where the sink's count of faults
+/// rose in this call, and never over a faultless sink; `OutOfMemory` comes where memory runs out.
 pub fn write_generated<K: Sink>(alloc: Global, persons: u32, out: &mut K) -> Result<(), Fault>
     ensures ok { OnOk result (Appends (K.taken out.old) (K.taken out.new) (canon (generated persons))) }
     ensures err { OnErr result (AppendsPrefix (K.taken out.old) (K.taken out.new) (canon (generated persons))) }
     ensures later { K.faults out.old ≤ K.faults out.new }
     ensures failed { IsErrOf result Fault.Failed → Rose (K.faults out.old) (K.faults out.new) }
+    ensures faultless { K.faultless out.new ≡ K.faultless out.old }
+    ensures spared { K.faultless out.old ≡ true → DoesNotFail (K.faults out.old) (K.faults out.new) result }
 {
     let Ok(mut piece) = Vec::with_capacity(alloc, PIECE + ROOM) else {
         return Err(Fault::OutOfMemory);

@@ -77,7 +77,7 @@ fn table_of(alloc: Global, persons: u32, config: &Config) -> Result<Table, OutOf
 /// The server of the generated data of so many persons, at most 1000000, as version 1, whose fragments
 /// stand where the configuration says. The text of the data is made and read as that of a file would be.
 ///
-/// Fails only for want of memory: the text has no fault, no blank node, and few enough triples.
+/// Fails only where memory runs out: the text has no fault, no blank node, and few enough triples.
 pub fn server_of_generated(
     alloc: Global,
     persons: u32,

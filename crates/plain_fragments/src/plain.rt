@@ -45,7 +45,7 @@ fn put_match(
 
 /// The fragment of these triples by these slots: the triples that match, each once, in the order of
 /// the slots' kind (Triple Pattern Fragments, "Fragments"). It takes a step for each pair of
-/// triples, so it serves for comparison alone. Fails only for want of memory.
+/// triples, so it serves for comparison alone. Fails only where memory runs out.
 #[tactic(auto, unfolding(rdf_terms::specs::Fragments::fragment))]
 pub fn plain_fragment(
     alloc: Global,

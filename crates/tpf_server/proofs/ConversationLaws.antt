@@ -407,8 +407,21 @@ makes config unread rest new_rest before after bytes made given reading starved 
     subst (λ (c : Conversation). Makes config c (record { unread = unread; reading = reading; rest = new_rest; waiting = after; pending = drop given made; starved = starved })) same
     (makes_at config unread rest new_rest before after bytes made given reading starved within (ap (λ (c : Conversation). c.starved) same ∙ fed) fills enough)
 
-pub makes_nothing : (config : Config) (old : Conversation) → old.starved ≡ false → 65536 ≤ length old.pending → Makes config old old
-makes_nothing config old fed full = record { pieces = []; owed = refl; pending = sym (append-nil old.pending); small = tt; enough = inl full; unread = refl; reading = refl; starved = fed }
+pub owes_left : (view old : Conversation) (left : Bool) → view ≡ old → view.starved ≡ false → left ≡ debt_left view.rest view.waiting → owes old ≡ left
+owes_left view old left same fed_ is = sym (ap owes same) ∙ ap (λ (b : Bool). b || debt_left view.rest view.waiting) fed_ ∙ sym is
+
+-- with nothing owed nothing is made
+pub idle_makes : (config : Config) (view old : Conversation) (left : Bool) → view ≡ old → view.starved ≡ false → left ≡ debt_left view.rest view.waiting → left ≡ false → Makes config old old
+idle_makes config view old left same fed_ is none = record {
+  pieces = [];
+  owed = refl;
+  pending = sym (append-nil old.pending);
+  small = tt;
+  enough = inr (owes_left view old left same fed_ is ∙ none);
+  unread = refl;
+  reading = refl;
+  starved = sym (ap (λ (c : Conversation). c.starved) same) ∙ fed_;
+}
 
 pub makes_answer : (config : Config) (old new : Conversation) → Makes config old new → (history : List (List Triple)) (fed taken : List ℕ) (marks : List Mark) → Answers history config fed taken marks old → Answers history config fed taken marks new
 makes_answer config old new makes history fed taken marks a = record {
@@ -536,9 +549,6 @@ makes_some config old new makes fits fed_ left =
   where
     none_left : (c : Conversation) → owes c ≡ false → length (owed_text config c) ≡ 0
     none_left c h = ap (λ (l : List (List ℕ)). length (concat l)) (debt_done config c.rest c.waiting (or_parts c.starved (debt_left c.rest c.waiting) h).1)
-
-pub owes_left : (view old : Conversation) (left : Bool) → view ≡ old → view.starved ≡ false → left ≡ debt_left view.rest view.waiting → owes old ≡ left
-owes_left view old left same fed_ is = sym (ap owes same) ∙ ap (λ (b : Bool). b || debt_left view.rest view.waiting) fed_ ∙ sym is
 
 pub none_owed : (c : Conversation) (config : Config) → owes c ≡ false → owed_text config c ≡ []
 none_owed c config h = ap concat (debt_done config c.rest c.waiting (or_parts c.starved (debt_left c.rest c.waiting) h).1)

@@ -41,7 +41,7 @@ pub struct Queued {
 
 /// What parameters ask for whose page has this number.
 #[tactic(auto, using(crate::proofs::AskedLaws::numbered_answer, crate::proofs::AskedLaws::no_slots_answer, crate::proofs::AskedLaws::some_fit))]
-fn numbered(
+fn asked_by_number(
     alloc: Global,
     server: &Server,
     found: &Parameters,
@@ -70,7 +70,7 @@ fn are_some(slots: Option<Slots>) -> bool
 
 /// What parameters ask for whose page has a number that 64 bits do not hold: a page has at least one
 /// triple, and a table fewer triples than that.
-fn beyond(alloc: Global, server: &Server, found: &Parameters) -> Result<Asking, OutOfMemory>
+fn asked_beyond(alloc: Global, server: &Server, found: &Parameters) -> Result<Asking, OutOfMemory>
     requires { (n : ℕ) × ((page_in found.now.page ≡ Some n) × (2 ^ 64 ≤ n)) }
     ensures asked { IfOk result IsAsked }
     ensures answer { IfOk result (λ asking. answer_of server.now.config asking ≡ answer_at server.now (question_in found.now)) }
@@ -96,8 +96,8 @@ fn asked_by_parameters(
     ensures answer { IfOk result (λ asking. answer_of server.now.config asking ≡ answer_at server.now (question_in found.now)) }
 {
     match page(&found.page) {
-        PageNumber::Number(page) => numbered(alloc, server, found, page),
-        PageNumber::Beyond => beyond(alloc, server, found),
+        PageNumber::Number(page) => asked_by_number(alloc, server, found, page),
+        PageNumber::Beyond => asked_beyond(alloc, server, found),
         PageNumber::Refused => Ok(Asking::Refused(Status::BadRequest)),
     }
 }
@@ -188,7 +188,7 @@ pub fn asked_by(alloc: Global, server: &Server, head: &RequestHead) -> Result<Qu
 }
 
 /// The answer to a head that is refused, with which the connection ends.
-pub fn refused(status: u16) -> Queued
+pub fn refusal_of(status: u16) -> Queued
     ensures { result ≡ record { asking = Asking.Refused (refused_with status); without_body = false; closes = true } }
 {
     let status = if status == 431 {

@@ -1,5 +1,5 @@
 // One connection: from the bytes that come to the bytes of the response.
-ghost use Rattle.std.specs.Prelude.{ℕ, ◌≡◌, ◌≤◌, ◌<◌, ◌+◌, ◌++◌, [], List, None, true, false, length, take, drop, IsErr, OnOk, OnErr};
+ghost use Rattle.std.specs.Prelude.{ℕ, ◌≡◌, ◌≤◌, ◌<◌, ◌+◌, ◌++◌, [], List, None, true, false, length, take, drop, IsOk, IsErr, OnOk, OnErr};
 ghost use Rattle.std.specs.List.{AllByRecursion};
 ghost use Rattle.rdf_terms.specs.declared.term.Triple.{Triple};
 ghost use Rattle.list_laws.specs.Begins.{Begins};
@@ -32,7 +32,7 @@ const KEPT: usize = 16384;
 /// behind it is read, until its outcome is told.
 ///
 /// Contracts see the bytes of which no head is made yet, what becomes of the heads that come, what is
-/// owed, the bytes that are pending, and whether memory was wanting.
+/// owed, the bytes that are pending, and whether it is out of memory (starved).
 #[derive(Drop)]
 pub struct Connection {
     alloc: Global,
@@ -47,7 +47,7 @@ pub struct Connection {
 }
 
 /// The feed, or a new one that holds no memory: where nothing is held, and where nothing more is read.
-fn kept(alloc: Global, requests: RequestFeed, ended: bool) -> RequestFeed
+fn remaining_feed(alloc: Global, requests: RequestFeed, ended: bool) -> RequestFeed
     requires { ended ≡ false → requests.refused ≡ None }
     ensures ended { ended ≡ true → result ≡ holding [] }
     ensures open_ { ended ≡ false → result ≡ requests }
@@ -106,7 +106,7 @@ impl Connection {
         }
     }
 
-    /// Drops all but the first pending bytes, and remembers that memory was wanting.
+    /// Drops all but the first pending bytes, and remembers that memory ran out.
     fn starve(&mut self, pending: usize)
         requires { pending ≤ length self.old.pending }
         ensures { self.new ≡ record (starved_at self.old) { pending = take pending self.old.pending } }
@@ -119,7 +119,7 @@ impl Connection {
         self.starved = true;
     }
 
-    /// Reads the heads that stand whole. Where memory is wanting, what is owed is dropped.
+    /// Reads the heads that stand whole. Out of memory, what is owed is dropped.
     fn read_on(&mut self, server: &Server, piece: &[u8]) -> Result<(), OutOfMemory>
         requires reads { self.old.reading ≡ Reading.Reads }
         requires fed { self.old.starved ≡ false }
@@ -131,7 +131,7 @@ impl Connection {
         let mut debt = mem::replace(&mut self.debt, Debt::new(self.alloc));
         requests.feed(piece)?;
         let reading = debt.read_heads(self.alloc, server, &mut requests)?;
-        self.requests = kept(self.alloc, requests, reading.is_ended());
+        self.requests = remaining_feed(self.alloc, requests, reading.is_ended());
         self.debt = debt;
         self.reading = reading;
         Ok(())
@@ -150,6 +150,8 @@ impl Connection {
 
     fn read(&mut self, server: &Server, piece: &[u8]) -> Result<(), OutOfMemory>
         ensures ok { OnOk result (Feeds server.now piece.now self.old self.new) }
+        ensures closed { closing self.old ≡ true → OnOk result (self.new ≡ self.old) }
+        ensures closed_ok { closing self.old ≡ true → self.old.starved ≡ false → IsOk result }
         ensures pending { self.new.pending ≡ self.old.pending }
         ensures reading { OnErr result (self.new.reading ≡ self.old.reading) }
         ensures starved { self.old.starved ≡ true → IsErr result }
@@ -167,12 +169,15 @@ impl Connection {
     /// Takes the next bytes of the connection, reads the heads that stand whole, and owes an answer
     /// to each over the version that is served, up to the first that ends the connection (RFC 9112,
     /// section 9.6) or asks for a reload. What follows a head that ends the connection is not read;
-    /// what follows a request for a reload is kept until its outcome is told. No body is made.
+    /// what follows a request for a reload is kept until its outcome is told. No body is made. On a
+    /// connection that is closing it changes nothing and takes no memory.
     ///
-    /// `OutOfMemory` comes for want of memory alone. The pending bytes are then as before, all else is
+    /// `OutOfMemory` comes only where memory runs out. The pending bytes are then as before, all else is
     /// dropped, and each later `feed` and `fill` answers `OutOfMemory`.
     pub fn feed(&mut self, server: &Server, piece: &[u8]) -> Result<(), OutOfMemory>
         ensures ok { OnOk result (Feeds server.now piece.now self.old self.new) }
+        ensures closed { closing self.old ≡ true → OnOk result (self.new ≡ self.old) }
+        ensures closed_ok { closing self.old ≡ true → self.old.starved ≡ false → IsOk result }
         ensures err { OnErr result (self.new ≡ starved_at self.old) }
         ensures starved { self.old.starved ≡ true → IsErr result }
     {
@@ -185,15 +190,15 @@ impl Connection {
     }
 
     /// Whether the first head that is not read asks for a reload: its outcome is to be told to
-    /// `reloaded`.
+    /// `reloaded`. Once it is out of memory it is false.
     pub fn wants_reload(&self) -> bool
         ensures { result ≡ wants_reload self.now }
     {
         self.reading.waits()
     }
 
-    /// Answers the reload request, and reads the heads behind it. Where memory is wanting, what is owed
-    /// is dropped.
+    /// Answers the reload request, and reads the heads behind it. Out of memory, what is owed is
+    /// dropped.
     fn answer(
         &mut self,
         server: &Server,
@@ -210,7 +215,7 @@ impl Connection {
         let mut requests = mem::replace(&mut self.requests, RequestFeed::new(self.alloc));
         let mut debt = mem::replace(&mut self.debt, Debt::new(self.alloc));
         let reading = debt.read_on(self.alloc, server, outcome, closes, &mut requests)?;
-        self.requests = kept(self.alloc, requests, reading.is_ended());
+        self.requests = remaining_feed(self.alloc, requests, reading.is_ended());
         self.debt = debt;
         self.reading = reading;
         Ok(())
@@ -236,7 +241,7 @@ impl Connection {
     /// Answers the reload request that waits by how the reload came out, and reads on over the version
     /// that is served. A version that was reached is that of the server.
     ///
-    /// `OutOfMemory` comes for want of memory alone. The pending bytes are then as before, all else is
+    /// `OutOfMemory` comes only where memory runs out. The pending bytes are then as before, all else is
     /// dropped, and each later `feed` and `fill` answers `OutOfMemory`.
     pub fn reloaded(&mut self, server: &Server, outcome: Reloaded) -> Result<(), OutOfMemory>
         requires waits { wants_reload self.old ≡ true }
@@ -252,7 +257,7 @@ impl Connection {
         answered
     }
 
-    /// Makes pieces. Where memory is wanting, what is owed is dropped.
+    /// Makes pieces. Out of memory, what is owed is dropped.
     fn make_on(&mut self, server: &Server) -> Result<(), OutOfMemory>
         requires fed { self.old.starved ≡ false }
         ensures ok { OnOk result (Makes server.now.config self.old self.new) }
@@ -270,6 +275,9 @@ impl Connection {
     fn make(&mut self, server: &Server) -> Result<(), OutOfMemory>
         ensures ok { OnOk result (Makes server.now.config self.old self.new) }
         ensures full { 65536 ≤ length self.old.pending → OnOk result (self.new ≡ self.old) }
+        ensures full_ok { 65536 ≤ length self.old.pending → self.old.starved ≡ false → IsOk result }
+        ensures idle { owes self.old ≡ false → OnOk result (self.new ≡ self.old) }
+        ensures idle_ok { owes self.old ≡ false → IsOk result }
         ensures pending { Begins self.old.pending self.new.pending }
         ensures some { OnOk result (owes self.old ≡ true → 0 < length self.new.pending) }
         ensures reading { OnErr result (self.new.reading ≡ self.old.reading) }
@@ -278,6 +286,9 @@ impl Connection {
         if self.starved {
             return Err(OutOfMemory);
         }
+        if !self.debt.is_left() {
+            return Ok(());
+        }
         if self.bytes.len() - self.given >= FULL {
             return Ok(());
         }
@@ -285,15 +296,19 @@ impl Connection {
     }
 
     /// Makes further bytes of the response, a head or a line of a body at a time, until at least 65536
-    /// are pending or nothing is owed. Where as many are pending it changes nothing, so never more are
-    /// pending than 65535 and one head or line (`bounded`). Each answer is made over the version by
-    /// which its head was read; of the server only the configuration is used.
+    /// are pending or nothing is owed. Where as many are pending, or nothing is owed, it changes nothing
+    /// and takes no memory; so never more are pending than 65535 and one head or line (`bounded`). Each
+    /// answer is made over the version by which its head was read; of the server only the configuration
+    /// is used.
     ///
-    /// `OutOfMemory` comes for want of memory alone. The pending bytes are then as before, all else is
+    /// `OutOfMemory` comes only where memory runs out. The pending bytes are then as before, all else is
     /// dropped, and each later `feed` and `fill` answers `OutOfMemory`.
     pub fn fill(&mut self, server: &Server) -> Result<(), OutOfMemory>
         ensures ok { OnOk result (Makes server.now.config self.old self.new) }
         ensures full { 65536 ≤ length self.old.pending → OnOk result (self.new ≡ self.old) }
+        ensures full_ok { 65536 ≤ length self.old.pending → self.old.starved ≡ false → IsOk result }
+        ensures idle { owes self.old ≡ false → OnOk result (self.new ≡ self.old) }
+        ensures idle_ok { owes self.old ≡ false → IsOk result }
         ensures answers { OnOk result ((history : List (List Triple)) (fed taken : List ℕ) (marks : List Mark) → Answers history server.now.config fed taken marks self.old → Answers history server.now.config fed taken marks self.new) }
         ensures some { OnOk result (owes self.old ≡ true → 0 < length self.new.pending) }
         ensures bounded { OnOk result ((longest : ℕ) → AllByRecursion (λ piece. length piece ≤ longest) (owed_pieces server.now.config self.old) → length self.old.pending ≤ 65535 + longest → length self.new.pending ≤ 65535 + longest) }
@@ -309,7 +324,8 @@ impl Connection {
     }
 
     /// Whether bytes of the response are still to be made: false exactly where what was taken and what
-    /// is pending are the whole response to the heads that were read. After want of memory it is true.
+    /// is pending are the whole response to the heads that were read. Once it is out of memory it is
+    /// true.
     pub fn owes(&self) -> bool
         ensures owes { result ≡ owes self.now }
         ensures nothing { result ≡ false → (config : Config) → owed_text config self.now ≡ [] }
@@ -339,7 +355,7 @@ impl Connection {
         self.given = 0;
     }
 
-    /// Takes the first `n` of the pending bytes, of which there are as many.
+    /// Drops the first `n` of the pending bytes, which were sent; there are at least as many.
     #[tactic(auto, using(crate::proofs::ConversationLaws::take_answer))]
     pub fn take(&mut self, n: usize)
         requires { n ≤ length self.old.pending }
@@ -352,7 +368,8 @@ impl Connection {
         }
     }
 
-    /// Whether an answer with which the connection ends was given: what is fed later changes nothing.
+    /// Whether the connection ends with an answer that is owed, pending or taken (RFC 9112, section
+    /// 9.6): what is fed later changes nothing.
     pub fn closing(&self) -> bool
         ensures { result ≡ closing self.now }
     {

@@ -1,4 +1,16 @@
 //! A server of Triple Pattern Fragments from bytes to bytes: the response to what a connection brings.
+//!
+//! A request comes, and the first page of all triples is made and taken:
+//!
+//! ```rust
+//! let mut connection = Connection::new(rt.alloc());
+//! connection.feed(&server, b"GET /data HTTP/1.1\r\nHost: localhost\r\n\r\n")?;
+//! connection.fill(&server)?;
+//! assert!(rt; starts(connection.pending(), FIRST));
+//! let length = connection.pending().len();
+//! connection.take(length);
+//! assert!(rt; connection.pending().is_empty() && !connection.owes());
+//! ```
 #![tactic(auto)]
 
 mod asked;

@@ -9,7 +9,7 @@ ghost use Rattle.tpf_server.specs.Read.{IsQueued, ReadsHead, ReadsHeads};
 ghost use Rattle.tpf_server.specs.Reloads.{ReadsOn};
 
 use crate::Server;
-use crate::asked::{Queued, asked_by, asks_reload, refused, reload_answer};
+use crate::asked::{Queued, asked_by, asks_reload, refusal_of, reload_answer};
 use crate::head::write_answer_head;
 use crate::outcome::Reloaded;
 use crate::pages::open_answer;
@@ -32,7 +32,7 @@ pub struct Debt {
 }
 
 /// The body, or nothing where the head alone is asked for.
-fn wanted(without_body: bool, body: Rest) -> Rest
+fn body_or_nothing(without_body: bool, body: Rest) -> Rest
     ensures { result ≡ (if without_body then Rest.Nothing else body) }
 {
     if without_body { Rest::Nothing } else { body }
@@ -60,7 +60,7 @@ fn begin(
         queued.closes,
         out,
     )?;
-    Ok(wanted(queued.without_body, answer.body))
+    Ok(body_or_nothing(queued.without_body, answer.body))
 }
 
 impl Debt {
@@ -124,7 +124,7 @@ impl Debt {
         match requests.next()? {
             NextHead::More => Ok(HeadRead::Nothing),
             NextHead::Bad(status) => {
-                self.waiting.push_back(refused(status))?;
+                self.waiting.push_back(refusal_of(status))?;
                 Ok(HeadRead::Answered(true))
             }
             NextHead::Head(head) => self.queue(alloc, server, &head),

@@ -61,7 +61,7 @@ fn page_view(table: &Table, slots: &Slots, number: u64, size: u64) -> Option<Pag
 
 /// The range of the triples that a page shows.
 #[tactic(auto, using(crate::proofs::PageLaws::part_listed, crate::proofs::PageLaws::part_is_part, crate::proofs::PageLaws::part_is_few))]
-fn shown(table: &Table, slots: &Slots, number: u64, size: u64, view: &PageView) -> Range
+fn shown_range(table: &Table, slots: &Slots, number: u64, size: u64, view: &PageView) -> Range
     requires size { 1 ≤ size }
     requires page { IsPage table.now slots.now number size view.now }
     ensures part { IsPart table.now result }
@@ -92,7 +92,7 @@ fn open_page(
     ensures { IfOk result (OpensPage (served snapshot.now config.now) slots.now number) }
 {
     let table = snapshot.table();
-    let triples = shown(table, slots, number, config.page_size(), view);
+    let triples = shown_range(table, slots, number, config.page_size(), view);
     let version = snapshot.number();
     let metadata = MetadataLines::new(alloc, config, slots, number, view.count, version)?;
     let length = triples_length(table, &triples) + metadata_length(&metadata);

@@ -48,7 +48,7 @@ impl Reading {
         }
     }
 
-    /// The same where memory was wanting: no reload is waited for.
+    /// The same once it is out of memory: no reload is waited for.
     pub fn when_starved(self) -> Reading
         ensures { result ≡ when_starved self }
     {

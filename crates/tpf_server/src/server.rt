@@ -35,7 +35,7 @@ impl Model for Server {
 impl Server {
     /// A server of this table as version 1, whose fragments stand where the configuration says.
     ///
-    /// `OutOfMemory` comes for want of memory alone.
+    /// `OutOfMemory` comes only where memory runs out.
     pub fn new(alloc: Global, table: Table, config: Config) -> Result<Server, OutOfMemory>
         ensures { IfOk result (λ server. server ≡ record { table = table; config = config; version = 1 }) }
     {
@@ -59,7 +59,7 @@ impl Server {
     /// Serves this table as the next version, and gives its number. Answers that were read before keep
     /// their own version. The version is below 9999999999999999999.
     ///
-    /// `OutOfMemory` comes for want of memory alone; the server is then as before.
+    /// `OutOfMemory` comes only where memory runs out; the server is then as before.
     pub fn reload(&mut self, table: Table) -> Result<u64, OutOfMemory>
         requires { self.old.version < most_versions }
         ensures number { IfOk result (λ number. number ≡ self.old.version + 1) }
@@ -71,7 +71,7 @@ impl Server {
         Ok(number)
     }
 
-    /// What is served is a data set of valid terms, and the configuration is one. The call does
+    /// What is served is a data set of valid terms, and the configuration keeps its rules. The call does
     /// nothing; it tells a proof of it.
     pub fn is_valid(&self)
         ensures data_set { IsValidDataSet (data_of self.now) }

@@ -27,7 +27,7 @@ use rdf_terms::{Quad, Term};
 use std::alloc::Global;
 use tpf_base::OutOfMemory;
 
-fn copied(alloc: Global, terms: &[&Term]) -> Result<Vec<Term>, OutOfMemory>
+fn copies_of(alloc: Global, terms: &[&Term]) -> Result<Vec<Term>, OutOfMemory>
     ensures copies { IfOk result (λ v. v.items ≡ borrowed_terms terms.now) }
     ensures valid { IfOk result (λ v. All IsValidTerm v.items) }
 {
@@ -65,7 +65,7 @@ fn ranked_triples(
         return Err(BuildFault::TooMany);
     }
     let ids = id_triples(alloc, gathered.triples.as_slice(), ranked.ranks.as_slice())?;
-    let terms = TermList::from_vec(copied(alloc, ranked.terms.as_slice())?);
+    let terms = TermList::from_vec(copies_of(alloc, ranked.terms.as_slice())?);
     Ok((terms, ids))
 }
 
@@ -95,7 +95,7 @@ fn ordered_rows(alloc: Global, ids: &[IdTriple], order: Order) -> Result<Rows, O
 }
 
 /// The table of a data set by ids, and its terms.
-fn filled(alloc: Global, ids: &[IdTriple], terms: TermList) -> Result<Table, OutOfMemory>
+fn table_by_ids(alloc: Global, ids: &[IdTriple], terms: TermList) -> Result<Table, OutOfMemory>
     requires ids { All (IsIdTriple terms) ids.now }
     requires data_set { IsDataSet (map (triple_at terms) ids.now) }
     requires ranking { IsRanking (map (triple_at terms) ids.now) terms }
@@ -141,7 +141,7 @@ fn table_of(
     if ids.len() > most as usize {
         return Err(BuildFault::TooMany);
     }
-    let table = filled(alloc, ids.as_slice(), terms)?;
+    let table = table_by_ids(alloc, ids.as_slice(), terms)?;
     Ok(table)
 }
 
@@ -149,8 +149,8 @@ impl Table {
     /// The table of the triples that `served` gives, of at most so many triples and so many terms.
     ///
     /// `GenidClash` comes as it does there. `TooMany` comes exactly where there is no clash and the
-    /// distinct triples, or their distinct terms, are more than `most`. `OutOfMemory` comes at want
-    /// of memory, at any point. The conditions on the authority and the quads are those of `served`.
+    /// distinct triples, or their distinct terms, are more than `most`. `OutOfMemory` comes where memory
+    /// runs out, at any point. The conditions on the authority and the quads are those of `served`.
     ///
     /// No triple is copied or compared whole: the terms are ranked where they stand in the quads, each
     /// distinct term is copied once, and the triples are sorted as numbers. The work is that of

@@ -23,11 +23,12 @@ use tpf_base::{OutOfMemory, Text};
 /// Why the data of a file can't be served.
 #[derive(PartialEq, Eq, Debug, Drop)]
 pub enum BuildFault {
-    /// The IRI that would stand for the blank node with this label stands in the triples already.
+    /// The Skolem IRI (RDF 1.1 Concepts 3.5) of the blank node with this label, which the name calls its
+    /// genid, stands in the triples already.
     GenidClash(Text),
     /// There are more distinct triples, or more distinct terms, than the table may hold.
     TooMany,
-    /// Memory was wanting.
+    /// Out of memory.
     OutOfMemory,
 }
 
@@ -111,12 +112,12 @@ pub(crate) fn refuse_clash(
     refuse_first(alloc, labels.as_slice(), quads, choice, authority)
 }
 
-/// The triples of the chosen quads, each blank node with label L as the IRI
+/// The triples of the chosen quads, each blank node with label L as its Skolem IRI
 /// `http://AUTHORITY/.well-known/genid/L` (RDF 1.1 Concepts 3.5): distinct, in the order of triples.
 ///
 /// `GenidClash` comes exactly where such an IRI of a label in the chosen triples stands in one of them as
 /// subject, predicate or object; it carries the least such label, by bytes. `TooMany` never comes;
-/// `OutOfMemory` comes at want of memory, at any point. The authority is to be a host with or without
+/// `OutOfMemory` comes where memory runs out, at any point. The authority is to be a host with or without
 /// a port, and each quad is to have RDF's classes: subject and graph an IRI or a blank node, predicate
 /// an IRI (RDF 1.1 Concepts 3.1).
 pub fn served(
@@ -139,7 +140,8 @@ pub fn served(
     Ok(triples)
 }
 
-/// The served data are one list.
+/// The served data are one list: what `served` and `Table::build` give is fixed by the authority and the
+/// chosen triples.
 pub fn served_is_one()
     ensures { (authority : List ℕ) (triples xs ys : List Triple) → IsServed authority triples xs → IsServed authority triples ys → xs ≡ ys }
 {}

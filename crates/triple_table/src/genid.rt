@@ -1,4 +1,4 @@
-// Blank nodes as IRIs of the server's own (RDF 1.1 Concepts 3.5).
+// Blank nodes as IRIs of the server's own: Skolem IRIs (RDF 1.1 Concepts 3.5).
 ghost use Rattle.std.specs.Prelude.{ℕ, ◌≡◌, ◌≢◌, ◌+◌, ◌<◌, ◌^◌, ◌↔◌, ◌++◌, List, IfOk, IfSome, MatchOption, IsTrue, string_bytes, length};
 ghost use Rattle.rdf_terms.specs.Label.{is_label};
 ghost use Rattle.tpf_base.specs.Addresses.{IsAuthority};
@@ -60,7 +60,7 @@ pub(crate) fn skolem_triple(
     })
 }
 
-/// What follows this front in a text that begins with it.
+/// What follows this prefix in a text that begins with it.
 fn after<'a>(text: &'a str, front: &str) -> Option<&'a str>
     ensures { MatchOption result ((rest : List ℕ) → text.now ≢ front.now ++ rest) (λ rest. text.now ≡ front.now ++ rest.now) }
 {

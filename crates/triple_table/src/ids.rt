@@ -4,8 +4,8 @@ ghost use Rattle.triple_table.specs.Rows.{row_of, id_triple_of, order_for, bound
 
 use std::cmp::Ordering;
 
-/// A triple by the ids of its terms, which are places in the order of terms; so it is ordered as its
-/// triple is.
+/// A triple by the ids of its terms, which are their places, from 0, in the sorted term dictionary; so it
+/// is ordered as its triple is.
 #[derive(Clone, Copy, PartialEq, Eq, PartialOrd, Ord, Debug)]
 pub struct IdTriple {
     pub subject: u32,
@@ -43,7 +43,7 @@ pub struct Range {
     pub to: usize,
 }
 
-/// A triple of ids, the id that is compared first in front.
+/// A triple of ids in the order in which they are compared.
 #[derive(Clone, Copy, PartialEq, Eq, PartialOrd, Ord, Debug)]
 pub struct Row {
     pub first: u32,

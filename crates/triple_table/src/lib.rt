@@ -1,4 +1,17 @@
 //! The triples that are served, and the table that lists those of a pattern.
+//!
+//! How many triples of a table have a term as their object, and `None` where no triple holds it:
+//!
+//! ```rust
+//! let object = table.id(term, &mut steps)?;
+//! let pattern = IdPattern {
+//!     subject: None,
+//!     predicate: None,
+//!     object: Some(object),
+//! };
+//! let range = table.range(&pattern, &mut steps);
+//! Some(table.count(&range))
+//! ```
 #![tactic(auto)]
 
 mod build;

@@ -82,7 +82,7 @@ fn entry_of<'a>(term: &'a Term, place: usize) -> Entry<'a>
 }
 
 /// A guess at the order of two terms, which is right where both are of one group.
-fn guessed(a: &Entry<'_>, b: &Entry<'_>) -> Ordering {
+fn guessed_order(a: &Entry<'_>, b: &Entry<'_>) -> Ordering {
     match a.group.cmp(&b.group) {
         Ordering::Equal => match a.head.cmp(&b.head) {
             Ordering::Equal => a.term.cmp(b.term),
@@ -109,7 +109,7 @@ fn sorted_entries<'a>(alloc: Global, terms: &[&'a Term]) -> Result<Vec<Entry<'a>
     ensures sorted { IfOk result (λ v. IsSortedBy (λ a b. is_lt (term_order a.term.now b.term.now)) v.items) }
 {
     let mut entries = entries(alloc, terms)?;
-    entries.sort_unstable_by(|a, b| guessed(a, b));
+    entries.sort_unstable_by(|a, b| guessed_order(a, b));
     entries.sort_by(|a, b| a.term.cmp(b.term))?;
     Ok(entries)
 }

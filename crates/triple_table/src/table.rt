@@ -20,8 +20,8 @@ use tpf_base::Steps;
 
 /// A data set in memory, from which the triples of a pattern are listed by binary search.
 ///
-/// A term's id is its place among all terms of the data set in the order of terms. The table keeps
-/// one copy of each term and 36 bytes for each triple.
+/// A term's id is its place, from 0, in the term dictionary: all terms of the data set, each once, in
+/// the order of terms. The table keeps one copy of each term and 36 bytes for each triple.
 #[derive(Drop)]
 pub struct Table {
     pub(crate) terms: TermList,
@@ -78,7 +78,8 @@ impl Table {
         term
     }
 
-    /// How many triples there are, each counted once. They are a data set of valid terms.
+    /// How many triples there are, each counted once. They are a data set of valid terms, and the term
+    /// dictionary holds exactly their terms.
     #[tactic(auto, using(crate::proofs::Kept::triples_are_valid))]
     pub fn len(&self) -> usize
         ensures len { result ≡ length (triples_in self.now) }

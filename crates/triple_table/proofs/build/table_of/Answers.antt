@@ -18,22 +18,22 @@ returns-then-len-most-clause-too_many c = λ _.
     more_triples c.args.most (map (triple_at c.args.terms) c.args.triples.items) (map (triple_at c.args.terms) c.distinct_ids-ids.result.items) c.args.terms c.requires.ground c.requires.ranking
     (c.distinct_ids-ids.ensures.ascending c.args.terms (small_terms c.args.terms c.args.most c.requires.few c.ranges.most.fits) c.requires.ranking.ascending c.requires.ids) (c.distinct_ids-ids.ensures.members c.args.terms) (omega (arith, l, m))
 
-pub filled-requires-clause-ids : goal.filled-requires-clause-ids
-filled-requires-clause-ids c = rw c.as_slice.ensures.value (c.distinct_ids-ids.ensures.ids c.args.terms c.requires.ids)
+pub table_by_ids-requires-clause-ids : goal.table_by_ids-requires-clause-ids
+table_by_ids-requires-clause-ids c = rw c.as_slice.ensures.value (c.distinct_ids-ids.ensures.ids c.args.terms c.requires.ids)
 
-pub filled-requires-clause-data_set : goal.filled-requires-clause-data_set
-filled-requires-clause-data_set c =
+pub table_by_ids-requires-clause-data_set : goal.table_by_ids-requires-clause-data_set
+table_by_ids-requires-clause-data_set c =
     subst (λ (ids : List IdTriple). IsDataSet (map (triple_at c.args.terms) ids)) (sym c.as_slice.ensures.value)
     (data_of (map (triple_at c.args.terms) c.args.triples.items) (map (triple_at c.args.terms) c.distinct_ids-ids.result.items) c.requires.ground
     (c.distinct_ids-ids.ensures.ascending c.args.terms (small_terms c.args.terms c.args.most c.requires.few c.ranges.most.fits) c.requires.ranking.ascending c.requires.ids) (c.distinct_ids-ids.ensures.members c.args.terms))
 
-pub filled-requires-clause-ranking : goal.filled-requires-clause-ranking
-filled-requires-clause-ranking c =
+pub table_by_ids-requires-clause-ranking : goal.table_by_ids-requires-clause-ranking
+table_by_ids-requires-clause-ranking c =
     subst (λ (ids : List IdTriple). IsRanking (map (triple_at c.args.terms) ids) c.args.terms) (sym c.as_slice.ensures.value)
     (ranking_of (map (triple_at c.args.terms) c.args.triples.items) (map (triple_at c.args.terms) c.distinct_ids-ids.result.items) c.args.terms c.requires.ranking (c.distinct_ids-ids.ensures.members c.args.terms))
 
-pub filled-requires-clause-few : goal.filled-requires-clause-few
-filled-requires-clause-few c = few_ids c.args.terms c.as_slice.result.now
+pub table_by_ids-requires-clause-few : goal.table_by_ids-requires-clause-few
+table_by_ids-requires-clause-few c = few_ids c.args.terms c.as_slice.result.now
     (subst (λ (ids : List IdTriple). IsRanking (map (triple_at c.args.terms) ids) c.args.terms) (sym c.as_slice.ensures.value)
     (ranking_of (map (triple_at c.args.terms) c.args.triples.items) (map (triple_at c.args.terms) c.distinct_ids-ids.result.items) c.args.terms c.requires.ranking (c.distinct_ids-ids.ensures.members c.args.terms)))
 

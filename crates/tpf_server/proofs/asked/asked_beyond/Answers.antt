@@ -2,7 +2,7 @@ use Rattle.std.proofs.Common.{◌<◌, ◌≤◌, ◌^◌, length, ap, sym, ◌�
 use Rattle.triple_table.specs.Stored.{Stored, triples_in}
 use Rattle.template_fill.specs.Metadata.{Config}
 use Rattle.tpf_server.proofs.AskedLaws.{given_answer, none_answer}
-use Rattle.tpf_server.proofs.asked.beyond.Goals as goal
+use Rattle.tpf_server.proofs.asked.asked_beyond.Goals as goal
 
 pub returns-then-are_some-clause-answer : goal.returns-then-are_some-clause-answer
 returns-then-are_some-clause-answer c =

@@ -4,7 +4,7 @@ use Rattle.triple_table.specs.declared.ids.Order.TheVariants.{Spo, Pos, Osp}
 use Rattle.triple_table.specs.Stored.{triple_at}
 use Rattle.triple_table.proofs.Built.{is_stored, built_members, built_size, rows_sorted, stored_data, stored_ranking}
 use Rattle.triple_table.proofs.Distinct.{few_of}
-use Rattle.triple_table.proofs.build.filled.Goals as goal
+use Rattle.triple_table.proofs.build.table_by_ids.Goals as goal
 
 pub invariant_of-result : goal.invariant_of-result
 invariant_of-result c =

@@ -1,6 +1,6 @@
 use Rattle.std.proofs.Common.{sym, ◌∙◌}
 use Rattle.tpf_server.proofs.PageLaws.{part_listed, part_is_few, part_is_part}
-use Rattle.tpf_server.proofs.pages.shown.Goals as goal
+use Rattle.tpf_server.proofs.pages.shown_range.Goals as goal
 
 pub returns-clause-triples : goal.returns-clause-triples
 returns-clause-triples c = part_listed c.args.table.now c.args.view.now c.requires.page.order c.requires.page.within (sym c.count-triples.ensures.count ∙ c.count-triples.ensures.size)
