@@ -3,6 +3,7 @@ use Rattle.std.proofs.Common.{ℕ, zero, suc, ◌≡◌, ◌<◌, ◌⊎◌, inl
 use Rattle.std.proofs.Math.ListN.{length-set}
 use Rattle.std.specs.Str.{bytes_eq}
 use Rattle.std.proofs.lemmas.Slice.Eq.{bytes_eq-Decides}
+use Rattle.std.proofs.lemmas.Bool.{cases_eq}
 use Rattle.rdf_terms.specs.Same.{term_eq, kind_eq}
 use Rattle.rdf_terms.specs.declared.term.Kind.{Kind}
 use Rattle.rdf_terms.specs.declared.term.Kind.TheVariants.{Plain, Typed, Tagged}
@@ -61,16 +62,10 @@ get-set_other (p ∷ row) (suc n) (suc k) y h = get-set_other row n k y (λ e. h
 stays : (IsNew : ℕ → Type 0) (row : Places) → Grows IsNew row row
 stays IsNew row = record { places = refl; keeps = λ k u h. h; others = λ k h. refl }
 
-pub same_or_not : (n k : ℕ) → (n ≡ k) ⊎ (n ≡ k → ⊥)
-same_or_not zero zero = inl refl
-same_or_not zero (suc k) = inr (λ e. cc)
-same_or_not (suc n) zero = inr (λ e. cc)
-same_or_not (suc n) (suc k) = elim (same_or_not n k) [ inl e ↦ inl (ap suc e) | inr h ↦ inr (λ e. h (omega (arith, e))) ]
-
 filled : (row : Places) (n : ℕ) (t : Term) → slice_get row n ≡ Some None → Grows (λ k. n ≡ k) row (slice_set row n (Some t))
 filled row n t empty = record {
   places = length-set row n (Some t);
-  keeps = λ k u h. elim (same_or_not n k) [
+  keeps = λ k u h. elim (cases_eq n k) [
     | inl e ↦ (let here : slice_get row k ≡ Some None = subst (λ m. slice_get row m ≡ Some None) e empty in cc)
     | inr other ↦ get-set_other row n k (Some t) other ∙ h
   ];
@@ -151,7 +146,7 @@ put-at None n t row final at h b keeps = absurd (no_place row n h at)
 put-at (Some None) n t row final at h b keeps = (
   slice_set row n (Some t),
   refl,
-  λ k u e. elim (same_or_not n k) [
+  λ k u e. elim (cases_eq n k) [
     | inl s ↦ (let here : slice_get (slice_set row n (Some t)) k ≡ Some (Some t) = subst (λ m. slice_get (slice_set row n (Some t)) m ≡ Some (Some t)) s (get-set row n None (Some t) at) in
         let there : slice_get final k ≡ Some (Some t) = subst (λ m. slice_get final m ≡ Some (Some t)) s b in cc)
     | inr other ↦ keeps k u (sym (get-set_other row n k (Some t) other) ∙ e)

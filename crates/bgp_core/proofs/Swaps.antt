@@ -1,6 +1,7 @@
 -- The solutions of patterns in another order are the same in another order.
 use Rattle.std.proofs.Common.{ℕ, zero, suc, ◌≡◌, ◌⊎◌, inl, inr, Bool, true, false, if◌then◌else◌, List, [], ◌∷◌, Option, Some, None, slice_get, slice_set, refl, ap, sym, subst, ◌∙◌}
 use Rattle.std.proofs.Math.ListN.{set}
+use Rattle.std.proofs.lemmas.Bool.{cases_eq}
 use Rattle.rdf_terms.specs.Same.{term_eq}
 use Rattle.rdf_terms.specs.declared.term.Term.{Term}
 use Rattle.rdf_terms.specs.declared.term.Triple.{Triple}
@@ -8,7 +9,7 @@ use Rattle.bgp_core.specs.declared.pattern.Part.{Part}
 use Rattle.bgp_core.specs.declared.pattern.Part.TheVariants.{Fixed, Name}
 use Rattle.bgp_core.specs.declared.pattern.Pattern.{Pattern}
 use Rattle.bgp_core.specs.Solutions.{Places, put, bind, extended, extension}
-use Rattle.bgp_core.proofs.Extending.{term-same, term-self, get-set, get-set_other, same_or_not}
+use Rattle.bgp_core.proofs.Extending.{term-same, term-self, get-set, get-set_other}
 
 -- ---- steps that may be taken in either order
 
@@ -104,7 +105,7 @@ names n m t s row (inr h) = apart n m t s row h
 bind-Commute : (a b : Part) (t s : Term) → Commute (bind a t) (bind b s)
 bind-Commute (Fixed u) b t s row = guard (term_eq u t) (bind b s) row
 bind-Commute (Name n) (Fixed v) t s row = sym (guard (term_eq v s) (bind (Name n) t) row)
-bind-Commute (Name n) (Name m) t s row = names n m t s row (same_or_not n m)
+bind-Commute (Name n) (Name m) t s row = names n m t s row (cases_eq n m)
 
 Commute-sym : (f g : Places → Option Places) → Commute f g → Commute g f
 Commute-sym f g h r = sym (h r)

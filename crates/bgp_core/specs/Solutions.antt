@@ -1,5 +1,5 @@
 -- Matching and solutions (SPARQL 1.1 Query, 18.3 and 18.5), over one list of triples.
-use Rattle.std.specs.Prelude.{ℕ, List, [], ◌∷◌, ◌++◌, Option, Some, None, if◌then◌else◌, slice_get, slice_set, map}
+use Rattle.std.specs.Prelude.{ℕ, List, [], ◌∷◌, ◌++◌, Option, Some, None, if◌then◌else◌, slice_get, slice_set}
 use Rattle.std.specs.List.{flat_map, list_any}
 use Rattle.rdf_terms.specs.Same.{term_eq, triple_eq}
 use Rattle.rdf_terms.specs.declared.term.Term.{Term}
@@ -47,10 +47,6 @@ rows_from (Some row) f = f row
 abbrev pub solutions : List Triple → List Pattern → Places → List Places
 solutions triples [] row = row ∷ []
 solutions triples (p ∷ ps) row = flat_map (λ t. rows_from (extension p row t) (solutions triples ps)) triples
-
--- a row cut to the selected names (SPARQL 1.1, 18.5, projection)
-abbrev pub projected : List ℕ → Places → Places
-projected selected row = map (term_at row) selected
 
 -- the triple, unless it stands before
 abbrev pub unless_before : List Triple → Triple → List Triple

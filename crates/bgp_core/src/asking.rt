@@ -21,7 +21,8 @@ fn slot(alloc: Global, part: &Part, row: &Row) -> Result<Slot, OutOfMemory>
     Ok(Slot::Fixed(term.copy(alloc)?))
 }
 
-/// The pattern with the names that the row binds filled in; the others are free. It fails for want of memory alone.
+/// The pattern with the names that the row binds filled in; the others are free. The only error is out
+/// of memory.
 pub fn instance(alloc: Global, pattern: &Pattern, row: &Row) -> Result<Slots, OutOfMemory>
     ensures { IfOk result (λ s. s ≡ instance pattern.now row.now) }
 {

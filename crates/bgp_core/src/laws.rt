@@ -1,5 +1,5 @@
 // Laws of the definitions, on which evaluations in another order rest.
-ghost use Rattle.std.specs.Prelude.{ℕ, ◌≡◌, ◌<◌, List, length, Option, Some, None, slice_index_or};
+ghost use Rattle.std.specs.Prelude.{ℕ, ◌≡◌, ◌<◌, List, length, Option, Some, slice_index_or};
 ghost use Rattle.std.specs.List.{flat_map, remove};
 ghost use Rattle.std.specs.List.Sorted.{IsPermutation};
 ghost use Rattle.rdf_terms.specs.declared.term.Term.{Term};

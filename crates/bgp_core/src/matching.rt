@@ -1,10 +1,10 @@
 // Matching one triple.
-ghost use Rattle.std.specs.Prelude.{ℕ, ◌≡◌, length, IfOk, IfSome, OnOk, Option, Some, None, true};
+ghost use Rattle.std.specs.Prelude.{◌≡◌, length, IfOk, IfSome, Option, Some, None, true};
 ghost use Rattle.rdf_terms.specs.declared.term.Term.{Term};
 ghost use Rattle.rdf_terms.specs.declared.term.Triple.{Triple};
 ghost use Rattle.bgp_core.specs.declared.pattern.Pattern.{Pattern};
 ghost use Rattle.bgp_core.specs.Queries.{HasPlaceFor, HasPlacesFor};
-ghost use Rattle.bgp_core.specs.Solutions.{bind, extended, extension};
+ghost use Rattle.bgp_core.specs.Solutions.{bind, extension};
 ghost use Rattle.bgp_core.specs.Fits.{allows, agree, fits};
 
 use crate::{Part, Pattern, Row};
@@ -35,8 +35,10 @@ fn agree(part: &Part, term: &Term, other: &Part, other_term: &Term) -> bool
     }
 }
 
-/// Whether the row has an extension, found without a copy of it.
-fn fits(pattern: &Pattern, row: &Row, triple: &Triple) -> bool
+/// Whether a row lets a pattern become a triple, tested before anything is copied or moved: each fixed part is its term, each
+/// name that is bound has its term, and a name that stands twice would get one term. It is the test of `match_triple`, for
+/// callers that move the terms of their triple. It takes no memory.
+pub fn fits(pattern: &Pattern, row: &Row, triple: &Triple) -> bool
     ensures { result ≡ fits pattern.now row.now triple.now }
 {
     allows(&pattern.subject, &triple.subject, row)
@@ -104,7 +106,7 @@ fn bind_all(
 /// The row extended by the names of the pattern so that the pattern becomes the triple (SPARQL 1.1,
 /// 18.3): `None` exactly where there is no such row. The row is copied only where there is one, and shares what was bound
 /// with it; the terms of the names that are bound anew are copied. Condition: the row has a place for every name of the
-/// pattern. It fails for want of memory alone.
+/// pattern. The only error is out of memory.
 pub fn match_triple(
     alloc: Global,
     pattern: &Pattern,

@@ -1,5 +1,5 @@
 // The solutions of a query over a list of triples.
-ghost use Rattle.std.specs.Prelude.{ℕ, ◌≡◌, List, length, IfOk, Option, None, OnOk, replicate, map, ◌++◌, ◌||◌};
+ghost use Rattle.std.specs.Prelude.{◌≡◌, length, IfOk, None, OnOk, replicate, map, ◌++◌, ◌||◌};
 ghost use Rattle.std.specs.List.{AllByRecursion};
 ghost use Rattle.bgp_core.specs.Queries.{HasPlacesFor};
 ghost use Rattle.rdf_terms.specs.Same.{triple_eq};
@@ -75,7 +75,7 @@ fn rows_of(alloc: Global, triples: &[Triple], query: &Query) -> Result<Vec<Row>,
 
 /// The solutions of a query over the distinct triples of a list (SPARQL 1.1, 18.3.1), each as often as SPARQL counts it, in
 /// the order of nested matching: by the triples of the first pattern, then by those of the second. Each row has a place for
-/// every name of the query. It fails for want of memory alone.
+/// every name of the query. The only error is out of memory.
 pub fn solutions(alloc: Global, triples: &[Triple], query: &Query) -> Result<Vec<Row>, OutOfMemory>
     ensures fit { IfOk result (λ v. AllByRecursion (λ r. length query.now.names ≡ length r) v.items) }
     ensures rows { IfOk result (λ v. v.items ≡ solutions (distinct triples.now) query.now.patterns (replicate (length query.now.names) None)) }

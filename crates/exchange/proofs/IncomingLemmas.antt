@@ -240,12 +240,6 @@ ends_whole c place used answer i cuts given p e t =
     let same : s.0 ≡ answer = some_is _ _ _ s.2 (ap (λ q. reply_at (closed_at q)) (sym p) ∙ t) in
     (s.1, s.3 ∙ ap (λ r. reply.Whole r.body s.1 r.keeps) same)
 
-pub ends_not_none : (c : Coming) (place : Place) (used : ℕ) → IsComing c → CutsReading → WhatIsReadIsGiven → place ≡ c.place → feds.Done used ≡ shown (at_the_end true place)
-    → reply_at (closed_at place) ≡ None → ⊥
-ends_not_none c place used i cuts given p e t =
-    let s = shown_as c (feds.Done used) (end_is c i cuts given) (e ∙ ap (λ q. shown (at_the_end true q)) p) in
-    none_some _ (ap (λ q. reply_at (closed_at q)) (sym p) ∙ t) s.2
-
 -- the same where the bytes are seen by another name
 pub cut_of : (v w : Coming) (kept : List ℕ) → v ≡ w → IsComing v → CutsReading → WhatIsReadIsGiven → feds.More ≡ shown (at_the_end true v.place) → kept ≡ v.received
     → (concluded w ≡ reply.More) × (kept ≡ w.received) × (is_open w.place ≡ true)

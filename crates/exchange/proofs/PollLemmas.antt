@@ -12,13 +12,13 @@ use Rattle.futures.specs.declared.task.Poll.TheVariants.{Ready, Pending}
 use Rattle.tpf_base.specs.Links.{Link, WireState, Sending, Receiving, IsRipe, is_short, some_left}
 use Rattle.tpf_base.specs.Links as links
 use Rattle.tpf_base.specs.Calls.{Closes}
-use Rattle.link_calls.specs.Sending.{Holds, CallsOn, SendsFrom}
+use Rattle.link_calls.specs.Sending.{Holds, SendsFrom}
 use Rattle.link_calls.specs.Sending as sending
 use Rattle.link_calls.proofs.SendingLemmas.{holds_same, rose_on}
 use Rattle.exchange.specs.Exchanges.{Exchanging, request_of}
 use Rattle.exchange.specs.Incoming.{Coming}
 use Rattle.exchange.specs.Receiving.{ReceivesFrom}
-use Rattle.exchange.specs.Polls.{Awaits, ToSend, ToReceive, Hangs, RoseOn, Waits, Breaks, Fails, ReceivedIs, Ends, Answers, ClosedOn, FrontSent}
+use Rattle.exchange.specs.Polls.{Awaits, ToSend, ToReceive, Hangs, RoseOn, Waits, Breaks, Fails, ReceivedIs, Ends, Answers, HandsOver, ClosedOn, FrontSent}
 use Rattle.exchange.specs.Parts.{Leading, Leads, Concludes, IsUndialled}
 use Rattle.exchange.specs.declared.exchange.Standing.{Standing}
 use Rattle.exchange.specs.declared.exchange.Standing.TheVariants.{Underway, Left, Over}
@@ -445,6 +445,25 @@ reply_read k o w new address sent from to lost ended old_standing mid_standing a
 
 pub as_result : (w new : Exchanging) (a c : WireState) (r s : Poll (Result Reply ExchangeFault)) → s ≡ r → Answers w new a c r → Answers w new a c s
 as_result w new a c r s e h = subst (λ (x : Poll (Result Reply ExchangeFault)). Answers w new a c x) (sym e) h
+
+-- ---- what is kept behind an answer
+
+pub handed_all : (held : List ℕ) (r : Poll (Result Reply ExchangeFault)) → held ≡ [] → HandsOver held r
+handed_all held Pending e = tt
+handed_all held (Ready (Ok answer)) e = e
+handed_all held (Ready (Err faults.Failed)) e = tt
+handed_all held (Ready (Err (faults.Cut received))) e = e
+handed_all held (Ready (Err (faults.Bad fault received))) e = e
+handed_all held (Ready (Err faults.OutOfMemory)) e = tt
+
+pub handed_as : (held : List ℕ) (r s : Poll (Result Reply ExchangeFault)) → s ≡ r → HandsOver held r → HandsOver held s
+handed_as held r s e h = subst (λ (x : Poll (Result Reply ExchangeFault)). HandsOver held x) (sym e) h
+
+pub handed_undialled : (held : List ℕ) (w : Exchanging) (fault : ExchangeFault) (a c : WireState) → IsUndialled fault w a c → HandsOver held (Ready (Err fault))
+handed_undialled held w faults.Failed a c u = tt
+handed_undialled held w (faults.Cut received) a c u = absurd u.cause
+handed_undialled held w (faults.Bad fault received) a c u = absurd u.cause
+handed_undialled held w faults.OutOfMemory a c u = tt
 
 pub send_pending : (k : ℕ) (o : Option ℕ) (w : Exchanging) (address : Address) (limit : ℕ) (request received : List ℕ) (from to : ℕ) (old_standing standing : Standing) (a b : WireState)
     → with_link address limit o (take from request) received old_standing ≡ w → w.link ≡ Some k → request ≡ request_of address

@@ -6,7 +6,7 @@ use Rattle.tpf_base.specs.declared.wire.Moved.TheVariants as answers
 use Rattle.tpf_base.specs.Links.{Receiving, WireState, Tells, CountsAlone, SentAndReceived, All, told_by, is_short, some_left}
 use Rattle.tpf_base.specs.Calls.{Receives}
 use Rattle.link_calls.specs.Sending.{Holds, CallsOn}
-use Rattle.link_calls.proofs.SendingLemmas.{calls_same, calls_then, holds_append, holds_same, rose_on}
+use Rattle.link_calls.proofs.SendingLemmas.{calls_then, holds_append, holds_same, rose_on}
 use Rattle.exchange.specs.Incoming.{Coming}
 use Rattle.exchange.specs.Receiving.{ReceivesFrom}
 
@@ -27,9 +27,6 @@ receives_call k to a b answer s = record {
   idle = receives_idle k to a b answer s;
   not_due = λ st e t. (s.not_due st e t).0;
 }
-
-pub received_none : (k : ℕ) (c : Coming) (a : WireState) → ReceivesFrom k c c [] a a
-received_none k c a = record { calls = calls_same k a; sent = refl; limit = refl; received_is = λ r h. rw (append-nil c.received) h }
 
 -- bytes behind bytes
 behind : (r x y : List ℕ) → (r ++ (x ++ [])) ++ y ≡ r ++ ((x ++ y) ++ [])

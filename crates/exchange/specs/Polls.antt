@@ -1,5 +1,5 @@
 -- What a poll of an exchange does and answers.
-use Rattle.std.specs.Prelude.{ℕ, ◌≡◌, ◌≢◌, ◌+◌, ◌<◌, ◌≤◌, ◌^◌, ◌==◌, ◌&&◌, ◌⊎◌, ◌++◌, Bool, true, false, List, length, Option, Some, None, Result, Ok, Err, if◌then◌else◌}
+use Rattle.std.specs.Prelude.{ℕ, ◌≡◌, ◌≢◌, ◌+◌, ◌<◌, ◌≤◌, ◌^◌, ◌==◌, ◌&&◌, ◌⊎◌, ◌++◌, Bool, true, false, List, [], length, Option, Some, None, Result, Ok, Err, if◌then◌else◌}
 use Rattle.tpf_base.specs.Causes.{Rose, counted}
 use Rattle.tpf_base.specs.Failures.{is_nth}
 use Rattle.tpf_base.specs.Addresses.{Address}
@@ -158,3 +158,12 @@ Answers old new wire wire' (Ready (Err faults.Failed)) = Fails old new wire wire
 Answers old new wire wire' (Ready (Err (faults.Cut received))) = Cuts old new wire wire' received
 Answers old new wire wire' (Ready (Err (faults.Bad fault received))) = Refuses old new wire wire' fault received
 Answers old new wire wire' (Ready (Err faults.OutOfMemory)) = Breaks old new wire wire'
+
+-- What was received goes with a reply, with a part of one and with one that is refused: nothing of it is kept.
+abbrev pub HandsOver : List ℕ → Poll (Result Reply ExchangeFault) → Type 0
+HandsOver held Pending = Unit {0}
+HandsOver held (Ready (Ok answer)) = held ≡ []
+HandsOver held (Ready (Err faults.Failed)) = Unit {0}
+HandsOver held (Ready (Err (faults.Cut received))) = held ≡ []
+HandsOver held (Ready (Err (faults.Bad fault received))) = held ≡ []
+HandsOver held (Ready (Err faults.OutOfMemory)) = Unit {0}

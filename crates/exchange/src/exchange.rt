@@ -1,10 +1,10 @@
 // One request and its reply.
-ghost use Rattle.std.specs.Prelude.{ℕ, ◌≡◌, ◌+◌, ◌*◌, ◌≤◌, ◌==◌, ◌&&◌, List, length, true, false, Some, IfOk, IfErr, Err, if◌then◌else◌};
+ghost use Rattle.std.specs.Prelude.{◌≡◌, ◌+◌, ◌*◌, ◌≤◌, ◌==◌, ◌&&◌, [], length, true, false, Some, IfOk, IfErr, Err, if◌then◌else◌};
 ghost use Rattle.tpf_base.specs.HttpReply.{is_open, begun, after_bytes};
 ghost use Rattle.tpf_base.specs.Links.{SameAllowed};
 ghost use Rattle.tpf_base.specs.Calls.{Closes};
 ghost use Rattle.exchange.specs.Exchanges.{starting, left_link, IsLinked, request_of};
-ghost use Rattle.exchange.specs.Polls.{Touches, Answers};
+ghost use Rattle.exchange.specs.Polls.{Touches, Answers, HandsOver};
 ghost use Rattle.exchange.specs.Parts.{Leads, TouchesLink, IsUndialled, Concludes};
 
 use crate::buffer::ReceiveBuffer;
@@ -33,7 +33,7 @@ pub(crate) enum Standing {
 
 /// A request for an address and the reply to it, on one link: a future that is polled by hand.
 ///
-/// Contracts see its address, the limit of the reply's body, its link, the front of its request that
+/// Contracts see its address, the limit of the reply's body, its link, the prefix of its request that
 /// was sent, the bytes that were received in reply, and where it stands. It holds no history of its
 /// link: what was sent and received there before is no part of it.
 #[derive(Drop)]
@@ -72,9 +72,10 @@ impl Model for Exchange {
 }
 
 impl Exchange {
-    /// An exchange for an address whose reply may have a body of so many bytes, or out of memory. It
-    /// uses the given link, which another exchange with the same authority left, or else dials one at
-    /// its first poll. Nothing is sent yet. The address moves in, and `into_address` gives it back.
+    /// An exchange for an address whose reply may have a body of at most so many bytes. It uses the
+    /// given link, which another exchange with the same authority left, or else dials one at its first
+    /// poll. Nothing is sent yet. The address moves in, and `into_address` gives it back. It fails only
+    /// when it is out of memory; the address is then gone.
     #[tactic(auto, unfolding(crate::specs::Exchanges::request_of))]
     pub fn start(
         alloc: Global,
@@ -135,12 +136,13 @@ impl Exchange {
     /// Goes on until a call moves no byte: dials, unless it has a link, to the host and the port of
     /// its address, sends what is left of its request, and receives the reply.
     ///
-    /// `Pending` where its link stalled; what was sent so far is a front of the request. `Ready` with
+    /// `Pending` where its link stalled; what was sent so far is a prefix of the request. `Ready` with
     /// the reply where the request was sent whole and what was received in reply is that reply, whole;
     /// the link then stays open where `leave` gives it. `Failed` only where the wire's count of faults
     /// rose in this poll; `Cut` where the link ended before the reply was whole; `Bad` as soon as the
-    /// bytes received have that fault. Where it is ready and `leave` gives nothing the link is closed.
-    /// Each poll has the same wire, and the buffer may be another.
+    /// bytes received have that fault. What was received goes with these three answers. Where it is
+    /// ready and `leave` gives nothing the link is closed. Each poll has the same wire, and the buffer
+    /// may be another.
     pub fn poll<W: Dial>(
         &mut self,
         wire: &mut W,
@@ -150,11 +152,12 @@ impl Exchange {
         requires link { IsLinked self.old.link (W.state wire.old) }
         ensures touches { Touches self.old self.new (W.state wire.old) (W.state wire.new) }
         ensures answers { Answers self.old self.new (W.state wire.old) (W.state wire.new) result }
+        ensures hands_over { HandsOver self.new.received result }
         ensures allowed { SameAllowed (W.allows wire.old) (W.allows wire.new) }
     {
         self.incoming.leads();
         what_is_read_is_given();
-        match self.linked(wire) {
+        match self.own_link(wire) {
             Ok(link) => self.send(wire, buffer, link),
             Err(fault) => {
                 self.standing = Standing::Over;
@@ -164,7 +167,7 @@ impl Exchange {
     }
 
     /// Its link, which is dialled where it has none.
-    fn linked<W: Dial>(&mut self, wire: &mut W) -> Result<u64, ExchangeFault>
+    fn own_link<W: Dial>(&mut self, wire: &mut W) -> Result<u64, ExchangeFault>
         requires link { IsLinked self.old.link (W.state wire.old) }
         ensures leads { IfOk result (λ link. Leads link self.old self.new (W.state wire.old) (W.state wire.new) × (self.new ≡ record self.old { link = Some link })) }
         ensures refused { IfErr result (λ fault. IsUndialled fault self.old (W.state wire.old) (W.state wire.new) × (self.new ≡ self.old)) }
@@ -195,6 +198,7 @@ impl Exchange {
         requires is_open { ((W.state wire.old).links link).is_open ≡ true }
         ensures touches { TouchesLink link self.old self.new (W.state wire.old) (W.state wire.new) }
         ensures answers { Answers self.old self.new (W.state wire.old) (W.state wire.new) result }
+        ensures hands_over { HandsOver self.new.received result }
         ensures allowed { SameAllowed (W.allows wire.old) (W.allows wire.new) }
     {
         self.incoming.leads();
@@ -220,6 +224,7 @@ impl Exchange {
         requires is_open { ((W.state wire.old).links link).is_open ≡ true }
         ensures touches { TouchesLink link self.old self.new (W.state wire.old) (W.state wire.new) }
         ensures answers { Answers self.old self.new (W.state wire.old) (W.state wire.new) result }
+        ensures hands_over { HandsOver self.new.received result }
         ensures allowed { SameAllowed (W.allows wire.old) (W.allows wire.new) }
     {
         let received = receive(wire, link, buffer.bytes.as_mut_slice(), &mut self.incoming);
@@ -288,6 +293,7 @@ impl Exchange {
         ensures limit { self.new.limit ≡ self.old.limit }
         ensures link { self.new.link ≡ self.old.link }
         ensures sent { self.new.sent ≡ self.old.sent }
+        ensures received { self.new.received ≡ [] }
         ensures concludes { Concludes link ended self.old self.new (W.state wire.old) (W.state wire.new) result }
         ensures allowed { SameAllowed (W.allows wire.old) (W.allows wire.new) }
     {

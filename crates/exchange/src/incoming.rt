@@ -1,5 +1,5 @@
 // The bytes that come in reply to a request.
-ghost use Rattle.std.specs.Prelude.{ℕ, ◌≡◌, ◌+◌, ◌*◌, ◌≤◌, ◌↔◌, List, [], ◌++◌, length, Bool, true, false, IfOk, OnOk, OnErr, Some};
+ghost use Rattle.std.specs.Prelude.{ℕ, ◌≡◌, ◌+◌, ◌*◌, ◌≤◌, ◌↔◌, List, ◌++◌, length, Bool, true, false, IfOk, OnOk, OnErr, Some};
 ghost use Rattle.tpf_base.specs.HttpReply.{is_open, begun, after_bytes, reply_of, Whole};
 ghost use Rattle.exchange.specs.Incoming.{Coming, none_yet, IsConclusion};
 

@@ -1,4 +1,17 @@
-//! One request and its reply on one link: a future that is polled by hand.
+//! One request and its reply on one link (a TCP connection): a future that is polled by hand.
+//!
+//! An exchange is started for an address, and polled up to its answer, at most so many times, over a
+//! wire (the transport):
+//!
+//! ```rust
+//! while polls < most {
+//!     match exchange.poll(wire, buffer) {
+//!         Poll::Ready(answer) => return Some(answer),
+//!         Poll::Pending => polls += 1,
+//!     }
+//! }
+//! None
+//! ```
 #![tactic(auto)]
 
 mod buffer;

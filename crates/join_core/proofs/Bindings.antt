@@ -1,5 +1,6 @@
 -- A row that fits a triple is extended by it, part by part: what was tested before stays true while parts are bound.
 use Rattle.std.proofs.Common.{ℕ, ◌≡◌, inl, inr, Bool, true, false, not, if◌then◌else◌, ◌&&◌, ◌||◌, nat_eq, Option, Some, None, slice_get, slice_set, refl, ap, sym, subst, ◌∙◌, arith}
+use Rattle.std.proofs.lemmas.Bool.{cases_eq}
 use Rattle.rdf_terms.specs.Same.{term_eq}
 use Rattle.rdf_terms.specs.declared.term.Term.{Term}
 use Rattle.rdf_terms.specs.declared.term.Triple.{Triple}
@@ -8,11 +9,8 @@ use Rattle.bgp_core.specs.declared.pattern.Part.TheVariants.{Fixed, Name}
 use Rattle.bgp_core.specs.declared.pattern.Pattern.{Pattern}
 use Rattle.bgp_core.specs.Solutions.{Places, put, bind, extended, extension}
 use Rattle.bgp_core.specs.Fits.{allows_at, allows, agree, fits}
-use Rattle.bgp_core.proofs.Extending.{get-set, get-set_other, same_or_not}
-
-both : (a b : Bool) → (a && b) ≡ true → (a ≡ true) × (b ≡ true)
-both true b e = (refl, e)
-both false b e = cc
+use Rattle.bgp_core.proofs.Extending.{get-set, get-set_other}
+use Rattle.join_core.proofs.Valid.{both}
 
 -- what is tested before anything is bound
 pub record Fitting (p : Pattern) (row : Places) (t : Triple) : Type 0 where
@@ -43,7 +41,7 @@ same-name false t s g e = cc
 
 filled-allows : (q : Part) (n : ℕ) (t s : Term) (row : Places) → slice_get row n ≡ Some None → allows q s row ≡ true → agree (Name n) t q s ≡ true → allows q s (slice_set row n (Some t)) ≡ true
 filled-allows (Fixed v) n t s row at a g = a
-filled-allows (Name m) n t s row at a g = elim (same_or_not n m) [
+filled-allows (Name m) n t s row at a g = elim (cases_eq n m) [
   | inl e ↦ (
       let there : slice_get (slice_set row n (Some t)) m ≡ Some (Some t) = subst (λ k. slice_get (slice_set row n (Some t)) k ≡ Some (Some t)) e (get-set row n None (Some t) at) in
       let equal : nat_eq n m ≡ true = grind (arith, e) in

@@ -5,6 +5,7 @@ use Rattle.std.specs.Option.{option_map}
 use Rattle.std.specs.List.{flat_map, All}
 use Rattle.std.specs.List.Sorted.{IsPermutation}
 use Rattle.std.specs.Map.{lookup, values_of}
+use Rattle.std.proofs.lemmas.Bool.{cases_eq}
 use Rattle.std.proofs.lemmas.Bool.Decides.{nat_tests}
 use Rattle.std.proofs.lemmas.List.Sums.{sum_by-append}
 use Rattle.std.proofs.lemmas.List.Elements.{All-nil, All-cons, All-head, All-tail}
@@ -22,12 +23,6 @@ use Rattle.join_core.specs.Levels.{is_key, times, tickets_at, once_under, IsBook
 use Rattle.join_core.proofs.Outs.{no-ticket-in}
 
 -- ---- numbers
-
-pub same-or-not : (a b : ℕ) → (a ≡ b) ⊎ (a ≡ b → ⊥)
-same-or-not zero zero = inl refl
-same-or-not zero (suc b) = inr (λ e. cc)
-same-or-not (suc a) zero = inr (λ e. cc)
-same-or-not (suc a) (suc b) = elim (same-or-not a b) [ inl e ↦ inl (ap suc e) | inr h ↦ inr (λ e. h (omega (arith, e))) ]
 
 one-by : (a b : ℕ) (c : Bool) → (a == b) ≡ c → a ≡ b → ◌≡◌ {A = ℕ} (cond c 1 0) 1
 one-by a b true e h = refl
@@ -92,13 +87,13 @@ module _ (g g' : ℕ → Option ℕ) (f f' : ℕ → List ℕ) (t₀ k₀ : ℕ)
   -- a ticket that was not out is noted under the number of the node that asked
   pub book-ask : IsBook g f → g' t₀ ≡ Some k₀ → ((q : ℕ) → (q ≡ t₀ → ⊥) → g' q ≡ g q) → IsPermutation (f' k₀) (t₀ ∷ f k₀) → ((q : ℕ) → (q ≡ k₀ → ⊥) → f' q ≡ f q) → ((q : ℕ) → times t₀ (f q) ≡ 0) → IsBook g' f'
   book-ask b now rest more others new = record {
-    told = λ t k. elim (same-or-not t t₀) [
-      | inl s ↦ elim (same-or-not k k₀) [
+    told = λ t k. elim (cases_eq t t₀) [
+      | inl s ↦ elim (cases_eq k k₀) [
         | inl r ↦ subst (λ (x : ℕ). times x (f' k) ≡ once_under k (g' x)) (sym s) (subst (λ (x : ℕ). times t₀ (f' x) ≡ once_under x (g' t₀)) (sym r)
             (sym (times-turned t₀ (f' k₀) (t₀ ∷ f k₀) more) ∙ times-here t₀ (f k₀) ∙ ap (λ (x : ℕ). 1 + x) (new k₀) ∙ sym (ap (once_under k₀) now ∙ under-here k₀ k₀ refl)))
         | inr d ↦ subst (λ (x : ℕ). times x (f' k) ≡ once_under k (g' x)) (sym s) (ap (times t₀) (others k d) ∙ new k ∙ sym (ap (once_under k) now ∙ under-other k k₀ (λ e. d (sym e))))
       ]
-      | inr c ↦ elim (same-or-not k k₀) [
+      | inr c ↦ elim (cases_eq k k₀) [
         | inl r ↦ subst (λ (x : ℕ). times t (f' x) ≡ once_under x (g' t)) (sym r)
             (sym (times-turned t (f' k₀) (t₀ ∷ f k₀) more) ∙ times-past t t₀ (f k₀) (λ e. c (sym e)) ∙ b.told t k₀ ∙ ap (once_under k₀) (sym (rest t c)))
         | inr d ↦ ap (times t) (others k d) ∙ b.told t k ∙ ap (once_under k) (sym (rest t c))
@@ -115,12 +110,12 @@ module _ (g g' : ℕ → Option ℕ) (f f' : ℕ → List ℕ) (t₀ k₀ : ℕ)
       let gone : times t₀ (f' k₀) ≡ 0 = omega arith in
       let some : 0 < once_under k₀ (g t₀) = omega arith in
       record {
-        told = λ t k. elim (same-or-not t t₀) [
-          | inl s ↦ elim (same-or-not k k₀) [
+        told = λ t k. elim (cases_eq t t₀) [
+          | inl s ↦ elim (cases_eq k k₀) [
             | inl r ↦ subst (λ (x : ℕ). times x (f' k) ≡ once_under k (g' x)) (sym s) (subst (λ (x : ℕ). times t₀ (f' x) ≡ once_under x (g' t₀)) (sym r) (gone ∙ sym (ap (once_under k₀) now)))
             | inr d ↦ subst (λ (x : ℕ). times x (f' k) ≡ once_under k (g' x)) (sym s) (ap (times t₀) (others k d) ∙ b.told t₀ k ∙ under-one (g t₀) k₀ k some d ∙ sym (ap (once_under k) now))
           ]
-          | inr c ↦ elim (same-or-not k k₀) [
+          | inr c ↦ elim (cases_eq k k₀) [
             | inl r ↦ subst (λ (x : ℕ). times t (f' x) ≡ once_under x (g' t)) (sym r)
                 (sym (sym (times-turned t (f k₀) (t₀ ∷ f' k₀) less) ∙ times-past t t₀ (f' k₀) (λ e. c (sym e))) ∙ b.told t k₀ ∙ ap (once_under k₀) (sym (rest t c)))
             | inr d ↦ ap (times t) (others k d) ∙ b.told t k ∙ ap (once_under k) (sym (rest t c))

@@ -11,7 +11,8 @@ use Rattle.join_core.specs.declared.first.First.TheVariants.{Out, Got}
 use Rattle.join_core.specs.Nodes.{Stage, NodeData, node, is_got, count_of, least}
 use Rattle.join_core.specs.Nodes.Stage.{Asking, Walking}
 use Rattle.join_core.specs.Events.{CanAskStage, is_full, IsFirstOf, first_at, least_in, MadeOf, chosen_page, IsChosen}
-use Rattle.join_core.proofs.Marks.{both, got-at}
+use Rattle.join_core.proofs.Valid.{both}
+use Rattle.join_core.proofs.Marks.{got-at}
 
 -- ---- handing out
 

@@ -28,10 +28,11 @@ use Rattle.join_core.specs.Evaluations.{Terms, HasHome, NextAtHome}
 use Rattle.join_core.specs.Sound.{FirstAtHome, StageAtHome, IsAskedBy, KeepsNode, KeepsTo}
 use Rattle.join_core.proofs.Replacing.{all-after, holds-before, before-after}
 use Rattle.join_core.proofs.Taken.{taken-replaces, set-replaces}
-use Rattle.join_core.proofs.Marks.{tickets-ask, waits-next, waits-first, next-tickets, first-tickets, full-tickets, both, got-at}
-use Rattle.join_core.proofs.Valid.{pattern-at}
+use Rattle.join_core.proofs.Marks.{tickets-ask, waits-next, waits-first, next-tickets, first-tickets, full-tickets, got-at}
+use Rattle.join_core.proofs.Valid.{pattern-at, both}
 use Rattle.join_core.proofs.Outs.{idle-tickets, idle-none, made-idle}
 use Rattle.join_core.proofs.Promises.{grown}
+use Rattle.join_core.proofs.Scans.{front}
 
 -- ---- authorities
 
@@ -334,7 +335,7 @@ all-idle terms (n ∷ ns) k f h t =
     (quiet-in n.row n.rest n.stage (All-head (KeepsNode terms) n ns k).asking (All-head (λ x. is_full x ≡ false) n ns f) (All-head (λ x. has_ask x ≡ false) n ns h) e.0)
     (all-idle terms ns (All-tail (KeepsNode terms) n ns k) (All-tail (λ x. is_full x ≡ false) n ns f) (All-tail (λ x. has_ask x ≡ false) n ns h) e.1)
 
-none-work : (ns : List NodeData) → All (λ n. is_idle n ≡ true) ns → count_by works ns ≡ 0
+pub none-work : (ns : List NodeData) → All (λ n. is_idle n ≡ true) ns → count_by works ns ≡ 0
 none-work [] a = refl
 none-work (n ∷ ns) a =
     let e : works n ≡ false = ap not (All-head (λ x. is_idle x ≡ true) n ns a) in
@@ -364,10 +365,6 @@ first-keeps-all homes width form ps row j h w window f l r t =
       rows = subst (λ (x : List Places). All (λ y. length y ≡ width) x) (sym r) (rows-wide terms ps row w);
       tickets = subst (λ (x : List ℕ). All (λ y. y < j.tickets) x) (sym t) (All-nil (λ y. y < j.tickets));
     }
-
-front : {X : Type 0} (P : X → Type 0) (xs ys : List X) → All P (xs ++ ys) → All P xs × All P ys
-front P [] ys a = (All-nil P, a)
-front P (x ∷ xs) ys a = let more = front P xs ys (All-tail P x (xs ++ ys) a) in (All-cons P x xs (All-head P x (xs ++ ys) a) more.0, more.1)
 
 -- the last row that waited was taken, or there was none
 pub row-keeps : (terms : Terms) (old new : JoinData) (o : Option Places) → old.waiting ≡ new.waiting ++ option_to_list o → new.levels ≡ old.levels → new.form ≡ old.form → new.window ≡ old.window → new.tickets ≡ old.tickets → KeepsTo terms old → KeepsTo terms new × MatchOption o ⊤ (λ row. length row ≡ terms.width)

@@ -10,7 +10,7 @@ use Rattle.std.specs.BTreeSet.{BTreeSet, insert_key}
 use Rattle.std.specs.Ordering.{nat_cmp}
 use Rattle.std.specs.Cmp.{nat_cmp_total, eq_by_cmp_equiv}
 use Rattle.std.proofs.lemmas.Bool.Decides.{nat_tests}
-use Rattle.std.proofs.lemmas.List.{set-append_left, length-map, take-append-le}
+use Rattle.std.proofs.lemmas.List.{get_or_append_left, set-append_left, take-append-le}
 use Rattle.std.proofs.lemmas.List.Elements.{All-nil, All-cons, All-head, All-tail, All-append}
 use Rattle.std.proofs.lemmas.List.Sums.{sum_by-append}
 use Rattle.std.proofs.lemmas.Map.Keys.{IsDistinct-from_sorted}
@@ -18,6 +18,7 @@ use Rattle.std.proofs.lemmas.Map.Views.{All-values_from_lookup}
 use Rattle.std.proofs.lemmas.Map.Entries.{length-values_of}
 use Rattle.std.proofs.lemmas.Map.Steps.{set_value_same}
 use Rattle.std.specs.Option.{IfSome}
+use Rattle.std.proofs.lemmas.Bool.{cases_eq}
 use Rattle.bgp_core.specs.declared.pattern.Pattern.{Pattern}
 use Rattle.bgp_core.specs.Solutions.{Places}
 use Rattle.control_reader.specs.declared.page.Page.{Page}
@@ -30,11 +31,12 @@ use Rattle.join_core.specs.Events.{CanAsk, CanAskStage, asked, waits_for, with_f
 use Rattle.join_core.specs.Joins.{tickets_of, settled}
 use Rattle.join_core.specs.Levels.{Seed, seed_node, LevelData, level, nodes_of, is_key, spot, marked, times, tickets_at, once_under, IsBook, IsKept, Sets, Notes, MaySettle, IsFirstIdle, IsAsker}
 use Rattle.join_core.proofs.Keyed.{key-self, key-not, spot-found, values-set, values-removed, key-absent, marked-same, marked-gone, marked-off, marked-on, marked-alone, marked-push, marked-count, marked-none, none-marked, marked-first, alone-self, remove-left, below-more, key-of, marked-below, IsFirstOf}
-use Rattle.join_core.proofs.Books.{same-or-not, book-ask, book-end, book-same, book-none, book-some, none-waits, waits-none}
+use Rattle.join_core.proofs.Books.{book-ask, book-end, book-same, book-none, book-some, none-waits, waits-none}
 use Rattle.join_core.proofs.Outs.{idle-tickets}
 use Rattle.bgp_core.proofs.Patterns.{same}
 use Rattle.join_core.proofs.Marks.{tickets-ask, first-tickets, full-tickets, waits-next, next-tickets}
 use Rattle.join_core.proofs.Small.{first-works, next-works}
+use Rattle.join_core.proofs.Scans.{front}
 
 -- ---- answers
 
@@ -127,7 +129,7 @@ kept-begun next n m m' s s' a b k e f o g idle = record {
   below = subst (λ (l : List (ℕ × NodeData)). AllByRecursion (λ x. x < next + 1) (keys_of l)) (sym e) (below-more next n m.entries k.below);
   paused = g ∙ ap (λ (l : List ℕ). l ++ next ∷ []) k.paused ∙ sym (ap (λ (l : List (ℕ × NodeData)). marked is_idle l) e ∙ marked-push is_idle next n m.entries ∙ ap (λ (c : Bool). marked is_idle m.entries ++ cond c (next ∷ []) []) idle);
   asking = k.asking ∙ sym (ap (λ (l : List (ℕ × NodeData)). marked has_ask l) e ∙ marked-push has_ask next n m.entries ∙ ap (λ (c : Bool). marked has_ask m.entries ++ cond c (next ∷ []) []) (idle-no-ask n idle) ∙ append-nil (marked has_ask m.entries));
-  tickets = book-same (get nat_cmp b) (get nat_cmp b) (λ q. tickets_at (get nat_cmp m q)) (λ q. tickets_at (get nat_cmp m' q)) k.tickets (λ q. refl) (λ q. each q (same-or-not q next));
+  tickets = book-same (get nat_cmp b) (get nat_cmp b) (λ q. tickets_at (get nat_cmp m q)) (λ q. tickets_at (get nat_cmp m' q)) k.tickets (λ q. refl) (λ q. each q (cases_eq q next));
 } where
   each : (q : ℕ) → ((q ≡ next) ⊎ (q ≡ next → ⊥)) → tickets_at (get nat_cmp m' q) ≡ tickets_at (get nat_cmp m q)
   each q (inl r) = subst (λ (x : ℕ). tickets_at (get nat_cmp m' x) ≡ tickets_at (get nat_cmp m x)) (sym r) (ap tickets_at f.now ∙ idle-tickets n idle ∙ sym (ap tickets_at (key-absent next m.entries k.below)))
@@ -197,11 +199,7 @@ nodes-found l k n e =
     let f = spot-found k l.started n e in
     let long : length (values_of l.started) ≡ length l.started = length-values_of l.started in
     let within : spot k l.started < length (values_of l.started) = omega (arith, f.0, long) in
-    (omega (arith, within, length-append (values_of l.started) (map seed_node l.unstarted)), f.1 ∙ sym (front-get (values_of l.started) (map seed_node l.unstarted) (spot k l.started) n within)) where
-      front-get : (xs ys : List NodeData) (i : ℕ) (d : NodeData) → i < length xs → get_or (xs ++ ys) i d ≡ get_or xs i d
-      front-get [] ys i d h = absurd (omega arith)
-      front-get (x ∷ xs) ys zero d h = refl
-      front-get (x ∷ xs) ys (suc i) d h = front-get xs ys i d (omega arith)
+    (omega (arith, within, length-append (values_of l.started) (map seed_node l.unstarted)), f.1 ∙ sym (get_or_append_left (values_of l.started) (map seed_node l.unstarted) n (spot k l.started) within))
 
 pub nodes-set : (es es' : List (ℕ × NodeData)) (u : List Seed) (k : ℕ) (n w : NodeData) → lookup (is_key k) es ≡ Some n → es' ≡ set_value (is_key k) es w → nodes_of (level es' u) ≡ set (nodes_of (level es u)) (spot k es) w
 nodes-set es es' u k n w e h =
@@ -288,10 +286,7 @@ module _ (next : ℕ) (m : BTreeMap ℕ NodeData) (s : BTreeSet ℕ) (a : Option
   pub some-idle : (u : List Seed) → All (λ n. is_idle n ≡ false) (nodes_of (level m.entries u)) → (length s.keys ≡ 0) × (length u ≡ 0)
   some-idle u all =
       let parts = front (λ n. is_idle n ≡ false) (values_of m.entries) (map seed_node u) all in
-      (ap (λ (l : List ℕ). length l) (kept.paused ∙ none-marked is_idle m.entries parts.0), ap (λ (l : List Seed). length l) (seeds-idle u parts.1)) where
-        front : (P : NodeData → Type 0) (xs ys : List NodeData) → All P (xs ++ ys) → All P xs × All P ys
-        front P [] ys g = (All-nil P, g)
-        front P (x ∷ xs) ys g = let more = front P xs ys (All-tail P x (xs ++ ys) g) in (All-cons P x xs (All-head P x (xs ++ ys) g) more.0, more.1)
+      (ap (λ (l : List ℕ). length l) (kept.paused ∙ none-marked is_idle m.entries parts.0), ap (λ (l : List Seed). length l) (seeds-idle u parts.1))
 
   each-none : (t : ℕ) → ((k : ℕ) → times t (tickets_at (get nat_cmp m k)) ≡ 0) → (q : ℕ) → IfSome (lookup (is_key q) m.entries) (λ n. is_some (waits_for t n) ≡ false)
   each-none t h q = by (lookup (is_key q) m.entries) (h q) where
@@ -319,7 +314,7 @@ module _ (next : ℕ) (m : BTreeMap ℕ NodeData) (s : BTreeSet ℕ) (a : Option
 
   -- a ticket that is not out was noted and forgotten
   pub noted-forgot : (t k : ℕ) (b' b'' : BTreeMap ℕ ℕ) → ((q : ℕ) → times t (tickets_at (get nat_cmp m q)) ≡ 0) → Notes t (Some k) b b' → Notes t None b' b'' → (q : ℕ) → get nat_cmp b'' q ≡ get nat_cmp b q
-  noted-forgot t k b' b'' new n f q = by (same-or-not q t) where
+  noted-forgot t k b' b'' new n f q = by (cases_eq q t) where
     absent : (o : Option ℕ) → get nat_cmp b t ≡ o → o ≡ None
     absent None e = refl
     absent (Some j) e = absurd (omega (arith, new j, book-some (get nat_cmp b) (λ i. tickets_at (get nat_cmp m i)) t j kept.tickets e))

@@ -29,7 +29,7 @@ use Rattle.join_core.specs.Nodes.{Stage, NodeData, node, Holds, FirstsHold, open
 use Rattle.join_core.specs.Nodes.Stage.{Asking, Walking}
 use Rattle.join_core.specs.Events.{CanAsk, CanAskStage, asked, IsNextAddress, IsNextAddressOf, first_waiting, waits_for, with_first_at, is_full, one_more, next_walk, opened_by, out_by, after_by, MadeOf, chosen_page, chosen_page_by, IsChosen, IsFirstOf, made_of}
 use Rattle.join_core.specs.Joins.{outs, first_outs, tickets_of, first_tickets, Turn}
-use Rattle.join_core.proofs.Valid.{askable-at, instance-valid, every-at, pattern-at}
+use Rattle.join_core.proofs.Valid.{askable-at, instance-valid, both, every-at, pattern-at}
 use Rattle.join_core.proofs.Over.{least-counts}
 use Rattle.join_core.proofs.Pages.{counts-told}
 use Rattle.join_core.proofs.Turns.{first-ask-turn, next-ask-turn, walk-turn, held-turn, choice-turn}
@@ -209,10 +209,6 @@ first-place-again n ticket i first waits =
     subst (λ (x : Stage). IsFirstOf i (with_first_at i first (node n.row n.rest x))) (sym s.stage) (omega (arith, waiting-within s.firsts i ticket s.waiting, length-set s.firsts i first))
 
 -- ---- the choice
-
-pub both : (a b : Bool) → (a && b) ≡ true → (a ≡ true) × (b ≡ true)
-both true b e = (refl, e)
-both false b e = cc
 
 pub got-at : (fs : List First) (i : ℕ) → list_all is_got fs ≡ true → i < length fs → (page : Page) × (Got page ≡ get_or fs i (Got page))
 got-at [] i h l = absurd (omega arith)

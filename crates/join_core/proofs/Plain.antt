@@ -2,13 +2,14 @@
 use Rattle.std.proofs.Common.{ℕ, zero, suc, ◌≡◌, ◌+◌, ◌<◌, ◌≤◌, nat_lt, Bool, true, false, if◌then◌else◌, List, [], ◌∷◌, ◌++◌, length, map, get_or, set, take, Option, Some, None, refl, ap, sym, subst, ◌∙◌, arith, append_assoc, append-nil, length-append}
 use Rattle.std.specs.List.{All, flat_map}
 use Rattle.std.specs.Map.{lookup, values_of}
-use Rattle.std.proofs.lemmas.List.{get_or_default, length-map, get_or-set_same, set-append_left}
+use Rattle.std.proofs.lemmas.List.{get_or_default, get_or_append_left, get_or-set_same, set-set, take_at}
 use Rattle.std.proofs.lemmas.List.Elements.{All-nil, All-cons, All-head, All-tail, All-append}
 use Rattle.std.proofs.lemmas.Bool.Decides.{nat_tests}
 use Rattle.join_core.specs.Nodes.{NodeData}
 use Rattle.join_core.specs.Joins.{nodes, Stands, IsAt, level_at, settled, levels_after}
 use Rattle.join_core.specs.Levels.{Seed, seed_node, LevelData, level, nodes_of, plain, level_of, is_key, spot, found_at, index_at, made_levels, with_node_in}
 use Rattle.join_core.proofs.Kept.{nodes-found}
+use Rattle.join_core.proofs.Scans.{front}
 
 pub plain-level : (ls : List LevelData) (d : ℕ) → level_at (plain ls) d ≡ nodes_of (level_of ls d)
 plain-level [] d = refl
@@ -110,24 +111,12 @@ pub made-deepest : (ls : List LevelData) (d i : ℕ) (l l' : LevelData) (more : 
     → plain (set (ls ++ level [] more ∷ []) d l') ≡ made_levels (plain ls) d i (map seed_node more) after
 made-deepest ls d i l l' more after h here e =
     let deep : d < length ls = omega arith in
-    let at : l ≡ get_or ls d l = here ∙ front-get ls (level [] more ∷ []) d l deep in
+    let at : l ≡ get_or ls d l = here ∙ get_or_append_left ls (level [] more ∷ []) l d deep in
     let one : plain (ls ++ level [] more ∷ []) ≡ levels_after (plain ls) (d + 1) (map seed_node more) =
     plain-push ls (level [] more) ∙ sym (if-no (nat_lt (d + 1) (length (plain ls))) _ _ (not-below (d + 1) (length (plain ls)) (h ∙ sym (plain-long ls)))) in
-    plain-set (ls ++ level [] more ∷ []) d l' ∙ ap (λ (x : List (List NodeData)). set x d (nodes_of l')) one ∙ ap (λ (x : List NodeData). set (levels_after (plain ls) (d + 1) (map seed_node more)) d x) (e ∙ ap (λ (x : List NodeData). settled x i after) (sym (nodes-is ls d l deep at))) where
-      front-get : (xs ys : List LevelData) (j : ℕ) (z : LevelData) → j < length xs → get_or (xs ++ ys) j z ≡ get_or xs j z
-      front-get [] ys j z g = absurd (omega arith)
-      front-get (x ∷ xs) ys zero z g = refl
-      front-get (x ∷ xs) ys (suc j) z g = front-get xs ys j z (omega arith)
+    plain-set (ls ++ level [] more ∷ []) d l' ∙ ap (λ (x : List (List NodeData)). set x d (nodes_of l')) one ∙ ap (λ (x : List NodeData). set (levels_after (plain ls) (d + 1) (map seed_node more)) d x) (e ∙ ap (λ (x : List NodeData). settled x i after) (sym (nodes-is ls d l deep at)))
 
 -- what was added is taken back
-take-front : (a b : List Seed) → take (length a) (a ++ b) ≡ a
-take-front [] b = refl
-take-front (x ∷ a) b = ap (λ (l : List Seed). x ∷ l) (take-front a b)
-
-set-set : {X : Type 0} (l : List X) (i : ℕ) (x y : X) → set (set l i x) i y ≡ set l i y
-set-set [] i x y = refl
-set-set (z ∷ zs) zero x y = refl
-set-set (z ∷ zs) (suc i) x y = ap (λ (l : List _). z ∷ l) (set-set zs i x y)
 
 pub back-again : (ls : List LevelData) (d : ℕ) (b c l l' : LevelData) (more : List Seed) → d + 1 < length ls → b ≡ get_or ls (d + 1) b → l ≡ get_or (set ls (d + 1) (level b.started (b.unstarted ++ more))) d l → l' ≡ l
     → c ≡ get_or (set (set ls (d + 1) (level b.started (b.unstarted ++ more))) d l') (d + 1) c
@@ -140,7 +129,7 @@ back-again ls d b c l l' more h at here same there =
     let one : set ms d l' ≡ ms = ap (λ (x : LevelData). set ms d x) same ∙ set-get ms d l deep here in
     let c-is : c ≡ b' = there ∙ ap (λ (x : List LevelData). get_or x (d + 1) c) one ∙ get_or-set_same ls (d + 1) b' c h in
     let two : level c.started (take (length b.unstarted) c.unstarted) ≡ b =
-    ap (λ (x : LevelData). level x.started (take (length b.unstarted) x.unstarted)) c-is ∙ ap (λ (u : List Seed). level b.started u) (take-front b.unstarted more) in
+    ap (λ (x : LevelData). level x.started (take (length b.unstarted) x.unstarted)) c-is ∙ ap (λ (u : List Seed). level b.started u) (take_at b.unstarted more (length b.unstarted) refl) in
     ap (λ (x : List LevelData). plain (set x (d + 1) (level c.started (take (length b.unstarted) c.unstarted)))) one ∙ ap (λ (x : LevelData). plain (set ms (d + 1) x)) two ∙ ap (λ (x : List LevelData). plain x) (set-set ls (d + 1) b' b ∙ set-get ls (d + 1) b h at) where
       set-long : (xs : List LevelData) (j : ℕ) (z : LevelData) → length (set xs j z) ≡ length xs
       set-long [] j z = refl
@@ -152,10 +141,6 @@ back-again ls d b c l l' more h at here same there =
 below-step : (P : ℕ → Type 0) (f : NodeData → List ℕ) (k : ℕ) (x : ℕ × NodeData) (es : List (ℕ × NodeData)) (n : NodeData) (b : Bool) → ◌≡◌ {A = Option NodeData} (if b then Some x.1 else lookup (is_key k) es) (Some n) → All P (f x.1) → (lookup (is_key k) es ≡ Some n → All P (f n)) → All P (f n)
 below-step P f k x es n true e a more = let at : x.1 ≡ n = cc in subst (λ (m : NodeData). All P (f m)) at a
 below-step P f k x es n false e a more = more e
-
-front : {X : Type 0} (P : X → Type 0) (xs ys : List X) → All P (xs ++ ys) → All P xs × All P ys
-front P [] ys a = (All-nil P, a)
-front P (x ∷ xs) ys a = let more = front P xs ys (All-tail P x (xs ++ ys) a) in (All-cons P x xs (All-head P x (xs ++ ys) a) more.0, more.1)
 
 found-all : (P : ℕ → Type 0) (f : NodeData → List ℕ) (k : ℕ) (es : List (ℕ × NodeData)) (n : NodeData) → lookup (is_key k) es ≡ Some n → All P (flat_map f (values_of es)) → All P (f n)
 found-all P f k [] n e a = cc
@@ -206,13 +191,9 @@ settled-deepest ls ms d k x l l' more after h em ex here e =
     let whole : ms ≡ ls ++ level [] more ∷ [] = em ∙ ap (λ (y : LevelData). ls ++ y ∷ []) ex in
     let there : l ≡ get_or (ls ++ level [] more ∷ []) d l = here ∙ ap (λ (y : List LevelData). get_or y d l) whole in
     let deep : d < length ls = omega arith in
-    let at' : l ≡ get_or ls d l = there ∙ front-of ls (level [] more ∷ []) d l deep in
+    let at' : l ≡ get_or ls d l = there ∙ get_or_append_left ls (level [] more ∷ []) l d deep in
     ap (λ (y : List LevelData). plain (set y d l')) whole ∙ made-deepest ls d (spot k l.started) l l' more after h there e
-    ∙ ap (λ (y : LevelData). made_levels (plain ls) d (spot k y.started) (map seed_node more) after) (sym (level-is ls d l deep at')) where
-      front-of : (xs ys : List LevelData) (j : ℕ) (z : LevelData) → j < length xs → get_or (xs ++ ys) j z ≡ get_or xs j z
-      front-of [] ys j z g = absurd (omega arith)
-      front-of (y ∷ xs) ys zero z g = refl
-      front-of (y ∷ xs) ys (suc j) z g = front-of xs ys j z (omega arith)
+    ∙ ap (λ (y : LevelData). made_levels (plain ls) d (spot k y.started) (map seed_node more) after) (sym (level-is ls d l deep at'))
 
 pub settled-back : (ls : List LevelData) (d below : ℕ) (a b b' l l' z z' : LevelData) (more : List Seed) → d + 1 < length ls → a ≡ get_or ls (d + 1) a → below ≡ length a.unstarted → b ≡ get_or ls (d + 1) b → b' ≡ level b.started (b.unstarted ++ more) → l ≡ get_or (set ls (d + 1) b') d l → l' ≡ l
     → z ≡ get_or (set (set ls (d + 1) b') d l') (d + 1) z → z' ≡ level z.started (take below z.unstarted) → plain (set (set (set ls (d + 1) b') d l') (d + 1) z') ≡ plain ls

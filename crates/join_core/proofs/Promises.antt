@@ -3,7 +3,7 @@ use Rattle.std.proofs.Common.{ℕ, zero, suc, length-set, ◌≡◌, ◌+◌, �
 use Rattle.std.specs.Prelude.{⊤, MatchOption, option_to_list}
 use Rattle.std.specs.List.{flat_map, All, Contains, remove}
 use Rattle.std.specs.List.Sorted.{IsPermutation}
-use Rattle.std.proofs.lemmas.List.{get_or_default, get_or_append_left, get_or-set_same}
+use Rattle.std.proofs.lemmas.List.{get_or_default, get_or_append_left, get_or-set_same, set-set}
 use Rattle.std.proofs.lemmas.List.Sorted.{IsPermutation-cons, IsPermutation-trans, IsPermutation-sym, IsPermutation-append_left, IsPermutation-append_right, IsPermutation-to_front, Contains-permutation}
 use Rattle.tpf_base.specs.Addresses.{Address}
 use Rattle.bgp_core.specs.Solutions.{Places}
@@ -18,7 +18,8 @@ use Rattle.join_core.specs.Worlds.{World, HasForm}
 use Rattle.join_core.specs.Nodes.{NodeData, future, left, Holds}
 use Rattle.join_core.specs.Events.{CanAsk, asked, IsNextAddress, waits_for, with_first_at, is_full, is_idle, opened_by, out_by, after_by, IsChosen}
 use Rattle.join_core.specs.Joins.{JoinData, nodes, owed, left_over, outs, out, tickets_of, tickets_out, Suits, Keeps, HandsOut, IsTrueFor, TakesPage, GivesRow, Replaces, Turn, Stands, IsAt, with_levels, with_longest, with_made, taken_at, settled, levels_after, asked_at, walked_at, ChoosesAt, TakesFirstAt}
-use Rattle.join_core.specs.Outcomes.{WaitsMore}
+use Rattle.join_core.specs.declared.evaluation.Answered.TheVariants.{Taken}
+use Rattle.join_core.specs.Outcomes.{WaitsMore, AnswerTakes, GivesWaiting}
 use Rattle.join_core.proofs.Replacing.{before-after, all-after, holds-before}
 use Rattle.join_core.proofs.Taken.{taken-replaces, set-replaces, node-at, levels-set}
 use Rattle.join_core.proofs.Marks.{ask-turn, tickets-ask, next-turn, next-outs, next-tickets, first-turn, first-tickets, first-back, choice-turn-of, full-outs, full-tickets}
@@ -168,12 +169,12 @@ row-taken w old new (Some row) h e f is =
       out = ap (λ (ls : List (List NodeData)). flat_map (outs w) (nodes ls)) e;
     }
 
--- ---- a node that was written over
+-- it was one of those that waited, and nothing else changed
+pub row-given : (old new : JoinData) (r : Option Places) → old.waiting ≡ new.waiting ++ option_to_list r → new ≡ record old { waiting = new.waiting } → MatchOption r ⊤ (GivesWaiting old new)
+row-given old new None h e = tt
+row-given old new (Some row) h e = record { waiting = IsPermutation-trans _ _ _ (same _ _ h) (IsPermutation-to_front new.waiting row); done = e }
 
-set-set : {X : Type 0} (l : List X) (i : ℕ) (x y : X) → set (set l i x) i y ≡ set l i y
-set-set [] i x y = refl
-set-set (z ∷ zs) zero x y = refl
-set-set (z ∷ zs) (suc i) x y = ap (λ l. z ∷ l) (set-set zs i x y)
+-- ---- a node that was written over
 
 -- the place stands, and the node that was written is there
 pub held-stands : (old : JoinData) (d i : ℕ) (x : NodeData) → Stands old.levels d i → Stands (held_at old d i x).levels d i
@@ -201,6 +202,11 @@ pub noted : (w : World) (old mid new : JoinData) (ticket longest : ℕ) → new 
 noted w old mid new ticket longest e t =
     subst (λ (j : JoinData). TakesPage w old j ticket) (sym e)
     (record { suits = record { world = t.suits.world; form = t.suits.form; holds = t.suits.holds }; owed = t.owed; left = t.left; address = t.address; out = t.out })
+
+pub noted-takes : (old mid new : JoinData) (ticket longest : ℕ) (page : Page) → new ≡ with_longest mid longest → mid.longest ≡ old.longest → AnswerTakes old mid ticket page Taken → AnswerTakes old (with_longest new old.longest) ticket page Taken
+noted-takes old mid new ticket longest page e l t =
+    let equal : mid ≡ with_longest new old.longest = ap (λ (n : ℕ). with_longest mid n) l ∙ ap (λ (j : JoinData). with_longest j old.longest) (sym e) in
+    subst (λ (j : JoinData). AnswerTakes old j ticket page Taken) equal t
 
 -- ---- what each call makes of a join
 

@@ -5,6 +5,7 @@ use Rattle.std.specs.List.{flat_map, remove, list_all, count_by, sum_by, All}
 use Rattle.std.specs.List.Sorted.{IsPermutation}
 use Rattle.std.proofs.Math.Nat.{mul-add}
 use Rattle.std.proofs.lemmas.Nat.{mul-le}
+use Rattle.std.proofs.lemmas.Bool.{cases_eq}
 use Rattle.std.proofs.lemmas.Bool.Decides.{nat_tests}
 use Rattle.std.proofs.lemmas.List.{get_or_default, get_or-set_same}
 use Rattle.std.proofs.lemmas.List.Edits.{length-remove}
@@ -28,7 +29,7 @@ use Rattle.join_core.proofs.Replacing.{all-after, holds-before}
 use Rattle.join_core.proofs.Taken.{levels-set, after-is, taken-replaces, set-replaces}
 use Rattle.join_core.proofs.Marks.{waits-next, waits-first}
 use Rattle.join_core.proofs.Outs.{opened-idle, nodes-idle}
-use Rattle.join_core.proofs.Keeping.{all-set, is-chosen}
+use Rattle.join_core.proofs.Keeping.{all-set, is-chosen, none-work}
 
 -- ---- the arithmetic of the bound
 
@@ -75,12 +76,6 @@ two-levels : (ls : List (List NodeData)) (d : ℕ) → working_at ls d + working
 two-levels [] d = omega arith
 two-levels (l ∷ ls) zero = omega (arith, one-level ls 0, sum_by-append (λ n. cond (works n) 1 0) l (nodes ls))
 two-levels (l ∷ ls) (suc d) = omega (arith, two-levels ls d, sum_by-append (λ n. cond (works n) 1 0) l (nodes ls))
-
-same-place : (e d : ℕ) → (e ≡ d) ⊎ (e ≡ d → ⊥)
-same-place zero zero = inl refl
-same-place zero (suc d) = inr (λ q. cc)
-same-place (suc e) zero = inr (λ q. cc)
-same-place (suc e) (suc d) = elim (same-place e d) [ inl q ↦ inl (ap suc q) | inr h ↦ inr (λ q. h (omega (arith, q))) ]
 
 -- one node was settled at a depth, and nodes were added below it
 pub record Steps (old new : List (List NodeData)) (d i : ℕ) (made : List NodeData) (after : Option NodeData) : Type 0 where
@@ -143,12 +138,6 @@ count-in xs ys = sum_by-append (λ n. cond (works n) 1 0) xs ys
 count-turned : (xs ys : List NodeData) → IsPermutation xs ys → count_by works ys ≡ count_by works xs
 count-turned xs ys h = sum_by-IsPermutation (λ n. cond (works n) 1 0) xs ys h
 
-idle-count : (ns : List NodeData) → All (λ n. is_idle n ≡ true) ns → count_by works ns ≡ 0
-idle-count [] a = refl
-idle-count (n ∷ ns) a =
-    let e : works n ≡ false = ap not (All-head (λ x. is_idle x ≡ true) n ns a) in
-    rw e (idle-count ns (All-tail (λ x. is_idle x ≡ true) n ns a))
-
 single : (n : NodeData) → count_by works (n ∷ []) ≡ cond (works n) 1 0
 single n = omega arith
 
@@ -208,13 +197,10 @@ pub record Settles (nn m : ℕ) (old new : JoinData) (d i : ℕ) (n : NodeData) 
   pub deeper : All (IsOfDepth nn (suc d)) made
   pub same : All (IsOfDepth nn d) (option_to_list after)
 
-apart-suc : (d : ℕ) → d ≡ suc d → ⊥
-apart-suc d e = omega (arith, e)
-
 works-other : (nn m : ℕ) (old new : JoinData) (d i : ℕ) (n : NodeData) (made : List NodeData) (after : Option NodeData) → Settles nn m old new d i n made after → (e : ℕ) → (e ≡ d → ⊥) → working_at new.levels e ≡ working_at old.levels e
-works-other nn m old new d i n made after s e other = elim (same-place e (suc d)) [
+works-other nn m old new d i n made after s e other = elim (cases_eq e (suc d)) [
   | inl q ↦ subst (λ (k : ℕ). working_at new.levels k ≡ working_at old.levels k) (sym q)
-      (ap (λ (l : List NodeData). count_by works l) s.steps.below ∙ count-in (level_at old.levels (suc d)) made ∙ (let z = idle-count made s.idle in omega (arith, z)))
+      (ap (λ (l : List NodeData). count_by works l) s.steps.below ∙ count-in (level_at old.levels (suc d)) made ∙ (let z = none-work made s.idle in omega (arith, z)))
   | inr g ↦ ap (λ (l : List NodeData). count_by works l) (s.steps.others e other g)
 ]
 
@@ -225,7 +211,7 @@ works-here nn m old new d i n made after s =
 
 works-total : (nn m : ℕ) (old new : JoinData) (d i : ℕ) (n : NodeData) (made : List NodeData) (after : Option NodeData) → Settles nn m old new d i n made after → count_by works (nodes new.levels) + cond (works n) 1 0 ≡ count_by works (nodes old.levels) + count_by works (option_to_list after)
 works-total nn m old new d i n made after s =
-    omega (arith, total-count old.levels new.levels n (made ++ option_to_list after) s.replaces, count-in made (option_to_list after), idle-count made s.idle)
+    omega (arith, total-count old.levels new.levels n (made ++ option_to_list after) s.replaces, count-in made (option_to_list after), none-work made s.idle)
 
 open-here : (nn m : ℕ) (old new : JoinData) (d i : ℕ) (n : NodeData) (made : List NodeData) (after : Option NodeData) → Settles nn m old new d i n made after → open_at new.levels d ≤ open_at old.levels d
 open-here nn m old new d i n made after s =
@@ -236,7 +222,7 @@ open-below : (nn m : ℕ) (old new : JoinData) (d i : ℕ) (n : NodeData) (made 
 open-below nn m old new d i n made after s = ap (λ (l : List NodeData). length l) s.steps.below ∙ length-append (level_at old.levels (suc d)) made
 
 open-other : (nn m : ℕ) (old new : JoinData) (d i : ℕ) (n : NodeData) (made : List NodeData) (after : Option NodeData) → Settles nn m old new d i n made after → (e : ℕ) → (e ≡ suc d → ⊥) → open_at new.levels e ≤ open_at old.levels e
-open-other nn m old new d i n made after s e g = elim (same-place e d) [
+open-other nn m old new d i n made after s e g = elim (cases_eq e d) [
   | inl q ↦ subst (λ (k : ℕ). open_at new.levels k ≤ open_at old.levels k) (sym q) (open-here nn m old new d i n made after s)
   | inr other ↦ omega (arith, ap (λ (l : List NodeData). length l) (s.steps.others e other g))
 ]
@@ -245,10 +231,10 @@ root-after : (nn m : ℕ) (old new : JoinData) (d i : ℕ) (n : NodeData) (made 
 root-after nn m old new d i n made after s h = omega (arith, open-other nn m old new d i n made after s 0 (λ e. cc), h)
 
 depths-after : (nn m : ℕ) (old new : JoinData) (d i : ℕ) (n : NodeData) (made : List NodeData) (after : Option NodeData) → Settles nn m old new d i n made after → ((e : ℕ) → All (IsOfDepth nn e) (level_at old.levels e)) → (e : ℕ) → All (IsOfDepth nn e) (level_at new.levels e)
-depths-after nn m old new d i n made after s a e = elim (same-place e d) [
+depths-after nn m old new d i n made after s a e = elim (cases_eq e d) [
   | inl q ↦ subst (λ (k : ℕ). All (IsOfDepth nn k) (level_at new.levels k)) (sym q)
       (subst (λ (l : List NodeData). All (IsOfDepth nn d) l) (sym s.steps.here) (settled-all (IsOfDepth nn d) (level_at old.levels d) i n after s.stands.within s.at (a d) s.same))
-  | inr other ↦ elim (same-place e (suc d)) [
+  | inr other ↦ elim (cases_eq e (suc d)) [
     | inl q ↦ subst (λ (k : ℕ). All (IsOfDepth nn k) (level_at new.levels k)) (sym q)
         (subst (λ (l : List NodeData). All (IsOfDepth nn (suc d)) l) (sym s.steps.below) (All-append (IsOfDepth nn (suc d)) (level_at old.levels (suc d)) made (a (suc d)) s.deeper))
     | inr g ↦ subst (λ (l : List NodeData). All (IsOfDepth nn e) l) (sym (s.steps.others e other g)) (a e)
@@ -270,8 +256,8 @@ small-same nn m old new d i n x k s e =
     let one = same-worth (works x) (works n) e in
     let total : count_by works (nodes new.levels) ≡ count_by works (nodes old.levels) = omega (arith, works-total nn m old new d i n [] (Some x) s, single x, one) in
     let here : working_at new.levels d ≡ working_at old.levels d = omega (arith, works-here nn m old new d i n [] (Some x) s, single x, one) in
-    let each : (f : ℕ) → working_at new.levels f ≡ working_at old.levels f = λ f. elim (same-place f d) [ inl q ↦ subst (λ (y : ℕ). working_at new.levels y ≡ working_at old.levels y) (sym q) here | inr other ↦ works-other nn m old new d i n [] (Some x) s f other ] in
-    let opens : (f : ℕ) → open_at new.levels f ≤ open_at old.levels f = λ f. elim (same-place f (suc d)) [ inl q ↦ subst (λ (y : ℕ). open_at new.levels y ≤ open_at old.levels y) (sym q) (omega (arith, open-below nn m old new d i n [] (Some x) s)) | inr other ↦ open-other nn m old new d i n [] (Some x) s f other ] in
+    let each : (f : ℕ) → working_at new.levels f ≡ working_at old.levels f = λ f. elim (cases_eq f d) [ inl q ↦ subst (λ (y : ℕ). working_at new.levels y ≡ working_at old.levels y) (sym q) here | inr other ↦ works-other nn m old new d i n [] (Some x) s f other ] in
+    let opens : (f : ℕ) → open_at new.levels f ≤ open_at old.levels f = λ f. elim (cases_eq f (suc d)) [ inl q ↦ subst (λ (y : ℕ). open_at new.levels y ≤ open_at old.levels y) (sym q) (omega (arith, open-below nn m old new d i n [] (Some x) s)) | inr other ↦ open-other nn m old new d i n [] (Some x) s f other ] in
     small-with nn m old new d i n [] (Some x) k s (record {
       working = omega (arith, total, k.bounded.working);
       open_rows = λ f. subst (λ (y : ℕ). open_at new.levels (suc f) + m * y ≤ m * old.window) (sym (each f)) (omega (arith, opens (suc f), k.bounded.open_rows f));
@@ -289,7 +275,7 @@ small-start nn m old new d i n x k s e f room busy =
     let start : open_at old.levels (suc d) + m * (working_at old.levels d + 1) ≤ m * old.window = start-bound (open_at old.levels (suc d)) (working_at old.levels d) m old.window k.some (omega (arith, all, two-levels old.levels d, room)) in
     small-with nn m old new d i n [] (Some x) k s (record {
       working = omega (arith, total, room);
-      open_rows = λ g. elim (same-place g d) [
+      open_rows = λ g. elim (cases_eq g d) [
         | inl q ↦ subst (λ (y : ℕ). open_at new.levels (suc y) + m * working_at new.levels y ≤ m * old.window) (sym q)
             (subst (λ (y : ℕ). open_at new.levels (suc d) + m * y ≤ m * old.window) (sym here) (subst (λ (y : ℕ). y + m * (working_at old.levels d + 1) ≤ m * old.window) (sym below) start))
         | inr other ↦ subst (λ (y : ℕ). open_at new.levels (suc g) + m * y ≤ m * old.window) (sym (works-other nn m old new d i n [] (Some x) s g other))
@@ -301,14 +287,14 @@ small-start nn m old new d i n x k s e f room busy =
 pub small-page : (nn m : ℕ) (old new : JoinData) (d i : ℕ) (n : NodeData) (made : List NodeData) (after : Option NodeData) → IsKeptSmall nn m old → Settles nn m old new d i n made after → works n ≡ true → All (λ x. is_idle x ≡ true) (option_to_list after) → length made ≤ m → IsKeptSmall nn m new
 small-page nn m old new d i n made after k s e idle few =
     let one = busy-one (works n) e in
-    let none : count_by works (option_to_list after) ≡ 0 = idle-count (option_to_list after) idle in
+    let none : count_by works (option_to_list after) ≡ 0 = none-work (option_to_list after) idle in
     let total : count_by works (nodes new.levels) + 1 ≡ count_by works (nodes old.levels) = omega (arith, works-total nn m old new d i n made after s, one, none) in
     let here : working_at new.levels d + 1 ≡ working_at old.levels d = omega (arith, works-here nn m old new d i n made after s, one, none) in
     let before : open_at old.levels (suc d) + m * (working_at new.levels d + 1) ≤ m * old.window = subst (λ (x : ℕ). open_at old.levels (suc d) + m * x ≤ m * old.window) (sym here) (k.bounded.open_rows d) in
     let page : (open_at old.levels (suc d) + m) + m * working_at new.levels d ≤ m * old.window = page-bound (open_at old.levels (suc d)) (working_at new.levels d) m old.window before in
     small-with nn m old new d i n made after k s (record {
       working = omega (arith, total, k.bounded.working);
-      open_rows = λ g. elim (same-place g d) [
+      open_rows = λ g. elim (cases_eq g d) [
         | inl q ↦ subst (λ (y : ℕ). open_at new.levels (suc y) + m * working_at new.levels y ≤ m * old.window) (sym q) (omega (arith, page, open-below nn m old new d i n made after s, few))
         | inr other ↦ subst (λ (y : ℕ). open_at new.levels (suc g) + m * y ≤ m * old.window) (sym (works-other nn m old new d i n made after s g other))
             (omega (arith, open-other nn m old new d i n made after s (suc g) (λ q. other (omega (arith, q))), k.bounded.open_rows g))
@@ -600,10 +586,10 @@ first-small-all ps row j e =
     let ls = nodes_in ps row ∷ [] in
     let flat : nodes ls ≡ nodes_in ps row = append-nil (nodes_in ps row) in
     let idle = nodes-idle ps row in
-    let none : (d : ℕ) → working_at ls d ≡ 0 = λ d. omega (arith, one-level ls d, ap (λ (l : List NodeData). count_by works l) flat, idle-count (nodes_in ps row) idle) in
+    let none : (d : ℕ) → working_at ls d ≡ 0 = λ d. omega (arith, one-level ls d, ap (λ (l : List NodeData). count_by works l) flat, none-work (nodes_in ps row) idle) in
     small-as (length ps) 1 (record { form = j.form; window = j.window; tickets = j.tickets; longest = j.longest; levels = ls; waiting = j.waiting }) j e refl (record {
       some = omega arith;
-      bounded = record { working = omega (arith, ap (λ (l : List NodeData). count_by works l) flat, idle-count (nodes_in ps row) idle); open_rows = λ d. omega (arith, none d, open-none (nodes_in ps row) d) };
+      bounded = record { working = omega (arith, ap (λ (l : List NodeData). count_by works l) flat, none-work (nodes_in ps row) idle); open_rows = λ d. omega (arith, none d, open-none (nodes_in ps row) d) };
       held = subst (λ (l : List NodeData). All (λ x. StageAtMost 1 x.stage) l) (sym flat) (nodes-held 1 ps row);
       root = nodes-few ps row;
       depths = λ d. depth (nodes_in ps row) d (nodes-depth (length ps) 0 ps row (omega arith));

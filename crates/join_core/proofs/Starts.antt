@@ -22,7 +22,7 @@ empty-place (suc n) (suc k) t e = empty-place n k t e
 pub empty-valid : (n : ℕ) → IsValidRow (replicate n None)
 empty-valid n k t e = absurd (empty-place n k t e)
 
-one-level : (ps : List Pattern) (row : Places) (levels : List (List NodeData)) → levels ≡ nodes_in ps row ∷ [] → nodes levels ≡ nodes_in ps row
+pub one-level : (ps : List Pattern) (row : Places) (levels : List (List NodeData)) → levels ≡ nodes_in ps row ∷ [] → nodes levels ≡ nodes_in ps row
 one-level ps row levels e = ap (λ (l : List (List NodeData)). nodes l) e ∙ append-nil (nodes_in ps row)
 
 pub begins : (w : World) → IsWorld w → (form : Form) → HasForm w form → (ps : List Pattern) (row : Places) (j : JoinData) → AllByRecursion IsValidPattern ps → IsValidRow row → j.form ≡ form → j.levels ≡ nodes_in ps row ∷ [] → j.waiting ≡ rows_out ps row → Begins w ps row j

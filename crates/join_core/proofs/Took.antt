@@ -21,7 +21,7 @@ use Rattle.join_core.specs.Worlds.{World}
 use Rattle.join_core.specs.Nodes.{Stage, NodeData, node}
 use Rattle.join_core.specs.Nodes.Stage.{Asking, Walking}
 use Rattle.join_core.specs.Events.{CanAsk, asked, IsNextAddress, waits_for, with_first_at, is_full, is_idle, has_ask, works, opened_by, out_by, after_by, IsChosen, one_more}
-use Rattle.join_core.specs.Joins.{JoinData, nodes, out, tickets_of, tickets_out, Suits, Keeps, HandsOut, IsTrueFor, TakesPage, Stands, IsAt, with_node, taken_at, walked_at, asked_at, ChoosesAt, TakesFirstAt, MayAsk, AsksAt, NoneIn, level_at}
+use Rattle.join_core.specs.Joins.{JoinData, nodes, out, tickets_of, tickets_out, Suits, Keeps, HandsOut, IsTrueFor, TakesPage, Stands, IsAt, with_node, taken_at, walked_at, asked_at, ChoosesAt, TakesFirstAt, MayAsk, AsksAt, TakesFirst, TakesNext, NoneIn, level_at}
 use Rattle.join_core.specs.Outcomes.{NewTicket}
 use Rattle.join_core.specs.Sound.{IsAskedBy}
 use Rattle.join_core.specs.Levels.{LevelData, seed_node, level_of, is_key, marked, IsFirstIdle, plain, found_at, index_at, with_node_in, made_levels, times, tickets_at, AsksNext, CanAskAt, WaitsAt, TakesMade, TakesFirstIn}
@@ -30,7 +30,7 @@ use Rattle.join_core.proofs.Marks.{tickets-ask, waits-next}
 use Rattle.join_core.proofs.Outs.{made-idle}
 use Rattle.join_core.proofs.Promises.{held_at, held-stands, held-there, first-taken, first-gone, gone-then, chooses, chosen-tickets, taken-over, TakesPage-Keeps, takes-next, next-ticket-gone, asks-at, grown}
 use Rattle.join_core.proofs.Books.{no-times}
-use Rattle.join_core.proofs.Scans.{level-past}
+use Rattle.join_core.proofs.Scans.{front, level-past}
 use Rattle.join_core.proofs.Keyed.{none-marked}
 use Rattle.join_core.proofs.Plain.{place-stands, found-tickets, plain-level, plain-long}
 
@@ -59,6 +59,10 @@ first-turned old new ticket index page k = elim k.turned [
   | inl x ↦ inl x
   | inr x ↦ inr (x.0, record { made = x.1.made; rows = x.1.rows; after = x.1.after; chosen = x.1.chosen; done = x.1.done })
 ]
+
+pub first-takes : (old new : JoinData) (ticket index : ℕ) (page : Page) → TookFirst old new ticket index page → TakesFirst old new ticket page
+first-takes old new ticket index page k =
+    record { depth = k.depth; index = k.place; taker = k.taker; first = index; stands = k.stands; at = k.there; waits = k.waits; turns = first-turned old new ticket index page k }
 
 pub first-page : (w : World) (old new : JoinData) (ticket index : ℕ) (page : Page) → Suits w old → IsTrueFor w old ticket page → TookFirst old new ticket index page → TakesPage w old new ticket
 first-page w old new ticket index page is true' k =
@@ -92,15 +96,6 @@ first-same old new ticket index page k = elim k.turned [
 
 -- ---- the next page of a walk
 
-pub record TookNext (old new : JoinData) (ticket : ℕ) (page : Page) : Type 0 where
-  pub depth : ℕ
-  pub place : ℕ
-  pub taker : NodeData
-  pub stands : Stands old.levels depth place
-  pub there : IsAt old.levels depth place taker
-  pub waits : waits_for ticket taker ≡ Some ForNext
-  pub done : new ≡ walked_at old depth place taker page
-
 next-idle-in : (row : Places) (rest : List Pattern) (stage : Stage) (ts : List Triple) (next : Option Address) → All (λ m. is_idle m ≡ true) (opened_by (node row rest stage) ts ++ option_to_list (after_by (node row rest stage) next))
 next-idle-in row rest (Asking fs) ts next = All-nil (λ m. is_idle m ≡ true)
 next-idle-in row rest (Walking p k address out) ts next = made-idle p rest row (one_more k) ts next _ _ refl refl
@@ -108,15 +103,15 @@ next-idle-in row rest (Walking p k address out) ts next = made-idle p rest row (
 pub next-idle : (n : NodeData) (page : Page) → All (λ m. is_idle m ≡ true) (opened_by n page.triples ++ option_to_list (after_by n page.next))
 next-idle n page = next-idle-in n.row n.rest n.stage page.triples page.next
 
-pub next-page : (w : World) (old new : JoinData) (ticket : ℕ) (page : Page) → Suits w old → IsTrueFor w old ticket page → TookNext old new ticket page → TakesPage w old new ticket
+pub next-page : (w : World) (old new : JoinData) (ticket : ℕ) (page : Page) → Suits w old → IsTrueFor w old ticket page → TakesNext old new ticket page → TakesPage w old new ticket
 next-page w old new ticket page is true' k =
     subst (λ (j : JoinData). TakesPage w old j ticket) (sym k.done)
-    (takes-next w old k.depth k.place k.taker ticket page (opened_by k.taker page.triples) (out_by k.taker page.triples) (after_by k.taker page.next) is true' k.stands k.there k.waits refl refl refl (next-idle k.taker page))
+    (takes-next w old k.depth k.index k.taker ticket page (opened_by k.taker page.triples) (out_by k.taker page.triples) (after_by k.taker page.next) is true' k.stands k.at k.waits refl refl refl (next-idle k.taker page))
 
-pub next-number : (old new : JoinData) (ticket : ℕ) (page : Page) → TookNext old new ticket page → IsPermutation (tickets_out old) (ticket ∷ tickets_out new)
+pub next-number : (old new : JoinData) (ticket : ℕ) (page : Page) → TakesNext old new ticket page → IsPermutation (tickets_out old) (ticket ∷ tickets_out new)
 next-number old new ticket page k =
     subst (λ (j : JoinData). IsPermutation (tickets_out old) (ticket ∷ tickets_out j)) (sym k.done)
-    (next-ticket-gone old k.depth k.place k.taker ticket (opened_by k.taker page.triples) (out_by k.taker page.triples) (after_by k.taker page.next) k.stands k.there k.waits (next-idle k.taker page))
+    (next-ticket-gone old k.depth k.index k.taker ticket (opened_by k.taker page.triples) (out_by k.taker page.triples) (after_by k.taker page.next) k.stands k.at k.waits (next-idle k.taker page))
 
 -- ---- an ask
 
@@ -142,8 +137,8 @@ asks-number old new address k =
     subst (λ (j : JoinData). IsPermutation (tickets_out j) (old.tickets ∷ tickets_out old)) (sym k.done)
     (grown tickets_of old.levels (asked_at old k.depth k.place k.asker).levels k.asker (asked old.tickets k.asker) old.tickets (set-replaces old.levels k.depth k.place k.asker (asked old.tickets k.asker) k.stands k.there) (tickets-ask k.asker old.tickets k.can))
 
-pub asks-starts : (old new : JoinData) (address : Address) → Asked old new address → AsksAt old new
-asks-starts old new address k = record { depth = k.depth; index = k.place; asker = k.asker; stands = k.stands; at = k.there; can = k.can; may = k.may; done = k.done }
+pub asks-starts : (old new : JoinData) (address : Address) → Asked old new address → AsksAt old new address
+asks-starts old new address k = record { depth = k.depth; index = k.place; asker = k.asker; stands = k.stands; at = k.there; can = k.can; may = k.may; next = k.next; done = k.done }
 
 -- ---- tickets stay below the next one
 
@@ -199,23 +194,23 @@ module _ (form : Form) (window tickets longest : ℕ) where
       subst (λ (j : JoinData). TookFirst j (joined form window tickets longest (plain ls') more) ticket index page) seen (first-took ls ls' rows more d k ticket index page w (t w.waiter w.found))
 
   next-took : (ls ls' : List LevelData) (rows more : List Places) (d k ticket : ℕ) (page : Page) → (w : WaitsAt ls d k ticket ForNext)
-      → TakesMade (plain ls) rows (plain ls') more d (index_at ls d k) (opened_by w.waiter page.triples) (out_by w.waiter page.triples) (after_by w.waiter page.next) → TookNext (joined form window tickets longest (plain ls) rows) (joined form window tickets longest (plain ls') more) ticket page
+      → TakesMade (plain ls) rows (plain ls') more d (index_at ls d k) (opened_by w.waiter page.triples) (out_by w.waiter page.triples) (after_by w.waiter page.next) → TakesNext (joined form window tickets longest (plain ls) rows) (joined form window tickets longest (plain ls') more) ticket page
   next-took ls ls' rows more d k ticket page w t =
       let s = place-stands ls d k w.waiter w.deep w.found in
       record {
         depth = d;
-        place = index_at ls d k;
+        index = index_at ls d k;
         taker = w.waiter;
         stands = s.0;
-        there = s.1;
+        at = s.1;
         waits = w.waits;
         done = joined-same form window tickets longest (plain ls') (made_levels (plain ls) d (index_at ls d k) (opened_by w.waiter page.triples) (after_by w.waiter page.next)) more (rows ++ out_by w.waiter page.triples) t.levels t.waiting;
       }
 
   pub took-next : (old : JoinData) (ls ls' : List LevelData) (rows more : List Places) (d k ticket : ℕ) (page : Page) → joined form window tickets longest (plain ls) rows ≡ old → (w : WaitsAt ls d k ticket ForNext)
-      → ((n : NodeData) → found_at ls d k ≡ Some n → TakesMade (plain ls) rows (plain ls') more d (index_at ls d k) (opened_by n page.triples) (out_by n page.triples) (after_by n page.next)) → TookNext old (joined form window tickets longest (plain ls') more) ticket page
+      → ((n : NodeData) → found_at ls d k ≡ Some n → TakesMade (plain ls) rows (plain ls') more d (index_at ls d k) (opened_by n page.triples) (out_by n page.triples) (after_by n page.next)) → TakesNext old (joined form window tickets longest (plain ls') more) ticket page
   took-next old ls ls' rows more d k ticket page seen w t =
-      subst (λ (j : JoinData). TookNext j (joined form window tickets longest (plain ls') more) ticket page) seen (next-took ls ls' rows more d k ticket page w (t w.waiter w.found))
+      subst (λ (j : JoinData). TakesNext j (joined form window tickets longest (plain ls') more) ticket page) seen (next-took ls ls' rows more d k ticket page w (t w.waiter w.found))
 
   asked-in : (ls ls' : List LevelData) (rows : List Places) (d k : ℕ) (address : Address) → (a : AsksNext window ls d k) → plain ls' ≡ with_node_in (plain ls) d (index_at ls d k) (asked tickets a.asker)
       → IsNextAddress form a.asker address → IsAskedBy form a.asker.stage address → Asked (joined form window tickets longest (plain ls) rows) (joined form window (tickets + 1) longest (plain ls') rows) address
@@ -261,14 +256,10 @@ can-ask window m ls d k a below = record {
   fresh_ticket = λ q. fresh-by m (found_at ls d q) (λ n e. found-tickets (λ t. t < m) tickets_of ls d q n e below);
 }
 
-front : {X : Type 0} (P : X → Type 0) (xs ys : List X) → All P (xs ++ ys) → All P xs
-front P [] ys a = All-nil P
-front P (x ∷ xs) ys a = All-cons P x xs (All-head P x (xs ++ ys) a) (front P xs ys (All-tail P x (xs ++ ys) a))
-
 no-marks : (ls : List LevelData) (d : ℕ) → NoneIn has_ask (plain ls) → marked has_ask (level_of ls d).started ≡ []
 no-marks ls d none =
     let all : All (λ n. has_ask n ≡ false) (level_at (plain ls) d) = level-past (λ n. has_ask n ≡ false) (plain ls) 0 d (omega arith) none in
-    none-marked has_ask (level_of ls d).started (front (λ n. has_ask n ≡ false) (values_of (level_of ls d).started) (map seed_node (level_of ls d).unstarted) (subst (λ (l : List NodeData). All (λ n. has_ask n ≡ false) l) (plain-level ls d) all))
+    none-marked has_ask (level_of ls d).started (front (λ n. has_ask n ≡ false) (values_of (level_of ls d).started) (map seed_node (level_of ls d).unstarted) (subst (λ (l : List NodeData). All (λ n. has_ask n ≡ false) l) (plain-level ls d) all)).0
 
 -- the deepest node that may be started, and of these the first
 pub starts-next : (window : ℕ) (ls new : List LevelData) (d k : ℕ) → plain new ≡ plain ls → d < length ls → NoneIn has_ask (plain ls) → count_by works (nodes (plain ls)) < window → ((e : ℕ) → d < e → All (λ n. is_idle n ≡ false) (level_at (plain ls) e))

@@ -2,6 +2,7 @@
 use Rattle.std.proofs.Common.{ℕ, zero, suc, ◌≡◌, ◌+◌, ◌<◌, ◌⊎◌, inl, inr, Bool, true, false, ◌&&◌, List, [], ◌∷◌, length, map, drop, drop-cons, get_or, Option, Some, None, slice_get, refl, ap, sym, subst, ◌∙◌, arith}
 use Rattle.std.specs.List.{AllByRecursion, list_all, remove}
 use Rattle.std.proofs.lemmas.List.{get_or_default}
+use Rattle.std.proofs.lemmas.Bool.{cases_eq}
 use Rattle.rdf_terms.specs.declared.term.Term.{Term}
 use Rattle.rdf_terms.specs.declared.term.Triple.{Triple}
 use Rattle.rdf_terms.specs.Askable.{askable}
@@ -14,12 +15,12 @@ use Rattle.bgp_core.specs.Solutions.{Places, joined, extension}
 use Rattle.bgp_core.specs.Instances.{slot_of, slot, instance}
 use Rattle.bgp_core.specs.Extends.{Becomes, IsNameOf}
 use Rattle.bgp_core.specs.Queries.{IsValidPart, IsValidPattern}
-use Rattle.bgp_core.proofs.Extending.{extension-some, same_or_not}
+use Rattle.bgp_core.proofs.Extending.{extension-some}
 use Rattle.join_core.specs.Nodes.{IsValidRow, all_askable}
 
 name_or_not : (k : ℕ) (p : Part) → IsNameOf k p ⊎ (IsNameOf k p → ⊥)
 name_or_not k (Fixed u) = inr (λ h. h)
-name_or_not k (Name n) = same_or_not n k
+name_or_not k (Name n) = cases_eq n k
 
 named : (new : Places) (k : ℕ) (u : Term) (q : Part) (s : Term) → Becomes new q s → IsNameOf k q → slice_get new k ≡ Some (Some u) → s ≡ u
 named new k u (Fixed v) s b h at = absurd h
@@ -55,14 +56,14 @@ instance-valid p row v h = record { subject = slot-valid row p.subject v.subject
 
 -- ---- one of all
 
-front_of : (a b : Bool) → (a && b) ≡ true → (a ≡ true) × (b ≡ true)
-front_of true b e = (refl, e)
-front_of false b e = cc
+pub both : (a b : Bool) → (a && b) ≡ true → (a ≡ true) × (b ≡ true)
+both true b e = (refl, e)
+both false b e = cc
 
 pub list_all-at : {X : Type 0} (test : X → Bool) (xs : List X) (i : ℕ) (x : X) → list_all test xs ≡ true → i < length xs → x ≡ get_or xs i x → test x ≡ true
 list_all-at test [] i x h l e = absurd (omega arith)
-list_all-at test (y ∷ ys) zero x h l e = subst (λ z. test z ≡ true) (sym e) (front_of (test y) (list_all test ys) h).0
-list_all-at test (y ∷ ys) (suc i) x h l e = list_all-at test ys i x (front_of (test y) (list_all test ys) h).1 (omega arith) e
+list_all-at test (y ∷ ys) zero x h l e = subst (λ z. test z ≡ true) (sym e) (both (test y) (list_all test ys) h).0
+list_all-at test (y ∷ ys) (suc i) x h l e = list_all-at test ys i x (both (test y) (list_all test ys) h).1 (omega arith) e
 
 pub askable-at : (row : Places) (ps : List Pattern) (i : ℕ) (p : Pattern) → all_askable row ps ≡ true → i < length ps → p ≡ get_or ps i p → askable (instance p row) ≡ true
 askable-at row ps i p h l e = list_all-at (λ q. askable (instance q row)) ps i p h l e

@@ -10,10 +10,11 @@ use Rattle.template_fill.specs.declared.form.Form.{Form}
 use Rattle.control_reader.specs.declared.page.Page.{Page}
 use Rattle.join_core.specs.declared.first.First.{First}
 use Rattle.join_core.specs.declared.first.First.TheVariants.{Out, Got}
+use Rattle.join_core.specs.declared.node.Waits.TheVariants.{First as ForFirst, Next as ForNext}
 use Rattle.join_core.specs.Worlds.{World, IsWorld, HasForm, IsPageAt}
-use Rattle.join_core.specs.Nodes.{Stage, NodeData, future, left, plan, Holds}
+use Rattle.join_core.specs.Nodes.{Stage, NodeData, future, left, plan, Holds, nodes_in, rows_out}
 use Rattle.join_core.specs.Nodes.Stage.{Asking, Walking}
-use Rattle.join_core.specs.Events.{works, is_idle, has_ask, is_full, CanAsk, asked, opened_by, out_by, after_by, IsChosen}
+use Rattle.join_core.specs.Events.{works, is_idle, has_ask, is_full, CanAsk, asked, IsNextAddress, waits_for, with_first_at, opened_by, out_by, after_by, IsChosen}
 
 pub record JoinData : Type 0 where
   pub form : Form
@@ -124,6 +125,12 @@ pub record Begins (w : World) (patterns : List Pattern) (row : Places) (j : Join
   pub left : IsPermutation (plan w patterns row) (left_over w j)
   pub out : out w j ≡ []
 
+-- the nodes and rows of a join before its first event: the row with all patterns is a node, or waits where there is no
+-- pattern; where one cannot be asked for there is nothing
+pub record Opens (patterns : List Pattern) (row : Places) (j : JoinData) : Type 0 where
+  pub nodes : nodes j.levels ≡ nodes_in patterns row
+  pub rows : j.waiting ≡ rows_out patterns row
+
 -- ---- how events change the nodes
 
 -- a node stands among the nodes, and new ones stand in its place
@@ -215,8 +222,8 @@ pub record StartsAt (j : JoinData) (depth index : ℕ) : Type 0 where
 abbrev pub MayAsk : JoinData → ℕ → ℕ → NodeData → Type 0
 MayAsk j depth index n = (has_ask n ≡ true) ⊎ ((is_idle n ≡ true) × NoneIn has_ask j.levels × StartsAt j depth index)
 
--- the node at a place asked
-pub record AsksAt (old new : JoinData) : Type 0 where
+-- the node at a place asked for an address, its next one
+pub record AsksAt (old new : JoinData) (address : Address) : Type 0 where
   pub depth : ℕ
   pub index : ℕ
   pub asker : NodeData
@@ -224,6 +231,7 @@ pub record AsksAt (old new : JoinData) : Type 0 where
   pub at : IsAt old.levels depth index asker
   pub can : CanAsk asker
   pub may : MayAsk old depth index asker
+  pub next : IsNextAddress old.form asker address
   pub done : new ≡ asked_at old depth index asker
 
 -- the next page of the node at a place was taken
@@ -241,3 +249,24 @@ pub record ChoosesAt (old new : JoinData) (depth index : ℕ) (n : NodeData) : T
 -- a first page of the node at a place came; where it was the last to come, the pattern with the least count is chosen
 abbrev pub TakesFirstAt : JoinData → JoinData → ℕ → ℕ → NodeData → Type 0
 TakesFirstAt old new depth index n = ((is_full n ≡ false) × (new ≡ with_node old depth index n)) ⊎ ((is_full n ≡ true) × ChoosesAt old new depth index n)
+
+-- a first page came under a ticket for the node at a place, which waited for it
+pub record TakesFirst (old new : JoinData) (ticket : ℕ) (page : Page) : Type 0 where
+  pub depth : ℕ
+  pub index : ℕ
+  pub taker : NodeData
+  pub first : ℕ
+  pub stands : Stands old.levels depth index
+  pub at : IsAt old.levels depth index taker
+  pub waits : waits_for ticket taker ≡ Some (ForFirst first)
+  pub turns : TakesFirstAt old new depth index (with_first_at first (Got page) taker)
+
+-- the next page of a walk came under a ticket for the node at a place, which waited for it
+pub record TakesNext (old new : JoinData) (ticket : ℕ) (page : Page) : Type 0 where
+  pub depth : ℕ
+  pub index : ℕ
+  pub taker : NodeData
+  pub stands : Stands old.levels depth index
+  pub at : IsAt old.levels depth index taker
+  pub waits : waits_for ticket taker ≡ Some ForNext
+  pub done : new ≡ walked_at old depth index taker page

@@ -6,9 +6,10 @@ use Rattle.join_core.specs.declared.evaluation.Ask.{Ask}
 use Rattle.join_core.specs.declared.evaluation.Answered.{Answered}
 use Rattle.join_core.specs.declared.evaluation.Answered.TheVariants.{Taken, Stranger}
 use Rattle.bgp_core.specs.Solutions.{Places}
+use Rattle.control_reader.specs.declared.page.Page.{Page}
 use Rattle.join_core.specs.Worlds.{World}
 use Rattle.join_core.specs.Events.{works, is_idle, has_ask}
-use Rattle.join_core.specs.Joins.{JoinData, nodes, HandsOut, TakesPage, tickets_out, NoneIn, AsksAt}
+use Rattle.join_core.specs.Joins.{JoinData, nodes, HandsOut, TakesPage, tickets_out, NoneIn, AsksAt, TakesFirst, TakesNext}
 
 -- an ask was handed out under a new number, or nothing changed
 abbrev pub AskDone : World → JoinData → JoinData → Option Ask → Type 0
@@ -36,10 +37,20 @@ abbrev pub AnswerNumbered : JoinData → JoinData → ℕ → Answered → Type 
 AnswerNumbered old new ticket Stranger = new ≡ old
 AnswerNumbered old new ticket Taken = IsPermutation (tickets_out old) (ticket ∷ tickets_out new)
 
--- the ask is that of the node that asks next
+-- the ask is that of the node that asks next, for its next address
 abbrev pub AskStarts : JoinData → JoinData → Option Ask → Type 0
 AskStarts old new None = new ≡ old
-AskStarts old new (Some ask) = AsksAt old new
+AskStarts old new (Some ask) = AsksAt old new ask.address
+
+-- the page was taken by the node that waited for it
+abbrev pub AnswerTakes : JoinData → JoinData → ℕ → Page → Answered → Type 0
+AnswerTakes old new ticket page Stranger = new ≡ old
+AnswerTakes old new ticket page Taken = TakesFirst old new ticket page ⊎ TakesNext old new ticket page
+
+-- one of the rows that waited was given, and nothing else changed
+pub record GivesWaiting (old new : JoinData) (row : Places) : Type 0 where
+  pub waiting : IsPermutation old.waiting (row ∷ new.waiting)
+  pub done : new ≡ record old { waiting = new.waiting }
 
 -- no row that waits is lost
 abbrev pub WaitsMore : JoinData → JoinData → Type 0

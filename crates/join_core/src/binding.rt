@@ -5,62 +5,12 @@ ghost use Rattle.rdf_terms.specs.declared.term.Triple.{Triple};
 ghost use Rattle.bgp_core.specs.declared.pattern.Pattern.{Pattern};
 ghost use Rattle.bgp_core.specs.Queries.{HasPlaceFor, HasPlacesFor};
 ghost use Rattle.bgp_core.specs.Solutions.{bind, extension};
-ghost use Rattle.bgp_core.specs.Fits.{allows, agree, fits};
+ghost use Rattle.bgp_core.specs.Fits.{allows};
 
-use bgp_core::{Part, Pattern, Row};
+use bgp_core::{Part, Pattern, Row, fits};
 use rdf_terms::{Term, Triple};
 use std::alloc::Global;
 use tpf_base::OutOfMemory;
-
-/// Whether a row lets a part become a term.
-fn allows(part: &Part, term: &Term, row: &Row) -> bool
-    ensures { result ≡ allows part.now term.now row.now }
-{
-    match part {
-        Part::Fixed(fixed) => fixed.same(term),
-        Part::Name(name) => match row.term(*name) {
-            Some(bound) => bound.same(term),
-            None => true,
-        },
-    }
-}
-
-/// Whether two parts may become two terms: not where they are one name and the terms differ.
-fn agree(part: &Part, term: &Term, other: &Part, other_term: &Term) -> bool
-    ensures { result ≡ agree part.now term.now other.now other_term.now }
-{
-    match (part, other) {
-        (Part::Name(name), Part::Name(other_name)) => *name != *other_name || term.same(other_term),
-        _ => true,
-    }
-}
-
-/// Whether the row has an extension, found before anything is moved.
-fn fits(pattern: &Pattern, row: &Row, triple: &Triple) -> bool
-    ensures { result ≡ fits pattern.now row.now triple.now }
-{
-    allows(&pattern.subject, &triple.subject, row)
-        && allows(&pattern.predicate, &triple.predicate, row)
-        && allows(&pattern.object, &triple.object, row)
-        && agree(
-            &pattern.subject,
-            &triple.subject,
-            &pattern.predicate,
-            &triple.predicate,
-        )
-        && agree(
-            &pattern.subject,
-            &triple.subject,
-            &pattern.object,
-            &triple.object,
-        )
-        && agree(
-            &pattern.predicate,
-            &triple.predicate,
-            &pattern.object,
-            &triple.object,
-        )
-}
 
 /// The row with the name of a part bound to a term. The term is moved where the name was not bound, and dropped where it
 /// was, or where the part is a term. Condition: the row lets the part become the term.
@@ -82,7 +32,7 @@ fn bind(alloc: Global, part: &Part, term: Term, mut row: Row) -> Result<Row, Out
 /// such row. The row is copied only where there is one, and shares what was bound with it; the terms of the names that are
 /// bound anew are moved out of the triple, each once, and the others are dropped. Condition: the row has a place for every
 /// name of the pattern.
-pub(crate) fn extended(
+pub(crate) fn extension(
     alloc: Global,
     pattern: &Pattern,
     row: &Row,

@@ -1,5 +1,5 @@
 // Evaluations of a query.
-ghost use Rattle.std.specs.Prelude.{ℕ, ◌≡◌, ◌<◌, ◌^◌, ◌-◌, ⊤, true, List, [], length, Ok, None, IfOk, OnOk, OnErr, MatchOption};
+ghost use Rattle.std.specs.Prelude.{◌≡◌, ◌<◌, ◌^◌, ◌-◌, ⊤, true, [], length, Ok, None, IfOk, OnErr, MatchOption};
 ghost use Rattle.std.specs.List.{All, Contains};
 ghost use Rattle.tpf_base.specs.Addresses.{Address};
 ghost use Rattle.control_reader.specs.declared.page.Page.{Page};
@@ -11,14 +11,14 @@ use std::alloc::Global;
 use template_fill::WebAddress;
 use tpf_base::OutOfMemory;
 
-/// A page to ask for, and the ticket under which it is to be answered.
+/// A page to ask for by its address, and the ticket under which it is to be answered, a number that is given once.
 #[derive(Debug, Drop)]
 pub struct Ask {
     pub ticket: u64,
     pub address: WebAddress,
 }
 
-/// What became of a page: it was taken, or its ticket is not out.
+/// What became of a page: it was taken, or its ticket is not out, and then the page was dropped.
 #[derive(Clone, Copy, Debug, PartialEq, Eq)]
 pub enum Answered {
     Taken,
@@ -52,7 +52,7 @@ pub trait Evaluates {
     ghost keeps_to: { Terms → Self → Type 0 };
 
     /// The next page to ask for, if there is one now, under a ticket with a new number. Condition: fewer
-    /// than 2^64 - 1 tickets were given. It fails for want of memory alone, and then nothing changed.
+    /// than 2^64 - 1 tickets were given. The only error is out of memory, and then nothing changed.
     fn next_ask(&mut self, alloc: Global) -> Result<Option<Ask>, OutOfMemory>
         requires { (standing self.old).given < 2 ^ 64 - 1 }
         ensures suits { (source : Self.Source) → suits source self.old → suits source self.new }
@@ -64,8 +64,8 @@ pub trait Evaluates {
         ensures failed { OnErr result (self.new ≡ self.old) };
 
     /// Takes the page that was asked for under a ticket. `Stranger` exactly where the ticket is not out;
-    /// then nothing changes. It fails for want of memory alone, and then nothing changed but that the
-    /// page is gone.
+    /// then nothing changes. The only error is out of memory, and then nothing changed but that the page
+    /// is gone.
     fn answer(&mut self, alloc: Global, ticket: u64, page: Page) -> Result<Answered, OutOfMemory>
         ensures suits { (source : Self.Source) → suits source self.old → ((address : Address) → Contains (account source self.old).out (ticket, address) → is_true source address page) → suits source self.new }
         ensures owes { (source : Self.Source) → suits source self.old → ((address : Address) → Contains (account source self.old).out (ticket, address) → is_true source address page) → IfOk result (OwesAfterAnswer (account source self.old) (account source self.new) ticket) }
@@ -73,7 +73,8 @@ pub trait Evaluates {
         ensures keeps { (terms : Terms) → keeps_to terms self.old → NextAtHome terms.homes page.next → keeps_to terms self.new }
         ensures failed { OnErr result (self.new ≡ self.old) };
 
-    /// Takes a row that waits; `None` exactly where none does. It takes no memory.
+    /// Takes a row that waits; `None` exactly where none does, and then nothing changes. It takes no
+    /// memory.
     fn take_row(&mut self) -> Option<Row>
         ensures none { MatchOption result ((standing self.old).waiting ≡ 0) (λ row. TakesOne (standing self.old) (standing self.new)) }
         ensures unchanged { MatchOption result (self.new ≡ self.old) (λ row. ⊤) }

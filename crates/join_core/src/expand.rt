@@ -1,12 +1,12 @@
 // What the triples of a page make of a row.
-ghost use Rattle.std.specs.Prelude.{ℕ, ◌≡◌, ◌<◌, List, [], ◌∷◌, ◌++◌, length, map, IfOk, OnOk, Option, Some, None, drop};
+ghost use Rattle.std.specs.Prelude.{◌≡◌, ◌<◌, ◌++◌, length, map, OnOk, Some, drop};
 ghost use Rattle.std.specs.List.{AllByRecursion};
 ghost use Rattle.bgp_core.specs.declared.pattern.Pattern.{Pattern};
 ghost use Rattle.bgp_core.specs.Queries.{HasPlacesFor};
 ghost use Rattle.join_core.specs.Nodes.{put_out, opened, rows_out, nodes_in, all_askable};
 ghost use Rattle.join_core.specs.Levels.{seed_node};
 
-use crate::binding::extended;
+use crate::binding::extension;
 use crate::opening::Opening;
 use crate::pattern_list::PatternList;
 use bgp_core::{Pattern, Row, instance_askable, match_triple};
@@ -68,7 +68,7 @@ pub(crate) fn expand(
     ensures rows { OnOk result (rows.new.items ≡ rows.old.items ++ put_out chosen.now others.now.value row.now triples.items) }
 {
     for triple in triples {
-        if let Some(next) = extended(alloc, chosen, row, triple)? {
+        if let Some(next) = extension(alloc, chosen, row, triple)? {
             add_match(alloc, others, next, nodes, rows)?;
         }
     }

@@ -1,5 +1,5 @@
 // The first pages of a node's patterns.
-ghost use Rattle.std.specs.Prelude.{◌≡◌, true, false, ℕ, Option, Some, None};
+ghost use Rattle.std.specs.Prelude.{◌≡◌};
 ghost use Rattle.join_core.specs.Nodes.{is_got, count_of};
 
 use control_reader::Page;

@@ -1,18 +1,17 @@
 // The join.
-ghost use Rattle.std.specs.Prelude.{ℕ, ◌≡◌, ◌+◌, ◌<◌, ◌≤◌, ◌↔◌, ◌⊎◌, ◌^◌, List, [], ◌∷◌, ◌++◌, length, IfOk, OnOk, OnErr, Option, Some, None, true, false, MatchOption, max, min, slice_set, slice_index_or, IfSome, IfNone, IsTrue, replicate, is_some, Ok, ◌*◌, ◌-◌, ⊤, take};
-ghost use Rattle.std.specs.List.{All, AllByRecursion, remove, count_by, Contains};
-ghost use Rattle.bgp_core.specs.Queries.{HasPlacesFor, IsValidPattern};
+ghost use Rattle.std.specs.Prelude.{ℕ, ◌≡◌, ◌+◌, ◌<◌, ◌≤◌, ◌↔◌, ◌^◌, List, [], ◌++◌, length, IfOk, OnOk, OnErr, Option, Some, None, MatchOption, max, min, IsTrue, replicate, Ok, ◌*◌, ◌-◌, ⊤};
+ghost use Rattle.std.specs.List.{All, AllByRecursion, count_by};
+ghost use Rattle.bgp_core.specs.Queries.{IsValidPattern};
 ghost use Rattle.control_reader.specs.declared.page.Page.{Page};
 ghost use Rattle.join_core.specs.Worlds.{World, IsWorld, HasForm};
-ghost use Rattle.std.specs.List.Sorted.{IsPermutation};
-ghost use Rattle.join_core.specs.Nodes.{NodeData, nodes_in, rows_out};
+ghost use Rattle.join_core.specs.Nodes.{nodes_in, rows_out};
 ghost use Rattle.join_core.specs.Events.{works};
 ghost use Rattle.join_core.specs.Levels.{nodes_of};
 ghost use Rattle.tpf_base.specs.Addresses.{Address};
 ghost use Rattle.join_core.specs.Evaluations.{Terms, HasHome, AsksAtHome, NextAtHome};
 ghost use Rattle.join_core.specs.Sound.{KeepsTo, IsKeptSmall};
-ghost use Rattle.join_core.specs.Joins.{JoinData, nodes, out, Suits, Begins, IsTrueFor, GivesRow, tickets_out, with_longest};
-ghost use Rattle.join_core.specs.Outcomes.{AskDone, AskNumbered, NothingToAsk, AnswerDone, AnswerNumbered, AskStarts, WaitsMore, LongestAfter};
+ghost use Rattle.join_core.specs.Joins.{JoinData, nodes, Suits, Begins, Opens, IsTrueFor, GivesRow, tickets_out, with_longest};
+ghost use Rattle.join_core.specs.Outcomes.{AskDone, AskNumbered, NothingToAsk, AnswerDone, AnswerNumbered, AnswerTakes, AskStarts, GivesWaiting, WaitsMore, LongestAfter};
 ghost use Rattle.join_core.specs.Runs.{IsDone};
 ghost use Rattle.join_core.specs.JoinAccounts.{is_over};
 
@@ -72,10 +71,12 @@ impl Join {
 
     /// The join of a query's patterns, whose first pages have the addresses of a form, with at most `window` nodes at work.
     /// One node is open, the empty row with all patterns; for a query without patterns the empty row waits at once.
-    /// Condition: the window is at least 1. It fails for want of memory alone.
+    /// Condition: the window is at least 1. The only error is out of memory.
     pub fn new(alloc: Global, query: &Query, form: Form, window: u32) -> Result<Join, OutOfMemory>
         requires { 1 ≤ window }
         ensures begins { (w : World) → IsWorld w → HasForm w form → IfOk result (Begins w query.now.patterns (replicate (length query.now.names) None)) }
+        ensures opens { IfOk result (Opens query.now.patterns (replicate (length query.now.names) None)) }
+        ensures form { IfOk result (λ j. j.form ≡ form) }
         ensures window { IfOk result (λ j. j.window ≡ window) }
         ensures longest { IfOk result (λ j. j.longest ≡ 1) }
         ensures keeps { (homes : List Address) → HasHome homes form.template.start → IfOk result (KeepsTo (record { homes = homes; width = length query.now.names })) }
@@ -96,8 +97,8 @@ impl Join {
         })
     }
 
-    /// How many nodes work: those that were started and wait for a page, or have a first page to hand out. It takes no
-    /// memory.
+    /// How many nodes work: those that were started and wait for a page, or have a first page to hand out. The count stands
+    /// still at 2^64 - 1. It takes no memory.
     pub fn working(&self) -> usize
         ensures { result ≡ min (count_by works (nodes self.now.levels)) (2 ^ 64 - 1) }
     {
@@ -107,8 +108,8 @@ impl Join {
     /// The next page to ask for, if there is one, under a ticket with a new number. A node that was started asks for the
     /// first pages of its patterns one after another. Where none has one to ask for, the deepest node that may be started is
     /// started, and of equal ones the earliest opened. There is none exactly where no started node has a first page to hand
-    /// out and either `window` nodes work or none may be started. Condition: fewer than 2^64 - 1 tickets were given. It fails
-    /// for want of memory alone, and then nothing changed.
+    /// out and either `window` nodes work or none may be started. Condition: fewer than 2^64 - 1 tickets were given. The only
+    /// error is out of memory, and then nothing changed.
     pub fn next_ask(&mut self, alloc: Global) -> Result<Option<Ask>, OutOfMemory>
         requires { self.old.tickets < 2 ^ 64 - 1 }
         ensures asks { (w : World) → Suits w self.old → IfOk result (AskDone w self.old self.new) }
@@ -142,6 +143,7 @@ impl Join {
     fn take_page(&mut self, alloc: Global, ticket: u64, page: Page) -> Result<Answered, OutOfMemory>
         ensures taken { (w : World) → Suits w self.old → IsTrueFor w self.old ticket page → IfOk result (AnswerDone w self.old self.new ticket) }
         ensures numbered { IfOk result (AnswerNumbered self.old self.new ticket) }
+        ensures takes { IfOk result (AnswerTakes self.old self.new ticket page) }
         ensures stranger { (result ≡ Ok Answered.Stranger) → All (λ t. (t ≡ ticket) → ⊥) (tickets_out self.old) }
         ensures keeps { (terms : Terms) → KeepsTo terms self.old → NextAtHome terms.homes page.next → KeepsTo terms self.new }
         ensures small { (n m : ℕ) → IsKeptSmall n m self.old → length page.triples ≤ m → IsKeptSmall n m self.new }
@@ -168,9 +170,10 @@ impl Join {
         }
     }
 
-    /// Takes the page that was asked for under a ticket. `Stranger` exactly where the ticket was not handed out or was
-    /// answered before; then nothing changes. It fails for want of memory alone, and then nothing changed but that the page
-    /// is gone.
+    /// Takes the page that was asked for under a ticket. The node that waited for it walks on or holds it; where it then holds
+    /// all its first pages, it goes on with the one of the least count, the first on a tie, and ends where that count is 0.
+    /// `Stranger` exactly where the ticket was not handed out or was answered before; then nothing changes. The only error is
+    /// out of memory, and then nothing changed but that the page is gone: the ticket is out still.
     pub fn answer(
         &mut self,
         alloc: Global,
@@ -179,6 +182,9 @@ impl Join {
     ) -> Result<Answered, OutOfMemory>
         ensures taken { (w : World) → Suits w self.old → IsTrueFor w self.old ticket page → IfOk result (AnswerDone w self.old self.new ticket) }
         ensures numbered { IfOk result (AnswerNumbered self.old self.new ticket) }
+
+        // But for the length of the longest page, of which `longest` speaks.
+        ensures takes { IfOk result (AnswerTakes self.old (with_longest self.new self.old.longest) ticket page) }
         ensures stranger { (result ≡ Ok Answered.Stranger) → All (λ t. (t ≡ ticket) → ⊥) (tickets_out self.old) }
         ensures keeps { (terms : Terms) → KeepsTo terms self.old → NextAtHome terms.homes page.next → KeepsTo terms self.new }
         ensures small { (n : ℕ) → IsKeptSmall n self.old.longest self.old → IsKeptSmall n self.new.longest self.new }
@@ -197,10 +203,11 @@ impl Join {
         }
     }
 
-    /// Takes a row that waits; `None` exactly where none does. It takes no memory.
+    /// Takes a row that waits; `None` exactly where none does, and then nothing changes. It takes no memory.
     pub fn take_row(&mut self) -> Option<Row>
         ensures none { MatchOption result (self.old.waiting ≡ []) (λ row. ⊤) }
         ensures stays { MatchOption result (self.new ≡ self.old) (λ row. ⊤) }
+        ensures gives { MatchOption result ⊤ (GivesWaiting self.old self.new) }
         ensures row { (w : World) → Suits w self.old → MatchOption result ⊤ (GivesRow w self.old self.new) }
         ensures tickets { tickets_out self.new ≡ tickets_out self.old }
         ensures one { MatchOption result ⊤ (λ row. length self.old.waiting ≡ length self.new.waiting + 1) }
@@ -212,7 +219,8 @@ impl Join {
         self.waiting.pop()
     }
 
-    /// How many nodes are open. It takes no memory.
+    /// How many nodes are open; the count stands still at 2^64 - 1. With n patterns and pages of at most m triples they are at
+    /// most 1 + (n - 1) m `window`. It takes no memory.
     pub fn open_rows(&self) -> usize
         ensures value { result ≡ min (length (nodes self.now.levels)) (2 ^ 64 - 1) }
         ensures small { (n m : ℕ) → IsKeptSmall n m self.now → result ≤ 1 + (n - 1) * (m * self.now.window) }

@@ -1,12 +1,11 @@
 // The nodes of one depth.
-ghost use Rattle.std.specs.Prelude.{ℕ, ◌≡◌, ◌<◌, ◌≤◌, ◌^◌, ◌-◌, ◌++◌, ◌∷◌, List, [], length, map, take, IfOk, OnOk, OnErr, Option, Some, None, Ok, true, false, IfSome, IfNone, is_some, slice_set, min, option_to_list, IsTrue, if◌then◌else◌};
+ghost use Rattle.std.specs.Prelude.{ℕ, ◌≡◌, ◌<◌, ◌^◌, ◌-◌, ◌++◌, [], length, map, take, IfOk, OnOk, OnErr, Option, Some, None, Ok, true, false, IfSome, IfNone, is_some, slice_set, min, option_to_list, IsTrue, if◌then◌else◌};
 ghost use Rattle.std.specs.List.{All, count_by, remove};
-ghost use Rattle.std.specs.List.Sorted.{IsPermutation};
 ghost use Rattle.std.specs.Map.{lookup, values_of};
 ghost use Rattle.std.specs.Set.{remove_key};
 ghost use Rattle.join_core.specs.Nodes.{NodeData};
 ghost use Rattle.join_core.specs.Events.{CanAsk, asked, IsNextAddress, waits_for, with_first_at, is_full, opened_by, out_by, after_by, IsChosen, has_ask, is_idle, works};
-ghost use Rattle.join_core.specs.Joins.{settled, tickets_of};
+ghost use Rattle.join_core.specs.Joins.{settled};
 ghost use Rattle.join_core.specs.Sound.{IsAskedBy};
 ghost use Rattle.join_core.specs.Levels.{seed_node, level, nodes_of, is_key, spot, marked, times, tickets_at, Has, IsAsker, IsFirstIdle, MaySettle};
 

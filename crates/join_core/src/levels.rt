@@ -2,7 +2,7 @@
 ghost use Rattle.std.specs.Prelude.{ℕ, ◌≡◌, ◌+◌, ◌<◌, ◌≤◌, ◌^◌, ◌++◌, ◌⊎◌, ◌-◌, length, map, IfOk, OnOk, OnErr, Option, Some, None, Ok, true, false, IfSome, IfNone, is_some, min, option_to_list};
 ghost use Rattle.std.specs.List.{All, count_by};
 ghost use Rattle.join_core.specs.Nodes.{NodeData};
-ghost use Rattle.join_core.specs.Events.{asked, IsNextAddress, waits_for, with_first_at, is_full, opened_by, out_by, after_by, IsChosen, has_ask, is_idle, works};
+ghost use Rattle.join_core.specs.Events.{asked, IsNextAddress, waits_for, with_first_at, opened_by, out_by, after_by, has_ask, is_idle, works};
 ghost use Rattle.join_core.specs.Joins.{nodes, NoneIn, level_at};
 ghost use Rattle.join_core.specs.Sound.{IsAskedBy};
 ghost use Rattle.join_core.specs.Levels.{seed_node, nodes_of, plain, level_of, marked, found_at, index_at, made_levels, with_node_in, IsAsker, IsFirstIdle, AsksNext, WaitsAt, CanAskAt, MaySettle, TakesMade, TakesFirstIn};

@@ -1,5 +1,6 @@
 -- What holds of the terms of a row, of a pattern and of triples holds of the slots that the pattern asks for under the row, and of the row that a triple extends.
 use Rattle.std.proofs.Common.{ℕ, ◌≡◌, ◌⊎◌, inl, inr, Option, Some, None, slice_get, refl, sym, subst, ◌∙◌}
+use Rattle.std.proofs.lemmas.Bool.{cases_eq}
 use Rattle.rdf_terms.specs.declared.term.Term.{Term}
 use Rattle.rdf_terms.specs.declared.term.Triple.{Triple}
 use Rattle.rdf_terms.specs.declared.slots.Slot.{Slot}
@@ -11,7 +12,7 @@ use Rattle.bgp_core.specs.declared.pattern.Pattern.{Pattern}
 use Rattle.bgp_core.specs.Solutions.{Places, joined, extension}
 use Rattle.bgp_core.specs.Instances.{slot_of, slot, instance}
 use Rattle.bgp_core.specs.Extends.{Becomes, IsNameOf}
-use Rattle.bgp_core.proofs.Extending.{extension-some, same_or_not}
+use Rattle.bgp_core.proofs.Extending.{extension-some}
 
 -- each term that is bound
 pub record Binds (P : Term → Type 0) (row : Places) : Type 0 where
@@ -59,7 +60,7 @@ module _ (P : Term → Type 0) where
 
   name_or_not : (n : ℕ) (part : Part) → IsNameOf n part ⊎ (IsNameOf n part → ⊥)
   name_or_not n (Fixed t) = inr (λ h. h)
-  name_or_not n (Name m) = same_or_not m n
+  name_or_not n (Name m) = cases_eq m n
 
   named : (new : Places) (n : ℕ) (t : Term) (part : Part) (s : Term) → Becomes new part s → IsNameOf n part → slice_get new n ≡ Some (Some t) → s ≡ t
   named new n t (Fixed u) s b h at = absurd h

@@ -1,4 +1,16 @@
 //! Under the limits of the program a plan fits: each of its addresses is answered with a page that is read.
+//!
+//! A law is called where its statement is wanted, and does nothing when it runs. So a query over a server in the same process
+//! ends as planned:
+//!
+//! ```rust
+//! plans_are_read();
+//! is_few(&server);
+//! server.server().is_valid();
+//! let failing = Failing::Dials(fail_every);
+//! let mut wire: LoopWire<FragmentConnection> = LoopWire::new(alloc, server, seed, failing);
+//! let answer = query_server(rt, alloc, query, start, options, &mut wire, out);
+//! ```
 #![tactic(auto)]
 
 ghost use Rattle.plan_laws.specs.Fitting.{PlansAreRead, BasesAreRead, StartsAreRead};

@@ -215,9 +215,6 @@ module _ (laws : EndsAreTrue) (history : List (List Triple)) (config : Config) (
 
 -- ---- steps
 
-small_as : (n m : ℕ) → n ≡ m → m < 2 ^ 64 → n < 2 ^ 64
-small_as n m e h = omega (arith, e, h)
-
 pub replies_are_answers : EndsAreTrue → AuthoritiesAreHostsAndPorts → (allows : List ℕ → ℕ → List ℕ → List ℕ → Type 0) (after : WireState) → RepliesAreAnswers allows after
 replies_are_answers laws one allows after ticket answer old new before given suits so_far small tells steps =
     let r = replies_are_read one ticket answer old new before after given suits so_far steps in

@@ -19,7 +19,6 @@ use Rattle.exchange.specs.Polls.{Ends}
 use Rattle.exchange.specs.declared.fault.ExchangeFault.{ExchangeFault}
 use Rattle.exchange.specs.declared.fault.ExchangeFault.TheVariants as exchanges
 use Rattle.request_pool.specs.declared.asks.Flight.{Flight}
-use Rattle.request_pool.specs.declared.fault.Polled.{Polled}
 use Rattle.request_pool.specs.declared.fault.PoolFault.{PoolFault}
 use Rattle.request_pool.specs.declared.fault.PoolFault.TheVariants as faults
 use Rattle.request_pool.specs.declared.fault.Stepped.{Stepped}
@@ -37,7 +36,7 @@ use Rattle.pool_laws.specs.Causes.{HoldsNoneBelow, RepliedOn, RepliesAreRead, Is
 use Rattle.pool_laws.proofs.Following.{begun, polled_peer, request_is, holds_is}
 use Rattle.pool_laws.proofs.KeptBySteps.{by_running}
 use Rattle.pool_laws.proofs.Running.{answers_are_kept}
-use Rattle.pool_laws.proofs.Faults.{faults_are_kept, shut_faults}
+use Rattle.pool_laws.proofs.Faults.{faults_are_kept, same_fault, shut_faults}
 use Rattle.pool_laws.proofs.Fresh.{NoneBelow, Below, below_in, below_is_kept, begun_below, next_below, polled_above}
 use Rattle.pool_laws.proofs.Came.{step_came, begun_holds, gathered_held}
 use Rattle.pool_laws.proofs.Settled.{settles_whole, settles_nature}
@@ -102,9 +101,6 @@ data FaultBy (start : ℕ → Type 0) (fault : PoolFault) (was : List Ask) (q : 
   ByFlight : Flown start fault was q n b → FaultBy start fault was q n b
   ByStall : (fault ≡ faults.OutOfMemory) ⊎ (fault ≡ faults.Stalled) → 1000 ≤ b.idle → FaultBy start fault was q n b
   ByWait : (fault ≡ faults.OutOfMemory) ⊎ (fault ≡ faults.Exchange) → Rose n b.faults → FaultBy start fault was q n b
-
-same_fault : (fault other : PoolFault) → ◌≡◌ {A = Result Polled PoolFault} (Err fault) (Err other) → fault ≡ other
-same_fault fault other e = cc
 
 pub shut_idle : (o : Option ℕ) (a b : WireState) → Shuts o a b → b.idle ≡ a.idle
 shut_idle None a b s = ap (λ (w : WireState). w.idle) s

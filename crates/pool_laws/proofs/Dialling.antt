@@ -56,7 +56,7 @@ given_count = record { polls = link_given; closes = λ k a b c. c.only.given; wa
 some_link : (o : Option ℕ) (k : ℕ) → o ≡ Some k → o ≢ None
 some_link o k e = λ n. absurd (let q : Some k ≡ None = sym e ∙ n in cc)
 
-at_most_one : (o : Option ℕ) → dial_for o ≤ 1
+pub at_most_one : (o : Option ℕ) → dial_for o ≤ 1
 at_most_one None = omega arith
 at_most_one (Some k) = omega arith
 

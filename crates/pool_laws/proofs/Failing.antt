@@ -6,7 +6,7 @@ use Rattle.std.proofs.lemmas.Bool.{cases_lt}
 use Rattle.std.proofs.lemmas.Bool.Decides.{eqb_tells}
 use Rattle.futures.specs.declared.task.Poll.TheVariants as poll
 use Rattle.tpf_base.specs.Addresses.{Address}
-use Rattle.tpf_base.specs.Causes.{Rose, RoseBy}
+use Rattle.tpf_base.specs.Causes.{Rose}
 use Rattle.tpf_base.specs.Links.{Link, WireState, OpensGiven}
 use Rattle.tpf_base.specs.declared.fault.Fault.{Fault}
 use Rattle.tpf_base.specs.declared.fault.Fault.TheVariants as wires
@@ -44,7 +44,7 @@ use Rattle.pool_laws.proofs.Owning.{after_link}
 use Rattle.pool_laws.proofs.HeldLinks.{LinksKept, owning_is_kept, any_asks, flight_owns, split_flights}
 use Rattle.pool_laws.proofs.HeldLinks as held_links
 use Rattle.pool_laws.proofs.KeptBySteps.{IsKeptByTurns, running_keeps, last_keeps}
-use Rattle.pool_laws.proofs.Faults.{flight_faults, shut_faults}
+use Rattle.pool_laws.proofs.Faults.{flight_faults, once_more, rose_later, same_fault, shut_faults}
 use Rattle.pool_laws.proofs.Causes.{shut_idle}
 use Rattle.pool_laws.proofs.Rising.{polled_given}
 
@@ -136,16 +136,10 @@ ended_once (Some v) h = one_true v (h v refl)
 -- ---- failures
 
 fails_later : (n before now later x y : ℕ) → now ≤ later → x ≤ y → FailsBy n before now x → FailsBy n before later y
-fails_later n before now later x y l m h = record { rises = h.rises; rose = up h.rises before now later l h.rose; enough = omega (arith, h.enough, m) }
-  where
-    up : (r before now later : ℕ) → now ≤ later → RoseBy r before now → RoseBy r before later
-    up r before now later l h = omega (arith, l, h)
+fails_later n before now later x y l m h = record { rises = h.rises; rose = rose_later h.rises before now later l h.rose; enough = omega (arith, h.enough, m) }
 
 fails_rose : (n before now later x : ℕ) → Rose now later → FailsBy n before now x → FailsBy (n + 1) before later x
 fails_rose n before now later x r h = record { rises = h.rises + 1; rose = once_more h.rises before now later h.rose r; enough = omega (arith, h.enough) }
-  where
-    once_more : (k before now later : ℕ) → RoseBy k before now → Rose now later → RoseBy (k + 1) before later
-    once_more k before now later h r = omega (arith, h, r)
 
 fails_ended : (n before now later x : ℕ) → now ≤ later → FailsBy n before now x → FailsBy (n + 1) before later (x + 1)
 fails_ended n before now later x l h = let m = fails_later n before now later x x l (omega arith) h in record { rises = m.rises; rose = m.rose; enough = omega (arith, m.enough) }
@@ -432,9 +426,6 @@ module _ (since : WireState) where
   -- ---- the end of a run
 
   module _ (retries : ℕ) where
-    same_fault : (fault other : PoolFault) → ◌≡◌ {A = Result Polled PoolFault} (Err fault) (Err other) → fault ≡ other
-    same_fault fault other e = cc
-
     other_ends : (fault other : PoolFault) (b : WireState) → fault ≡ other → EndsByFailures other (retries + 1) since b → EndsByFailures fault (retries + 1) since b
     other_ends fault other b e h = subst (λ (x : PoolFault). EndsByFailures x (retries + 1) since b) (sym e) h
 

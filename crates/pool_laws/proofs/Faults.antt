@@ -1,7 +1,8 @@
 -- The count of a wire's faults falls in no step.
-use Rattle.std.proofs.Common.{ℕ, ◌≡◌, ◌≤◌, ◌⊎◌, inl, inr, Option, Some, None, Result, Ok, Err, ap, arith}
+use Rattle.std.proofs.Common.{ℕ, ◌≡◌, ◌+◌, ◌≤◌, ◌⊎◌, inl, inr, Option, Some, None, Result, Ok, Err, ap, arith}
 use Rattle.tpf_base.specs.Addresses.{Address}
 use Rattle.tpf_base.specs.Links.{WireState}
+use Rattle.tpf_base.specs.Causes.{Rose, RoseBy}
 use Rattle.exchange.specs.Exchanges.{left_link}
 use Rattle.request_pool.specs.declared.asks.Flight.{Flight}
 use Rattle.request_pool.specs.declared.fault.Polled.{Polled}
@@ -12,6 +13,21 @@ use Rattle.request_pool.specs.Pools.{Pooled}
 use Rattle.request_pool.specs.Polls.{Shuts, Settles, NoLink, Kept, Shut, FlightTo}
 use Rattle.request_pool.specs.Runs.{Starts, Overruns, Flies, Starves}
 use Rattle.pool_laws.proofs.KeptBySteps.{IsKept}
+
+-- ---- how often a count rose
+
+pub once_more : (n before now later : ℕ) → RoseBy n before now → Rose now later → RoseBy (n + 1) before later
+once_more n before now later h r = omega (arith, h, r)
+
+pub rose_later : (n before now later : ℕ) → now ≤ later → RoseBy n before now → RoseBy n before later
+rose_later n before now later l h = omega (arith, l, h)
+
+-- ---- a fault is the one that is answered
+
+pub same_fault : (fault other : PoolFault) → ◌≡◌ {A = Result Polled PoolFault} (Err fault) (Err other) → fault ≡ other
+same_fault fault other e = cc
+
+-- ---- the count of faults
 
 same_faults : (a b : WireState) → b ≡ a → a.faults ≤ b.faults
 same_faults a b e = omega (arith, ap (λ (w : WireState). w.faults) e)

@@ -1,5 +1,5 @@
--- What holds of each item of a list.
-use Rattle.std.proofs.Common.{List, [], ◌∷◌, ◌++◌, map}
+-- What holds of each item of a list, and of what an option holds.
+use Rattle.std.proofs.Common.{ℕ, ◌≡◌, List, [], ◌∷◌, ◌++◌, map, Option, Some}
 use Rattle.std.specs.List.{AllByRecursion}
 
 pub all_append : {A : Type 0} (P : A → Type 0) (xs ys : List A) → AllByRecursion P xs → AllByRecursion P ys → AllByRecursion P (xs ++ ys)
@@ -25,3 +25,11 @@ all_unmap P f (x ∷ xs) all = (all.0, all_unmap P f xs all.1)
 pub all_any : {A : Type 0} (xs : List A) → AllByRecursion (λ x. Unit {0}) xs
 all_any [] = tt
 all_any (x ∷ xs) = (tt, all_any xs)
+
+-- ---- options
+
+pub some_is : (i k : ℕ) → Some i ≡ Some k → i ≡ k
+some_is i k e = cc
+
+pub same_link : (o : Option ℕ) (i k : ℕ) → o ≡ Some i → o ≡ Some k → i ≡ k
+same_link o i k e f = cc

@@ -44,7 +44,7 @@ use Rattle.pool_laws.specs.Following.{Follows, AnswersSoFar, HasPeer}
 use Rattle.pool_laws.specs.Owning.{IsAsBefore, Same, Woken}
 use Rattle.pool_laws.specs.Rising.{IsServed}
 use Rattle.pool_laws.specs.Provoking.{IsStalled, IsAwake, OneIsAwake, MovesFirst, Moved, Awake, Again, HoldsNone, WaitsReady, HasHung, SparesWire, StepSpares, EmptyPoolsReady, PutsReady, StepsSpare, NoneHang}
-use Rattle.pool_laws.proofs.Lists.{all_append, all_front, all_behind, all_unmap}
+use Rattle.pool_laws.proofs.Lists.{all_append, all_front, all_behind, all_unmap, same_link}
 use Rattle.pool_laws.proofs.Following.{on_some, off, own_link, left_is, request_is}
 use Rattle.pool_laws.proofs.Owning.{after_link}
 use Rattle.request_pool.proofs.Suits.{own_none, waits_suits}
@@ -653,9 +653,6 @@ module _ (since : WireState) (steady : since.nature.steady ≡ true) where
   wait_prepared result p q a b s open_held h (Lacks w e f) = ok_as result (Err faults.OutOfMemory) q b e tt
 
   -- ---- after a reply
-
-  same_link : (o : Option ℕ) (i k : ℕ) → o ≡ Some i → o ≡ Some k → i ≡ k
-  same_link o i k e f = cc
 
   settle_lists : (o : Option ℕ) (address : Address) (p q : Pooled) (a b : WireState) → ((k : ℕ) → o ≡ Some k → held_on p k ≡ 0) → ((k : ℕ) → o ≡ Some k → (a.links k).stalled ≡ None) → Settles o address p q a b → Lists p a → Lists q b
   settle_lists o address p q a b none quiet (NoLink e f g) l = lists_as p q b f (subst (λ (x : WireState). Lists p x) (sym g) l)

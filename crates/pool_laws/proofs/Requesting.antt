@@ -24,7 +24,7 @@ use Rattle.pool_laws.specs.Following.{IsWebAddress}
 use Rattle.pool_laws.specs.Owning.{IsAsBefore, Same, Woken}
 use Rattle.pool_laws.specs.Requested.{Exchanged, IsAnswered, addresses_of, replies_of, LastRequest, NoneWhole, Unanswered, Replied, LinkRequests, last_whole, last_answered, whole_requests, whole_answers, Nothing, FrontOf, HasReply, IsLast, TellsRequests, over_links, count_sent, count_answered, is_sent, times_sent, IsOn, OwnRequests}
 use Rattle.pool_laws.specs.Sending.{requests_for}
-use Rattle.pool_laws.proofs.Lists.{all_append}
+use Rattle.pool_laws.proofs.Lists.{all_append, some_is, same_link}
 use Rattle.pool_laws.proofs.Following.{SameTold, told_same, stands_as, holds_as, holds_is, off, on_some, polled_address, flat-append, request_is, kept_reply}
 use Rattle.pool_laws.proofs.Counts.{count-one, count-nil, nothing_counts, own_count, own_answers, addresses-append, put_at, with_new, with_old}
 
@@ -117,12 +117,6 @@ pub on_is : (o : Option ℕ) (k : ℕ) → 0 < on_link o k → o ≡ Some k
 on_is None k h = absurd (omega (arith, h))
 on_is (Some i) k h = elim (at_or_off i k) [ inl e ↦ ap (λ (x : ℕ). Some x) e | inr n ↦ absurd (off (on_link (Some i) k) k (on_other i k n) h) ]
 
-some_is : (i k : ℕ) → Some i ≡ Some k → i ≡ k
-some_is i k e = cc
-
-pub same_link : (o : Option ℕ) (i k : ℕ) → o ≡ Some i → o ≡ Some k → i ≡ k
-same_link o i k e f = cc
-
 pub no_link : (o : Option ℕ) (k : ℕ) → o ≡ Some k → o ≡ None → ⊥
 no_link o k e f = let g : Some k ≡ None = sym e ∙ f in cc
 
@@ -134,7 +128,7 @@ pub stands_at : (s r : List ℕ) (e : Exchanging) (o : Option ℕ) (k : ℕ) (b 
 stands_at s r e None k b l h = cc
 stands_at s r e (Some i) k b l h = subst (λ (x : ℕ). Holds (b.links x).sent (s ++ e.sent) × Holds (b.links x).received (r ++ e.received)) (some_is i k l) h
 
-open_given : (a : WireState) (k : ℕ) → OpensGiven a → (a.links k).is_open ≡ true → k < a.given
+pub open_given : (a : WireState) (k : ℕ) → OpensGiven a → (a.links k).is_open ≡ true → k < a.given
 open_given a k g h = elim (cases_lt k a.given) [ inl l ↦ l | inr l ↦ absurd (let e : true ≡ false = sym h ∙ g k l in cc) ]
 
 pub linked_given : (o : Option ℕ) (a : WireState) → OpensGiven a → IsLinked o a → (k : ℕ) → o ≡ Some k → k < a.given

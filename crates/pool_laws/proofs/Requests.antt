@@ -164,23 +164,6 @@ module _ (limit : ℕ) (since : WireState) (r : ℕ) (cap least : (Address → B
   pub known_as : (p q : Pooled) (b : WireState) → q ≡ p → Known p b → Known q b
   known_as p q b e h = subst (λ (y : Pooled). Known y b) (sym e) h
 
-  -- the ask is held no longer
-  abbrev pub over : (f : Flight) (address : Address) (link : Option ℕ) (x : LinkRequests) (own : ℕ) (gain : (Address → Bool) → ℕ) (p : Pooled) (b : WireState) → Moved f address link x own gain p b → Known p b
-  over f address link x own gain p b h = record {
-    is_limit = h.is_limit;
-    few = h.few;
-    waiting = h.waiting;
-    all = h.all;
-    later = h.later;
-    given = h.given;
-    polled = h.polled;
-    due = h.due;
-    spare = h.spare;
-    tries = λ test. none_left (test address) (count_sent test h.all since b) (left test p) (cap test) (h.tries test 0 (omega (arith, h.failed, h.once)));
-    starts = (let t : count_sent any h.all since b + (0 + idle p) ≤ p.started = h.starts 0 (omega (arith, h.once)) in omega (arith, t));
-    answers = λ test. omega (arith, h.answers test);
-  }
-
   -- it waits again
   pub waits_again : (f : Flight) (w : Waiting) (address : Address) (link : Option ℕ) (x : LinkRequests) (own : ℕ) (gain : (Address → Bool) → ℕ) (p : Pooled) (b : WireState) → w.address ≡ address → w.failed ≡ f.failed + 1 → w.failed ≤ r
       → Moved f address link x own gain p b → Known (record p { waiting = w ∷ p.waiting }) b
@@ -331,3 +314,9 @@ fewer limit since r cap least more p b few h = record {
   where
     at_least : (n m k : ℕ) → n ≤ m → m ≤ k → n ≤ k
     at_least n m k i j = omega (arith, i, j)
+
+-- the ask is held no longer, of whatever was answered
+pub over : (limit : ℕ) (since : WireState) (r : ℕ) (cap least : (Address → Bool) → ℕ) (f : Flight) (address : Address) (link : Option ℕ) (x : LinkRequests) (own : ℕ) (gain : (Address → Bool) → ℕ) (p : Pooled) (b : WireState)
+    → Moved limit since r cap least f address link x own gain p b → Known limit since r cap least p b
+over limit since r cap least f address link x own gain p b h =
+    fewer limit since r cap least (λ test. least test + gain test) p b (λ test. omega arith) (answered limit since r cap least f address link x own gain p b h)

@@ -2,7 +2,6 @@
 use Rattle.std.proofs.Common.{ℕ, ◌≡◌, ◌+◌, ◌<◌, ◌≤◌, ◌⊎◌, inl, inr, ◌++◌, List, [], ◌∷◌, map, length, length-append, Option, Some, None, true, false, Result, Ok, Err, refl, sym, ◌∙◌, ap, ap₂, subst, arith}
 use Rattle.std.specs.Prelude.{◌^◌, IfErr}
 use Rattle.std.specs.List.{AllByRecursion}
-use Rattle.std.proofs.lemmas.Bool.{cases_lt}
 use Rattle.futures.specs.declared.task.Poll.TheVariants as poll
 use Rattle.rdf_terms.specs.declared.term.Triple.{Triple}
 use Rattle.tpf_base.specs.Addresses.{Address}
@@ -42,25 +41,20 @@ use Rattle.pool_laws.specs.Answers.{TellsAll}
 use Rattle.pool_laws.specs.Rising.{IsServed, FailuresRose, EndsByRises, EmptyPoolsRose, PutsRose, FaultsRose, StepsRose}
 use Rattle.pool_laws.proofs.Lists.{all_append, all_front, all_behind, all_unmap}
 use Rattle.pool_laws.proofs.Following.{begun, own_link}
+use Rattle.pool_laws.proofs.Requesting.{open_given}
 use Rattle.pool_laws.proofs.KeptBySteps.{IsKept, IsKeptByTurns, running_keeps, last_keeps}
 use Rattle.pool_laws.proofs.HeldLinks.{LinksKept, AsksAt, Owning, owning_is_kept}
 use Rattle.pool_laws.proofs.HeldLinks as held_links
 use Rattle.pool_laws.proofs.Running.{answers_are_kept}
-use Rattle.pool_laws.proofs.Faults.{flight_faults, shut_faults}
+use Rattle.pool_laws.proofs.Faults.{flight_faults, once_more, rose_later, same_fault, shut_faults}
 use Rattle.pool_laws.proofs.Causes.{over_on, shut_idle}
 use Rattle.pool_laws.proofs.Answers.{EndsAreTrue, cut_short, owed_on}
 use Rattle.pool_laws.proofs.Staying.{Stays, starts_stay, polls_stay, round_stays, gathers_stay, waits_stay, gives_up_stays}
 
 -- ---- counts
 
-once_more : (f n m l : ℕ) → RoseBy f n m → Rose m l → RoseBy (f + 1) n l
-once_more f n m l h r = omega (arith, h, r)
-
 as_often : (f g n m : ℕ) → g ≤ f → RoseBy f n m → RoseBy g n m
 as_often f g n m h r = omega (arith, h, r)
-
-rose_later : (f n m l : ℕ) → m ≤ l → RoseBy f n m → RoseBy f n l
-rose_later f n m l h r = omega (arith, h, r)
 
 none_rose : (n m : ℕ) → n ≤ m → RoseBy 0 n m
 none_rose n m h = omega (arith, h)
@@ -198,9 +192,6 @@ failed_again n k m l w p failed e up rose h =
     }
 
 -- ---- the link of a poll was given
-
-open_given : (a : WireState) (k : ℕ) → OpensGiven a → (a.links k).is_open ≡ true → k < a.given
-open_given a k g h = elim (cases_lt k a.given) [ inl l ↦ l | inr l ↦ absurd (let e : true ≡ false = sym h ∙ g k l in cc) ]
 
 pub polled_given : (address : Address) (o p : Option ℕ) (a b : WireState) → LinkAfter address o p a b → OpensGiven a → IsLinked o a → (k : ℕ) → p ≡ Some k → k < b.given
 polled_given address (Some j) (Some i) a b l g linked k e = let same : i ≡ k = cc in omega (arith, same, l.0, l.1, open_given a j g linked)
@@ -424,9 +415,6 @@ module _ (allows : List ℕ → ℕ → List ℕ → List ℕ → Type 0) (histo
     out_ends : (fault : PoolFault) (f : Flight) (p q : Pooled) (a b : WireState) → OpensGiven a → Out f p a → p.retries ≡ retries → AreShort (held_on q) b → FlightTo (Err fault) f p q a b → EndsByRises fault (retries + 1) before b.faults
     out_ends fault f p q a b g o e short t =
         subst (λ (n : ℕ). EndsByRises fault (n + 1) before b.faults) e (flight_ends fault f p q a b g o.owns o.follows o.served short o.apart t)
-
-    same_fault : (fault other : PoolFault) → ◌≡◌ {A = Result Polled PoolFault} (Err fault) (Err other) → fault ≡ other
-    same_fault fault other e = cc
 
     other_ends : (fault other : PoolFault) (b : WireState) → fault ≡ other → EndsByRises other (retries + 1) before b.faults → EndsByRises fault (retries + 1) before b.faults
     other_ends fault other b e h = subst (λ (x : PoolFault). EndsByRises x (retries + 1) before b.faults) (sym e) h

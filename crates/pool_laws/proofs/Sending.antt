@@ -12,7 +12,7 @@ use Rattle.tpf_base.specs.Calls.{Closes}
 use Rattle.link_calls.specs.Sending.{Holds}
 use Rattle.http_wire.specs.declared.message.Reply.{Reply}
 use Rattle.http_ends.specs.Requests.{request_for}
-use Rattle.exchange.specs.Exchanges.{Exchanging, IsFront, StandsOn, starting, request_of, left_link}
+use Rattle.exchange.specs.Exchanges.{Exchanging, StandsOn, starting, request_of, left_link}
 use Rattle.exchange.specs.Polls.{Ends, FrontSent}
 use Rattle.exchange.specs.declared.fault.ExchangeFault.{ExchangeFault}
 use Rattle.exchange.specs.declared.fault.ExchangeFault.TheVariants as exchanges
@@ -30,23 +30,17 @@ use Rattle.request_pool.specs.Closing.{ClosesSome}
 use Rattle.request_pool.specs.Polls.{Shuts, Settles, NoLink, Kept, Shut, TakesLink, FailsTo, Polls, FlightTo}
 use Rattle.request_pool.specs.Runs.{Begins, Starts, Overruns, Flies, Starves, PollsNext}
 use Rattle.request_pool.specs.Steps.{Waits, GivesUp}
-use Rattle.request_pool.proofs.Owned.{at_or_off, on_other}
+use Rattle.request_pool.proofs.Owned.{at_or_off}
 use Rattle.request_pool.proofs.Suits.{Owns, owns_begun, owns_next}
 use Rattle.pool_laws.specs.Sending.{Nothing, FrontOf, requests_for, SendsFor, SendsOwn, SentSince, EmptyPoolsSent, PutsSent, FaultsSent, StepsSent, ClosingSent}
-use Rattle.pool_laws.proofs.Lists.{all_append, all_front, all_behind}
+use Rattle.pool_laws.proofs.Lists.{all_append, all_front, all_behind, some_is, same_link}
 use Rattle.pool_laws.proofs.Following.{SameTold, told_same, stands_as, holds_as, holds_is, off, on_some, own_link, left_is, flat-append, request_is}
 use Rattle.pool_laws.proofs.Owning.{after_link}
+use Rattle.pool_laws.proofs.Requesting.{front_for, on_is}
 use Rattle.pool_laws.proofs.Running.{waits_told}
 use Rattle.pool_laws.proofs.KeptBySteps.{IsKept, by_step}
 
 -- ---- which link
-
-on_is : (o : Option ℕ) (k : ℕ) → 0 < on_link o k → o ≡ Some k
-on_is None k h = absurd (omega (arith, h))
-on_is (Some i) k h = elim (at_or_off i k) [ inl e ↦ ap (λ (x : ℕ). Some x) e | inr n ↦ absurd (off (on_link (Some i) k) k (on_other i k n) h) ]
-
-some_is : (i k : ℕ) → Some i ≡ Some k → i ≡ k
-some_is i k e = cc
 
 module _ (asked : Address → Type 0) where
   -- ---- a link of which the same is told
@@ -86,9 +80,6 @@ module _ (asked : Address → Type 0) where
       holds_is x (requests_for whole ++ request_of address) (requests_for (whole ++ address ∷ []) ++ [])
       (append-nil (requests_for (whole ++ address ∷ [])) ∙ flat-append request_for whole (address ∷ []) ∙ ap (λ (t : List ℕ). requests_for whole ++ t) (append-nil (request_for address) ∙ sym (request_is address))) h
 
-  front_for : (part : List ℕ) (address : Address) → IsFront part (request_of address) → IsFront part (request_for address)
-  front_for part address h = record { rest = h.rest; is_whole = sym (request_is address) ∙ h.is_whole }
-
   -- the whole request was sent
   whole_sent : (address : Address) (whole : List Address) (l : Link) → asked address → AllByRecursion asked whole → Holds l.sent (requests_for whole ++ request_of address) → SendsFor asked l
   whole_sent address whole l is all h = record {
@@ -106,9 +97,6 @@ module _ (asked : Address → Type 0) where
       let t = h (requests_for s.whole) s.received s.stands in
       subst (λ (x : ℕ). SendsFor asked (b.links x)) (some_is i k e)
       (record { whole = s.whole; are_asked = s.are_asked; part = t.0; is_part = FrontOf new.address is (front_for t.0 new.address t.2); sent_is = t.3 })
-
-  same_link : (o : Option ℕ) (i k : ℕ) → o ≡ Some i → o ≡ Some k → i ≡ k
-  same_link o i k e f = cc
 
   ends_sent : (old new : Exchanging) (a b : WireState) (received : List ℕ) (k : ℕ) → new.link ≡ Some k → Ends old new a b received → asked new.address → SendsOwn asked a old → SendsFor asked (b.links k)
   ends_sent old new a b received k e h is s =

@@ -29,8 +29,8 @@ use Rattle.request_pool.specs.Runs.{Begins, Starts, Overruns, Flies, Starves, Po
 use Rattle.request_pool.specs.Steps.{Waits, GivesUp, WaitsTo, Passes, Stalls, Misses, Lacks, EndsInWait, Breaks, AtOnce, InRun, InWait}
 use Rattle.request_pool.proofs.Steps.{suits_gathered}
 use Rattle.pool_laws.specs.Spending.{SpentSince, EmptyPoolsSpend, PutsSpend, FaultsSpend, StepsSpend}
-use Rattle.pool_laws.proofs.Faults.{shut_faults}
-use Rattle.pool_laws.proofs.Dialling.{dial_for}
+use Rattle.pool_laws.proofs.Faults.{once_more, rose_later, same_fault, shut_faults}
+use Rattle.pool_laws.proofs.Dialling.{at_most_one, dial_for}
 use Rattle.pool_laws.proofs.KeptBySteps.{IsKeptWhileOn, running_goes}
 
 -- ---- lists
@@ -54,19 +54,10 @@ taken_spare first old new (Some k) h =
 
 -- ---- counts
 
-once_more : (n before now later : ℕ) → RoseBy n before now → Rose now later → RoseBy (n + 1) before later
-once_more n before now later h r = omega (arith, h, r)
-
-rose_later : (n before now later : ℕ) → now ≤ later → RoseBy n before now → RoseBy n before later
-rose_later n before now later l h = omega (arith, l, h)
-
 -- ---- results
 
 no_memory : (result : Result Polled PoolFault) → is_end result ≡ false → result ≢ Err faults.OutOfMemory
 no_memory result on = λ e. absurd (let x : true ≡ false = sym (ap is_end e) ∙ on in cc)
-
-same_fault : (fault other : PoolFault) → ◌≡◌ {A = Result Polled PoolFault} (Err fault) (Err other) → fault ≡ other
-same_fault fault other e = cc
 
 polled_memory : (fault : PoolFault) → ◌≢◌ {A = Result Stepped PoolFault} (Err fault) (Err faults.OutOfMemory) → ◌≢◌ {A = Result Polled PoolFault} (Err fault) (Err faults.OutOfMemory)
 polled_memory fault some = λ e. some (ap (λ (x : PoolFault). Err x) (same_fault fault faults.OutOfMemory e))
@@ -125,10 +116,6 @@ module _ (since : WireState) (asked : ℕ) where
   by_any address (Some j) None a b l = absurd l
   by_any address None None a b l = omega (arith, l.0)
   by_any address None (Some i) a b l = omega (arith, l.1)
-
-  at_most_one : (o : Option ℕ) → dial_for o ≤ 1
-  at_most_one None = omega arith
-  at_most_one (Some k) = omega arith
 
   module _ (answer : Poll (Result Reply ExchangeFault)) (f : Flight) (p : Pooled) (a b : WireState) (h : Polls answer f a b) (s : Out f p a) where
     paid_by_link : (k : ℕ) → h.now.link ≡ Some k → Paid p b

@@ -1,4 +1,16 @@
-//! What the steps of a pool come to over honest wires.
+//! What the steps of a pool come to, over any wire and over one whose other ends answer as a server does (an honest one).
+//!
+//! A law is called where its statement is wanted, and does nothing when it runs. These three are what every wire keeps to:
+//!
+//! ```rust
+//! pub(crate) fn is_lawful<W: Wire>(wire: &W)
+//!     ensures { IsLawful (W.allows wire.now) (W.state wire.now) }
+//! {
+//!     a_reply_is_an_answer(wire);
+//!     failures_are_rises(wire);
+//!     steps_provoke_nothing(wire);
+//! }
+//! ```
 #![tactic(auto)]
 
 ghost use Rattle.std.specs.Prelude.{◌≡◌};
@@ -113,7 +125,7 @@ pub fn failures_are_rises<W: Wire>(wire: &W)
 }
 
 /// On each link that was given since the pool was empty, whole requests for addresses that were asked
-/// for stand, and behind them nothing or a front of the request for one: also on a link whose exchange
+/// for stand, and behind them nothing or a prefix of the request for one: also on a link whose exchange
 /// ended with a fault, was given up, or was still in flight when the links were closed (`close`).
 pub fn whole_requests_are_sent()
     ensures empty { EmptyPoolsSent }

@@ -15,6 +15,7 @@ use Rattle.request_pool.specs.Polls.{FailsTo, Settles, NoLink, Kept, Shut, Fligh
 use Rattle.request_pool.specs.Runs.{Starts, Overruns, Flies, Starves, Turn, Start, Next, Round, Moment, Runs, Last, OfStart, OfPoll, Ended}
 use Rattle.request_pool.specs.Steps.{WaitsTo, Passes, Stalls, Misses, Lacks, EndsInWait, Breaks, AtOnce, InRun, InWait, StepsTo}
 use Rattle.request_pool.specs.Owned.{SuitsWire}
+use Rattle.request_pool.specs.Faults.{keeps_bytes}
 
 settles_bounds : (o : Option ℕ) (address : Address) (p q : Pooled) (a b : WireState) → Settles o address p q a b → bounds_of q ≡ bounds_of p
 settles_bounds o address p q a b (NoLink e f h) = ap bounds_of f
@@ -91,6 +92,13 @@ again_err shown fault (inr e) = inr (ap (λ (x : PoolFault). Err x) e)
 
 pub no_both : (o : Option PoolFault) (fault : PoolFault) → o ≡ None → o ≡ Some fault → ⊥
 no_both o fault e f = let g : None ≡ Some fault = sym e ∙ f in cc
+
+-- the fault with which a pool ends is the one that is shown, where it keeps no bytes
+pub plain_end : (ended fault shown : PoolFault) (p q : Pooled) → q ≡ record p { fault = Some ended } → q.fault ≡ Some fault → keeps_bytes fault ≡ false → (keeps_bytes ended ≡ false → shown ≡ ended) → shown ≡ fault
+plain_end ended fault shown p q e s k h =
+    let known : q.fault ≡ Some ended = ap (λ (x : Pooled). x.fault) e in
+    let same : ended ≡ fault = cc (known, s) in
+    h (subst (λ (x : PoolFault). keeps_bytes x ≡ false) (sym same) k) ∙ same
 
 pub suits_fault : (p q : Pooled) (o : Option PoolFault) (a : WireState) → q ≡ record p { fault = o } → SuitsWire p a → SuitsWire q a
 suits_fault p q o a e s = subst (λ (x : Pooled). SuitsWire x a) (sym e) (record { polled = s.polled; due = s.due; owned = s.owned })

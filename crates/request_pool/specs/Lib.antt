@@ -4,3 +4,4 @@ pub mod Polls
 pub mod Runs
 pub mod Steps
 pub mod Closing
+pub mod Faults

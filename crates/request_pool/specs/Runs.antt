@@ -1,5 +1,5 @@
 -- A pool goes on: it starts exchanges and polls them, one after another.
-use Rattle.std.specs.Prelude.{ℕ, ◌≡◌, ◌+◌, ◌<◌, ◌≤◌, ◌++◌, List, [], ◌∷◌, length, Option, Result, Ok, Err, Bool, true, false}
+use Rattle.std.specs.Prelude.{ℕ, ◌≡◌, ◌+◌, ◌<◌, ◌++◌, List, [], ◌∷◌, length, Option, Result, Ok, Err, Bool, true, false}
 use Rattle.tpf_base.specs.Links.{WireState}
 use Rattle.exchange.specs.Exchanges.{starting}
 use Rattle.request_pool.specs.declared.asks.Waiting.{Waiting}

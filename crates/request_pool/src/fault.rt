@@ -5,9 +5,9 @@ use tpf_base::Bytes;
 /// What a step came to.
 #[derive(Debug, Drop)]
 pub enum Stepped {
-    /// The whole reply to the request for a ticket.
+    /// The whole reply to the request for the address of a ticket, which is held no longer.
     Came { ticket: u64, reply: Reply },
-    /// Nothing came, and the wire was waited for.
+    /// Nothing came, and the wire was waited for once.
     Waited,
     /// No ask is held.
     Idle,
@@ -26,7 +26,7 @@ pub enum PoolFault {
     Cut { received: Bytes },
     /// A reply is refused. What was received in reply is kept.
     Reply { fault: ReplyFault, received: Bytes },
-    /// As many exchanges were started as the budget allows, and one more is wanted.
+    /// As many exchanges were started as the budget allows, and an ask waits for which a place is free.
     Budget,
     /// Out of memory.
     OutOfMemory,

@@ -1,5 +1,5 @@
 // The links that a pool holds.
-ghost use Rattle.std.specs.Prelude.{ℕ, ◌≡◌, ◌<◌, ◌≤◌, ◌∷◌, [], length, MatchOption, ◌++◌, List, slice_index_or};
+ghost use Rattle.std.specs.Prelude.{ℕ, ◌<◌, length, MatchOption, slice_index_or};
 ghost use Rattle.std.specs.List.{All};
 ghost use Rattle.tpf_base.specs.Links.{SameAllowed};
 ghost use Rattle.exchange.specs.Exchanges.{IsLinked};

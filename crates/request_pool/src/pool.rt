@@ -1,16 +1,17 @@
 // A pool of exchanges over one wire.
-ghost use Rattle.std.specs.Prelude.{ℕ, ◌≡◌, ◌≢◌, ◌+◌, ◌<◌, ◌≤◌, ◌++◌, ◌∷◌, ◌↔◌, ◌⊎◌, List, [], length, Some, None, Ok, Err, IsErr, IsTrue, IfOk, IfSome, OnOk, OnErr, Result, min, ◌^◌, ◌-◌, true, false, IfErr};
+ghost use Rattle.std.specs.Prelude.{◌≡◌, ◌≢◌, ◌+◌, ◌<◌, ◌≤◌, ◌++◌, ◌∷◌, ◌↔◌, ◌⊎◌, [], length, Some, None, Ok, Err, IsTrue, IfOk, IfSome, OnOk, OnErr, Result, min, ◌^◌, ◌-◌, true, false, IfErr};
 ghost use Rattle.std.specs.List.{AllByRecursion};
 ghost use Rattle.tpf_base.specs.Links.{WireState, SameAllowed};
 ghost use Rattle.exchange.specs.Exchanges.{left_link, IsLinked};
 ghost use Rattle.exchange.specs.declared.exchange.Standing.TheVariants.{Underway};
-ghost use Rattle.request_pool.specs.Pools.{Pooled, Ask, IsOverBudget, empty_pool, held, in_flight, bounds_of};
-ghost use Rattle.request_pool.specs.Owned.{SuitsWire, on_link, held_on, open_on, AreUnderway};
+ghost use Rattle.request_pool.specs.Pools.{Pooled, IsOverBudget, empty_pool, held, in_flight, bounds_of};
+ghost use Rattle.request_pool.specs.Owned.{SuitsWire, held_on};
 ghost use Rattle.request_pool.specs.Polls.{Shuts, Settles, FailsTo, EndsTo, FlightTo};
 ghost use Rattle.request_pool.specs.Runs.{Begins, Starts, PollsNext, RunsTo, is_end};
 ghost use Rattle.request_pool.specs.declared.asks.Flight as flights;
 ghost use Rattle.request_pool.specs.Steps.{StepsTo, HoldsOn, WaitsOnce, GivesUp, WaitsTo, MayWait};
 ghost use Rattle.request_pool.specs.Closing.{ClosesSome, PopsLink};
+ghost use Rattle.request_pool.specs.Faults.{keeps_bytes};
 
 use crate::asks::{Flight, Spare, Waiting};
 use crate::fault::{Polled, PoolFault, Stepped};
@@ -29,7 +30,7 @@ use tpf_base::{Bytes, Dial, Fault, OutOfMemory};
 const STALL: u64 = 1000;
 
 /// Exchanges over one wire, at most so many at once. Asks wait in the order in which they were put;
-/// one that fails is asked again before all others, so often as it may be tried again.
+/// one that fails is asked again before all others, as often as it may be tried again.
 ///
 /// Contracts see its bounds, the asks that wait, the exchanges in flight, the links that were left,
 /// how many exchanges were started, and the fault that ended it.
@@ -72,9 +73,10 @@ impl Model for Pool {
 }
 
 impl Pool {
-    /// A pool that holds nothing: at most `links` exchanges are in flight at once, and as many left
-    /// links kept; a ticket is asked again `retries` times; at most `budget` exchanges are started;
-    /// and a reply may have a body of `limit` bytes. It takes no memory.
+    /// A pool that holds nothing: at most `links` exchanges are in flight at once, and as many links
+    /// (connections) that exchanges left open are kept for later asks; a ticket is asked again at most
+    /// `retries` times; at most `budget` exchanges are started; and a reply may have a body of at most
+    /// `limit` bytes. Condition: `links` is 1 to 256. It takes no memory.
     pub fn new(alloc: Global, links: u32, retries: u32, budget: u64, limit: u64) -> Pool
         requires some { 0 < links }
         requires few { links ≤ 256 }
@@ -97,8 +99,8 @@ impl Pool {
         }
     }
 
-    /// Holds an ask, which waits behind those that wait. Out of memory, all is as it was and the
-    /// address is gone.
+    /// Holds an ask, which waits behind those that wait. Condition: no ask is held under its ticket.
+    /// Out of memory, all is as it was and the address is gone.
     pub fn put(&mut self, ticket: u64, address: WebAddress) -> Result<(), OutOfMemory>
         requires fresh { AllByRecursion (λ ask. ask.ticket ≢ ticket) (held self.old) }
         ensures ok { OnOk result (self.new ≡ record self.old { waiting = self.old.waiting ++ (record { ticket = ticket; address = address; failed = 0 }) ∷ [] }) }
@@ -113,7 +115,7 @@ impl Pool {
         Ok(())
     }
 
-    /// How many exchanges were started.
+    /// How many exchanges were started since the pool was made, each try of an ask as one.
     pub fn started(&self) -> u64
         ensures { result ≡ self.now.started }
     {
@@ -135,11 +137,12 @@ impl Pool {
     }
 
     /// Starts the asks that wait, as many as may be in flight, polls each exchange in flight, the
-    /// oldest first, and waits for the wire where none has moved.
+    /// oldest first, and waits for the wire once where no reply came. Where nothing is held, it answers
+    /// `Idle` and calls nothing.
     ///
     /// It ends at the first reply that comes. Each step has the same wire, and nothing else calls on
-    /// it between two steps. A fault is answered again by each later step; where no memory is found
-    /// for a copy of the bytes that it keeps, that one step answers out of memory.
+    /// it between two steps. A fault is answered again by each later step. Where no memory is found for
+    /// a copy of the bytes that it keeps, and only there, a step answers out of memory in its place.
     pub fn step<W: Dial>(&mut self, wire: &mut W) -> Result<Stepped, PoolFault>
         requires suits { SuitsWire self.old (W.state wire.old) }
         ensures suits { SuitsWire self.new (W.state wire.new) }
@@ -149,6 +152,7 @@ impl Pool {
         ensures waits { self.old.fault ≡ None → WaitsOnce result (W.state wire.old) (W.state wire.new) }
         ensures err { self.old.fault ≡ None → IfErr result (λ shown. (fault : PoolFault) × StepsTo (Err fault) self.old (record self.new { fault = None }) (W.state wire.old) (W.state wire.new)
             × (self.new.fault ≡ Some fault) × ((shown ≡ fault) ⊎ (shown ≡ PoolFault.OutOfMemory))) }
+        ensures plain { (fault : PoolFault) → self.new.fault ≡ Some fault → keeps_bytes fault ≡ false → result ≡ Err fault }
         ensures bounds { bounds_of (record self.new { fault = None }) ≡ bounds_of (record self.old { fault = None }) }
         ensures no_fault { self.old.fault ≡ None → OnOk result (self.new.fault ≡ None) }
         ensures idle { self.old.fault ≡ None → held self.old ≡ [] → result ≡ Ok Stepped.Idle }
@@ -176,12 +180,14 @@ impl Pool {
     fn end_with(&mut self, fault: PoolFault) -> PoolFault
         ensures ends { self.new ≡ record self.old { fault = Some fault } }
         ensures shown { (result ≡ fault) ⊎ (result ≡ PoolFault.OutOfMemory) }
+        ensures plain { keeps_bytes fault ≡ false → result ≡ fault }
     {
         self.fault = Some(fault);
         self.again()
     }
 
-    /// Closes all links that it holds. Nothing is held afterwards.
+    /// Closes all links that it holds. Nothing is held afterwards; a fault and the count of exchanges
+    /// stay.
     pub fn close<W: Dial>(&mut self, wire: &mut W)
         requires suits { SuitsWire self.old (W.state wire.old) }
         ensures empty { self.new ≡ record self.old { waiting = []; polled = []; due = []; spare = [] } }
@@ -234,10 +240,11 @@ impl Pool {
 
     /// The fault that ended it, once more; its bytes are copied.
     fn again(&self) -> PoolFault
-        ensures { (fault : PoolFault) → self.now.fault ≡ Some fault → (result ≡ fault) ⊎ (result ≡ PoolFault.OutOfMemory) }
+        ensures shown { (fault : PoolFault) → self.now.fault ≡ Some fault → (result ≡ fault) ⊎ (result ≡ PoolFault.OutOfMemory) }
+        ensures plain { (fault : PoolFault) → self.now.fault ≡ Some fault → keeps_bytes fault ≡ false → result ≡ fault }
     {
         match &self.fault {
-            Some(fault) => copied(self.alloc, fault),
+            Some(fault) => copy_of(self.alloc, fault),
             None => PoolFault::OutOfMemory,
         }
     }
@@ -687,8 +694,9 @@ fn ends(polled: &Result<Polled, PoolFault>) -> bool
 }
 
 /// The same fault; its bytes are copied. Out of memory, that.
-fn copied(alloc: Global, fault: &PoolFault) -> PoolFault
-    ensures { (result ≡ fault.now) ⊎ (result ≡ PoolFault.OutOfMemory) }
+fn copy_of(alloc: Global, fault: &PoolFault) -> PoolFault
+    ensures shown { (result ≡ fault.now) ⊎ (result ≡ PoolFault.OutOfMemory) }
+    ensures plain { keeps_bytes fault.now ≡ false → result ≡ fault.now }
 {
     match fault {
         PoolFault::Exchange => PoolFault::Exchange,

@@ -1,5 +1,5 @@
 // The columns of a result.
-ghost use Rattle.std.specs.Prelude.{ℕ, ◌≡◌, List, IfOk};
+ghost use Rattle.std.specs.Prelude.{◌≡◌, IfOk};
 ghost use Rattle.std.specs.BTreeMap.{values};
 ghost use Rattle.result_json.specs.Results.{name_at, columns_of};
 

@@ -1,11 +1,11 @@
 // A result that is written row by row.
-ghost use Rattle.std.specs.Prelude.{ℕ, ◌≡◌, ◌≤◌, Bool, true, false, List, [], ◌∷◌, ◌++◌, IfOk, OnOk, OnErr, IsErrOf, codes, if◌then◌else◌};
+ghost use Rattle.std.specs.Prelude.{◌≡◌, ◌≤◌, true, false, [], ◌++◌, IfOk, OnOk, OnErr, IsErrOf, codes, if◌then◌else◌};
 ghost use Rattle.std.specs.Io.KnownBytes.{Appends};
 ghost use Rattle.json.specs.Print.{print};
 ghost use Rattle.tpf_base.specs.Causes.{Rose, DoesNotFail};
 ghost use Rattle.tpf_base.specs.Wrote.{AppendsPrefix};
 ghost use Rattle.result_json.specs.Results.{columns_of, row_object, result_text};
-ghost use Rattle.result_json.specs.Pieces.{Writing, front_text, row_piece, rows_text, end_text};
+ghost use Rattle.result_json.specs.Pieces.{Writing, front_text, row_piece, end_text};
 
 use crate::columns::columns_of;
 use crate::tokens::{put_front, put_row};
@@ -84,7 +84,8 @@ fn append_comma(follows: bool, text: &mut Vec<u8>) -> Result<(), OutOfMemory>
 }
 
 impl<'a> ResultWriter<'a> {
-    /// A result of a query with no row yet: what stands in front of the rows is pending. It fails for want of memory alone.
+    /// A result of a query with no row yet: what stands in front of the rows is pending. The only error is out
+    /// of memory.
     pub fn begin(alloc: Global, query: &'a Query) -> Result<ResultWriter<'a>, OutOfMemory>
         ensures { IfOk result (λ w. w ≡ record { query = query.now; has_rows = false; pending = front_text query.now }) }
     {
@@ -99,8 +100,9 @@ impl<'a> ResultWriter<'a> {
         })
     }
 
-    /// Adds a row: a member for each selected name that it binds, in the order of the names' bytes. It fails for want of
-    /// memory alone, and then the writer is as it was.
+    /// Adds a row, with a comma in front where it is not the first: an object with a member for each selected name that the row
+    /// binds, in the order of the names' bytes (section 3.2.1). The only error is out of memory, and then the writer is as it
+    /// was.
     pub fn row(&mut self, row: &Row) -> Result<(), OutOfMemory>
         ensures ok { OnOk result (self.new ≡ record { query = self.old.query; has_rows = true; pending = self.old.pending ++ row_piece self.old.query self.old.has_rows row.now }) }
         ensures err { OnErr result (self.new ≡ self.old) }
@@ -119,7 +121,7 @@ impl<'a> ResultWriter<'a> {
         }
     }
 
-    /// Adds the end of the text. It fails for want of memory alone, and then the writer is as it was.
+    /// Adds the end of the text, `]}}` and LF. The only error is out of memory, and then the writer is as it was.
     pub fn finish(&mut self) -> Result<(), OutOfMemory>
         ensures ok { OnOk result (self.new ≡ record { query = self.old.query; has_rows = self.old.has_rows; pending = self.old.pending ++ end_text }) }
         ensures err { OnErr result (self.new ≡ self.old) }
@@ -152,7 +154,7 @@ impl<'a> ResultWriter<'a> {
     }
 }
 
-/// The text of the result of a query with these rows, whole. It fails for want of memory alone.
+/// The text of the result of a query with these rows, whole. The only error is out of memory.
 pub fn result_text(alloc: Global, query: &Query, rows: &[Row]) -> Result<Vec<u8>, OutOfMemory>
     ensures { IfOk result (λ v. v.items ≡ result_text query.now rows.now) }
 {

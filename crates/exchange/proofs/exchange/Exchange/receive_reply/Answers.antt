@@ -1,6 +1,6 @@
 -- What was received comes behind what came before.
 use Rattle.std.proofs.Common.{◌∙◌, ap}
-use Rattle.exchange.proofs.PollLemmas.{reply_pending, reply_broken, reply_failed, reply_read, as_result, rose_then}
+use Rattle.exchange.proofs.PollLemmas.{reply_pending, reply_broken, reply_failed, reply_read, as_result, rose_then, handed_all, handed_as}
 use Rattle.exchange.specs.declared.exchange.Standing.TheVariants.{Over}
 use Rattle.exchange.proofs.exchange.Exchange.receive_reply.Goals as goal
 
@@ -29,3 +29,15 @@ pub returns-in-End-clause-answers : goal.returns-in-End-clause-answers
 returns-in-End-clause-answers g c = let h = c.in-End.ensures.receives in let n = c.in-End.ensures.end_ in
     reply_read _ _ _ _ _ _ _ _ h.0 _ _ Over _ _ _ _ c.self.view_is c.requires.link c.requires.sent h.1 (h.2 (λ e. cc)) c.requires.is_open n.1 (λ e. n.2) (λ e. n.3) (λ e. n.4) (λ e. cc)
     c.conclude-in-End.ensures.concludes c.conclude-in-End.ensures.address c.conclude-in-End.ensures.limit c.conclude-in-End.ensures.link
+
+pub returns-in-Read-clause-hands_over : goal.returns-in-Read-clause-hands_over
+returns-in-Read-clause-hands_over g c = handed_all _ _ c.conclude.ensures.received
+
+pub returns-in-End-clause-hands_over : goal.returns-in-End-clause-hands_over
+returns-in-End-clause-hands_over g c = handed_all _ _ c.conclude-in-End.ensures.received
+
+pub returns-in-Failed-clause-hands_over : goal.returns-in-Failed-clause-hands_over
+returns-in-Failed-clause-hands_over g c = handed_as _ _ _ c.break_off.ensures.result tt
+
+pub returns-in-OutOfMemory-clause-hands_over : goal.returns-in-OutOfMemory-clause-hands_over
+returns-in-OutOfMemory-clause-hands_over g c = handed_as _ _ _ c.break_off-in-OutOfMemory.ensures.result tt

@@ -1,6 +1,6 @@
 -- What was sent comes behind what was sent before.
 use Rattle.std.proofs.Common.{refl, sym, ◌∙◌, ap, length}
-use Rattle.exchange.proofs.PollLemmas.{send_pending, send_broken, send_failed, send_done, as_result, rose_then, sends_as, front_as, less_as}
+use Rattle.exchange.proofs.PollLemmas.{send_pending, send_broken, send_failed, send_done, as_result, rose_then, sends_as, front_as, less_as, handed_as}
 use Rattle.tpf_base.specs.HttpReply.{is_open}
 use Rattle.exchange.proofs.IncomingLemmas.{open_reads_more}
 use Rattle.exchange.proofs.exchange.Exchange.send.Goals as goal
@@ -28,3 +28,9 @@ pub returns-in-OutOfMemory-clause-answers : goal.returns-in-OutOfMemory-clause-a
 returns-in-OutOfMemory-clause-answers g c = let v = c.as_slice.ensures.value in
     as_result _ _ _ _ _ _ c.break_off-in-OutOfMemory.ensures.result
     (send_broken _ _ _ _ _ _ _ _ _ _ _ _ _ _ c.self.view_is c.requires.link c.self.invariant.is_request (front_as _ _ _ _ _ _ v c.in-OutOfMemory.ensures.front) c.break_off-in-OutOfMemory.ensures.closes c.break_off-in-OutOfMemory.ensures.over)
+
+pub returns-in-Failed-clause-hands_over : goal.returns-in-Failed-clause-hands_over
+returns-in-Failed-clause-hands_over g c = handed_as _ _ _ c.break_off.ensures.result tt
+
+pub returns-in-OutOfMemory-clause-hands_over : goal.returns-in-OutOfMemory-clause-hands_over
+returns-in-OutOfMemory-clause-hands_over g c = handed_as _ _ _ c.break_off-in-OutOfMemory.ensures.result tt

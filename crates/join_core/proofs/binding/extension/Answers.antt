@@ -1,7 +1,7 @@
 use Rattle.std.proofs.Common.{sym}
 use Rattle.bgp_core.proofs.Fitting.{extension-none}
 use Rattle.join_core.proofs.Bindings.{fitting, bound-allows, bound-all}
-use Rattle.join_core.proofs.binding.extended.Goals as goal
+use Rattle.join_core.proofs.binding.extension.Goals as goal
 
 pub returns-then-not-fits-clause-value : goal.returns-then-not-fits-clause-value
 returns-then-not-fits-clause-value c = sym (extension-none c.args.pattern.now c.args.row.now c.args.triple (sym c.if-not-fits.ensures))
