@@ -1,5 +1,5 @@
 -- A text is read as an address exactly where it is one.
-use Rattle.std.proofs.Common.{ℕ, ◌≡◌, ◌∙◌, ◌+◌, ◌<◌, ◌≤◌, sym, ap, subst, refl, cond, codes, zero, suc, Bool, true, false, ◌==◌, ◌&&◌, nat_eq, nat_le, List, [], ◌∷◌, ◌++◌, length, take, drop, Option, Some, None, arith, take-append-drop}
+use Rattle.std.proofs.Common.{ℕ, ◌≡◌, ◌∙◌, ◌+◌, ◌<◌, ◌≤◌, sym, ap, subst, refl, codes, zero, suc, true, false, ◌==◌, nat_eq, nat_le, List, [], ◌∷◌, ◌++◌, length, take, drop, Option, Some, None, arith, take-append-drop}
 use Rattle.std.specs.List.{list_all, starts_with, take_while}
 use Rattle.std.specs.Option.{option_map}
 use Rattle.std.specs.Char.{is_ascii_digit}
@@ -91,6 +91,3 @@ address_read text a r = reads_address text a r
 -- an address has at most 2048 bytes
 pub short_url : (text : List ℕ) → length text ≤ 2048 → url_of text ≡ read_address text
 short_url text short = let test : nat_le (length text) 2048 ≡ true = grind (arith, nat_tests) in rw test refl
-
-pub long_url : (text : List ℕ) → 2048 < length text → url_of text ≡ None
-long_url text long = let test : nat_le (length text) 2048 ≡ false = grind (arith, nat_tests) in rw test refl

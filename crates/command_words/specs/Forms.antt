@@ -1,4 +1,4 @@
--- A form by the names that the code has.
+-- A form by the names that the code has. It serves the reading of words alone.
 use Rattle.std.specs.Prelude.{List, map}
 use Rattle.std.specs.Borrow.{Bor}
 use Rattle.command_words.specs.Words.{Form, Text}

@@ -26,12 +26,15 @@ pub enum Command<'a> {
     /// `local FILE QUERYFILE`: to serve a file of data to a client in the same process, and to write
     /// the answer of the query of another file.
     Local {
+        /// `FILE`: the name of the file of data.
         name: &'a str,
+        /// `QUERYFILE`: the name of the file of the query.
         query: &'a str,
         /// `--graph IRI` or `--union`, and else the default graph.
         choice: Choice,
         /// `--page`: the most triples of a page, 1 to 1000; 100 where it is not given.
         page: u64,
+        /// The options of the client.
         client: ClientWords,
         /// `--seed`: of the random order of events, 0 to 9999999999999999999; 0 where it is not given.
         seed: u64,
@@ -41,16 +44,22 @@ pub enum Command<'a> {
     },
     /// `query URL QUERYFILE`: to ask the query of a file of the server at an address.
     Query {
+        /// `URL`: the address of a page of the server, from which the search form is read.
         url: WebAddress,
+        /// `QUERYFILE`: the name of the file of the query.
         query: &'a str,
+        /// The options of the client.
         client: ClientWords,
     },
     /// `serve FILE --base URL`: to serve a file of data.
     Serve {
+        /// `FILE`: the name of the file of data.
         name: &'a str,
-        /// An address without a query.
+        /// `--base`: an address without a query.
         base: WebAddress,
+        /// `--graph IRI` or `--union`, and else the default graph.
         choice: Choice,
+        /// `--page`: the most triples of a page, 1 to 1000; 100 where it is not given.
         page: u64,
         /// `--stop-after`: after how many connections to stop, 1 to 1000000000, and else never.
         stop_after: Option<u64>,
@@ -61,7 +70,9 @@ pub enum Command<'a> {
     /// `make N`: to write the data of so many persons, 1 to 1000000, or with `--run QUERYFILE` to ask
     /// a query of them.
     Make {
+        /// `N`: how many persons.
         count: u32,
+        /// `--run`: the name of the file of the query, where there is one.
         run: Option<&'a str>,
     },
 }

@@ -324,7 +324,8 @@ fn command_by<'a>(
 }
 
 /// The command that the words are, if they are one. The first word is the program's name, and the
-/// second that of the command; the others are its arguments. It fails for want of memory alone.
+/// second that of the command; the others are its arguments. `OutOfMemory` comes only where memory
+/// runs out.
 ///
 /// An option is `--name value` or `--name=value`, a flag `--name`, and the other words are the
 /// positionals. `--` ends the options. Before it each word of two or more characters that begins

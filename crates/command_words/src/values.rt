@@ -138,6 +138,7 @@ pub fn reload_of(
     }
 }
 
+/// Whether a flag is given: its value is then `true`.
 pub fn is_true(value: Option<&str>) -> bool
     ensures { result ≡ is_true (option_map (λ v. v.now) value.entry) }
 {

@@ -1,6 +1,6 @@
 -- The parts of some words that the grammar reads: the PREFIX part, the SELECT part, and the braces with what stands between them.
 use Rattle.std.specs.List.{list_all}
-use Rattle.std.proofs.Common.{ℕ, suc, ◌≡◌, Bool, true, false, not, ◌==◌, if◌then◌else◌, List, [], ◌∷◌, ◌++◌, refl, ap, ◌∙◌, take, drop, append_assoc}
+use Rattle.std.proofs.Common.{ℕ, suc, ◌≡◌, Bool, true, false, not, ◌==◌, if◌then◌else◌, List, [], ◌∷◌, ◌++◌, refl, ap, ◌∙◌, drop, append_assoc}
 use Rattle.std.proofs.lemmas.Bool.{and_parts}
 use Rattle.regular_expressions.specs.Regular.{Regular, many}
 use Rattle.query_grammar.specs.declared.kind.Kind.{Kind}
@@ -13,7 +13,7 @@ use Rattle.query_words.specs.declared.word.Value.TheVariants as values
 use Rattle.query_words.specs.declared.word.Word.{Word}
 use Rattle.query_words.specs.Words.{kind_of, kinds_of}
 use Rattle.pattern_parser.specs.Prefixes.{before}
-use Rattle.pattern_parser.specs.Queries.{is_select, is_brace, prologue, body, block}
+use Rattle.pattern_parser.specs.Queries.{is_select, is_brace, body, block}
 use Rattle.pattern_parser.proofs.Splits.{Is, seq_split, one, only, only_all}
 
 -- the expressions of the parts
@@ -85,16 +85,11 @@ is_brace-kind : (v : Value) → kind_of v ≡ kinds.OpenBrace → is_brace v ≡
 is_brace-kind values.OpenBrace e = refl
 is_brace-kind _ e = cc
 
--- the words from the first that passes on, and those before it
+-- the words from the first that passes on
 back : (test : Value → Bool) (xs : List Word) (w : Word) (ys : List Word) → NonePass test xs → test w.value ≡ true → drop (before test (xs ++ w ∷ ys)) (xs ++ w ∷ ys) ≡ w ∷ ys
 back test [] w ys h e = ap (λ (b : Bool). drop (if b then 0 else suc (before test ys)) (w ∷ ys)) e
 back test (x ∷ xs) w ys h e =
     ap (λ (b : Bool). drop (if b then 0 else suc (before test (xs ++ w ∷ ys))) (x ∷ (xs ++ w ∷ ys))) h.0 ∙ back test xs w ys h.1 e
-
-front_of : (test : Value → Bool) (xs : List Word) (w : Word) (ys : List Word) → NonePass test xs → test w.value ≡ true → take (before test (xs ++ w ∷ ys)) (xs ++ w ∷ ys) ≡ xs
-front_of test [] w ys h e = ap (λ (b : Bool). take (if b then 0 else suc (before test ys)) (w ∷ ys)) e
-front_of test (x ∷ xs) w ys h e =
-    ap (λ (b : Bool). take (if b then 0 else suc (before test (xs ++ w ∷ ys))) (x ∷ (xs ++ w ∷ ys))) h.0 ∙ ap (λ (l : List Word). x ∷ l) (front_of test xs w ys h.1 e)
 
 assoc_all : (p b c e : List Word) (s o l : Word) → (((((p ++ s ∷ []) ++ b) ++ c) ++ o ∷ []) ++ e) ++ l ∷ [] ≡ p ++ s ∷ ((b ++ c) ++ o ∷ (e ++ l ∷ []))
 assoc_all p b c e s o l =
@@ -134,12 +129,6 @@ outline ws q =
           ap (λ (y : List Word). y ++ close.0 ∷ []) (e.4 ∙ ap (λ (y : List Word). y ++ e.1) (d.4 ∙ ap (λ (y : List Word). d.0 ++ y) brace.1 ∙ ap (λ (y : List Word). y ++ brace.0 ∷ []) (c.4 ∙ ap (λ (y : List Word). y ++ c.1) (b.4 ∙ ap (λ (y : List Word). y ++ b.1) (p.4 ∙ ap (λ (y : List Word). p.0 ++ y) select.1))))) ∙
           assoc_all p.0 b.1 c.1 e.1 select.0 brace.0 close.0;
     }
-
--- the PREFIX part is what stands before SELECT
-pub prologue_is : (ws : List Word) (l : Outline ws) → prologue ws ≡ l.front
-prologue_is ws l =
-    let tail = l.names ++ l.brace ∷ (l.inner ++ l.close ∷ []) in
-    ap prologue l.whole ∙ front_of is_select l.front l.select tail l.front_select (is_select-kind l.select.value l.select_is)
 
 pub body_is : (ws : List Word) (l : Outline ws) → body ws ≡ l.select ∷ (l.names ++ l.brace ∷ (l.inner ++ l.close ∷ []))
 body_is ws l =

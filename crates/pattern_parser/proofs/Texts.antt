@@ -1,5 +1,5 @@
 -- A text's tokens are no more than its characters, and its prefixes are those of its PREFIX part.
-use Rattle.std.proofs.Common.{ℕ, ◌≡◌, ◌+◌, ◌≤◌, Bool, true, false, if◌then◌else◌, List, [], ◌∷◌, Option, Some, None, refl, sym, ap, ◌∙◌, drop, length, arith, length-append}
+use Rattle.std.proofs.Common.{ℕ, ◌≡◌, ◌+◌, ◌≤◌, Bool, true, false, if◌then◌else◌, List, [], ◌∷◌, Option, sym, ap, ◌∙◌, drop, length, arith, length-append}
 use Rattle.std.proofs.lemmas.List.{length-map}
 use Rattle.query_tokens.specs.declared.kind.PieceKind.{PieceKind}
 use Rattle.query_tokens.specs.declared.piece.Piece.{Piece}
@@ -10,7 +10,7 @@ use Rattle.query_words.specs.Words.{word_of, words_of}
 use Rattle.pattern_parser.specs.declared.fault.QueryWhy.{QueryWhy}
 use Rattle.pattern_parser.specs.declared.fault.QueryWhy.TheVariants as why
 use Rattle.pattern_parser.specs.Prefixes.{iri_of}
-use Rattle.pattern_parser.specs.Queries.{prologue, prefixes, body, term_fault, excess, triples_of, query_of, fault_or, first_of, fault_with, later_fault, FaultAt, IsTokenFaultAt}
+use Rattle.pattern_parser.specs.Queries.{prologue, prefixes, body, query_of, fault_with, later_fault, FaultAt, IsTokenFaultAt}
 
 one_at_most : (cs : List ℕ) (place : ℕ) (k : PieceKind) (len : ℕ) → length (placed_one cs place k len) ≤ 1
 one_at_most cs place k len = pick (is_gap k)
@@ -47,19 +47,6 @@ fault_at f ws bs o e b t =
 
 pub query_at : (f : List ℕ → Option (List ℕ)) (ws bs : List Word) → f ≡ prefixes ws → bs ≡ body ws → query_of f bs ≡ query_of (prefixes ws) (body ws)
 query_at f ws bs e b = ap (λ (l : List Word). query_of f l) b ∙ ap (λ (g : List ℕ → Option (List ℕ)). query_of g (body ws)) e
-
-with_parts : (f : List ℕ → Option (List ℕ)) (ws bs : List Word) (a : Option (QueryWhy × ℕ)) (b : Option ℕ) → term_fault f ws bs ≡ a → excess (triples_of f bs) ≡ b → fault_with f ws bs ≡ first_of a (fault_or b why.TooManyPatterns None)
-with_parts f ws bs a b e g =
-    ap (λ (o : Option (QueryWhy × ℕ)). first_of o (fault_or (excess (triples_of f bs)) why.TooManyPatterns None)) e ∙ ap (λ (o : Option ℕ). first_of a (fault_or o why.TooManyPatterns None)) g
-
-pub fine_with : (f : List ℕ → Option (List ℕ)) (ws bs : List Word) → term_fault f ws bs ≡ None → excess (triples_of f bs) ≡ None → fault_with f ws bs ≡ None
-fine_with f ws bs e g = with_parts f ws bs None None e g
-
-pub term_is_first : (f : List ℕ → Option (List ℕ)) (ws bs : List Word) (w : QueryWhy) (at : ℕ) → term_fault f ws bs ≡ Some (w, at) → fault_with f ws bs ≡ Some (w, at)
-term_is_first f ws bs w at e = with_parts f ws bs (Some (w, at)) (excess (triples_of f bs)) e refl
-
-pub excess_is_last : (f : List ℕ → Option (List ℕ)) (ws bs : List Word) (w : QueryWhy) (at : ℕ) → term_fault f ws bs ≡ None → w ≡ why.TooManyPatterns → excess (triples_of f bs) ≡ Some at → fault_with f ws bs ≡ Some (w, at)
-excess_is_last f ws bs w at e k g = with_parts f ws bs None (Some at) e g ∙ ap (λ (v : QueryWhy). let r : Option (QueryWhy × ℕ) = Some (v, at) in r) (sym k)
 
 pub token_is_fault : (text : List ℕ) (w : QueryWhy) (at : ℕ) → IsTokenFaultAt text w at → FaultAt text w at
 token_is_fault text why.TooLong at f = f

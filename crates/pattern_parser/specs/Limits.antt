@@ -1,4 +1,4 @@
--- Where a block has one triple pattern too many, by its tokens alone.
+-- Where a block has one triple pattern too many, by its tokens alone. It serves the reader and the proofs alone.
 use Rattle.std.specs.Prelude.{ℕ, ◌-◌, ◌==◌, Bool, true, false, ◌&&◌, List, [], ◌∷◌, Option, Some, None, if◌then◌else◌, zero, suc}
 use Rattle.query_words.specs.declared.word.Value.{Value}
 use Rattle.query_words.specs.declared.word.Value.TheVariants as values

@@ -1,4 +1,4 @@
--- What a list of names with a map of their numbers keeps.
+-- What a list of names with a map of their numbers keeps. It serves the reader and the proofs alone.
 use Rattle.std.specs.Prelude.{ℕ, ◌≡◌, false, List}
 use Rattle.std.specs.BTreeMap.{get_by_text}
 use Rattle.std.specs.List.{position_from}

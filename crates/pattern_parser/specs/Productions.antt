@@ -6,13 +6,13 @@ use Rattle.pattern_parser.specs.declared.item.Item.TheVariants as items
 use Rattle.pattern_parser.specs.declared.triple.Placed.{Placed}
 use Rattle.pattern_parser.specs.Triples.{placed, triples_after}
 
--- object { "," object }
+-- [79] ObjectList: object { "," object }
 abbrev pub Objects : Part → Part → List Item → List Placed → Type 0
 Objects s v (items.Part o at ∷ []) ts = ts ≡ placed s v o at ∷ []
 Objects s v (items.Part o at ∷ items.Comma ∷ is) ts = (rest : List Placed) × Objects s v is rest × (ts ≡ placed s v o at ∷ rest)
 Objects s v _ ts = ⊥
 
--- verb object { "," object }
+-- [78] Verb and [79] ObjectList: verb object { "," object }
 abbrev pub VerbObjects : Part → List Item → List Placed → Type 0
 VerbObjects s is ts = (v : Part) × (at : ℕ) × (rest : List Item) × (is ≡ items.Part v at ∷ rest) × Objects s v rest ts
 
@@ -35,7 +35,7 @@ abbrev pub triples_of : List (List Item × List Placed) → List Placed
 triples_of [] = []
 triples_of (p ∷ ps) = p.1 ++ triples_of ps
 
--- subject, verb and objects, and more of them after ';'
+-- [75] TriplesSameSubject with [77] PropertyListNotEmpty: subject, verb and objects, and more of them after ';'
 pub record Same (is : List Item) (ts : List Placed) : Type 0 where
   pub subject : Part
   pub place : ℕ
@@ -46,7 +46,7 @@ pub record Same (is : List Item) (ts : List Placed) : Type 0 where
   pub items_are : is ≡ items.Part subject place ∷ (first.0 ++ after_marks items.Semicolon more)
   pub triples_are : ts ≡ first.1 ++ triples_of more
 
--- same { "." same } [ "." ]
+-- [55] TriplesBlock: same { "." same } [ "." ]
 pub record Block (is : List Item) (ts : List Placed) : Type 0 where
   pub first : List Item × List Placed
   pub more : List (List Item × List Placed)
@@ -56,7 +56,7 @@ pub record Block (is : List Item) (ts : List Placed) : Type 0 where
   pub items_are : is ≡ first.0 ++ (after_marks items.Dot more ++ (if dot then items.Dot ∷ [] else []))
   pub triples_are : ts ≡ first.1 ++ triples_of more
 
--- [ block ]
+-- what [54] GroupGraphPatternSub is without other patterns: [ block ]
 abbrev pub Body : List Item → List Placed → Type 0
 Body is ts = ((is ≡ []) × (ts ≡ [])) ⊎ Block is ts
 

@@ -13,6 +13,7 @@ abbrev pub IsShortPart : Part → Type 0
 IsShortPart (parts.Fixed t) = term_size t ≤ 262204
 IsShortPart (parts.Name n) = ⊤
 
+-- each part of the pattern is short
 pub record IsShortPattern (p : Pattern) : Type 0 where
   pub subject : IsShortPart p.subject
   pub predicate : IsShortPart p.predicate

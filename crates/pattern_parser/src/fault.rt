@@ -1,24 +1,25 @@
 // Why a text is no query.
 use tpf_base::OutOfMemory;
 
-/// The kinds of faults of a query's text. Of several, the first kind in this order decides, then
-/// the first place.
+/// The kinds of faults of a query's text. Of several, the first kind in this order is told, and of
+/// this kind the first place. Places are in bytes, from 0.
 #[derive(Clone, Copy, Debug, PartialEq, Eq)]
 pub enum QueryWhy {
     /// The text has more than 262144 bytes; the place is 262144.
     TooLong,
-    /// The text is not UTF-8; the place is the length of its longest front that is.
+    /// The text is not UTF-8; the place is the length of its longest prefix that is.
     Utf8,
     /// Some place begins no token, no white space and no comment; the first such place.
     Token,
     /// The tokens are no query; the first token with which the tokens so far begin none, or the
     /// text's length where they end too early.
     Grammar,
-    /// A name whose prefix is not declared; the first.
+    /// A prefixed name, from SELECT on, whose prefix is not declared; the first.
     UnknownPrefix,
-    /// An IRI with no scheme; the first.
+    /// An IRI with no scheme, also one of a PREFIX; the first.
     RelativeIri,
-    /// A string with the datatype rdf:langString; the first.
+    /// A string with the datatype rdf:langString, which has no language tag (RDF 1.1 Concepts,
+    /// section 3.3); the first.
     LangString,
     /// More than 64 triple patterns; the object that completes the 65th.
     TooManyPatterns,
@@ -29,7 +30,7 @@ pub enum QueryWhy {
 pub enum QueryFault {
     /// The first fault of the text and its place, in bytes from 0.
     Bad { at: usize, why: QueryWhy },
-    /// Want of memory.
+    /// Out of memory.
     OutOfMemory,
 }
 

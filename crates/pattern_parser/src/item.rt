@@ -320,7 +320,8 @@ fn take_or_skip(
     take_word(alloc, prefixes, names, items, word, rest)
 }
 
-/// The items of some tokens, whose names join those given. `OutOfMemory` for want of memory alone.
+/// The items of some tokens, whose names join those given. `OutOfMemory` comes only where memory runs
+/// out.
 pub fn items_of(
     alloc: Global,
     prefixes: &Prefixes,
@@ -381,7 +382,7 @@ fn name_or_skip(
     Ok(more(&word.value, rest))
 }
 
-/// The names of some tokens join those given. `OutOfMemory` for want of memory alone.
+/// The names of some tokens join those given. `OutOfMemory` comes only where memory runs out.
 pub fn names_of(alloc: Global, names: &mut Names, words: &[Word]) -> Result<(), OutOfMemory>
     requires numbered { AreNumbered names.old }
     requires few { length names.old.texts.items + length words.now < 2 ^ 32 - 1 }

@@ -1,4 +1,15 @@
 //! Queries: SPARQL 1.1 basic graph patterns with prefixes, lists and the short forms of terms.
+//!
+//! A query has its triple patterns, the names of its variables and blank nodes, and the numbers of
+//! those names that it selects:
+//!
+//! ```rust
+//! let text = "PREFIX v: <http://e/> SELECT ?x WHERE { ?x v:name 'Alice' ; v:knows ?y }";
+//! let query = parse(rt.alloc(), text.as_bytes())?;
+//! assert_eq!(rt; query.patterns().len(), 2);
+//! assert_eq!(rt; query.names().len(), 2);
+//! assert!(rt; query.selected() == [0].as_slice());
+//! ```
 #![tactic(auto)]
 
 mod build;

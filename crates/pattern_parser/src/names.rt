@@ -66,7 +66,7 @@ impl Names {
         Ok(number)
     }
 
-    /// The number that a name has or takes. `OutOfMemory` for want of memory alone.
+    /// The number that a name has or takes. `OutOfMemory` comes only where memory runs out.
     pub fn number(&mut self, alloc: Global, text: &str) -> Result<u32, OutOfMemory>
         requires numbered { AreNumbered self.old }
         requires few { length self.old.texts.items < 2 ^ 32 - 1 }

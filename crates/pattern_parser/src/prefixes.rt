@@ -55,7 +55,7 @@ fn declare_word(
     }
 }
 
-/// The prefixes that some tokens declare. `OutOfMemory` for want of memory alone.
+/// The prefixes that some tokens declare. `OutOfMemory` comes only where memory runs out.
 pub fn prefixes_of(alloc: Global, words: &[Word]) -> Result<Prefixes, OutOfMemory>
     ensures { IfOk result (λ m. (q : List ℕ) → get_by_text m q ≡ iri_of words.now q) }
 {
@@ -85,7 +85,7 @@ fn joined(alloc: Global, prefixes: &Prefixes, name: &str, local: &str) -> Result
     Ok(Text::from_string(text))
 }
 
-/// The IRI that a token stands for. `OutOfMemory` for want of memory alone.
+/// The IRI that a token stands for. `OutOfMemory` comes only where memory runs out.
 pub fn iri_text(alloc: Global, prefixes: &Prefixes, value: &Value) -> Result<Text, OutOfMemory>
     ensures { IfOk result (λ t. t ≡ iri_text (λ q. get_by_text prefixes.now q) value.now) }
 {

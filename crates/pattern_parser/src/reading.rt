@@ -15,7 +15,8 @@ use crate::prefixes::{Prefixes, prefixes_of};
 use crate::select::before_select;
 use crate::token::{characters, pieces_of, text_of};
 use bgp_core::Query;
-use query_grammar::grammar::grammar_fault;
+use query_grammar::grammar::{grammar_fault, one_fault};
+use query_tokens::piece::one_reading;
 use query_words::word::{Word, kinds_of, words_of};
 use std::alloc::Global;
 
@@ -84,8 +85,9 @@ fn query_of(alloc: Global, words: &[Word]) -> Result<Query, QueryFault>
     query_with(alloc, &prefixes, words, body)
 }
 
-/// The query that a text is (SPARQL 1.1, sections 4 and 19.8). `Bad` exactly where it is none, with
-/// its first fault and its place; `OutOfMemory` for want of memory alone.
+/// The query that a text is (SPARQL 1.1, sections 4 and 19.8): its patterns in their order, its names
+/// by their first place, and the numbers of those that are selected. `Bad` exactly where it is none,
+/// with its first fault and its place; `OutOfMemory` comes only where memory runs out.
 pub fn parse(alloc: Global, text: &[u8]) -> Result<Query, QueryFault>
     ensures query { IfOk result (λ q. ReadsQuery text.now q) }
     ensures bad { (w : QueryWhy) (at : ℕ) → IsErrOf result (QueryFault.Bad at w) → FaultAt text.now w at }
@@ -99,7 +101,10 @@ pub fn parse(alloc: Global, text: &[u8]) -> Result<Query, QueryFault>
 /// and a place.
 pub fn one_query()
     ensures { OneQuery }
-{}
+{
+    one_reading();
+    one_fault();
+}
 
 /// Between the braces of each text that is read stands a block of SPARQL's productions, or nothing,
 /// and the query's patterns are those that the productions give (SPARQL 1.1, section 19.8).

@@ -64,7 +64,7 @@ fn is_blank_name(text: &str) -> bool
     }
 }
 
-/// The numbers of those names that are variables. `OutOfMemory` for want of memory alone.
+/// The numbers of those names that are variables. `OutOfMemory` comes only where memory runs out.
 pub fn variable_numbers(alloc: Global, names: &[Text]) -> Result<Vec<u32>, OutOfMemory>
     requires { length names.now < 2 ^ 32 }
     ensures { IfOk result (λ v. v.items ≡ variable_numbers 0 names.now) }

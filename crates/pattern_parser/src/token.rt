@@ -16,23 +16,36 @@ use tpf_base::OutOfMemory;
 /// The kinds of tokens (SPARQL 1.1, section 19.8).
 #[derive(Clone, Copy, Debug, PartialEq, Eq)]
 pub enum TokenKind {
+    /// IRIREF.
     Iri,
+    /// PNAME_NS, as `foaf:`.
     Prefix,
+    /// PNAME_LN, as `foaf:name`.
     Prefixed,
+    /// VAR1 or VAR2.
     Variable,
+    /// BLANK_NODE_LABEL.
     Blank,
+    /// ANON.
     Anonymous,
+    /// STRING_LITERAL1 or STRING_LITERAL2.
     Str,
+    /// LANGTAG.
     Tag,
+    /// INTEGER, with or without a sign.
     Integer,
+    /// DECIMAL, with or without a sign.
     Decimal,
+    /// DOUBLE, with or without a sign.
     Double,
+    /// One or more ASCII letters, which need not be a keyword.
     Word,
     /// One of `{` `}` `.` `;` `,` `*` `^^`.
     Mark,
 }
 
-/// A token: the place of its first byte, that of the byte past its last, and its kind.
+/// A token: the place of its first byte, counted from 0, that of the byte past its last, and its
+/// kind.
 #[derive(Clone, Copy, Debug, PartialEq, Eq)]
 pub struct Token {
     pub at: usize,
@@ -128,8 +141,8 @@ fn tokens_of(alloc: Global, pieces: &[Piece]) -> Result<Vec<Token>, OutOfMemory>
 
 /// The tokens of a query's text (SPARQL 1.1, section 19.8), by longest match, in rising order;
 /// white space and comments stand between them and are none. `Bad` exactly where the text has more
-/// than 262144 bytes, is not UTF-8, or has a place that begins no token, with the first such place
-/// in bytes; `OutOfMemory` for want of memory alone.
+/// than 262144 bytes (TooLong), is not UTF-8 (Utf8), or has a place that begins no token (Token),
+/// with the place that the kind names; `OutOfMemory` comes only where memory runs out.
 pub fn tokens(alloc: Global, text: &[u8]) -> Result<Vec<Token>, QueryFault>
     ensures ok { IfOk result (λ v. IsTokenList text.now v.items) }
     ensures bad { (w : QueryWhy) (at : ℕ) → IsErrOf result (QueryFault.Bad at w) → IsTokenFaultAt text.now w at }

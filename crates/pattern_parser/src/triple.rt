@@ -80,7 +80,7 @@ impl Reading {
     }
 }
 
-/// The triple patterns of some items. `OutOfMemory` for want of memory alone.
+/// The triple patterns of some items. `OutOfMemory` comes only where memory runs out.
 pub fn triples(alloc: Global, items: Vec<Item>) -> Result<Vec<Placed>, OutOfMemory>
     ensures { IfOk result (λ v. v.items ≡ triples_after None None items.items) }
 {
@@ -95,7 +95,8 @@ pub fn triples(alloc: Global, items: Vec<Item>) -> Result<Vec<Placed>, OutOfMemo
     Ok(reading.triples)
 }
 
-/// What the productions of a block say of its patterns is what is read.
+/// The patterns that the productions of a block give, each its own (TriplesBlock, TriplesSameSubject,
+/// PropertyListNotEmpty, ObjectList; SPARQL 1.1, section 19.8), are those that are read.
 pub fn as_produced()
     ensures { AsProduced }
 {}

@@ -2,9 +2,9 @@
 use Rattle.std.proofs.Common.{ℕ, ◌≡◌, ◌+◌, ◌<◌, ◌≤◌, ◌⊎◌, inl, inr, true, false, List, [], ◌∷◌, ◌++◌, Option, Some, None, refl, sym, ap, ◌∙◌, take, drop, append_assoc, subst, length, get_or, arith}
 use Rattle.std.proofs.lemmas.List.{take_more, map-append, take_all, take-append-drop, take-take}
 use Rattle.std.proofs.lemmas.Bool.{cases_order}
-use Rattle.regular_expressions.specs.Regular.{Regular, Matches, left, lefts, nullable}
+use Rattle.regular_expressions.specs.Regular.{Regular, Matches, left, lefts, nullable, MatchingIsDecided, BeginningIsDecided}
 use Rattle.regular_expressions.proofs.Left.{lefts-append, alive-begins, nothing-begins, ends-matches, matches-ends}
-use Rattle.regular_expressions.proofs.Decide.{decide_matches, decide_begins, IsGreatest, greatest_or_none}
+use Rattle.regular_expressions.proofs.Decide.{IsGreatest, greatest_or_none}
 use Rattle.query_grammar.specs.declared.kind.Kind.{Kind}
 use Rattle.query_grammar.specs.declared.machine.State.{State}
 use Rattle.query_grammar.specs.declared.machine.State.TheVariants.{Start, AtEnd}
@@ -84,8 +84,8 @@ one_place ks m n a b = pick (cases_order m n)
 
 -- ---- a query or a fault
 
-pub some_reading : (ks : List Kind) → IsQuery ks ⊎ ((n : ℕ) × IsGrammarFault ks n)
-some_reading ks = pick (decide_matches query (codes ks)) (greatest_or_none front (λ n. decide_begins query (codes (take n ks))) (length ks))
+pub some_reading : MatchingIsDecided → BeginningIsDecided → (ks : List Kind) → IsQuery ks ⊎ ((n : ℕ) × IsGrammarFault ks n)
+some_reading matching beginning ks = pick (matching query (codes ks)) (greatest_or_none front (λ n. beginning query (codes (take n ks))) (length ks))
   where
     front : ℕ → Type 0
     front n = BeginsQuery (take n ks)

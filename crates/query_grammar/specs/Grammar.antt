@@ -1,4 +1,4 @@
--- The grammar of queries (SPARQL 1.1, section 19.8), as a regular expression over the kinds of tokens: without groups inside groups it is one.
+-- The grammar of queries (SPARQL 1.1, section 19.8), as a regular expression over the kinds of tokens: without groups inside groups it is one. Each production stands with its number.
 use Rattle.std.specs.Prelude.{[], ◌∷◌, ℕ, ◌≡◌, ◌⊎◌, ◌+◌, ◌<◌, ◌≤◌, List, map, take, length}
 use Rattle.regular_expressions.specs.Regular.{Regular, one_of, many, Matches, Begins}
 use Rattle.regular_expressions.specs.Combinators.{◌·◌, ◌∣◌, maybe}
@@ -35,43 +35,43 @@ code Carets = 22
 abbrev pub a : Kind → Regular
 a k = one_of (code k ∷ [])
 
--- iri: an IRI or a prefixed name
+-- [136] iri, with [137] PrefixedName
 abbrev pub iri : Regular
 iri = a Iri ∣ a Prefixed ∣ a Prefix
 
--- RDFLiteral, NumericLiteral and BooleanLiteral
+-- [129] RDFLiteral, [130] NumericLiteral and [134] BooleanLiteral
 abbrev pub literal : Regular
 literal = a Str · maybe (a Tag ∣ a Carets · iri) ∣ a Number ∣ a TrueWord ∣ a FalseWord
 
--- VarOrTerm
+-- [106] VarOrTerm, with [108] Var, [109] GraphTerm but NIL, and [138] BlankNode
 abbrev pub subject : Regular
 subject = a Variable ∣ iri ∣ literal ∣ a Blank ∣ a Anonymous
 
--- Verb, without paths
+-- [78] Verb, with [107] VarOrIri: without paths it is VerbPath [84] or VerbSimple [85]
 abbrev pub verb : Regular
 verb = a Variable ∣ iri ∣ a TypeWord
 
--- Object, without collections
+-- [80] Object, with [104] GraphNode but TriplesNode
 abbrev pub object : Regular
 object = subject
 
--- Verb ObjectList
+-- [78] Verb and [79] ObjectList
 abbrev pub verb_objects : Regular
 verb_objects = verb · (object · many (a Comma · object))
 
--- PropertyListNotEmpty
+-- [77] PropertyListNotEmpty: without paths it is PropertyListPathNotEmpty [83]
 abbrev pub list : Regular
 list = verb_objects · many (a Semicolon · maybe verb_objects)
 
--- TriplesSameSubject
+-- [75] TriplesSameSubject with VarOrTerm: without paths it is TriplesSameSubjectPath [81]
 abbrev pub same : Regular
 same = subject · list
 
--- TriplesBlock
+-- [55] TriplesBlock
 abbrev pub block : Regular
 block = same · many (a Dot · same) · maybe (a Dot)
 
--- the queries of the profile: Prologue without BASE, SelectClause without expressions, one basic graph pattern
+-- the queries of the profile: [4] Prologue of [6] PrefixDecl alone; [7] SelectQuery; [9] SelectClause without DISTINCT, REDUCED and expressions; [17] WhereClause; [53] GroupGraphPattern, whose [54] GroupGraphPatternSub is one basic graph pattern
 unfoldable pub query : Regular
 query = many (a PrefixWord · a Prefix · a Iri) · a SelectWord · (a Star ∣ a Variable · many (a Variable)) · maybe (a WhereWord) · a OpenBrace · maybe block · a CloseBrace
 

@@ -4,9 +4,11 @@ ghost use Rattle.query_grammar.specs.Grammar.{IsQuery, IsGrammarFault, OneFault}
 
 use crate::kind::Kind;
 use crate::machine::{State, is_end, next};
+use regular_expressions::{beginning_is_decided, matching_is_decided};
 
 /// The number of the first token with which the tokens so far begin no query, counted from 0, or
-/// the number of tokens where they only end too early; `None` exactly where they are a query.
+/// the number of tokens where they only end too early; `None` exactly where they are a query: a
+/// SELECT of one basic graph pattern, without paths (SPARQL 1.1, section 19.8).
 pub fn grammar_fault(kinds: &[Kind]) -> Option<usize>
     ensures { MatchOption result (IsQuery kinds.now) (λ n. IsGrammarFault kinds.now n) }
 {
@@ -28,4 +30,7 @@ pub fn grammar_fault(kinds: &[Kind]) -> Option<usize>
 /// a query can be completed, so that the first token that cannot come is known at once.
 pub fn one_fault()
     ensures { OneFault }
-{}
+{
+    matching_is_decided();
+    beginning_is_decided();
+}

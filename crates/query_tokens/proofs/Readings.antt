@@ -1,7 +1,8 @@
 -- A text has tokens, or a first place that begins none.
 use Rattle.std.proofs.Common.{ℕ, zero, suc, ◌≡◌, ◌+◌, ◌<◌, ◌≤◌, ◌⊎◌, inl, inr, Bool, true, false, List, [], ◌∷◌, refl, subst, take, drop, length, arith, length-drop}
 use Rattle.std.proofs.lemmas.List.{drop-drop}
-use Rattle.regular_expressions.proofs.Decide.{decide_matches, IsGreatest, greatest_or_none}
+use Rattle.regular_expressions.specs.Regular.{MatchingIsDecided}
+use Rattle.regular_expressions.proofs.Decide.{IsGreatest, greatest_or_none}
 use Rattle.query_tokens.specs.declared.kind.PieceKind.{PieceKind}
 use Rattle.query_tokens.specs.declared.piece.Piece.{Piece}
 use Rattle.query_tokens.specs.Forms.{form, letters, IsToken, IsLongest, NoToken}
@@ -17,9 +18,9 @@ use Rattle.query_tokens.proofs.Pieces.{not_empty, bad}
 abbrev SomeToken : List ℕ → Type 0
 SomeToken w = (k : PieceKind) × IsToken k w
 
-token_of : (ks : List PieceKind) (w : List ℕ) → SomeToken w ⊎ ((k : PieceKind) → IsIn k ks → IsToken k w → ⊥)
-token_of [] w = inr (λ k i t. i)
-token_of (j ∷ js) w = pick (decide_matches (form j) (letters w)) (token_of js w)
+token_of : MatchingIsDecided → (ks : List PieceKind) (w : List ℕ) → SomeToken w ⊎ ((k : PieceKind) → IsIn k ks → IsToken k w → ⊥)
+token_of decided [] w = inr (λ k i t. i)
+token_of decided (j ∷ js) w = pick (decided (form j) (letters w)) (token_of decided js w)
   where
     neither : (IsToken j w → ⊥) → ((k : PieceKind) → IsIn k js → IsToken k w → ⊥) → (k : PieceKind) → (k ≡ j) ⊎ IsIn k js → IsToken k w → ⊥
     neither f g k (inl e) t = f (subst (λ (i : PieceKind). IsToken i w) e t)
@@ -30,15 +31,15 @@ token_of (j ∷ js) w = pick (decide_matches (form j) (letters w)) (token_of js 
     pick (inr f) (inl t) = inl t
     pick (inr f) (inr g) = inr (λ k i t. neither f g k i t)
 
-decide_token : (w : List ℕ) → SomeToken w ⊎ (SomeToken w → ⊥)
-decide_token w = pick (token_of all_kinds w)
+decide_token : MatchingIsDecided → (w : List ℕ) → SomeToken w ⊎ (SomeToken w → ⊥)
+decide_token decided w = pick (token_of decided all_kinds w)
   where
     pick : SomeToken w ⊎ ((k : PieceKind) → IsIn k all_kinds → IsToken k w → ⊥) → SomeToken w ⊎ (SomeToken w → ⊥)
     pick (inl t) = inl t
     pick (inr none) = inr (λ t. none t.0 (in_all t.0) t.1)
 
-longest_or_none : (cs : List ℕ) → ((k : PieceKind) × (n : ℕ) × IsLongest cs k n) ⊎ NoToken cs
-longest_or_none cs = pick (greatest_or_none front (λ n. decide_token (take n cs)) (length cs))
+longest_or_none : MatchingIsDecided → (cs : List ℕ) → ((k : PieceKind) × (n : ℕ) × IsLongest cs k n) ⊎ NoToken cs
+longest_or_none decided cs = pick (greatest_or_none front (λ n. decide_token decided (take n cs)) (length cs))
   where
     front : ℕ → Type 0
     front n = SomeToken (take n cs)
@@ -47,8 +48,8 @@ longest_or_none cs = pick (greatest_or_none front (λ n. decide_token (take n cs
     pick (inl g) = inl (g.1.is.0, g.0, record { within = g.1.within; is = g.1.is.1; longest = λ j m h t. g.1.greatest m h (j, t) })
     pick (inr none) = inr (λ j m h t. none m h (j, t))
 
-piece_or_none : (cs : List ℕ) → ((k : PieceKind) × (n : ℕ) × IsPiece cs k n) ⊎ NoPiece cs
-piece_or_none cs = pick (longest_or_none cs)
+piece_or_none : MatchingIsDecided → (cs : List ℕ) → ((k : PieceKind) × (n : ℕ) × IsPiece cs k n) ⊎ NoPiece cs
+piece_or_none decided cs = pick (longest_or_none decided cs)
   where
     good : (k : PieceKind) (n : ℕ) (b : Bool) → IsLongest cs k n → has_good_escapes k (take n cs) ≡ b → ((k : PieceKind) × (n : ℕ) × IsPiece cs k n) ⊎ NoPiece cs
     good k n true l e = inl (k, n, (l, e))
@@ -78,10 +79,10 @@ piece_before cs k len p (inr s) =
     let below = s.2.1 in
     inr ((k, len) ∷ s.0, len + s.1, ((p, s.1, refl, s.2.0), omega arith, subst NoPiece (drop-drop s.1 len cs) s.2.2))
 
-walked : (fuel : ℕ) (cs : List ℕ) → length cs ≤ fuel → Walked cs
-walked fuel [] h = inl ([], refl)
-walked zero (c ∷ cs) h = absurd (omega arith)
-walked (suc fuel) (c ∷ cs) h = pick (piece_or_none (c ∷ cs)) (λ n more. walked fuel (drop n (c ∷ cs)) (shorter n more))
+walked : MatchingIsDecided → (fuel : ℕ) (cs : List ℕ) → length cs ≤ fuel → Walked cs
+walked decided fuel [] h = inl ([], refl)
+walked decided zero (c ∷ cs) h = absurd (omega arith)
+walked decided (suc fuel) (c ∷ cs) h = pick (piece_or_none decided (c ∷ cs)) (λ n more. walked decided fuel (drop n (c ∷ cs)) (shorter n more))
   where
     shorter : (n : ℕ) → 0 < n → length (drop n (c ∷ cs)) ≤ fuel
     shorter n more = let size = length-drop n (c ∷ cs) in omega arith
@@ -90,8 +91,8 @@ walked (suc fuel) (c ∷ cs) h = pick (piece_or_none (c ∷ cs)) (λ n more. wal
     pick (inl p) walk = piece_before (c ∷ cs) p.0 p.1 p.2 (walk p.1 (not_empty (c ∷ cs) p.0 p.1 p.2.0))
     pick (inr none) walk = inr ([], 0, (refl, omega arith, none))
 
-pub some_reading : (cs : List ℕ) → ((ts : List Piece) × AreTokens cs ts) ⊎ ((n : ℕ) × IsTokenFault cs n)
-some_reading cs = pick (walked (length cs) cs (omega arith))
+pub some_reading : MatchingIsDecided → (cs : List ℕ) → ((ts : List Piece) × AreTokens cs ts) ⊎ ((n : ℕ) × IsTokenFault cs n)
+some_reading decided cs = pick (walked decided (length cs) cs (omega arith))
   where
     pick : Walked cs → ((ts : List Piece) × AreTokens cs ts) ⊎ ((n : ℕ) × IsTokenFault cs n)
     pick (inl w) = inl (placed cs 0 w.0, record { pieces = w.0; cover = w.1; are = refl })

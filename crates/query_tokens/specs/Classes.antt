@@ -7,11 +7,11 @@ use Rattle.query_tokens.specs.declared.class.Class.TheVariants.{Space, LineEnd, 
 abbrev pub is_between : ℕ → ℕ → ℕ → Bool
 is_between low c high = nat_le low c && nat_le c high
 
--- the characters that begin a name, past ASCII
+-- the characters of PN_CHARS_BASE [164] past ASCII
 abbrev pub is_wide_base : ℕ → Bool
 is_wide_base c = is_between 0xC0 c 0xD6 || is_between 0xD8 c 0xF6 || is_between 0xF8 c 0x2FF || is_between 0x370 c 0x37D || is_between 0x37F c 0x1FFF || is_between 0x200C c 0x200D || is_between 0x2070 c 0x218F || is_between 0x2C00 c 0x2FEF || is_between 0x3001 c 0xD7FF || is_between 0xF900 c 0xFDCF || is_between 0xFDF0 c 0xFFFD || is_between 0x10000 c 0xEFFFF
 
--- the characters that go on with a name, past ASCII
+-- the characters of PN_CHARS [167] past ASCII that PN_CHARS_BASE has not
 abbrev pub is_extending : ℕ → Bool
 is_extending c = (c == 0xB7) || is_between 0x300 c 0x36F || is_between 0x203F c 0x2040
 

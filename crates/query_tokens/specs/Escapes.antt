@@ -20,7 +20,7 @@ hex_after n (c ∷ cs) = hex_after (min (n * 16 + hex_digit c) 0x110000) cs
 abbrev pub is_scalar : ℕ → Bool
 is_scalar n = nat_lt n 0xD800 || is_between 0xE000 n 0x10FFFF
 
--- a character that an IRI may hold
+-- a character that an IRI [139] may hold
 abbrev pub is_iri_char : ℕ → Bool
 is_iri_char n = is_scalar n && not (nat_le n 32 || (n == 60) || (n == 62) || (n == 34) || (n == 123) || (n == 125) || (n == 124) || (n == 94) || (n == 96) || (n == 92))
 
@@ -32,7 +32,7 @@ may_stand in_iri n = if in_iri then is_iri_char n else is_scalar n
 abbrev pub is_numeric : Bool → ℕ → List ℕ → Bool
 is_numeric in_iri count cs = (length (take count cs) == count) && (list_all is_ascii_hexdigit (take count cs) && may_stand in_iri (hex_after 0 (take count cs)))
 
--- the character that ECHAR stands for, or 0
+-- the character that ECHAR [160] stands for, or 0
 abbrev pub character_of : ℕ → ℕ
 character_of c = if c == 116 then 9 else (if c == 98 then 8 else (if c == 110 then 10 else (if c == 114 then 13 else (if c == 102 then 12 else (if (c == 34) || ((c == 39) || (c == 92)) then c else 0)))))
 

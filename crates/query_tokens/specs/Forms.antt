@@ -1,4 +1,4 @@
--- The tokens of SPARQL 1.1, section 19.8, as regular expressions over the classes of characters.
+-- The tokens of SPARQL 1.1, section 19.8, as regular expressions over the classes of characters. Each production stands with its number.
 use Rattle.std.specs.Prelude.{ℕ, ◌≤◌, List, [], ◌∷◌, map, take, length}
 use Rattle.regular_expressions.specs.Regular.{Regular, one_of, many, Matches}
 use Rattle.regular_expressions.specs.Combinators.{◌·◌, ◌∣◌, maybe, some}
@@ -17,35 +17,35 @@ any set = one_of (map code set)
 abbrev pub a : Class → Regular
 a k = any (k ∷ [])
 
--- IRIREF, with a backslash before what may be a numeric escape
+-- [139] IRIREF, with a backslash before what may be a numeric escape (section 19.2)
 abbrev pub iri : Regular
 iri = a classes.Less · many (any iri_char ∣ a classes.Backslash · any iri_char) · a classes.Greater
 
--- how the rest of PN_PREFIX and of a label goes on: it does not end in '.'
+-- how the rest of PN_PREFIX [168] and of a label [142] goes on: it does not end in '.'
 abbrev pub name_tail : Regular
 name_tail = maybe (many (any name_char_or_dot) · any name_char)
 
--- PNAME_NS
+-- [140] PNAME_NS, with [168] PN_PREFIX
 abbrev pub prefix : Regular
 prefix = maybe (any base · name_tail) · a classes.Colon
 
--- PERCENT
+-- [171] PERCENT
 abbrev pub percent : Regular
 percent = a classes.Percent · any hex · any hex
 
--- PN_LOCAL_ESC
+-- [173] PN_LOCAL_ESC
 abbrev pub local_escape : Regular
 local_escape = a classes.Backslash · any escaped
 
--- PN_LOCAL
+-- [169] PN_LOCAL, with [170] PLX
 abbrev pub local : Regular
 local = (any local_start ∣ percent ∣ local_escape) · maybe (many (any local_char_or_dot ∣ percent ∣ local_escape) · (any local_char ∣ percent ∣ local_escape))
 
--- STRING_LITERAL1 and STRING_LITERAL2, with a backslash before what may be an escape
+-- [157] STRING_LITERAL2 and [156] STRING_LITERAL1, with a backslash before what may be ECHAR [160] or a numeric escape (section 19.2)
 abbrev pub string : Regular
 string = a classes.Quote · many (any quoted_char ∣ a classes.Backslash · any line_char) · a classes.Quote ∣ a classes.Apostrophe · many (any apostrophed_char ∣ a classes.Backslash · any line_char) · a classes.Apostrophe
 
--- '+' or '-', or nothing
+-- '+' or '-', or nothing: the signs of [149] to [154]
 abbrev pub sign : Regular
 sign = maybe (any plus_or_minus)
 
@@ -53,11 +53,11 @@ sign = maybe (any plus_or_minus)
 abbrev pub digit : Regular
 digit = a classes.Digit
 
--- EXPONENT
+-- [155] EXPONENT
 abbrev pub exponent : Regular
 exponent = a classes.LetterE · sign · some digit
 
--- what each kind of piece looks like
+-- what each kind of piece looks like: WS [162]; a comment (section 19.4); IRIREF; PNAME_NS; PNAME_LN [141]; VAR1 [143], VAR2 [144] with VARNAME [166]; BLANK_NODE_LABEL [142]; ANON [163]; a string; LANGTAG [145]; INTEGER [146], DECIMAL [147] and DOUBLE [148] with the signed ones [149] to [154]; a word, as the keywords are; the marks
 unfoldable pub form : PieceKind → Regular
 form kinds.White = some (any white)
 form kinds.Comment = a classes.Hash · many (any line_char)

@@ -1,4 +1,4 @@
--- The machine that stands inside a token: where it goes with a class of characters, and which token it has read.
+-- The machine that stands inside a token: where it goes with a class of characters, and which token it has read. It serves the reader and the proofs alone.
 use Rattle.std.specs.Prelude.{ℕ, Bool, true, false, List, [], ◌∷◌, Option, Some, None, if◌then◌else◌}
 use Rattle.query_tokens.specs.declared.class.Class.{Class}
 use Rattle.query_tokens.specs.declared.class.Class.TheVariants as classes

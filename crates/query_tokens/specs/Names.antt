@@ -1,4 +1,4 @@
--- Whether the name that a text goes on with comes to a colon.
+-- Whether the name that a text goes on with comes to a colon. It serves the reader and the proofs alone.
 use Rattle.std.specs.Prelude.{ℕ, ⊤, ◌≡◌, ◌≤◌, ◌<◌, drop, Bool, true, false, not, ◌&&◌, List, [], ◌∷◌, if◌then◌else◌}
 use Rattle.query_tokens.specs.declared.ahead.Run.{Run}
 use Rattle.query_tokens.specs.declared.machine.State.{State}

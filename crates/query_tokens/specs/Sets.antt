@@ -52,7 +52,7 @@ is_in set k = is_among (map code set) (code k)
 abbrev pub all_but : List Class → List Class
 all_but set = filter (λ k. not (is_in set k)) all_classes
 
--- space, tab, line feed, carriage return
+-- [162] WS: space, tab, line feed, carriage return
 abbrev pub white : List Class
 white = Space ∷ LineEnd ∷ []
 
@@ -64,39 +64,39 @@ letter = LetterE ∷ Hex ∷ Letter ∷ []
 abbrev pub letter_or_digit : List Class
 letter_or_digit = letter ++ Digit ∷ []
 
--- PN_CHARS_BASE
+-- [164] PN_CHARS_BASE
 abbrev pub base : List Class
 base = letter ++ Base ∷ []
 
--- PN_CHARS_U or a digit: how a name of a variable and a label begin
+-- [165] PN_CHARS_U or a digit: how a name of a variable [166] and a label [142] begin
 abbrev pub name_start : List Class
 name_start = base ++ Underscore ∷ Digit ∷ []
 
--- what follows in a name of a variable: PN_CHARS but '-'
+-- what follows in a name of a variable [166]: PN_CHARS but '-'
 abbrev pub variable_char : List Class
 variable_char = name_start ++ Extending ∷ []
 
--- PN_CHARS
+-- [167] PN_CHARS
 abbrev pub name_char : List Class
 name_char = variable_char ++ Minus ∷ []
 
--- PN_CHARS or '.'
+-- PN_CHARS or '.', as in [142] and [168]
 abbrev pub name_char_or_dot : List Class
 name_char_or_dot = name_char ++ Dot ∷ []
 
--- PN_CHARS_U, ':' or a digit
+-- PN_CHARS_U, ':' or a digit, as a local part [169] begins
 abbrev pub local_start : List Class
 local_start = name_start ++ Colon ∷ []
 
--- PN_CHARS or ':'
+-- PN_CHARS or ':', as a local part [169] ends
 abbrev pub local_char : List Class
 local_char = name_char ++ Colon ∷ []
 
--- PN_CHARS, '.' or ':'
+-- PN_CHARS, '.' or ':', as a local part [169] goes on
 abbrev pub local_char_or_dot : List Class
 local_char_or_dot = local_char ++ Dot ∷ []
 
--- HEX
+-- [172] HEX
 abbrev pub hex : List Class
 hex = Digit ∷ LetterE ∷ Hex ∷ []
 
@@ -104,22 +104,22 @@ hex = Digit ∷ LetterE ∷ Hex ∷ []
 abbrev pub plus_or_minus : List Class
 plus_or_minus = Plus ∷ Minus ∷ []
 
--- what may follow the backslash of PN_LOCAL_ESC
+-- what may follow the backslash of [173] PN_LOCAL_ESC
 abbrev pub escaped : List Class
 escaped = Underscore ∷ Escaped ∷ Dot ∷ Minus ∷ VariableMark ∷ Apostrophe ∷ Star ∷ Plus ∷ Comma ∷ Semicolon ∷ Hash ∷ At ∷ Percent ∷ []
 
--- what an IRI may hold as it is
+-- what an IRI [139] may hold as it is
 abbrev pub iri_char : List Class
 iri_char = all_but (Space ∷ LineEnd ∷ Less ∷ Greater ∷ Quote ∷ Backslash ∷ OpenBrace ∷ CloseBrace ∷ Caret ∷ Unsafe ∷ [])
 
--- what a line may hold
+-- what a line may hold, and so a comment (section 19.4)
 abbrev pub line_char : List Class
 line_char = all_but (LineEnd ∷ [])
 
--- what a string in quotation marks may hold as it is
+-- what a string in quotation marks [157] may hold as it is
 abbrev pub quoted_char : List Class
 quoted_char = all_but (LineEnd ∷ Quote ∷ Backslash ∷ [])
 
--- what a string in apostrophes may hold as it is
+-- what a string in apostrophes [156] may hold as it is
 abbrev pub apostrophed_char : List Class
 apostrophed_char = all_but (LineEnd ∷ Apostrophe ∷ Backslash ∷ [])

@@ -42,7 +42,8 @@ fn hex_digit(c: char) -> u32
     c.to_digit(16).unwrap_or(0)
 }
 
-/// The number that hexadecimal digits spell, at most 0x110000.
+/// The number that hexadecimal digits spell. Any other character counts as 0, and a number past
+/// U+10FFFF as 0x110000.
 pub fn hex_value(digits: &[char]) -> u32
     ensures value { result ≡ hex_after 0 digits.now }
     ensures small { result ≤ 0x110000 }
@@ -74,7 +75,8 @@ fn is_numeric(in_iri: bool, count: usize, chars: &[char]) -> bool
     digits.len() == count && are_hex_digits(digits) && may_stand(in_iri, hex_value(digits))
 }
 
-/// The character that stands for an escape of one character, or 0.
+/// The character that a backslash and this character stand for in a string (ECHAR; SPARQL 1.1,
+/// section 19.8), by its number, or 0 where the two are no such escape.
 pub fn character_of(c: char) -> u32
     ensures { result ≡ character_of c }
 {
@@ -118,7 +120,9 @@ fn good_escapes(in_iri: bool, chars: &[char]) -> bool
     true
 }
 
-/// Whether the escapes of a token are good.
+/// Whether each escape of a token of this kind may stand there: in an IRI a numeric one of a
+/// character that IRIREF may hold, in a string ECHAR or a numeric one of any character, which no
+/// surrogate is. Tokens of other kinds have none of these (SPARQL 1.1, sections 19.2 and 19.8).
 #[tactic(auto, unfolding(crate::specs::Escapes::has_good_escapes))]
 pub fn has_good_escapes(kind: PieceKind, chars: &[char]) -> bool
     ensures { result ≡ has_good_escapes kind chars.now }

@@ -39,7 +39,7 @@ fn ends_nowhere(state: State, chars: &[char], place: usize, run: &mut Run) -> bo
     }
 }
 
-/// The longest of the fronts of `rest`, which is the text from a place on.
+/// The longest of the prefixes of `rest`, which is the text from a place on.
 fn longest_front(
     chars: &[char],
     rest: &[char],
@@ -69,7 +69,7 @@ fn longest_front(
     best
 }
 
-/// The longest front of the text from a place on that has the form of a token, white space or a
+/// The longest prefix of the text from a place on that has the form of a token, white space or a
 /// comment, with its kind and how many characters it has.
 pub fn longest(chars: &[char], place: usize, run: &mut Run) -> Option<(PieceKind, usize)>
     requires within { place ≤ length chars.now }

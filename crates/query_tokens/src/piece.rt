@@ -9,10 +9,11 @@ use crate::ahead::Run;
 use crate::escape::has_good_escapes;
 use crate::kind::PieceKind;
 use crate::longest::longest;
+use regular_expressions::matching_is_decided;
 use std::alloc::{AllocFailed, Global};
 
 /// A token: its kind, the place of its first character and how many it has, and the places of
-/// its first byte and of the byte past its last.
+/// its first byte and of the byte past its last. Places count from 0, bytes are those of UTF-8.
 #[derive(Clone, Copy, Debug, PartialEq, Eq)]
 pub struct Piece {
     pub kind: PieceKind,
@@ -27,7 +28,7 @@ pub struct Piece {
 pub enum PieceFault {
     /// The place of the byte that begins no token, white space or comment.
     At(usize),
-    /// Want of memory.
+    /// Out of memory.
     OutOfMemory,
 }
 
@@ -91,9 +92,10 @@ fn add(pieces: &mut Vec<Piece>, piece: Piece) -> Result<(), PieceFault>
     Ok(())
 }
 
-/// The tokens of a text of at most 262144 characters. `At` exactly where some place begins no
-/// token, no white space and no comment: its first such place, in bytes. `OutOfMemory` for want
-/// of memory alone.
+/// The tokens of a text of at most 262144 characters, in their order, each the longest at its place
+/// (SPARQL 1.1, section 19.8); white space and comments between them are left out. `At` exactly
+/// where some place begins no token, no white space and no comment: the first such place, in bytes.
+/// `OutOfMemory` comes only where memory runs out.
 pub fn pieces(alloc: Global, chars: &[char]) -> Result<Vec<Piece>, PieceFault>
     requires { length chars.now ≤ 262144 }
     ensures ok { IfOk result (λ v. AreTokens chars.now v.items) }
@@ -134,4 +136,6 @@ pub fn pieces(alloc: Global, chars: &[char]) -> Result<Vec<Piece>, PieceFault>
 /// A text has exactly one of the two: one list of tokens, or one first fault.
 pub fn one_reading()
     ensures { OneReading }
-{}
+{
+    matching_is_decided();
+}

@@ -2,7 +2,7 @@
 use Rattle.std.proofs.Common.{ℕ, ◌≡◌, ◌+◌, ◌<◌, ◌≤◌, true, false, List, [], ◌∷◌, ◌++◌, sym, ap, subst, ◌∙◌, map, take, length, get_or, arith}
 use Rattle.std.specs.Char.{to_ascii_lowercase}
 use Rattle.std.specs.Str.{bytes_eq, chars, IsUtf8}
-use Rattle.std.proofs.lemmas.List.{take_more, take_all, map-append, length-map}
+use Rattle.std.proofs.lemmas.List.{take_more, take_all, map-append}
 use Rattle.std.proofs.Math.ListN.{get_or-map}
 use Rattle.std.proofs.lemmas.Str.{length-le-encodes, encodes-chars}
 use Rattle.std.proofs.lemmas.Slice.Eq.{bytes_eq-Decides}
@@ -35,11 +35,6 @@ differ_at word text i c d below long at h =
     let there : get_or word i (to_ascii_lowercase c) ≡ to_ascii_lowercase (get_or text i c) = ap (λ (l : List ℕ). get_or l i (to_ascii_lowercase c)) (sym same) ∙ get_or-map to_ascii_lowercase text i c in
     let under : i < length word = omega arith in
     h (ap to_ascii_lowercase at ∙ sym there ∙ any_default word i (to_ascii_lowercase c) d under))
-
-pub differ_length : (word text : List ℕ) → (length word ≡ length text → ⊥) → same_word word text ≡ false
-unfolding same_word
-differ_length word text h =
-    false_from_ne_true (bytes_eq (map to_ascii_lowercase text) word) (λ e. let same : map to_ascii_lowercase text ≡ word = (bytes_eq-Decides (map to_ascii_lowercase text) word).0 e in h (sym (ap length same) ∙ length-map text to_ascii_lowercase))
 
 -- a text has no more characters than bytes
 pub no_more_chars : (bs cs : List ℕ) (n : ℕ) → IsUtf8 bs → cs ≡ chars bs → length bs ≤ n → length cs ≤ n

@@ -8,14 +8,14 @@ use query_tokens::escape::{character_of, first_chars, hex_value};
 use std::alloc::Global;
 use tpf_base::{OutOfMemory, Text};
 
-/// The characters of a text. `OutOfMemory` for want of memory alone, as of the calls below.
+/// The characters of a text. `OutOfMemory` comes only where memory runs out, here and below.
 pub fn decode(alloc: Global, text: &str) -> Result<Vec<char>, OutOfMemory>
     ensures { IfOk result (λ v. v.items ≡ chars text.now) }
 {
     Ok(text.chars().collect(alloc)?)
 }
 
-/// Whether characters are a word, in any case. The word is in lower case.
+/// Whether characters are a word, with its ASCII letters in any case. The word is in lower case.
 #[tactic(auto, unfolding(crate::specs::Texts::same_word))]
 pub fn same_word(word: &[u8], text: &[char]) -> bool
     ensures { result ≡ same_word word.now text.now }
@@ -31,7 +31,7 @@ pub fn same_word(word: &[u8], text: &[char]) -> bool
     true
 }
 
-/// Whether characters are the word `a`.
+/// Whether characters are the word `a`, in lower case.
 pub fn is_a(text: &[char]) -> bool
     ensures { result ≡ bytes_eq text.now (codes "a") }
 {
@@ -69,7 +69,7 @@ fn colon(chars: &[char]) -> usize
     chars.len()
 }
 
-/// The text of some characters.
+/// The text of some characters, as UTF-8.
 pub fn text_of(alloc: Global, chars: &[char]) -> Result<Text, OutOfMemory>
     ensures { IfOk result (λ t. t ≡ encode_utf8_all chars.now) }
 {
@@ -80,14 +80,14 @@ pub fn text_of(alloc: Global, chars: &[char]) -> Result<Text, OutOfMemory>
     Ok(Text::from_string(text))
 }
 
-/// The text of some characters after the first.
+/// The text of some characters after the first; empty where there is none.
 pub fn text_after_first(alloc: Global, chars: &[char]) -> Result<Text, OutOfMemory>
     ensures { IfOk result (λ t. t ≡ encode_utf8_all (drop 1 chars.now)) }
 {
     text_of(alloc, chars_from(chars, 1))
 }
 
-/// The name of a prefix.
+/// The name of the prefix of a prefixed name, which is what stands before its first colon.
 pub fn prefix_text(alloc: Global, chars: &[char]) -> Result<Text, OutOfMemory>
     ensures { IfOk result (λ t. t ≡ prefix_text chars.now) }
 {
@@ -106,7 +106,9 @@ fn unescaped_text(alloc: Global, chars: &[char]) -> Result<Text, OutOfMemory>
     Ok(Text::from_string(text))
 }
 
-/// The local part of a prefixed name.
+/// The local part of a prefixed name of at most 262144 characters: what stands behind its first
+/// colon, without the backslashes of its escapes and with each `%` and its two digits as they are
+/// (PN_LOCAL; SPARQL 1.1, section 19.8).
 pub fn local_text(alloc: Global, chars: &[char]) -> Result<Text, OutOfMemory>
     requires { length chars.now ≤ 262144 }
     ensures { IfOk result (λ t. t ≡ local_text chars.now) }
@@ -168,7 +170,9 @@ fn resolve(alloc: Global, chars: &[char]) -> Result<Text, OutOfMemory>
     Ok(Text::from_string(text))
 }
 
-/// The text of an IRI or a string, its escapes resolved.
+/// The text of an IRI or a string: its characters but the first and the last, with each escape
+/// resolved (SPARQL 1.1, sections 19.2 and 19.8). A numeric escape of no character gives U+FFFD and
+/// any other that is no ECHAR U+0000, but no token has one of these.
 pub fn resolved_text(alloc: Global, chars: &[char]) -> Result<Text, OutOfMemory>
     ensures { IfOk result (λ t. t ≡ resolved_text chars.now) }
 {

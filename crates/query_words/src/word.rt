@@ -12,9 +12,11 @@ use query_tokens::piece::Piece;
 use std::alloc::Global;
 use tpf_base::{OutOfMemory, Text};
 
-/// What a token says: its text without its marks and with its escapes resolved.
+/// What a token says: its text without its marks and with its escapes resolved, or which word or
+/// mark it is.
 #[derive(Debug, Drop)]
 pub enum Value {
+    /// An IRI, as it is written between `<` and `>`.
     Iri(Text),
     /// The name of a prefix.
     Prefix(Text),
@@ -24,19 +26,31 @@ pub enum Value {
     Variable(Text),
     /// A label of a blank node, with its `_:`.
     Label(Text),
+    /// `[]`.
     Anonymous,
+    /// A string, without its quotation marks.
     Str(Text),
+    /// A language tag, without its `@`, in the case in which it is written.
     Tag(Text),
+    /// An integer, as it is written.
     Integer(Text),
+    /// A decimal, as it is written.
     Decimal(Text),
+    /// A double, as it is written.
     Double(Text),
+    /// `PREFIX`, in any case.
     PrefixWord,
+    /// `SELECT`, in any case.
     SelectWord,
+    /// `WHERE`, in any case.
     WhereWord,
+    /// `true`, in any case.
     True,
+    /// `false`, in any case.
     False,
-    /// The word `a`.
+    /// The word `a`, in lower case.
     TypeWord,
+    /// Any other word.
     OtherWord,
     OpenBrace,
     CloseBrace,
@@ -47,7 +61,7 @@ pub enum Value {
     Carets,
 }
 
-/// A token with the place of its first byte.
+/// What a token says, with the place of its first byte, counted from 0.
 #[derive(Debug, Drop)]
 pub struct Word {
     pub at: usize,
@@ -120,7 +134,8 @@ fn word_of(alloc: Global, chars: &[char], piece: &Piece) -> Result<Word, OutOfMe
     })
 }
 
-/// What the tokens of a text say. `OutOfMemory` for want of memory alone.
+/// What the tokens of a text say, in their order; the text has at most 262144 characters, and the
+/// tokens lie within it. `OutOfMemory` comes only where memory runs out.
 pub fn words_of(alloc: Global, chars: &[char], pieces: &[Piece]) -> Result<Vec<Word>, OutOfMemory>
     requires short { length chars.now ≤ 262144 }
     requires fits { All (Fits chars.now) pieces.now }
@@ -163,7 +178,8 @@ fn kind_of(value: &Value) -> Kind
     }
 }
 
-/// What the grammar sees of some tokens. `OutOfMemory` for want of memory alone.
+/// What the grammar sees of some tokens, in their order. `OutOfMemory` comes only where memory runs
+/// out.
 pub fn kinds_of(alloc: Global, words: &[Word]) -> Result<Vec<Kind>, OutOfMemory>
     ensures { IfOk result (λ v. v.items ≡ kinds_of words.now) }
 {
