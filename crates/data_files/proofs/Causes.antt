@@ -1,8 +1,8 @@
 -- What quads that were read rest on, and what answers the one outcome.
-use Rattle.std.proofs.Common.{ℕ, ◌≡◌, List, Option, Some, Result, Ok, Err, IfErr, IfOk}
+use Rattle.std.proofs.Common.{ℕ, ◌≡◌, List, Option, Some, Result, Ok, Err, IfErr, IfOk, refl}
 use Rattle.tpf_base.specs.Causes.{Rose}
-use Rattle.rdf_terms.specs.declared.term.Quad.{Quad}
-use Rattle.rdf_terms.specs.declared.term.Triple.{Triple}
+use Rattle.tpf_base.specs.declared.shelf.FileFault.{FileFault}
+use Rattle.tpf_base.specs.declared.shelf.FileFault.TheVariants as unreadable
 use Rattle.triple_table.specs.declared.choice.Choice.{Choice}
 use Rattle.triple_table.specs.Stored.{Stored, triples_in}
 use Rattle.bgp_core.specs.Queries.{QueryData}
@@ -10,18 +10,10 @@ use Rattle.data_files.specs.declared.fault.DataFault.{DataFault}
 use Rattle.data_files.specs.declared.fault.DataFault.TheVariants as faults
 use Rattle.data_files.specs.declared.fault.QueryFileFault.{QueryFileFault}
 use Rattle.data_files.specs.declared.fault.QueryFileFault.TheVariants as query_faults
-use Rattle.data_files.specs.Data.{Files, IfTold, HoldsData, Serves, Outcome, served, too_long, bad, clash, too_many, IsOutcome}
+use Rattle.data_files.specs.Data.{Files, IfTold, Serves, Outcome, served, too_long, bad, clash, too_many, IsOutcome}
 use Rattle.data_files.specs.Queries.{HoldsQuery, QueryOutcome, reads, refused, IsQueryOutcome}
-use Rattle.data_files.specs.Causes.{DataCause, ServeCause, QueryCause, Gives, GivesQuery}
+use Rattle.data_files.specs.Causes.{DataCause, QueryCause, Gives, GivesQuery, unread, unread_query}
 use Rattle.data_files.proofs.Outcomes.{one_outcome, one_query}
-
-pub data_cause : (told : Option Files) (name : List ℕ) (choice : Choice) (authority : List ℕ) (shelf shelf' : ℕ) (quads : List Quad) (fault : DataFault) → IfTold told (λ files. HoldsData files name quads) → ServeCause quads choice authority fault → DataCause told name choice authority shelf shelf' fault
-data_cause told name choice authority shelf shelf' quads faults.TooLong h s = absurd s
-data_cause told name choice authority shelf shelf' quads (faults.Bad line why) h s = absurd s
-data_cause told name choice authority shelf shelf' quads (faults.GenidClash label) h s = λ files is. (quads, h files is, s)
-data_cause told name choice authority shelf shelf' quads faults.TooMany h s = λ files is. (quads, h files is, s)
-data_cause told name choice authority shelf shelf' quads faults.File h s = absurd s
-data_cause told name choice authority shelf shelf' quads faults.OutOfMemory h s = tt
 
 fault_gives : (files : Files) (name : List ℕ) (choice : Choice) (authority : List ℕ) (told : Option Files) (shelf shelf' : ℕ) (fault : DataFault) → told ≡ Some files → ¬ (Rose shelf shelf') → DataCause told name choice authority shelf shelf' fault → (outcome : Outcome) → IsOutcome files name choice authority outcome → Gives outcome (Err fault)
 fault_gives files name choice authority told shelf shelf' faults.TooLong is quiet c outcome o = one_outcome files name choice authority outcome too_long o (c files is)
@@ -47,3 +39,17 @@ pub gives_query : (told : Option Files) (name : List ℕ) (shelf shelf' : ℕ) (
     → ¬ (Rose shelf shelf') → IfTold told (λ files. (outcome : QueryOutcome) → IsQueryOutcome files name outcome → GivesQuery outcome result)
 gives_query told name shelf shelf' (Ok q) ok err quiet = λ files is outcome o. one_query files name outcome (reads q) o (ok files is)
 gives_query told name shelf shelf' (Err fault) ok err quiet = λ files is outcome o. query_fault_gives files name told shelf shelf' fault is quiet err outcome o
+
+-- ---- a shelf that did not fail
+
+module _ {S T : Type 0} where
+  -- a read with another fault than `Failed` is not answered by `File`
+  pub no_file : (fault : FileFault) (is : DataFault) → is ≡ unread fault → (◌≡◌ {A = Result S FileFault} (Err fault) (Err unreadable.Failed) → ⊥) → ◌≡◌ {A = Result T DataFault} (Err is) (Err faults.File) → ⊥
+  no_file unreadable.Failed is same h = λ e. h refl
+  no_file unreadable.TooLong is same h = λ e. cc
+  no_file unreadable.OutOfMemory is same h = λ e. cc
+
+  pub no_query_file : (fault : FileFault) (is : QueryFileFault) → is ≡ unread_query fault → (◌≡◌ {A = Result S FileFault} (Err fault) (Err unreadable.Failed) → ⊥) → ◌≡◌ {A = Result T QueryFileFault} (Err is) (Err query_faults.File) → ⊥
+  no_query_file unreadable.Failed is same h = λ e. h refl
+  no_query_file unreadable.TooLong is same h = λ e. cc
+  no_query_file unreadable.OutOfMemory is same h = λ e. cc

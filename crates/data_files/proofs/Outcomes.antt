@@ -1,5 +1,5 @@
 -- Of a file one outcome is true at most.
-use Rattle.std.proofs.Common.{ℕ, ◌≡◌, ◌<◌, ◌≤◌, ◌⊎◌, inl, inr, List, length, Option, Some, None, Result, Ok, Err, refl, sym, ◌∙◌, ap, subst, arith}
+use Rattle.std.proofs.Common.{ℕ, ◌≡◌, ◌<◌, ◌≤◌, ◌⊎◌, inl, inr, List, length, Some, Result, Ok, Err, refl, sym, ◌∙◌, ap, subst, arith}
 use Rattle.std.specs.Ordering.{ordering_reverse, is_eq}
 use Rattle.std.proofs.lemmas.Slice.Eq.{bytes_eq-Decides}
 use Rattle.std.proofs.lemmas.Map.Text.{is_eq-slice_cmp}
@@ -23,8 +23,8 @@ use Rattle.pattern_parser.specs.Queries.{ReadsQuery, FaultAt}
 use Rattle.pattern_parser.specs.declared.fault.QueryWhy.{QueryWhy}
 use Rattle.pattern_parser.proofs.OneQuery.{query_apart, one_first}
 use Rattle.pattern_parser.proofs.OneQuery as one_queries
-use Rattle.data_files.specs.Data.{Files, HoldsData, IsTooLong, HasDataFault, HasClash, HasTooMany, AreFew, Serves, Outcome, served, too_long, bad, clash, too_many, IsOutcome, OneOutcome}
-use Rattle.data_files.specs.Queries.{HoldsQuery, HasQueryFault, QueryOutcome, reads, refused, IsQueryOutcome, OneQueryOutcome}
+use Rattle.data_files.specs.Data.{Files, HoldsData, IsTooLong, HasDataFault, HasClash, HasTooMany, AreFew, Serves, served, too_long, bad, clash, too_many, OneOutcome}
+use Rattle.data_files.specs.Queries.{HoldsQuery, HasQueryFault, reads, refused, OneQueryOutcome}
 use Rattle.data_files.proofs.TermLists.{ranking_one}
 
 some_same : {A : Type 0} {x y : A} → Some x ≡ Some y → x ≡ y

@@ -1,7 +1,8 @@
 // The data of a file.
-ghost use Rattle.std.specs.Prelude.{ℕ, ◌≡◌, ◌≤◌, List, All, IfOk, IfErr, OnOk};
+ghost use Rattle.std.specs.Prelude.{ℕ, ◌≡◌, ◌≢◌, ◌^◌, ◌<◌, ◌≤◌, List, All, Err, IfOk, IfErr, OnOk, true};
 ghost use Rattle.tpf_base.specs.Addresses.{IsAuthority};
 ghost use Rattle.tpf_base.specs.Causes.{Rose};
+ghost use Rattle.tpf_base.specs.Outside.{HoldsName, LeavesOpened};
 ghost use Rattle.rdf_terms.specs.Triples.{IsRdfQuad};
 ghost use Rattle.triple_table.specs.Chosen.{chosen};
 ghost use Rattle.triple_table.specs.Served.{Clashes, IsServed};
@@ -42,6 +43,10 @@ fn read_quads<F: Shelf>(alloc: Global, shelf: &mut F, name: &str) -> Result<Vec<
     ensures err { (choice : Choice) (authority : List ℕ) → IfErr result (DataCause (F.told shelf.old) name.now choice authority (F.faults shelf.old) (F.faults shelf.new)) }
     ensures told { F.told shelf.new ≡ F.told shelf.old }
     ensures later { F.faults shelf.old ≤ F.faults shelf.new }
+    ensures opened { LeavesOpened (F.given shelf.old) (F.given shelf.new) (F.rest shelf.old) (F.rest shelf.new) }
+    ensures faultless { F.faultless shelf.new ≡ F.faultless shelf.old }
+    ensures holds { F.faultless shelf.old ≡ true → HoldsName (F.told shelf.old) name.now → F.given shelf.old < 2 ^ 32 →
+        (F.faults shelf.new ≡ F.faults shelf.old) × (result ≢ Err DataFault.File) }
 {
     let bytes = match read_file(alloc, shelf, name, MOST_DATA) {
         Ok(bytes) => bytes,
@@ -67,6 +72,7 @@ fn serve_quads(
     ensures few { IfOk result (λ table. AreFew (triples_in table)) }
     ensures free { OnOk result ((label : List ℕ) → ¬ (Clashes authority.now (chosen choice.now quads.now) label)) }
     ensures err { IfErr result (ServeCause quads.now choice.now authority.now) }
+    ensures no_file { result ≢ Err DataFault.File }
 {
     match Table::build(alloc, quads, choice, authority, MOST_TRIPLES) {
         Ok(table) => Ok(table),
@@ -88,6 +94,10 @@ fn read_and_serve<F: Shelf>(
     ensures err { IfErr result (DataCause (F.told shelf.old) name.now choice.now authority.now (F.faults shelf.old) (F.faults shelf.new)) }
     ensures told { F.told shelf.new ≡ F.told shelf.old }
     ensures later { F.faults shelf.old ≤ F.faults shelf.new }
+    ensures opened { LeavesOpened (F.given shelf.old) (F.given shelf.new) (F.rest shelf.old) (F.rest shelf.new) }
+    ensures faultless { F.faultless shelf.new ≡ F.faultless shelf.old }
+    ensures holds { F.faultless shelf.old ≡ true → HoldsName (F.told shelf.old) name.now → F.given shelf.old < 2 ^ 32 →
+        (F.faults shelf.new ≡ F.faults shelf.old) × (result ≢ Err DataFault.File) }
 {
     let quads = match read_quads(alloc, shelf, name) {
         Ok(quads) => quads,
@@ -97,11 +107,14 @@ fn read_and_serve<F: Shelf>(
 }
 
 /// Reads the data of a file and gives the table of the triples that are served of them: those of the
-/// chosen graphs, where the blank node with label L is `http://AUTHORITY/.well-known/genid/L`.
+/// chosen graphs, where the blank node with label L is the Skolem IRI
+/// `http://AUTHORITY/.well-known/genid/L` (RDF 1.1 Concepts, 3.5). The authority is that of a web
+/// address.
 ///
-/// The file is read once, to its end. `TooLong`, `Bad`, `GenidClash` and `TooMany` come exactly where
-/// the file holds such bytes, `File` only where the shelf's count of faults rose, and `OutOfMemory`
-/// for want of memory alone. The authority is one of a web address.
+/// `TooLong`, `Bad`, `GenidClash` and `TooMany` come exactly where the file holds such bytes, `File`
+/// only where the shelf's count of faults rose, and `OutOfMemory` where memory ran out. What the shelf
+/// tells stays as it was. The file is found once, and files found before are left as they were. Over a
+/// faultless shelf that holds the name `File` never comes, as long as numbers are left.
 pub fn read_table<F: Shelf>(
     alloc: Global,
     shelf: &mut F,
@@ -115,11 +128,16 @@ pub fn read_table<F: Shelf>(
     ensures exact { ¬ (Rose (F.faults shelf.old) (F.faults shelf.new)) → IfTold (F.told shelf.old) (λ files. (outcome : Outcome) → IsOutcome files name.now choice.now authority.now outcome → Gives outcome result) }
     ensures told { F.told shelf.new ≡ F.told shelf.old }
     ensures later { F.faults shelf.old ≤ F.faults shelf.new }
+    ensures opened { LeavesOpened (F.given shelf.old) (F.given shelf.new) (F.rest shelf.old) (F.rest shelf.new) }
+    ensures faultless { F.faultless shelf.new ≡ F.faultless shelf.old }
+    ensures holds { F.faultless shelf.old ≡ true → HoldsName (F.told shelf.old) name.now → F.given shelf.old < 2 ^ 32 →
+        (F.faults shelf.new ≡ F.faults shelf.old) × (result ≢ Err DataFault.File) }
 {
     read_and_serve(alloc, shelf, name, choice, authority)
 }
 
 /// The data of a file have one outcome at most: they are served, as one data set, or have one fault.
+/// The call does nothing; it tells a proof of it.
 pub fn one_data_outcome()
     ensures { OneOutcome }
 {}

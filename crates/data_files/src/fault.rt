@@ -13,7 +13,7 @@ pub enum DataFault {
     /// The first line with a fault, and its first fault. No term has a canonical text of more than
     /// 262144 bytes.
     Bad { line: u64, why: Why },
-    /// The least label of a blank node whose IRI stands in the chosen triples already.
+    /// The least label of a blank node whose Skolem IRI stands in the chosen triples already.
     GenidClash(Text),
     /// The distinct triples that are chosen, or their distinct terms, are more than 16777215.
     TooMany,
@@ -26,8 +26,8 @@ pub enum DataFault {
 /// Why the query of a file is not read.
 #[derive(Clone, Copy, Debug, PartialEq, Eq)]
 pub enum QueryFileFault {
-    /// The first fault of the query, and its place in bytes. A file of more than 262144 bytes is too
-    /// long a query.
+    /// The first fault of the query, and the byte at which it stands, from 0. A file of more than
+    /// 262144 bytes is too long a query, at byte 262144.
     Bad { at: usize, why: QueryWhy },
     /// The file could not be read: the shelf's count of faults rose.
     File,

@@ -1,6 +1,7 @@
 // The query of a file.
-ghost use Rattle.std.specs.Prelude.{ℕ, ◌≡◌, ◌≤◌, IfOk, IfErr};
+ghost use Rattle.std.specs.Prelude.{ℕ, ◌≡◌, ◌≢◌, ◌^◌, ◌<◌, ◌≤◌, Err, IfOk, IfErr, true};
 ghost use Rattle.tpf_base.specs.Causes.{Rose};
+ghost use Rattle.tpf_base.specs.Outside.{HoldsName, LeavesOpened};
 ghost use Rattle.data_files.specs.Data.{IfTold};
 ghost use Rattle.data_files.specs.Queries.{HoldsQuery, QueryOutcome, IsQueryOutcome, OneQueryOutcome};
 ghost use Rattle.data_files.specs.Causes.{QueryCause, GivesQuery, unread_query};
@@ -32,6 +33,10 @@ fn read_text<F: Shelf>(alloc: Global, shelf: &mut F, name: &str) -> Result<Query
     ensures err { IfErr result (QueryCause (F.told shelf.old) name.now (F.faults shelf.old) (F.faults shelf.new)) }
     ensures told { F.told shelf.new ≡ F.told shelf.old }
     ensures later { F.faults shelf.old ≤ F.faults shelf.new }
+    ensures opened { LeavesOpened (F.given shelf.old) (F.given shelf.new) (F.rest shelf.old) (F.rest shelf.new) }
+    ensures faultless { F.faultless shelf.new ≡ F.faultless shelf.old }
+    ensures holds { F.faultless shelf.old ≡ true → HoldsName (F.told shelf.old) name.now → F.given shelf.old < 2 ^ 32 →
+        (F.faults shelf.new ≡ F.faults shelf.old) × (result ≢ Err QueryFileFault.File) }
 {
     let bytes = match read_file(alloc, shelf, name, MOST_QUERY) {
         Ok(bytes) => bytes,
@@ -44,10 +49,12 @@ fn read_text<F: Shelf>(alloc: Global, shelf: &mut F, name: &str) -> Result<Query
     }
 }
 
-/// Reads the query of a file.
+/// Reads the query of a file: a text of at most 262144 bytes (SPARQL 1.1 Query, 19.8).
 ///
 /// `Bad` comes exactly where the file holds such bytes, `File` only where the shelf's count of faults
-/// rose, and `OutOfMemory` for want of memory alone.
+/// rose, and `OutOfMemory` where memory ran out. What the shelf tells stays as it was. The file is found
+/// once, and files found before are left as they were. Over a faultless shelf that holds the name `File`
+/// never comes, as long as numbers are left.
 pub fn read_query<F: Shelf>(
     alloc: Global,
     shelf: &mut F,
@@ -58,11 +65,16 @@ pub fn read_query<F: Shelf>(
     ensures exact { ¬ (Rose (F.faults shelf.old) (F.faults shelf.new)) → IfTold (F.told shelf.old) (λ files. (outcome : QueryOutcome) → IsQueryOutcome files name.now outcome → GivesQuery outcome result) }
     ensures told { F.told shelf.new ≡ F.told shelf.old }
     ensures later { F.faults shelf.old ≤ F.faults shelf.new }
+    ensures opened { LeavesOpened (F.given shelf.old) (F.given shelf.new) (F.rest shelf.old) (F.rest shelf.new) }
+    ensures faultless { F.faultless shelf.new ≡ F.faultless shelf.old }
+    ensures holds { F.faultless shelf.old ≡ true → HoldsName (F.told shelf.old) name.now → F.given shelf.old < 2 ^ 32 →
+        (F.faults shelf.new ≡ F.faults shelf.old) × (result ≢ Err QueryFileFault.File) }
 {
     read_text(alloc, shelf, name)
 }
 
-/// The text of a file has one outcome at most: it is one query, or has one first fault.
+/// The text of a file has one outcome at most: it is one query, or has one first fault. The call does
+/// nothing; it tells a proof of it.
 pub fn one_query_outcome()
     ensures { OneQueryOutcome }
 {}

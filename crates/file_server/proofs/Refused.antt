@@ -1,5 +1,5 @@
 -- Why a supply of a file fails.
-use Rattle.std.proofs.Common.{ℕ, ◌≡◌, ◌<◌, ◌⊎◌, inl, inr, List, Option, Result, Err, ◌↔◌, refl, sym, subst, arith}
+use Rattle.std.proofs.Common.{ℕ, ◌≡◌, ◌<◌, inl, inr, List, Option, Result, Err, ◌↔◌, refl, sym, subst, arith}
 use Rattle.rdf_terms.specs.declared.term.Triple.{Triple}
 use Rattle.tpf_base.specs.Addresses.{Address, authority_of}
 use Rattle.tpf_base.specs.declared.fault.Fault.{Fault}

@@ -1,4 +1,14 @@
 //! A server of the fragments of a file, and the supply of the same file for its reloads.
+//!
+//! The server of the file with a name, where its fragments stand below a base:
+//!
+//! ```rust
+//! let config = config_of(base, page_size, reload);
+//! let mut server = match server_of_file(alloc, shelf, name, choice, config) {
+//!     Ok(server) => server,
+//!     Err(fault) => return Err(ServiceFault::Data(fault)),
+//! };
+//! ```
 #![tactic(auto)]
 
 mod server;

@@ -1,7 +1,8 @@
 // The server of a file.
-ghost use Rattle.std.specs.Prelude.{ℕ, ◌≡◌, ◌≤◌, IfOk, IfErr};
+ghost use Rattle.std.specs.Prelude.{ℕ, ◌≡◌, ◌≢◌, ◌^◌, ◌<◌, ◌≤◌, Err, IfOk, IfErr, true};
 ghost use Rattle.tpf_base.specs.Addresses.{authority_of};
 ghost use Rattle.tpf_base.specs.Causes.{Rose};
+ghost use Rattle.tpf_base.specs.Outside.{HoldsName, LeavesOpened};
 ghost use Rattle.triple_table.specs.Stored.{triples_in};
 ghost use Rattle.data_files.specs.Data.{IfTold, Serves, Outcome, IsOutcome};
 ghost use Rattle.data_files.specs.Causes.{DataCause, Gives};
@@ -28,16 +29,23 @@ fn table_of<F: Shelf>(
     ensures exact { ¬ (Rose (F.faults shelf.old) (F.faults shelf.new)) → IfTold (F.told shelf.old) (λ files. (outcome : Outcome) → IsOutcome files name.now choice.now (authority_of config.now.base) outcome → Gives outcome result) }
     ensures told { F.told shelf.new ≡ F.told shelf.old }
     ensures later { F.faults shelf.old ≤ F.faults shelf.new }
+    ensures opened { LeavesOpened (F.given shelf.old) (F.given shelf.new) (F.rest shelf.old) (F.rest shelf.new) }
+    ensures faultless { F.faultless shelf.new ≡ F.faultless shelf.old }
+    ensures holds { F.faultless shelf.old ≡ true → HoldsName (F.told shelf.old) name.now → F.given shelf.old < 2 ^ 32 →
+        (F.faults shelf.new ≡ F.faults shelf.old) × (result ≢ Err DataFault.File) }
 {
     config.is_valid();
     read_table(alloc, shelf, name, choice, config.base().authority())
 }
 
 /// The server of the data of a file as version 1, whose fragments stand where the configuration says.
-/// A blank node with label L is `http://AUTHORITY/.well-known/genid/L`, under the authority of the base.
+/// A blank node with label L is the Skolem IRI `http://AUTHORITY/.well-known/genid/L`, under the
+/// authority of the base.
 ///
 /// `TooLong`, `Bad`, `GenidClash` and `TooMany` come exactly where the file holds such bytes, `File`
-/// only where the shelf's count of faults rose, and `OutOfMemory` for want of memory alone.
+/// only where the shelf's count of faults rose, and `OutOfMemory` where memory ran out. What the shelf
+/// tells stays as it was. The file is found once, and files found before are left as they were. Over a
+/// faultless shelf that holds the name `File` never comes, as long as numbers are left.
 pub fn server_of_file<F: Shelf>(
     alloc: Global,
     shelf: &mut F,
@@ -50,6 +58,10 @@ pub fn server_of_file<F: Shelf>(
     ensures exact { ¬ (Rose (F.faults shelf.old) (F.faults shelf.new)) → IfTold (F.told shelf.old) (λ files. (outcome : Outcome) → IsOutcome files name.now choice.now (authority_of config.base) outcome → GivesServer outcome result) }
     ensures told { F.told shelf.new ≡ F.told shelf.old }
     ensures later { F.faults shelf.old ≤ F.faults shelf.new }
+    ensures opened { LeavesOpened (F.given shelf.old) (F.given shelf.new) (F.rest shelf.old) (F.rest shelf.new) }
+    ensures faultless { F.faultless shelf.new ≡ F.faultless shelf.old }
+    ensures holds { F.faultless shelf.old ≡ true → HoldsName (F.told shelf.old) name.now → F.given shelf.old < 2 ^ 32 →
+        (F.faults shelf.new ≡ F.faults shelf.old) × (result ≢ Err DataFault.File) }
 {
     let table = match table_of(alloc, shelf, name, choice, &config) {
         Ok(table) => table,

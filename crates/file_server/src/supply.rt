@@ -2,6 +2,7 @@
 ghost use Rattle.std.specs.Prelude.{◌≡◌, ◌≤◌, ◌↔◌, List, IfOk, IfErr, OnErr, IsErrOf};
 ghost use Rattle.tpf_base.specs.Addresses.{authority_of};
 ghost use Rattle.tpf_base.specs.Causes.{HasCause, counted};
+ghost use Rattle.tpf_base.specs.Outside.{LeavesOpened};
 ghost use Rattle.rdf_terms.specs.declared.term.Triple.{Triple};
 ghost use Rattle.connections.specs.Versions.{with_first};
 ghost use Rattle.triple_table.specs.Stored.{triples_in};
@@ -64,6 +65,7 @@ impl<'a, F: Shelf> FileSupply<'a, F> {
         ensures err { IfErr result (DataCause (F.told self.old.shelf.now) self.old.name.now self.old.choice.now (authority_of self.old.base.now) (F.faults self.old.shelf.now) (F.faults self.new.shelf.now)) }
         ensures told { F.told self.new.shelf.now ≡ F.told self.old.shelf.now }
         ensures later { F.faults self.old.shelf.now ≤ F.faults self.new.shelf.now }
+        ensures opened { LeavesOpened (F.given self.old.shelf.now) (F.given self.new.shelf.now) (F.rest self.old.shelf.now) (F.rest self.new.shelf.now) }
         ensures name { self.new.name.now ≡ self.old.name.now }
         ensures choice { self.new.choice.now ≡ self.old.choice.now }
         ensures base { self.new.base.now ≡ self.old.base.now }
@@ -75,7 +77,7 @@ impl<'a, F: Shelf> FileSupply<'a, F> {
         read_table(self.alloc, self.shelf, self.name, self.choice, authority)
     }
 
-    /// Counts the fault, unless it is want of memory.
+    /// Counts the fault, unless it is `OutOfMemory`.
     fn refuse(&mut self, fault: Fault) -> Fault
         ensures fault { result ≡ fault }
         ensures failed { fault ≡ Fault.Failed → self.new.faults ≡ counted self.old.faults }
@@ -124,7 +126,8 @@ impl<'a, F: Shelf> Supply<FragmentServer> for FileSupply<'a, F> {
     ghost keeps_then = { λ a b c first second. (keeps_both _ _ _ first.0 second.0, second.1 ∙ first.1) };
 
     /// The table of the file, read now. `Failed` where the file could not be read, or holds no data that
-    /// are served.
+    /// are served: the supply's count of faults rose. `OutOfMemory` where memory ran out: the count
+    /// stays. In each case the file was found once at most, and it is still a supply of the same file.
     fn next(&mut self) -> Result<Table, Fault>
         ensures given { IfOk result (λ table. IsOfFile (F.told self.old.shelf.now) self.old.name.now self.old.choice.now (authority_of self.old.base.now) (triples_in table)) }
         ensures first { IfOk result (λ table. untold ≡ with_first (triples_in table) untold) }
@@ -134,6 +137,7 @@ impl<'a, F: Shelf> Supply<FragmentServer> for FileSupply<'a, F> {
         ensures cause { HasCause self.old.faults self.new.faults result }
         ensures failed { IsErrOf result Fault.Failed → FailedReading (F.told self.old.shelf.now) self.old.name.now self.old.choice.now (authority_of self.old.base.now) (F.faults self.old.shelf.now) (F.faults self.new.shelf.now) }
         ensures told { F.told self.new.shelf.now ≡ F.told self.old.shelf.now }
+        ensures opened { LeavesOpened (F.given self.old.shelf.now) (F.given self.new.shelf.now) (F.rest self.old.shelf.now) (F.rest self.new.shelf.now) }
         ensures name { self.new.name.now ≡ self.old.name.now }
         ensures choice { self.new.choice.now ≡ self.old.choice.now }
         ensures base { self.new.base.now ≡ self.old.base.now }

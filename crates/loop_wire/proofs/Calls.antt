@@ -11,7 +11,7 @@ use Rattle.tpf_base.specs.declared.failing.Failing.TheVariants.{Never, Every, At
 use Rattle.tpf_base.specs.declared.wire.Moved.{Moved}
 use Rattle.tpf_base.specs.declared.wire.Moved.TheVariants as answers
 use Rattle.loop_wire.specs.Held as held
-use Rattle.loop_wire.specs.Held.{Held, no_link, new_link, told, settled, stalled_at, sent_more, received_more, ended_now, closed, woken_now, IsHeld, Hears}
+use Rattle.loop_wire.specs.Held.{Held, no_link, new_link, told, settled, stalled_at, sent_more, received_more, ended_now, closed, IsHeld, Hears}
 use Rattle.loop_wire.specs.Looped.{wire_of, nature_of, is_steady, every_of, woke_after}
 use Rattle.loop_wire.proofs.Talks.{front_lasts}
 
@@ -47,6 +47,17 @@ pub record CountsOn (old new : CallCounts) : Type 0 where
   pub dials : new.dials ≡ old.dials
   pub later : old.faults ≤ new.faults
 
+-- after one that did not fail
+pub record CountsFine (old new : CallCounts) : Type 0 where
+  pub on : CountsOn old new
+  pub faults : new.faults ≡ old.faults
+
+-- after one that was due to fail, on a wire that is not steady
+pub record CountsFailed (old new : CallCounts) : Type 0 where
+  pub on : CountsOn old new
+  pub faults : new.faults ≡ counted old.faults
+  pub unsteady : is_steady old.failing ≡ false
+
 turns_set : (owes : List ℕ → List ℕ) (k : ℕ) (links : List Held) (h' : Held) (counts counts' : CallCounts) (provoked waits : ℕ) (woke woke' : Bool)
     → k < length links → CountsOn counts counts'
     → Turns owes k (get_or links k no_link) h' (wire_of owes links counts provoked waits woke) (wire_of owes (set links k h') counts' provoked waits woke')
@@ -66,13 +77,6 @@ turns_set owes k links h' counts counts' provoked waits woke woke' below on = re
   is = ap (told owes) (get_or-set_same links k h' no_link below);
   tells = refl;
 }
-
-pub turns : (owes : List ℕ → List ℕ) (k : ℕ) (links links' : List Held) (h' : Held) (counts counts' : CallCounts) (provoked waits : ℕ) (woke woke' : Bool)
-    → k < length links → links' ≡ set links k h' → CountsOn counts counts'
-    → Turns owes k (get_or links k no_link) h' (wire_of owes links counts provoked waits woke) (wire_of owes links' counts' provoked waits woke')
-turns owes k links links' h' counts counts' provoked waits woke woke' below is on =
-    let P : List Held → Type 0 = λ ls. Turns owes k (get_or links k no_link) h' (wire_of owes links counts provoked waits woke) (wire_of owes ls counts' provoked waits woke') in
-    subst P (sym is) (turns_set owes k links h' counts counts' provoked waits woke woke' below on)
 
 -- ---- sends
 
@@ -118,25 +122,6 @@ sent_nothing owes k piece h h' old new turn left asleep later idle faults =
       woken = λ steady woken stalled same. let no : h.woken ≡ true = ap (λ (l : Link). l.woken) (sym turn.was) ∙ woken in absurd cc;
     }
 
--- a wire whose call met want of memory
-same_wire : (owes : List ℕ → List ℕ) (k : ℕ) (links links' : List Held) (counts counts' : CallCounts) (provoked waits : ℕ) (woke : Bool)
-    → links' ≡ set links k (get_or links k no_link) → CountsOn counts counts' → counts'.faults ≡ counts.faults
-    → SameWire (wire_of owes links counts provoked waits woke) (wire_of owes links' counts' provoked waits woke)
-same_wire owes k links links' counts counts' provoked waits woke is on faults =
-    let same : links' ≡ links = is ∙ set-get_or links k no_link in
-    record {
-      links = λ j. ap (λ (ls : List Held). told owes (get_or ls j no_link)) same;
-      faults = faults;
-      given = ap length same;
-      provoked = refl;
-      dials = on.dials;
-      waits = refl;
-      idle = refl;
-      door = refl;
-      door_stalls = refl;
-      nature = ap nature_of on.failing;
-    }
-
 sent_wanting : (owes : List ℕ → List ℕ) (k : ℕ) (piece : List ℕ) (h h' : Held) (old new : WireState)
     → Turns owes k h h' old new → h' ≡ h → SameWire old new → Sends k piece old new answers.OutOfMemory
 sent_wanting owes k piece h h' old new turn left same = record {
@@ -174,34 +159,6 @@ sent_failed owes k piece h h' old new turn left idle faults unsteady = record {
   not_due = λ steady e every. absurd cc;
   woken = λ steady woken stalled e. absurd cc;
 }
-
--- a send that is not due
-pub sends_as : (owes : List ℕ → List ℕ) (k n : ℕ) (piece rest : List ℕ) (stalls : Bool) (answer : Moved) (links links' : List Held) (h' : Held) (counts counts' : CallCounts) (provoked waits : ℕ) (woke woke' : Bool)
-    → k < length links → links' ≡ set links k h' → CountsOn counts counts' → counts'.faults ≡ counts.faults → woke' ≡ woke_after answer woke
-    → IsHeld owes (get_or links k no_link) → Hears stalls (take n piece) (get_or links k no_link) h' answer
-    → owes ((get_or links k no_link).sent ++ take n piece) ≡ owes (get_or links k no_link).sent ++ rest
-    → 0 < n → n ≤ length piece → (stalls ≡ true → (get_or links k no_link).woken ≡ false)
-    → Sends k piece (wire_of owes links counts provoked waits woke) (wire_of owes links' counts' provoked waits woke') answer
-sends_as owes k n piece rest stalls (answers.Moved m) links links' h' counts counts' provoked waits woke woke' below is on faults woken held hears longer some few asleep =
-    let all : m ≡ n = hears.moved m refl ∙ length-take-le n piece few in
-    let P : ℕ → Type 0 = λ j. Sends k piece (wire_of owes links counts provoked waits woke) (wire_of owes links' counts' provoked waits woke') (answers.Moved j) in
-    subst P (sym all) (sent_bytes owes k n piece rest (get_or links k no_link) h' _ _ (turns owes k links links' h' counts counts' provoked waits woke woke' below is on) hears.left longer held.within (rw (woken) refl) faults some few)
-sends_as owes k n piece rest stalls answers.End links links' h' counts counts' provoked waits woke woke' below is on faults woken held hears longer some few asleep = absurd (hears.no_end refl)
-sends_as owes k n piece rest stalls answers.NotYet links links' h' counts counts' provoked waits woke woke' below is on faults woken held hears longer some few asleep =
-    sent_nothing owes k piece (get_or links k no_link) h' _ _ (turns owes k links links' h' counts counts' provoked waits woke woke' below is on) hears.left (asleep (hears.not_yet refl)) hears.later (rw (woken) refl) faults
-sends_as owes k n piece rest stalls answers.Failed links links' h' counts counts' provoked waits woke woke' below is on faults woken held hears longer some few asleep = absurd (hears.no_fault refl)
-sends_as owes k n piece rest stalls answers.OutOfMemory links links' h' counts counts' provoked waits woke woke' below is on faults woken held hears longer some few asleep =
-    let P : Bool → Type 0 = λ w. Sends k piece (wire_of owes links counts provoked waits woke) (wire_of owes links' counts' provoked waits w) answers.OutOfMemory in
-    subst P (sym woken)
-    (sent_wanting owes k piece (get_or links k no_link) h' _ _ (turns owes k links links' h' counts counts' provoked waits woke woke below is on) hears.left
-    (same_wire owes k links links' counts counts' provoked waits woke (is ∙ ap (λ x. set links k x) hears.left) on faults))
-
--- a send that is due
-pub sends_due : (owes : List ℕ → List ℕ) (k : ℕ) (piece : List ℕ) (links links' : List Held) (counts counts' : CallCounts) (provoked waits : ℕ) (woke : Bool)
-    → k < length links → links' ≡ set links k (settled (get_or links k no_link)) → CountsOn counts counts' → counts'.faults ≡ counted counts.faults → is_steady counts.failing ≡ false
-    → Sends k piece (wire_of owes links counts provoked waits woke) (wire_of owes links' counts' provoked waits woke) answers.Failed
-sends_due owes k piece links links' counts counts' provoked waits woke below is on faults unsteady =
-    sent_failed owes k piece (get_or links k no_link) (settled (get_or links k no_link)) _ _ (turns owes k links links' _ counts counts' provoked waits woke woke below is on) refl refl faults unsteady
 
 -- ---- receives
 
@@ -316,32 +273,6 @@ heard_failed owes k to h h' old new turn left idle faults unsteady = record {
 pub record IsAwake (owes : List ℕ → List ℕ) (stalls : Bool) (h : Held) : Type 0 where
   pub moves : h.woken ≡ true → h.stalled ≡ Some Receiving → (stalls ≡ false) × (is_short (told owes h) ≡ true)
 
--- a receive that is not due
-pub receives_as : (owes : List ℕ → List ℕ) (k most : ℕ) (to : List ℕ) (stalls : Bool) (answer : Moved) (links links' : List Held) (h' : Held) (counts counts' : CallCounts) (provoked waits : ℕ) (woke woke' : Bool)
-    → k < length links → links' ≡ set links k h' → CountsOn counts counts' → counts'.faults ≡ counts.faults → woke' ≡ woke_after answer woke
-    → held.Gives owes most stalls to (get_or links k no_link) h' answer → IsAwake owes stalls (get_or links k no_link)
-    → Receives k to (wire_of owes links counts provoked waits woke) (wire_of owes links' counts' provoked waits woke') answer
-receives_as owes k most to stalls (answers.Moved n) links links' h' counts counts' provoked waits woke woke' below is on faults woken gives awake =
-    let all = gives.moved n refl in
-    heard_bytes owes k n to (get_or links k no_link) h' _ _ (turns owes k links links' h' counts counts' provoked waits woke woke' below is on) gives.left all.3 (rw (woken) refl) faults all.0 all.2
-receives_as owes k most to stalls answers.End links links' h' counts counts' provoked waits woke woke' below is on faults woken gives awake =
-    heard_end owes k to (get_or links k no_link) h' _ _ (turns owes k links links' h' counts counts' provoked waits woke woke' below is on) gives.left (gives.end_ refl) (rw (woken) refl) faults
-receives_as owes k most to stalls answers.NotYet links links' h' counts counts' provoked waits woke woke' below is on faults woken gives awake =
-    heard_nothing owes k to stalls (get_or links k no_link) h' _ _ (turns owes k links links' h' counts counts' provoked waits woke woke' below is on) gives.left gives.later (gives.not_yet refl) awake.moves (rw (woken) refl) faults
-receives_as owes k most to stalls answers.Failed links links' h' counts counts' provoked waits woke woke' below is on faults woken gives awake = absurd (gives.no_fault refl)
-receives_as owes k most to stalls answers.OutOfMemory links links' h' counts counts' provoked waits woke woke' below is on faults woken gives awake =
-    let P : Bool → Type 0 = λ w. Receives k to (wire_of owes links counts provoked waits woke) (wire_of owes links' counts' provoked waits w) answers.OutOfMemory in
-    subst P (sym woken)
-    (heard_wanting owes k to (get_or links k no_link) h' _ _ (turns owes k links links' h' counts counts' provoked waits woke woke below is on) gives.left
-    (same_wire owes k links links' counts counts' provoked waits woke (is ∙ ap (λ x. set links k x) gives.left) on faults))
-
--- a receive that is due
-pub receives_due : (owes : List ℕ → List ℕ) (k : ℕ) (to : List ℕ) (links links' : List Held) (counts counts' : CallCounts) (provoked waits : ℕ) (woke : Bool)
-    → k < length links → links' ≡ set links k (settled (get_or links k no_link)) → CountsOn counts counts' → counts'.faults ≡ counted counts.faults → is_steady counts.failing ≡ false
-    → Receives k to (wire_of owes links counts provoked waits woke) (wire_of owes links' counts' provoked waits woke) answers.Failed
-receives_due owes k to links links' counts counts' provoked waits woke below is on faults unsteady =
-    heard_failed owes k to (get_or links k no_link) (settled (get_or links k no_link)) _ _ (turns owes k links links' _ counts counts' provoked waits woke woke below is on) refl refl faults unsteady
-
 -- ---- close
 
 closed_link : (owes : List ℕ → List ℕ) (k : ℕ) (h h' : Held) (old new : WireState)
@@ -361,12 +292,80 @@ closed_link owes k h h' old new turn left idle faults = record {
   idle = idle;
 }
 
-pub closes_as : (owes : List ℕ → List ℕ) (k : ℕ) (links links' : List Held) (counts : CallCounts) (provoked waits : ℕ) (woke : Bool)
-    → k < length links → links' ≡ set links k (closed (get_or links k no_link))
-    → Closes k (wire_of owes links counts provoked waits woke) (wire_of owes links' counts provoked waits woke)
-closes_as owes k links links' counts provoked waits woke below is =
-    closed_link owes k (get_or links k no_link) (closed (get_or links k no_link)) _ _
-    (turns owes k links links' (closed (get_or links k no_link)) counts counts provoked waits woke woke below is (record { failing = refl; dials = refl; later = omega arith })) refl refl refl
+-- ---- the call itself: one link is set, and the counts are others
+module _ (owes : List ℕ → List ℕ) (k : ℕ) (links links' : List Held) (counts counts' : CallCounts) (provoked waits : ℕ) (woke : Bool) where
+  abbrev here : Held
+  here = get_or links k no_link
+
+  abbrev before : WireState
+  before = wire_of owes links counts provoked waits woke
+
+  abbrev after : Bool → WireState
+  after woke' = wire_of owes links' counts' provoked waits woke'
+
+  turns : (h' : Held) (woke' : Bool) → k < length links → links' ≡ set links k h' → CountsOn counts counts' → Turns owes k here h' before (after woke')
+  turns h' woke' below is on =
+      let P : List Held → Type 0 = λ ls. Turns owes k here h' before (wire_of owes ls counts' provoked waits woke') in
+      subst P (sym is) (turns_set owes k links h' counts counts' provoked waits woke woke' below on)
+
+  -- it met want of memory
+  same_wire : links' ≡ set links k here → CountsFine counts counts' → SameWire before (after woke)
+  same_wire is fine =
+      let same : links' ≡ links = is ∙ set-get_or links k no_link in
+      record {
+        links = λ j. ap (λ (ls : List Held). told owes (get_or ls j no_link)) same;
+        faults = fine.faults;
+        given = ap length same;
+        provoked = refl;
+        dials = fine.on.dials;
+        waits = refl;
+        idle = refl;
+        door = refl;
+        door_stalls = refl;
+        nature = ap nature_of fine.on.failing;
+      }
+
+  -- a send that is not due
+  pub sends_as : (n : ℕ) (piece rest : List ℕ) (stalls : Bool) (answer : Moved) (h' : Held) (woke' : Bool)
+      → k < length links → links' ≡ set links k h' → CountsFine counts counts' → woke' ≡ woke_after answer woke → IsHeld owes here → Hears stalls (take n piece) here h' answer
+      → owes (here.sent ++ take n piece) ≡ owes here.sent ++ rest → 0 < n → n ≤ length piece → (stalls ≡ true → here.woken ≡ false) → Sends k piece before (after woke') answer
+  sends_as n piece rest stalls (answers.Moved m) h' woke' below is fine woken held hears longer some few asleep =
+      let all : m ≡ n = hears.moved m refl ∙ length-take-le n piece few in
+      let P : ℕ → Type 0 = λ j. Sends k piece before (after woke') (answers.Moved j) in
+      subst P (sym all) (sent_bytes owes k n piece rest here h' _ _ (turns h' woke' below is fine.on) hears.left longer held.within (rw (woken) refl) fine.faults some few)
+  sends_as n piece rest stalls answers.End h' woke' below is fine woken held hears longer some few asleep = absurd (hears.no_end refl)
+  sends_as n piece rest stalls answers.NotYet h' woke' below is fine woken held hears longer some few asleep =
+      sent_nothing owes k piece here h' _ _ (turns h' woke' below is fine.on) hears.left (asleep (hears.not_yet refl)) hears.later (rw (woken) refl) fine.faults
+  sends_as n piece rest stalls answers.Failed h' woke' below is fine woken held hears longer some few asleep = absurd (hears.no_fault refl)
+  sends_as n piece rest stalls answers.OutOfMemory h' woke' below is fine woken held hears longer some few asleep =
+      let P : Bool → Type 0 = λ w. Sends k piece before (after w) answers.OutOfMemory in
+      subst P (sym woken) (sent_wanting owes k piece here h' _ _ (turns h' woke below is fine.on) hears.left (same_wire (is ∙ ap (λ x. set links k x) hears.left) fine))
+
+  -- one that is due
+  pub sends_due : (piece : List ℕ) → k < length links → links' ≡ set links k (settled here) → CountsFailed counts counts' → Sends k piece before (after woke) answers.Failed
+  sends_due piece below is due = sent_failed owes k piece here (settled here) _ _ (turns _ woke below is due.on) refl refl due.faults due.unsteady
+
+  -- a receive that is not due
+  pub receives_as : (most : ℕ) (to : List ℕ) (stalls : Bool) (answer : Moved) (h' : Held) (woke' : Bool)
+      → k < length links → links' ≡ set links k h' → CountsFine counts counts' → woke' ≡ woke_after answer woke → held.Gives owes most stalls to here h' answer → IsAwake owes stalls here
+      → Receives k to before (after woke') answer
+  receives_as most to stalls (answers.Moved n) h' woke' below is fine woken gives awake =
+      let all = gives.moved n refl in
+      heard_bytes owes k n to here h' _ _ (turns h' woke' below is fine.on) gives.left all.3 (rw (woken) refl) fine.faults all.0 all.2
+  receives_as most to stalls answers.End h' woke' below is fine woken gives awake = heard_end owes k to here h' _ _ (turns h' woke' below is fine.on) gives.left (gives.end_ refl) (rw (woken) refl) fine.faults
+  receives_as most to stalls answers.NotYet h' woke' below is fine woken gives awake =
+      heard_nothing owes k to stalls here h' _ _ (turns h' woke' below is fine.on) gives.left gives.later (gives.not_yet refl) awake.moves (rw (woken) refl) fine.faults
+  receives_as most to stalls answers.Failed h' woke' below is fine woken gives awake = absurd (gives.no_fault refl)
+  receives_as most to stalls answers.OutOfMemory h' woke' below is fine woken gives awake =
+      let P : Bool → Type 0 = λ w. Receives k to before (after w) answers.OutOfMemory in
+      subst P (sym woken) (heard_wanting owes k to here h' _ _ (turns h' woke below is fine.on) gives.left (same_wire (is ∙ ap (λ x. set links k x) gives.left) fine))
+
+  -- one that is due
+  pub receives_due : (to : List ℕ) → k < length links → links' ≡ set links k (settled here) → CountsFailed counts counts' → Receives k to before (after woke) answers.Failed
+  receives_due to below is due = heard_failed owes k to here (settled here) _ _ (turns _ woke below is due.on) refl refl due.faults due.unsteady
+
+  pub closes_as : k < length links → links' ≡ set links k (closed here) → CountsFine counts counts' → Closes k before (after woke)
+  closes_as below is fine = closed_link owes k here (closed here) _ _ (turns _ woke below is fine.on) refl refl fine.faults
 
 -- ---- dials
 

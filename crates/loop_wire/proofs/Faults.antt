@@ -1,8 +1,8 @@
 -- How often a wire fails on which nothing but dials is due.
-use Rattle.std.proofs.Common.{ℕ, suc, ◌≡◌, ◌+◌, ◌-◌, ◌*◌, ◌/◌, ◌%◌, ◌^◌, ◌<◌, ◌≤◌, ◌==◌, ◌&&◌, ◌||◌, nat_lt, Bool, true, false, Some, refl, ap, sym, subst, ◌∙◌, arith, div-add-mod', lt_of_mul-lt-mul_right, mul-le-mul_right}
+use Rattle.std.proofs.Common.{ℕ, suc, ◌≡◌, ◌-◌, ◌*◌, ◌/◌, ◌%◌, ◌^◌, ◌<◌, ◌≤◌, ◌||◌, true, false, Some, refl, ap, sym, subst, ◌∙◌, arith, div-add-mod', lt_of_mul-lt-mul_right, mul-le-mul_right}
 use Rattle.std.proofs.lemmas.Bool.Decides.{nat_tests}
 use Rattle.tpf_base.specs.Causes.{counted}
-use Rattle.tpf_base.specs.Failures.{CallCounts, no_calls, is_nth, is_due, is_dial_due, is_next_dial_due}
+use Rattle.tpf_base.specs.Failures.{CallCounts, no_calls, is_nth, is_due, is_dial_due}
 use Rattle.tpf_base.specs.declared.failing.Failing.{Failing}
 use Rattle.tpf_base.specs.declared.failing.Failing.TheVariants.{Never, Every, At, AfterBytes, Dials}
 use Rattle.loop_wire.specs.Looped.{is_steady, every_of, FewFaults, CountsDue}

@@ -10,11 +10,6 @@ use Rattle.loop_wire.specs.Held.{Held, no_link, settled, closed, woken_now, Talk
 use Rattle.loop_wire.specs.Looped.{held_of, AreKept}
 use Rattle.loop_wire.proofs.Talks.{held_settled, held_woken, held_closed}
 
-pub all_at : {X : Type 0} (P : X → Type 0) (xs : List X) (k : ℕ) (x : X) → AllByRecursion P xs → k < length xs → x ≡ get_or xs k x → P x
-all_at P [] k x all below is = absurd (omega arith)
-all_at P (y ∷ ys) zero x all below is = rw (is) (all.0)
-all_at P (y ∷ ys) (suc k) x all below is = all_at P ys k x all.1 (omega arith) is
-
 pub all_set : {X : Type 0} (P : X → Type 0) (xs : List X) (k : ℕ) (x : X) → AllByRecursion P xs → P x → AllByRecursion P (set xs k x)
 all_set P [] k x all here = tt
 all_set P (y ∷ ys) zero x all here = (here, all.1)
@@ -37,10 +32,6 @@ module _ {C : Type 0} where
   length_held links = length-map links (λ (x : LoopLink C). x.held)
 
 module _ {C Data Settings : Type 0} where
-  pub kept_at : (kind : Kind C Data Settings) (suits : C → Type 0) (serving : Serving Data Settings) (owes : List ℕ → List ℕ) (links : List (LoopLink C)) (k : ℕ) (l : LoopLink C)
-      → AreKept kind suits serving owes links → k < length links → l ≡ get_or links k l → IsKept kind suits serving owes l.held l.connection
-  kept_at kind suits serving owes links k l kept below is = all_at (λ (x : LoopLink C). IsKept kind suits serving owes x.held x.connection) links k l kept below is
-
   pub kept_set : (kind : Kind C Data Settings) (suits : C → Type 0) (serving : Serving Data Settings) (owes : List ℕ → List ℕ) (links : List (LoopLink C)) (k : ℕ) (l : LoopLink C)
       → AreKept kind suits serving owes links → IsKept kind suits serving owes l.held l.connection → AreKept kind suits serving owes (set links k l)
   kept_set kind suits serving owes links k l kept here = all_set (λ (x : LoopLink C). IsKept kind suits serving owes x.held x.connection) links k l kept here

@@ -4,7 +4,7 @@ use Rattle.std.proofs.lemmas.List.{append-nil, take-append-le, length-take-le, l
 use Rattle.std.proofs.Math.Seq.{take-append-add}
 use Rattle.std.proofs.lemmas.Grind.{common_steps}
 use Rattle.std.proofs.lemmas.Bool.Decides.{nat_tests}
-use Rattle.tpf_base.specs.Links.{Sending, Receiving, IsRipe, ToSend, ToReceive, is_short}
+use Rattle.tpf_base.specs.Links.{Receiving, IsRipe, ToSend, ToReceive, is_short}
 use Rattle.tpf_base.specs.declared.wire.Moved.{Moved}
 use Rattle.tpf_base.specs.declared.wire.Moved.TheVariants as answers
 use Rattle.connections.specs.Kinds.{Kind, IsWhole}
@@ -178,15 +178,6 @@ held_woken owes held up is = record {
   ripe = λ ripe. woken_ripe owes held (is.ripe ripe);
   ripe_alone = λ ripe. is.ripe_alone (woken_back owes held ripe);
   awake = λ w. up;
-  within = is.within;
-}
-
--- it stalled with a send
-pub held_unsent : (owes : List ℕ → List ℕ) (held : Held) → held.is_open ≡ true → IsHeld owes held → IsHeld owes (stalled_at Sending true held)
-held_unsent owes held free is = record {
-  ripe = λ ripe. ToSend free refl;
-  ripe_alone = λ ripe. refl;
-  awake = λ up. absurd cc;
   within = is.within;
 }
 

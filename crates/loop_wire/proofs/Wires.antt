@@ -12,8 +12,9 @@ use Rattle.connections.specs.Kinds.{Kind}
 use Rattle.connections.specs.Versions.{Serving}
 use Rattle.loop_wire.specs.declared.link.LoopLink.{LoopLink}
 use Rattle.loop_wire.specs.Held.{Held, no_link, told, IsHeld, Hears, Gives}
-use Rattle.loop_wire.specs.Looped.{held_of, AreKept, IsWire}
-use Rattle.loop_wire.proofs.Calls.{CountsOn}
+use Rattle.loop_wire.specs.Looped.{Looped, held_of, is_steady, AreKept, IsWire}
+use Rattle.loop_wire.proofs.Calls.{CountsFine, CountsFailed}
+use Rattle.loop_wire.proofs.Lists.{length_held}
 
 -- an open link was given
 pub open_below : (links : List Held) (k : ℕ) → (get_or links k no_link).is_open ≡ true → k < length links
@@ -21,30 +22,35 @@ open_below [] k is = absurd cc
 open_below (held ∷ links) zero is = omega (arith)
 open_below (held ∷ links) (suc k) is = omega (arith, open_below links k is)
 
+-- what holds of the links that are seen holds of those behind it
+pub open_seen : {Server : Type 0} (w seen : Looped Server) (k : ℕ) → w ≡ seen → (get_or seen.links k no_link).is_open ≡ true → (get_or w.links k no_link).is_open ≡ true
+open_seen w seen k is up = ap (λ (v : Looped _). (get_or v.links k no_link).is_open) is ∙ up
+
+pub below_seen : {Server : Type 0} (w seen : Looped Server) (k : ℕ) → w ≡ seen → (get_or seen.links k no_link).is_open ≡ true → k < length w.links
+below_seen w seen k is up = open_below w.links k (open_seen w seen k is up)
+
 -- a slice of all items, put back
-pub put_back : {X : Type 0} (items new : List X) (len : ℕ) → length new ≡ length items → len ≡ length items → take len (new ++ drop (length new) items) ≡ new
-put_back items new len same all =
-    let none : drop (length new) items ≡ [] = drop_of_length-le items (omega (arith, same)) in
+pub put_back : {X : Type 0} (items seen new : List X) (len : ℕ) → seen ≡ items → length new ≡ length seen → length seen ≡ len → take len (new ++ drop (length new) items) ≡ new
+put_back items seen new len is same all =
+    let none : drop (length new) items ≡ [] = drop_of_length-le items (omega (arith, same, ap length is)) in
     let len' : len ≡ length new = omega (arith, same, all) in
     rw (none, append-nil, len') (take-length new)
 
 -- ---- counts
 
-pub counts_fine : (old new : CallCounts) (m : ℕ) → new ≡ record old { calls = m } → CountsOn old new
-counts_fine old new m is = rw (is) (record { failing = refl; dials = refl; later = omega arith })
+pub counts_fine : (old new : CallCounts) (m : ℕ) → new ≡ record old { calls = m } → CountsFine old new
+counts_fine old new m is = rw (is) (record { on = record { failing = refl; dials = refl; later = omega arith }; faults = refl })
 
-pub faults_fine : (old new : CallCounts) (m : ℕ) → new ≡ record old { calls = m } → new.faults ≡ old.faults
-faults_fine old new m is = ap (λ (c : CallCounts). c.faults) is
-
-pub counts_due : (old mid new : CallCounts) (m : ℕ) → mid ≡ record old { calls = m } → new ≡ record mid { faults = counted mid.faults } → mid.faults ≤ new.faults → CountsOn old new
-counts_due old mid new m is fails later = record {
-  failing = ap (λ (c : CallCounts). c.failing) fails ∙ ap (λ (c : CallCounts). c.failing) is;
-  dials = ap (λ (c : CallCounts). c.dials) fails ∙ ap (λ (c : CallCounts). c.dials) is;
-  later = let same : mid.faults ≡ old.faults = ap (λ (c : CallCounts). c.faults) is in omega (arith, same, later);
+pub counts_failed : (old mid new : CallCounts) (m : ℕ) → mid ≡ record old { calls = m } → new ≡ record mid { faults = counted mid.faults } → mid.faults ≤ new.faults → is_steady old.failing ≡ false → CountsFailed old new
+counts_failed old mid new m is fails later unsteady = record {
+  on = record {
+    failing = ap (λ (c : CallCounts). c.failing) fails ∙ ap (λ (c : CallCounts). c.failing) is;
+    dials = ap (λ (c : CallCounts). c.dials) fails ∙ ap (λ (c : CallCounts). c.dials) is;
+    later = let same : mid.faults ≡ old.faults = ap (λ (c : CallCounts). c.faults) is in omega (arith, same, later);
+  };
+  faults = ap (λ (c : CallCounts). c.faults) fails ∙ ap (λ (c : CallCounts). counted c.faults) is;
+  unsteady = unsteady;
 }
-
-pub faults_due : (old mid new : CallCounts) (m : ℕ) → mid ≡ record old { calls = m } → new ≡ record mid { faults = counted mid.faults } → new.faults ≡ counted old.faults
-faults_due old mid new m is fails = ap (λ (c : CallCounts). c.faults) fails ∙ ap (λ (c : CallCounts). counted c.faults) is
 
 -- ---- how many bytes may move
 
@@ -78,24 +84,31 @@ module _ {C Data Settings : Type 0} where
   kept_along kind suits serving owes links seen is kept = let P : List (LoopLink C) → Type 0 = λ ls. AreKept kind suits serving owes ls in subst P (sym is) kept
 
   pub is_wire_put : (kind : Kind C Data Settings) (suits : C → Type 0) (serving : Serving Data Settings) (owes : List ℕ → List ℕ) (links seen new : List (LoopLink C)) (len : ℕ)
-      → IsWire kind suits serving owes links → seen ≡ links → length new ≡ length seen → len ≡ length links → (AreKept kind suits serving owes seen → AreKept kind suits serving owes new)
+      → IsWire kind suits serving owes links → seen ≡ links → length new ≡ length seen → length seen ≡ len → (AreKept kind suits serving owes seen → AreKept kind suits serving owes new)
       → IsWire kind suits serving owes (take len (new ++ drop (length new) links))
   is_wire_put kind suits serving owes links seen new len wire is same all keeps =
       let P : List (LoopLink C) → Type 0 = λ ls. IsWire kind suits serving owes ls in
-      subst P (sym (put_back links new len (same ∙ ap length is) all)) (record { version = wire.version; kept = keeps (kept_along kind suits serving owes links seen is wire.kept) })
+      subst P (sym (put_back links seen new len is same all)) (record { version = wire.version; kept = keeps (kept_along kind suits serving owes links seen is wire.kept) })
 
 module _ {C : Type 0} where
   -- what is held, after a call that changed one link by this function
-  pub held_put_by : (f : Held → Held) (k : ℕ) (links seen new : List (LoopLink C)) (len : ℕ) → seen ≡ links → length new ≡ length seen → len ≡ length links
+  pub held_put_by : (f : Held → Held) (k : ℕ) (links seen new : List (LoopLink C)) (len : ℕ) → seen ≡ links → length new ≡ length seen → length seen ≡ len
       → held_of new ≡ set (held_of seen) k (f (get_or (held_of seen) k no_link))
       → held_of (take len (new ++ drop (length new) links)) ≡ set (held_of links) k (f (get_or (held_of links) k no_link))
   held_put_by f k links seen new len is same all held =
-      ap held_of (put_back links new len (same ∙ ap length is) all) ∙ held ∙ ap (λ (ls : List (LoopLink C)). set (held_of ls) k (f (get_or (held_of ls) k no_link))) is
+      ap held_of (put_back links seen new len is same all) ∙ held ∙ ap (λ (ls : List (LoopLink C)). set (held_of ls) k (f (get_or (held_of ls) k no_link))) is
 
-  pub held_put : (h : Held) (k : ℕ) (links seen new : List (LoopLink C)) (len : ℕ) → seen ≡ links → length new ≡ length seen → len ≡ length links
+  pub held_put : (h : Held) (k : ℕ) (links seen new : List (LoopLink C)) (len : ℕ) → seen ≡ links → length new ≡ length seen → length seen ≡ len
       → held_of new ≡ set (held_of seen) k h → held_of (take len (new ++ drop (length new) links)) ≡ set (held_of links) k h
   held_put h k links seen new len is same all held =
-      ap held_of (put_back links new len (same ∙ ap length is) all) ∙ held ∙ ap (λ (ls : List (LoopLink C)). set (held_of ls) k h) is
+      ap held_of (put_back links seen new len is same all) ∙ held ∙ ap (λ (ls : List (LoopLink C)). set (held_of ls) k h) is
+
+  -- the same of the links behind a slice of them
+  pub slice_open : (links seen : List (LoopLink C)) (k : ℕ) → seen ≡ links → (get_or (held_of links) k no_link).is_open ≡ true → (get_or (held_of seen) k no_link).is_open ≡ true
+  slice_open links seen k is up = ap (λ (ls : List (LoopLink C)). (get_or (held_of ls) k no_link).is_open) is ∙ up
+
+  pub slice_below : (links seen : List (LoopLink C)) (k : ℕ) → seen ≡ links → k < length (held_of links) → k < length seen
+  slice_below links seen k is below = omega (arith, below, ap length is, length_held links)
 
   pub hears_along : (k : ℕ) (links seen : List (LoopLink C)) (h : Held) (stalls : Bool) (front front' : List ℕ) (answer : Moved) → seen ≡ links → front ≡ front'
       → Hears stalls front (get_or (held_of seen) k no_link) h answer → Hears stalls front' (get_or (held_of links) k no_link) h answer

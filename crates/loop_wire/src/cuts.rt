@@ -18,7 +18,7 @@ pub fn cut(generator: &mut Pcg32) -> usize
     (word % 4096) as usize + 1
 }
 
-/// Whether a call stalls: each fourth one does, unless a wait answered its link before.
+/// Whether a call stalls: about one in four does, and none on a link that a wait answered before.
 pub fn stalls(generator: &mut Pcg32, woken: bool) -> bool
     ensures step { generator.new ≡ (pcg32 generator.old).1 }
     ensures value { result ≡ (not woken && ((pcg32 generator.old).0 % 4 == 0)) }

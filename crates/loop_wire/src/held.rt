@@ -15,8 +15,8 @@ pub enum Side {
     Receiving,
 }
 
-/// What is held of a link. The bytes that were received are no part of it: they are the front of
-/// the response to those that were sent.
+/// What is held of a link. The bytes that were received are no part of it: they are a prefix of the
+/// response to those that were sent.
 #[derive(Debug, Drop)]
 pub struct HeldLink {
     host: Text,

@@ -6,8 +6,8 @@ use crate::held::{HeldLink, Side};
 use crate::{RespondsAt, talk};
 use tpf_base::Moved;
 
-/// A link and the connection behind it: none where the link is closed, or where the connection met
-/// want of memory.
+/// A link and the connection behind it: none where the link is closed, or where the connection ran out
+/// of memory.
 #[derive(Drop)]
 pub struct LoopLink<C> {
     pub held: HeldLink,
@@ -15,8 +15,8 @@ pub struct LoopLink<C> {
 }
 
 impl<C: RespondsAt> LoopLink<C> {
-    /// Sends these bytes, unless the call is to stall. A connection that meets want of memory is
-    /// given up, and nothing is told of it.
+    /// Sends these bytes, unless the call is to stall. A connection that runs out of memory is given
+    /// up, and nothing is told of it.
     pub fn send(&mut self, server: &C::Server, stalls: bool, front: &[u8]) -> Moved
         requires kept { IsKept C.kind (C.Suits server.now) (C.Server.serving server.now) (C.response_at (C.Server.serving server.now)) self.old.held self.old.connection }
         requires is_open { self.old.held.is_open ≡ true }
@@ -42,8 +42,8 @@ impl<C: RespondsAt> LoopLink<C> {
         Moved::Moved(front.len())
     }
 
-    /// Receives at most so many bytes of the response into the front of the buffer, unless the call
-    /// is to stall. A connection that meets want of memory is given up, and nothing is told of it.
+    /// Receives at most so many bytes of the response into the start of the buffer, unless the call
+    /// is to stall. A connection that runs out of memory is given up, and nothing is told of it.
     pub fn receive(&mut self, server: &C::Server, stalls: bool, most: usize, to: &mut [u8]) -> Moved
         requires kept { IsKept C.kind (C.Suits server.now) (C.Server.serving server.now) (C.response_at (C.Server.serving server.now)) self.old.held self.old.connection }
         requires version { 1 ≤ (C.Server.serving server.now).version }

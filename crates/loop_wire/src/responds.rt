@@ -14,7 +14,7 @@ pub trait RespondsAt: Converses {
     /// It is the response of the kind of connection, for marks of that version.
     ghost is_response: { IsResponse Self.kind response_at };
 
-    /// What was taken and what is pending is a front of it.
+    /// What was taken and what is pending is a prefix of it.
     ghost begins_at: { BeginsAt Self.kind response_at };
 
     /// The response to more begins with the response to less.

@@ -51,7 +51,7 @@ pub fn prepare<C: RespondsAt>(connection: &mut C, server: &C::Server) -> Result<
     Ok(())
 }
 
-/// Takes a front of what is pending into the front of the buffer, at most so many bytes, and answers
+/// Takes a prefix of what is pending into the start of the buffer, at most so many bytes, and answers
 /// how many.
 pub fn hand_out<C: RespondsAt>(connection: &mut C, most: usize, to: &mut [u8]) -> usize
     requires some { 0 < length (C.kind.pending connection.old) }

@@ -26,15 +26,16 @@ const STREAM: u64 = 54;
 /// connection of one server.
 ///
 /// It tells all of each link. What is owed is the response to what was sent; a reload request is
-/// answered as one that failed, since this wire has no other data. A call moves 1 to 4096 bytes,
-/// each fourth stalls, and a wait answers some ripe link: sizes, stalls and order come from the seed.
+/// answered as one that failed, since this wire has no other data. A call moves 1 to 4096 bytes, about
+/// one in four stalls (it would block), and a wait answers some ripe link (one that is ready): sizes,
+/// stalls and order come from the seed.
 ///
 /// The calls of `send`, `recv`, `dial` and `wait` count, also one that ends in out of memory, and
 /// fail where its `Failing` says so; a dial counts among the dials too. A wait fails too where no
 /// link is ripe, or where the wait before it succeeded and no byte moved since: the caller
 /// provoked that.
 ///
-/// Where a connection meets want of memory, each further call on its link that is not failed answers
+/// Where a connection runs out of memory, each further call on its link that is not failed answers
 /// `OutOfMemory`, and nothing that is told of it changes from then on.
 #[derive(Drop)]
 pub struct LoopWire<C: RespondsAt> {

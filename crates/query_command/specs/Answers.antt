@@ -16,7 +16,7 @@ use Rattle.tpf_client.specs.declared.fault.ClientFault.{ClientFault}
 use Rattle.tpf_client.specs.declared.fault.ClientFault.TheVariants as client_faults
 use Rattle.tpf_client.specs.Calls.{RunsPool, WritesResult, WritesPrefix, WritesAll, WritesSome, IsCause}
 use Rattle.tpf_client.specs.Honest.{IsHonestWire, WritesSolutions, WritesSolutionsFront}
-use Rattle.tpf_client.specs.Requests.{AnswersAll, DialsAtMost, DialsAreTries, RequestsAreTries, addresses_of}
+use Rattle.tpf_client.specs.Requests.{AreClosed, AreDialledFor, OthersStay, AnswersAll, DialsAtMost, GivesAtMost, DialsAreTries, RequestsAreTries, addresses_of}
 use Rattle.tpf_client.specs.Requested.{RequestsPlan, AnswersPlan}
 use Rattle.tpf_client.specs.Shown.{ShowsGiven}
 use Rattle.tpf_client.specs.Failing.{IsFailedOften, ForBudget, SpendsRequests, SpendsTries, SpendsPlan}
@@ -29,10 +29,14 @@ use Rattle.data_files.specs.Causes.{QueryCause, GivesQuery}
 use Rattle.query_command.specs.declared.fault.AnswerFault.{AnswerFault}
 use Rattle.query_command.specs.declared.fault.AnswerFault.TheVariants as faults
 
--- What a call over a wire keeps to, however it ends. Requests were sent for nothing but what was asked, and the dials are within the budget. Over an honest wire what was asked is of the plan; over one that is lively too, requests are made for this and after failures alone; and over a steady one no fault is provoked.
+-- What a call over a wire keeps to, however it ends. Each link that was given in it is closed, and was dialled for the host and the port of the start; links before it are as they were. Requests were sent for nothing but what was asked, and the dials and the links are within the budget. Over an honest wire what was asked is of the plan; over one that is lively too, requests are made for this and after failures alone; and over a steady one no fault is provoked.
 pub record KeepsToPlan (allows : List ℕ → ℕ → List ℕ → List ℕ → Type 0) (q : QueryData) (start : Address) (options : Options) (old new : WireState) : Type 0 where
+  pub closed : AreClosed old new
+  pub peers : AreDialledFor start old new
+  pub others : OthersStay old new
   pub sent : SendsAsked allows options start old new
   pub dials : DialsAtMost options.budget old new
+  pub given : GivesAtMost options.budget old new
   pub asked : OverHonest allows old (λ history config. AsksPlan history config q start old new)
   pub tries : OverHonest allows old (λ history config. DialsAreTries history config options q start old new)
   pub counted : OverLively allows old (λ history config. CountsRises allows history config options q start old new)

@@ -36,7 +36,7 @@ const PAGE: u64 = 100;
 pub struct Counts {
     /// How many triples the data have, each counted once.
     pub triples: u64,
-    /// How many rows the result has.
+    /// How many rows the result has. It stands still at 2^64 - 1.
     pub rows: u64,
 }
 
@@ -136,14 +136,15 @@ fn read_and_count<R: Wait, F: Shelf>(
 /// query of a file. The answer itself is written nowhere.
 ///
 /// The query is read first. Then the text of the data is made and read, and a wire is made for the
-/// server and left in `inside`.
+/// server and left in `inside`; all its connections are closed.
 ///
-/// `Query` where the query is not read. `Data` at want of memory alone. `Client` where the call over the
-/// wire ended before the result was whole, which is never by `Sink`.
+/// `Query` where the query is not read, and `Data` only where memory ran out: no wire is left then. `Client`
+/// where the call over the wire ended before the result was whole, which is never by `Sink`.
 ///
 /// As with `local`, requests are sent for addresses of the plan alone (`sent`), a fault over the wire
-/// comes only where a body is longer than the limit or the plan has more addresses than the budget, or
-/// memory is wanting (`ends`), and the call succeeds where none of these is so (`complete`).
+/// comes only where a body is longer than the limit, the plan has more addresses than the budget, or memory
+/// ran out (`ends`), and the call succeeds where none of these is so and the shelf does not fail
+/// (`complete`).
 pub fn query_generated<R: Wait, F: Shelf>(
     rt: &R,
     alloc: Global,

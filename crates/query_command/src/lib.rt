@@ -1,4 +1,14 @@
 //! The commands that query: a server over a wire, and a file or generated data through a server in the same process.
+//!
+//! The query of a file is asked of a file of data: `asked` is a `LocalQuery` with their names, and the wire
+//! between client and server is left for who wants to look at it.
+//!
+//! ```rust
+//! let mut made = None;
+//! let answer = local(rt, alloc, asked, shelf, out, &mut made);
+//! *inside = inside_of(made);
+//! answer
+//! ```
 #![tactic(auto)]
 
 mod fault;

@@ -39,11 +39,12 @@ pub struct LocalQuery<'a> {
     pub choice: &'a Choice,
     /// The most triples of a page: 1 to 1000.
     pub page_size: u64,
-    /// What bounds the call.
+    /// What bounds the call over the wire.
     pub options: Options,
-    /// From which sizes, stalls and order of the wire come.
+    /// The seed of the wire: how many bytes move at a time, which calls stall, and in which order the
+    /// connections are ready.
     pub seed: u64,
-    /// Each so many-th dial fails, none for 0.
+    /// Each `fail_every`-th dial of the wire fails; none for 0.
     pub fail_every: u64,
 }
 
@@ -171,21 +172,21 @@ fn serve_and_ask<R: Wait, F: Shelf, K: Sink>(
 }
 
 /// Serves the data of a file to a client in the same process, and writes the text of the answer to the
-/// query of another file.
+/// query of another file (SPARQL 1.1 Query Results JSON Format).
 ///
 /// The data are read first, then the query. Then a wire is made for the server, of the seed, on which each
-/// `fail_every`-th dial fails, and is left in `inside`.
+/// `fail_every`-th dial fails, and is left in `inside`; all its connections are closed.
 ///
 /// `Data` where the data are not served, and `Query` where the query is not read: nothing was written
-/// then. `Client` where the call over the wire ended before the result was whole: the output took a front
-/// of such a text.
+/// then, and no wire is left. `Client` where the call over the wire ended before the result was whole: the
+/// output took a prefix of such a text.
 ///
 /// Nothing is assumed of the wire. Requests are sent for addresses of the plan alone (`sent`), and at an
 /// answer each of these was answered, as often as the plan has it or more (`replied`). Where no dial fails,
 /// an answer takes one request for each of them; else it takes the more that failed dials make necessary,
 /// and a fault comes only where too many fail, a body is longer than the limit, or the budget is too small,
 /// and never by a stall, a body that is no page, or another version (`ends`). Where none of these is so and
-/// shelf and output do not fail, the call succeeds unless memory is wanting (`complete`). What is said of
+/// shelf and output do not fail, the call succeeds unless memory runs out (`complete`). What is said of
 /// the plan holds where the shelf tells both files.
 pub fn local<R: Wait, F: Shelf, K: Sink>(
     rt: &R,

@@ -56,15 +56,17 @@ fn read_and_ask<R: Wait, F: Shelf, W: Dial, K: Sink>(
 }
 
 /// Reads the query of a file and asks the server of a start page over a wire for its answer, whose text
-/// goes to the output.
+/// (SPARQL 1.1 Query Results JSON Format) goes to the output. At each exit the connections that were given
+/// in the call are closed.
 ///
 /// `Query` where the query is not read: nothing was written then, and the wire is as before. `Client`
-/// where the call over the wire ended before the result was whole: the output took a front of such a
-/// text, with all rows that were given where neither the output nor memory failed.
+/// where the call over the wire ended before the result was whole: the output took a prefix of such a
+/// text, with all rows that were given where neither the output nor memory failed. `Data` never comes.
 ///
 /// Where the text of the start has at most 65536 bytes, the wire's other ends answer as a server of data
-/// within the limits of the program does, the plan fits and no count of faults rose beyond what may be
-/// asked again, the call succeeds unless memory is wanting (`complete`).
+/// within the limits of the program does, the plan fits, the faults of the wire rise at most as often as a
+/// request may be sent again, and shelf and output do not fail, the call succeeds unless memory runs out
+/// (`complete`).
 pub fn query<R: Wait, F: Shelf, W: Dial, K: Sink>(
     rt: &R,
     alloc: Global,

@@ -5,12 +5,13 @@ use data_files::DataFault;
 /// Why a service ended, or did not begin.
 #[derive(Debug, Drop)]
 pub enum ServiceFault {
-    /// The data are not served.
+    /// The data of the file are not served, for this reason. Nothing was written, and the wire is as before.
     Data(DataFault),
-    /// The door could not be opened, or it or a wait failed: the wire's count of faults rose.
+    /// The door (the listener) could not be opened, or an accept or a wait failed: the wire's count of
+    /// faults rose.
     Wire,
     /// The output failed, and its count of faults rose.
     Sink,
-    /// Out of memory, also of a connection that was closed for it.
+    /// Out of memory, also where one connection alone ran out of it and was closed.
     OutOfMemory,
 }

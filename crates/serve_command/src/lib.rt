@@ -1,4 +1,18 @@
-//! The command that serves the data of a file: the file, the door, and the service of the links that come to it.
+//! The command that serves the data of a file: it reads the file, opens the door (the listener), and serves
+//! the links (the connections) that come to it.
+//!
+//! Of this `serve` is called, with a shelf that has the file, a wire to listen on and an output:
+//!
+//! ```rust
+//! let service = Service {
+//!     name,
+//!     choice: &choice,
+//!     base,
+//!     page_size: page,
+//!     reload,
+//!     stop_after,
+//! };
+//! ```
 #![tactic(auto)]
 
 mod config;

@@ -1,9 +1,10 @@
 // The service of a file over a wire.
-ghost use Rattle.std.specs.Prelude.{ℕ, ◌≡◌, ◌+◌, ◌-◌, ◌≤◌, ◌⊎◌, codes, true, is_some, None, List, IfOk, IfErr, IfSome, OnOk};
+ghost use Rattle.std.specs.Prelude.{ℕ, ◌≡◌, ◌+◌, ◌-◌, ◌≤◌, ◌⊎◌, codes, true, false, is_some, None, List, IfOk, IfErr, IfSome, OnOk};
 ghost use Rattle.std.specs.Io.KnownBytes.{Appends};
 ghost use Rattle.tpf_base.specs.Addresses.{authority_of};
 ghost use Rattle.tpf_base.specs.Causes.{Rose};
 ghost use Rattle.tpf_base.specs.Links.{listens};
+ghost use Rattle.tpf_base.specs.Outside.{LeavesOpened};
 ghost use Rattle.tpf_base.specs.Wrote.{AppendsPrefix};
 ghost use Rattle.template_fill.specs.Configurations.{IsConfig};
 ghost use Rattle.serve_loop.specs.Sentence.{AllClosed};
@@ -43,8 +44,7 @@ pub struct Service<'a> {
     pub stop_after: Option<u64>,
 }
 
-/// What a service of connections answers: a connection that was closed for want of memory makes the
-/// answer that one.
+/// What a service of connections answers: out of memory where a connection was closed for that.
 fn answer_of(served: Result<Served, ServeFault>) -> Result<u64, ServiceFault>
     ensures { result ≡ answer_of served }
 {
@@ -147,6 +147,7 @@ fn serve_file<R: Wait, F: Shelf, W: Accept>(
     ensures opened { (W.state wire.new).door ≡ door_of base.now }
     ensures told { F.told shelf.new ≡ F.told shelf.old }
     ensures shelf_later { F.faults shelf.old ≤ F.faults shelf.new }
+    ensures unread { reloads ≡ false → shelf.new ≡ shelf.old }
 {
     if reloads {
         return serve_again(
@@ -189,6 +190,7 @@ fn serve_server<R: Wait, F: Shelf, W: Accept, K: Sink>(
     ensures turns { OpensAndTurns stop_after (W.state wire.old) (W.state wire.new) result }
     ensures told { F.told shelf.new ≡ F.told shelf.old }
     ensures shelf_later { F.faults shelf.old ≤ F.faults shelf.new }
+    ensures unread { reloads ≡ false → shelf.new ≡ shelf.old }
     ensures out_later { K.faults out.old ≤ K.faults out.new }
 {
     if let Err(fault) = begin(server, wire, out) {
@@ -199,17 +201,18 @@ fn serve_server<R: Wait, F: Shelf, W: Accept, K: Sink>(
     )
 }
 
-/// Serves the data of a file at the host and the port of a base: reads the file, opens the door, writes
-/// `ready` and LF, and serves the links that come to the door until so many connections have ended.
-/// Gives their number; the count stands still at its last value.
+/// Serves the data of a file at the host and the port of a base: reads the file, opens the door (the
+/// listener), writes `ready` and LF, and serves the links (the connections) that come to it until so
+/// many have ended. Gives their number, at most 255 more than `stop_after` says, or 256 where that is
+/// 0; the count stands still at its last value.
 ///
 /// Where a path is given, a request on it has the file read again, and the data are served as the next
-/// version. A read that fails then leaves the data and their version.
+/// version. A read that fails then leaves the data and their version. Without one the file is read once.
 ///
 /// `Data` where the file is not served: nothing was written then, and the wire is as before. `Wire`
-/// where the door could not be opened, or it or a wait failed; `Sink` where the output failed;
-/// `OutOfMemory` also where a connection was closed for want of memory. At each exit the links that were
-/// given are closed.
+/// where the door could not be opened, or an accept or a wait failed; `Sink` where the output failed;
+/// `OutOfMemory` also where a connection was closed for that. At each exit the links that were given
+/// are closed. Where the number is given, the door is still open.
 pub fn serve<R: Wait, F: Shelf, W: Accept, K: Sink>(
     rt: &R,
     alloc: Global,
@@ -237,6 +240,7 @@ pub fn serve<R: Wait, F: Shelf, W: Accept, K: Sink>(
     ensures exact { ¬ (Rose (F.faults shelf.old) (F.faults shelf.new)) → IfTold (F.told shelf.old) (λ files. (outcome : Outcome) → IsOutcome files service.entry.name.now service.entry.choice.now (authority_of service.entry.base) outcome → GivesServed outcome result) }
     ensures told { F.told shelf.new ≡ F.told shelf.old }
     ensures shelf_later { F.faults shelf.old ≤ F.faults shelf.new }
+    ensures once { service.entry.reload ≡ None → LeavesOpened (F.given shelf.old) (F.given shelf.new) (F.rest shelf.old) (F.rest shelf.new) }
     ensures out_later { K.faults out.old ≤ K.faults out.new }
 {
     let Service {

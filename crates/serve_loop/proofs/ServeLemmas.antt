@@ -1,7 +1,7 @@
 -- Turns, one after another, and the exit.
 use Rattle.std.proofs.Common.{ℕ, ◌≡◌, ◌+◌, ◌-◌, ◌<◌, ◌≤◌, List, [], ◌∷◌, ◌++◌, replicate, Option, Some, None, refl, sym, ◌∙◌, ap, subst, arith, length-append}
 use Rattle.std.proofs.lemmas.List.{length-replicate}
-use Rattle.std.specs.Prelude.{◌↔◌, IfSome, IfOk, IfErr, OnErr, Result, Ok, Err}
+use Rattle.std.specs.Prelude.{◌↔◌, IfSome, IfOk, IfErr, Result, Ok, Err}
 use Rattle.tpf_base.specs.Causes.{Rose, counted_by}
 use Rattle.tpf_base.specs.Links.{WireState}
 use Rattle.connections.specs.Versions.{Serving, IsHistory}
@@ -199,20 +199,13 @@ module _ {C Data Settings : Type 0} where
 
   -- ---- what a turn says
 
-  pub sentence_either : {E : Type 0} (r : Result Turned E) (kind : Kind C Data Settings) → BeginsResponse kind → (may : Data → Type 0) (first : List Data) (since : Moment Data Settings) (t : Traffic C Data) (at at' : ℕ → Option (Live C)) (len rest : ℕ) (old now : Moment Data Settings)
-      → IfOk r (λ turned. (first : List Data) (since : Moment Data Settings) (t : Traffic C Data) → Relates kind may first since t at len old → TurnsTo kind may first since t turned at' rest old now)
-      → OnErr r ((first : List Data) (since : Moment Data Settings) (t : Traffic C Data) → Relates kind may first since t at len old → Relates kind may first since t at' rest now)
-      → Relates kind may first since t at len old → Sentence kind may first since now
-  sentence_either (Ok turned) kind begins may first since t at at' len rest old now f g r = let q = f first since t r in sentence kind begins may first since q.traffic at' rest now q.relates
-  sentence_either (Err fault) kind begins may first since t at at' len rest old now f g r = sentence kind begins may first since t at' rest now (g first since t r)
+  pub sentence_turn : (kind : Kind C Data Settings) → BeginsResponse kind → (may : Data → Type 0) (first : List Data) (since : Moment Data Settings) (t : Traffic C Data) (turned : Turned) (at : ℕ → Option (Live C)) (len : ℕ) (old now : Moment Data Settings)
+      → TurnsTo kind may first since t turned at len old now → Sentence kind may first since now
+  sentence_turn kind begins may first since t turned at len old now q = sentence kind begins may first since q.traffic at len now q.relates
 
-  pub speaks_turn : {E : Type 0} (r : Result Turned E) (kind : Kind C Data Settings) → BeginsResponse kind → IsWhole kind → (may : Data → Type 0) (at at' : ℕ → Option (Live C)) (len rest : ℕ) (old now : Moment Data Settings)
-      → IfOk r (λ turned. turned.ended ≤ 256)
-      → IfOk r (λ turned. (first : List Data) (since : Moment Data Settings) (t : Traffic C Data) → Relates kind may first since t at len old → TurnsTo kind may first since t turned at' rest old now)
-      → IfOk r (λ turned. (first : List Data) (since : Moment Data Settings) (t : Traffic C Data) → Relates kind may first since t at len old → SpeaksWhole kind may first since now old.wire.faults turned.ended turned.starved)
-  speaks_turn (Ok turned) kind begins whole may at at' len rest old now few f = λ first since t r.
-      let q = f first since t r in
+  pub speaks_turn : (kind : Kind C Data Settings) → BeginsResponse kind → IsWhole kind → (may : Data → Type 0) (first : List Data) (since : Moment Data Settings) (t : Traffic C Data) (turned : Turned) (at : ℕ → Option (Live C)) (len : ℕ) (old now : Moment Data Settings)
+      → turned.ended ≤ 256 → TurnsTo kind may first since t turned at len old now → SpeaksWhole kind may first since now old.wire.faults turned.ended turned.starved
+  speaks_turn kind begins whole may first since t turned at len old now few q =
       let c = q.ends.count_is in
       let w = q.ends.wanted_is in
-      speaks_whole kind begins whole may first since t q.traffic at' rest now turned.ended turned.starved old.wire.faults turned.ended turned.starved q.relates q.ends (omega (arith, few)) (omega (arith, few, c, w))
-  speaks_turn (Err fault) kind begins whole may at at' len rest old now few f = tt
+      speaks_whole kind begins whole may first since t q.traffic at len now turned.ended turned.starved old.wire.faults turned.ended turned.starved q.relates q.ends (omega (arith, few)) (omega (arith, few, c, w))

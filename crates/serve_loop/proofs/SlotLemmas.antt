@@ -1,6 +1,6 @@
 -- A slab key by key.
-use Rattle.std.proofs.Common.{ℕ, ◌≡◌, ◌+◌, ◌<◌, ◌≤◌, ◌⊎◌, inl, inr, length, Option, Some, None, refl, sym, ◌∙◌, ap, arith, get_or}
-use Rattle.std.specs.Prelude.{cond, is_some, OnSome}
+use Rattle.std.proofs.Common.{ℕ, zero, suc, ◌≡◌, ◌+◌, ◌<◌, ◌≤◌, ◌⊎◌, inl, inr, List, [], ◌∷◌, length, Option, Some, None, refl, sym, ◌∙◌, ap, arith, get_or}
+use Rattle.std.specs.Prelude.{cond, count_by, is_some, OnSome}
 use Rattle.std.proofs.lemmas.List.Sums.{sum_by-set}
 use Rattle.std.proofs.lemmas.List.{get_or-set_same, get_or-set_other, get_or_past}
 use Rattle.slab.specs.Slab.{Slab, get, slab_len, with_value, Updates}
@@ -56,3 +56,12 @@ module _ {T : Type 0} where
       → slab_len u + 1 ≡ slab_len s
   fewer_by_one s u key x y None found e h = absurd (none_some y (e ∙ written s key x y found key ∙ here (get s) key (Some y) key refl))
   fewer_by_one s u key x y (Some z) found e h = h ∙ written_len s key x y found
+
+  none_of : (slots : List (Option T)) → ((key : ℕ) → get_or slots key None ≡ None) → count_by is_some slots ≡ 0
+  none_of [] none = refl
+  none_of (None ∷ slots) none = omega (arith, none_of slots (λ key. none (suc key)))
+  none_of (Some x ∷ slots) none = absurd (none_some x (sym (none zero)))
+
+  -- where no key has a value, there are none
+  pub none_held : (s : Slab T) → ((key : ℕ) → get s key ≡ None) → slab_len s ≡ 0
+  none_held s none = none_of s.slots none

@@ -6,7 +6,7 @@ use Rattle.std.specs.Io.KnownBytes.{append_known}
 use Rattle.tpf_base.specs.Causes.{Rose}
 use Rattle.tpf_base.specs.declared.wire.Moved.{Moved}
 use Rattle.tpf_base.specs.declared.wire.Moved.TheVariants as answers
-use Rattle.tpf_base.specs.Links.{Link, WireState, Tells, CountsAlone, SentAndReceived, All, told_by}
+use Rattle.tpf_base.specs.Links.{Link, WireState}
 use Rattle.tpf_base.specs.Calls.{Sends, Receives, Closes}
 use Rattle.link_calls.specs.Sending.{Holds}
 use Rattle.tpf_base.specs.Marks.{Mark, Served, version_at}
@@ -24,12 +24,6 @@ holds_as told x y e h = λ bytes b. h bytes b ∙ e
 
 pub holds_same : {T : Type 0} (told now : Option T) (x : T) → now ≡ told → Holds told x → Holds now x
 holds_same told now x e h = λ fact b. h fact (sym e ∙ b)
-
--- what a wire tells is the fact
-pub holds_told : (told : Option Bool) (tells : Tells) (fact : Bool) → told ≡ told_by tells fact → Holds told fact
-holds_told told CountsAlone fact e = λ x t. cc
-holds_told told SentAndReceived fact e = λ x t. cc
-holds_told told All fact e = λ x t. cc
 
 pub holds_append : (told now : Option (List ℕ)) (x y : List ℕ) → now ≡ append_known told y → Holds told x → Holds now (x ++ y)
 holds_append None now x y e h = λ bytes b. cc

@@ -1,6 +1,6 @@
 // What the loop keeps, and what it answers.
 
-/// A connection and the number of the link on which it lives.
+/// A connection and the number of the link (the TCP connection) on which it lives.
 #[derive(Drop)]
 pub struct Live<C> {
     /// The number of the link.
@@ -18,7 +18,7 @@ pub enum Stepped {
     Still,
     /// The connection ended, in order or with its link.
     Ended,
-    /// The connection ended for want of memory.
+    /// The connection ended out of memory.
     Starved,
 }
 
@@ -29,7 +29,7 @@ pub struct Turned {
     pub moved: bool,
     /// How many connections ended, each with its link closed.
     pub ended: u64,
-    /// How many of them ended for want of memory.
+    /// How many of them ended out of memory.
     pub starved: u64,
 }
 
@@ -38,15 +38,15 @@ pub struct Turned {
 pub struct Served {
     /// How many connections ended in its turns.
     pub connections: u64,
-    /// How many of them ended for want of memory.
+    /// How many of them ended out of memory.
     pub starved: u64,
 }
 
 /// Why a turn or a service gave up.
 #[derive(Clone, Copy, Debug, PartialEq, Eq)]
 pub enum ServeFault {
-    /// The door failed, or a wait did. The wire's count of faults rose.
+    /// An accept at the door (the listener) failed, or a wait did. The wire's count of faults rose.
     Wire,
-    /// Out of memory at the door, in a wait, or for the place of a new connection.
+    /// Out of memory in an accept, in a wait, or for the place of a new connection.
     OutOfMemory,
 }

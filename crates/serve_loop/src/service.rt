@@ -109,13 +109,14 @@ fn serve_on<R: Wait, C: Converses, S: Supply<C::Server>, W: Accept>(
     Ok(served)
 }
 
-/// Serves the links that come to the door of a wire that listens, until at least `stop_after`
-/// connections have ended, and for as long as it can where that is `None`. It takes turns, and waits
-/// only after a turn that moved and ended nothing. At each exit the links that are still live are
-/// closed. The counts of the answer stand still at their last value.
+/// Serves the links (the connections) that come to the door (the listener) of a wire, until at least
+/// `stop_after` of them have ended, and for as long as it can where that is `None`. It takes turns, and
+/// waits only after a turn that moved and ended nothing. At each exit the links that are still live
+/// are closed, and the door is as before. The counts of the answer stand still at their last value.
 ///
-/// `Wire` where the door or a wait failed. `OutOfMemory` where one of them wanted memory, or the place
-/// for a new connection did.
+/// `Wire` where an accept or a wait failed. `OutOfMemory` where memory ran out in one of them, or for
+/// the place of a new connection; where it ran out for one connection alone, that one ends and is
+/// counted.
 pub fn serve<R: Wait, C: Converses, S: Supply<C::Server>, W: Accept>(
     rt: &R,
     alloc: Global,

@@ -50,7 +50,7 @@ fn reload<V: Serves, S: Supply<V>>(server: &mut V, supply: &mut S) -> Reloaded
     }
 }
 
-/// Sends a front of what is pending.
+/// Sends a prefix of what is pending.
 fn send_pending<C: Converses, W: Wire>(live: &mut Live<C>, wire: &mut W) -> Moved
     requires is_open { ((W.state wire.old).links live.old.link).is_open ≡ true }
     requires some { 0 < length (C.kind.pending live.old.connection) }

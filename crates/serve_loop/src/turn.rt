@@ -188,58 +188,6 @@ fn step_all<C: Converses, S: Supply<C::Server>, W: Wire>(
     turned
 }
 
-/// Asks the door, and then steps each live connection.
-fn turn_over<C: Converses, S: Supply<C::Server>, W: Accept>(
-    alloc: Global,
-    live: &mut Slab<Live<C>>,
-    buffer: &mut [u8],
-    server: &mut C::Server,
-    supply: &mut S,
-    wire: &mut W,
-) -> Result<Turned, ServeFault>
-    requires room { 0 < length buffer.old }
-    requires most { length buffer.old ≤ 8192 }
-    requires listens { listens (W.state wire.old) ≡ true }
-    requires few { slab_len live.old ≤ 256 }
-    requires suits { SuitsWire C.Suits server.old (λ key. get live.old key) (W.state wire.old) }
-    ensures door { (W.state wire.new).door ≡ (W.state wire.old).door }
-    ensures few { slab_len live.new ≤ 256 }
-    ensures suits { SuitsWire C.Suits server.new (λ key. get live.new key) (W.state wire.new) }
-    ensures turns { IfOk result (λ turned. (first : List C.Server.Data) (since : Moment C.Server.Data C.Server.Settings) (t : Traffic C C.Server.Data) → Relates C.kind (S.may supply.old) first since t (get live.old) (slab_len live.old)
-        (record { served = C.Server.serving server.old; faults = S.faults supply.old; left = S.left supply.old; wire = W.state wire.old })
-        → TurnsTo C.kind (S.may supply.old) first since t turned (get live.new) (slab_len live.new)
-        (record { served = C.Server.serving server.old; faults = S.faults supply.old; left = S.left supply.old; wire = W.state wire.old })
-        (record { served = C.Server.serving server.new; faults = S.faults supply.new; left = S.left supply.new; wire = W.state wire.new })) }
-    ensures asks { IfOk result (λ turned. (same : WireState) → AnswersAll C.kind (S.may supply.old) (get live.old)
-        (record { served = C.Server.serving server.old; faults = S.faults supply.old; left = S.left supply.old; wire = same })
-        (record { served = C.Server.serving server.new; faults = S.faults supply.new; left = S.left supply.new; wire = same })) }
-    ensures unasked { OnErr result ((same : WireState) → AreAnswered (S.may supply.old) []
-        (record { served = C.Server.serving server.old; faults = S.faults supply.old; left = S.left supply.old; wire = same })
-        (record { served = C.Server.serving server.new; faults = S.faults supply.new; left = S.left supply.new; wire = same })) }
-    ensures busy { IfOk result (λ turned. IsBusy 256 turned (get live.old) (slab_len live.old) (W.state wire.old) (W.state wire.new)) }
-    ensures idle { IfOk result (λ turned. turned.moved ≡ true → (W.state wire.new).idle ≡ 0) }
-    ensures count { IfOk result (λ turned. slab_len live.new + turned.ended + (W.state wire.old).given ≡ slab_len live.old + (W.state wire.new).given) }
-    ensures most { IfOk result (λ turned. turned.ended ≤ 256) }
-    ensures later { (W.state wire.old).faults ≤ (W.state wire.new).faults }
-    ensures waits { (W.state wire.new).waits ≡ (W.state wire.old).waits }
-    ensures err { OnErr result ((first : List C.Server.Data) (since : Moment C.Server.Data C.Server.Settings) (t : Traffic C C.Server.Data) → Relates C.kind (S.may supply.old) first since t (get live.old) (slab_len live.old)
-        (record { served = C.Server.serving server.old; faults = S.faults supply.old; left = S.left supply.old; wire = W.state wire.old })
-        → Relates C.kind (S.may supply.old) first since t (get live.new) (slab_len live.new)
-        (record { served = C.Server.serving server.new; faults = S.faults supply.new; left = S.left supply.new; wire = W.state wire.new })) }
-    ensures stay { OnErr result ((key : ℕ) → get live.new key ≡ get live.old key) }
-    ensures wire { IfErr result (λ fault. fault ≡ ServeFault.Wire → Rose (W.state wire.old).faults (W.state wire.new).faults) }
-    ensures follows { C.Server.Follows server.old server.new }
-    ensures keeps { S.Keeps supply.old supply.new }
-    ensures same { (data_set : C.Server.Data) → S.may supply.new data_set ↔ S.may supply.old data_set }
-{
-    let accepted = welcome(alloc, live, server, wire)?;
-    let turned = step_all(live, buffer, server, supply, wire);
-    Ok(Turned {
-        moved: accepted || turned.moved,
-        ..turned
-    })
-}
-
 /// Closes the link of the connection of a key, if there is one, and forgets it.
 fn close_at<C: Drop, W: Wire>(live: &mut Slab<Live<C>>, key: usize, wire: &mut W)
     requires is_open { (l : Live C) → get live.old key ≡ Some l → ((W.state wire.old).links l.link).is_open ≡ true }
@@ -282,7 +230,8 @@ impl<C: Converses> Loop<C> {
         }
     }
 
-    /// A loop without connections begins with no traffic, from now on. It does nothing.
+    /// A loop without connections begins with no traffic, from now on. The call does nothing; it tells a
+    /// proof of it.
     pub fn begins<S: Supply<C::Server>, W: Wire>(&self, _server: &C::Server, _supply: &S, _wire: &W)
         requires { (key : ℕ) → held self.now key ≡ None }
         ensures { (first : List C.Server.Data) → IsHistory first (C.Server.serving _server.now)
@@ -299,13 +248,13 @@ impl<C: Converses> Loop<C> {
         self.live.len()
     }
 
-    /// Asks the door where fewer than 256 connections are live, and then steps each of them once: it
-    /// sends what is pending; where nothing is, it closes a connection that is to end, and receives at
-    /// most 8192 bytes of another. A connection that waits for a reload asks the supply once before.
-    /// A connection that wants memory, or whose link fails, ends alone.
+    /// Asks the door (the listener) for a link where fewer than 256 connections are live, and then steps
+    /// each connection once: it sends what is pending; where nothing is, it closes a connection that is
+    /// to end, and receives at most 8192 bytes of another. A connection that waits for a reload asks the
+    /// supply once before. A connection that runs out of memory, or whose link fails, ends alone.
     ///
-    /// `Wire` where the door failed. `OutOfMemory` where the door or the place for a new connection
-    /// wanted it: the live connections stay, and the next turn goes on with them.
+    /// `Wire` where the accept failed. `OutOfMemory` where memory ran out there, or for the place of a
+    /// new connection. In both cases the live connections stay, and the next turn goes on with them.
     pub fn turn<S: Supply<C::Server>, W: Accept>(
         &mut self,
         server: &mut C::Server,
@@ -354,14 +303,12 @@ impl<C: Converses> Loop<C> {
         ensures keeps { S.Keeps supply.old supply.new }
         ensures same { (data_set : C.Server.Data) → S.may supply.new data_set ↔ S.may supply.old data_set }
     {
-        turn_over(
-            self.alloc,
-            &mut self.live,
-            &mut self.buffer,
-            server,
-            supply,
-            wire,
-        )
+        let accepted = welcome(self.alloc, &mut self.live, server, wire)?;
+        let turned = step_all(&mut self.live, &mut self.buffer, server, supply, wire);
+        Ok(Turned {
+            moved: accepted || turned.moved,
+            ..turned
+        })
     }
 
     /// Closes the links of all live connections, and forgets them.
@@ -369,6 +316,7 @@ impl<C: Converses> Loop<C> {
         requires distinct { (i j : ℕ) (a b : Live C) → held self.old i ≡ Some a → held self.old j ≡ Some b → a.link ≡ b.link → i ≡ j }
         requires is_open { (key : ℕ) (l : Live C) → held self.old key ≡ Some l → ((W.state wire.old).links l.link).is_open ≡ true }
         ensures none { (key : ℕ) → held self.new key ≡ None }
+        ensures len { held_count self.new ≡ 0 }
         ensures leaves { LeavesAll (held self.old) (W.state wire.old) (W.state wire.new) }
         ensures door { (W.state wire.new).door ≡ (W.state wire.old).door }
     {

@@ -1,5 +1,5 @@
 -- Which status may come of a run, and when a run succeeds.
-use Rattle.std.proofs.Common.{ℕ, ◌≡◌, ◌⊎◌, ◌<◌, ◌≤◌, ◌^◌, inl, inr, List, length, Option, Some, None, Result, Ok, Err, IfErr, refl, sym, subst, arith}
+use Rattle.std.proofs.Common.{ℕ, ◌≡◌, ◌⊎◌, ◌<◌, ◌≤◌, ◌^◌, inl, inr, List, length, Option, Some, None, Result, Ok, Err, refl, sym, subst, arith}
 use Rattle.rdf_terms.specs.declared.term.Triple.{Triple}
 use Rattle.tpf_base.specs.Addresses.{Address, authority_of}
 use Rattle.tpf_base.specs.Causes.{Rose}
@@ -130,14 +130,6 @@ wanting_done (answers.Data fault) h = subst (λ (f : DataFault). IsDone (data_st
 wanting_done (answers.Query fault) h = subst (λ (f : QueryFileFault). IsDone (query_status f)) (sym h) (inr refl)
 wanting_done (answers.Client fault) h = subst (λ (f : ClientFault). IsDone (client_status f)) (sym h) (inr refl)
 
-answer_done : (answer : Result Report AnswerFault) → IfErr answer IsWanting → IsDone (answer_status answer)
-answer_done (Ok report) h = inl refl
-answer_done (Err fault) h = wanting_done fault h
-
-counted_done : (result : Result (Unit {0}) AnswerFault) → IfErr result IsWanting → IsDone (counted_status result)
-counted_done (Ok nothing) h = inl refl
-counted_done (Err fault) h = wanting_done fault h
-
 module _ (a : Around) where
   -- ---- a query in one process
 
@@ -178,7 +170,7 @@ module _ (a : Around) where
 
   made_succeeds : (count : ℕ) (result : Result (Unit {0}) Fault) → Writes a count result → ¬ (Rose a.out a.out') → IsDone (made_status result)
   made_succeeds count (Ok nothing) h fine = inl refl
-  made_succeeds count (Err sinks.Failed) h fine = absurd (fine h.3)
+  made_succeeds count (Err sinks.Failed) h fine = absurd (fine h.4)
   made_succeeds count (Err sinks.OutOfMemory) h fine = inr refl
 
   -- ---- commands

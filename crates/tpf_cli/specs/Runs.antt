@@ -61,9 +61,9 @@ options_of client = record { window = client.window; links = client.links; retri
 
 -- ---- commands
 
--- nothing was written, sent or made
+-- nothing was written, sent or made, and neither shelf nor output failed
 abbrev pub IsIdle : Around → Type 0
-IsIdle a = (a.taken' ≡ a.taken) × (a.wire' ≡ a.wire) × (a.inside' ≡ Unused)
+IsIdle a = (a.taken' ≡ a.taken) × (a.wire' ≡ a.wire) × (a.inside' ≡ Unused) × (a.shelf' ≡ a.shelf) × (a.out' ≡ a.out)
 
 -- Of a file that was asked in the process: requests were sent for addresses of the plan alone, and at an answer each was answered; so many were made, or the call ended for one of these causes; and where none of these is there, and shelf and output did not fail, memory is wanting or it succeeded.
 pub record KeepsFile (a : Around) (view : LocalView) (answer : Result Report AnswerFault) : Type 0 where
@@ -101,16 +101,17 @@ pub record ServesFile (a : Around) (name : List ℕ) (choice : Choice) (config :
   pub front : AppendsPrefix a.taken a.taken' (codes "ready\n")
   pub opened : OnOk result (a.wire'.door ≡ door_of config.base)
   pub door : (a.taken' ≡ a.taken) ⊎ (a.wire'.door ≡ door_of config.base)
+  pub after : (a.wire'.given ≡ a.wire.given) ⊎ Appends a.taken a.taken' (codes "ready\n")
   pub untouched : IfErr result (IsUntouched a.wire a.wire' a.taken a.taken')
   pub cause : IfErr result (ServiceCause a.told name choice (authority_of config.base) a.shelf a.shelf' a.wire.faults a.wire'.faults a.out a.out')
   pub exact : ¬ (Rose a.shelf a.shelf') → IfTold a.told (λ files. (outcome : Outcome) → IsOutcome files name choice (authority_of config.base) outcome → GivesServed outcome result)
   pub inside : a.inside' ≡ Unused
 
--- the data of so many persons were written, as canonical text
+-- the data of so many persons were written, as canonical text; the shelf did not fail
 abbrev pub Writes : Around → ℕ → Result (Unit {0}) Fault → Type 0
-Writes a count (Ok nothing) = Appends a.taken a.taken' (canon (generated count)) × (a.wire' ≡ a.wire) × (a.inside' ≡ Unused)
-Writes a count (Err sinks.Failed) = AppendsPrefix a.taken a.taken' (canon (generated count)) × (a.wire' ≡ a.wire) × (a.inside' ≡ Unused) × Rose a.out a.out'
-Writes a count (Err sinks.OutOfMemory) = AppendsPrefix a.taken a.taken' (canon (generated count)) × (a.wire' ≡ a.wire) × (a.inside' ≡ Unused)
+Writes a count (Ok nothing) = Appends a.taken a.taken' (canon (generated count)) × (a.wire' ≡ a.wire) × (a.inside' ≡ Unused) × (a.shelf' ≡ a.shelf)
+Writes a count (Err sinks.Failed) = AppendsPrefix a.taken a.taken' (canon (generated count)) × (a.wire' ≡ a.wire) × (a.inside' ≡ Unused) × (a.shelf' ≡ a.shelf) × Rose a.out a.out'
+Writes a count (Err sinks.OutOfMemory) = AppendsPrefix a.taken a.taken' (canon (generated count)) × (a.wire' ≡ a.wire) × (a.inside' ≡ Unused) × (a.shelf' ≡ a.shelf)
 
 -- a query was asked of the data of so many persons in the process, and the output took this of the line of its numbers
 pub record CountsGenerated (a : Around) (persons : ℕ) (name : List ℕ) (Takes : List ℕ → Type 0) : Type 0 where

@@ -1,17 +1,19 @@
 // The top call.
-ghost use Rattle.std.specs.Prelude.{◌≡◌, ◌≤◌, Some, map, string_bytes};
+ghost use Rattle.std.specs.Prelude.{◌≡◌, ◌≤◌, None, Some, map, string_bytes, option_map};
+ghost use Rattle.template_fill.specs.Configurations.{HasReloadPath};
+ghost use Rattle.command_words.specs.Commands as commands;
 ghost use Rattle.command_words.specs.Commands.{command_of};
 ghost use Rattle.command_words.specs.CommandViews.{command_view};
 ghost use Rattle.tpf_cli.specs.Endings.{EndOfRun, Says};
 ghost use Rattle.tpf_cli.specs.EndingViews.{ending_view};
-ghost use Rattle.tpf_cli.specs.Ranges.{IsInRange};
+ghost use Rattle.tpf_cli.specs.Ranges.{IsClient, IsInRange, IsTyped};
 ghost use Rattle.tpf_cli.specs.Runs.{Does, DoesOf, MustEndOf, IsWithoutWire};
 ghost use Rattle.tpf_cli.specs.Promises.{KeepsTableOf, TellsRequestsOf, SucceedsOf};
 
 use crate::commands::{ask_file, ask_generated, ask_server, options_of, serve_file};
 use crate::ending::Ending;
 use crate::say::say;
-use command_words::{Command, command_of};
+use command_words::{ClientWords, Command, command_of};
 use fragment_server::FragmentConnection;
 use generated_data::write_generated;
 use loop_wire::LoopWire;
@@ -19,7 +21,9 @@ use query_command::LocalQuery;
 use serve_command::Service;
 use std::alloc::Global;
 use std::sync::Wait;
-use tpf_base::{Accept, Dial, Shelf, Sink};
+use template_fill::WebAddress;
+use tpf_base::{Accept, Dial, Shelf, Sink, Text};
+use triple_table::Choice;
 
 /// The wire that a run made inside itself, where its contracts and tests can see it.
 #[derive(Drop)]
@@ -28,6 +32,135 @@ pub enum Inside {
     Unused,
     /// The wire between the client and the server of `local` or of `make --run`, as the run left it.
     Loop(LoopWire<FragmentConnection>),
+}
+
+/// Does `local`.
+fn obey_local<'a, R: Wait, F: Shelf, W: Dial, K: Sink>(
+    rt: &R,
+    alloc: Global,
+    name: &'a str,
+    query: &'a str,
+    choice: Choice,
+    page: u64,
+    client: ClientWords,
+    seed: u64,
+    fail_every: u64,
+    shelf: &mut F,
+    wire: &W,
+    out: &mut K,
+    inside: &mut Inside,
+) -> Ending<'a>
+    requires low { 1 ≤ page }
+    requires high { page ≤ 1000 }
+    requires client { IsClient client }
+    ensures does { Does (record { told = F.told shelf.old; shelf = F.faults shelf.old; shelf' = F.faults shelf.new; allows = W.allows wire.now; wire = W.state wire.now; wire' = W.state wire.now; out = K.faults out.old; out' = K.faults out.new; taken = K.taken out.old; taken' = K.taken out.new; inside' = inside.new }) (commands.local name.entry.now query.entry.now choice page client seed fail_every) (ending_view result) }
+    ensures told { F.told shelf.new ≡ F.told shelf.old }
+    ensures shelf_later { F.faults shelf.old ≤ F.faults shelf.new }
+    ensures out_later { K.faults out.old ≤ K.faults out.new }
+{
+    let asked = LocalQuery {
+        name,
+        query,
+        choice: &choice,
+        page_size: page,
+        options: options_of(client),
+        seed,
+        fail_every,
+    };
+    let answer = ask_file(rt, alloc, &asked, shelf, wire, out, inside);
+    Ending::Answered {
+        data: name,
+        query,
+        answer,
+    }
+}
+
+/// Does `query`.
+fn obey_query<'a, R: Wait, F: Shelf, W: Dial, K: Sink>(
+    rt: &R,
+    alloc: Global,
+    url: WebAddress,
+    query: &'a str,
+    client: ClientWords,
+    shelf: &mut F,
+    wire: &mut W,
+    out: &mut K,
+) -> Ending<'a>
+    requires typed { IsTyped url }
+    requires client { IsClient client }
+    ensures does { Does (record { told = F.told shelf.old; shelf = F.faults shelf.old; shelf' = F.faults shelf.new; allows = W.allows wire.old; wire = W.state wire.old; wire' = W.state wire.new; out = K.faults out.old; out' = K.faults out.new; taken = K.taken out.old; taken' = K.taken out.new; inside' = Inside.Unused }) (commands.query url query.entry.now client) (ending_view result) }
+    ensures told { F.told shelf.new ≡ F.told shelf.old }
+    ensures shelf_later { F.faults shelf.old ≤ F.faults shelf.new }
+    ensures out_later { K.faults out.old ≤ K.faults out.new }
+{
+    let answer = ask_server(rt, alloc, &url, query, client, shelf, wire, out);
+    Ending::Answered {
+        data: "",
+        query,
+        answer,
+    }
+}
+
+/// Does `serve`.
+fn obey_serve<'a, R: Wait, F: Shelf, W: Accept, K: Sink>(
+    rt: &R,
+    alloc: Global,
+    name: &'a str,
+    base: WebAddress,
+    choice: Choice,
+    page: u64,
+    stop_after: Option<u64>,
+    reload: Option<Text>,
+    shelf: &mut F,
+    wire: &mut W,
+    out: &mut K,
+) -> Ending<'a>
+    requires low { 1 ≤ page }
+    requires high { page ≤ 1000 }
+    requires no_query { base.query ≡ None }
+    requires reload { HasReloadPath base reload }
+    ensures does { Does (record { told = F.told shelf.old; shelf = F.faults shelf.old; shelf' = F.faults shelf.new; allows = W.allows wire.old; wire = W.state wire.old; wire' = W.state wire.new; out = K.faults out.old; out' = K.faults out.new; taken = K.taken out.old; taken' = K.taken out.new; inside' = Inside.Unused }) (commands.serve name.entry.now base choice page stop_after reload) (ending_view result) }
+    ensures told { F.told shelf.new ≡ F.told shelf.old }
+    ensures shelf_later { F.faults shelf.old ≤ F.faults shelf.new }
+    ensures out_later { K.faults out.old ≤ K.faults out.new }
+{
+    let service = Service {
+        name,
+        choice: &choice,
+        base,
+        page_size: page,
+        reload,
+        stop_after,
+    };
+    let served = serve_file(rt, alloc, service, shelf, wire, out);
+    Ending::Served { data: name, served }
+}
+
+/// Does `make`.
+fn obey_make<'a, R: Wait, F: Shelf, W: Dial, K: Sink>(
+    rt: &R,
+    alloc: Global,
+    count: u32,
+    run: Option<&'a str>,
+    shelf: &mut F,
+    wire: &W,
+    out: &mut K,
+    inside: &mut Inside,
+) -> Ending<'a>
+    requires most { count ≤ 1000000 }
+    requires unused { inside.old ≡ Inside.Unused }
+    ensures does { Does (record { told = F.told shelf.old; shelf = F.faults shelf.old; shelf' = F.faults shelf.new; allows = W.allows wire.now; wire = W.state wire.now; wire' = W.state wire.now; out = K.faults out.old; out' = K.faults out.new; taken = K.taken out.old; taken' = K.taken out.new; inside' = inside.new }) (commands.make count (option_map (λ r. r.now) run.entry)) (ending_view result) }
+    ensures told { F.told shelf.new ≡ F.told shelf.old }
+    ensures shelf_later { F.faults shelf.old ≤ F.faults shelf.new }
+    ensures out_later { K.faults out.old ≤ K.faults out.new }
+{
+    match run {
+        None => Ending::Made(write_generated(alloc, count, out)),
+        Some(query) => {
+            let counted = ask_generated(rt, alloc, count, query, shelf, wire, out, inside);
+            Ending::Counted { query, counted }
+        }
+    }
 }
 
 /// Does a command.
@@ -57,30 +190,12 @@ fn obey<'a, R: Wait, F: Shelf, W: Dial + Accept, K: Sink>(
             client,
             seed,
             fail_every,
-        } => {
-            let asked = LocalQuery {
-                name,
-                query,
-                choice: &choice,
-                page_size: page,
-                options: options_of(client),
-                seed,
-                fail_every,
-            };
-            let answer = ask_file(rt, alloc, &asked, shelf, &*wire, out, inside);
-            Ending::Answered {
-                data: name,
-                query,
-                answer,
-            }
-        }
+        } => obey_local(
+            rt, alloc, name, query, choice, page, client, seed, fail_every, shelf, &*wire, out,
+            inside,
+        ),
         Command::Query { url, query, client } => {
-            let answer = ask_server(rt, alloc, &url, query, client, shelf, wire, out);
-            Ending::Answered {
-                data: "",
-                query,
-                answer,
-            }
+            obey_query(rt, alloc, url, query, client, shelf, wire, out)
         }
         Command::Serve {
             name,
@@ -89,28 +204,16 @@ fn obey<'a, R: Wait, F: Shelf, W: Dial + Accept, K: Sink>(
             page,
             stop_after,
             reload,
-        } => {
-            let service = Service {
-                name,
-                choice: &choice,
-                base,
-                page_size: page,
-                reload,
-                stop_after,
-            };
-            let served = serve_file(rt, alloc, service, shelf, wire, out);
-            Ending::Served { data: name, served }
+        } => obey_serve(
+            rt, alloc, name, base, choice, page, stop_after, reload, shelf, wire, out,
+        ),
+        Command::Make { count, run } => {
+            obey_make(rt, alloc, count, run, shelf, &*wire, out, inside)
         }
-        Command::Make { count, run } => match run {
-            None => Ending::Made(write_generated(alloc, count, out)),
-            Some(query) => {
-                let counted = ask_generated(rt, alloc, count, query, shelf, &*wire, out, inside);
-                Ending::Counted { query, counted }
-            }
-        },
     }
 }
 
+/// Does the command that the words are, if they are one.
 fn ending_of<'a, R: Wait, F: Shelf, W: Dial + Accept, K: Sink>(
     rt: &R,
     alloc: Global,
@@ -134,7 +237,7 @@ fn ending_of<'a, R: Wait, F: Shelf, W: Dial + Accept, K: Sink>(
     }
 }
 
-/// Does the command that the words are, if they are one.
+/// The same, and how it had to end by what its files hold.
 fn end_of<'a, R: Wait, F: Shelf, W: Dial + Accept, K: Sink>(
     rt: &R,
     alloc: Global,
@@ -155,8 +258,8 @@ fn end_of<'a, R: Wait, F: Shelf, W: Dial + Accept, K: Sink>(
     ending_of(rt, alloc, words, shelf, wire, out, inside)
 }
 
-/// Does the command that the words are, and answers the exit status. `words` begins with the
-/// program's name.
+/// Does the command that the words (command-line arguments) are, and answers the exit status. `words`
+/// begins with the program's name.
 ///
 /// `tpf local FILE QUERYFILE` serves the data of a file to a client in the same process, over a wire
 /// that is left in `inside`, and writes the answer to the query of the other file to `out`, as SPARQL 1.1
@@ -164,7 +267,7 @@ fn end_of<'a, R: Wait, F: Shelf, W: Dial + Accept, K: Sink>(
 /// the line `requests R rows S` on `err`.
 ///
 /// `tpf serve FILE --base URL` serves the data of a file over `wire` at the host and the port of the base,
-/// writes `ready` and LF to `out` once the door is open, and ends with the line `served C`, after
+/// writes `ready` and LF to `out` once it listens there, and ends with the line `served C`, after
 /// `--stop-after` connections.
 ///
 /// `tpf make N` writes the generated data of N persons to `out`, as canonical N-Quads. `tpf make N --run
@@ -175,7 +278,7 @@ fn end_of<'a, R: Wait, F: Shelf, W: Dial + Accept, K: Sink>(
 /// At any status but 0 a line that says why goes to `err`; a failure of `err` is passed over. The
 /// statuses: 2 the words are no command; 3 the data are not served; 4 the query is not read; 5 a request
 /// failed; 6 a reply is refused; 7 the budget is spent; 8 memory ran out; 9 `out` failed; 10 a file could
-/// not be read from `shelf`; 11 the data changed; 12 the door or a wait failed.
+/// not be read from `shelf`; 11 the data changed; 12 the listener (door) or a wait failed.
 ///
 /// Of `local` and `make --run`, with nothing assumed of a wire: 5 comes only where so many dials fail
 /// (`--fail-every`), 6 only where a body of the plan is longer than `--max-body`, 7 only where the plan
@@ -186,7 +289,8 @@ fn end_of<'a, R: Wait, F: Shelf, W: Dial + Accept, K: Sink>(
 /// `query` over a wire whose other ends answer as a server does, where the plan fits, of `serve` where
 /// the wire does not fail, and of `make` (`complete`).
 ///
-/// `inside` is `Unused` before a run.
+/// `inside` is `Unused` before a run, and stays so but for `local` and `make --run`.
+/// At each exit every connection that was given in the run, over `wire` or inside, is closed.
 pub fn run<R: Wait, F: Shelf, W: Dial + Accept, K: Sink, E: Sink>(
     rt: &R,
     alloc: Global,

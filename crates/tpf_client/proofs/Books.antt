@@ -21,10 +21,6 @@ use Rattle.tpf_client.specs.Traffic.{Came, Waited, Broke, Puts, Moves, IsLawful,
 use Rattle.tpf_client.specs.Asking.{IsBook, IsBookOf, Notes, PutsOne}
 use Rattle.tpf_client.proofs.Distinct.{fresh-distinct, distinct-permuted, rest-distinct, others-differ, put-held}
 
--- an ask's address is in the book
-IsIn : BTreeMap ℕ Address → Ask → Type 0
-IsIn book ask = get nat_cmp book ask.ticket ≡ Some ask.address
-
 pub book-same : (old new : BTreeMap ℕ Address) (asks : List Ask) → ((t : ℕ) → get nat_cmp new t ≡ get nat_cmp old t) → IsBook old asks → IsBook new asks
 book-same old new asks same b = record {
   distinct = b.distinct;
@@ -147,12 +143,6 @@ module _ (allows : List ℕ → ℕ → List ℕ → List ℕ → Type 0) (pool 
 
   pub waits-book : (s : Stepped) (book : BTreeMap ℕ Address) → s ≡ stepped.Waited → HoldsOn s pool pool' → IsBook book (held pool) → IsBook book (held pool')
   waits-book s book e holds b = book-kept book pool pool' (subst (λ (x : Stepped). HoldsOn x pool pool') e holds) b
-
-  pub idle-book : (s : Stepped) (book : BTreeMap ℕ Address) → s ≡ stepped.Idle → HoldsOn s pool pool' → IsBook book (held pool) → IsBook book (held pool')
-  idle-book s book e holds b = let same : pool' ≡ pool = subst (λ (x : Stepped). HoldsOn x pool pool') e holds in subst (λ (x : Pooled). IsBook book (held x)) (sym same) b
-
-  pub idle-steps : (s : Stepped) → s ≡ stepped.Idle → StepsTo (Ok s) pool pool' wire wire' → (held pool ≡ []) × (pool' ≡ pool) × (wire' ≡ wire)
-  idle-steps s e steps = subst (λ (x : Stepped). StepsTo (Ok x) pool pool' wire wire') e steps
 
   -- a step that waits, and one that ends with a fault, has asks
   pub waits-some : (s : Stepped) → s ≡ stepped.Waited → (held pool ≡ [] → ◌≡◌ {A = Result Stepped PoolFault} (Ok s) (Ok stepped.Idle)) → held pool ≢ []

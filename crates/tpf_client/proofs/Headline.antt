@@ -37,9 +37,6 @@ module _ (history : List (List Triple)) (config : Config) where
   answer-last event events e h = (answers-behind e.before (event ∷ []) (subst (λ (l : List Event). AllByRecursion (IsAnswer history config) l) e.is_last h)).0
 
 module _ (laws : Laws) (allows : List ℕ → ℕ → List ℕ → List ℕ → Type 0) (history : List (List Triple)) (config : Config) (options : Options) (since now : WireState) (honest : IsHonestWire allows history config since) (lawful : IsLawful allows since) (limit : options.max_body < 2 ^ 64) (start : Address) where
-  pool-of : Pooled
-  pool-of = empty_pool options.links options.retries options.budget options.max_body
-
   begins-so : Keeps allows laws.puts laws.steps laws.faults (empty_pool options.links options.retries options.budget options.max_body) since
   begins-so = record {
     given = lawful.given;

@@ -34,6 +34,7 @@ pub mod Spending
 pub mod Completing
 pub mod Shutting
 pub mod Exits
+pub mod Clauses
 pub mod Written
 pub mod Starting
 pub mod Sinks

@@ -24,9 +24,6 @@ pub record Onward (a b : WireState) : Type 0 where
   pub given : a.given ≤ b.given
   pub nature : b.nature ≡ a.nature
 
-pub onward_none : (a : WireState) → Onward a a
-onward_none a = record { faults = omega arith; given = omega arith; nature = refl }
-
 pub onward_same : (a b : WireState) → b ≡ a → Onward a b
 onward_same a b e = let f = ap (λ (x : WireState). x.faults) e in let g = ap (λ (x : WireState). x.given) e in record { faults = omega arith; given = omega arith; nature = ap (λ (x : WireState). x.nature) e }
 

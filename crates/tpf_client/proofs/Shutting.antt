@@ -28,18 +28,6 @@ pub if-err : {A B : Type 0} (r : Result A B) (P Q : B → Type 0) → ((x : B) �
 if-err (Ok x) P Q f p = tt
 if-err (Err e) P Q f p = f e p
 
-pub on-ok : {A B : Type 0} (r : Result A B) (P Q : Type 0) → (P → Q) → OnOk r P → OnOk r Q
-on-ok (Ok x) P Q f p = f p
-on-ok (Err e) P Q f p = tt
-
-pub on-err : {A B : Type 0} (r : Result A B) (P Q : Type 0) → (P → Q) → OnErr r P → OnErr r Q
-on-err (Ok x) P Q f p = tt
-on-err (Err e) P Q f p = f p
-
-pub on-ok-both : {A B : Type 0} (r : Result A B) (P Q S : Type 0) → (P → Q → S) → OnOk r P → OnOk r Q → OnOk r S
-on-ok-both (Ok x) P Q S f p q = f p q
-on-ok-both (Err e) P Q S f p q = tt
-
 -- a fault is a fault, whichever it is
 pub on-err-of : {A B : Type 0} (r : Result A B) (P : B → Type 0) (Q : Type 0) → ((x : B) → P x → Q) → IfErr r P → OnErr r Q
 on-err-of (Ok x) P Q f p = tt

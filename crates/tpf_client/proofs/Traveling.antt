@@ -15,9 +15,6 @@ use Rattle.pool_laws.specs.Rising.{IsServed}
 use Rattle.tpf_client.specs.Traffic.{Event, Asked, Waited, Moves, Travels, IsLawful}
 use Rattle.tpf_client.specs.Asking.{PutsAll, AreWaits}
 
-Allows : Type 1
-Allows = List ℕ → ℕ → List ℕ → List ℕ → Type 0
-
 pub no-events : (allows : List ℕ → ℕ → List ℕ → List ℕ → Type 0) (p : Pooled) (w : WireState) → Travels allows [] p p w w
 no-events allows p w = (refl, refl)
 

@@ -31,9 +31,6 @@ module _ (given : PagesAreGiven) (answered : AnsweredGivePages) (only : NothingE
     pub told : page.version ≡ Some version
     pub form : IsServerForm config.base page.form
 
-  version-of : (address : Address) (body : List ℕ) → IsBodyOf history config address body → ℕ
-  version-of address body b = version_at b.mark
-
   pub reads : (address : Address) (body : List ℕ) (page : Page) (b : IsBodyOf history config address body) → Takes body address page → ReadsVersion page (version_at b.mark)
   reads address body page b t =
       let s : GivesSomePage history b.mark config address = (answered history b.mark config address).0 (ap (λ (n : ℕ). n == 200) b.status) in

@@ -256,21 +256,22 @@ fn traffic_rests_on_laws<W: Dial>(wire: &W)
 /// Asks the server of a start page for what a query needs, and writes the text of its result (Triple
 /// Pattern Fragments; SPARQL 1.1 Query Results JSON Format).
 ///
-/// The front of the text is written once the start page is read, then each row as it comes, and the
-/// end. At a fault the sink took a front of such a text: before the start page was read nothing, and
-/// then, where neither it nor memory failed, what stands in front of the rows and all rows that were
-/// given. At each exit every link of this call is closed; each was dialled for the host and port of
-/// the start, and no more requests were started than the budget allows.
+/// The head of the text is written once the start page is read, then each row as it comes, and the
+/// end. At a fault the sink took a prefix of such a text: before the start page was read nothing, and
+/// then, where neither it nor memory failed, the head and all rows that were given. At each exit every
+/// connection (link) of this call is closed; each was dialled for the host and port of the start, and
+/// no more requests were started than the budget allows. Connections that were there before are left as
+/// they are.
 ///
 /// Over a wire whose other ends answer as a server does, requests are sent for the start and the plan
 /// of the query alone, and no more of them than these and the failures of the wire. Where each answer
-/// is a page within the options, and the wire fails at most as often as a request may be asked again,
+/// is a page within the options, and the wire fails at most as often as a request may be sent again,
 /// the answer is `Ok`, `OutOfMemory`, or `Changed` where the data did change.
 ///
-/// `Exchange`, `Stalled` and `Cut` come where a request failed once more than it may be asked again,
+/// `Exchange`, `Stalled` and `Cut` come where a request failed once more than it may be sent again,
 /// `Reply` where a reply is refused, `Page` where a body is no page, `Changed` where a page tells
 /// another version of the data than the start page, `Budget` where more requests are wanted than the
-/// options allow, `Sink` where the sink failed, and `OutOfMemory` for want of memory.
+/// options allow, `Sink` where the sink failed, and `OutOfMemory` where memory ran out.
 pub fn query<R: Wait, W: Dial, K: Sink>(
     rt: &R,
     alloc: Global,
@@ -414,9 +415,9 @@ fn gather<R: Wait, W: Dial>(
     }
 }
 
-/// Asks the server of a start page for what a query needs, and gives the rows of its result in a
-/// list, each with all names of the query. At a fault no rows are given. The rest is as with `query`;
-/// `Sink` never comes.
+/// Asks the server of a start page for what a query needs, and gives the rows of its result (solution
+/// mappings) in a list, each with a place for every name of the query. At a fault no rows are given. The
+/// rest is as with `query`; `Sink` never comes.
 pub fn collect<R: Wait, W: Dial>(
     rt: &R,
     alloc: Global,

@@ -3,25 +3,27 @@
 /// What bounds a call.
 #[derive(Clone, Copy, Debug, PartialEq, Eq)]
 pub struct Options {
-    /// How many nodes of the join may work at once, at least 1.
+    /// How many nodes of the join may work at once, at least 1: so many rows are extended at a time.
     pub window: u32,
-    /// How many requests may be under way at once, and how many links are kept, from 1 to 256.
+    /// How many requests may be under way at once, and how many connections (links) are kept open, from 1
+    /// to 256.
     pub links: u32,
-    /// How often a request that failed is asked again.
+    /// How often a request that failed is sent again. 0: a request that fails ends the call.
     pub retries: u32,
-    /// How many requests may be started.
+    /// How many requests may be started, those that are sent again counted each time.
     pub budget: u64,
-    /// How many bytes the body of a reply may have.
+    /// How many bytes the body of a reply may have. A reply with more of them is refused.
     pub max_body: u64,
 }
 
 /// What a call tells at its end.
 #[derive(Clone, Copy, Debug, PartialEq, Eq)]
 pub struct Report {
-    /// How many requests were started, those that were asked again counted each time.
+    /// How many requests were started, those that were sent again counted each time.
     pub requests: u64,
     /// How many rows there are. It stands still at 2^64 - 1.
     pub rows: u64,
-    /// The version of the data that the start page tells, which each other page told as well.
+    /// The version of the data that the start page tells, which each other page told as well; `None` where
+    /// it tells none.
     pub version: Option<u64>,
 }

@@ -1,5 +1,16 @@
 //! The program as a process: the words, files, streams and sockets that the system gives it, handed to
 //! the top call.
+//!
+//! A program of its own where it is started without words, and else `tpf`:
+//!
+//! ```rust
+//! fn main(rt: HostRuntime) -> ExitCode {
+//!     match words_of(&rt) {
+//!         Ok(words) if words.len() < 2 => report(&rt),
+//!         _ => run_process(&rt),
+//!     }
+//! }
+//! ```
 #![tactic(auto)]
 
 use std::alloc::Global;
@@ -13,10 +24,10 @@ use std::{env, io};
 use tpf_cli::{Inside, run};
 use wire_real::{DiskShelf, NetWire, StreamSink, Streams};
 
-/// The words with which the process was started, its name the first.
+/// The words with which the process was started (its command-line arguments), its name the first.
 ///
-/// It fails with `OutOfMemory` where there is no memory for them, and with another kind where one of
-/// them is no text.
+/// It fails with `OutOfMemory` where memory ran out, and with another kind where one of them is no UTF-8
+/// text.
 pub fn words_of<R: Env + AllocGlobal>(rt: &R) -> io::Result<Vec<String>> {
     let words = env::args(rt)?;
     Ok(words.collect(rt.alloc())?)
@@ -25,8 +36,8 @@ pub fn words_of<R: Env + AllocGlobal>(rt: &R) -> io::Result<Vec<String>> {
 /// Runs the program with the words of the process over the files, the standard output and error, and
 /// the sockets of the system.
 ///
-/// The status is that of the top call; 8 where there is no memory for the words, and 2 where one of them
-/// is no text.
+/// The status is that of the top call; 8 where memory ran out over the words, and 2 where one of them is no
+/// UTF-8 text. In these two cases nothing is said.
 pub fn run_process<R: Env + Files + Streams + Net + Clock + Wait + AllocGlobal>(
     rt: &R,
 ) -> ExitCode {

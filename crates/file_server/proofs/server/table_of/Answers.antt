@@ -1,4 +1,4 @@
-use Rattle.std.proofs.Common.{◌≡◌, ◌∙◌, List, ℕ, IfOk, ap, subst}
+use Rattle.std.proofs.Common.{◌∙◌, List, ℕ, IfOk, ap, subst}
 use Rattle.tpf_base.specs.Addresses.{Address, authority_of}
 use Rattle.triple_table.specs.Stored.{triples_in}
 use Rattle.data_files.specs.Data.{IfTold, Serves}

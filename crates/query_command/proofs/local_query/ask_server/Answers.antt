@@ -10,13 +10,13 @@ use Rattle.query_command.proofs.local_query.ask_server.Goals as goal
 pub returns-clause-answers : goal.returns-clause-answers
 returns-clause-answers g c =
     loops_ok c.args.server c.args.seed c.args.fail_every c.new-wire.result c.query-answer.new.wire c.new-wire.ensures c.args.query.now c.args.start.now local_base c.requires.start c.args.options.now (g.K.Sink.faults c.args.out.now) (g.K.Sink.faults c.query-answer.new.out) (g.K.Sink.taken c.args.out.now) (g.K.Sink.taken c.query-answer.new.out) c.query-answer.result c.query-answer.ensures.whole c.query-answer.ensures.ok c.query-answer.ensures.headline
-    (record { sent = c.query-answer.ensures.sent; dials = c.query-answer.ensures.dials; asked = c.query-answer.ensures.asked; tries = c.query-answer.ensures.planned; counted = c.query-answer.ensures.counted; unprovoked = c.query-answer.ensures.unprovoked; requested = c.query-answer.ensures.requested })
+    (record { closed = c.query-answer.ensures.closed; peers = c.query-answer.ensures.peers; others = c.query-answer.ensures.others; sent = c.query-answer.ensures.sent; dials = c.query-answer.ensures.dials; given = c.query-answer.ensures.given; asked = c.query-answer.ensures.asked; tries = c.query-answer.ensures.planned; counted = c.query-answer.ensures.counted; unprovoked = c.query-answer.ensures.unprovoked; requested = c.query-answer.ensures.requested })
     c.query-answer.ensures.answered c.query-answer.ensures.requests c.query-answer.ensures.paced c.query-answer.ensures.replied
 
 pub returns-clause-cause : goal.returns-clause-cause
 returns-clause-cause g c =
     loops_err c.args.server c.args.seed c.args.fail_every c.new-wire.result c.query-answer.new.wire c.new-wire.ensures c.args.query.now c.args.start.now local_base c.requires.start c.args.options.now (g.K.Sink.faults c.args.out.now) (g.K.Sink.faults c.query-answer.new.out) (g.K.Sink.taken c.args.out.now) (g.K.Sink.taken c.query-answer.new.out) c.query-answer.result c.query-answer.ensures.front c.query-answer.ensures.err c.query-answer.ensures.shown c.query-answer.ensures.prefix c.query-answer.ensures.cause c.query-answer.ensures.sink
-    (record { sent = c.query-answer.ensures.sent; dials = c.query-answer.ensures.dials; asked = c.query-answer.ensures.asked; tries = c.query-answer.ensures.planned; counted = c.query-answer.ensures.counted; unprovoked = c.query-answer.ensures.unprovoked; requested = c.query-answer.ensures.requested })
+    (record { closed = c.query-answer.ensures.closed; peers = c.query-answer.ensures.peers; others = c.query-answer.ensures.others; sent = c.query-answer.ensures.sent; dials = c.query-answer.ensures.dials; given = c.query-answer.ensures.given; asked = c.query-answer.ensures.asked; tries = c.query-answer.ensures.planned; counted = c.query-answer.ensures.counted; unprovoked = c.query-answer.ensures.unprovoked; requested = c.query-answer.ensures.requested })
     c.query-answer.ensures.honest_cause c.query-answer.ensures.lively_cause c.query-answer.ensures.complete
     c.query-answer.ensures.failed_often c.query-answer.ensures.spent_requests c.query-answer.ensures.spent_tries c.query-answer.ensures.spent_plan
 
@@ -32,7 +32,7 @@ pub returns-clause-sent : goal.returns-clause-sent
 returns-clause-sent g c =
     sends_from c.args.server c.args.seed c.args.fail_every c.query-answer.new.wire c.args.query.now c.args.options.now
     (keeps c.args.server c.args.seed c.args.fail_every c.new-wire.result c.query-answer.new.wire c.new-wire.ensures c.args.query.now c.args.start.now local_base c.requires.start c.args.options.now (g.K.Sink.faults c.args.out.now) (g.K.Sink.faults c.query-answer.new.out) (g.K.Sink.taken c.args.out.now) (g.K.Sink.taken c.query-answer.new.out)
-    (record { sent = c.query-answer.ensures.sent; dials = c.query-answer.ensures.dials; asked = c.query-answer.ensures.asked; tries = c.query-answer.ensures.planned; counted = c.query-answer.ensures.counted; unprovoked = c.query-answer.ensures.unprovoked; requested = c.query-answer.ensures.requested }))
+    (record { closed = c.query-answer.ensures.closed; peers = c.query-answer.ensures.peers; others = c.query-answer.ensures.others; sent = c.query-answer.ensures.sent; dials = c.query-answer.ensures.dials; given = c.query-answer.ensures.given; asked = c.query-answer.ensures.asked; tries = c.query-answer.ensures.planned; counted = c.query-answer.ensures.counted; unprovoked = c.query-answer.ensures.unprovoked; requested = c.query-answer.ensures.requested }))
     (honest_wire c.args.server c.args.seed c.args.fail_every c.requires.first (valid_served c.args.server c.server.result.now c.server.ensures c.is_valid.ensures.data_set) (config_served c.args.server c.server.result.now c.server.ensures c.is_valid.ensures.config) c.is_few.ensures)
 
 pub returns-clause-ends : goal.returns-clause-ends

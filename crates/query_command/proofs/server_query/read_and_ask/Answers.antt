@@ -13,7 +13,7 @@ returns-in-Ok-query_server-clause-answers g c =
         whole = e.whole;
         writes = e.ok;
         headline = e.headline;
-        plan = record { sent = e.sent; dials = e.dials; asked = e.asked; tries = e.planned; counted = e.counted; unprovoked = e.unprovoked; requested = e.requested };
+        plan = record { closed = e.closed; peers = e.peers; others = e.others; sent = e.sent; dials = e.dials; given = e.given; asked = e.asked; tries = e.planned; counted = e.counted; unprovoked = e.unprovoked; requested = e.requested };
         answered = e.answered;
         tries = e.requests;
         paced = e.paced;
@@ -34,7 +34,7 @@ returns-clause-cause g c =
         headline = e.prefix;
         cause = e.cause;
         sink = λ is. e.sink (cc);
-        plan = record { sent = e.sent; dials = e.dials; asked = e.asked; tries = e.planned; counted = e.counted; unprovoked = e.unprovoked; requested = e.requested };
+        plan = record { closed = e.closed; peers = e.peers; others = e.others; sent = e.sent; dials = e.dials; given = e.given; asked = e.asked; tries = e.planned; counted = e.counted; unprovoked = e.unprovoked; requested = e.requested };
         honest_cause = e.honest_cause;
         lively_cause = e.lively_cause;
         complete = e.complete;

@@ -1,7 +1,8 @@
 -- What is said of the server is said of its file.
-use Rattle.std.proofs.Common.{inl, refl, sym, ap, subst}
+use Rattle.std.proofs.Common.{inl, refl, sym, ap, subst, is_some, ◌∙◌}
 use Rattle.template_fill.specs.Metadata.{Config}
 use Rattle.tpf_base.specs.Addresses.{authority_of}
+use Rattle.tpf_base.specs.Outside.{LeavesOpened}
 use Rattle.data_files.specs.Data.{IsOutcome}
 use Rattle.file_server.specs.Servers.{Starts, serving}
 use Rattle.serve_command.specs.Services.{door_of}
@@ -54,3 +55,8 @@ pub returns-clause-door : goal.returns-clause-door
 returns-clause-door g c =
     let starts = subst (λ (config : Config). Starts (g.F.Shelf.told c.args.shelf.now) c.args.service.name.now c.args.service.choice.now config (serving c.in-Ok.server)) c.config_of-config.ensures c.in-Ok.ensures.starts in
     door_told _ _ _ (ap (λ (config : Config). door_of config.base) starts.config_is) c.serve_server.ensures.door
+
+pub returns-clause-once : goal.returns-clause-once
+returns-clause-once g c = λ none.
+    subst (λ shelf. LeavesOpened (g.F.Shelf.given c.args.shelf.now) (g.F.Shelf.given shelf) (g.F.Shelf.rest c.args.shelf.now) (g.F.Shelf.rest shelf))
+    (sym (c.serve_server.ensures.unread (c.is_some-reloads.ensures ∙ ap (λ path. is_some path) none))) c.server_of_file.ensures.opened

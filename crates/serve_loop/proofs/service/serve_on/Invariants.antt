@@ -1,5 +1,5 @@
 -- The turns so far ended so many connections, which are not enough.
-use Rattle.std.proofs.Common.{◌≡◌, ◌-◌, ◌≤◌, true}
+use Rattle.std.proofs.Common.{◌≡◌, ◌-◌, ◌≤◌}
 use Rattle.std.specs.Prelude.{◌↔◌, IfSome}
 use Rattle.serve_loop.specs.Held.{held, held_count}
 use Rattle.serve_loop.specs.Relates.{Relates, SuitsWire}

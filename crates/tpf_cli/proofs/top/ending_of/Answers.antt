@@ -11,9 +11,9 @@ obey-requires-clause-range g c = ranges (map string_bytes c.args.words.now) (com
 pub returns-in-Err-clause-does : goal.returns-in-Err-clause-does
 returns-in-Err-clause-does g c =
     let a : Around = record { told = g.F.Shelf.told c.args.shelf.now; shelf = g.F.Shelf.faults c.args.shelf.now; shelf' = g.F.Shelf.faults c.args.shelf.now; allows = g.W.Wire.allows c.args.wire.now; wire = g.W.Wire.state c.args.wire.now; wire' = g.W.Wire.state c.args.wire.now; out = g.K.Sink.faults c.args.out.now; out' = g.K.Sink.faults c.args.out.now; taken = g.K.Sink.taken c.args.out.now; taken' = g.K.Sink.taken c.args.out.now; inside' = c.args.inside.now } in
-    no_words_of a _ (refl, refl, c.requires.unused)
+    no_words_of a _ (refl, refl, c.requires.unused, refl, refl)
 
 pub returns-in-Ok-None-clause-does : goal.returns-in-Ok-None-clause-does
 returns-in-Ok-None-clause-does g c =
     let a : Around = record { told = g.F.Shelf.told c.args.shelf.now; shelf = g.F.Shelf.faults c.args.shelf.now; shelf' = g.F.Shelf.faults c.args.shelf.now; allows = g.W.Wire.allows c.args.wire.now; wire = g.W.Wire.state c.args.wire.now; wire' = g.W.Wire.state c.args.wire.now; out = g.K.Sink.faults c.args.out.now; out' = g.K.Sink.faults c.args.out.now; taken = g.K.Sink.taken c.args.out.now; taken' = g.K.Sink.taken c.args.out.now; inside' = c.args.inside.now } in
-    usage_of a _ (words_are_none c.in-Ok-None.field-0 _ c.in-Ok-None.field-0-is c.in-Ok-None.ensures) (refl, refl, c.requires.unused)
+    usage_of a _ (words_are_none c.in-Ok-None.field-0 _ c.in-Ok-None.field-0-is c.in-Ok-None.ensures) (refl, refl, c.requires.unused, refl, refl)

@@ -1,24 +1,12 @@
 -- The pool begins with nothing, and its links are closed at last.
-use Rattle.std.proofs.Common.{ℕ, ◌≡◌, ◌<◌, ◌^◌, List, true, ap}
-use Rattle.std.specs.Prelude.{IfErr, IfOk}
-use Rattle.rdf_terms.specs.declared.term.Triple.{Triple}
-use Rattle.template_fill.specs.Metadata.{Config}
+use Rattle.std.proofs.Common.{List, ap}
 use Rattle.request_pool.specs.Pools.{Pooled, held}
 use Rattle.tpf_client.specs.Traffic.{Event}
 use Rattle.tpf_client.specs.Calls.{Ran, RunsPool}
-use Rattle.tpf_client.specs.Honest.{IsHonestWire}
-use Rattle.tpf_client.specs.Plans.{IsHonestCause, IsLivelyCause}
-use Rattle.tpf_client.proofs.Shutting.{if-ok, if-ok-from, if-err, if-err-from, returns-so, writes-some-so, ran-closed, suits-empty}
+use Rattle.tpf_client.proofs.Shutting.{if-ok, if-err, returns-so, writes-some-so, ran-closed, suits-empty}
 use Rattle.tpf_client.proofs.Headline.{solutions-given}
-use Rattle.tpf_client.proofs.Caused.{fault-caused}
-use Rattle.tpf_client.proofs.Failing.{fault-failed}
-use Rattle.tpf_client.proofs.Spending.{fault-requests, fault-tries, plan-spent}
-use Rattle.tpf_client.proofs.Planned.{RunOf, PlannedRun}
-use Rattle.tpf_client.proofs.HonestCauses.{honest-cause}
-use Rattle.tpf_client.proofs.LivelyCauses.{counts-so, paces-so, lively-cause}
-use Rattle.tpf_client.proofs.Requested.{requests-plan, answers-plan}
 use Rattle.tpf_client.proofs.Completing.{completes}
-use Rattle.tpf_client.proofs.Exits.{AnyExit, any-exit, rows-exit, dials-so, asks-plan, requests-so, unprovoked-so, called, called-some, at-run, at-whole, at-explained, at-planned}
+use Rattle.tpf_client.proofs.Clauses.{ExitClauses, exit-clauses}
 use Rattle.tpf_client.proofs.calls.collect.Given as given
 use Rattle.tpf_client.proofs.calls.collect.Goals as goal
 
@@ -41,34 +29,11 @@ closes : (g : given.Over) (c : goal.After-drop-asks-inside-7 g) (events : List E
     → RunsPool (g.W.Wire.allows c.args.wire.now) c.args.options.now (g.W.Wire.state c.args.wire.now) (g.W.Wire.state c.close.new.wire) events pool
 closes g c = ran-closed (g.W.Wire.allows c.args.wire.now) c.args.options.now c.new-asks.result c.gather-ended.new.asks (g.W.Wire.state c.args.wire.now) (g.W.Wire.state c.gather-ended.new.wire) (g.W.Wire.state c.close.new.wire) c.new-asks.ensures.empty c.close.ensures.closes
 
-run : (g : given.Over) (c : goal.After-drop-asks-inside-7 g) → RunOf (g.W.Wire.allows c.args.wire.now) c.args.options.now c.args.start.now (g.W.Wire.state c.args.wire.now) (g.W.Wire.state c.close.new.wire)
-run g c =
-    at-run (g.W.Wire.allows c.args.wire.now) c.args.options.now (g.W.Wire.state c.args.wire.now) (g.W.Wire.state c.gather-ended.new.wire) (g.W.Wire.state c.close.new.wire) c.args.start.now c.args.query.now c.new-asks.result c.gather-ended.new.asks c.new-asks.ensures.empty c.close.ensures.closes
-    c.gather-ended.result _ _ _ c.gather-ended.ensures.ok c.gather-ended.ensures.err (λ r w. (r.1, r.0.items, w))
-
-planned : (g : given.Over) (c : goal.After-drop-asks-inside-7 g) (history : List (List Triple)) (config : Config) → IsHonestWire (g.W.Wire.allows c.args.wire.now) history config (g.W.Wire.state c.args.wire.now)
-    → PlannedRun (g.W.Wire.allows c.args.wire.now) history config c.args.options.now (g.W.Wire.state c.args.wire.now) (g.W.Wire.state c.close.new.wire) c.args.start.now c.args.query.now
-planned g c history config honest =
-    at-planned (g.W.Wire.allows c.args.wire.now) c.args.options.now (g.W.Wire.state c.args.wire.now) (g.W.Wire.state c.gather-ended.new.wire) (g.W.Wire.state c.close.new.wire) c.args.start.now c.args.query.now c.new-asks.result c.gather-ended.new.asks c.new-asks.ensures.empty c.close.ensures.closes
-    c.solutions_rest_on_laws.ensures c.is_lawful.ensures history config honest c.new-asks.ensures.limit c.gather-ended.result _ _ _ c.gather-ended.ensures.ok c.gather-ended.ensures.err (λ r w. (r.1, r.0.items, w))
-
-any : (g : given.Over) (c : goal.After-drop-asks-inside-7 g) → AnyExit (g.W.Wire.allows c.args.wire.now) c.args.options.now c.args.start.now (g.W.Wire.state c.args.wire.now) (g.W.Wire.state c.close.new.wire)
-any g c = any-exit c.solutions_rest_on_laws.ensures c.traffic_rests_on_laws.ensures (g.W.Wire.allows c.args.wire.now) c.args.options.now (g.W.Wire.state c.args.wire.now) (g.W.Wire.state c.close.new.wire) c.is_lawful.ensures c.args.start.now (run g c)
-
-honestly : (g : given.Over) (c : goal.After-drop-asks-inside-7 g) (history : List (List Triple)) (config : Config) → IsHonestWire (g.W.Wire.allows c.args.wire.now) history config (g.W.Wire.state c.args.wire.now)
-    → IfErr c.gather-ended.result (IsHonestCause history config c.args.options.now c.args.query.now c.args.start.now)
-honestly g c history config honest = if-err-from c.gather-ended.result _ _ c.gather-ended.ensures.err (λ fault w.
-    honest-cause c.solutions_rest_on_laws.ensures c.traffic_rests_on_laws.ensures (g.W.Wire.allows c.args.wire.now) c.args.options.now (g.W.Wire.state c.args.wire.now) (g.W.Wire.state c.close.new.wire) c.is_lawful.ensures c.args.start.now history config honest c.new-asks.ensures.limit c.args.query.now fault
-    (at-explained (g.W.Wire.allows c.args.wire.now) c.args.options.now (g.W.Wire.state c.args.wire.now) (g.W.Wire.state c.gather-ended.new.wire) (g.W.Wire.state c.close.new.wire) c.args.start.now c.args.query.now c.new-asks.result c.gather-ended.new.asks c.new-asks.ensures.empty c.close.ensures.closes
-    c.solutions_rest_on_laws.ensures c.is_lawful.ensures history config honest c.new-asks.ensures.limit fault _ _ w))
-
-livelily : (g : given.Over) (c : goal.After-drop-asks-inside-7 g) (history : List (List Triple)) (config : Config) → IsHonestWire (g.W.Wire.allows c.args.wire.now) history config (g.W.Wire.state c.args.wire.now)
-    → (g.W.Wire.state c.args.wire.now).nature.lively ≡ true
-    → IfErr c.gather-ended.result (IsLivelyCause history config c.args.options.now c.args.query.now c.args.start.now (g.W.Wire.state c.args.wire.now) (g.W.Wire.state c.close.new.wire))
-livelily g c history config honest alive = if-err-from c.gather-ended.result _ _ c.gather-ended.ensures.err (λ fault w.
-    lively-cause c.solutions_rest_on_laws.ensures c.traffic_rests_on_laws.ensures (g.W.Wire.allows c.args.wire.now) c.args.options.now (g.W.Wire.state c.args.wire.now) (g.W.Wire.state c.close.new.wire) c.is_lawful.ensures c.args.start.now history config honest c.new-asks.ensures.limit c.args.query.now alive fault
-    (at-explained (g.W.Wire.allows c.args.wire.now) c.args.options.now (g.W.Wire.state c.args.wire.now) (g.W.Wire.state c.gather-ended.new.wire) (g.W.Wire.state c.close.new.wire) c.args.start.now c.args.query.now c.new-asks.result c.gather-ended.new.asks c.new-asks.ensures.empty c.close.ensures.closes
-    c.solutions_rest_on_laws.ensures c.is_lawful.ensures history config honest c.new-asks.ensures.limit fault _ _ w))
+-- the clauses that both calls have
+exit : (g : given.Over) (c : goal.After-drop-asks-inside-7 g) → ExitClauses (g.W.Wire.allows c.args.wire.now) c.args.options.now c.args.start.now c.args.query.now c.gather-ended.result (λ r. r.1) (g.W.Wire.state c.args.wire.now) (g.W.Wire.state c.close.new.wire)
+exit g c =
+    exit-clauses c.solutions_rest_on_laws.ensures c.traffic_rests_on_laws.ensures (g.W.Wire.allows c.args.wire.now) c.args.options.now (g.W.Wire.state c.args.wire.now) (g.W.Wire.state c.gather-ended.new.wire) (g.W.Wire.state c.close.new.wire) c.is_lawful.ensures c.new-asks.ensures.limit c.requires.some c.args.start.now c.args.query.now
+    c.new-asks.result c.gather-ended.new.asks c.new-asks.ensures.empty c.close.ensures.closes c.gather-ended.result (λ r. r.1) _ _ _ c.gather-ended.ensures.ok c.gather-ended.ensures.err (λ r w. (r.0.items, w))
 
 -- ---- the result
 
@@ -90,111 +55,85 @@ pub returns-clause-sink : goal.returns-clause-sink
 returns-clause-sink g c = c.gather-ended.ensures.sink
 
 pub returns-clause-cause : goal.returns-clause-cause
-returns-clause-cause g c =
-    if-err c.gather-ended.result _ _ (λ fault w.
-    fault-caused c.solutions_rest_on_laws.ensures c.traffic_rests_on_laws.ensures (g.W.Wire.allows c.args.wire.now) c.args.options.now (g.W.Wire.state c.args.wire.now) (g.W.Wire.state c.close.new.wire) c.is_lawful.ensures c.args.start.now c.args.query.now fault _ _
-    (writes-some-so _ _ (closes g c) c.args.query.now c.args.start.now c.args.options.now.budget fault _ _ w)) c.gather-ended.ensures.err
+returns-clause-cause g c = (exit g c).cause
 
 pub returns-clause-honest_cause : goal.returns-clause-honest_cause
-returns-clause-honest_cause g c = λ history config honest. honestly g c history config honest
+returns-clause-honest_cause g c = (exit g c).honest_cause
 
 pub returns-clause-lively_cause : goal.returns-clause-lively_cause
-returns-clause-lively_cause g c = λ history config honest alive. livelily g c history config honest alive
+returns-clause-lively_cause g c = (exit g c).lively_cause
 
 pub returns-clause-failed_often : goal.returns-clause-failed_often
-returns-clause-failed_often g c = λ alive.
-    if-err c.gather-ended.result _ _ (λ fault w.
-    fault-failed c.solutions_rest_on_laws.ensures c.traffic_rests_on_laws.ensures (g.W.Wire.allows c.args.wire.now) c.args.options.now (g.W.Wire.state c.args.wire.now) c.is_lawful.ensures c.args.start.now alive (g.W.Wire.state c.close.new.wire) c.args.query.now fault _ _
-    (writes-some-so _ _ (closes g c) c.args.query.now c.args.start.now c.args.options.now.budget fault _ _ w)) c.gather-ended.ensures.err
+returns-clause-failed_often g c = (exit g c).failed_often
 
 pub returns-clause-spent_requests : goal.returns-clause-spent_requests
-returns-clause-spent_requests g c =
-    if-err c.gather-ended.result _ _ (λ fault w.
-    fault-requests c.solutions_rest_on_laws.ensures c.traffic_rests_on_laws.ensures (g.W.Wire.allows c.args.wire.now) c.args.options.now (g.W.Wire.state c.args.wire.now) (g.W.Wire.state c.close.new.wire) c.is_lawful.ensures c.args.start.now c.args.query.now fault _ _
-    (writes-some-so _ _ (closes g c) c.args.query.now c.args.start.now c.args.options.now.budget fault _ _ w)) c.gather-ended.ensures.err
+returns-clause-spent_requests g c = (exit g c).spent_requests
 
 pub returns-clause-spent_tries : goal.returns-clause-spent_tries
-returns-clause-spent_tries g c =
-    if-err c.gather-ended.result _ _ (λ fault w.
-    fault-tries c.solutions_rest_on_laws.ensures c.traffic_rests_on_laws.ensures (g.W.Wire.allows c.args.wire.now) c.args.options.now (g.W.Wire.state c.args.wire.now) (g.W.Wire.state c.close.new.wire) c.is_lawful.ensures c.args.start.now c.args.query.now fault _ _
-    (writes-some-so _ _ (closes g c) c.args.query.now c.args.start.now c.args.options.now.budget fault _ _ w)) c.gather-ended.ensures.err
+returns-clause-spent_tries g c = (exit g c).spent_tries
 
 pub returns-clause-spent_plan : goal.returns-clause-spent_plan
-returns-clause-spent_plan g c = λ history config honest. if-err-from c.gather-ended.result _ _ c.gather-ended.ensures.err (λ fault w.
-    plan-spent c.solutions_rest_on_laws.ensures c.traffic_rests_on_laws.ensures (g.W.Wire.allows c.args.wire.now) c.args.options.now (g.W.Wire.state c.args.wire.now) (g.W.Wire.state c.close.new.wire) c.is_lawful.ensures c.args.start.now history config c.args.query.now fault
-    (at-explained (g.W.Wire.allows c.args.wire.now) c.args.options.now (g.W.Wire.state c.args.wire.now) (g.W.Wire.state c.gather-ended.new.wire) (g.W.Wire.state c.close.new.wire) c.args.start.now c.args.query.now c.new-asks.result c.gather-ended.new.asks c.new-asks.ensures.empty c.close.ensures.closes
-    c.solutions_rest_on_laws.ensures c.is_lawful.ensures history config honest c.new-asks.ensures.limit fault _ _ w))
+returns-clause-spent_plan g c = (exit g c).spent_plan
 
 pub returns-clause-complete : goal.returns-clause-complete
 returns-clause-complete g c = λ history config honest alive rise few fits.
-    completes history config c.args.options.now c.args.query.now c.args.start.now (g.W.Wire.state c.args.wire.now) (g.W.Wire.state c.close.new.wire) rise few fits c.gather-ended.result (honestly g c history config honest)
-    (livelily g c history config honest alive) c.gather-ended.ensures.sink
+    completes history config c.args.options.now c.args.query.now c.args.start.now (g.W.Wire.state c.args.wire.now) (g.W.Wire.state c.close.new.wire) rise few fits c.gather-ended.result ((exit g c).honest_cause history config honest)
+    ((exit g c).lively_cause history config honest alive) c.gather-ended.ensures.sink
 
 -- ---- links
 
 pub returns-clause-closed : goal.returns-clause-closed
-returns-clause-closed g c = (any g c).closed
+returns-clause-closed g c = (exit g c).links.closed
 
 pub returns-clause-peers : goal.returns-clause-peers
-returns-clause-peers g c = (any g c).peers
+returns-clause-peers g c = (exit g c).links.peers
 
 pub returns-clause-others : goal.returns-clause-others
-returns-clause-others g c = (any g c).others
+returns-clause-others g c = (exit g c).links.others
 
 pub returns-clause-dials : goal.returns-clause-dials
-returns-clause-dials g c = (any g c).dials
+returns-clause-dials g c = (exit g c).links.dials
 
 pub returns-clause-given : goal.returns-clause-given
-returns-clause-given g c = (any g c).given
+returns-clause-given g c = (exit g c).links.given
 
 pub returns-clause-sent : goal.returns-clause-sent
-returns-clause-sent g c = (any g c).sent
+returns-clause-sent g c = (exit g c).links.sent
 
 -- ---- requests
 
 pub returns-clause-answered : goal.returns-clause-answered
-returns-clause-answered g c = if-ok-from c.gather-ended.result _ _ c.gather-ended.ensures.ok (λ r w. (rows-exit c.solutions_rest_on_laws.ensures c.traffic_rests_on_laws.ensures (g.W.Wire.allows c.args.wire.now) c.args.options.now (g.W.Wire.state c.args.wire.now) (g.W.Wire.state c.close.new.wire) c.is_lawful.ensures c.args.start.now c.args.query.now r.1 r.0.items
-    (called (g.W.Wire.allows c.args.wire.now) c.args.options.now (g.W.Wire.state c.args.wire.now) (g.W.Wire.state c.gather-ended.new.wire) (g.W.Wire.state c.close.new.wire) c.args.start.now c.args.query.now c.new-asks.result c.gather-ended.new.asks c.new-asks.ensures.empty c.close.ensures.closes r.1 r.0.items w)).answers)
+returns-clause-answered g c = (exit g c).answered
 
 pub returns-clause-within : goal.returns-clause-within
-returns-clause-within g c = if-ok-from c.gather-ended.result _ _ c.gather-ended.ensures.ok (λ r w. (rows-exit c.solutions_rest_on_laws.ensures c.traffic_rests_on_laws.ensures (g.W.Wire.allows c.args.wire.now) c.args.options.now (g.W.Wire.state c.args.wire.now) (g.W.Wire.state c.close.new.wire) c.is_lawful.ensures c.args.start.now c.args.query.now r.1 r.0.items
-    (called (g.W.Wire.allows c.args.wire.now) c.args.options.now (g.W.Wire.state c.args.wire.now) (g.W.Wire.state c.gather-ended.new.wire) (g.W.Wire.state c.close.new.wire) c.args.start.now c.args.query.now c.new-asks.result c.gather-ended.new.asks c.new-asks.ensures.empty c.close.ensures.closes r.1 r.0.items w)).within)
+returns-clause-within g c = (exit g c).within
 
 pub returns-clause-dialled : goal.returns-clause-dialled
-returns-clause-dialled g c = if-ok-from c.gather-ended.result _ _ c.gather-ended.ensures.ok (λ r w. (rows-exit c.solutions_rest_on_laws.ensures c.traffic_rests_on_laws.ensures (g.W.Wire.allows c.args.wire.now) c.args.options.now (g.W.Wire.state c.args.wire.now) (g.W.Wire.state c.close.new.wire) c.is_lawful.ensures c.args.start.now c.args.query.now r.1 r.0.items
-    (called (g.W.Wire.allows c.args.wire.now) c.args.options.now (g.W.Wire.state c.args.wire.now) (g.W.Wire.state c.gather-ended.new.wire) (g.W.Wire.state c.close.new.wire) c.args.start.now c.args.query.now c.new-asks.result c.gather-ended.new.asks c.new-asks.ensures.empty c.close.ensures.closes r.1 r.0.items w)).dials)
+returns-clause-dialled g c = (exit g c).dialled
 
 pub returns-clause-linked : goal.returns-clause-linked
-returns-clause-linked g c = if-ok-from c.gather-ended.result _ _ c.gather-ended.ensures.ok (λ r w. (rows-exit c.solutions_rest_on_laws.ensures c.traffic_rests_on_laws.ensures (g.W.Wire.allows c.args.wire.now) c.args.options.now (g.W.Wire.state c.args.wire.now) (g.W.Wire.state c.close.new.wire) c.is_lawful.ensures c.args.start.now c.args.query.now r.1 r.0.items
-    (called (g.W.Wire.allows c.args.wire.now) c.args.options.now (g.W.Wire.state c.args.wire.now) (g.W.Wire.state c.gather-ended.new.wire) (g.W.Wire.state c.close.new.wire) c.args.start.now c.args.query.now c.new-asks.result c.gather-ended.new.asks c.new-asks.ensures.empty c.close.ensures.closes r.1 r.0.items w)).given)
+returns-clause-linked g c = (exit g c).linked
 
 pub returns-clause-requests : goal.returns-clause-requests
-returns-clause-requests g c = λ history config honest. if-ok-from c.gather-ended.result _ _ c.gather-ended.ensures.ok (λ r w. requests-so c.solutions_rest_on_laws.ensures c.traffic_rests_on_laws.ensures (g.W.Wire.allows c.args.wire.now) c.args.options.now (g.W.Wire.state c.args.wire.now) (g.W.Wire.state c.close.new.wire) c.is_lawful.ensures c.args.start.now history config honest c.new-asks.ensures.limit c.args.query.now r.1
-    (at-whole (g.W.Wire.allows c.args.wire.now) c.args.options.now (g.W.Wire.state c.args.wire.now) (g.W.Wire.state c.gather-ended.new.wire) (g.W.Wire.state c.close.new.wire) c.args.start.now c.args.query.now c.new-asks.result c.gather-ended.new.asks c.new-asks.ensures.empty c.close.ensures.closes
-    c.solutions_rest_on_laws.ensures c.is_lawful.ensures history config honest c.new-asks.ensures.limit r.1 r.0.items w))
+returns-clause-requests g c = (exit g c).requests
 
 pub returns-clause-planned : goal.returns-clause-planned
-returns-clause-planned g c = λ history config honest. dials-so c.solutions_rest_on_laws.ensures c.traffic_rests_on_laws.ensures (g.W.Wire.allows c.args.wire.now) c.args.options.now (g.W.Wire.state c.args.wire.now) (g.W.Wire.state c.close.new.wire) c.is_lawful.ensures c.args.start.now history config honest c.new-asks.ensures.limit c.args.query.now (planned g c history config honest)
+returns-clause-planned g c = (exit g c).planned
 
 pub returns-clause-asked : goal.returns-clause-asked
-returns-clause-asked g c = λ history config honest. asks-plan c.solutions_rest_on_laws.ensures c.traffic_rests_on_laws.ensures (g.W.Wire.allows c.args.wire.now) c.args.options.now (g.W.Wire.state c.args.wire.now) (g.W.Wire.state c.close.new.wire) c.is_lawful.ensures c.args.start.now history config honest c.new-asks.ensures.limit c.args.query.now (planned g c history config honest)
+returns-clause-asked g c = (exit g c).asked
 
 pub returns-clause-counted : goal.returns-clause-counted
-returns-clause-counted g c = λ history config honest alive. counts-so c.solutions_rest_on_laws.ensures c.traffic_rests_on_laws.ensures (g.W.Wire.allows c.args.wire.now) c.args.options.now (g.W.Wire.state c.args.wire.now) (g.W.Wire.state c.close.new.wire) c.is_lawful.ensures c.args.start.now history config honest c.new-asks.ensures.limit c.args.query.now alive (planned g c history config honest)
+returns-clause-counted g c = (exit g c).counted
 
 pub returns-clause-paced : goal.returns-clause-paced
-returns-clause-paced g c = λ history config honest alive. if-ok-from c.gather-ended.result _ _ c.gather-ended.ensures.ok (λ r w.
-    let x = at-whole (g.W.Wire.allows c.args.wire.now) c.args.options.now (g.W.Wire.state c.args.wire.now) (g.W.Wire.state c.gather-ended.new.wire) (g.W.Wire.state c.close.new.wire) c.args.start.now c.args.query.now c.new-asks.result c.gather-ended.new.asks c.new-asks.ensures.empty c.close.ensures.closes
-    c.solutions_rest_on_laws.ensures c.is_lawful.ensures history config honest c.new-asks.ensures.limit r.1 r.0.items w in
-    paces-so c.solutions_rest_on_laws.ensures c.traffic_rests_on_laws.ensures (g.W.Wire.allows c.args.wire.now) c.args.options.now (g.W.Wire.state c.args.wire.now) (g.W.Wire.state c.close.new.wire) c.is_lawful.ensures c.args.start.now history config honest c.new-asks.ensures.limit c.args.query.now alive r.1 x)
+returns-clause-paced g c = (exit g c).paced
 
 pub returns-clause-unprovoked : goal.returns-clause-unprovoked
-returns-clause-unprovoked g c = λ history config honest. unprovoked-so c.solutions_rest_on_laws.ensures c.traffic_rests_on_laws.ensures (g.W.Wire.allows c.args.wire.now) c.args.options.now (g.W.Wire.state c.args.wire.now) (g.W.Wire.state c.close.new.wire) c.is_lawful.ensures c.args.start.now history config honest c.new-asks.ensures.limit c.args.query.now c.requires.some (planned g c history config honest)
+returns-clause-unprovoked g c = (exit g c).unprovoked
 
 pub returns-clause-requested : goal.returns-clause-requested
-returns-clause-requested g c = λ history config honest. requests-plan c.solutions_rest_on_laws.ensures c.traffic_rests_on_laws.ensures (g.W.Wire.allows c.args.wire.now) c.args.options.now (g.W.Wire.state c.args.wire.now) (g.W.Wire.state c.close.new.wire) c.is_lawful.ensures c.args.start.now history config honest c.new-asks.ensures.limit c.args.query.now (planned g c history config honest)
+returns-clause-requested g c = (exit g c).requested
 
 pub returns-clause-replied : goal.returns-clause-replied
-returns-clause-replied g c = λ history config honest. if-ok-from c.gather-ended.result _ _ c.gather-ended.ensures.ok (λ r w. answers-plan c.solutions_rest_on_laws.ensures c.traffic_rests_on_laws.ensures (g.W.Wire.allows c.args.wire.now) c.args.options.now (g.W.Wire.state c.args.wire.now) (g.W.Wire.state c.close.new.wire) c.is_lawful.ensures c.args.start.now history config honest c.new-asks.ensures.limit c.args.query.now r.1
-    (at-whole (g.W.Wire.allows c.args.wire.now) c.args.options.now (g.W.Wire.state c.args.wire.now) (g.W.Wire.state c.gather-ended.new.wire) (g.W.Wire.state c.close.new.wire) c.args.start.now c.args.query.now c.new-asks.result c.gather-ended.new.asks c.new-asks.ensures.empty c.close.ensures.closes
-    c.solutions_rest_on_laws.ensures c.is_lawful.ensures history config honest c.new-asks.ensures.limit r.1 r.0.items w))
+returns-clause-replied g c = (exit g c).replied

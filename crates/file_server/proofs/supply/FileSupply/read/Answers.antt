@@ -1,4 +1,4 @@
-use Rattle.std.proofs.Common.{◌≡◌, List, ℕ, IfOk, subst}
+use Rattle.std.proofs.Common.{List, ℕ, IfOk, subst}
 use Rattle.triple_table.specs.Stored.{triples_in}
 use Rattle.file_server.specs.Supplies.{IsOfFile}
 use Rattle.file_server.proofs.supply.FileSupply.read.Goals as goal

@@ -1,5 +1,6 @@
 use Rattle.std.proofs.Common.{◌≤◌, ◌∙◌, sym, ap, subst, arith}
 use Rattle.tpf_base.specs.Addresses.{authority_of}
+use Rattle.tpf_base.specs.Outside.{LeavesOpened}
 use Rattle.file_server.specs.Supplies.{FailedReading}
 use Rattle.file_server.proofs.Refused.{refused, failed_by, err_same, same_file}
 use Rattle.file_server.proofs.supply.FileSupplySupplyFragmentServer.next.Goals as goal
@@ -10,6 +11,11 @@ returns-in-Err-clause-failed g c = λ e.
     subst (λ shelf. FailedReading (g.F.Shelf.told old.shelf.now) old.name.now old.choice.now (authority_of old.base.now) (g.F.Shelf.faults old.shelf.now) (g.F.Shelf.faults shelf))
     (sym c.refuse.ensures.shelf)
     (refused _ _ _ _ _ _ c.in-Err.fault c.in-Err.ensures.err (sym c.supply_fault-fault.ensures ∙ sym c.refuse.ensures.fault ∙ err_same _ _ e))
+
+pub returns-in-Err-clause-opened : goal.returns-in-Err-clause-opened
+returns-in-Err-clause-opened g c =
+    let old = c.args.self.now in
+    subst (λ shelf. LeavesOpened (g.F.Shelf.given old.shelf.now) (g.F.Shelf.given shelf) (g.F.Shelf.rest old.shelf.now) (g.F.Shelf.rest shelf)) (sym c.refuse.ensures.shelf) c.read.ensures.opened
 
 pub returns-in-Ok-clause-same : goal.returns-in-Ok-clause-same
 returns-in-Ok-clause-same g c = same_file _ _ _ _ _ _ _ _ c.read.ensures.told c.read.ensures.name c.read.ensures.choice c.read.ensures.base
