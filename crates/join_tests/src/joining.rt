@@ -1,301 +1,145 @@
-// Joins over the pages that a server in memory gives.
-ghost use Rattle.std.specs.Prelude.{◌≡◌, ◌<◌, ◌+◌, ◌*◌, ◌≤◌, ◌^◌, ◌-◌, All, IfOk, OnOk};
-ghost use Rattle.rdf_terms.specs.Triples.{IsRdfQuad};
-ghost use Rattle.tpf_base.specs.Addresses.{IsAuthority};
+// Joins that were worked out by hand.
+ghost use Rattle.std.specs.Prelude.{◌≤◌};
 
-use bgp_core::Query;
-use control_reader::{Page, read_page};
-use http_wire::{ReplyFeed, write_request};
-use hydra_controls::Config;
-use join_core::{Answered, Ask, Join};
-use nquads_text::read_all;
-use pattern_parser::parse;
-use rdf_terms::Quad;
+use crate::pages::page_at;
+use crate::run::{NEWEST, OLDEST, ask_all, finished, sorted, started};
+use join_core::Answered;
 use std::alloc::Global;
 use std::test::Fail;
-use template_fill::WebAddress;
-use tpf_base::{Bytes, OutOfMemory};
-use tpf_server::{Connection, Server};
-use triple_table::{Choice, Table};
-
-const BASE: &str = "http://localhost/data";
-
-fn host() -> &'static str
-    ensures { IsAuthority result.now }
-{
-    "localhost"
-}
-
-fn quads_of(alloc: Global, text: &str) -> Result<Vec<Quad>, Fail>
-    ensures { IfOk result (λ v. All IsRdfQuad v.items) }
-{
-    match read_all(alloc, text.as_bytes(), 1000) {
-        Ok(quads) => Ok(quads),
-        Err(_) => Err(Fail::new("no data")),
-    }
-}
-
-fn server_of(alloc: Global, text: &str, page_size: u64) -> Result<Server, Fail> {
-    let quads = quads_of(alloc, text)?;
-    let table = Table::build(alloc, quads.as_slice(), &Choice::Union, host(), 100000)?;
-    let base = WebAddress::read(alloc, BASE)?;
-    match Config::new(base, page_size) {
-        Some(config) => Ok(Server::new(alloc, table, config)?),
-        None => Err(Fail::new("no configuration")),
-    }
-}
-
-/// All bytes that are pending, taken a piece at a time.
-fn drained(
-    connection: &mut Connection,
-    server: &Server,
-    out: &mut Vec<u8>,
-) -> Result<(), OutOfMemory> {
-    for _ in 0..20 {
-        connection.fill(server)?;
-        let n = connection.pending().len();
-        out.extend_from_slice(connection.pending())?;
-        connection.take(n);
-    }
-    Ok(())
-}
-
-/// The body that the server gives for an address.
-fn body_at(alloc: Global, server: &Server, address: &WebAddress) -> Result<Bytes, Fail> {
-    let mut request = Vec::new(alloc);
-    write_request(address.authority(), address.target(), &mut request)?;
-    let mut connection = Connection::new(alloc);
-    connection.feed(server, request.as_slice())?;
-    let mut response = Vec::new(alloc);
-    drained(&mut connection, server, &mut response)?;
-    let mut feed = ReplyFeed::new(alloc, 1000000);
-    let _fed = feed.feed(response.as_slice())?;
-    match feed.take() {
-        Some(reply) => Ok(reply.body),
-        None => Err(Fail::new("no reply")),
-    }
-}
-
-fn page_at(alloc: Global, server: &Server, address: &WebAddress) -> Result<Page, Fail> {
-    let body = body_at(alloc, server, address)?;
-    match read_page(alloc, body.as_slice(), address) {
-        Ok(page) => Ok(page),
-        Err(_) => Err(Fail::new("no page")),
-    }
-}
-
-fn query_of(alloc: Global, text: &str) -> Result<Query, Fail> {
-    match parse(alloc, text.as_bytes()) {
-        Ok(query) => Ok(query),
-        Err(_) => Err(Fail::new("no query")),
-    }
-}
-
-/// A join on its way: the server, the tickets that are out, and what was seen so far.
-#[derive(Drop)]
-struct Run {
-    server: Server,
-    join: Join,
-    held: Vec<Ask>,
-    asked: Vec<String>,
-    rows: u32,
-    most_open: usize,
-}
-
-/// Asks for the next page, if there is one now.
-fn ask_next(alloc: Global, run: &mut Run) -> Result<bool, Fail>
-    requires { run.old.join.tickets < 2 ^ 64 - 1 }
-    ensures { OnOk result (run.new.join.tickets ≤ run.old.join.tickets + 1) }
-{
-    let Some(ask) = run.join.next_ask(alloc)? else {
-        return Ok(false);
-    };
-    run.asked
-        .push(String::from_str(alloc, ask.address.text())?)?;
-    run.held.push(ask)?;
-    Ok(true)
-}
-
-/// Asks all that it can; more than so many pages at once are a fault.
-fn ask_all(alloc: Global, run: &mut Run, most: u32) -> Result<(), Fail>
-    requires { run.old.join.tickets + most < 2 ^ 64 - 1 }
-    ensures { OnOk result (run.new.join.tickets ≤ run.old.join.tickets + most) }
-{
-    if most == 0 {
-        return Err(Fail::new("too many asks at once"));
-    }
-    if !ask_next(alloc, run)? {
-        return Ok(());
-    }
-    ask_all(alloc, run, most - 1)
-}
-
-/// Answers one ask with its page, twice: the second time its ticket is a stranger's.
-fn answer(alloc: Global, run: &mut Run, ask: Ask) -> Result<(), Fail>
-    ensures { run.new.join.tickets ≡ run.old.join.tickets }
-{
-    let page = page_at(alloc, &run.server, &ask.address)?;
-    let again = page_at(alloc, &run.server, &ask.address)?;
-    if run.join.answer(alloc, ask.ticket, page)? != Answered::Taken {
-        return Err(Fail::new("not taken"));
-    }
-    let open = run.join.open_rows();
-    if run.join.answer(alloc, ask.ticket, again)? != Answered::Stranger {
-        return Err(Fail::new("taken twice"));
-    }
-    if run.join.open_rows() != open {
-        return Err(Fail::new("a stranger changed something"));
-    }
-    Ok(())
-}
-
-/// Takes the rows that wait, at most so many, and counts them.
-fn take_rows(run: &mut Run, most: u32) -> u32
-    ensures tickets { run.new.join.tickets ≡ run.old.join.tickets }
-    ensures most { result ≤ most }
-{
-    if most == 0 || run.join.take_row().is_none() {
-        return 0;
-    }
-    1 + take_rows(run, most - 1)
-}
-
-fn oldest(held: &mut Vec<Ask>) -> Option<Ask> {
-    if held.is_empty() {
-        None
-    } else {
-        Some(held.remove(0))
-    }
-}
-
-/// One turn: it asks all that it can, answers the oldest ask or the newest, and takes the rows.
-fn turn(alloc: Global, run: &mut Run, newest: bool) -> Result<(), Fail>
-    requires { run.old.join.tickets + 100 < 2 ^ 64 - 1 }
-    ensures { OnOk result (run.new.join.tickets ≤ run.old.join.tickets + 100) }
-{
-    ask_all(alloc, run, 100)?;
-    run.most_open = run.most_open.max(run.join.open_rows());
-    let next = if newest {
-        run.held.pop()
-    } else {
-        oldest(&mut run.held)
-    };
-    if let Some(ask) = next {
-        answer(alloc, run, ask)?;
-    }
-    let count = take_rows(run, 1000);
-    run.rows = run.rows.saturating_add(count);
-    Ok(())
-}
-
-/// A join of a query over a server of some data.
-fn started(alloc: Global, data: &str, page_size: u64, query: &str, window: u32) -> Result<Run, Fail>
-    requires { 1 ≤ window }
-    ensures { IfOk result (λ run. run.join.tickets ≡ 0) }
-{
-    let server = server_of(alloc, data, page_size)?;
-    let base = WebAddress::read(alloc, BASE)?;
-    let page = page_at(alloc, &server, &base)?;
-    let query = query_of(alloc, query)?;
-    let join = Join::new(alloc, &query, page.form, window)?;
-    Ok(Run {
-        server,
-        join,
-        held: Vec::new(alloc),
-        asked: Vec::new(alloc),
-        rows: 0,
-        most_open: 0,
-    })
-}
-
-/// Goes on until the join is done, at most so many turns.
-fn go_on(alloc: Global, run: &mut Run, newest: bool, turns: u32) -> Result<(), Fail>
-    requires { run.old.join.tickets + 100 * turns < 2 ^ 64 - 1 }
-{
-    if turns == 0 {
-        return Err(Fail::new("it is not done"));
-    }
-    turn(alloc, run, newest)?;
-    if run.join.is_done() {
-        return Ok(());
-    }
-    go_on(alloc, run, newest, turns - 1)
-}
-
-fn finish(alloc: Global, run: &mut Run, newest: bool) -> Result<(), Fail>
-    requires { run.old.join.tickets ≡ 0 }
-{
-    go_on(alloc, run, newest, 300)
-}
-
-/// How many pages a query asks for and how many rows it gives, where the page asked for last comes
-/// first or last.
-fn told(
-    alloc: Global,
-    data: &str,
-    page_size: u64,
-    query: &str,
-    newest: bool,
-) -> Result<(usize, u32), Fail> {
-    let mut run = started(alloc, data, page_size, query, 4)?;
-    finish(alloc, &mut run, newest)?;
-    Ok((run.asked.len(), run.rows))
-}
-
-/// The same in both orders.
-fn both(
-    alloc: Global,
-    data: &str,
-    page_size: u64,
-    query: &str,
-) -> Result<((usize, u32), (usize, u32)), Fail> {
-    let oldest = told(alloc, data, page_size, query, false)?;
-    let newest = told(alloc, data, page_size, query, true)?;
-    Ok((oldest, newest))
-}
 
 const KNOWS: &str =
     "<http://e/a> <http://e/k> <http://e/b> .\n<http://e/a> <http://e/k> <http://e/c> .\n<http://e/b> <http://e/k> <http://e/c> .\n<http://e/c> <http://e/n> \"C\" .\n";
 
 const KNOWS_QUERY: &str = "SELECT * WHERE { ?x <http://e/k> ?y . ?y <http://e/n> ?z }";
 
-// The counts are 3 and 1, so the second pattern is chosen; `?y` is then `c`, and two triples match.
+const KNOWS_ROWS: &str = "<http://e/a> <http://e/c> \"C\" \n<http://e/b> <http://e/c> \"C\" \n";
+
+const PEOPLE: &str =
+    "<http://ex.org/alice> <http://xmlns.com/foaf/0.1/name> \"Alice\"@en .\n<http://ex.org/alice> <http://xmlns.com/foaf/0.1/age> \"42\"^^<http://www.w3.org/2001/XMLSchema#integer> .\n<http://ex.org/alice> <http://xmlns.com/foaf/0.1/knows> <http://ex.org/bob> .\n<http://ex.org/bob> <http://xmlns.com/foaf/0.1/name> \"Bob\" .\n";
+
+const PEOPLE_QUERY: &str =
+    "PREFIX foaf: <http://xmlns.com/foaf/0.1/>\nSELECT ?name ?age ?friend WHERE {\n  ?p foaf:age ?age ; foaf:knows ?q ; foaf:name ?name .\n  ?q foaf:name ?friend }\n";
+
+// The names that are selected stand before the others.
+const PEOPLE_ROW: &str =
+    "\"Alice\"@en \"42\"^^<http://www.w3.org/2001/XMLSchema#integer> \"Bob\" <http://ex.org/alice> <http://ex.org/bob> \n";
+
+/// Data, the triples of a page, a query, how many pages it asks for, and its rows.
+struct Worked {
+    data: &'static str,
+    page_size: u64,
+    query: &'static str,
+    asks: usize,
+    rows: &'static str,
+}
+
+static WORKED: [Worked; 8] = [
+    // The counts are 3 and 1, so the second pattern is chosen; `?y` is then `c`, and two triples match.
+    Worked {
+        data: KNOWS,
+        page_size: 100,
+        query: KNOWS_QUERY,
+        asks: 3,
+        rows: KNOWS_ROWS,
+    },
+    Worked {
+        data: KNOWS,
+        page_size: 1,
+        query: KNOWS_QUERY,
+        asks: 4,
+        rows: KNOWS_ROWS,
+    },
+    // A variable that stands twice in a pattern is one term.
+    Worked {
+        data: "<http://e/a> <http://e/p> <http://e/a> .\n<http://e/a> <http://e/p> <http://e/b> .\n",
+        page_size: 100,
+        query: "SELECT * WHERE { ?x <http://e/p> ?x }",
+        asks: 1,
+        rows: "<http://e/a> \n",
+    },
+    Worked {
+        data: "<http://e/a> <http://e/p> <http://e/a> .\n<http://e/a> <http://e/p> <http://e/b> .\n",
+        page_size: 1,
+        query: "SELECT * WHERE { ?x <http://e/p> ?x }",
+        asks: 2,
+        rows: "<http://e/a> \n",
+    },
+    // Both counts are 1, so the first pattern is chosen; a literal that becomes a subject is not asked for.
+    Worked {
+        data: "<http://e/a> <http://e/p> \"l\" .\n<http://e/b> <http://e/q> <http://e/c> .\n",
+        page_size: 100,
+        query: "SELECT * WHERE { ?s <http://e/p> ?o . ?o <http://e/q> ?z }",
+        asks: 2,
+        rows: "",
+    },
+    // An empty query gives one row at once.
+    Worked {
+        data: KNOWS,
+        page_size: 100,
+        query: "SELECT * WHERE { }",
+        asks: 0,
+        rows: "\n",
+    },
+    // One node after another is left with four patterns, three, two and one.
+    Worked {
+        data: PEOPLE,
+        page_size: 100,
+        query: PEOPLE_QUERY,
+        asks: 10,
+        rows: PEOPLE_ROW,
+    },
+    Worked {
+        data: PEOPLE,
+        page_size: 1,
+        query: PEOPLE_QUERY,
+        asks: 10,
+        rows: PEOPLE_ROW,
+    },
+];
+
 #[test]
-fn the_pattern_with_the_least_count_is_chosen(rt: HostRuntime) -> Result<(), Fail> {
+fn worked_examples(rt: HostRuntime) -> Result<(), Fail> {
     let alloc = rt.alloc();
-    assert_eq!(rt; both(alloc, KNOWS, 100, KNOWS_QUERY)?, ((3, 2), (3, 2)));
-    assert_eq!(rt; both(alloc, KNOWS, 1, KNOWS_QUERY)?, ((4, 2), (4, 2)));
+    for worked in &WORKED {
+        for order in [OLDEST, NEWEST] {
+            let mut run = finished(alloc, worked.data, worked.page_size, worked.query, 4, order)?;
+            assert_eq!(rt; run.asked.len(), worked.asks, "{}", worked.query);
+            let rows = sorted(alloc, &mut run.rows)?;
+            assert_eq!(rt; rows.as_str(), worked.rows, "{}", worked.query);
+        }
+    }
+    Ok(())
+}
+
+/// The four patterns are asked for at once. `?y` and `?w` are both `c`.
+const FOUR_QUERY: &str =
+    "SELECT * WHERE { ?x <http://e/k> ?y . ?y <http://e/n> ?z . ?x <http://e/k> ?w . ?w <http://e/n> ?v }";
+
+const FOUR_ROWS: &str =
+    "<http://e/a> <http://e/c> \"C\" <http://e/c> \"C\" \n<http://e/b> <http://e/c> \"C\" <http://e/c> \"C\" \n";
+
+#[test]
+fn four_asks_are_out_at_once(rt: HostRuntime) -> Result<(), Fail> {
+    let alloc = rt.alloc();
+    let mut run = started(alloc, KNOWS, 100, FOUR_QUERY, 4, OLDEST)?;
+    ask_all(alloc, &mut run, 100)?;
+    assert_eq!(rt; run.held.len(), 4);
     Ok(())
 }
 
 #[test]
-fn a_repeated_variable_is_one_term(rt: HostRuntime) -> Result<(), Fail> {
+fn answers_in_every_order_of_four_give_the_same_rows(rt: HostRuntime) -> Result<(), Fail> {
     let alloc = rt.alloc();
-    let data =
-        "<http://e/a> <http://e/p> <http://e/a> .\n<http://e/a> <http://e/p> <http://e/b> .\n";
-    let query = "SELECT * WHERE { ?x <http://e/p> ?x }";
-    assert_eq!(rt; both(alloc, data, 100, query)?, ((1, 1), (1, 1)));
-    assert_eq!(rt; both(alloc, data, 1, query)?, ((2, 1), (2, 1)));
-    Ok(())
-}
-
-// Both counts are 1, so the first pattern is chosen.
-#[test]
-fn a_literal_that_becomes_a_subject_is_not_asked(rt: HostRuntime) -> Result<(), Fail> {
-    let alloc = rt.alloc();
-    let data = "<http://e/a> <http://e/p> \"l\" .\n<http://e/b> <http://e/q> <http://e/c> .\n";
-    let query = "SELECT * WHERE { ?s <http://e/p> ?o . ?o <http://e/q> ?z }";
-    assert_eq!(rt; both(alloc, data, 100, query)?, ((2, 0), (2, 0)));
-    Ok(())
-}
-
-#[test]
-fn an_empty_query_gives_one_row(rt: HostRuntime) -> Result<(), Fail> {
-    let alloc = rt.alloc();
-    assert_eq!(rt;
-        both(alloc, KNOWS, 100, "SELECT * WHERE { }")?,
-        ((0, 1), (0, 1))
-    );
+    for first in 0..4usize {
+        for second in 0..3usize {
+            for third in 0..2usize {
+                let order = [first, second, third, 0];
+                let mut run = finished(alloc, KNOWS, 100, FOUR_QUERY, 4, order)?;
+                let rows = sorted(alloc, &mut run.rows)?;
+                assert_eq!(rt; rows.as_str(), FOUR_ROWS, "{first} {second} {third}");
+            }
+        }
+    }
     Ok(())
 }
 
@@ -328,15 +172,19 @@ const CHAIN_QUERY: &str =
 
 /// Asks, rows and the most open nodes of twenty chains in pages of five, and whether `c10` was asked
 /// for before `b11`.
-fn twenty(alloc: Global, window: u32) -> Result<(usize, u32, usize, bool), Fail>
+fn twenty(alloc: Global, window: u32) -> Result<(usize, usize, usize, bool), Fail>
     requires { 1 ≤ window }
 {
     let data = chains(alloc, 20)?;
-    let mut run = started(alloc, data.as_str(), 5, CHAIN_QUERY, window)?;
-    finish(alloc, &mut run, false)?;
+    let run = finished(alloc, data.as_str(), 5, CHAIN_QUERY, window, OLDEST)?;
     let deep = first_with(run.asked.as_slice(), "%2Fc10&");
     let shallow = first_with(run.asked.as_slice(), "%2Fb11&");
-    Ok((run.asked.len(), run.rows, run.most_open, deep < shallow))
+    Ok((
+        run.asked.len(),
+        run.rows.len(),
+        run.most_open,
+        deep < shallow,
+    ))
 }
 
 // Three first pages, three further ones, two for each `b` and one for each `c`.
@@ -362,7 +210,7 @@ fn a_window_of_two_starts_two_nodes(rt: HostRuntime) -> Result<(), Fail> {
 /// Whether a join is done with one row, once its one ask was answered with its page.
 fn ended_by_a_row(alloc: Global) -> Result<bool, Fail> {
     let query = "SELECT * WHERE { ?x <http://e/n> ?y }";
-    let mut run = started(alloc, KNOWS, 100, query, 1)?;
+    let mut run = started(alloc, KNOWS, 100, query, 1, OLDEST)?;
     let Some(ask) = run.join.next_ask(alloc)? else {
         return Err(Fail::new("no ask"));
     };
@@ -382,7 +230,7 @@ fn one_page_of_one_triple_gives_one_row(rt: HostRuntime) -> Result<(), Fail> {
 /// but says that there is none.
 fn ended_by_count(alloc: Global) -> Result<bool, Fail> {
     let data = "<http://e/a> <http://e/p> <http://e/b> .\n";
-    let mut run = started(alloc, data, 100, "SELECT * WHERE { ?s ?p ?o }", 1)?;
+    let mut run = started(alloc, data, 100, "SELECT * WHERE { ?s ?p ?o }", 1, OLDEST)?;
     let Some(ask) = run.join.next_ask(alloc)? else {
         return Err(Fail::new("no ask"));
     };

@@ -3,3 +3,11 @@
 
 #[cfg(test)]
 mod joining;
+#[cfg(test)]
+mod pages;
+#[cfg(test)]
+mod plan;
+#[cfg(test)]
+mod random;
+#[cfg(test)]
+mod run;

@@ -1,4 +1,4 @@
-use Rattle.join_tests.proofs.joining.+go_on.Given as goal
+use Rattle.join_tests.proofs.run.+go_on.Given as goal
 
 abbrev pub decreases-go_on : goal.decreases-go_on
 decreases-go_on l = l.turns

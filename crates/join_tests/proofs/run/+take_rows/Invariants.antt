@@ -1,4 +1,4 @@
-use Rattle.join_tests.proofs.joining.+take_rows.Given as goal
+use Rattle.join_tests.proofs.run.+take_rows.Given as goal
 
 abbrev pub decreases-take_rows : goal.decreases-take_rows
 decreases-take_rows l = l.most
