@@ -7,10 +7,17 @@ use loop_wire::LoopWire;
 use std::alloc::{AllocError, Global};
 use tpf_base::{Dial, Failing, Fault, Moved, Wire};
 
+/// One link, and what its calls answered so far.
 #[derive(Drop)]
 pub struct Line {
     wire: LoopWire<Echo>,
     link: u64,
+    /// How many bytes were sent and have not come back.
+    owed: usize,
+    /// How many calls answered that nothing moves yet.
+    pub stalls: u32,
+    /// How many receives moved fewer bytes than were owed and fitted.
+    pub cuts: u32,
     ghost is_open: { ((state_of (λ sent. sent) wire).links link).is_open ≡ true },
 }
 
@@ -19,7 +26,25 @@ impl Line {
     pub fn new(alloc: Global, seed: u64) -> Result<Line, Fault> {
         let mut wire = LoopWire::new(alloc, EchoServer::new(7), seed, Failing::Never);
         let link = wire.dial("example.org", 80)?;
-        Ok(Line { wire, link })
+        Ok(Line {
+            wire,
+            link,
+            owed: 0,
+            stalls: 0,
+            cuts: 0,
+        })
+    }
+
+    /// How many bytes an answer says that moved; it counts the stalls.
+    fn moved(&mut self, answer: Moved) -> usize {
+        match answer {
+            Moved::Moved(n) => n,
+            Moved::NotYet => {
+                self.stalls = self.stalls.saturating_add(1);
+                0
+            }
+            _ => 0,
+        }
     }
 
     /// How many bytes one send moves.
@@ -27,10 +52,10 @@ impl Line {
         if piece.is_empty() {
             return 0;
         }
-        match self.wire.send(self.link, piece) {
-            Moved::Moved(n) => n,
-            _ => 0,
-        }
+        let answer = self.wire.send(self.link, piece);
+        let n = self.moved(answer);
+        self.owed = self.owed.saturating_add(n);
+        n
     }
 
     /// How many bytes one receive moves.
@@ -38,10 +63,14 @@ impl Line {
         if to.is_empty() {
             return 0;
         }
-        match self.wire.recv(self.link, to) {
-            Moved::Moved(n) => n,
-            _ => 0,
+        let most = self.owed.min(to.len());
+        let answer = self.wire.recv(self.link, to);
+        let n = self.moved(answer);
+        if 0 < n && n < most {
+            self.cuts = self.cuts.saturating_add(1);
         }
+        self.owed = self.owed.saturating_sub(n);
+        n
     }
 
     /// How many bytes of this piece at most 100 sends move.

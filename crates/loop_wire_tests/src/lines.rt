@@ -10,6 +10,7 @@ fn wire(alloc: Global, failing: Failing) -> LoopWire<Echo> {
     LoopWire::new(alloc, EchoServer::new(7), 1, failing)
 }
 
+// With each seed some calls stall, and some bring less than is there.
 #[test]
 fn every_seed_brings_the_same_bytes(rt: HostRuntime) -> Result<(), Fail> {
     let alloc = rt.alloc();
@@ -22,6 +23,8 @@ fn every_seed_brings_the_same_bytes(rt: HostRuntime) -> Result<(), Fail> {
         assert_eq!(rt; line.send_all(&text), 9000, "{seed}");
         let got = line.recv_all(alloc)?;
         assert_eq!(rt; got.as_slice(), text.as_slice(), "{seed}");
+        assert!(rt; line.stalls > 0, "{seed}");
+        assert!(rt; line.cuts > 0, "{seed}");
     }
     Ok(())
 }
