@@ -1,21 +1,20 @@
 -- The values that clap finds, and when it finds none.
-use Rattle.std.proofs.Common.{ℕ, ◌≡◌, ◌∙◌, ◌⊎◌, inl, inr, sym, ap, subst, refl, cond, codes, ◌+◌, ◌&&◌, ◌||◌, min, Bool, true, false, List, [], ◌∷◌, ◌++◌, map, Option, Some, None, is_some}
+use Rattle.std.proofs.Common.{ℕ, ◌≡◌, ◌∙◌, sym, ap, subst, refl, cond, codes, ◌||◌, Bool, true, false, List, [], ◌∷◌, ◌++◌, map, Option, Some, None, is_some}
 use Rattle.std.specs.Prelude.{find, slice_get, option_map, option_and_then}
-use Rattle.std.specs.List.{list_any, fold}
+use Rattle.std.specs.List.{fold}
 use Rattle.std.specs.Str.{bytes_eq}
-use Rattle.clap.specs.Lexer.{usize_max}
-use Rattle.clap.specs.Walk.{Held, Row, Rule, arg_by_index, arg_by_long, at_row, finished, first_of, has_row, more_values, nothing_held, settled, walk, Walk, with_default, with_values}
-use Rattle.clap.specs.Simple.{App, Shape, built, entered, filled_from, matches_of}
-use Rattle.clap.specs.Kinds.{Kinds, or_else}
+use Rattle.clap.specs.Walk.{Row, Rule, first_of, has_row, more_values, nothing_held, settled, walk, Walk, with_default, with_values}
+use Rattle.clap.specs.Simple.{App, Shape, built, entered, matches_of}
+use Rattle.clap.specs.Kinds.{Kinds}
 use Rattle.clap.specs.Faults.{entered_fault, fault_of, level_fault}
 use Rattle.clap.specs.declared.builder.value_parser.Reading.TheVariants as reading
 use Rattle.clap.specs.declared.parser.matches.ValueSource.TheVariants.{DefaultValue}
-use Rattle.command_words.specs.Words.{Form, Text, Given, Values, is_given, given_by, is_among, value_in, values_of, arguments}
-use Rattle.command_words.specs.Apps.{HasFew, app_of_form, found_values, has_lone_dash, flag_rule, option_rule, positional_rule}
-use Rattle.command_words.proofs.Joins.{other_name, own_name, same_name}
-use Rattle.command_words.proofs.Rules.{HasValue, by_long, flag_built, named_built, named_by_index, named_by_long, named_by_short, named_default, named_filled, none_required, one_positional, option_built, option_value, two_positionals, value_behind, value_default, value_here, valued}
+use Rattle.command_words.specs.Words.{Form, Text, Given, Values, given_by, is_among, value_in, values_of, arguments}
+use Rattle.command_words.specs.Apps.{HasFew, app_of_form, found_values, has_lone_dash}
+use Rattle.command_words.proofs.Joins.{own_name, same_name}
+use Rattle.command_words.proofs.Rules.{flag_built, named_built, named_by_index, named_by_long, named_by_short, named_default, named_filled, none_required, one_positional, option_value, two_positionals, value_behind, value_default, value_here, valued}
 use Rattle.command_words.proofs.Walks.{absent, clean, end_of, expected, outcome, row, rows, rows_given, shape_with, start_at}
-use Rattle.command_words.proofs.Whole.{AreTexts, Claims, Positions, Table, claims}
+use Rattle.command_words.proofs.Whole.{AreTexts, Positions, Table, claims}
 
 -- ---- defaults
 

@@ -5,7 +5,7 @@ use Rattle.std.specs.String.{string_bytes}
 use Rattle.std.specs.Str.{bytes_eq}
 use Rattle.std.specs.declared.string.String.{String}
 use Rattle.std.proofs.lemmas.Str.{IsUtf8-string_bytes}
-use Rattle.command_words.specs.Words.{Form, Text, Given, Kind, ends, option, refused, plain, Rest, arguments, begins_with_dash, given_by, is_among, kind_met, kind_of, option_met, positional_met, values_of, with_value, word_met}
+use Rattle.command_words.specs.Words.{Form, Text, Kind, ends, option, refused, plain, arguments, begins_with_dash, given_by, is_among, kind_met, kind_of, values_of, with_value}
 use Rattle.command_words.specs.Apps.{asks, has_lone_dash}
 use Rattle.command_words.proofs.Whole.{AreTexts, no_dash_plain}
 use Rattle.command_words.proofs.WordKinds.{Seen, seen}

@@ -1,5 +1,5 @@
 -- A name that no command has.
-use Rattle.std.proofs.Common.{◌≡◌, sym, refl, Bool, true, false, List, None, codes}
+use Rattle.std.proofs.Common.{◌≡◌, refl, Bool, true, false, List, None, codes}
 use Rattle.std.specs.Str.{bytes_eq}
 use Rattle.std.proofs.lemmas.Slice.Eq.{bytes_eq-Decides}
 use Rattle.command_words.specs.Words.{Text}

@@ -1,18 +1,17 @@
 -- The arguments of a form, as clap keeps them once the command is built.
-use Rattle.std.proofs.Common.{ℕ, ◌≡◌, ◌∙◌, sym, ap, subst, refl, cond, codes, zero, suc, ◌+◌, ◌==◌, ◌&&◌, ◌||◌, min, Bool, true, false, not, List, [], ◌∷◌, ◌++◌, map, Option, Some, None, is_some}
-use Rattle.std.specs.List.{list_any, list_all}
+use Rattle.std.proofs.Common.{ℕ, ◌≡◌, ap, refl, cond, codes, ◌&&◌, ◌||◌, Bool, true, false, not, List, [], ◌∷◌, ◌++◌, map, Option, Some, None}
+use Rattle.std.specs.List.{list_any}
 use Rattle.std.specs.Str.{bytes_eq}
-use Rattle.clap.specs.Lexer.{usize_max}
 use Rattle.clap.specs.Walk.{Rule, Row, arg_by_id, arg_by_long, arg_by_short, arg_by_index, has_row, with_default}
 use Rattle.clap.specs.Takes.{is_given}
 use Rattle.clap.specs.Kinds.{or_else}
 use Rattle.clap.specs.Faults.{defaults_fault, given_default_fault}
-use Rattle.clap.specs.Simple.{filled, filled_from, with_index}
+use Rattle.clap.specs.Simple.{filled_from}
 use Rattle.clap.specs.declared.builder.ArgAction.TheVariants.{Set, SetTrue}
 use Rattle.clap.specs.declared.builder.value_parser.ValueParser.TheVariants as vp
-use Rattle.command_words.specs.Words.{Form, Text, is_among}
-use Rattle.command_words.specs.Apps.{option_rule, flag_rule, positional_rule}
-use Rattle.command_words.proofs.Joins.{same_name, own_name}
+use Rattle.command_words.specs.Words.{Text, is_among}
+use Rattle.command_words.specs.Apps.{option_rule, flag_rule}
+use Rattle.command_words.proofs.Joins.{same_name}
 
 -- an argument with a value
 abbrev pub valued : Text → Option Text → Option ℕ → Rule

@@ -1,22 +1,20 @@
 -- One step of clap's walk over the words, and the law of the whole walk.
-use Rattle.std.proofs.Common.{ℕ, ◌≡◌, ◌∙◌, ◌⊎◌, inl, inr, sym, ap, subst, refl, cond, codes, zero, suc, ◌+◌, ◌==◌, ◌&&◌, ◌||◌, min, Bool, true, false, not, List, [], ◌∷◌, ◌++◌, map, length, Option, Some, None, is_some, append-nil}
-use Rattle.std.specs.Prelude.{slice_get}
-use Rattle.std.specs.List.{list_any, fold}
+use Rattle.std.proofs.Common.{ℕ, ◌≡◌, ◌∙◌, ◌⊎◌, inl, inr, sym, ap, refl, cond, codes, ◌+◌, ◌&&◌, ◌||◌, min, Bool, true, false, List, [], ◌∷◌, ◌++◌, map, Option, Some, None, append-nil}
+use Rattle.std.specs.List.{fold}
 use Rattle.std.specs.Option.{option_map, option_map_or}
-use Rattle.std.specs.Str.{bytes_eq, chars, IsUtf8}
+use Rattle.std.specs.Str.{bytes_eq}
 use Rattle.clap.specs.Lexer.{usize_max}
-use Rattle.clap.specs.Walk.{Held, Row, Rule, Waiting, idle, Walk, Step, value, next, arg_by_id, arg_by_index, arg_by_long, arg_by_short, at_row, finished, has_row, is_pending, more_values, pushed, settled, to_positional, used, walked, with_values, without, option as waits_for}
+use Rattle.clap.specs.Walk.{Held, Row, Rule, Waiting, idle, Walk, arg_by_index, arg_by_long, at_row, finished, has_row, is_pending, more_values, pushed, settled, to_positional, used, walked, with_values, without, option as waits_for}
 use Rattle.clap.specs.Simple.{Shape}
-use Rattle.clap.specs.Takes.{is_given as is_present}
 use Rattle.clap.specs.Kinds.{Kinds, or_else}
-use Rattle.clap.specs.Faults.{defaults_fault, check_fault, settle_fault, turn_fault, walk_fault, use_fault, repeat_fault, positional_fault, flags_fault, word_fault}
+use Rattle.clap.specs.Faults.{defaults_fault, check_fault, settle_fault, turn_fault, walk_fault, use_fault, repeat_fault, positional_fault, word_fault}
 use Rattle.clap.specs.declared.error.kind.ErrorKind.{ErrorKind}
 use Rattle.clap.specs.declared.error.kind.ErrorKind.TheVariants as kind
 use Rattle.clap.specs.declared.builder.value_parser.Reading.TheVariants as reading
 use Rattle.clap.specs.declared.parser.matches.ValueSource.TheVariants.{CommandLine}
-use Rattle.command_words.specs.Words.{Form, Text, Given, with_value, is_given, given_by, all_positionals, is_among, kind_of}
-use Rattle.command_words.proofs.Joins.{joined, Distinct, joined_more, joined_none, twice, one_more, own_name}
-use Rattle.command_words.proofs.Rules.{valued, option_built, flag_built, by_long, HasValue}
+use Rattle.command_words.specs.Words.{Text, Given, with_value, is_given}
+use Rattle.command_words.proofs.Joins.{joined, Distinct, joined_more, twice, one_more}
+use Rattle.command_words.proofs.Rules.{valued, option_built, flag_built, HasValue}
 use Rattle.command_words.proofs.WordKinds.{Sees}
 
 -- a built command with these arguments

@@ -1,23 +1,22 @@
 -- What clap finds in words is what they give.
-use Rattle.std.proofs.Common.{ℕ, ◌≡◌, ◌∙◌, ◌⊎◌, inl, inr, sym, ap, subst, refl, cond, codes, zero, suc, ◌+◌, ◌==◌, ◌&&◌, ◌||◌, min, Bool, true, false, not, List, [], ◌∷◌, ◌++◌, map, length, Option, Some, None}
+use Rattle.std.proofs.Common.{ℕ, ◌≡◌, ◌∙◌, ◌⊎◌, inl, inr, sym, ap, subst, refl, cond, codes, ◌+◌, ◌==◌, ◌&&◌, ◌||◌, min, Bool, true, false, not, List, [], ◌∷◌, Option, Some, None}
 use Rattle.std.specs.Prelude.{slice_get}
-use Rattle.std.specs.List.{list_any, fold, before_first, after_first}
-use Rattle.std.specs.Option.{option_map, option_map_or}
+use Rattle.std.specs.List.{list_any, before_first, after_first}
 use Rattle.std.specs.Str.{bytes_eq, chars, IsUtf8, encode_utf8_all, all_scalars, is_utf8}
 use Rattle.std.specs.Char.{encode_utf8}
 use Rattle.std.proofs.lemmas.Bool.{and_parts}
 use Rattle.std.proofs.lemmas.Str.{is_utf8-from_IsUtf8}
 use Rattle.std.proofs.lemmas.Slice.Eq.{bytes_eq-Decides}
 use Rattle.clap.specs.Lexer.{usize_max}
-use Rattle.clap.specs.Walk.{Held, Row, Rule, Waiting, idle, Walk, arg_by_id, arg_by_index, arg_by_long, arg_by_short, option as waits_for, is_pending, finished, settled, walked}
+use Rattle.clap.specs.Walk.{Held, Row, Rule, idle, Walk, arg_by_index, arg_by_long, arg_by_short, option as waits_for, is_pending, finished, settled, walked}
 use Rattle.clap.specs.Takes.{is_given as is_present}
 use Rattle.clap.specs.Kinds.{Kinds, or_else}
-use Rattle.clap.specs.Faults.{defaults_fault, check_fault, settle_fault, turn_fault, use_fault, walk_fault, flags_fault, word_fault, bundle_step_fault}
+use Rattle.clap.specs.Faults.{defaults_fault, check_fault, settle_fault, turn_fault, use_fault, walk_fault, flags_fault, word_fault}
 use Rattle.clap.specs.declared.error.kind.ErrorKind.{ErrorKind}
 use Rattle.clap.specs.declared.error.kind.ErrorKind.TheVariants as kind
-use Rattle.command_words.specs.Words.{Form, Text, Given, Kind, ends, option, refused, plain, with_value, is_given, given_by, all_positionals, is_among, kind_of, begins_with_dash, after_dash, after_dashes, is_equals, word_met, kind_met, option_met, positional_met, words_end}
+use Rattle.command_words.specs.Words.{Form, Text, Given, Kind, ends, option, refused, plain, with_value, given_by, all_positionals, is_among, kind_of, begins_with_dash, after_dash, after_dashes, is_equals, kind_met, option_met, positional_met}
 use Rattle.command_words.specs.Apps.{asks, has_lone_dash}
-use Rattle.command_words.proofs.Joins.{joined, Distinct, joined_more, joined_none, own_name}
+use Rattle.command_words.proofs.Joins.{joined, Distinct, joined_none, own_name}
 use Rattle.command_words.proofs.Rules.{valued, option_built, flag_built, by_long, HasValue}
 use Rattle.command_words.proofs.WordKinds.{Sees, HasLetters, Seen, seen}
 use Rattle.command_words.proofs.Walks.{shape_with, rows, held, at, start_at, clean, outcome, failed, turned, Pending, pending_of, Suits, front, Settled, Unsettled, settle, expected, place_fault, end_fault, never, plain_turn, plain_walked, ends_turn, ends_walked, last_turn, last_walked, long_turn, long_walked, flag_turn, flag_walked, asks_turn, asks_walked, valued_flag_fault, unknown_fault, long_fault_is, asks_fault_is, flag_fault_is, placed, reacted_to, asked_for, value_uses, flag_uses}

@@ -1,5 +1,5 @@
 // The arguments of a command, read by clap.
-ghost use Rattle.std.specs.Prelude.{◌≡◌, ◌≢◌, IfOk, Option, map, string_bytes, List, [], Ok, Err, true, false};
+ghost use Rattle.std.specs.Prelude.{◌≡◌, ◌≢◌, IfOk, map, string_bytes, [], Err, true, false};
 ghost use Rattle.std.specs.Option.{option_map};
 ghost use Rattle.clap.specs.Words.{app_of, found_of, rows_of, matches_of, fault_of, with_rule, is_simple_and_free};
 ghost use Rattle.command_words.specs.Apps.{rule_of, bare_app, app_of_form, with_rules, found_in, has_lone_dash, asks, HasFew};

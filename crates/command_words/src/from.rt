@@ -1,5 +1,5 @@
 // The arguments of each command.
-ghost use Rattle.std.specs.Prelude.{ℕ, ◌≡◌, ◌^◌, ◌≤◌, Option, Some, None, IfOk, IfSome, option_map, map, string_bytes};
+ghost use Rattle.std.specs.Prelude.{◌≡◌, ◌^◌, ◌≤◌, IfOk, IfSome, option_map, map, string_bytes};
 ghost use Rattle.command_words.specs.Apps.{found_in};
 ghost use Rattle.command_words.specs.Words.{arguments};
 ghost use Rattle.command_words.specs.Commands.{words_of, number_in, client_in, choice_in, page_in, local_with, local_from, query_with, query_from, serve_with, serve_from, make_from, command_by, command_of};

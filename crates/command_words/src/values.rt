@@ -1,5 +1,5 @@
 // Values in words: numbers, addresses, paths and graphs.
-ghost use Rattle.std.specs.Prelude.{ℕ, ◌≡◌, ◌^◌, ◌<◌, ◌≤◌, Option, Some, None, IfOk, IfSome, MatchOption, option_map, false};
+ghost use Rattle.std.specs.Prelude.{◌≡◌, ◌^◌, ◌<◌, ◌≤◌, Some, None, IfOk, IfSome, MatchOption, option_map, false};
 ghost use Rattle.std.specs.List.{list_all};
 ghost use Rattle.rdf_terms.specs.Iri.{is_digit};
 ghost use Rattle.command_words.specs.Commands.{is_number, number_after, number_of, number_or, count_of, url_of, base_of, without_query, reload_of, is_true, choice_of};

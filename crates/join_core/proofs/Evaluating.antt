@@ -1,5 +1,5 @@
 -- A join as an evaluation.
-use Rattle.std.proofs.Common.{ℕ, ◌≡◌, ◌&&◌, ◌==◌, true, List, [], length, refl, ap, sym, subst, ◌∙◌, Ok, Err}
+use Rattle.std.proofs.Common.{ℕ, ◌≡◌, ◌&&◌, ◌==◌, true, List, [], length, ap, sym, subst, ◌∙◌, Ok, Err}
 use Rattle.std.specs.Prelude.{Result, IfOk, OnErr}
 use Rattle.join_core.specs.declared.evaluation.Answered.{Answered}
 use Rattle.join_core.specs.declared.evaluation.Answered.TheVariants.{Taken, Stranger}

@@ -1,10 +1,10 @@
 -- Asks keep to the authorities and rows to their places, event by event.
-use Rattle.std.proofs.Common.{ℕ, zero, suc, ◌≡◌, ◌+◌, ◌<◌, ◌≤◌, ◌⊎◌, ◌&&◌, ◌==◌, inl, inr, nat_eq, nat_lt, nat_le, Bool, true, false, if◌then◌else◌, List, [], ◌∷◌, ◌++◌, length, map, get_or, set, Option, Some, None, refl, ap, sym, subst, ◌∙◌, arith, length-append, length-set, append-nil, not}
+use Rattle.std.proofs.Common.{ℕ, zero, suc, ◌≡◌, ◌+◌, ◌<◌, ◌≤◌, ◌&&◌, inl, inr, nat_eq, nat_lt, nat_le, Bool, true, false, if◌then◌else◌, List, [], ◌∷◌, ◌++◌, length, map, get_or, set, Option, Some, None, refl, ap, sym, subst, ◌∙◌, arith, length-append, length-set, append-nil, not}
 use Rattle.std.specs.Prelude.{option_to_list, MatchOption, ⊤}
 use Rattle.std.specs.List.{flat_map, remove, list_all, count_by, All}
 use Rattle.std.specs.List.Sorted.{IsPermutation}
 use Rattle.std.proofs.lemmas.Bool.Decides.{nat_tests}
-use Rattle.std.proofs.lemmas.List.{get_or_default, length-map}
+use Rattle.std.proofs.lemmas.List.{length-map}
 use Rattle.std.proofs.lemmas.List.Elements.{All-nil, All-cons, All-head, All-tail, All-append, All-get_or}
 use Rattle.std.proofs.lemmas.List.Sorted.{IsPermutation-sym, All-permutation}
 use Rattle.tpf_base.specs.Addresses.{Address}
@@ -19,16 +19,16 @@ use Rattle.control_reader.specs.declared.page.Page.{Page}
 use Rattle.join_core.specs.declared.first.First.{First}
 use Rattle.join_core.specs.declared.first.First.TheVariants.{Out, Got}
 use Rattle.join_core.specs.declared.node.Waits.TheVariants.{First as ForFirst, Next as ForNext}
-use Rattle.join_core.specs.Nodes.{Stage, NodeData, node, fresh, nodes_in, rows_out, opened, put_out, all_askable, is_got, count_of, least, IsAsking, AsksRightly}
+use Rattle.join_core.specs.Nodes.{Stage, NodeData, node, fresh, nodes_in, rows_out, opened, put_out, all_askable, is_got, count_of, least, AsksRightly}
 use Rattle.join_core.specs.Nodes.Stage.{Asking, Walking}
-use Rattle.join_core.specs.Events.{CanAsk, CanAskStage, asked, asked_stage, waits_for, first_waiting, with_first_at, is_full, is_full_stage, has_ask, has_ask_in, is_idle, works, next_walk, one_more, opened_by, out_by, after_by, IsChosen, IsChosenIn, MadeOf, chosen_page, chosen_page_by}
-use Rattle.join_core.specs.Joins.{JoinData, nodes, tickets_of, tickets_out, first_tickets, Replaces, Stands, IsAt, NoneIn, taken_at, with_node, asked_at, walked_at, with_longest, ChoosesAt, TakesFirstAt}
+use Rattle.join_core.specs.Events.{CanAsk, CanAskStage, asked, waits_for, with_first_at, is_full, is_full_stage, has_ask, has_ask_in, is_idle, works, next_walk, one_more, opened_by, out_by, after_by, IsChosen, MadeOf, chosen_page, chosen_page_by}
+use Rattle.join_core.specs.Joins.{JoinData, nodes, tickets_of, tickets_out, first_tickets, Replaces, Stands, IsAt, taken_at, with_node, asked_at, walked_at, with_longest, ChoosesAt, TakesFirstAt}
 use Rattle.join_core.specs.Outcomes.{NothingToAsk}
 use Rattle.join_core.specs.Evaluations.{Terms, HasHome, NextAtHome}
 use Rattle.join_core.specs.Sound.{FirstAtHome, StageAtHome, IsAskedBy, KeepsNode, KeepsTo}
 use Rattle.join_core.proofs.Replacing.{all-after, holds-before, before-after}
 use Rattle.join_core.proofs.Taken.{taken-replaces, set-replaces}
-use Rattle.join_core.proofs.Marks.{tickets-ask, waits-next, waits-first, next-tickets, first-tickets, full-tickets, got-at}
+use Rattle.join_core.proofs.Marks.{tickets-ask, next-tickets, first-tickets, full-tickets, got-at}
 use Rattle.join_core.proofs.Valid.{pattern-at, both}
 use Rattle.join_core.proofs.Outs.{idle-tickets, idle-none, made-idle}
 use Rattle.join_core.proofs.Promises.{grown}

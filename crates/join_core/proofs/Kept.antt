@@ -23,19 +23,19 @@ use Rattle.bgp_core.specs.declared.pattern.Pattern.{Pattern}
 use Rattle.bgp_core.specs.Solutions.{Places}
 use Rattle.control_reader.specs.declared.page.Page.{Page}
 use Rattle.join_core.specs.declared.first.First.{First}
-use Rattle.join_core.specs.declared.first.First.TheVariants.{Out, Got}
-use Rattle.join_core.specs.declared.node.Waits.TheVariants.{First as ForFirst, Next as ForNext}
+use Rattle.join_core.specs.declared.first.First.TheVariants.{Got}
+use Rattle.join_core.specs.declared.node.Waits.TheVariants.{First as ForFirst}
 use Rattle.join_core.specs.Nodes.{Stage, NodeData, node, is_got}
 use Rattle.join_core.specs.Nodes.Stage.{Asking, Walking}
-use Rattle.join_core.specs.Events.{CanAsk, CanAskStage, asked, waits_for, with_first_at, is_full, has_ask, has_ask_in, is_idle, idle_in, works}
-use Rattle.join_core.specs.Joins.{tickets_of, settled}
-use Rattle.join_core.specs.Levels.{Seed, seed_node, LevelData, level, nodes_of, is_key, spot, marked, times, tickets_at, once_under, IsBook, IsKept, Sets, Notes, MaySettle, IsFirstIdle, IsAsker}
-use Rattle.join_core.proofs.Keyed.{key-self, key-not, spot-found, values-set, values-removed, key-absent, marked-same, marked-gone, marked-off, marked-on, marked-alone, marked-push, marked-count, marked-none, none-marked, marked-first, alone-self, remove-left, below-more, key-of, marked-below, IsFirstOf}
+use Rattle.join_core.specs.Events.{CanAsk, asked, waits_for, with_first_at, is_full, has_ask, is_idle, works}
+use Rattle.join_core.specs.Joins.{tickets_of}
+use Rattle.join_core.specs.Levels.{Seed, seed_node, LevelData, level, nodes_of, is_key, spot, marked, times, tickets_at, IsBook, IsKept, Sets, Notes, MaySettle, IsFirstIdle, IsAsker}
+use Rattle.join_core.proofs.Keyed.{key-self, key-not, spot-found, values-set, values-removed, key-absent, marked-same, marked-gone, marked-off, marked-on, marked-alone, marked-push, marked-count, marked-none, none-marked, marked-first, alone-self, remove-left, below-more, marked-below, IsFirstOf}
 use Rattle.join_core.proofs.Books.{book-ask, book-end, book-same, book-none, book-some, none-waits, waits-none}
 use Rattle.join_core.proofs.Outs.{idle-tickets}
 use Rattle.bgp_core.proofs.Patterns.{same}
-use Rattle.join_core.proofs.Marks.{tickets-ask, first-tickets, full-tickets, waits-next, next-tickets}
-use Rattle.join_core.proofs.Small.{first-works, next-works}
+use Rattle.join_core.proofs.Marks.{tickets-ask, first-tickets, full-tickets}
+use Rattle.join_core.proofs.Small.{first-works}
 use Rattle.join_core.proofs.Scans.{front}
 
 -- ---- answers

@@ -195,9 +195,6 @@ waiting-within (Got g ∷ fs) i t e = let m = map-some suc (first_waiting t fs) 
 
 -- ---- a ticket that no node waits for is not out
 
-Not : ℕ → ℕ → Type 0
-Not ticket t = t ≡ ticket → ⊥
-
 none-map : {A B : Type 0} (f : A → B) (o : Option A) → is_some (option_map f o) ≡ false → is_some o ≡ false
 none-map f None e = refl
 none-map f (Some x) e = cc

@@ -1,9 +1,9 @@
 -- What a join promises, event by event.
-use Rattle.std.proofs.Common.{ℕ, zero, suc, length-set, ◌≡◌, ◌+◌, ◌<◌, ◌⊎◌, inl, inr, true, List, [], ◌∷◌, ◌++◌, length, get_or, set, Option, Some, None, refl, ap, sym, subst, ◌∙◌, arith, append-nil, append_assoc, length-append}
+use Rattle.std.proofs.Common.{ℕ, zero, suc, length-set, ◌≡◌, ◌+◌, ◌<◌, inl, inr, true, List, [], ◌∷◌, ◌++◌, length, get_or, set, Option, Some, None, refl, ap, sym, subst, ◌∙◌, arith, append-nil, append_assoc, length-append}
 use Rattle.std.specs.Prelude.{⊤, MatchOption, option_to_list}
 use Rattle.std.specs.List.{flat_map, All, Contains, remove}
 use Rattle.std.specs.List.Sorted.{IsPermutation}
-use Rattle.std.proofs.lemmas.List.{get_or_default, get_or_append_left, get_or-set_same, set-set}
+use Rattle.std.proofs.lemmas.List.{get_or_append_left, get_or-set_same, set-set}
 use Rattle.std.proofs.lemmas.List.Sorted.{IsPermutation-cons, IsPermutation-trans, IsPermutation-sym, IsPermutation-append_left, IsPermutation-append_right, IsPermutation-to_front, Contains-permutation}
 use Rattle.tpf_base.specs.Addresses.{Address}
 use Rattle.bgp_core.specs.Solutions.{Places}
@@ -12,17 +12,17 @@ use Rattle.bgp_core.proofs.Orders.{flat_map-IsPermutation}
 use Rattle.template_fill.specs.declared.form.Form.{Form}
 use Rattle.template_fill.specs.WebAddress.{OneAddress}
 use Rattle.control_reader.specs.declared.page.Page.{Page}
-use Rattle.join_core.specs.declared.first.First.TheVariants.{Out, Got}
+use Rattle.join_core.specs.declared.first.First.TheVariants.{Got}
 use Rattle.join_core.specs.declared.node.Waits.TheVariants.{First as ForFirst, Next as ForNext}
 use Rattle.join_core.specs.Worlds.{World, HasForm}
 use Rattle.join_core.specs.Nodes.{NodeData, future, left, Holds}
 use Rattle.join_core.specs.Events.{CanAsk, asked, IsNextAddress, waits_for, with_first_at, is_full, is_idle, opened_by, out_by, after_by, IsChosen}
-use Rattle.join_core.specs.Joins.{JoinData, nodes, owed, left_over, outs, out, tickets_of, tickets_out, Suits, Keeps, HandsOut, IsTrueFor, TakesPage, GivesRow, Replaces, Turn, Stands, IsAt, with_levels, with_longest, with_made, taken_at, settled, levels_after, asked_at, walked_at, ChoosesAt, TakesFirstAt}
+use Rattle.join_core.specs.Joins.{JoinData, nodes, owed, left_over, outs, out, tickets_of, tickets_out, Suits, Keeps, HandsOut, IsTrueFor, TakesPage, GivesRow, Replaces, Turn, Stands, IsAt, with_levels, with_longest, with_made, taken_at, settled, levels_after, walked_at, TakesFirstAt}
 use Rattle.join_core.specs.declared.evaluation.Answered.TheVariants.{Taken}
 use Rattle.join_core.specs.Outcomes.{WaitsMore, AnswerTakes, GivesWaiting}
 use Rattle.join_core.proofs.Replacing.{before-after, all-after, holds-before}
-use Rattle.join_core.proofs.Taken.{taken-replaces, set-replaces, node-at, levels-set}
-use Rattle.join_core.proofs.Marks.{ask-turn, tickets-ask, next-turn, next-outs, next-tickets, first-turn, first-tickets, first-back, choice-turn-of, full-outs, full-tickets}
+use Rattle.join_core.proofs.Taken.{taken-replaces, set-replaces, levels-set}
+use Rattle.join_core.proofs.Marks.{ask-turn, next-turn, next-outs, next-tickets, first-turn, first-tickets, choice-turn-of, full-outs, full-tickets}
 use Rattle.join_core.proofs.Outs.{idle-outs, idle-tickets, idle-none}
 
 -- ---- a turn at a place
@@ -244,6 +244,3 @@ first-more old new d i n t = elim t [
 
 pub walk-more : (old new : JoinData) (d i : ℕ) (n : NodeData) (page : Page) → new ≡ walked_at old d i n page → WaitsMore old new × (new.longest ≡ old.longest)
 walk-more old new d i n page e = ((out_by n page.triples, ap (λ (j : JoinData). j.waiting) e), ap (λ (j : JoinData). j.longest) e)
-
-pub noted-more : (old mid new : JoinData) (longest : ℕ) → new ≡ with_longest mid longest → WaitsMore old mid → WaitsMore old new
-noted-more old mid new longest e h = (h.0, ap (λ (j : JoinData). j.waiting) e ∙ h.1)

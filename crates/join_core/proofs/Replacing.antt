@@ -5,7 +5,7 @@ use Rattle.std.specs.List.Sorted.{IsPermutation}
 use Rattle.std.proofs.lemmas.List.{set_split}
 use Rattle.std.proofs.lemmas.List.Concat.{flat_map-append}
 use Rattle.std.proofs.lemmas.List.Elements.{All-head, All-tail, All-append}
-use Rattle.std.proofs.lemmas.List.Sorted.{IsPermutation-refl, IsPermutation-trans, IsPermutation-sym, IsPermutation-append_left, IsPermutation-append_right, IsPermutation-remove, IsPermutation-middle, All-permutation}
+use Rattle.std.proofs.lemmas.List.Sorted.{IsPermutation-trans, IsPermutation-sym, IsPermutation-append_left, IsPermutation-append_right, IsPermutation-remove, IsPermutation-middle, All-permutation}
 use Rattle.bgp_core.proofs.Patterns.{same}
 use Rattle.bgp_core.proofs.Orders.{flat_map-IsPermutation}
 use Rattle.join_core.specs.Nodes.{NodeData, node}
@@ -42,7 +42,3 @@ level-replaced levels d l new n made rest h e before after =
 -- the node at a place is written over
 pub written : (levels : List (List NodeData)) (d i : ℕ) (l : List NodeData) (n new : NodeData) → d < length levels → l ≡ get_or levels d l → i < length l → n ≡ get_or l i n → Replaces levels (set levels d (set l i new)) n (new ∷ [])
 written levels d i l n new h e g k = level-replaced levels d l (set l i new) n (new ∷ []) (remove l i) h e (IsPermutation-remove l i n g k) (set-IsPermutation l i new g)
-
--- the node at a place is removed
-pub removed : (levels : List (List NodeData)) (d i : ℕ) (l : List NodeData) (n : NodeData) → d < length levels → l ≡ get_or levels d l → i < length l → n ≡ get_or l i n → Replaces levels (set levels d (remove l i)) n []
-removed levels d i l n h e g k = level-replaced levels d l (remove l i) n [] (remove l i) h e (IsPermutation-remove l i n g k) (IsPermutation-refl (remove l i))

@@ -1,10 +1,10 @@
 -- Loops over all nodes.
-use Rattle.std.proofs.Common.{Option, Some, None, ℕ, zero, suc, ◌≡◌, ◌+◌, ◌-◌, ◌<◌, ◌≤◌, Bool, false, List, [], ◌∷◌, ◌++◌, length, get_or, take, drop, drop-cons, append-nil, length-append, cond, min, refl, ap, sym, subst, ◌∙◌, arith}
+use Rattle.std.proofs.Common.{Option, Some, None, ℕ, zero, suc, ◌≡◌, ◌+◌, ◌-◌, ◌<◌, ◌≤◌, Bool, false, List, [], ◌∷◌, ◌++◌, length, get_or, take, drop, drop-cons, append-nil, length-append, cond, min, ap, sym, subst, ◌∙◌, arith}
 use Rattle.std.specs.Prelude.{IfNone}
 use Rattle.std.specs.List.{All, count_by}
 use Rattle.std.proofs.lemmas.List.Sums.{sum_by-append}
 use Rattle.join_core.specs.Events.{works}
-use Rattle.std.proofs.lemmas.List.{take_more, take_all, drop_all}
+use Rattle.std.proofs.lemmas.List.{take_more, take_all}
 use Rattle.std.proofs.lemmas.List.Concat.{flat_map-append}
 use Rattle.std.proofs.lemmas.List.Elements.{All-nil, All-cons, All-head, All-tail, All-append}
 use Rattle.join_core.specs.Nodes.{NodeData}
@@ -52,10 +52,6 @@ open-step ls i l a h e c =
     let whole : length (nodes (take (i + 1) ls)) ≡ length (nodes (take i ls)) + length l =
     ap (λ (x : List NodeData). length x) (nodes-next ls i l h e) ∙ length-append (nodes (take i ls)) l in
     omega arith
-
-pub nothing-open : (xs : List NodeData) → length xs ≡ 0 → xs ≡ []
-nothing-open [] e = refl
-nothing-open (x ∷ xs) e = absurd (omega (arith, e))
 
 pub if-none : {X : Type 0} (o : Option X) (P : Type 0) → o ≡ None → IfNone o P → P
 if-none None P e h = h

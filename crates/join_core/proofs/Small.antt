@@ -1,17 +1,17 @@
 -- The bound on the open nodes of each depth, event by event.
-use Rattle.std.proofs.Common.{ℕ, zero, suc, ◌≡◌, ◌+◌, ◌-◌, ◌*◌, ◌<◌, ◌≤◌, ◌⊎◌, inl, inr, nat_lt, nat_eq, Bool, true, false, not, if◌then◌else◌, max, List, [], ◌∷◌, ◌++◌, length, get_or, set, take, Option, Some, None, cond, refl, ap, sym, subst, ◌∙◌, arith, length-append, length-set, append-nil, get_or-set_other}
+use Rattle.std.proofs.Common.{ℕ, zero, suc, ◌≡◌, ◌+◌, ◌-◌, ◌*◌, ◌<◌, ◌≤◌, inl, inr, nat_lt, nat_eq, Bool, true, false, not, if◌then◌else◌, max, List, [], ◌∷◌, ◌++◌, length, get_or, set, Option, Some, None, cond, refl, ap, sym, subst, ◌∙◌, arith, length-append, length-set, append-nil, get_or-set_other}
 use Rattle.std.specs.Prelude.{option_to_list}
-use Rattle.std.specs.List.{flat_map, remove, list_all, count_by, sum_by, All}
+use Rattle.std.specs.List.{remove, count_by, All}
 use Rattle.std.specs.List.Sorted.{IsPermutation}
 use Rattle.std.proofs.Math.Nat.{mul-add}
 use Rattle.std.proofs.lemmas.Nat.{mul-le}
 use Rattle.std.proofs.lemmas.Bool.{cases_eq}
 use Rattle.std.proofs.lemmas.Bool.Decides.{nat_tests}
-use Rattle.std.proofs.lemmas.List.{get_or_default, get_or-set_same}
+use Rattle.std.proofs.lemmas.List.{get_or-set_same}
 use Rattle.std.proofs.lemmas.List.Edits.{length-remove}
-use Rattle.std.proofs.lemmas.List.Sums.{sum_by-append, count_by-le-length}
+use Rattle.std.proofs.lemmas.List.Sums.{sum_by-append}
 use Rattle.std.proofs.lemmas.List.Elements.{All-nil, All-cons, All-head, All-tail, All-append, All-get_or}
-use Rattle.std.proofs.lemmas.List.Sorted.{IsPermutation-sym, IsPermutation-remove, All-permutation, sum_by-IsPermutation, length_permutation}
+use Rattle.std.proofs.lemmas.List.Sorted.{IsPermutation-sym, IsPermutation-remove, All-permutation, sum_by-IsPermutation}
 use Rattle.tpf_base.specs.Addresses.{Address}
 use Rattle.rdf_terms.specs.declared.term.Triple.{Triple}
 use Rattle.bgp_core.specs.declared.pattern.Pattern.{Pattern}
@@ -20,11 +20,11 @@ use Rattle.control_reader.specs.declared.page.Page.{Page}
 use Rattle.join_core.specs.declared.first.First.{First}
 use Rattle.join_core.specs.declared.first.First.TheVariants.{Out, Got}
 use Rattle.join_core.specs.declared.node.Waits.TheVariants.{First as ForFirst, Next as ForNext}
-use Rattle.join_core.specs.Nodes.{Stage, NodeData, node, fresh, nodes_in, rows_out, opened, all_askable, is_got}
+use Rattle.join_core.specs.Nodes.{Stage, NodeData, node, fresh, nodes_in, opened, all_askable}
 use Rattle.join_core.specs.Nodes.Stage.{Asking, Walking}
-use Rattle.join_core.specs.Events.{CanAsk, CanAskStage, asked, waits_for, first_waiting, with_first, with_first_at, is_full, has_ask, has_ask_in, is_idle, idle_in, works, next_walk, one_more, opened_by, out_by, after_by, IsChosen, chosen_page, chosen_page_by}
-use Rattle.join_core.specs.Joins.{JoinData, nodes, Replaces, Stands, IsAt, NoneIn, settled, levels_after, taken_at, with_node, asked_at, walked_at, with_longest, ChoosesAt, TakesFirstAt, MayAsk, StartsAt, level_at, open_at, working_at, IsBounded}
-use Rattle.join_core.specs.Sound.{FirstAtMost, StageAtMost, unmatched, IsOfDepth, IsKeptSmall}
+use Rattle.join_core.specs.Events.{asked, waits_for, first_waiting, with_first_at, is_full, has_ask_in, is_idle, works, next_walk, one_more, opened_by, out_by, after_by, IsChosen, chosen_page, chosen_page_by}
+use Rattle.join_core.specs.Joins.{JoinData, nodes, Replaces, Stands, IsAt, settled, levels_after, taken_at, with_node, asked_at, walked_at, with_longest, ChoosesAt, TakesFirstAt, MayAsk, level_at, open_at, working_at, IsBounded}
+use Rattle.join_core.specs.Sound.{FirstAtMost, StageAtMost, IsOfDepth, IsKeptSmall}
 use Rattle.join_core.proofs.Replacing.{all-after, holds-before}
 use Rattle.join_core.proofs.Taken.{levels-set, after-is, taken-replaces, set-replaces}
 use Rattle.join_core.proofs.Marks.{waits-next, waits-first}
@@ -128,9 +128,6 @@ taken-steps old d i made after h =
     }
 
 -- ---- counts
-
-worked : List NodeData → ℕ
-worked l = count_by works l
 
 count-in : (xs ys : List NodeData) → count_by works (xs ++ ys) ≡ count_by works xs + count_by works ys
 count-in xs ys = sum_by-append (λ n. cond (works n) 1 0) xs ys

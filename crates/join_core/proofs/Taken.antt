@@ -71,11 +71,3 @@ set-replaces old d i n new stands at =
     let l = get_or old d [] in
     let is : l ≡ get_or old d l = get_or_default old d [] l stands.deep in
     written old d i l n new stands.deep is stands.within at
-
-pub element : {X : Type 0} (l : List X) (i : ℕ) → i < length l → (x : X) × (x ≡ get_or l i x)
-element [] i h = absurd (omega arith)
-element (x ∷ xs) i h = (get_or (x ∷ xs) i x, get_or_default (x ∷ xs) i x (get_or (x ∷ xs) i x) h)
-
--- the node at a place
-pub node-at : (levels : List (List NodeData)) (d i : ℕ) → Stands levels d i → (n : NodeData) × IsAt levels d i n
-node-at levels d i stands = element (get_or levels d []) i stands.within

@@ -1,11 +1,11 @@
 -- What calls promise, by the node that asked or whose page was taken.
-use Rattle.std.proofs.Common.{ℕ, ◌≡◌, ◌+◌, ◌<◌, ◌⊎◌, inl, inr, true, false, List, [], ◌∷◌, ◌++◌, length, map, take, set, Option, Some, None, refl, ap, sym, subst, ◌∙◌, arith}
+use Rattle.std.proofs.Common.{ℕ, ◌≡◌, ◌+◌, ◌<◌, ◌⊎◌, inl, inr, true, false, List, [], ◌∷◌, ◌++◌, length, map, take, Option, Some, None, refl, ap, sym, subst, ◌∙◌, arith}
 use Rattle.std.specs.Prelude.{option_to_list}
 use Rattle.std.specs.List.{All, flat_map, count_by}
 use Rattle.std.specs.Map.{values_of}
 use Rattle.std.specs.Set.{remove_key}
 use Rattle.std.specs.List.Sorted.{IsPermutation}
-use Rattle.std.proofs.lemmas.List.Elements.{All-nil, All-cons, All-head, All-tail, All-append}
+use Rattle.std.proofs.lemmas.List.Elements.{All-nil, All-cons, All-head, All-tail}
 use Rattle.std.proofs.lemmas.List.Sorted.{All-permutation, IsPermutation-sym}
 use Rattle.tpf_base.specs.Addresses.{Address}
 use Rattle.rdf_terms.specs.declared.term.Triple.{Triple}
@@ -15,18 +15,16 @@ use Rattle.template_fill.specs.declared.form.Form.{Form}
 use Rattle.template_fill.specs.WebAddress.{OneAddress}
 use Rattle.control_reader.specs.declared.page.Page.{Page}
 use Rattle.join_core.specs.declared.first.First.TheVariants.{Got}
-use Rattle.join_core.specs.declared.node.Waits.{Waits}
 use Rattle.join_core.specs.declared.node.Waits.TheVariants.{First as ForFirst, Next as ForNext}
 use Rattle.join_core.specs.Worlds.{World}
 use Rattle.join_core.specs.Nodes.{Stage, NodeData, node}
 use Rattle.join_core.specs.Nodes.Stage.{Asking, Walking}
 use Rattle.join_core.specs.Events.{CanAsk, asked, IsNextAddress, waits_for, with_first_at, is_full, is_idle, has_ask, works, opened_by, out_by, after_by, IsChosen, one_more}
-use Rattle.join_core.specs.Joins.{JoinData, nodes, out, tickets_of, tickets_out, Suits, Keeps, HandsOut, IsTrueFor, TakesPage, Stands, IsAt, with_node, taken_at, walked_at, asked_at, ChoosesAt, TakesFirstAt, MayAsk, AsksAt, TakesFirst, TakesNext, NoneIn, level_at}
-use Rattle.join_core.specs.Outcomes.{NewTicket}
+use Rattle.join_core.specs.Joins.{JoinData, nodes, out, tickets_of, tickets_out, Suits, Keeps, HandsOut, IsTrueFor, TakesPage, Stands, IsAt, with_node, taken_at, asked_at, TakesFirstAt, MayAsk, AsksAt, TakesFirst, TakesNext, NoneIn, level_at}
 use Rattle.join_core.specs.Sound.{IsAskedBy}
 use Rattle.join_core.specs.Levels.{LevelData, seed_node, level_of, is_key, marked, IsFirstIdle, plain, found_at, index_at, with_node_in, made_levels, times, tickets_at, AsksNext, CanAskAt, WaitsAt, TakesMade, TakesFirstIn}
 use Rattle.join_core.proofs.Taken.{set-replaces}
-use Rattle.join_core.proofs.Marks.{tickets-ask, waits-next}
+use Rattle.join_core.proofs.Marks.{tickets-ask}
 use Rattle.join_core.proofs.Outs.{made-idle}
 use Rattle.join_core.proofs.Promises.{held_at, held-stands, held-there, first-taken, first-gone, gone-then, chooses, chosen-tickets, taken-over, TakesPage-Keeps, takes-next, next-ticket-gone, asks-at, grown}
 use Rattle.join_core.proofs.Books.{no-times}

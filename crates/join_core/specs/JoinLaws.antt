@@ -1,5 +1,5 @@
 -- Serves proofs alone: the laws of a join as an evaluation.
-use Rattle.std.proofs.Common.{ℕ, suc, ◌≡◌, ◌<◌, ◌&&◌, Bool, true, false, List, [], ◌∷◌, ◌++◌, length, refl, ap, sym, ◌∙◌, arith}
+use Rattle.std.proofs.Common.{ℕ, suc, ◌≡◌, ◌<◌, ◌&&◌, Bool, true, false, List, [], ◌∷◌, ◌++◌, length, refl, ap, ◌∙◌, arith}
 use Rattle.std.specs.Prelude.{◌==◌}
 use Rattle.std.specs.List.{All, flat_map}
 use Rattle.std.proofs.lemmas.Bool.Decides.{nat_tests}
@@ -7,8 +7,8 @@ use Rattle.tpf_base.specs.Addresses.{Address}
 use Rattle.bgp_core.specs.Solutions.{Places}
 use Rattle.join_core.specs.Worlds.{World}
 use Rattle.join_core.specs.Nodes.{NodeData, future, left}
-use Rattle.join_core.specs.Joins.{JoinData, nodes, outs, tickets_of, tickets_out, Suits}
-use Rattle.join_core.specs.Evaluations.{Account, Standing, Terms, nothing}
+use Rattle.join_core.specs.Joins.{JoinData, nodes, outs, tickets_of, Suits}
+use Rattle.join_core.specs.Evaluations.{Account, Terms, nothing}
 use Rattle.join_core.specs.Sound.{KeepsTo}
 use Rattle.join_core.specs.JoinAccounts.{account_of, standing_of, is_over}
 

@@ -1,5 +1,5 @@
 -- How the open nodes are kept. Serves the contracts inside the crate alone.
-use Rattle.std.specs.Prelude.{ℕ, suc, ◌≡◌, ◌+◌, ◌<◌, ◌⊎◌, ◌==◌, Bool, true, false, List, [], ◌∷◌, ◌++◌, length, map, take, Option, Some, None, option_to_list, if◌then◌else◌, cond, nat_lt, slice_index_or, slice_set}
+use Rattle.std.specs.Prelude.{ℕ, suc, ◌≡◌, ◌+◌, ◌<◌, ◌⊎◌, ◌==◌, Bool, true, false, List, [], ◌∷◌, ◌++◌, length, map, take, Option, Some, None, option_to_list, cond, slice_index_or, slice_set}
 use Rattle.std.specs.List.{All, AllByRecursion, count_by}
 use Rattle.std.specs.List.Sorted.{IsStrictlySortedBy, IsPermutation}
 use Rattle.std.specs.Map.{keys_of, values_of, lookup, set_value}

@@ -1,9 +1,8 @@
 -- What a join keeps, whatever pages came.
-use Rattle.std.specs.Prelude.{ℕ, suc, ◌≡◌, ◌+◌, ◌<◌, ◌≤◌, true, List, [], length, Option, Some, None}
+use Rattle.std.specs.Prelude.{ℕ, suc, ◌≡◌, ◌+◌, ◌<◌, ◌≤◌, List, length}
 use Rattle.std.specs.List.{All}
 use Rattle.tpf_base.specs.Addresses.{Address}
 use Rattle.bgp_core.specs.declared.pattern.Pattern.{Pattern}
-use Rattle.bgp_core.specs.Solutions.{Places}
 use Rattle.template_fill.specs.declared.form.Form.{Form}
 use Rattle.template_fill.specs.Authorities.{ShareAuthority}
 use Rattle.join_core.specs.declared.first.First.{First}

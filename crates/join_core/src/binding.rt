@@ -1,8 +1,5 @@
 // The extension of a row by a triple that is taken apart.
-ghost use Rattle.std.specs.Prelude.{◌≡◌, length, IfOk, IfSome, Option, Some, None, true};
-ghost use Rattle.rdf_terms.specs.declared.term.Term.{Term};
-ghost use Rattle.rdf_terms.specs.declared.term.Triple.{Triple};
-ghost use Rattle.bgp_core.specs.declared.pattern.Pattern.{Pattern};
+ghost use Rattle.std.specs.Prelude.{◌≡◌, length, IfOk, IfSome, Some, true};
 ghost use Rattle.bgp_core.specs.Queries.{HasPlaceFor, HasPlacesFor};
 ghost use Rattle.bgp_core.specs.Solutions.{bind, extension};
 ghost use Rattle.bgp_core.specs.Fits.{allows};

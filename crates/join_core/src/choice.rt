@@ -1,5 +1,5 @@
 // The choice of the pattern with the least count.
-ghost use Rattle.std.specs.Prelude.{◌≡◌, ◌<◌, ◌≤◌, length, map, nat_le};
+ghost use Rattle.std.specs.Prelude.{◌≡◌, ◌≤◌, length, map, nat_le};
 ghost use Rattle.std.specs.List.{list_all};
 ghost use Rattle.join_core.specs.Nodes.{least, count_of};
 

@@ -1,7 +1,6 @@
 // What the triples of a page make of a row.
-ghost use Rattle.std.specs.Prelude.{◌≡◌, ◌<◌, ◌++◌, length, map, OnOk, Some, drop};
+ghost use Rattle.std.specs.Prelude.{◌≡◌, ◌++◌, length, map, OnOk, drop};
 ghost use Rattle.std.specs.List.{AllByRecursion};
-ghost use Rattle.bgp_core.specs.declared.pattern.Pattern.{Pattern};
 ghost use Rattle.bgp_core.specs.Queries.{HasPlacesFor};
 ghost use Rattle.join_core.specs.Nodes.{put_out, opened, rows_out, nodes_in, all_askable};
 ghost use Rattle.join_core.specs.Levels.{seed_node};

@@ -1,8 +1,7 @@
 // The join.
-ghost use Rattle.std.specs.Prelude.{ℕ, ◌≡◌, ◌+◌, ◌<◌, ◌≤◌, ◌↔◌, ◌^◌, List, [], ◌++◌, length, IfOk, OnOk, OnErr, Option, Some, None, MatchOption, max, min, IsTrue, replicate, Ok, ◌*◌, ◌-◌, ⊤};
+ghost use Rattle.std.specs.Prelude.{ℕ, ◌≡◌, ◌+◌, ◌<◌, ◌≤◌, ◌↔◌, ◌^◌, List, [], ◌++◌, length, IfOk, OnOk, OnErr, None, MatchOption, max, min, IsTrue, replicate, Ok, ◌*◌, ◌-◌, ⊤};
 ghost use Rattle.std.specs.List.{All, AllByRecursion, count_by};
 ghost use Rattle.bgp_core.specs.Queries.{IsValidPattern};
-ghost use Rattle.control_reader.specs.declared.page.Page.{Page};
 ghost use Rattle.join_core.specs.Worlds.{World, IsWorld, HasForm};
 ghost use Rattle.join_core.specs.Nodes.{nodes_in, rows_out};
 ghost use Rattle.join_core.specs.Events.{works};
@@ -10,7 +9,7 @@ ghost use Rattle.join_core.specs.Levels.{nodes_of};
 ghost use Rattle.tpf_base.specs.Addresses.{Address};
 ghost use Rattle.join_core.specs.Evaluations.{Terms, HasHome, AsksAtHome, NextAtHome};
 ghost use Rattle.join_core.specs.Sound.{KeepsTo, IsKeptSmall};
-ghost use Rattle.join_core.specs.Joins.{JoinData, nodes, Suits, Begins, Opens, IsTrueFor, GivesRow, tickets_out, with_longest};
+ghost use Rattle.join_core.specs.Joins.{nodes, Suits, Begins, Opens, IsTrueFor, GivesRow, tickets_out, with_longest};
 ghost use Rattle.join_core.specs.Outcomes.{AskDone, AskNumbered, NothingToAsk, AnswerDone, AnswerNumbered, AnswerTakes, AskStarts, GivesWaiting, WaitsMore, LongestAfter};
 ghost use Rattle.join_core.specs.Runs.{IsDone};
 ghost use Rattle.join_core.specs.JoinAccounts.{is_over};

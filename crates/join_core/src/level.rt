@@ -1,5 +1,5 @@
 // The nodes of one depth.
-ghost use Rattle.std.specs.Prelude.{ℕ, ◌≡◌, ◌<◌, ◌^◌, ◌-◌, ◌++◌, [], length, map, take, IfOk, OnOk, OnErr, Option, Some, None, Ok, true, false, IfSome, IfNone, is_some, slice_set, min, option_to_list, IsTrue, if◌then◌else◌};
+ghost use Rattle.std.specs.Prelude.{ℕ, ◌≡◌, ◌<◌, ◌^◌, ◌-◌, ◌++◌, [], length, map, take, IfOk, OnOk, OnErr, Some, None, true, false, IfSome, IfNone, is_some, slice_set, min, option_to_list, IsTrue, if◌then◌else◌};
 ghost use Rattle.std.specs.List.{All, count_by, remove};
 ghost use Rattle.std.specs.Map.{lookup, values_of};
 ghost use Rattle.std.specs.Set.{remove_key};

@@ -1,5 +1,5 @@
 // The open nodes, depth by depth.
-ghost use Rattle.std.specs.Prelude.{ℕ, ◌≡◌, ◌+◌, ◌<◌, ◌≤◌, ◌^◌, ◌++◌, ◌⊎◌, ◌-◌, length, map, IfOk, OnOk, OnErr, Option, Some, None, Ok, true, false, IfSome, IfNone, is_some, min, option_to_list};
+ghost use Rattle.std.specs.Prelude.{ℕ, ◌≡◌, ◌+◌, ◌<◌, ◌≤◌, ◌^◌, ◌++◌, ◌⊎◌, ◌-◌, length, map, IfOk, OnOk, OnErr, Some, None, Ok, true, false, IfSome, IfNone, is_some, min, option_to_list};
 ghost use Rattle.std.specs.List.{All, count_by};
 ghost use Rattle.join_core.specs.Nodes.{NodeData};
 ghost use Rattle.join_core.specs.Events.{asked, IsNextAddress, waits_for, with_first_at, opened_by, out_by, after_by, has_ask, is_idle, works};

@@ -1,5 +1,5 @@
 // The next page of a walk.
-ghost use Rattle.std.specs.Prelude.{◌≡◌, Option, Some, None};
+ghost use Rattle.std.specs.Prelude.{◌≡◌, Some, None};
 ghost use Rattle.join_core.specs.NextPages.{address_of, ticket_of};
 
 use std::snapshot::Snapshot;

@@ -1,19 +1,17 @@
 // The nodes of a join.
-ghost use Rattle.std.specs.Prelude.{◌≡◌, ◌<◌, ◌+◌, length, IfOk, OnOk, OnErr, IfSome, [], Option, Some, None, true, false, IsTrue, ◌++◌, ◌==◌, map, slice_index_or, option_to_list, IfNone};
+ghost use Rattle.std.specs.Prelude.{◌≡◌, ◌<◌, length, IfOk, OnOk, OnErr, IfSome, [], Some, None, true, false, IsTrue, ◌++◌, ◌==◌, map, slice_index_or, option_to_list, IfNone};
 ghost use Rattle.std.specs.List.{list_all, All, AllByRecursion, remove};
 ghost use Rattle.bgp_core.specs.declared.pattern.Pattern.{Pattern};
 ghost use Rattle.bgp_core.specs.Queries.{HasPlacesFor};
 ghost use Rattle.bgp_core.specs.Instances.{instance};
-ghost use Rattle.control_reader.specs.declared.page.Page.{Page};
 ghost use Rattle.rdf_terms.specs.Askable.{askable};
 ghost use Rattle.tpf_base.specs.Addresses.{IsAddress};
 ghost use Rattle.template_fill.specs.Forms.{form_text};
 ghost use Rattle.template_fill.specs.Authorities.{ShareAuthority};
 ghost use Rattle.join_core.specs.Sound.{IsAskedBy};
-ghost use Rattle.join_core.specs.Nodes.{NodeData, all_askable, fresh, opened, put_out, is_got};
-ghost use Rattle.join_core.specs.Events.{CanAsk, asked, IsNextAddress, waits_for, first_waiting, with_first_at, is_full, next_walk, chosen_page};
+ghost use Rattle.join_core.specs.Nodes.{all_askable, fresh, opened, put_out, is_got};
+ghost use Rattle.join_core.specs.Events.{CanAsk, asked, IsNextAddress, waits_for, first_waiting, with_first_at, is_full, next_walk, chosen_page, IsFirstOf, first_at, least_in, opened_by, out_by, after_by, MadeOf, IsChosen, has_ask, is_idle};
 ghost use Rattle.join_core.specs.Levels.{seed_node};
-ghost use Rattle.join_core.specs.Events.{IsFirstOf, first_at, least_in, opened_by, out_by, after_by, MadeOf, IsChosen, has_ask, is_idle};
 
 use crate::choice::least_count;
 use crate::expand::{expand, expand_held};

@@ -1,19 +1,19 @@
 -- The slots that a target asks for are no longer than the target.
-use Rattle.std.proofs.Common.{ℕ, zero, suc, ◌≡◌, ◌+◌, ◌*◌, ◌-◌, ◌≤◌, ◌==◌, Bool, true, false, List, [], ◌∷◌, ◌++◌, map, filter, length, take, drop, Option, Some, None, Result, Ok, Err, codes, bytes_eq, if◌then◌else◌, refl, sym, ap, subst, ◌∙◌, arith, length-append, length-take, length-drop}
+use Rattle.std.proofs.Common.{ℕ, zero, suc, ◌≡◌, ◌+◌, ◌*◌, ◌≤◌, ◌==◌, Bool, true, false, List, [], ◌∷◌, ◌++◌, map, filter, length, take, drop, Option, Some, None, Result, Ok, Err, codes, bytes_eq, if◌then◌else◌, subst, arith, length-append, length-take, length-drop}
 use Rattle.std.specs.List.{AllByRecursion, position_or_len}
 use Rattle.std.specs.Option.{option_map, unwrap_or}
 use Rattle.std.specs.Str.Lossy.{utf8_lossy, utf8_lossy_within, utf8_valid_len, utf8_invalid_len, after_first_chunk, replacement_bytes}
 use Rattle.std.specs.Char.{digit_value, to_ascii_lowercase}
 use Rattle.std.proofs.lemmas.List.{length-map}
-use Rattle.form_urlencoded.specs.Form.{split_once, split_pair, onto_first, split, is_nonempty, raw_pairs, plus_to_space, decode, ampersand, equals_sign}
+use Rattle.form_urlencoded.specs.Form.{split_pair, onto_first, split, is_nonempty, raw_pairs, plus_to_space, decode, ampersand, equals_sign}
 use Rattle.percent_encoding.specs.Percent.{is_escape, percent_decode}
-use Rattle.tpf_base.specs.Addresses.{Address, target_of}
+use Rattle.tpf_base.specs.Addresses.{Address}
 use Rattle.rdf_terms.specs.Iri.{is_iri}
 use Rattle.rdf_terms.specs.Tag.{is_tag, lower}
 use Rattle.rdf_terms.specs.Kinds.{typed_kind}
 use Rattle.rdf_terms.specs.Datatype.{is_lang_string, is_xsd_string}
 use Rattle.rdf_terms.specs.declared.term.Term.{Term}
-use Rattle.rdf_terms.specs.declared.term.Term.TheVariants.{Iri, Blank, Literal}
+use Rattle.rdf_terms.specs.declared.term.Term.TheVariants.{Iri, Literal}
 use Rattle.rdf_terms.specs.declared.term.Kind.TheVariants.{Plain, Typed, Tagged}
 use Rattle.rdf_terms.specs.declared.slots.Slot.{Slot}
 use Rattle.rdf_terms.specs.declared.slots.Slot.TheVariants.{Any, Fixed}

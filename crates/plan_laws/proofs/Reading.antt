@@ -1,5 +1,5 @@
 -- What a server within the limits answers is read as pages.
-use Rattle.std.proofs.Common.{ℕ, zero, suc, ◌≡◌, ◌+◌, ◌-◌, ◌*◌, ◌/◌, ◌<◌, ◌≤◌, ◌^◌, ◌==◌, max, nat_lt, Bool, true, false, List, [], ◌∷◌, ◌++◌, map, length, replicate, Option, Some, None, codes, slice_get, if◌then◌else◌, refl, sym, ap, subst, ◌∙◌, arith, length-append, append-nil, div-le_self}
+use Rattle.std.proofs.Common.{ℕ, zero, suc, ◌≡◌, ◌+◌, ◌-◌, ◌/◌, ◌<◌, ◌≤◌, ◌^◌, ◌==◌, max, nat_lt, Bool, true, false, List, [], ◌∷◌, ◌++◌, length, replicate, Option, Some, None, codes, slice_get, if◌then◌else◌, refl, sym, ap, subst, ◌∙◌, arith, length-append, append-nil, div-le_self}
 use Rattle.std.specs.List.{AllByRecursion, Contains, filter}
 use Rattle.std.specs.declared.cmp.Ordering.{Ordering}
 use Rattle.std.specs.declared.cmp.Ordering.TheVariants.{Less, Equal, Greater}
@@ -7,7 +7,7 @@ use Rattle.list_laws.proofs.Members.{at_head, in_tail, all_from, in_flat_map}
 use Rattle.list_laws.proofs.Told.{all_in}
 use Rattle.tpf_base.specs.Addresses.{Address, IsAddress, address_text, authority_of, target_of, query_text}
 use Rattle.tpf_base.specs.HttpHeads.{head_limit}
-use Rattle.tpf_base.specs.HttpText.{line_end, request_text}
+use Rattle.tpf_base.specs.HttpText.{request_text}
 use Rattle.tpf_base.specs.Marks.{Mark, version_at}
 use Rattle.rdf_terms.specs.declared.term.Term.{Term}
 use Rattle.rdf_terms.specs.declared.term.Triple.{Triple}
@@ -25,12 +25,11 @@ use Rattle.template_fill.specs.ReadAddress.{path_of, query_of, with_target}
 use Rattle.template_fill.specs.Explicit.{explicit_form, FormsAreShort}
 use Rattle.template_fill.specs.Pages.{places_text, page_address}
 use Rattle.template_fill.specs.Authorities.{ShareAuthority, PagesAreAddresses, PagesShareAuthority, address_of_page}
-use Rattle.template_fill.specs.Metadata.{Config, page_metadata}
-use Rattle.template_fill.specs.Configurations.{IsConfig, IsHistory, IsValidDataSet, VersionsAreValid}
-use Rattle.template_fill.specs.Bodies.{version_of, in_default_graph, page_quads, page_body}
+use Rattle.template_fill.specs.Metadata.{Config}
+use Rattle.template_fill.specs.Configurations.{VersionsAreValid}
+use Rattle.template_fill.specs.Bodies.{version_of, page_quads}
 use Rattle.template_fill.specs.HttpAnswer.{Answer}
-use Rattle.template_fill.specs.Answered.{address_answer, is_answered, GivesPage, GivesSomePage, PagesAreGiven, AnsweredGivePages}
-use Rattle.control_reader.specs.declared.page.Page.{Page}
+use Rattle.template_fill.specs.Answered.{is_answered, GivesPage, PagesAreGiven, AnsweredGivePages}
 use Rattle.control_reader.specs.Takes.{Takes}
 use Rattle.control_reader.specs.Law.{IsWithinLimits, ControlsReadBack, PagesAreThere}
 use Rattle.control_reader.proofs.LawData.{page_all}
@@ -44,7 +43,7 @@ use Rattle.join_core.specs.Servers.{server_world}
 use Rattle.join_core.specs.Nodes.{plan}
 use Rattle.plan_laws.specs.Fitting.{IsRead, AreServable, IsAskablePart, IsAskable, IsServable}
 use Rattle.plan_laws.proofs.Lengths.{IsShortSlot, AreShort, address_short}
-use Rattle.plan_laws.proofs.Metadata.{Fits, AreFitting, HasFittingTexts, HasFittingTerms, joined, metadata_fits, data_fits}
+use Rattle.plan_laws.proofs.Metadata.{AreFitting, HasFittingTexts, HasFittingTerms, joined, metadata_fits, data_fits}
 use Rattle.plan_laws.proofs.Slots.{Binds, HasTerms, IsPart, HasParts, IsSlot, HasSlots}
 use Rattle.plan_laws.proofs.Plans.{IsPlanned, low_last, plan_planned}
 use Rattle.plan_laws.proofs.Asked.{target_short}

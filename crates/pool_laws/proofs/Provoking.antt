@@ -36,10 +36,10 @@ use Rattle.request_pool.specs.declared.fault.Stepped.TheVariants.{Came, Waited, 
 use Rattle.request_pool.specs.Pools.{Pooled, Ask, ask_waiting, ask_flying, held, in_flight}
 use Rattle.request_pool.specs.Owned.{SuitsWire, on_link, flights_on, spare_on, held_on, open_on, times_open}
 use Rattle.request_pool.specs.Polls.{Shuts, Settles, NoLink, Kept, Shut, TakesLink, Polls, FlightTo}
-use Rattle.request_pool.specs.Runs.{Begins, Starts, Overruns, Flies, Starves, Last, OfStart, OfPoll, Ended, is_end}
+use Rattle.request_pool.specs.Runs.{Begins, Starts, Overruns, Flies, Starves, Last, OfStart, OfPoll, Ended, is_end, Running}
 use Rattle.request_pool.specs.Steps.{Waits, GivesUp, WaitsTo, Passes, Stalls, Misses, Lacks, EndsInWait, Breaks, AtOnce, InRun, InWait, StepsTo, MayWait, AsleepOn}
 use Rattle.request_pool.proofs.Owned.{at_or_off, on_same, on_other, one_at_most, open_one, closed_none, same_open, flights_on-append}
-use Rattle.request_pool.proofs.Suits.{Owns, owns_begun, owns_next}
+use Rattle.request_pool.proofs.Suits.{Owns, owns_begun, owns_next, own_none, waits_suits}
 use Rattle.pool_laws.specs.Following.{Follows, AnswersSoFar, HasPeer}
 use Rattle.pool_laws.specs.Owning.{IsAsBefore, Same, Woken}
 use Rattle.pool_laws.specs.Rising.{IsServed}
@@ -47,12 +47,10 @@ use Rattle.pool_laws.specs.Provoking.{IsStalled, IsAwake, OneIsAwake, MovesFirst
 use Rattle.pool_laws.proofs.Lists.{all_append, all_front, all_behind, all_unmap, same_link}
 use Rattle.pool_laws.proofs.Following.{on_some, off, own_link, left_is, request_is}
 use Rattle.pool_laws.proofs.Owning.{after_link}
-use Rattle.request_pool.proofs.Suits.{own_none, waits_suits}
 use Rattle.request_pool.proofs.Risen.{Fares, fares_first, running_fares}
 use Rattle.request_pool.proofs.Steps.{suits_gathered}
 use Rattle.request_pool.proofs.Holding.{running_holds}
 use Rattle.request_pool.proofs.Bounds.{runs_bounds}
-use Rattle.request_pool.specs.Runs.{Running}
 use Rattle.pool_laws.proofs.HeldLinks.{LinksKept, AsksAt, Owning, owning_is_kept, any_asks, waits_only}
 use Rattle.pool_laws.proofs.KeptBySteps.{IsKept, IsKeptWhileOn, running_goes, by_running, by_step}
 use Rattle.pool_laws.proofs.Running.{answers_are_kept, given_up_owned}

@@ -81,9 +81,6 @@ step_bounds (Err fault) p q a b h = breaks_bounds fault p q a b h
 pub step_fault : (result : Result Stepped PoolFault) (p q : Pooled) (a b : WireState) → p.fault ≡ None → StepsTo result p q a b → q.fault ≡ None
 step_fault result p q a b e h = ap (λ (x : Pooled). x.fault) (step_bounds result p q a b h) ∙ e
 
-pub same_bounds : (p q r : Pooled) → bounds_of q ≡ bounds_of p → r ≡ q → bounds_of r ≡ bounds_of p
-same_bounds p q r e f = ap bounds_of f ∙ e
-
 -- ---- the fault again
 
 pub again_err : (shown fault : PoolFault) → (shown ≡ fault) ⊎ (shown ≡ faults.OutOfMemory) → (◌≡◌ {A = Result Stepped PoolFault} (Err shown) (Err fault)) ⊎ (◌≡◌ {A = Result Stepped PoolFault} (Err shown) (Err faults.OutOfMemory))

@@ -19,10 +19,10 @@ use Rattle.request_pool.specs.declared.fault.PoolFault.TheVariants as faults
 use Rattle.request_pool.specs.Pools.{Pooled}
 use Rattle.request_pool.specs.Owned.{on_link, flights_on, held_on, SuitsWire}
 use Rattle.request_pool.specs.Polls.{Polls, FlightTo}
-use Rattle.request_pool.specs.Runs.{Starts, Overruns, Flies, Starves, Turn, Start, Next, Round, Moment, Runs, Running, Last, OfStart, OfPoll, is_end}
+use Rattle.request_pool.specs.Runs.{Starts, Overruns, Flies, Starves, Turn, Start, Next, Round, Moment, Runs, Running, is_end}
 use Rattle.request_pool.specs.Steps.{RisenOn, AsleepOn}
 use Rattle.request_pool.proofs.Owned.{at_or_off, on_same, linked_open, flights_on-append, rest_none}
-use Rattle.request_pool.proofs.Suits.{Owns, owns_begun, owns_next, flight_suits, starts_suits, next_suits, underway-append, suits_as}
+use Rattle.request_pool.proofs.Suits.{Owns, owns_begun, owns_next, flight_suits, underway-append, suits_as}
 
 -- links are not forgotten, and no count of stalls falls
 pub record Later (a b : WireState) : Type 0 where
@@ -219,7 +219,3 @@ running_fares known since p q a b h r = runs_fare r.moments known since p q a b 
 
 pub fares_first : (p : Pooled) (a : WireState) → SuitsWire p a → OpensGiven a → Fares false a p a
 fares_first p a s g = record { suits = s; given = g; later = later_none a; risen = λ k. cc; asleep = λ k. cc }
-
-pub last_suits : (result : Result Polled PoolFault) (p q : Pooled) (a b : WireState) → OpensGiven a → SuitsWire p a → Last result p q a b → SuitsWire q b
-last_suits result p q a b g s (OfStart h) = starts_suits result p q a b g s h
-last_suits result p q a b g s (OfPoll h) = next_suits result p q a b g s h

@@ -76,23 +76,6 @@ starts_due result p q a b (Overruns e budget f h) = ap (λ (x : Pooled). x.due) 
 starts_due result p q a b (Flies mid f budget begins to) = (flight_keeps result f mid q a b to).due ∙ ap (λ (x : Pooled). x.due) begins.is_new
 starts_due result p q a b (Starves e mid f begins is shuts) = ap (λ (x : Pooled). x.due) is ∙ ap (λ (x : Pooled). x.due) begins.is_new
 
-end_of : (result : Result Polled PoolFault) (fault : PoolFault) → result ≡ Err fault → is_end result ≡ false → ⊥
-end_of result fault e f = let g : true ≡ false = sym (ap is_end e) ∙ f in cc
-
-fewer : (b b' b'' s s' s'' : ℕ) → s < b → b' ≡ b → s' ≡ s + 1 → b'' ≡ b' → s'' ≡ s' → b'' - s'' < b - s
-fewer b b' b'' s s' s'' h e f i j = omega (arith, h, e, f, i, j)
-
--- each start leaves fewer
-pub starts_fewer : (result : Result Polled PoolFault) (p q : Pooled) (a b : WireState) → is_end result ≡ false → Starts result p q a b → q.budget - q.started < p.budget - p.started
-starts_fewer result p q a b e (Overruns r budget f h) = absurd (end_of result faults.Budget r e)
-starts_fewer result p q a b e (Starves r mid f begins is shuts) = absurd (end_of result faults.OutOfMemory r e)
-starts_fewer result p q a b e (Flies mid f budget begins to) =
-    let k = flight_keeps result f mid q a b to in
-    fewer p.budget mid.budget q.budget p.started mid.started q.started budget (ap (λ (x : Pooled). x.budget) begins.is_new) (ap (λ (x : Pooled). x.started) begins.is_new) k.budget k.started
-
-pub next_fewer : (result : Result Polled PoolFault) (p q : Pooled) (a b : WireState) → PollsNext result p q a b → length q.due < length p.due
-next_fewer result p q a b h = let k = flight_keeps result h.f (record p { due = h.rest }) q a b h.to in omega (arith, ap (λ (x : List Flight). length x) h.is_next, ap (λ (x : List Flight). length x) k.due)
-
 -- ---- before a wait
 
 full_by : (w : List Waiting) (n links all : ℕ) → all ≡ length w + n → n ≤ links → (((n < links) × (w ≢ [])) → ⊥) → n ≡ min links all
@@ -155,9 +138,6 @@ then_round first result p q r s a b c e h due is i = to_then result p r s a b c 
 
 pub then_runs : (first result : Result Polled PoolFault) (p q r : Pooled) (a b c : WireState) → is_end first ≡ false → RunsTo first p q a b → RunsTo result q r b c → RunsTo result p r a c
 then_runs first result p q r a b c e h i = to_then result p q r a b c (went_on first p q a b e h) i
-
-pub not_pending : (result : Result Polled PoolFault) → is_end result ≡ true → result ≡ Ok polls.Pending → ⊥
-not_pending result e f = let g : false ≡ true = sym (ap is_end f) ∙ e in cc
 
 pub pending_of : (result : Result Polled PoolFault) (p q : Pooled) (a b : WireState) → is_end result ≡ false → RunsTo result p q a b → result ≡ Ok polls.Pending
 pending_of result p q a b e (GoesOn f h) = f

@@ -20,12 +20,11 @@ use Rattle.request_pool.specs.declared.fault.Polled.{Polled}
 use Rattle.request_pool.specs.declared.fault.Polled.TheVariants as polls
 use Rattle.request_pool.specs.declared.fault.PoolFault.{PoolFault}
 use Rattle.request_pool.specs.declared.fault.PoolFault.TheVariants as faults
-use Rattle.request_pool.specs.declared.fault.Stepped.{Stepped}
-use Rattle.request_pool.specs.Pools.{Pooled, in_flight}
+use Rattle.request_pool.specs.Pools.{Pooled}
 use Rattle.request_pool.specs.Owned.{on_link, flights_on, spare_on, held_on, times_open, open_on, AreUnderway, SuitsWire}
-use Rattle.request_pool.specs.Polls.{Shuts, Settles, NoLink, Kept, Shut, TakesLink, FailsTo, Polls, FlightTo}
+use Rattle.request_pool.specs.Polls.{Shuts, Settles, NoLink, Kept, Shut, TakesLink, Polls, FlightTo}
 use Rattle.request_pool.specs.Runs.{Begins, Starts, Overruns, Flies, Starves, PollsNext}
-use Rattle.request_pool.specs.Steps.{Waits, GivesUp}
+use Rattle.request_pool.specs.Steps.{Waits}
 use Rattle.request_pool.proofs.Owned.{at_or_off, on_same, one_at_most, flights_on-append, spare_on-append, rest_none, rest_after, own_after, rest_closed}
 
 pub underway-append : (xs ys : List Flight) → AreUnderway xs → AreUnderway ys → AreUnderway (xs ++ ys)
@@ -154,24 +153,6 @@ pub next_suits : (result : Result Polled PoolFault) (p q : Pooled) (a b : WireSt
 next_suits result p q a b g s h = flight_suits result h.f (record p { due = h.rest }) q a b g (owns_next p h.f h.rest a s h.is_next) h.to
 
 -- ---- waits
-
-fails_suits : {T : Type 0} (fault : PoolFault) (result : Result T PoolFault) (f : Flight) (p q : Pooled) (a : WireState) → FailsTo fault result f p q → SuitsWire p a → SuitsWire q a
-fails_suits fault (Ok done) f p q a h s = subst (λ (x : Pooled). SuitsWire x a) (sym h.1) (record { polled = s.polled; due = s.due; owned = s.owned })
-fails_suits fault (Err shown) f p q a h s = subst (λ (x : Pooled). SuitsWire x a) (sym h.0) s
-
-split_flights : (p : Pooled) (f : Flight) (rest : List Flight) → in_flight p ≡ f ∷ rest → (k : ℕ) → on_link f.exchange.link k + flights_on rest k ≡ flights_on p.polled k + flights_on p.due k
-split_flights p f rest e k = sym (ap (λ (x : List Flight). flights_on x k) e) ∙ flights_on-append p.polled p.due k
-
-pub gives_up_suits : (fault : PoolFault) (result : Result Stepped PoolFault) (p q : Pooled) (a b : WireState) → SuitsWire p a → GivesUp fault result p q a b → SuitsWire q b
-gives_up_suits fault result p q a b s h =
-    let all = subst AreUnderway h.is_oldest (underway-append p.polled p.due s.polled s.due) in
-    let r : Pooled = record p { polled = h.rest; due = [] } in
-    let owned : (k : ℕ) → on_link h.f.exchange.link k + held_on r k ≤ open_on a k = λ k. omega (arith, s.owned k, split_flights p h.f h.rest h.is_oldest k) in
-    fails_suits fault result h.f r q b h.to (record {
-      polled = all.1;
-      due = tt;
-      owned = shuts_rest h.f.exchange.link a b h.shuts (held_on r) (λ k. omega (arith, owned k)) (own_none h.f.exchange.link (held_on r) a owned);
-    })
 
 woken_open : (answer : Ready) (a b : WireState) → Wakes answer a b → (k : ℕ) → (b.links k).is_open ≡ (a.links k).is_open
 woken_open ready.Door a b h k = ap (λ (x : Link). x.is_open) (h.1 k)

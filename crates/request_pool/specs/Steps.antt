@@ -62,10 +62,6 @@ pub data WaitsTo (result : Result Stepped PoolFault) (old new : Pooled) (wire wi
 
 -- ---- a step
 
--- those in flight are as before, and none is due
-abbrev pub Gathers : Pooled → Pooled → Type 0
-Gathers old new = new ≡ record old { polled = in_flight old; due = [] }
-
 -- a run that ended with a wait, before which every exchange waited
 pub record EndsInWait (result : Result Stepped PoolFault) (old new : Pooled) (wire wire' : WireState) : Type 0 where
   pub mid : Pooled

@@ -1,5 +1,5 @@
 // A pool of exchanges over one wire.
-ghost use Rattle.std.specs.Prelude.{◌≡◌, ◌≢◌, ◌+◌, ◌<◌, ◌≤◌, ◌++◌, ◌∷◌, ◌↔◌, ◌⊎◌, [], length, Some, None, Ok, Err, IsTrue, IfOk, IfSome, OnOk, OnErr, Result, min, ◌^◌, ◌-◌, true, false, IfErr};
+ghost use Rattle.std.specs.Prelude.{◌≡◌, ◌≢◌, ◌<◌, ◌≤◌, ◌++◌, ◌∷◌, ◌↔◌, ◌⊎◌, [], length, Some, None, Ok, Err, IsTrue, IfOk, IfSome, OnOk, OnErr, min, ◌^◌, ◌-◌, true, false, IfErr};
 ghost use Rattle.std.specs.List.{AllByRecursion};
 ghost use Rattle.tpf_base.specs.Links.{WireState, SameAllowed};
 ghost use Rattle.exchange.specs.Exchanges.{left_link, IsLinked};

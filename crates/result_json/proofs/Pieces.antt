@@ -1,12 +1,12 @@
 -- The text of a result is made of its pieces.
 use Rattle.std.proofs.Common.{ℕ, ◌≡◌, Bool, true, false, List, [], ◌∷◌, ◌++◌, Option, codes, flat_map, fold, refl, sym, ap, ◌∙◌, append_assoc, if◌then◌else◌}
-use Rattle.json.specs.Token.{Token, begin_object, end_object, begin_array, end_array, key, string}
+use Rattle.json.specs.Token.{Token, begin_object, end_object, begin_array, end_array, key}
 use Rattle.json.specs.Print.{print, print_from, ends}
 use Rattle.json.proofs.Printed.Tokens.{print_from-append}
 use Rattle.rdf_terms.specs.declared.term.Term.{Term}
 use Rattle.bgp_core.specs.Queries.{QueryData}
 use Rattle.bgp_core.specs.Solutions.{term_at}
-use Rattle.result_json.specs.Results.{row_object, bound_member, name_at, columns_of, rows_array, names_array, object_of, result_tokens, result_text}
+use Rattle.result_json.specs.Results.{row_object, bound_member, name_at, columns_of, rows_array, names_array, result_tokens, result_text}
 use Rattle.result_json.specs.Pieces.{front_tokens, head_tokens, opening, front_text, row_piece, rows_text, end_text, after_rows, PiecesMakeTheText, RowsGoOn}
 
 closed : (after : Bool) (ts : List Token) → fold (λ _ t. ends t) after (ts ++ end_object ∷ []) ≡ true

@@ -1,6 +1,6 @@
 // The tokens of a result.
 ghost use Rattle.std.specs.Prelude.{◌≡◌, [], ◌∷◌, ◌++◌, OnOk, Some};
-ghost use Rattle.json.specs.Token.{begin_object, begin_array, key, string};
+ghost use Rattle.json.specs.Token.{begin_object, begin_array, key};
 ghost use Rattle.bgp_core.specs.Solutions.{term_at};
 ghost use Rattle.result_json.specs.Results.{text_member, datatype_member, tag_member, term_members, name_at, bound_member, row_object, names_array};
 ghost use Rattle.result_json.specs.Pieces.{head_tokens, opening, front_tokens};

@@ -4,8 +4,8 @@ ghost use Rattle.std.specs.Io.KnownBytes.{Appends};
 ghost use Rattle.json.specs.Print.{print};
 ghost use Rattle.tpf_base.specs.Causes.{Rose, DoesNotFail};
 ghost use Rattle.tpf_base.specs.Wrote.{AppendsPrefix};
-ghost use Rattle.result_json.specs.Results.{columns_of, row_object, result_text};
-ghost use Rattle.result_json.specs.Pieces.{Writing, front_text, row_piece, end_text};
+ghost use Rattle.result_json.specs.Results.{row_object, result_text};
+ghost use Rattle.result_json.specs.Pieces.{front_text, row_piece, end_text};
 
 use crate::columns::columns_of;
 use crate::tokens::{put_front, put_row};

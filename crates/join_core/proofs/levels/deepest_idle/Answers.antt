@@ -1,4 +1,4 @@
-use Rattle.std.proofs.Common.{ℕ, ◌≡◌, ◌+◌, ◌-◌, ◌<◌, ◌≤◌, suc, false, length, refl, arith}
+use Rattle.std.proofs.Common.{◌≡◌, ◌+◌, ◌-◌, ◌<◌, ◌≤◌, suc, false, length, refl, arith}
 use Rattle.join_core.specs.Events.{is_idle}
 use Rattle.join_core.specs.Levels.{nodes_of, plain}
 use Rattle.join_core.proofs.Scans.{back-step, back-end, level-past}

@@ -1,4 +1,4 @@
-use Rattle.std.proofs.Common.{◌≡◌, ◌<◌, ◌≤◌, length, refl, arith}
+use Rattle.std.proofs.Common.{◌<◌, ◌≤◌, length, refl, arith}
 use Rattle.std.specs.Prelude.{is_some}
 use Rattle.join_core.specs.Events.{waits_for}
 use Rattle.join_core.specs.Levels.{nodes_of, plain}

@@ -1,4 +1,4 @@
-use Rattle.std.proofs.Common.{◌≡◌, ◌<◌, ◌≤◌, length, refl, arith}
+use Rattle.std.proofs.Common.{◌<◌, ◌≤◌, length, refl, arith}
 use Rattle.join_core.specs.Events.{has_ask}
 use Rattle.join_core.specs.Levels.{nodes_of, plain}
 use Rattle.join_core.proofs.Scans.{levels-step, levels-end, if-none}

@@ -1,10 +1,10 @@
-use Rattle.std.proofs.Common.{ℕ, ◌≡◌, ◌<◌, Some, List, inl, inr, length, map, set, refl, ap, sym, subst, ◌∙◌}
+use Rattle.std.proofs.Common.{ℕ, ◌≡◌, Some, List, inl, inr, map, set, refl, ap, sym, subst, ◌∙◌}
 use Rattle.std.specs.Map.{lookup}
 use Rattle.std.proofs.lemmas.Result.{on_ok_weaker}
 use Rattle.join_core.specs.declared.first.First.TheVariants.{Got}
 use Rattle.join_core.specs.Nodes.{NodeData}
 use Rattle.join_core.specs.Events.{with_first_at}
-use Rattle.join_core.specs.Levels.{LevelData, seed_node, nodes_of, plain, level_of, index_at, spot, is_key, MaySettle, TakesMade}
+use Rattle.join_core.specs.Levels.{LevelData, seed_node, nodes_of, plain, index_at, spot, is_key, MaySettle, TakesMade}
 use Rattle.join_core.proofs.Kept.{first-settles}
 use Rattle.join_core.proofs.Plain.{asked-level, found-level, same-set, set-level, level-is}
 use Rattle.join_core.proofs.levels.take_first.Goals as goal

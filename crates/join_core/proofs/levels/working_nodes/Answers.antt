@@ -1,4 +1,4 @@
-use Rattle.std.proofs.Common.{ℕ, ◌≡◌, ◌+◌, ◌<◌, min, length, ap, ◌∙◌, arith}
+use Rattle.std.proofs.Common.{ℕ, ◌+◌, ◌<◌, min, length, ap, ◌∙◌, arith}
 use Rattle.join_core.specs.Levels.{nodes_of, plain}
 use Rattle.join_core.proofs.Scans.{working-step}
 use Rattle.join_core.proofs.Plain.{plain-long, level-of-plain}

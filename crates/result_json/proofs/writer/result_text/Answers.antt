@@ -1,6 +1,5 @@
-use Rattle.std.proofs.Common.{ℕ, ◌≡◌, Bool, false, List, [], ◌++◌, drop, length, sym, ap, ◌∙◌, arith, append-nil}
+use Rattle.std.proofs.Common.{◌≡◌, false, [], ◌++◌, drop, sym, ap, ◌∙◌, arith, append-nil}
 use Rattle.std.proofs.lemmas.List.{drop_all}
-use Rattle.result_json.specs.Results.{result_text}
 use Rattle.result_json.specs.Pieces.{front_text, rows_text, end_text}
 use Rattle.result_json.proofs.Pieces.{pieces_make_the_text}
 use Rattle.result_json.proofs.writer.result_text.Goals as goal

@@ -1,4 +1,4 @@
-use Rattle.std.proofs.Common.{ℕ, ◌≡◌, List, min, length, ap, ◌∙◌, arith}
+use Rattle.std.proofs.Common.{◌≡◌, List, min, length, ap, ◌∙◌, arith}
 use Rattle.join_core.specs.Joins.{JoinData, nodes}
 use Rattle.join_core.specs.Levels.{LevelData, plain}
 use Rattle.join_core.proofs.Small.{open-bound}

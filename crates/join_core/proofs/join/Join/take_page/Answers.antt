@@ -1,11 +1,9 @@
-use Rattle.std.proofs.Common.{ℕ, ◌≡◌, ◌<◌, inl, inr, ◌∷◌, ◌++◌, [], List, Option, Some, append-nil, refl, ap, sym, subst, ◌∙◌}
-use Rattle.std.specs.Prelude.{is_some}
+use Rattle.std.proofs.Common.{◌≡◌, inl, inr, [], List, append-nil, refl, ap, sym, subst, ◌∙◌}
 use Rattle.std.specs.List.{All, flat_map}
 use Rattle.join_core.specs.declared.node.Waits.{Waits}
 use Rattle.join_core.specs.declared.node.Waits.TheVariants.{First as ForFirst, Next as ForNext}
 use Rattle.join_core.specs.declared.first.First.TheVariants.{Got}
-use Rattle.join_core.specs.Nodes.{NodeData}
-use Rattle.join_core.specs.Events.{waits_for, with_first_at}
+use Rattle.join_core.specs.Events.{with_first_at}
 use Rattle.join_core.specs.Joins.{JoinData, nodes, tickets_of, tickets_out, TakesFirstAt, TakesNext}
 use Rattle.join_core.specs.Outcomes.{WaitsMore}
 use Rattle.join_core.specs.Sound.{KeepsTo, IsKeptSmall}

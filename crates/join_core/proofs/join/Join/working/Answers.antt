@@ -1,4 +1,4 @@
-use Rattle.std.proofs.Common.{ℕ, ◌≡◌, List, min, ap, ◌∙◌}
+use Rattle.std.proofs.Common.{List, min, ap, ◌∙◌}
 use Rattle.std.specs.List.{count_by}
 use Rattle.join_core.specs.Events.{works}
 use Rattle.join_core.specs.Joins.{JoinData, nodes}

@@ -3,7 +3,7 @@ use Rattle.std.specs.List.{All}
 use Rattle.std.specs.Map.{values_of}
 use Rattle.join_core.specs.Nodes.{NodeData}
 use Rattle.join_core.specs.Events.{is_idle, has_ask}
-use Rattle.join_core.specs.Levels.{LevelData, IsKept, IsFirstIdle, marked}
+use Rattle.join_core.specs.Levels.{LevelData, IsKept, marked}
 use Rattle.join_core.proofs.Keyed.{marked-push}
 use Rattle.join_core.proofs.Kept.{keys-below, kept-begun, begun-first, idle-no-ask}
 use Rattle.join_core.proofs.level.Level.number_first.Goals as goal
