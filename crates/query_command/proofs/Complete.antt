@@ -5,7 +5,7 @@ use Rattle.tpf_base.specs.Addresses.{Address, address_text}
 use Rattle.tpf_base.specs.Links.{WireState}
 use Rattle.template_fill.specs.Metadata.{Config}
 use Rattle.template_fill.specs.Answered.{AnsweredGivePages}
-use Rattle.bgp_core.specs.Queries.{IsValidPattern}
+use Rattle.bgp_core.specs.Queries.{IsValidPattern, QueryData}
 use Rattle.plan_laws.specs.Fitting.{PlansAreRead, StartsAreRead}
 use Rattle.tpf_client.specs.declared.options.Options.{Options}
 use Rattle.tpf_client.specs.declared.fault.ClientFault.{ClientFault}
@@ -15,7 +15,6 @@ use Rattle.data_files.proofs.Outcomes.{one_query}
 use Rattle.query_command.specs.Limits.{QueriesAreAskable}
 use Rattle.tpf_base.specs.Causes.{Rose}
 use Rattle.rdf_terms.specs.declared.term.Triple.{Triple}
-use Rattle.bgp_core.specs.Queries.{QueryData}
 use Rattle.loop_wire.specs.Looped.{Looped}
 use Rattle.fragment_server.specs.declared.server.FragmentServer.{FragmentServer}
 use Rattle.tpf_client.specs.declared.options.Report.{Report}

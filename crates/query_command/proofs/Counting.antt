@@ -119,10 +119,6 @@ module _ (told : Option Files) (persons : ℕ) (name : List ℕ) (inside : Optio
         of_both (λ (ts : List Triple) (c : Config) (x : QueryData). MayEnd 0 usual_options ts c x fault) files is triples asked serves holds
         (ends (data_law persons (serving server).data_set most starts.data_set) (query_law files name q (is_read files is) valid))
 
-  -- where no wire was made nothing was sent
-  pub none_sent : inside ≡ None → OfGenerated told persons name (λ triples q. SendsInside inside triples (local_config 100) q)
-  none_sent none = λ files is triples q serves holds. subst (λ (made : Option (Looped FragmentServer)). SendsInside made triples (local_config 100) q) (sym none) tt
-
   -- what the file holds is the query that was read
   pub answers_read : (counts : Counts) → GeneratedAnswers told persons name inside counts → IfTold told (λ files. (outcome : QueryOutcome) → IsQueryOutcome files name outcome → IsReading outcome)
   answers_read counts a = λ files is outcome o. (a.0.q, one_query files name outcome (reads a.0.q) o (a.0.is_read files is))

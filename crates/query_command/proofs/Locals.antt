@@ -1,5 +1,5 @@
 -- What is said of the wire to a server is said of the files of a command.
-use Rattle.std.proofs.Common.{ℕ, ◌≡◌, ◌≤◌, ◌<◌, ◌^◌, [], ◌∷◌, List, Option, None, Result, codes, sym, subst, arith}
+use Rattle.std.proofs.Common.{ℕ, ◌≡◌, ◌≤◌, ◌<◌, ◌^◌, [], ◌∷◌, List, Option, Result, codes, sym, subst, arith}
 use Rattle.std.specs.List.{AllByRecursion}
 use Rattle.rdf_terms.specs.declared.term.Triple.{Triple}
 use Rattle.template_fill.specs.Metadata.{Config}
@@ -98,10 +98,6 @@ module _ (told told' : Option Files) (same : told' ≡ told) (view : LocalView) 
                 (one_outcome files view.name view.choice (codes "localhost") (served (serving server).data_set) (served triples) own serves) starts.config_is (one_query files view.query (reads q) (reads asked) there holds) l.says;
           };
         }
-
--- where no wire was made nothing was sent
-pub none_sent : (told : Option Files) (view : LocalView) (inside : Option (Looped FragmentServer)) → inside ≡ None → OfFiles told view (λ triples q. SendsInside inside triples (local_config view.page_size) q)
-none_sent told view inside none = λ files is triples q serves holds. subst (λ (made : Option (Looped FragmentServer)). SendsInside made triples (local_config view.page_size) q) (sym none) tt
 
 -- the fault of the query, from before the data were read
 pub query_from : (told told' : Option Files) → told' ≡ told → (name : List ℕ) (shelf mid shelf' : ℕ) (fault : QueryFileFault) → shelf ≤ mid → QueryCause told' name mid shelf' fault → QueryCause told name shelf shelf' fault

@@ -1,5 +1,5 @@
 // The start of a server in the same process.
-ghost use Rattle.std.specs.Prelude.{◌≡◌, ◌≤◌, IfOk, None};
+ghost use Rattle.std.specs.Prelude.{◌≡◌, ◌≤◌, IfOk};
 ghost use Rattle.query_command.specs.Loops.{local_base, local_config};
 
 use hydra_controls::Config;

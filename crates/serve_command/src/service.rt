@@ -1,5 +1,5 @@
 // The service of a file over a wire.
-ghost use Rattle.std.specs.Prelude.{ℕ, ◌≡◌, ◌+◌, ◌-◌, ◌≤◌, ◌⊎◌, codes, true, false, is_some, None, List, IfOk, IfErr, IfSome, OnOk};
+ghost use Rattle.std.specs.Prelude.{◌≡◌, ◌+◌, ◌-◌, ◌≤◌, ◌⊎◌, codes, true, false, is_some, None, IfOk, IfErr, IfSome, OnOk};
 ghost use Rattle.std.specs.Io.KnownBytes.{Appends};
 ghost use Rattle.tpf_base.specs.Addresses.{authority_of};
 ghost use Rattle.tpf_base.specs.Causes.{Rose};
@@ -10,7 +10,7 @@ ghost use Rattle.template_fill.specs.Configurations.{IsConfig};
 ghost use Rattle.serve_loop.specs.Sentence.{AllClosed};
 ghost use Rattle.file_server.specs.Servers.{serving};
 ghost use Rattle.file_server.specs.Supplies.{IsOfFile, FailedReading};
-ghost use Rattle.data_files.specs.Data.{IfTold, Serves, Outcome, IsOutcome};
+ghost use Rattle.data_files.specs.Data.{IfTold, Outcome, IsOutcome};
 ghost use Rattle.serve_command.specs.Services.{config_of, door_of, MayFollow, FailedReload, Services, ServesLinks, OpensAndTurns, SpeaksOfFile, SaysPrefixes, SaysWhole, DoorCause, ServiceCause, IsUntouched, GivesServed, answer_of};
 
 use crate::ServiceFault;

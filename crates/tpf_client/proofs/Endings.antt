@@ -1,5 +1,5 @@
 -- The last event of a call, and what is known before it.
-use Rattle.std.proofs.Common.{ℕ, ◌≡◌, ◌≤◌, ◌+◌, ◌++◌, List, [], ◌∷◌, length, Option, None, refl, sym, ap, subst, ◌∙◌, arith}
+use Rattle.std.proofs.Common.{ℕ, ◌≡◌, ◌+◌, ◌++◌, List, [], ◌∷◌, length, None, refl, sym, ap, subst}
 use Rattle.std.specs.Prelude.{Ok, Err}
 use Rattle.std.specs.List.{Contains}
 use Rattle.std.specs.List.Sorted.{IsPermutation}
@@ -16,7 +16,7 @@ use Rattle.tpf_client.specs.Calls.{RunsPool}
 use Rattle.tpf_client.specs.Honest.{Laws}
 use Rattle.tpf_client.specs.Requests.{TrafficLaws}
 use Rattle.tpf_client.proofs.Homes.{asks-front}
-use Rattle.tpf_client.proofs.Keeping.{Between, between-after}
+use Rattle.tpf_client.proofs.Keeping.{between-after}
 use Rattle.tpf_client.proofs.Known.{Knows, begun, begun-between, knows-so}
 use Rattle.tpf_client.proofs.Received.{SameTold, closes-told, lost-asked}
 use Rattle.tpf_client.proofs.Onward.{Onward, onward_same, onward_then, onward_step}

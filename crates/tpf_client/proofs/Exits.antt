@@ -1,5 +1,5 @@
 -- What stands at each exit of a call: its links, what was sent on them, and how many requests it made.
-use Rattle.std.proofs.Common.{ℕ, ◌≡◌, ◌≤◌, ◌<◌, ◌+◌, ◌*◌, ◌^◌, List, [], map, length, Option, None, true, refl, sym, subst, arith}
+use Rattle.std.proofs.Common.{ℕ, ◌≡◌, ◌≤◌, ◌<◌, ◌+◌, ◌*◌, ◌^◌, List, map, length, Option, refl, sym, subst, arith}
 use Rattle.std.proofs.Math.Nat.{mul-le-mul_left}
 use Rattle.std.specs.Prelude.{Result, IfOk, IfErr}
 use Rattle.rdf_terms.specs.declared.term.Triple.{Triple}

@@ -1,6 +1,5 @@
 -- Why a call fails over an honest wire.
-use Rattle.std.proofs.Common.{ℕ, ◌≡◌, ◌<◌, ◌^◌, List, [], ◌∷◌, length, Option, Some, sym, ap, subst, ◌∙◌}
-use Rattle.std.specs.List.{AllByRecursion, Contains}
+use Rattle.std.proofs.Common.{ℕ, ◌≡◌, ◌<◌, ◌^◌, List, length, Option, Some, sym, ap, subst, ◌∙◌}
 use Rattle.rdf_terms.specs.declared.term.Triple.{Triple}
 use Rattle.tpf_base.specs.Addresses.{Address}
 use Rattle.tpf_base.specs.Links.{WireState}
@@ -12,18 +11,17 @@ use Rattle.control_reader.specs.declared.page.PageFault.{PageFault}
 use Rattle.control_reader.specs.Takes.{Takes, Faults}
 use Rattle.bgp_core.specs.Queries.{QueryData}
 use Rattle.request_pool.specs.declared.fault.PoolFault.TheVariants as pool
-use Rattle.request_pool.specs.Pools.{Ask}
 use Rattle.pool_laws.specs.Answers.{IsBodyOf, IsTooLong, HasLongBody}
 use Rattle.tpf_client.specs.declared.options.Options.{Options}
 use Rattle.tpf_client.specs.declared.fault.ClientFault.{ClientFault}
 use Rattle.tpf_client.specs.declared.fault.ClientFault.TheVariants as faults
-use Rattle.tpf_client.specs.Traffic.{Event, Came, Broke, IsLawful, without_fault, Comes, Breaks}
+use Rattle.tpf_client.specs.Traffic.{Came, Broke, IsLawful, without_fault, Comes, Breaks}
 use Rattle.tpf_client.specs.Turns.{asked_in}
 use Rattle.tpf_client.specs.Honest.{Laws, IsHonestWire}
 use Rattle.tpf_client.specs.Requests.{TrafficLaws, addresses_of}
 use Rattle.tpf_client.specs.Causes.{IsNoPage, IsChanged}
 use Rattle.tpf_client.specs.Plans.{IsAnswered, IsReadByAll, RefusesLong, MissesPage, TellsVersions, IsHonestCause, answer_at}
-use Rattle.tpf_client.proofs.Endings.{Ending, ending, lost-in}
+use Rattle.tpf_client.proofs.Endings.{ending, lost-in}
 use Rattle.tpf_client.proofs.Headline.{all-of, answer-last}
 use Rattle.tpf_client.proofs.Known.{knows-so}
 use Rattle.tpf_client.proofs.Planned.{ExplainedRun, at-member, in-plan}

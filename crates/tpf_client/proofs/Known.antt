@@ -1,19 +1,17 @@
 -- What is known of a call's pool and its wire, as asks at one host and port are put and steps follow.
-use Rattle.std.proofs.Common.{ℕ, ◌≡◌, ◌≤◌, ◌<◌, ◌+◌, ◌*◌, ◌++◌, false, List, [], ◌∷◌, length, suc, None, refl, sym, ap, subst, ◌∙◌, arith}
+use Rattle.std.proofs.Common.{ℕ, ◌≡◌, ◌≤◌, ◌+◌, ◌*◌, ◌++◌, List, [], ◌∷◌, length, suc, None, refl, sym, ap, subst, ◌∙◌, arith}
 use Rattle.std.proofs.Math.Nat.{mul-suc}
 use Rattle.std.specs.Prelude.{Result, Ok, Err}
-use Rattle.std.specs.List.{AllByRecursion}
 use Rattle.tpf_base.specs.Addresses.{Address}
 use Rattle.tpf_base.specs.Links.{WireState, OpensGiven}
 use Rattle.template_fill.specs.Authorities.{ShareAuthority}
 use Rattle.request_pool.specs.declared.fault.PoolFault.{PoolFault}
 use Rattle.request_pool.specs.declared.fault.Stepped.{Stepped}
 use Rattle.request_pool.specs.Pools.{Pooled, Ask, empty_pool}
-use Rattle.request_pool.specs.Owned.{SuitsWire, held_on}
-use Rattle.request_pool.specs.Closing.{ClosesSome}
+use Rattle.request_pool.specs.Owned.{SuitsWire}
 use Rattle.request_pool.specs.Steps.{StepsTo}
 use Rattle.pool_laws.specs.Following.{AnswersSoFar, IsWebAddress}
-use Rattle.pool_laws.specs.Owning.{OwnsSince, LinksAreClosed}
+use Rattle.pool_laws.specs.Owning.{OwnsSince}
 use Rattle.pool_laws.specs.Counting.{FewDials, FewFailed}
 use Rattle.pool_laws.proofs.Dialling.{Linked, linked_is_kept}
 use Rattle.pool_laws.proofs.KeptBySteps.{by_step}

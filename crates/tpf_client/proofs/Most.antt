@@ -11,7 +11,7 @@ use Rattle.request_pool.specs.declared.fault.Polled.TheVariants as polls
 use Rattle.request_pool.specs.declared.fault.PoolFault.{PoolFault}
 use Rattle.request_pool.specs.declared.fault.PoolFault.TheVariants as faults
 use Rattle.request_pool.specs.declared.fault.Stepped.{Stepped}
-use Rattle.request_pool.specs.Pools.{Pooled, in_flight}
+use Rattle.request_pool.specs.Pools.{Pooled}
 use Rattle.request_pool.specs.Polls.{Settles, NoLink, Kept, Shut, FailsTo, FlightTo, again}
 use Rattle.request_pool.specs.Runs.{Begins, Starts, Overruns, Flies, Starves, PollsNext}
 use Rattle.request_pool.specs.Steps.{GivesUp}

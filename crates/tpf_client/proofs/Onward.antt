@@ -1,5 +1,5 @@
 -- What no step of a pool undoes: its wire's faults do not fall, links are not forgotten, and its nature stays.
-use Rattle.std.proofs.Common.{ℕ, ◌≡◌, ◌≤◌, ◌⊎◌, inl, inr, List, [], ◌∷◌, Option, Some, None, Result, Ok, Err, ◌∙◌, ap, refl, arith}
+use Rattle.std.proofs.Common.{ℕ, ◌≡◌, ◌≤◌, ◌⊎◌, inl, inr, List, [], ◌∷◌, Option, Some, None, Result, Ok, Err, ◌∙◌, ap, arith}
 use Rattle.tpf_base.specs.Addresses.{Address}
 use Rattle.tpf_base.specs.Links.{WireState}
 use Rattle.tpf_base.specs.declared.fault.Fault.{Fault}

@@ -1,12 +1,12 @@
 -- What was sent in a call: whole requests for what was asked, and then a front of one at most.
-use Rattle.std.proofs.Common.{ℕ, ◌≤◌, ◌<◌, List, [], map, length, refl, None}
+use Rattle.std.proofs.Common.{ℕ, List, [], map, refl}
 use Rattle.std.specs.Prelude.{Ok, Err}
 use Rattle.std.specs.List.{AllByRecursion, Contains}
 use Rattle.list_laws.proofs.Members.{all_from, Contains-map}
 use Rattle.tpf_base.specs.Addresses.{Address}
 use Rattle.tpf_base.specs.Links.{WireState}
-use Rattle.request_pool.specs.Pools.{Pooled, Ask}
-use Rattle.pool_laws.specs.Sending.{SentSince, SendsFor}
+use Rattle.request_pool.specs.Pools.{Pooled}
+use Rattle.pool_laws.specs.Sending.{SentSince}
 use Rattle.tpf_client.specs.declared.options.Options.{Options}
 use Rattle.tpf_client.specs.Traffic.{Event, IsLawful, without_fault}
 use Rattle.tpf_client.specs.Turns.{asked_in, address_of}

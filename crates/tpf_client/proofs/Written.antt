@@ -17,14 +17,13 @@ use Rattle.tpf_client.specs.declared.fault.ClientFault.{ClientFault}
 use Rattle.tpf_client.specs.declared.fault.ClientFault.TheVariants as faults
 use Rattle.tpf_client.specs.Traffic.{Event, Travels}
 use Rattle.template_fill.specs.Authorities.{ShareAuthority}
-use Rattle.tpf_client.specs.Causes.{Explains, IsLocal}
+use Rattle.tpf_client.specs.Causes.{Explains}
 use Rattle.tpf_client.specs.Shown.{ShowsRest, ShowsGiven}
 use Rattle.tpf_client.specs.Turns.{AsksAt}
 use Rattle.tpf_client.specs.Starts.{HasStart, HasNoStart, start_ask}
 use Rattle.tpf_client.proofs.Homes.{asks-behind}
 use Rattle.tpf_client.specs.Calls.{Ran, Returns, ReadsStart, WritesAll, WritesSome, WritesRest, WritesLess, PartOf, WholeOf, GathersRest, Before, Behind, AtEnd, WritesResult, WritesPrefix, JoinsSome, solutions_of, no_names_bound}
-use Rattle.tpf_client.proofs.Traveling.{travels-then, travels-allowed}
-use Rattle.tpf_client.proofs.Traveling.{no-events}
+use Rattle.tpf_client.proofs.Traveling.{travels-then, travels-allowed, no-events}
 use Rattle.tpf_client.proofs.Texts.{same-written, nothing-written, rows-more}
 
 module _ (allows between-allows : List ℕ → ℕ → List ℕ → List ℕ → Type 0) (same : SameAllowed allows between-allows) (q : QueryData) (start : Address) (page : Page) (old mid new : Pooled) (wire between wire' : WireState) (s : HasStart allows start (start_ask start ∷ []) page old mid wire between) (home : ShareAuthority start page.form.template.start) where

@@ -17,9 +17,6 @@ use Rattle.tpf_client.specs.Traffic.{is_under, AreDistinct, Event, Asked, Came, 
 use Rattle.tpf_client.specs.Causes.{Explains}
 use Rattle.tpf_client.specs.Asking.{PutsAll}
 
-abbrev pub ticket_of : Ask → ℕ
-ticket_of ask = ask.ticket
-
 abbrev pub address_of : Ask → Address
 address_of ask = ask.address
 

@@ -1,10 +1,10 @@
 // What is asked for.
-ghost use Rattle.std.specs.Prelude.{ℕ, ◌≡◌, ◌≢◌, ◌∷◌, ◌<◌, ◌≤◌, ◌++◌, ◌^◌, [], Some, None, OnOk, OnErr};
+ghost use Rattle.std.specs.Prelude.{ℕ, ◌≡◌, ◌≢◌, ◌<◌, ◌≤◌, ◌^◌, Some, None, OnOk, OnErr};
 ghost use Rattle.std.specs.BTreeMap.{get};
 ghost use Rattle.std.specs.Ordering.{nat_cmp};
 ghost use Rattle.std.specs.List.{AllByRecursion};
 ghost use Rattle.tpf_base.specs.Links.{SameAllowed};
-ghost use Rattle.request_pool.specs.Pools.{Pooled, empty_pool, held};
+ghost use Rattle.request_pool.specs.Pools.{empty_pool, held};
 ghost use Rattle.request_pool.specs.Owned.{SuitsWire, held_on};
 ghost use Rattle.request_pool.specs.Closing.{ClosesSome};
 ghost use Rattle.tpf_client.specs.Traffic.{IsLawful};

@@ -1,11 +1,10 @@
 // The calls.
-ghost use Rattle.std.specs.Prelude.{ℕ, ◌≡◌, ◌≢◌, ◌≤◌, ◌<◌, ◌⊎◌, [], ◌∷◌, ◌++◌, List, length, false, true, IfOk, IfErr, OnOk, OnErr, IsErrOf, None};
+ghost use Rattle.std.specs.Prelude.{ℕ, ◌≡◌, ◌≤◌, ◌⊎◌, [], ◌∷◌, List, length, true, IfOk, IfErr, OnOk, OnErr, IsErrOf, None};
 ghost use Rattle.std.specs.Io.KnownBytes.{Appends};
 ghost use Rattle.tpf_base.specs.Causes.{Rose, counted_by};
 ghost use Rattle.result_json.specs.Results.{result_text};
 ghost use Rattle.tpf_client.specs.Rows.{begun};
 ghost use Rattle.tpf_base.specs.Links.{SameAllowed};
-ghost use Rattle.tpf_base.specs.Wrote.{AppendsPrefix};
 ghost use Rattle.bgp_core.specs.Solutions.{Places};
 ghost use Rattle.request_pool.specs.Pools.{held};
 ghost use Rattle.request_pool.specs.Owned.{SuitsWire};

@@ -1,5 +1,5 @@
 // Where rows go.
-ghost use Rattle.std.specs.Prelude.{ℕ, ◌≡◌, ◌≤◌, ◌++◌, [], ◌∷◌, List, Bool, true, OnOk, OnErr, IsErrOf, length};
+ghost use Rattle.std.specs.Prelude.{ℕ, ◌≡◌, ◌≤◌, ◌++◌, [], ◌∷◌, List, Bool, true, OnOk, OnErr, IsErrOf};
 ghost use Rattle.tpf_base.specs.Causes.{Rose, DoesNotFail};
 ghost use Rattle.tpf_base.specs.Wrote.{AppendsPrefix};
 ghost use Rattle.std.specs.Io.KnownBytes.{Appends};

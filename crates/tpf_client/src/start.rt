@@ -1,5 +1,5 @@
 // The first request, and replies.
-ghost use Rattle.std.specs.Prelude.{ℕ, ◌≡◌, ◌≢◌, ◌⊎◌, ◌∷◌, ◌++◌, [], List, None, OnOk, OnErr, IsErrOf};
+ghost use Rattle.std.specs.Prelude.{◌≡◌, ◌≢◌, ◌∷◌, [], None, OnOk, OnErr, IsErrOf};
 ghost use Rattle.std.specs.List.Sorted.{IsPermutation};
 ghost use Rattle.tpf_base.specs.Links.{SameAllowed};
 ghost use Rattle.request_pool.specs.Pools.{held};

@@ -1,13 +1,13 @@
 // The loop of a call: an evaluation, a pool over a wire, and where rows go.
-ghost use Rattle.std.specs.Prelude.{ℕ, ◌≡◌, ◌≢◌, ◌≤◌, ◌<◌, ◌-◌, ◌^◌, ◌⊎◌, [], ◌∷◌, ◌++◌, List, Bool, true, false, IfOk, IfErr, OnOk, OnErr, None, IsErrOf};
-ghost use Rattle.std.specs.List.{All, Contains};
+ghost use Rattle.std.specs.Prelude.{◌≡◌, ◌≢◌, ◌≤◌, ◌<◌, ◌-◌, ◌^◌, ◌⊎◌, [], ◌∷◌, List, true, false, IfOk, IfErr, OnOk, OnErr, IsErrOf};
+ghost use Rattle.std.specs.List.{Contains};
 ghost use Rattle.tpf_base.specs.Causes.{Rose, DoesNotFail};
 ghost use Rattle.tpf_base.specs.Links.{SameAllowed};
 ghost use Rattle.bgp_core.specs.Solutions.{Places};
 ghost use Rattle.request_pool.specs.Pools.{Ask, held};
 ghost use Rattle.request_pool.specs.Owned.{SuitsWire};
 ghost use Rattle.join_core.specs.Evaluations.{Terms, EndsInQuiet};
-ghost use Rattle.tpf_client.specs.Traffic.{Event, IsLawful};
+ghost use Rattle.tpf_client.specs.Traffic.{Event};
 ghost use Rattle.tpf_client.specs.Turns.{Meets, Hands, Gives, Readies, TakesReply, Went, Failed};
 ghost use Rattle.tpf_client.specs.Causes.{IsTakeFault, IsLocal};
 

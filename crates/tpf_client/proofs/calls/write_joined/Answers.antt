@@ -1,5 +1,5 @@
 -- All rows, and then the end of the text; or what was made of it so far.
-use Rattle.std.proofs.Common.{◌∙◌, sym, ap, subst, ⊎_elim, arith}
+use Rattle.std.proofs.Common.{◌∙◌, sym, ap, subst, ⊎_elim}
 use Rattle.std.specs.Prelude.{Err}
 use Rattle.tpf_base.specs.declared.fault.Fault.{Fault}
 use Rattle.tpf_client.specs.Rows.{Text, WritesRows, WritesFront}
