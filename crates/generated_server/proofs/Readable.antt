@@ -117,10 +117,9 @@ pub generated_reads : (n : ℕ) → n ≤ 1000000 → AllByRecursion (IsReadable
 unfolding generated
 generated_reads n most = all_about (IsReadable 262144) n (λ i below. about_reads n i most below) 0 n (omega arith)
 
--- the text that was appended to nothing is read as the generated quads
-pub text_reads : CanonReadsBack → (n : ℕ) → n ≤ 1000000 → (before after bytes : List ℕ) → before ≡ [] → bytes ≡ after → after ≡ before ++ canon (generated n) → Reads bytes 262144 (generated n)
-text_reads law n most before after bytes none same added =
-    subst (λ (b : List ℕ). Reads b 262144 (generated n)) (sym (same ∙ added ∙ ap (λ l. l ++ canon (generated n)) none)) (law 262144 (generated n) (generated_reads n most))
+-- the text is read as the generated quads
+pub text_reads : CanonReadsBack → (n : ℕ) → n ≤ 1000000 → (bytes : List ℕ) → bytes ≡ canon (generated n) → Reads bytes 262144 (generated n)
+text_reads law n most bytes is = subst (λ (b : List ℕ). Reads b 262144 (generated n)) (sym is) (law 262144 (generated n) (generated_reads n most))
 
 -- what is read has no fault
 pub never_bad : {X : Type 0} (P : X → Type 0) (fault : TextFault) (line : ℕ) (why : Why) → fault ≡ Bad line why → IsOkOrMemory P (Err fault) → ⊥

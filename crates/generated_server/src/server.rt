@@ -1,7 +1,9 @@
 // The server of generated data.
 ghost use Rattle.std.specs.Prelude.{ℕ, ◌≡◌, ◌≤◌, List, All, IfOk};
+ghost use Rattle.rdf_terms.specs.Canon.{canon};
 ghost use Rattle.rdf_terms.specs.Triples.{IsRdfQuad};
 ghost use Rattle.tpf_base.specs.Addresses.{IsAuthority, authority_of};
+ghost use Rattle.tpf_base.specs.Memory.{sink_bytes};
 ghost use Rattle.triple_table.specs.declared.choice.Choice.TheVariants as choices;
 ghost use Rattle.triple_table.specs.Chosen.{chosen};
 ghost use Rattle.triple_table.specs.Served.{IsServed};
@@ -16,7 +18,7 @@ use hydra_controls::Config;
 use nquads_text::{TextFault, canonical_text_reads_back, read_all};
 use rdf_terms::Quad;
 use std::alloc::Global;
-use tpf_base::{Failing, MemSink, OutOfMemory};
+use tpf_base::{Failing, Fault, MemSink, OutOfMemory};
 use tpf_server::Server;
 use triple_table::{BuildFault, Choice, Table, authorities_are_short, served_terms_are_short};
 
@@ -26,16 +28,25 @@ const LONGEST_TERM: usize = 262144;
 /// The most triples, and the most terms, that are served.
 const MOST_TRIPLES: u32 = 16777215;
 
+/// The text of the data of so many persons. The sink that takes it never fails.
+fn generated_text(alloc: Global, persons: u32) -> Result<MemSink, OutOfMemory>
+    ensures { IfOk result (λ text. sink_bytes text ≡ canon (generated persons)) }
+{
+    let mut text = MemSink::new(alloc, Failing::Never);
+    match write_generated(alloc, persons, &mut text) {
+        Ok(()) => Ok(text),
+        Err(Fault::OutOfMemory) => Err(OutOfMemory),
+        Err(Fault::Failed) => unreachable!(),
+    }
+}
+
 /// The quads that are read of the text of the data of so many persons.
 fn generated_quads(alloc: Global, persons: u32) -> Result<Vec<Quad>, OutOfMemory>
     requires { persons ≤ 1000000 }
     ensures quads { IfOk result (λ v. v.items ≡ generated persons) }
     ensures classes { IfOk result (λ v. All IsRdfQuad v.items) }
 {
-    let mut text = MemSink::new(alloc, Failing::Never);
-    let Ok(()) = write_generated(alloc, persons, &mut text) else {
-        return Err(OutOfMemory);
-    };
+    let text = generated_text(alloc, persons)?;
     canonical_text_reads_back();
     match read_all(alloc, text.taken(), LONGEST_TERM) {
         Ok(quads) => Ok(quads),

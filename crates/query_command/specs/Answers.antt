@@ -83,10 +83,10 @@ pub record AnswersSome (told : Option Files) (name : List ℕ) (allows : List �
   pub is_read : IfTold told (λ files. HoldsQuery files name q)
   pub writes : FailsOver allows q start options fault old new out out' taken taken'
 
--- why there is no whole answer over a wire
+-- why there is no whole answer over a wire; where the query is refused the wire is as before, nothing was written, and the output did not fail
 abbrev pub AskCause : Option Files → List ℕ → (List ℕ → ℕ → List ℕ → List ℕ → Type 0) → Address → Options → ℕ → ℕ → WireState → WireState → ℕ → ℕ → Option (List ℕ) → Option (List ℕ) → AnswerFault → Type 0
 AskCause told name allows start options shelf shelf' old new out out' taken taken' (faults.Data fault) = ⊥
-AskCause told name allows start options shelf shelf' old new out out' taken taken' (faults.Query fault) = QueryCause told name shelf shelf' fault × (new ≡ old) × (taken' ≡ taken)
+AskCause told name allows start options shelf shelf' old new out out' taken taken' (faults.Query fault) = QueryCause told name shelf shelf' fault × (new ≡ old) × (taken' ≡ taken) × (out' ≡ out)
 AskCause told name allows start options shelf shelf' old new out out' taken taken' (faults.Client fault) = AnswersSome told name allows start options fault old new out out' taken taken'
 
 -- the query is read

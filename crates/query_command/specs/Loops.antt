@@ -119,10 +119,10 @@ LocalAnswers told local inside report taken taken' =
 abbrev pub IsDataRead : Option Files → List ℕ → Choice → Type 0
 IsDataRead told name choice = (triples : List Triple) × IfTold told (λ files. Serves files name choice (codes "localhost") triples)
 
--- why there is no whole answer
+-- why there is no whole answer; where a file is refused nothing was written, the output did not fail, and no wire was made
 abbrev pub LocalCause : Option Files → LocalView → Option (Looped FragmentServer) → ℕ → ℕ → ℕ → ℕ → Option (List ℕ) → Option (List ℕ) → AnswerFault → Type 0
-LocalCause told local inside shelf shelf' out out' taken taken' (faults.Data fault) = DataCause told local.name local.choice (codes "localhost") shelf shelf' fault × (taken' ≡ taken) × (inside ≡ None)
-LocalCause told local inside shelf shelf' out out' taken taken' (faults.Query fault) = QueryCause told local.query shelf shelf' fault × IsDataRead told local.name local.choice × (taken' ≡ taken) × (inside ≡ None)
+LocalCause told local inside shelf shelf' out out' taken taken' (faults.Data fault) = DataCause told local.name local.choice (codes "localhost") shelf shelf' fault × (taken' ≡ taken) × (out' ≡ out) × (inside ≡ None)
+LocalCause told local inside shelf shelf' out out' taken taken' (faults.Query fault) = QueryCause told local.query shelf shelf' fault × IsDataRead told local.name local.choice × (taken' ≡ taken) × (out' ≡ out) × (inside ≡ None)
 LocalCause told local inside shelf shelf' out out' taken taken' (faults.Client fault) =
     AnswersFilesFront told local.name local.query local.choice taken taken'
     × LoopsFile told local inside (λ old new. AnswersSome told local.query (allows_of old) local_base local.options fault (wire_of old) (wire_of new) out out' taken taken')

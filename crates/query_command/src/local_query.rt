@@ -178,8 +178,8 @@ fn serve_and_ask<R: Wait, F: Shelf, K: Sink>(
 /// `fail_every`-th dial fails, and is left in `inside`; all its connections are closed.
 ///
 /// `Data` where the data are not served, and `Query` where the query is not read: nothing was written
-/// then, and no wire is left. `Client` where the call over the wire ended before the result was whole: the
-/// output took a prefix of such a text.
+/// then, the output did not fail, and no wire is left. `Client` where the call over the wire ended before
+/// the result was whole: the output took a prefix of such a text.
 ///
 /// Nothing is assumed of the wire. Requests are sent for addresses of the plan alone (`sent`), and at an
 /// answer each of these was answered, as often as the plan has it or more (`replied`). Where no dial fails,

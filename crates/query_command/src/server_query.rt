@@ -59,9 +59,10 @@ fn read_and_ask<R: Wait, F: Shelf, W: Dial, K: Sink>(
 /// (SPARQL 1.1 Query Results JSON Format) goes to the output. At each exit the connections that were given
 /// in the call are closed.
 ///
-/// `Query` where the query is not read: nothing was written then, and the wire is as before. `Client`
-/// where the call over the wire ended before the result was whole: the output took a prefix of such a
-/// text, with all rows that were given where neither the output nor memory failed. `Data` never comes.
+/// `Query` where the query is not read: nothing was written then, the output did not fail, and the wire is
+/// as before. `Client` where the call over the wire ended before the result was whole: the output took a
+/// prefix of such a text, with all rows that were given where neither the output nor memory failed. `Data`
+/// never comes.
 ///
 /// Where the text of the start has at most 65536 bytes, the wire's other ends answer as a server of data
 /// within the limits of the program does, the plan fits, the faults of the wire rise at most as often as a

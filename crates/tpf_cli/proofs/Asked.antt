@@ -100,14 +100,14 @@ module _ (a : Around) where
     },
   )
 
-  pub asks_none : (persons : ℕ) (name : List ℕ) (made : Option (Looped FragmentServer)) (fault : AnswerFault) → wire_inside a.inside' ≡ made → a.wire' ≡ a.wire → a.taken' ≡ a.taken
+  pub asks_none : (persons : ℕ) (name : List ℕ) (made : Option (Looped FragmentServer)) (fault : AnswerFault) → wire_inside a.inside' ≡ made → a.wire' ≡ a.wire → a.taken' ≡ a.taken → a.out' ≡ a.out
       → GeneratedCause a.told persons name made a.shelf a.shelf' fault
       → OfGenerated a.told persons name (λ triples q. SendsInside made triples (local_config 100) q)
       → OfGenerated a.told persons name (λ triples q. MayFail 0 usual_options triples (local_config 100) q fault)
       → (¬ (Rose a.shelf a.shelf') → OfGenerated a.told persons name (λ triples q. PlanIsWithin 0 usual_options triples (local_config 100) q → IsWanting fault))
       → AsksGenerated a persons name (Err fault)
-  asks_none persons name made fault is same quiet h sent ends complete = (
-    inl (subst (λ (m : Option (Looped FragmentServer)). GeneratedCause a.told persons name m a.shelf a.shelf' fault) (sym is) h, quiet),
+  asks_none persons name made fault is same quiet fine h sent ends complete = (
+    inl (subst (λ (m : Option (Looped FragmentServer)). GeneratedCause a.told persons name m a.shelf a.shelf' fault) (sym is) h, quiet, fine),
     same,
-    record { sent = generated_inside persons name made is sent; ends = ends; complete = λ still fine. complete still },
+    record { sent = generated_inside persons name made is sent; ends = ends; complete = λ still calm. complete still },
   )

@@ -49,7 +49,7 @@ module _ (a : Around) where
   gives_generated persons name (Ok nothing) h quiet = answers_read a.told persons name (wire_inside a.inside') h.0.counts h.0.answers
   gives_generated persons name (Err fault) h quiet = failed h.0
     where
-      failed : ((GeneratedCause a.told persons name (wire_inside a.inside') a.shelf a.shelf' fault × (a.taken' ≡ a.taken)) ⊎ CountsGenerated a persons name (λ line. CutsLine a.out a.out' a.taken a.taken' line fault))
+      failed : ((GeneratedCause a.told persons name (wire_inside a.inside') a.shelf a.shelf' fault × (a.taken' ≡ a.taken) × (a.out' ≡ a.out)) ⊎ CountsGenerated a persons name (λ line. CutsLine a.out a.out' a.taken a.taken' line fault))
           → IfTold a.told (λ files. (outcome : QueryOutcome) → IsQueryOutcome files name outcome → GivesAnswer {X = Unit {0}} outcome (Err fault))
       failed (inl c) = causes_read a.told persons name (wire_inside a.inside') (Unit {0}) a.shelf a.shelf' fault c.0 quiet
       failed (inr w) = gives_front persons name fault w

@@ -137,10 +137,10 @@ pub record KeepsGenerated (a : Around) (persons : ℕ) (name : List ℕ) (result
   pub ends : OfGenerated a.told persons name (λ triples q. IfErr result (MayFail 0 usual_options triples (local_config 100) q))
   pub complete : ¬ (Rose a.shelf a.shelf') → ¬ (Rose a.out a.out') → OfGenerated a.told persons name (λ triples q. PlanIsWithin 0 usual_options triples (local_config 100) q → IfErr result IsWanting)
 
--- a query was asked of generated data in the process, and the line of its numbers written, and nothing else; the handed-in wire is not used
+-- a query was asked of generated data in the process, and the line of its numbers written, and nothing else; where there are no numbers nothing was written, and the output did not fail; the handed-in wire is not used
 abbrev pub AsksGenerated : Around → ℕ → List ℕ → Result (Unit {0}) AnswerFault → Type 0
 AsksGenerated a persons name (Ok nothing) = CountsGenerated a persons name (Appends a.taken a.taken') × (a.wire' ≡ a.wire) × KeepsGenerated a persons name (Ok nothing)
-AsksGenerated a persons name (Err fault) = ((GeneratedCause a.told persons name (wire_inside a.inside') a.shelf a.shelf' fault × (a.taken' ≡ a.taken)) ⊎ CountsGenerated a persons name (λ line. CutsLine a.out a.out' a.taken a.taken' line fault)) × (a.wire' ≡ a.wire) × KeepsGenerated a persons name (Err fault)
+AsksGenerated a persons name (Err fault) = ((GeneratedCause a.told persons name (wire_inside a.inside') a.shelf a.shelf' fault × (a.taken' ≡ a.taken) × (a.out' ≡ a.out)) ⊎ CountsGenerated a persons name (λ line. CutsLine a.out a.out' a.taken a.taken' line fault)) × (a.wire' ≡ a.wire) × KeepsGenerated a persons name (Err fault)
 
 -- ---- runs
 

@@ -34,47 +34,6 @@ pub enum Inside {
     Loop(LoopWire<FragmentConnection>),
 }
 
-/// Does `local`.
-fn obey_local<'a, R: Wait, F: Shelf, W: Dial, K: Sink>(
-    rt: &R,
-    alloc: Global,
-    name: &'a str,
-    query: &'a str,
-    choice: Choice,
-    page: u64,
-    client: ClientWords,
-    seed: u64,
-    fail_every: u64,
-    shelf: &mut F,
-    wire: &W,
-    out: &mut K,
-    inside: &mut Inside,
-) -> Ending<'a>
-    requires low { 1 ≤ page }
-    requires high { page ≤ 1000 }
-    requires client { IsClient client }
-    ensures does { Does (record { told = F.told shelf.old; shelf = F.faults shelf.old; shelf' = F.faults shelf.new; allows = W.allows wire.now; wire = W.state wire.now; wire' = W.state wire.now; out = K.faults out.old; out' = K.faults out.new; taken = K.taken out.old; taken' = K.taken out.new; inside' = inside.new }) (commands.local name.entry.now query.entry.now choice page client seed fail_every) (ending_view result) }
-    ensures told { F.told shelf.new ≡ F.told shelf.old }
-    ensures shelf_later { F.faults shelf.old ≤ F.faults shelf.new }
-    ensures out_later { K.faults out.old ≤ K.faults out.new }
-{
-    let asked = LocalQuery {
-        name,
-        query,
-        choice: &choice,
-        page_size: page,
-        options: options_of(client),
-        seed,
-        fail_every,
-    };
-    let answer = ask_file(rt, alloc, &asked, shelf, wire, out, inside);
-    Ending::Answered {
-        data: name,
-        query,
-        answer,
-    }
-}
-
 /// Does `query`.
 fn obey_query<'a, R: Wait, F: Shelf, W: Dial, K: Sink>(
     rt: &R,
@@ -190,10 +149,23 @@ fn obey<'a, R: Wait, F: Shelf, W: Dial + Accept, K: Sink>(
             client,
             seed,
             fail_every,
-        } => obey_local(
-            rt, alloc, name, query, choice, page, client, seed, fail_every, shelf, &*wire, out,
-            inside,
-        ),
+        } => {
+            let asked = LocalQuery {
+                name,
+                query,
+                choice: &choice,
+                page_size: page,
+                options: options_of(client),
+                seed,
+                fail_every,
+            };
+            let answer = ask_file(rt, alloc, &asked, shelf, &*wire, out, inside);
+            Ending::Answered {
+                data: name,
+                query,
+                answer,
+            }
+        }
         Command::Query { url, query, client } => {
             obey_query(rt, alloc, url, query, client, shelf, wire, out)
         }

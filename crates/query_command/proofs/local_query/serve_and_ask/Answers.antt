@@ -11,6 +11,7 @@ returns-in-Err-read_query-clause-cause g c = (
   query_from _ _ c.local_server.ensures.told c.args.asked.now.query.now (g.F.Shelf.faults c.args.shelf.now) (g.F.Shelf.faults c.local_server.new.shelf) (g.F.Shelf.faults c.read_query.new.shelf) c.in-Err-read_query.fault c.local_server.ensures.later c.in-Err-read_query.ensures.err,
   ((serving c.in-Ok-local_server.server).data_set, c.in-Ok-local_server.ensures.starts.data_set),
   refl,
+  refl,
   c.requires.none,
 )
 

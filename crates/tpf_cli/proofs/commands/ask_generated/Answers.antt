@@ -12,4 +12,4 @@ returns-in-Ok-clause-asks g c =
 pub returns-in-Err-clause-asks : goal.returns-in-Err-clause-asks
 returns-in-Err-clause-asks g c =
     let a : Around = record { told = g.F.Shelf.told c.args.shelf.now; shelf = g.F.Shelf.faults c.args.shelf.now; shelf' = g.F.Shelf.faults c.query_generated-answer.new.shelf; allows = g.W.Wire.allows c.args.wire.now; wire = g.W.Wire.state c.args.wire.now; wire' = g.W.Wire.state c.args.wire.now; out = g.K.Sink.faults c.args.out.now; out' = g.K.Sink.faults c.args.out.now; taken = g.K.Sink.taken c.args.out.now; taken' = g.K.Sink.taken c.args.out.now; inside' = c.inside_of.result } in
-    asks_none a c.args.persons c.args.name.now c.query_generated-answer.new.inside c.in-Err.fault c.inside_of.ensures refl refl c.in-Err.ensures.cause c.query_generated-answer.ensures.sent c.in-Err.ensures.ends c.in-Err.ensures.complete
+    asks_none a c.args.persons c.args.name.now c.query_generated-answer.new.inside c.in-Err.fault c.inside_of.ensures refl refl refl c.in-Err.ensures.cause c.query_generated-answer.ensures.sent c.in-Err.ensures.ends c.in-Err.ensures.complete
