@@ -177,7 +177,7 @@ const BODIES: [(&str, u64, &str); 41] = [
 ];
 
 /// Whole replies, and the answer.
-const HEADS: [(&str, &str); 12] = [
+const HEADS: [(&str, &str); 13] = [
     ("HTTP/1.1 404 Not Found\r\n\r\n", "404"),
     ("HTTP/1.1 304\r\n\r\n", "304"),
     ("HTTP/1.1 200\r\n\r\n", "type"),
@@ -193,6 +193,10 @@ const HEADS: [(&str, &str); 12] = [
     (
         "HTTP/1.0 200 OK\r\nContent-Type: application/n-quads\r\nContent-Length: 1\r\n\r\nx",
         "74 x ends",
+    ),
+    (
+        "HTTP/1.0 200 OK\r\nContent-Type: application/n-quads\r\nTransfer-Encoding: chunked\r\n\r\n1\r\nx\r\n0\r\n\r\n",
+        "93 x ends",
     ),
     (
         "\r\nHTTP/1.1 200 OK\r\nContent-Type: application/n-quads\r\nContent-Length: 1\r\n\r\nx",

@@ -61,13 +61,18 @@ fn by_bytes(alloc: Global, bytes: &[u8]) -> Result<String, Fail> {
     Ok(out)
 }
 
-const TABLE: [(&str, &str); 26] = [
+const TABLE: [(&str, &str); 30] = [
     ("GET / HTTP/1.1\r\nHost: h\r\n\r\n", "G /;"),
     ("HEAD /a?b HTTP/1.1\nHost: h\n\n", "H /a?b;"),
     ("POST / HTTP/1.1\r\nhOST: h\r\n\r\n", "O /;"),
     ("GET / HTTP/1.0\r\n\r\n", "G / closes;"),
     ("GET / HTTP/1.1\r\n\r\n", "400"),
     ("GET / HTTP/1.1\r\nHost: h\r\nHost: h\r\n\r\n", "400"),
+    (
+        "GET / HTTP/1.0\r\nHost: h\r\nHost: i\r\n\r\n",
+        "G / closes;",
+    ),
+    ("GET / HTTP/1.1\r\nHost: a b\r\n\r\n", "G /;"),
     ("\r\n\n\r\nGET / HTTP/1.1\r\nHost: h\r\n\r\n", "G /;"),
     (
         "GET /1 HTTP/1.1\r\nHost: h\r\n\r\nGET /2 HTTP/1.1\r\nHost: h\r\n\r\nGE",
@@ -84,6 +89,8 @@ const TABLE: [(&str, &str); 26] = [
     ("GET http://x/y?z HTTP/1.1\r\nHost: h\r\n\r\n", "G /y?z;"),
     ("GET http://x?z HTTP/1.1\r\nHost: h\r\n\r\n", "G /?z;"),
     ("GET http://x HTTP/1.1\r\nHost: h\r\n\r\n", "G /;"),
+    ("GET HTTP://x/y HTTP/1.1\r\nHost: h\r\n\r\n", "400"),
+    ("OPTIONS * HTTP/1.1\r\nHost: h\r\n\r\n", "400"),
     (
         "GET / HTTP/1.1\r\nHost: h\r\nConnection: keep-alive , CLOSE\r\n\r\n",
         "G / closes;",

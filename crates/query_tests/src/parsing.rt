@@ -307,6 +307,9 @@ fn limits_are_exact(rt: HostRuntime) -> Result<(), Fail> {
     assert!(rt; is_read(alloc, long.as_str()));
     let longer = repeated(alloc, "SELECT * {}", " ", "", 262134)?;
     assert!(rt; fault_of(alloc, longer.as_str()) == Some((262144, QueryWhy::TooLong)));
+    let form = repeated(alloc, "SELECT*{?s ?p'", "x", "'}", 262128)?;
+    assert_eq!(rt; form.len(), 262144);
+    assert!(rt; counts(alloc, form.as_str()) == [1, 2, 2]);
     Ok(())
 }
 
@@ -398,12 +401,22 @@ fn a_long_prefix_of_too_many_patterns_is_refused(rt: HostRuntime) -> Result<(), 
 
 #[test]
 fn tokens_have_places(rt: HostRuntime) -> Result<(), Fail> {
-    let found = tokens(rt.alloc(), "?é <a:é> x:b.".as_bytes())?;
+    let text = "?é <a:é> x:b. [] 'c'@en , 1.5 _:d true a: }";
+    let found = tokens(rt.alloc(), text.as_bytes())?;
     let expected = [
         (0, 3, TokenKind::Variable),
         (4, 10, TokenKind::Iri),
         (11, 14, TokenKind::Prefixed),
         (14, 15, TokenKind::Mark),
+        (16, 18, TokenKind::Anonymous),
+        (19, 22, TokenKind::Str),
+        (22, 25, TokenKind::Tag),
+        (26, 27, TokenKind::Mark),
+        (28, 31, TokenKind::Decimal),
+        (32, 35, TokenKind::Blank),
+        (36, 40, TokenKind::Word),
+        (41, 43, TokenKind::Prefix),
+        (44, 45, TokenKind::Mark),
     ];
     assert_eq!(rt; found.len(), expected.len());
     for (i, (at, to, kind)) in expected.iter().enumerate() {

@@ -297,11 +297,24 @@ fn interned(alloc: Global, book: &mut TermBook, tag: &str) -> Result<Option<u32>
 #[test]
 fn a_book_keeps_each_term_under_its_id(rt: HostRuntime) -> Result<(), Fail> {
     let mut book = TermBook::new(rt.alloc());
-    for (tag, id) in [("EN-us", 0), ("de", 1), ("en-US", 0), ("a", 2), ("de", 1)] {
+    let rows = [
+        ("EN-us", 0),
+        ("de", 1),
+        ("en-US", 0),
+        ("a", 2),
+        ("de", 1),
+        ("fr", 3),
+        ("it-CH", 4),
+        ("A", 2),
+        ("b", 5),
+        ("c", 6),
+        ("IT-ch", 4),
+    ];
+    for (tag, id) in rows {
         let has_room = book.len() < 9;
         assert!(rt; has_room);
         assert_eq!(rt; interned(rt.alloc(), &mut book, tag)?, Some(id), "{tag}");
     }
-    assert_eq!(rt; book.len(), 3);
+    assert_eq!(rt; book.len(), 7);
     Ok(())
 }

@@ -101,13 +101,17 @@ fn long_literal(alloc: Global, letters: usize) -> Result<Vec<u8>, Fail> {
     Ok(data)
 }
 
+/// Asks for the same object twice, the second time by a request that names it.
+const ASKED_AGAIN: &str = "SELECT * WHERE { ?s <http://e/p> ?o . ?t ?q ?o }";
+
 #[test]
 fn a_term_that_is_too_long(rt: HostRuntime) -> Result<(), Fail> {
     let data = long_literal(rt.alloc(), 262143)?;
     let got = local(&rt, rt.alloc(), &data, ONE_QUERY.as_bytes())?;
     expect(&got, 3, "data: line 2: term too long\n")?;
     let data = long_literal(rt.alloc(), 262142)?;
-    let got = local(&rt, rt.alloc(), &data, ONE_QUERY.as_bytes())?;
+    let got = local(&rt, rt.alloc(), &data, ASKED_AGAIN.as_bytes())?;
+    assert_eq!(rt; got.err.taken(), b"requests 4 rows 1\n".as_slice());
     assert_eq!(rt; got.status, 0);
     Ok(())
 }
