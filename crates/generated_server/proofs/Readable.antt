@@ -1,6 +1,6 @@
 -- The generated quads are as the text of quads can give them.
-use Rattle.std.proofs.Common.{◌≡◌, ℕ, zero, suc, ◌+◌, ◌*◌, ◌%◌, ◌<◌, ◌≤◌, ◌==◌, Bool, true, false, List, [], ◌∷◌, ◌++◌, length, Err, refl, sym, ap, subst, if◌then◌else◌, ◌∙◌, arith, lit≤, lit<, length-append}
-use Rattle.std.specs.Prelude.{◌&&◌, ◌^◌, codes, decimal, IsUtf8}
+use Rattle.std.proofs.Common.{◌≡◌, ℕ, zero, suc, ◌+◌, ◌*◌, ◌%◌, ◌<◌, ◌≤◌, ◌==◌, Bool, true, false, List, [], ◌∷◌, ◌++◌, length, Err, refl, sym, ap, subst, if◌then◌else◌, arith, lit≤, lit<, length-append}
+use Rattle.std.specs.Prelude.{◌&&◌, ◌^◌, codes, decimal}
 use Rattle.std.specs.Char.{is_ascii, is_ascii_digit}
 use Rattle.std.specs.List.{list_all, AllByRecursion, flat_map, range_with_len}
 use Rattle.std.proofs.lemmas.Bool.Decides.{nat_tests}
@@ -10,18 +10,16 @@ use Rattle.tpf_base.proofs.DecimalTexts.{decimal_of_u64, decimal_text-short}
 use Rattle.template_fill.proofs.Addresses.{all_digits-decimal, utf8-ascii}
 use Rattle.template_fill.proofs.Passing.{list_all-wider}
 use Rattle.rdf_terms.specs.Iri.{is_iri, is_iri_byte, has_scheme}
-use Rattle.rdf_terms.specs.Canon.{canon, canonical_form, canonical_term}
+use Rattle.rdf_terms.specs.Canon.{canon, canonical_form}
 use Rattle.rdf_terms.specs.declared.term.Quad.{Quad}
-use Rattle.rdf_terms.specs.declared.term.Term.{Term}
-use Rattle.rdf_terms.specs.declared.term.Term.TheVariants.{Iri, Literal}
-use Rattle.rdf_terms.specs.declared.term.Kind.TheVariants.{Plain}
+use Rattle.rdf_terms.specs.declared.term.Term.TheVariants.{Iri}
 use Rattle.nquads_text.specs.Laws.{CanonReadsBack}
 use Rattle.nquads_text.specs.Quads.{IsReadableTerm, IsReadable}
 use Rattle.nquads_text.specs.Reads.{Reads, IsOkOrMemory}
 use Rattle.nquads_text.specs.declared.fault.Why.{Why}
 use Rattle.nquads_text.specs.declared.fault.TextFault.{TextFault}
 use Rattle.nquads_text.specs.declared.fault.TextFault.TheVariants.{Bad}
-use Rattle.generated_data.specs.Generated.{person, city, name, statement, knows, names, cities, about, generated}
+use Rattle.generated_data.specs.Generated.{person, city, name, knows, names, cities, about, generated}
 use Rattle.generated_data.proofs.Texts.{number_text}
 
 -- ---- numbers

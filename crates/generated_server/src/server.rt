@@ -28,7 +28,7 @@ const LONGEST_TERM: usize = 262144;
 /// The most triples, and the most terms, that are served.
 const MOST_TRIPLES: u32 = 16777215;
 
-/// The text of the data of so many persons. The sink that takes it never fails.
+/// The text of the data of so many persons, in a sink that never fails.
 fn generated_text(alloc: Global, persons: u32) -> Result<MemSink, OutOfMemory>
     ensures { IfOk result (λ text. sink_bytes text ≡ canon (generated persons)) }
 {
@@ -88,7 +88,8 @@ fn table_of(alloc: Global, persons: u32, config: &Config) -> Result<Table, OutOf
 /// The server of the generated data of so many persons, at most 1000000, as version 1, whose fragments
 /// stand where the configuration says. The text of the data is made and read as that of a file would be.
 ///
-/// Fails only where memory runs out: the text has no fault, no blank node, and few enough triples.
+/// Fails only where memory runs out: the sink of the text never fails, and the text has no fault, no blank
+/// node, and few enough triples.
 pub fn server_of_generated(
     alloc: Global,
     persons: u32,
