@@ -9,3 +9,5 @@ mod outside;
 mod played;
 #[cfg(test)]
 mod scripted;
+#[cfg(test)]
+mod streams;

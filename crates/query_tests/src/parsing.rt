@@ -17,14 +17,18 @@ fn is_read(alloc: Global, text: &str) -> bool {
     parse(alloc, text.as_bytes()).is_ok()
 }
 
-/// How many patterns, names and selected names a text has, or 99 of each where it is no query.
+/// How many patterns, names and selected names the copy of a text's query has, or 99 of each where it is
+/// no query, and 98 where there is no copy.
 fn counts(alloc: Global, text: &str) -> [usize; 3] {
     match parse(alloc, text.as_bytes()) {
-        Ok(query) => [
-            query.patterns().len(),
-            query.names().len(),
-            query.selected().len(),
-        ],
+        Ok(query) => match query.copy(alloc) {
+            Ok(copy) => [
+                copy.patterns().len(),
+                copy.names().len(),
+                copy.selected().len(),
+            ],
+            Err(_) => [98, 98, 98],
+        },
         Err(_) => [99, 99, 99],
     }
 }

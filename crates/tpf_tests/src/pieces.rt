@@ -2,7 +2,7 @@
 use bgp_core::{Query, Row};
 use pattern_parser::parse;
 use rdf_terms::Term;
-use result_json::ResultWriter;
+use result_json::{ResultWriter, result_text};
 use std::alloc::Global;
 use std::test::Fail;
 use tpf_base::{Failing, MemSink};
@@ -50,13 +50,25 @@ fn write_rows(
     give(&mut writer, out, lengths)
 }
 
+/// The text of the same rows, made at once.
+fn whole_text(alloc: Global, query: &Query) -> Result<Vec<u8>, Fail> {
+    let mut rows = Vec::new(alloc);
+    rows.push(row_of(alloc, "http://e/1", Some("x"))?)?;
+    rows.push(row_of(alloc, "http://e/2", None)?)?;
+    Ok(result_text(alloc, query, rows.as_slice())?)
+}
+
 #[test]
 fn rows_go_to_the_sink_one_by_one(rt: HostRuntime) -> Result<(), Fail> {
     let alloc = rt.alloc();
     let mut out = MemSink::new(alloc, Failing::Never);
     let mut lengths = Vec::new(alloc);
     match parse(alloc, b"SELECT ?a ?b WHERE { ?a <http://e/p> ?b }") {
-        Ok(query) => write_rows(alloc, &query, &mut out, &mut lengths)?,
+        Ok(query) => {
+            write_rows(alloc, &query, &mut out, &mut lengths)?;
+            let whole = whole_text(alloc, &query)?;
+            assert_eq!(rt; whole.as_slice(), TEXT.as_bytes());
+        }
         Err(_) => assert!(rt; false),
     }
     assert_eq!(rt; out.taken(), TEXT.as_bytes());
