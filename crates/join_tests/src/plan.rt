@@ -125,6 +125,15 @@ fn address(alloc: Global, fixed: &Fixed, page: usize) -> Result<String, Fail> {
     Ok(text)
 }
 
+/// How many pages so many triples have behind the first.
+fn further_pages(triples: usize, page_size: usize) -> usize {
+    if triples == 0 || page_size == 0 {
+        0
+    } else {
+        (triples - 1) / page_size
+    }
+}
+
 /// The place of the pattern with the fewest triples, the first of several.
 fn least(data: &Data, binding: &Binding, rest: &[Pattern]) -> usize {
     let mut best = 0;
@@ -175,9 +184,8 @@ pub fn note_plan(
         return Ok(());
     };
     let fixed = fixed(best, binding);
-    let pages = count(data, &fixed).div_ceil(data.page_size);
-    for page in 2..pages + 1 {
-        asked.push(address(alloc, &fixed, page)?)?;
+    for page in 0..further_pages(count(data, &fixed), data.page_size) {
+        asked.push(address(alloc, &fixed, page.saturating_add(2))?)?;
     }
     let others = without(alloc, rest, place)?;
     for fact in data.facts.iter() {
