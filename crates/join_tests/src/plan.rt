@@ -1,6 +1,5 @@
 // What a query asks for, by its definition: of each node, the first page of every pattern that is left,
 // and all pages of the pattern with the fewest triples, each of which opens a node.
-ghost use Rattle.std.specs.Prelude.{◌<◌};
 
 use std::alloc::Global;
 use std::test::Fail;
