@@ -302,15 +302,16 @@ module _ (told : Option Files) (name : List ℕ) (choice : Choice) (authority : 
   service_cause (Ok n) h = tt
   service_cause (Err fault) h = service_cause_of fault h
 
-untouched_of : (old new : WireState) (taken taken' : Option (List ℕ)) (wire wire' out out' : ℕ) (fault : ServiceFault) → DoorCause wire wire' out out' fault → IsUntouched old new taken taken' fault
-untouched_of old new taken taken' wire wire' out out' (faults.Data fault) h = absurd h
-untouched_of old new taken taken' wire wire' out out' faults.Wire h = tt
-untouched_of old new taken taken' wire wire' out out' faults.Sink h = tt
-untouched_of old new taken taken' wire wire' out out' faults.OutOfMemory h = tt
+module _ (old new : WireState) (taken taken' : Option (List ℕ)) (wire wire' out out' : ℕ) where
+  untouched_of : (fault : ServiceFault) → DoorCause wire wire' out out' fault → IsUntouched old new out out' taken taken' fault
+  untouched_of (faults.Data fault) h = absurd h
+  untouched_of faults.Wire h = tt
+  untouched_of faults.Sink h = tt
+  untouched_of faults.OutOfMemory h = tt
 
-pub untouched : (old new : WireState) (taken taken' : Option (List ℕ)) (wire wire' out out' : ℕ) (result : Result ℕ ServiceFault) → IfErr result (DoorCause wire wire' out out') → IfErr result (IsUntouched old new taken taken')
-untouched old new taken taken' wire wire' out out' (Ok n) h = tt
-untouched old new taken taken' wire wire' out out' (Err fault) h = untouched_of old new taken taken' wire wire' out out' fault h
+  pub untouched : (result : Result ℕ ServiceFault) → IfErr result (DoorCause wire wire' out out') → IfErr result (IsUntouched old new out out' taken taken')
+  untouched (Ok n) h = tt
+  untouched (Err fault) h = untouched_of fault h
 
 -- ---- the service of the file
 

@@ -117,12 +117,12 @@ ServiceCause told name choice authority shelf shelf' wire wire' out out' faults.
 ServiceCause told name choice authority shelf shelf' wire wire' out out' faults.Sink = Rose out out'
 ServiceCause told name choice authority shelf shelf' wire wire' out out' faults.OutOfMemory = Unit {0}
 
--- where the data are not served, the wire and the output are as before
-abbrev pub IsUntouched : WireState → WireState → Option (List ℕ) → Option (List ℕ) → ServiceFault → Type 0
-IsUntouched old new out out' (faults.Data fault) = (new ≡ old) × (out' ≡ out)
-IsUntouched old new out out' faults.Wire = Unit {0}
-IsUntouched old new out out' faults.Sink = Unit {0}
-IsUntouched old new out out' faults.OutOfMemory = Unit {0}
+-- where the data are not served, the wire is as before, nothing was written, and the output did not fail
+abbrev pub IsUntouched : WireState → WireState → ℕ → ℕ → Option (List ℕ) → Option (List ℕ) → ServiceFault → Type 0
+IsUntouched old new out out' taken taken' (faults.Data fault) = (new ≡ old) × (taken' ≡ taken) × (out' ≡ out)
+IsUntouched old new out out' taken taken' faults.Wire = Unit {0}
+IsUntouched old new out out' taken taken' faults.Sink = Unit {0}
+IsUntouched old new out out' taken taken' faults.OutOfMemory = Unit {0}
 
 -- the data are served
 abbrev pub IsServing : Outcome → Type 0

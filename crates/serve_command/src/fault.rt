@@ -5,7 +5,8 @@ use data_files::DataFault;
 /// Why a service ended, or did not begin.
 #[derive(Debug, Drop)]
 pub enum ServiceFault {
-    /// The data of the file are not served, for this reason. Nothing was written, and the wire is as before.
+    /// The data of the file are not served, for this reason. Nothing was written, the output did not fail,
+    /// and the wire is as before.
     Data(DataFault),
     /// The door (the listener) could not be opened, or an accept or a wait failed: the wire's count of
     /// faults rose.

@@ -209,10 +209,10 @@ fn serve_server<R: Wait, F: Shelf, W: Accept, K: Sink>(
 /// Where a path is given, a request on it has the file read again, and the data are served as the next
 /// version. A read that fails then leaves the data and their version. Without one the file is read once.
 ///
-/// `Data` where the file is not served: nothing was written then, and the wire is as before. `Wire`
-/// where the door could not be opened, or an accept or a wait failed; `Sink` where the output failed;
-/// `OutOfMemory` also where a connection was closed for that. At each exit the links that were given
-/// are closed. Where the number is given, the door is still open.
+/// `Data` where the file is not served: nothing was written then, the output did not fail, and the wire
+/// is as before. `Wire` where the door could not be opened, or an accept or a wait failed; `Sink` where
+/// the output failed; `OutOfMemory` also where a connection was closed for that. At each exit the links
+/// that were given are closed. Where the number is given, the door is still open.
 pub fn serve<R: Wait, F: Shelf, W: Accept, K: Sink>(
     rt: &R,
     alloc: Global,
@@ -235,7 +235,7 @@ pub fn serve<R: Wait, F: Shelf, W: Accept, K: Sink>(
     ensures front { AppendsPrefix (K.taken out.old) (K.taken out.new) (codes "ready\n") }
     ensures door { (K.taken out.new ≡ K.taken out.old) ⊎ ((W.state wire.new).door ≡ door_of service.entry.base) }
     ensures after { ((W.state wire.new).given ≡ (W.state wire.old).given) ⊎ Appends (K.taken out.old) (K.taken out.new) (codes "ready\n") }
-    ensures untouched { IfErr result (IsUntouched (W.state wire.old) (W.state wire.new) (K.taken out.old) (K.taken out.new)) }
+    ensures untouched { IfErr result (IsUntouched (W.state wire.old) (W.state wire.new) (K.faults out.old) (K.faults out.new) (K.taken out.old) (K.taken out.new)) }
     ensures cause { IfErr result (ServiceCause (F.told shelf.old) service.entry.name.now service.entry.choice.now (authority_of service.entry.base) (F.faults shelf.old) (F.faults shelf.new) (W.state wire.old).faults (W.state wire.new).faults (K.faults out.old) (K.faults out.new)) }
     ensures exact { ¬ (Rose (F.faults shelf.old) (F.faults shelf.new)) → IfTold (F.told shelf.old) (λ files. (outcome : Outcome) → IsOutcome files service.entry.name.now service.entry.choice.now (authority_of service.entry.base) outcome → GivesServed outcome result) }
     ensures told { F.told shelf.new ≡ F.told shelf.old }

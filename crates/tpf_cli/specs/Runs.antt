@@ -102,7 +102,7 @@ pub record ServesFile (a : Around) (name : List ℕ) (choice : Choice) (config :
   pub opened : OnOk result (a.wire'.door ≡ door_of config.base)
   pub door : (a.taken' ≡ a.taken) ⊎ (a.wire'.door ≡ door_of config.base)
   pub after : (a.wire'.given ≡ a.wire.given) ⊎ Appends a.taken a.taken' (codes "ready\n")
-  pub untouched : IfErr result (IsUntouched a.wire a.wire' a.taken a.taken')
+  pub untouched : IfErr result (IsUntouched a.wire a.wire' a.out a.out' a.taken a.taken')
   pub cause : IfErr result (ServiceCause a.told name choice (authority_of config.base) a.shelf a.shelf' a.wire.faults a.wire'.faults a.out a.out')
   pub exact : ¬ (Rose a.shelf a.shelf') → IfTold a.told (λ files. (outcome : Outcome) → IsOutcome files name choice (authority_of config.base) outcome → GivesServed outcome result)
   pub inside : a.inside' ≡ Unused
