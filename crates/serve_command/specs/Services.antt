@@ -124,6 +124,13 @@ IsUntouched old new out out' taken taken' faults.Wire = Unit {0}
 IsUntouched old new out out' taken taken' faults.Sink = Unit {0}
 IsUntouched old new out out' taken taken' faults.OutOfMemory = Unit {0}
 
+-- the data are not served
+abbrev pub IsOfData : ServiceFault → Type 0
+IsOfData (faults.Data fault) = Unit {0}
+IsOfData faults.Wire = ⊥
+IsOfData faults.Sink = ⊥
+IsOfData faults.OutOfMemory = ⊥
+
 -- the data are served
 abbrev pub IsServing : Outcome → Type 0
 IsServing outcome = (triples : List Triple) × (outcome ≡ served triples)

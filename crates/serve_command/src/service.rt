@@ -11,7 +11,7 @@ ghost use Rattle.serve_loop.specs.Sentence.{AllClosed};
 ghost use Rattle.file_server.specs.Servers.{serving};
 ghost use Rattle.file_server.specs.Supplies.{IsOfFile, FailedReading};
 ghost use Rattle.data_files.specs.Data.{IfTold, Outcome, IsOutcome};
-ghost use Rattle.serve_command.specs.Services.{config_of, door_of, MayFollow, FailedReload, Services, ServesLinks, OpensAndTurns, SpeaksOfFile, SaysPrefixes, SaysWhole, DoorCause, ServiceCause, IsUntouched, GivesServed, answer_of};
+ghost use Rattle.serve_command.specs.Services.{config_of, door_of, MayFollow, FailedReload, Services, ServesLinks, OpensAndTurns, SpeaksOfFile, SaysPrefixes, SaysWhole, DoorCause, ServiceCause, IsUntouched, IsOfData, GivesServed, answer_of};
 
 use crate::ServiceFault;
 use crate::config::config_of;
@@ -236,6 +236,8 @@ pub fn serve<R: Wait, F: Shelf, W: Accept, K: Sink>(
     ensures door { (K.taken out.new ≡ K.taken out.old) ⊎ ((W.state wire.new).door ≡ door_of service.entry.base) }
     ensures after { ((W.state wire.new).given ≡ (W.state wire.old).given) ⊎ Appends (K.taken out.old) (K.taken out.new) (codes "ready\n") }
     ensures untouched { IfErr result (IsUntouched (W.state wire.old) (W.state wire.new) (K.faults out.old) (K.faults out.new) (K.taken out.old) (K.taken out.new)) }
+    ensures wire_unused { IfErr result (λ fault. IsOfData fault → wire.new ≡ wire.old) }
+    ensures out_unused { IfErr result (λ fault. IsOfData fault → out.new ≡ out.old) }
     ensures cause { IfErr result (ServiceCause (F.told shelf.old) service.entry.name.now service.entry.choice.now (authority_of service.entry.base) (F.faults shelf.old) (F.faults shelf.new) (W.state wire.old).faults (W.state wire.new).faults (K.faults out.old) (K.faults out.new)) }
     ensures exact { ¬ (Rose (F.faults shelf.old) (F.faults shelf.new)) → IfTold (F.told shelf.old) (λ files. (outcome : Outcome) → IsOutcome files service.entry.name.now service.entry.choice.now (authority_of service.entry.base) outcome → GivesServed outcome result) }
     ensures told { F.told shelf.new ≡ F.told shelf.old }
