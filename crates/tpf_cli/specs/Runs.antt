@@ -222,6 +222,20 @@ abbrev pub MustEndOf : Around → Option Command → EndOfRun → Type 0
 MustEndOf a (Some command) end = MustEnd a command end
 MustEndOf a None end = Unit {0}
 
+-- the shelf is not used by these words
+abbrev pub IsWithoutShelf : Option Command → Type 0
+IsWithoutShelf None = Unit {0}
+IsWithoutShelf (Some (local name query_name choice page client seed fail_every)) = ⊥
+IsWithoutShelf (Some (query url query_name client)) = ⊥
+IsWithoutShelf (Some (serve name base choice page stop_after reload)) = ⊥
+IsWithoutShelf (Some (make count None)) = Unit {0}
+IsWithoutShelf (Some (make count (Some asked_name))) = ⊥
+
+-- the output is not used by these words
+abbrev pub IsWithoutOutput : Option Command → Type 0
+IsWithoutOutput None = Unit {0}
+IsWithoutOutput (Some command) = ⊥
+
 -- the handed-in wire is not used by these words
 abbrev pub IsWithoutWire : Option Command → Type 0
 IsWithoutWire None = Unit {0}

@@ -7,7 +7,7 @@ ghost use Rattle.command_words.specs.CommandViews.{command_view};
 ghost use Rattle.tpf_cli.specs.Endings.{EndOfRun, Says};
 ghost use Rattle.tpf_cli.specs.EndingViews.{ending_view};
 ghost use Rattle.tpf_cli.specs.Ranges.{IsClient, IsInRange, IsTyped};
-ghost use Rattle.tpf_cli.specs.Runs.{Does, DoesOf, MustEndOf, IsWithoutWire};
+ghost use Rattle.tpf_cli.specs.Runs.{Does, DoesOf, MustEndOf, IsWithoutShelf, IsWithoutOutput, IsWithoutWire};
 ghost use Rattle.tpf_cli.specs.Promises.{KeepsTableOf, TellsRequestsOf, SucceedsOf};
 
 use crate::commands::{ask_file, ask_generated, ask_server, options_of, serve_file};
@@ -109,6 +109,7 @@ fn obey_make<'a, R: Wait, F: Shelf, W: Dial, K: Sink>(
     requires most { count ≤ 1000000 }
     requires unused { inside.old ≡ Inside.Unused }
     ensures does { Does (record { told = F.told shelf.old; shelf = F.faults shelf.old; shelf' = F.faults shelf.new; allows = W.allows wire.now; wire = W.state wire.now; wire' = W.state wire.now; out = K.faults out.old; out' = K.faults out.new; taken = K.taken out.old; taken' = K.taken out.new; inside' = inside.new }) (commands.make count (option_map (λ r. r.now) run.entry)) (ending_view result) }
+    ensures shelf { IsWithoutShelf (Some (commands.make count (option_map (λ r. r.now) run.entry))) → shelf.new ≡ shelf.old }
     ensures told { F.told shelf.new ≡ F.told shelf.old }
     ensures shelf_later { F.faults shelf.old ≤ F.faults shelf.new }
     ensures out_later { K.faults out.old ≤ K.faults out.new }
@@ -136,6 +137,7 @@ fn obey<'a, R: Wait, F: Shelf, W: Dial + Accept, K: Sink>(
     requires unused { inside.old ≡ Inside.Unused }
     ensures does { Does (record { told = F.told shelf.old; shelf = F.faults shelf.old; shelf' = F.faults shelf.new; allows = W.allows wire.old; wire = W.state wire.old; wire' = W.state wire.new; out = K.faults out.old; out' = K.faults out.new; taken = K.taken out.old; taken' = K.taken out.new; inside' = inside.new }) (command_view command.entry) (ending_view result) }
     ensures wire { IsWithoutWire (Some (command_view command.entry)) → wire.new ≡ wire.old }
+    ensures shelf { IsWithoutShelf (Some (command_view command.entry)) → shelf.new ≡ shelf.old }
     ensures told { F.told shelf.new ≡ F.told shelf.old }
     ensures shelf_later { F.faults shelf.old ≤ F.faults shelf.new }
     ensures out_later { K.faults out.old ≤ K.faults out.new }
@@ -198,6 +200,8 @@ fn ending_of<'a, R: Wait, F: Shelf, W: Dial + Accept, K: Sink>(
     requires unused { inside.old ≡ Inside.Unused }
     ensures does { DoesOf (record { told = F.told shelf.old; shelf = F.faults shelf.old; shelf' = F.faults shelf.new; allows = W.allows wire.old; wire = W.state wire.old; wire' = W.state wire.new; out = K.faults out.old; out' = K.faults out.new; taken = K.taken out.old; taken' = K.taken out.new; inside' = inside.new }) (command_of (map string_bytes words.entry.now)) (ending_view result) }
     ensures wire { IsWithoutWire (command_of (map string_bytes words.entry.now)) → wire.new ≡ wire.old }
+    ensures shelf { IsWithoutShelf (command_of (map string_bytes words.entry.now)) → shelf.new ≡ shelf.old }
+    ensures out { IsWithoutOutput (command_of (map string_bytes words.entry.now)) → out.new ≡ out.old }
     ensures told { F.told shelf.new ≡ F.told shelf.old }
     ensures shelf_later { F.faults shelf.old ≤ F.faults shelf.new }
     ensures out_later { K.faults out.old ≤ K.faults out.new }
@@ -223,6 +227,8 @@ fn end_of<'a, R: Wait, F: Shelf, W: Dial + Accept, K: Sink>(
     ensures does { DoesOf (record { told = F.told shelf.old; shelf = F.faults shelf.old; shelf' = F.faults shelf.new; allows = W.allows wire.old; wire = W.state wire.old; wire' = W.state wire.new; out = K.faults out.old; out' = K.faults out.new; taken = K.taken out.old; taken' = K.taken out.new; inside' = inside.new }) (command_of (map string_bytes words.entry.now)) (ending_view result) }
     ensures must { MustEndOf (record { told = F.told shelf.old; shelf = F.faults shelf.old; shelf' = F.faults shelf.new; allows = W.allows wire.old; wire = W.state wire.old; wire' = W.state wire.new; out = K.faults out.old; out' = K.faults out.new; taken = K.taken out.old; taken' = K.taken out.new; inside' = inside.new }) (command_of (map string_bytes words.entry.now)) (ending_view result) }
     ensures wire { IsWithoutWire (command_of (map string_bytes words.entry.now)) → wire.new ≡ wire.old }
+    ensures shelf { IsWithoutShelf (command_of (map string_bytes words.entry.now)) → shelf.new ≡ shelf.old }
+    ensures out { IsWithoutOutput (command_of (map string_bytes words.entry.now)) → out.new ≡ out.old }
     ensures told { F.told shelf.new ≡ F.told shelf.old }
     ensures shelf_later { F.faults shelf.old ≤ F.faults shelf.new }
     ensures out_later { K.faults out.old ≤ K.faults out.new }
@@ -261,6 +267,9 @@ fn end_of<'a, R: Wait, F: Shelf, W: Dial + Accept, K: Sink>(
 /// `query` over a wire whose other ends answer as a server does, where the plan fits, of `serve` where
 /// the wire does not fail, and of `make` (`complete`).
 ///
+/// Words that are no command leave `shelf`, `wire` and `out` as they are, and `make` without `--run` leaves
+/// `shelf` and `wire` so (`shelf`, `wire`, `out`).
+///
 /// `inside` is `Unused` before a run, and stays so but for `local` and `make --run`.
 /// At each exit every connection that was given in the run, over `wire` or inside, is closed.
 pub fn run<R: Wait, F: Shelf, W: Dial + Accept, K: Sink, E: Sink>(
@@ -282,6 +291,8 @@ pub fn run<R: Wait, F: Shelf, W: Dial + Accept, K: Sink, E: Sink>(
     ensures requests { TellsRequestsOf (record { told = F.told shelf.old; shelf = F.faults shelf.old; shelf' = F.faults shelf.new; allows = W.allows wire.old; wire = W.state wire.old; wire' = W.state wire.new; out = K.faults out.old; out' = K.faults out.new; taken = K.taken out.old; taken' = K.taken out.new; inside' = inside.new }) (command_of (map string_bytes words.now)) result (E.faults err.old) (E.faults err.new) (E.taken err.old) (E.taken err.new) }
     ensures complete { SucceedsOf (record { told = F.told shelf.old; shelf = F.faults shelf.old; shelf' = F.faults shelf.new; allows = W.allows wire.old; wire = W.state wire.old; wire' = W.state wire.new; out = K.faults out.old; out' = K.faults out.new; taken = K.taken out.old; taken' = K.taken out.new; inside' = inside.new }) (command_of (map string_bytes words.now)) result }
     ensures wire { IsWithoutWire (command_of (map string_bytes words.now)) → wire.new ≡ wire.old }
+    ensures shelf { IsWithoutShelf (command_of (map string_bytes words.now)) → shelf.new ≡ shelf.old }
+    ensures out { IsWithoutOutput (command_of (map string_bytes words.now)) → out.new ≡ out.old }
     ensures told { F.told shelf.new ≡ F.told shelf.old }
     ensures shelf_later { F.faults shelf.old ≤ F.faults shelf.new }
     ensures out_later { K.faults out.old ≤ K.faults out.new }
