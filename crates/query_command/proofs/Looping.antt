@@ -1,5 +1,5 @@
 -- What a call over the wire that was made for a server says.
-use Rattle.std.proofs.Common.{ℕ, ◌≡◌, ◌<◌, ◌^◌, ◌∷◌, [], true, List, length, Option, Some, Result, Ok, Err, IfOk, IfErr, OnErr, refl, sym, ap, subst}
+use Rattle.std.proofs.Common.{ℕ, ◌≡◌, ◌<◌, ◌≤◌, ◌^◌, ◌∷◌, [], true, List, length, Option, Some, Result, Ok, Err, IfOk, IfErr, OnErr, refl, sym, ap, subst}
 use Rattle.rdf_terms.specs.declared.term.Triple.{Triple}
 use Rattle.tpf_base.specs.Addresses.{Address}
 use Rattle.tpf_base.specs.Causes.{Rose}
@@ -14,7 +14,7 @@ use Rattle.tpf_client.specs.declared.fault.ClientFault.{ClientFault}
 use Rattle.tpf_client.specs.declared.fault.ClientFault.TheVariants as clients
 use Rattle.tpf_client.specs.Calls.{RunsPool, WritesResult, WritesPrefix, WritesAll, WritesSome, IsCause}
 use Rattle.tpf_client.specs.Honest.{IsHonestWire, WritesSolutions, WritesSolutionsFront}
-use Rattle.tpf_client.specs.Requests.{AnswersAll, RequestsAreTries}
+use Rattle.tpf_client.specs.Requests.{AnswersAll, DialsAtMost, GivesAtMost, RequestsAreTries}
 use Rattle.tpf_client.specs.Requested.{AnswersPlan}
 use Rattle.tpf_client.specs.Shown.{ShowsGiven}
 use Rattle.tpf_client.specs.Failing.{IsFailedOften, ForBudget, SpendsRequests, SpendsTries, SpendsPlan}
@@ -48,14 +48,17 @@ module _ (server : FragmentServer) (seed fail_every : ℕ) (old after : Looped F
       → OverHonest (allows_of old) (wire_of old) (λ history config. IfOk result (λ report. RequestsAreTries history config options q asked report))
       → OverLively (allows_of old) (wire_of old) (λ history config. IfOk result (λ report. PacesRequests history config q asked report (wire_of old) (wire_of after)))
       → OverHonest (allows_of old) (wire_of old) (λ history config. IfOk result (λ report. AnswersPlan history config options q asked report (wire_of old) (wire_of after)))
+      → IfOk result (λ report. report.requests ≤ options.budget)
+      → IfOk result (λ report. DialsAtMost report.requests (wire_of old) (wire_of after))
+      → IfOk result (λ report. GivesAtMost report.requests (wire_of old) (wire_of after))
       → IfOk result (λ report. LoopsServer server seed fail_every (Some after) (λ wire wire'. WritesOver (allows_of wire) q start options report (wire_of wire) (wire_of wire') taken taken'))
-  loops_ok (Ok report) whole all headline plan answered tries paced replied = record {
+  loops_ok (Ok report) whole all headline plan answered tries paced replied within dialled linked = record {
     after = after;
     is_inside = refl;
     says = subst (λ (wire : Looped FragmentServer). Wrote wire start report) is
-        (subst (λ (at : Address). Wrote old at report) same (record { whole = whole; writes = all; headline = headline; plan = plan; answered = answered; tries = tries; paced = paced; replied = replied }));
+        (subst (λ (at : Address). Wrote old at report) same (record { whole = whole; writes = all; headline = headline; plan = plan; answered = answered; tries = tries; paced = paced; replied = replied; within = within; dialled = dialled; linked = linked }));
   }
-  loops_ok (Err fault) whole all headline plan answered tries paced replied = tt
+  loops_ok (Err fault) whole all headline plan answered tries paced replied within dialled linked = tt
 
   pub loops_err : (result : Result Report ClientFault)
       → OnErr result (WritesPrefix q taken taken')

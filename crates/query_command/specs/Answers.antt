@@ -43,7 +43,7 @@ pub record KeepsToPlan (allows : List ℕ → ℕ → List ℕ → List ℕ → 
   pub unprovoked : OverHonest allows old (λ history config. StaysUnprovoked options old new)
   pub requested : OverHonest allows old (λ history config. RequestsPlan history config options q start old new)
 
--- The result of a query was written over a wire: the text of some rows, and all that was asked was answered; over a wire that is honest for a history, of the solutions over one version, the reported one, by as many requests as its plan has and failures need.
+-- The result of a query was written over a wire: the text of some rows, and all that was asked was answered; over a wire that is honest for a history, of the solutions over one version, the reported one, by as many requests as its plan has and failures need. The requests that are reported are within the budget, and no more dials were made and no more links given than these.
 pub record WritesOver (allows : List ℕ → ℕ → List ℕ → List ℕ → Type 0) (q : QueryData) (start : Address) (options : Options) (report : Report) (old new : WireState) (taken taken' : Option (List ℕ)) : Type 0 where
   pub whole : WritesResult q report.rows taken taken'
   pub writes : WritesAll (RunsPool allows options old new) q start report taken taken'
@@ -53,6 +53,9 @@ pub record WritesOver (allows : List ℕ → ℕ → List ℕ → List ℕ → T
   pub tries : OverHonest allows old (λ history config. RequestsAreTries history config options q start report)
   pub paced : OverLively allows old (λ history config. PacesRequests history config q start report old new)
   pub replied : OverHonest allows old (λ history config. AnswersPlan history config options q start report old new)
+  pub within : report.requests ≤ options.budget
+  pub dialled : DialsAtMost report.requests old new
+  pub linked : GivesAtMost report.requests old new
 
 -- A front of such a text was written, with all rows that were given where neither the sink nor memory failed, and the call over the wire ended with this fault. Over an honest wire, and a lively one, it has these causes; and where the plan fits and the faults are few it is want of memory, or the data changed. Over a lively wire a request failed too often only for as many rises of the faults and ends of links; and the budget is spent only on links, requests and failures, and is less than what was asked may be tried, over an honest wire than what the plan has.
 pub record FailsOver (allows : List ℕ → ℕ → List ℕ → List ℕ → Type 0) (q : QueryData) (start : Address) (options : Options) (fault : ClientFault) (old new : WireState) (out out' : ℕ) (taken taken' : Option (List ℕ)) : Type 0 where

@@ -11,7 +11,7 @@ pub returns-clause-answers : goal.returns-clause-answers
 returns-clause-answers g c =
     loops_ok c.args.server c.args.seed c.args.fail_every c.new-wire.result c.query-answer.new.wire c.new-wire.ensures c.args.query.now c.args.start.now local_base c.requires.start c.args.options.now (g.K.Sink.faults c.args.out.now) (g.K.Sink.faults c.query-answer.new.out) (g.K.Sink.taken c.args.out.now) (g.K.Sink.taken c.query-answer.new.out) c.query-answer.result c.query-answer.ensures.whole c.query-answer.ensures.ok c.query-answer.ensures.headline
     (record { closed = c.query-answer.ensures.closed; peers = c.query-answer.ensures.peers; others = c.query-answer.ensures.others; sent = c.query-answer.ensures.sent; dials = c.query-answer.ensures.dials; given = c.query-answer.ensures.given; asked = c.query-answer.ensures.asked; tries = c.query-answer.ensures.planned; counted = c.query-answer.ensures.counted; unprovoked = c.query-answer.ensures.unprovoked; requested = c.query-answer.ensures.requested })
-    c.query-answer.ensures.answered c.query-answer.ensures.requests c.query-answer.ensures.paced c.query-answer.ensures.replied
+    c.query-answer.ensures.answered c.query-answer.ensures.requests c.query-answer.ensures.paced c.query-answer.ensures.replied c.query-answer.ensures.within c.query-answer.ensures.dialled c.query-answer.ensures.linked
 
 pub returns-clause-cause : goal.returns-clause-cause
 returns-clause-cause g c =

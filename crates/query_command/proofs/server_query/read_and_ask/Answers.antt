@@ -18,6 +18,9 @@ returns-in-Ok-query_server-clause-answers g c =
         tries = e.requests;
         paced = e.paced;
         replied = e.replied;
+        within = e.within;
+        dialled = e.dialled;
+        linked = e.linked;
       };
     }
 
