@@ -1,5 +1,5 @@
 -- What a call over the wire to the server of generated data says.
-use Rattle.std.proofs.Common.{ℕ, ◌≡◌, ◌≤◌, ◌<◌, ◌^◌, List, length, codes, Option, None, Some, Result, Ok, Err, IfOk, IfErr, refl, sym, ap, subst, ◌∙◌, arith}
+use Rattle.std.proofs.Common.{ℕ, ◌≡◌, ◌≤◌, ◌<◌, ◌^◌, [], ◌∷◌, List, length, codes, Option, None, Some, Result, Ok, Err, IfOk, IfErr, refl, sym, ap, subst, ◌∙◌, arith}
 use Rattle.std.specs.List.{AllByRecursion}
 use Rattle.rdf_terms.specs.declared.term.Triple.{Triple}
 use Rattle.template_fill.specs.Metadata.{Config}
@@ -31,7 +31,8 @@ use Rattle.query_command.specs.declared.generated_query.Counts.{Counts}
 use Rattle.query_command.specs.Answers.{WritesOver, FailsOver, IsReading, GivesAnswer}
 use Rattle.query_command.specs.Generated.{usual_options, CountsQuery, LoopsGenerated, AsksOver, FailsOn, GeneratedAnswers, GeneratedCause}
 use Rattle.query_command.specs.Limits.{GeneratedAreServable, QueriesAreAskable}
-use Rattle.query_command.specs.Plans.{SendsPlan, SendsInside, MayEnd, OfGenerated}
+use Rattle.tpf_client.specs.Requested.{AnswersPlan}
+use Rattle.query_command.specs.Plans.{SendsPlan, SendsInside, RepliesRows, RepliedGenerated, MayEnd, OfGenerated}
 use Rattle.query_command.specs.Loops.{LoopsServer, WritesAnswer, local_base, local_config, allows_of, wire_of, begun}
 
 -- the served data are one list
@@ -67,6 +68,15 @@ module _ (server : FragmentServer) (persons : ℕ) (starts : StartsGenerated per
       server = server;
       starts = starts;
       loops = record { after = l.after; is_inside = l.is_inside; says = subst (λ (o : Options). FailsOver (allows_of (begun server 0 0)) q local_base o fault (wire_of (begun server 0 0)) (wire_of l.after) 0 0 None None) is l.says };
+    }
+
+    -- what was answered
+    pub replies_rows : (report : Report) → LoopsServer server 0 0 inside (λ old new. AnswersPlan ((serving server).data_set ∷ []) (serving server).config options q local_base report (wire_of old) (wire_of new))
+        → LoopsServer server 0 0 inside (RepliesRows (serving server).data_set (serving server).config q report.rows)
+    replies_rows report l = record {
+      after = l.after;
+      is_inside = l.is_inside;
+      says = (report, refl, subst (λ (o : Options). AnswersPlan ((serving server).data_set ∷ []) (serving server).config o q local_base report (wire_of (begun server 0 0)) (wire_of l.after)) is l.says);
     }
 
     -- how the call may end
@@ -111,6 +121,17 @@ module _ (told : Option Files) (persons : ℕ) (name : List ℕ) (inside : Optio
     generated_sent l = λ files is triples asked serves holds.
         subst (λ (made : Option (Looped FragmentServer)). SendsInside made triples (local_config 100) asked) (sym l.is_inside)
         (of_both (λ (ts : List Triple) (c : Config) (x : QueryData). SendsPlan ts c x (wire_of l.after)) files is triples asked serves holds l.says)
+
+    pub generated_replied : (counts : Counts) → LoopsServer server 0 0 inside (RepliesRows (serving server).data_set (serving server).config q counts.rows) → OfGenerated told persons name (RepliedGenerated persons inside counts)
+    generated_replied counts l = λ files is triples asked serves holds. record {
+      server = server;
+      starts = starts;
+      loops = record {
+        after = l.after;
+        is_inside = l.is_inside;
+        says = of_both (λ (ts : List Triple) (c : Config) (x : QueryData). RepliesRows ts c x counts.rows (begun server 0 0) l.after) files is triples asked serves holds l.says;
+      };
+    }
 
     pub generated_ends : GeneratedAreServable → QueriesAreAskable → persons ≤ 1000000 → AllByRecursion IsValidPattern q.patterns → (fault : ClientFault)
         → (AreServable (serving server).data_set → AllByRecursion IsAskable q.patterns → MayEnd 0 usual_options (serving server).data_set (serving server).config q fault)

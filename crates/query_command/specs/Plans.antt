@@ -28,6 +28,7 @@ use Rattle.query_command.specs.declared.fault.AnswerFault.{AnswerFault}
 use Rattle.query_command.specs.declared.fault.AnswerFault.TheVariants as faults
 use Rattle.query_command.specs.declared.generated_query.Counts.{Counts}
 use Rattle.query_command.specs.Answers.{IsWanting}
+use Rattle.query_command.specs.Generated.{LoopsGenerated, usual_options}
 use Rattle.query_command.specs.Loops.{LocalView, LoopsFile, local_base, local_config, wire_of}
 
 -- the addresses that a query asks the server of these data for: the base, and the plan of its join (Verborgh et al.)
@@ -50,6 +51,14 @@ SendsInside (Some after) triples config q = SendsPlan triples config q (wire_of 
 abbrev pub RepliedInside : Option Files → LocalView → Option (Looped FragmentServer) → Report → List Triple → QueryData → Type 0
 RepliedInside told local inside report triples q =
     LoopsFile told local inside (λ old new. AnswersPlan (triples ∷ []) (local_config local.page_size) local.options q local_base report (wire_of old) (wire_of new))
+
+-- The same for an answer of so many rows, with the bounds of a call where no option is given.
+abbrev pub RepliesRows : List Triple → Config → QueryData → ℕ → Looped FragmentServer → Looped FragmentServer → Type 0
+RepliesRows triples config q rows old new = (report : Report) × (report.rows ≡ rows) × AnswersPlan (triples ∷ []) config usual_options q local_base report (wire_of old) (wire_of new)
+
+-- on the wire that was made for the generated data
+abbrev pub RepliedGenerated : ℕ → Option (Looped FragmentServer) → Counts → List Triple → QueryData → Type 0
+RepliedGenerated persons inside counts triples q = LoopsGenerated persons inside (RepliesRows triples (local_config 100) q counts.rows)
 
 -- ---- how many requests there are, where each n-th dial fails, and none for 0
 
@@ -134,6 +143,10 @@ SendsLocally told local inside = OfFiles told local (λ triples q. SendsInside i
 -- at an answer each address of the plan was answered
 abbrev pub RepliesLocally : Option Files → LocalView → Option (Looped FragmentServer) → Result Report AnswerFault → Type 0
 RepliesLocally told local inside answer = IfOk answer (λ report. OfFiles told local (RepliedInside told local inside report))
+
+-- the same of generated data
+abbrev pub RepliesGenerated : Option Files → ℕ → List ℕ → Option (Looped FragmentServer) → Result Counts AnswerFault → Type 0
+RepliesGenerated told persons query_name inside answer = IfOk answer (λ counts. OfGenerated told persons query_name (RepliedGenerated persons inside counts))
 
 -- it took so many requests, or ended for one of the causes
 abbrev pub EndsByPlan : Option Files → LocalView → Result Report AnswerFault → Type 0

@@ -1,6 +1,6 @@
 -- What is said of the query is said of the file that holds it.
 use Rattle.std.proofs.Common.{None}
-use Rattle.query_command.proofs.Counting.{generated_answers, generated_fault, generated_sent, generated_ends}
+use Rattle.query_command.proofs.Counting.{generated_answers, generated_fault, generated_sent, generated_replied, generated_ends}
 use Rattle.query_command.proofs.Locals.{valid_read}
 use Rattle.query_command.proofs.generated_query.read_and_count.Goals as goal
 
@@ -18,6 +18,10 @@ returns-in-Ok-ask_generated-clause-sent g c =
 pub returns-clause-sent : goal.returns-clause-sent
 returns-clause-sent g c =
     generated_sent _ c.args.persons _ _ c.in-Ok-generated_server.server c.in-Ok-generated_server.ensures c.in-Ok.query c.in-Ok.ensures.ok c.served_is_one.ensures c.ask_generated.ensures.sent
+
+pub returns-in-Ok-ask_generated-clause-replied : goal.returns-in-Ok-ask_generated-clause-replied
+returns-in-Ok-ask_generated-clause-replied g c =
+    generated_replied _ c.args.persons _ _ c.in-Ok-generated_server.server c.in-Ok-generated_server.ensures c.in-Ok.query c.in-Ok.ensures.ok c.served_is_one.ensures c.in-Ok-ask_generated.counts c.in-Ok-ask_generated.ensures.replied
 
 pub returns-clause-ends : goal.returns-clause-ends
 returns-clause-ends g c =
