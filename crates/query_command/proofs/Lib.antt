@@ -9,3 +9,4 @@ pub mod Fitting
 pub mod Planned
 pub mod Bounded
 pub mod Complete
+pub mod Opening

@@ -3,3 +3,4 @@ pub mod Loops
 pub mod Generated
 pub mod Plans
 pub mod Limits
+pub mod Files

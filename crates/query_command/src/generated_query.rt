@@ -1,6 +1,7 @@
 // The query of generated data through a server in the same process.
 ghost use Rattle.std.specs.Prelude.{◌≡◌, ◌≤◌, None, IfOk, IfErr};
 ghost use Rattle.tpf_base.specs.Causes.{Rose};
+ghost use Rattle.tpf_base.specs.Outside.{LeavesOpened};
 ghost use Rattle.data_files.specs.Data.{IfTold};
 ghost use Rattle.data_files.specs.Queries.{QueryOutcome, IsQueryOutcome};
 ghost use Rattle.file_server.specs.Servers.{serving};
@@ -113,6 +114,7 @@ fn read_and_count<R: Wait, F: Shelf>(
     ensures ends { OfGenerated (F.told shelf.old) persons query.now (λ triples q. EndsCounted usual_options triples (local_config 100) q result) }
     ensures told { F.told shelf.new ≡ F.told shelf.old }
     ensures shelf_later { F.faults shelf.old ≤ F.faults shelf.new }
+    ensures opened { LeavesOpened (F.given shelf.old) (F.given shelf.new) (F.rest shelf.old) (F.rest shelf.new) }
 {
     commands_keep_limits();
     served_is_one();
@@ -141,7 +143,8 @@ fn read_and_count<R: Wait, F: Shelf>(
 /// server and left in `inside`; all its connections are closed.
 ///
 /// `Query` where the query is not read, and `Data` only where memory ran out: no wire is left then. `Client`
-/// where the call over the wire ended before the result was whole, which is never by `Sink`.
+/// where the call over the wire ended before the result was whole, which is never by `Sink`. The file is
+/// found once, and files found before are left as they were (`opened`).
 ///
 /// As with `local`, requests are sent for addresses of the plan alone (`sent`), at an answer each of these
 /// was answered, as often as the plan has it or more (`replied`), a fault over the wire comes only where a
@@ -166,6 +169,7 @@ pub fn query_generated<R: Wait, F: Shelf>(
     ensures complete { ¬ (Rose (F.faults shelf.old) (F.faults shelf.new)) → OfGenerated (F.told shelf.old) persons query.now (λ triples q. PlanIsWithin 0 usual_options triples (local_config 100) q → IfErr result IsWanting) }
     ensures told { F.told shelf.new ≡ F.told shelf.old }
     ensures shelf_later { F.faults shelf.old ≤ F.faults shelf.new }
+    ensures opened { LeavesOpened (F.given shelf.old) (F.given shelf.new) (F.rest shelf.old) (F.rest shelf.new) }
 {
     read_and_count(rt, alloc, persons, query, shelf, inside)
 }

@@ -2,6 +2,7 @@
 ghost use Rattle.std.specs.Prelude.{◌≡◌, ◌<◌, ◌≤◌, ◌^◌, [], ◌∷◌, codes, length, None, IfOk, IfErr, OnErr};
 ghost use Rattle.std.specs.List.{AllByRecursion};
 ghost use Rattle.tpf_base.specs.Causes.{Rose};
+ghost use Rattle.tpf_base.specs.Outside.{LeavesOpened};
 ghost use Rattle.data_files.specs.Data.{IfTold, Outcome, IsOutcome};
 ghost use Rattle.data_files.specs.Queries.{QueryOutcome, IsQueryOutcome};
 ghost use Rattle.data_files.specs.Causes.{DataCause};
@@ -10,6 +11,7 @@ ghost use Rattle.query_command.specs.Answers.{WritesOver, FailsOver, GivesAnswer
 ghost use Rattle.plan_laws.specs.Fitting.{AreServable, IsAskable};
 ghost use Rattle.tpf_client.specs.Requested.{AnswersPlan};
 ghost use Rattle.query_command.specs.Loops.{LoopsServer, WritesAnswer, WritesAnswerFront, LocalAnswers, LocalCause, GivesData, local_view, allows_of, local_base, local_config, wire_of};
+ghost use Rattle.query_command.specs.Files.{OpensLocally};
 ghost use Rattle.query_command.specs.Plans.{SendsPlan, EndsAsPlanned, SendsLocally, RepliesLocally, EndsByPlan, SucceedsByPlan};
 
 use crate::AnswerFault;
@@ -63,6 +65,7 @@ fn local_server<F: Shelf>(
     ensures exact { ¬ (Rose (F.faults shelf.old) (F.faults shelf.new)) → IfTold (F.told shelf.old) (λ files. (outcome : Outcome) → IsOutcome files name.now choice.now (codes "localhost") outcome → GivesServer outcome result) }
     ensures told { F.told shelf.new ≡ F.told shelf.old }
     ensures later { F.faults shelf.old ≤ F.faults shelf.new }
+    ensures opened { LeavesOpened (F.given shelf.old) (F.given shelf.new) (F.rest shelf.old) (F.rest shelf.new) }
 {
     let Ok(config) = local_config(alloc, page_size) else {
         return Err(DataFault::OutOfMemory);
@@ -139,6 +142,7 @@ fn serve_and_ask<R: Wait, F: Shelf, K: Sink>(
     ensures ends { EndsByPlan (F.told shelf.old) (local_view asked.now) result }
     ensures told { F.told shelf.new ≡ F.told shelf.old }
     ensures shelf_later { F.faults shelf.old ≤ F.faults shelf.new }
+    ensures opened { OpensLocally (F.given shelf.old) (F.given shelf.new) (F.rest shelf.old) (F.rest shelf.new) result }
     ensures out_later { K.faults out.old ≤ K.faults out.new }
 {
     commands_keep_limits();
@@ -179,7 +183,8 @@ fn serve_and_ask<R: Wait, F: Shelf, K: Sink>(
 ///
 /// `Data` where the data are not served, and `Query` where the query is not read: nothing was written
 /// then, the output did not fail, and no wire is left. `Client` where the call over the wire ended before
-/// the result was whole: the output took a prefix of such a text.
+/// the result was whole: the output took a prefix of such a text. Each of the two files is found once, that
+/// of the query only where the data are served, and files found before are left as they were (`opened`).
 ///
 /// Nothing is assumed of the wire. Requests are sent for addresses of the plan alone (`sent`), and at an
 /// answer each of these was answered, as often as the plan has it or more (`replied`). Where no dial fails,
@@ -212,6 +217,7 @@ pub fn local<R: Wait, F: Shelf, K: Sink>(
     ensures complete { ¬ (Rose (F.faults shelf.old) (F.faults shelf.new)) → ¬ (Rose (K.faults out.old) (K.faults out.new)) → SucceedsByPlan (F.told shelf.old) (local_view asked.now) result }
     ensures told { F.told shelf.new ≡ F.told shelf.old }
     ensures shelf_later { F.faults shelf.old ≤ F.faults shelf.new }
+    ensures opened { OpensLocally (F.given shelf.old) (F.given shelf.new) (F.rest shelf.old) (F.rest shelf.new) result }
     ensures out_later { K.faults out.old ≤ K.faults out.new }
 {
     serve_and_ask(rt, alloc, asked, shelf, out, inside)

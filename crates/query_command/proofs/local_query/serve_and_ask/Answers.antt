@@ -4,6 +4,7 @@ use Rattle.template_fill.specs.Metadata.{Config}
 use Rattle.file_server.specs.Servers.{serving}
 use Rattle.query_command.specs.Loops.{local_view}
 use Rattle.query_command.proofs.Locals.{local_answers, local_fault, local_ends, local_sent, local_replied, valid_read, query_from}
+use Rattle.query_command.proofs.Opening.{opens_two}
 use Rattle.query_command.proofs.local_query.serve_and_ask.Goals as goal
 
 pub returns-in-Err-read_query-clause-cause : goal.returns-in-Err-read_query-clause-cause
@@ -14,6 +15,15 @@ returns-in-Err-read_query-clause-cause g c = (
   refl,
   c.requires.none,
 )
+
+pub returns-in-Err-read_query-clause-opened : goal.returns-in-Err-read_query-clause-opened
+returns-in-Err-read_query-clause-opened g c = opens_two _ _ _ _ _ _ c.local_server.ensures.opened c.read_query.ensures.opened
+
+pub returns-in-Ok-ask_server-clause-opened : goal.returns-in-Ok-ask_server-clause-opened
+returns-in-Ok-ask_server-clause-opened g c = opens_two _ _ _ _ _ _ c.local_server.ensures.opened c.read_query.ensures.opened
+
+pub returns-clause-opened : goal.returns-clause-opened
+returns-clause-opened g c = opens_two _ _ _ _ _ _ c.local_server.ensures.opened c.read_query.ensures.opened
 
 pub returns-in-Ok-ask_server-clause-answers : goal.returns-in-Ok-ask_server-clause-answers
 returns-in-Ok-ask_server-clause-answers g c =
