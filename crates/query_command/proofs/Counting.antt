@@ -32,7 +32,7 @@ use Rattle.query_command.specs.Answers.{WritesOver, FailsOver, IsReading, GivesA
 use Rattle.query_command.specs.Generated.{usual_options, CountsQuery, LoopsGenerated, AsksOver, FailsOn, GeneratedAnswers, GeneratedCause}
 use Rattle.query_command.specs.Limits.{GeneratedAreServable, QueriesAreAskable}
 use Rattle.tpf_client.specs.Requested.{AnswersPlan}
-use Rattle.query_command.specs.Plans.{SendsPlan, SendsInside, RepliesRows, RepliedGenerated, MayEnd, OfGenerated}
+use Rattle.query_command.specs.Plans.{SendsPlan, SendsInside, BoundsRequests, RequestsInside, RepliesRows, RepliedGenerated, MayEnd, OfGenerated}
 use Rattle.query_command.specs.Loops.{LoopsServer, WritesAnswer, local_base, local_config, allows_of, wire_of, begun}
 
 -- the served data are one list
@@ -79,6 +79,15 @@ module _ (server : FragmentServer) (persons : ℕ) (starts : StartsGenerated per
       says = (report, refl, subst (λ (o : Options). AnswersPlan ((serving server).data_set ∷ []) (serving server).config o q local_base report (wire_of (begun server 0 0)) (wire_of l.after)) is l.says);
     }
 
+    -- how often it was sent
+    pub bounds_usual : LoopsServer server 0 0 inside (λ old new. BoundsRequests options (serving server).data_set (serving server).config q (wire_of new))
+        → LoopsServer server 0 0 inside (λ old new. BoundsRequests usual_options (serving server).data_set (serving server).config q (wire_of new))
+    bounds_usual l = record {
+      after = l.after;
+      is_inside = l.is_inside;
+      says = subst (λ (o : Options). BoundsRequests o (serving server).data_set (serving server).config q (wire_of l.after)) is l.says;
+    }
+
     -- how the call may end
     pub may_fail : (fault : ClientFault) → (AreServable (serving server).data_set → AllByRecursion IsAskable q.patterns → options.budget < 2 ^ 63 → MayEnd 0 options (serving server).data_set (serving server).config q fault)
         → AreServable (serving server).data_set → AllByRecursion IsAskable q.patterns → MayEnd 0 usual_options (serving server).data_set (serving server).config q fault
@@ -121,6 +130,11 @@ module _ (told : Option Files) (persons : ℕ) (name : List ℕ) (inside : Optio
     generated_sent l = λ files is triples asked serves holds.
         subst (λ (made : Option (Looped FragmentServer)). SendsInside made triples (local_config 100) asked) (sym l.is_inside)
         (of_both (λ (ts : List Triple) (c : Config) (x : QueryData). SendsPlan ts c x (wire_of l.after)) files is triples asked serves holds l.says)
+
+    pub generated_requested : LoopsServer server 0 0 inside (λ old new. BoundsRequests usual_options (serving server).data_set (serving server).config q (wire_of new)) → OfGenerated told persons name (λ triples asked. RequestsInside usual_options inside triples (local_config 100) asked)
+    generated_requested l = λ files is triples asked serves holds.
+        subst (λ (made : Option (Looped FragmentServer)). RequestsInside usual_options made triples (local_config 100) asked) (sym l.is_inside)
+        (of_both (λ (ts : List Triple) (c : Config) (x : QueryData). BoundsRequests usual_options ts c x (wire_of l.after)) files is triples asked serves holds l.says)
 
     pub generated_replied : (counts : Counts) → LoopsServer server 0 0 inside (RepliesRows (serving server).data_set (serving server).config q counts.rows) → OfGenerated told persons name (RepliedGenerated persons inside counts)
     generated_replied counts l = λ files is triples asked serves holds. record {

@@ -22,7 +22,7 @@ use Rattle.query_command.specs.declared.fault.AnswerFault.TheVariants as faults
 use Rattle.query_command.specs.Answers.{WritesOver, FailsOver}
 use Rattle.query_command.specs.Limits.{FilesAreServable, QueriesAreAskable}
 use Rattle.tpf_client.specs.Requested.{AnswersPlan}
-use Rattle.query_command.specs.Plans.{SendsPlan, SendsInside, RepliedInside, EndsAsPlanned, OfFiles}
+use Rattle.query_command.specs.Plans.{SendsPlan, SendsInside, BoundsRequests, RequestsInside, RepliedInside, EndsAsPlanned, OfFiles}
 use Rattle.query_command.specs.Loops.{LocalView, LoopsServer, WritesAnswer, WritesAnswerFront, LocalAnswers, LocalCause, allows_of, wire_of, begun, local_base, local_config}
 
 same_data : (one other : List Triple) → served one ≡ served other → one ≡ other
@@ -81,6 +81,14 @@ module _ (told told' : Option Files) (same : told' ≡ told) (view : LocalView) 
         let there = read files is in
         subst (λ (made : Option (Looped FragmentServer)). SendsInside made triples (local_config view.page_size) asked) (sym l.is_inside)
         (of_both view (serving server).data_set triples (serving server).config q asked (λ (ts : List Triple) (c : Config) (x : QueryData). SendsPlan ts c x (wire_of l.after))
+        (one_outcome files view.name view.choice (codes "localhost") (served (serving server).data_set) (served triples) own serves) starts.config_is (one_query files view.query (reads q) (reads asked) there holds) l.says)
+
+    pub local_requested : LoopsServer server view.seed view.fail_every inside (λ old new. BoundsRequests view.options (serving server).data_set (serving server).config q (wire_of new)) → OfFiles told view (λ triples asked. RequestsInside view.options inside triples (local_config view.page_size) asked)
+    local_requested l = λ files is triples asked serves holds.
+        let own = starts.data_set files is in
+        let there = read files is in
+        subst (λ (made : Option (Looped FragmentServer)). RequestsInside view.options made triples (local_config view.page_size) asked) (sym l.is_inside)
+        (of_both view (serving server).data_set triples (serving server).config q asked (λ (ts : List Triple) (c : Config) (x : QueryData). BoundsRequests view.options ts c x (wire_of l.after))
         (one_outcome files view.name view.choice (codes "localhost") (served (serving server).data_set) (served triples) own serves) starts.config_is (one_query files view.query (reads q) (reads asked) there holds) l.says)
 
     pub local_replied : (report : Report) → LoopsServer server view.seed view.fail_every inside (λ old new. AnswersPlan ((serving server).data_set ∷ []) (serving server).config view.options q local_base report (wire_of old) (wire_of new))

@@ -1,5 +1,5 @@
 -- How a query ends over the wire in one process to a server, within the limits of the program.
-use Rattle.std.proofs.Common.{ℕ, ◌≡◌, ◌≢◌, ◌+◌, ◌*◌, ◌^◌, ◌<◌, ◌≤◌, ◌++◌, [], ◌∷◌, List, length, Option, Some, Result, Ok, Err, IfOk, IfErr, refl, sym, ap, subst, ◌∙◌, arith}
+use Rattle.std.proofs.Common.{ℕ, ◌≡◌, ◌≢◌, ◌+◌, ◌-◌, ◌*◌, ◌^◌, ◌<◌, ◌≤◌, ◌++◌, [], ◌∷◌, List, length, count_by, Option, Some, Result, Ok, Err, IfOk, IfErr, refl, sym, ap, subst, ◌∙◌, arith}
 use Rattle.std.specs.List.{AllByRecursion}
 use Rattle.std.specs.List.Sorted.{IsPermutation}
 use Rattle.list_laws.proofs.Told.{all_in}
@@ -11,6 +11,7 @@ use Rattle.template_fill.specs.HttpAnswer.{Answer}
 use Rattle.template_fill.specs.Metadata.{Config}
 use Rattle.bgp_core.specs.Queries.{QueryData}
 use Rattle.request_pool.specs.Pools.{Pooled, empty_pool}
+use Rattle.pool_laws.specs.Requested.{over_links, whole_requests}
 use Rattle.loop_wire.specs.Looped.{Looped, CountsDue, FewFaults, every_of}
 use Rattle.fragment_server.specs.declared.server.FragmentServer.{FragmentServer}
 use Rattle.file_server.specs.Servers.{serving}
@@ -22,14 +23,14 @@ use Rattle.tpf_client.specs.Traffic.{Event}
 use Rattle.tpf_client.specs.Calls.{RunsPool}
 use Rattle.tpf_client.specs.Honest.{IsHonestWire, IsVersionOf}
 use Rattle.tpf_client.specs.Requests.{addresses_of}
-use Rattle.tpf_client.specs.Requested.{AnswersPlan}
+use Rattle.tpf_client.specs.Requested.{CallRequests, RequestsPlan, AnswersPlan}
 use Rattle.tpf_client.specs.Failing.{SpendsPlan}
 use Rattle.tpf_client.specs.Plans.{CountsRises, AsksPlan, IsSmallByAll, HasLongPage, OverrunsPlan, answer_at}
 use Rattle.tpf_client.proofs.Endings.{travels-onward}
 use Rattle.plan_laws.specs.Fitting.{IsRead}
 use Rattle.query_command.specs.Answers.{KeepsToPlan, WritesOver, FailsOver}
 use Rattle.query_command.specs.Loops.{LoopsServer, allows_of, wire_of, begun, local_base}
-use Rattle.query_command.specs.Plans.{plan_of, SendsPlan, CountsRequests, PassesBudget, MayEnd, EndsAsPlanned, PlanIsWithin}
+use Rattle.query_command.specs.Plans.{plan_of, SendsPlan, BoundsRequests, CountsRequests, PassesBudget, MayEnd, EndsAsPlanned, PlanIsWithin}
 use Rattle.query_command.proofs.Failing.{FewFailed, few_failed, counts_requests, fails_often, passes_budget, not_often, not_passed}
 use Rattle.query_command.proofs.Fitting.{one_version, at_version, all_answered, all_read}
 
@@ -42,6 +43,21 @@ sends_plan server seed n after q a = record {
   plan_is = subst (λ (v : ℕ). IsPermutation (addresses_of ((serving server).data_set ∷ []) (serving server).config q local_base v) (a.asked ++ a.rest)) (sym (one_version (serving server).data_set a.version a.is_version)) a.plan_is;
   sent = λ k below. a.sent k (omega arith) below;
 }
+
+from_none : (n : ℕ) → n - 0 ≡ n
+from_none n = omega arith
+
+-- how often it was sent
+pub bounds_requests : (server : FragmentServer) (seed n : ℕ) (after : Looped FragmentServer) (q : QueryData) (options : Options)
+    → RequestsPlan ((serving server).data_set ∷ []) (serving server).config options q local_base (wire_of (begun server seed n)) (wire_of after) → BoundsRequests options (serving server).data_set (serving server).config q (wire_of after)
+bounds_requests server seed n after q options r =
+    let all = subst (λ (v : ℕ). CallRequests options (addresses_of ((serving server).data_set ∷ []) (serving server).config q local_base v) (wire_of (begun server seed n)) (wire_of after)) (sym (one_version (serving server).data_set r.version r.is_version)) r.requests in
+    record {
+      on = all.on;
+      told = λ k below. all.told k (omega arith) below;
+      few = λ test.
+          subst (λ (links : ℕ). over_links (λ k. count_by test (whole_requests (all.on k))) 0 links ≤ (options.retries + 1) * count_by test (plan_of (serving server).data_set (serving server).config q)) (from_none (wire_of after).given) (all.few test);
+    }
 
 -- the nature of a wire stays
 nature_stays : (allows : List ℕ → ℕ → List ℕ → List ℕ → Type 0) (options : Options) (since now : WireState) (events : List Event) (pool : Pooled) → RunsPool allows options since now events pool → now.nature ≡ since.nature
@@ -131,6 +147,16 @@ sends_from server seed n after q options plan honest = record {
   after = after;
   is_inside = refl;
   says = sends_plan server seed n after q (plan.asked ((serving server).data_set ∷ []) (serving server).config honest);
+}
+
+pub requests_from : (server : FragmentServer) (seed n : ℕ) (after : Looped FragmentServer) (q : QueryData) (options : Options)
+    → KeepsToPlan (allows_of (begun server seed n)) q local_base options (wire_of (begun server seed n)) (wire_of after)
+    → IsHonestWire (allows_of (begun server seed n)) ((serving server).data_set ∷ []) (serving server).config (wire_of (begun server seed n))
+    → LoopsServer server seed n (Some after) (λ old new. BoundsRequests options (serving server).data_set (serving server).config q (wire_of new))
+requests_from server seed n after q options plan honest = record {
+  after = after;
+  is_inside = refl;
+  says = bounds_requests server seed n after q options (plan.requested ((serving server).data_set ∷ []) (serving server).config honest);
 }
 
 same_some : {A : Type 0} (x y : A) → ◌≡◌ {A = Option A} (Some x) (Some y) → x ≡ y

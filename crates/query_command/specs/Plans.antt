@@ -1,5 +1,5 @@
 -- What a query asks of a server in the same process, and how it may end there.
-use Rattle.std.specs.Prelude.{ℕ, ◌≡◌, ◌⊎◌, ◌+◌, ◌-◌, ◌*◌, ◌/◌, ◌^◌, ◌≤◌, ◌<◌, ◌++◌, [], ◌∷◌, List, length, codes, Option, Some, None, Result, Ok, Err, IfOk, IfErr}
+use Rattle.std.specs.Prelude.{ℕ, ◌≡◌, ◌⊎◌, ◌+◌, ◌-◌, ◌*◌, ◌/◌, ◌^◌, ◌≤◌, ◌<◌, ◌++◌, Bool, [], ◌∷◌, List, length, count_by, codes, Option, Some, None, Result, Ok, Err, IfOk, IfErr}
 use Rattle.std.specs.List.{AllByRecursion, Contains}
 use Rattle.std.specs.List.Sorted.{IsPermutation}
 use Rattle.rdf_terms.specs.declared.term.Triple.{Triple}
@@ -14,6 +14,7 @@ use Rattle.bgp_core.specs.Queries.{QueryData}
 use Rattle.loop_wire.specs.Looped.{Looped}
 use Rattle.fragment_server.specs.declared.server.FragmentServer.{FragmentServer}
 use Rattle.pool_laws.specs.Sending.{SendsFor}
+use Rattle.pool_laws.specs.Requested.{LinkRequests, TellsRequests, over_links, whole_requests}
 use Rattle.generated_data.specs.Generated.{generated}
 use Rattle.tpf_client.specs.declared.options.Options.{Options}
 use Rattle.tpf_client.specs.declared.options.Report.{Report}
@@ -35,7 +36,7 @@ use Rattle.query_command.specs.Loops.{LocalView, LoopsFile, local_base, local_co
 abbrev pub plan_of : List Triple → Config → QueryData → List Address
 plan_of triples config q = addresses_of (triples ∷ []) config q local_base 1
 
--- On each link whole requests for addresses of the plan were sent, and then nothing or a front of the request for one; each address was asked for at most as often as the plan has it.
+-- On each link whole requests for addresses of the plan were sent, and then nothing or a front of the request for one. How often one was requested is not said here (see BoundsRequests).
 pub record SendsPlan (triples : List Triple) (config : Config) (q : QueryData) (wire : WireState) : Type 0 where
   pub asked : List Address
   pub rest : List Address
@@ -46,6 +47,17 @@ pub record SendsPlan (triples : List Triple) (config : Config) (q : QueryData) (
 abbrev pub SendsInside : Option (Looped FragmentServer) → List Triple → Config → QueryData → Type 0
 SendsInside None triples config q = Unit {0}
 SendsInside (Some after) triples config q = SendsPlan triples config q (wire_of after)
+
+-- The requests on the links of a wire. Of any addresses no more whole requests were sent than they stand in the plan, each time as often as it may be tried.
+pub record BoundsRequests (options : Options) (triples : List Triple) (config : Config) (q : QueryData) (wire : WireState) : Type 0 where
+  pub on : ℕ → LinkRequests
+  pub told : (k : ℕ) → k < wire.given → TellsRequests options.max_body (wire.links k) (on k)
+  pub few : (test : Address → Bool) → over_links (λ k. count_by test (whole_requests (on k))) 0 wire.given ≤ (options.retries + 1) * count_by test (plan_of triples config q)
+
+-- on the wire that was made, where one was
+abbrev pub RequestsInside : Options → Option (Looped FragmentServer) → List Triple → Config → QueryData → Type 0
+RequestsInside options None triples config q = Unit {0}
+RequestsInside options (Some after) triples config q = BoundsRequests options triples config q (wire_of after)
 
 -- Each address of the plan was answered on the wire that was made as often as the plan has it, or more, and was requested no more than so often for each time that it may be tried.
 abbrev pub RepliedInside : Option Files → LocalView → Option (Looped FragmentServer) → Report → List Triple → QueryData → Type 0
@@ -139,6 +151,10 @@ pub record PlanIsWithin (n : ℕ) (options : Options) (triples : List Triple) (c
 -- requests were sent for addresses of the plan alone
 abbrev pub SendsLocally : Option Files → LocalView → Option (Looped FragmentServer) → Type 0
 SendsLocally told local inside = OfFiles told local (λ triples q. SendsInside inside triples (local_config local.page_size) q)
+
+-- and of any of them no more than the plan has, each time as often as it may be tried
+abbrev pub RequestsLocally : Option Files → LocalView → Option (Looped FragmentServer) → Type 0
+RequestsLocally told local inside = OfFiles told local (λ triples q. RequestsInside local.options inside triples (local_config local.page_size) q)
 
 -- at an answer each address of the plan was answered
 abbrev pub RepliesLocally : Option Files → LocalView → Option (Looped FragmentServer) → Result Report AnswerFault → Type 0

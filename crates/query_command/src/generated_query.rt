@@ -9,7 +9,7 @@ ghost use Rattle.generated_server.specs.Starts.{StartsGenerated};
 ghost use Rattle.query_command.specs.Answers.{GivesAnswer, IsWanting};
 ghost use Rattle.query_command.specs.Generated.{usual_options, CountsQuery, LoopsGenerated, AsksOver, FailsOn, GeneratedAnswers, GeneratedCause};
 ghost use Rattle.query_command.specs.Loops.{LoopsServer, local_base, local_config, wire_of};
-ghost use Rattle.query_command.specs.Plans.{SendsPlan, SendsInside, RepliesRows, RepliesGenerated, MayEnd, EndsCounted, OfGenerated, PlanIsWithin};
+ghost use Rattle.query_command.specs.Plans.{SendsPlan, SendsInside, BoundsRequests, RequestsInside, RepliesRows, RepliesGenerated, MayEnd, EndsCounted, OfGenerated, PlanIsWithin};
 ghost use Rattle.plan_laws.specs.Fitting.{AreServable, IsAskable};
 ghost use Rattle.std.specs.List.{AllByRecursion};
 
@@ -79,6 +79,7 @@ fn ask_generated<R: Wait>(
     ensures answers { IfOk result (λ counts. LoopsGenerated persons inside.new (AsksOver query.now counts.rows)) }
     ensures cause { IfErr result (λ fault. LoopsGenerated persons inside.new (FailsOn query.now fault)) }
     ensures sent { LoopsServer server 0 0 inside.new (λ old new. SendsPlan (serving server).data_set (serving server).config query.now (wire_of new)) }
+    ensures requested { LoopsServer server 0 0 inside.new (λ old new. BoundsRequests usual_options (serving server).data_set (serving server).config query.now (wire_of new)) }
     ensures replied { IfOk result (λ counts. LoopsServer server 0 0 inside.new (RepliesRows (serving server).data_set (serving server).config query.now counts.rows)) }
     ensures ends { AreServable (serving server).data_set → AllByRecursion IsAskable query.now.patterns → IfErr result (MayEnd 0 usual_options (serving server).data_set (serving server).config query.now) }
 {
@@ -110,6 +111,7 @@ fn read_and_count<R: Wait, F: Shelf>(
     ensures answers { IfOk result (GeneratedAnswers (F.told shelf.old) persons query.now inside.new) }
     ensures cause { IfErr result (GeneratedCause (F.told shelf.old) persons query.now inside.new (F.faults shelf.old) (F.faults shelf.new)) }
     ensures sent { OfGenerated (F.told shelf.old) persons query.now (λ triples q. SendsInside inside.new triples (local_config 100) q) }
+    ensures requested { OfGenerated (F.told shelf.old) persons query.now (λ triples q. RequestsInside usual_options inside.new triples (local_config 100) q) }
     ensures replied { RepliesGenerated (F.told shelf.old) persons query.now inside.new result }
     ensures ends { OfGenerated (F.told shelf.old) persons query.now (λ triples q. EndsCounted usual_options triples (local_config 100) q result) }
     ensures told { F.told shelf.new ≡ F.told shelf.old }
@@ -146,10 +148,11 @@ fn read_and_count<R: Wait, F: Shelf>(
 /// where the call over the wire ended before the result was whole, which is never by `Sink`. The file is
 /// found once, and files found before are left as they were (`opened`).
 ///
-/// As with `local`, requests are sent for addresses of the plan alone (`sent`), at an answer each of these
-/// was answered, as often as the plan has it or more (`replied`), a fault over the wire comes only where a
-/// body is longer than the limit, the plan has more addresses than the budget, or memory ran out (`ends`),
-/// and the call succeeds where none of these is so and the shelf does not fail (`complete`).
+/// As with `local`, requests are sent for addresses of the plan alone (`sent`), of any of them at most three
+/// times as many as the plan has (`requested`), at an answer each of these was answered, as often as the plan
+/// has it or more (`replied`), a fault over the wire comes only where a body is longer than the limit, the
+/// plan has more addresses than the budget, or memory ran out (`ends`), and the call succeeds where none of
+/// these is so and the shelf does not fail (`complete`).
 pub fn query_generated<R: Wait, F: Shelf>(
     rt: &R,
     alloc: Global,
@@ -164,6 +167,7 @@ pub fn query_generated<R: Wait, F: Shelf>(
     ensures cause { IfErr result (GeneratedCause (F.told shelf.old) persons query.now inside.new (F.faults shelf.old) (F.faults shelf.new)) }
     ensures exact { ¬ (Rose (F.faults shelf.old) (F.faults shelf.new)) → IfTold (F.told shelf.old) (λ files. (outcome : QueryOutcome) → IsQueryOutcome files query.now outcome → GivesAnswer outcome result) }
     ensures sent { OfGenerated (F.told shelf.old) persons query.now (λ triples q. SendsInside inside.new triples (local_config 100) q) }
+    ensures requested { OfGenerated (F.told shelf.old) persons query.now (λ triples q. RequestsInside usual_options inside.new triples (local_config 100) q) }
     ensures replied { RepliesGenerated (F.told shelf.old) persons query.now inside.new result }
     ensures ends { OfGenerated (F.told shelf.old) persons query.now (λ triples q. EndsCounted usual_options triples (local_config 100) q result) }
     ensures complete { ¬ (Rose (F.faults shelf.old) (F.faults shelf.new)) → OfGenerated (F.told shelf.old) persons query.now (λ triples q. PlanIsWithin 0 usual_options triples (local_config 100) q → IfErr result IsWanting) }

@@ -12,7 +12,7 @@ ghost use Rattle.plan_laws.specs.Fitting.{AreServable, IsAskable};
 ghost use Rattle.tpf_client.specs.Requested.{AnswersPlan};
 ghost use Rattle.query_command.specs.Loops.{LoopsServer, WritesAnswer, WritesAnswerFront, LocalAnswers, LocalCause, GivesData, local_view, allows_of, local_base, local_config, wire_of};
 ghost use Rattle.query_command.specs.Files.{OpensLocally};
-ghost use Rattle.query_command.specs.Plans.{SendsPlan, EndsAsPlanned, SendsLocally, RepliesLocally, EndsByPlan, SucceedsByPlan};
+ghost use Rattle.query_command.specs.Plans.{SendsPlan, BoundsRequests, EndsAsPlanned, SendsLocally, RequestsLocally, RepliesLocally, EndsByPlan, SucceedsByPlan};
 
 use crate::AnswerFault;
 use crate::limits::commands_keep_limits;
@@ -105,6 +105,7 @@ pub(crate) fn ask_server<R: Wait, K: Sink>(
     ensures answer { IfOk result (λ report. WritesAnswer (serving server).data_set query.now report.rows (K.taken out.old) (K.taken out.new)) }
     ensures front { OnErr result (WritesAnswerFront (serving server).data_set query.now (K.taken out.old) (K.taken out.new)) }
     ensures sent { LoopsServer server seed fail_every inside.new (λ old new. SendsPlan (serving server).data_set (serving server).config query.now (wire_of new)) }
+    ensures requested { LoopsServer server seed fail_every inside.new (λ old new. BoundsRequests options.now (serving server).data_set (serving server).config query.now (wire_of new)) }
     ensures replied { IfOk result (λ report. LoopsServer server seed fail_every inside.new (λ old new. AnswersPlan ((serving server).data_set ∷ []) (serving server).config options.now query.now local_base report (wire_of old) (wire_of new))) }
     ensures ends { AreServable (serving server).data_set → AllByRecursion IsAskable query.now.patterns → options.now.budget < 2 ^ 63 → EndsAsPlanned fail_every options.now (serving server).data_set (serving server).config query.now result }
     ensures later { K.faults out.old ≤ K.faults out.new }
@@ -138,6 +139,7 @@ fn serve_and_ask<R: Wait, F: Shelf, K: Sink>(
     ensures answers { IfOk result (λ report. LocalAnswers (F.told shelf.old) (local_view asked.now) inside.new report (K.taken out.old) (K.taken out.new)) }
     ensures cause { IfErr result (LocalCause (F.told shelf.old) (local_view asked.now) inside.new (F.faults shelf.old) (F.faults shelf.new) (K.faults out.old) (K.faults out.new) (K.taken out.old) (K.taken out.new)) }
     ensures sent { SendsLocally (F.told shelf.old) (local_view asked.now) inside.new }
+    ensures requested { RequestsLocally (F.told shelf.old) (local_view asked.now) inside.new }
     ensures replied { RepliesLocally (F.told shelf.old) (local_view asked.now) inside.new result }
     ensures ends { EndsByPlan (F.told shelf.old) (local_view asked.now) result }
     ensures told { F.told shelf.new ≡ F.told shelf.old }
@@ -186,11 +188,12 @@ fn serve_and_ask<R: Wait, F: Shelf, K: Sink>(
 /// the result was whole: the output took a prefix of such a text. Each of the two files is found once, that
 /// of the query only where the data are served, and files found before are left as they were (`opened`).
 ///
-/// Nothing is assumed of the wire. Requests are sent for addresses of the plan alone (`sent`), and at an
-/// answer each of these was answered, as often as the plan has it or more (`replied`). Where no dial fails,
-/// an answer takes one request for each of them; else it takes the more that failed dials make necessary,
-/// and a fault comes only where too many fail, a body is longer than the limit, or the budget is too small,
-/// and never by a stall, a body that is no page, or another version (`ends`). Where none of these is so and
+/// Nothing is assumed of the wire. However the call ends, requests are sent for addresses of the plan alone
+/// (`sent`), of any of them at most `retries` + 1 times as many as the plan has (`requested`). At an answer
+/// each of these was answered, as often as the plan has it or more (`replied`). Where no dial fails, an
+/// answer takes one request for each of them; else it takes the more that failed dials make necessary, and
+/// a fault comes only where too many fail, a body is longer than the limit, or the budget is too small, and
+/// never by a stall, a body that is no page, or another version (`ends`). Where none of these is so and
 /// shelf and output do not fail, the call succeeds unless memory runs out (`complete`). What is said of
 /// the plan holds where the shelf tells both files.
 pub fn local<R: Wait, F: Shelf, K: Sink>(
@@ -212,6 +215,7 @@ pub fn local<R: Wait, F: Shelf, K: Sink>(
     ensures data_exact { ¬ (Rose (F.faults shelf.old) (F.faults shelf.new)) → IfTold (F.told shelf.old) (λ files. (outcome : Outcome) → IsOutcome files asked.now.name.now asked.now.choice.now (codes "localhost") outcome → GivesData outcome result) }
     ensures query_exact { ¬ (Rose (F.faults shelf.old) (F.faults shelf.new)) → IfTold (F.told shelf.old) (λ files. (outcome : QueryOutcome) → IsQueryOutcome files asked.now.query.now outcome → GivesAnswer outcome result) }
     ensures sent { SendsLocally (F.told shelf.old) (local_view asked.now) inside.new }
+    ensures requested { RequestsLocally (F.told shelf.old) (local_view asked.now) inside.new }
     ensures replied { RepliesLocally (F.told shelf.old) (local_view asked.now) inside.new result }
     ensures ends { EndsByPlan (F.told shelf.old) (local_view asked.now) result }
     ensures complete { ¬ (Rose (F.faults shelf.old) (F.faults shelf.new)) → ¬ (Rose (K.faults out.old) (K.faults out.new)) → SucceedsByPlan (F.told shelf.old) (local_view asked.now) result }

@@ -1,6 +1,6 @@
 -- What is said of the query is said of the file that holds it.
 use Rattle.std.proofs.Common.{None}
-use Rattle.query_command.proofs.Counting.{generated_answers, generated_fault, generated_sent, generated_replied, generated_ends}
+use Rattle.query_command.proofs.Counting.{generated_answers, generated_fault, generated_sent, generated_requested, generated_replied, generated_ends}
 use Rattle.query_command.proofs.Locals.{valid_read}
 use Rattle.query_command.proofs.generated_query.read_and_count.Goals as goal
 
@@ -15,9 +15,17 @@ pub returns-in-Ok-ask_generated-clause-sent : goal.returns-in-Ok-ask_generated-c
 returns-in-Ok-ask_generated-clause-sent g c =
     generated_sent _ c.args.persons _ _ c.in-Ok-generated_server.server c.in-Ok-generated_server.ensures c.in-Ok.query c.in-Ok.ensures.ok c.served_is_one.ensures c.ask_generated.ensures.sent
 
+pub returns-in-Ok-ask_generated-clause-requested : goal.returns-in-Ok-ask_generated-clause-requested
+returns-in-Ok-ask_generated-clause-requested g c =
+    generated_requested _ c.args.persons _ _ c.in-Ok-generated_server.server c.in-Ok-generated_server.ensures c.in-Ok.query c.in-Ok.ensures.ok c.served_is_one.ensures c.ask_generated.ensures.requested
+
 pub returns-clause-sent : goal.returns-clause-sent
 returns-clause-sent g c =
     generated_sent _ c.args.persons _ _ c.in-Ok-generated_server.server c.in-Ok-generated_server.ensures c.in-Ok.query c.in-Ok.ensures.ok c.served_is_one.ensures c.ask_generated.ensures.sent
+
+pub returns-clause-requested : goal.returns-clause-requested
+returns-clause-requested g c =
+    generated_requested _ c.args.persons _ _ c.in-Ok-generated_server.server c.in-Ok-generated_server.ensures c.in-Ok.query c.in-Ok.ensures.ok c.served_is_one.ensures c.ask_generated.ensures.requested
 
 pub returns-in-Ok-ask_generated-clause-replied : goal.returns-in-Ok-ask_generated-clause-replied
 returns-in-Ok-ask_generated-clause-replied g c =

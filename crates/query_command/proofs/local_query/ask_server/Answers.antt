@@ -4,7 +4,7 @@ use Rattle.file_server.specs.Servers.{serving}
 use Rattle.query_command.proofs.Looping.{loops_ok, loops_err, solves, solves_front, valid_served, config_served, keeps}
 use Rattle.query_command.proofs.Honest.{honest_wire}
 use Rattle.query_command.proofs.Fitting.{plan_is_read}
-use Rattle.query_command.proofs.Planned.{sends_from, ends_from, answers_from}
+use Rattle.query_command.proofs.Planned.{sends_from, requests_from, ends_from, answers_from}
 use Rattle.query_command.proofs.local_query.ask_server.Goals as goal
 
 pub returns-clause-answers : goal.returns-clause-answers
@@ -31,6 +31,13 @@ returns-clause-front g c =
 pub returns-clause-sent : goal.returns-clause-sent
 returns-clause-sent g c =
     sends_from c.args.server c.args.seed c.args.fail_every c.query-answer.new.wire c.args.query.now c.args.options.now
+    (keeps c.args.server c.args.seed c.args.fail_every c.new-wire.result c.query-answer.new.wire c.new-wire.ensures c.args.query.now c.args.start.now local_base c.requires.start c.args.options.now (g.K.Sink.faults c.args.out.now) (g.K.Sink.faults c.query-answer.new.out) (g.K.Sink.taken c.args.out.now) (g.K.Sink.taken c.query-answer.new.out)
+    (record { closed = c.query-answer.ensures.closed; peers = c.query-answer.ensures.peers; others = c.query-answer.ensures.others; sent = c.query-answer.ensures.sent; dials = c.query-answer.ensures.dials; given = c.query-answer.ensures.given; asked = c.query-answer.ensures.asked; tries = c.query-answer.ensures.planned; counted = c.query-answer.ensures.counted; unprovoked = c.query-answer.ensures.unprovoked; requested = c.query-answer.ensures.requested }))
+    (honest_wire c.args.server c.args.seed c.args.fail_every c.requires.first (valid_served c.args.server c.server.result.now c.server.ensures c.is_valid.ensures.data_set) (config_served c.args.server c.server.result.now c.server.ensures c.is_valid.ensures.config) c.is_few.ensures)
+
+pub returns-clause-requested : goal.returns-clause-requested
+returns-clause-requested g c =
+    requests_from c.args.server c.args.seed c.args.fail_every c.query-answer.new.wire c.args.query.now c.args.options.now
     (keeps c.args.server c.args.seed c.args.fail_every c.new-wire.result c.query-answer.new.wire c.new-wire.ensures c.args.query.now c.args.start.now local_base c.requires.start c.args.options.now (g.K.Sink.faults c.args.out.now) (g.K.Sink.faults c.query-answer.new.out) (g.K.Sink.taken c.args.out.now) (g.K.Sink.taken c.query-answer.new.out)
     (record { closed = c.query-answer.ensures.closed; peers = c.query-answer.ensures.peers; others = c.query-answer.ensures.others; sent = c.query-answer.ensures.sent; dials = c.query-answer.ensures.dials; given = c.query-answer.ensures.given; asked = c.query-answer.ensures.asked; tries = c.query-answer.ensures.planned; counted = c.query-answer.ensures.counted; unprovoked = c.query-answer.ensures.unprovoked; requested = c.query-answer.ensures.requested }))
     (honest_wire c.args.server c.args.seed c.args.fail_every c.requires.first (valid_served c.args.server c.server.result.now c.server.ensures c.is_valid.ensures.data_set) (config_served c.args.server c.server.result.now c.server.ensures c.is_valid.ensures.config) c.is_few.ensures)

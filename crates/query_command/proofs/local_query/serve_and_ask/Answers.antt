@@ -3,7 +3,7 @@ use Rattle.std.proofs.Common.{None, Ok, Err, refl, ap}
 use Rattle.template_fill.specs.Metadata.{Config}
 use Rattle.file_server.specs.Servers.{serving}
 use Rattle.query_command.specs.Loops.{local_view}
-use Rattle.query_command.proofs.Locals.{local_answers, local_fault, local_ends, local_sent, local_replied, valid_read, query_from}
+use Rattle.query_command.proofs.Locals.{local_answers, local_fault, local_ends, local_sent, local_requested, local_replied, valid_read, query_from}
 use Rattle.query_command.proofs.Opening.{opens_two}
 use Rattle.query_command.proofs.local_query.serve_and_ask.Goals as goal
 
@@ -44,6 +44,10 @@ pub returns-in-Ok-ask_server-clause-sent : goal.returns-in-Ok-ask_server-clause-
 returns-in-Ok-ask_server-clause-sent g c =
     local_sent _ _ c.local_server.ensures.told (local_view c.args.asked.now) c.in-Ok-local_server.server c.in-Ok-local_server.ensures.starts _ None None c.in-Ok-read_query.query c.in-Ok-read_query.ensures.ok c.ask_server.ensures.sent
 
+pub returns-in-Ok-ask_server-clause-requested : goal.returns-in-Ok-ask_server-clause-requested
+returns-in-Ok-ask_server-clause-requested g c =
+    local_requested _ _ c.local_server.ensures.told (local_view c.args.asked.now) c.in-Ok-local_server.server c.in-Ok-local_server.ensures.starts _ None None c.in-Ok-read_query.query c.in-Ok-read_query.ensures.ok c.ask_server.ensures.requested
+
 pub returns-clause-ends : goal.returns-clause-ends
 returns-clause-ends g c =
     local_ends _ _ c.local_server.ensures.told (local_view c.args.asked.now) c.in-Ok-local_server.server c.in-Ok-local_server.ensures.starts None None None c.in-Ok-read_query.query c.in-Ok-read_query.ensures.ok c.commands_keep_limits.ensures.files c.commands_keep_limits.ensures.queries (valid_read c.in-Ok-read_query.query _ c.patterns-patterns.ensures.value c.patterns-patterns.ensures.valid) (Err c.in-Err-ask_server.fault) c.in-Err-ask_server.ensures.ends
@@ -51,6 +55,10 @@ returns-clause-ends g c =
 pub returns-clause-sent : goal.returns-clause-sent
 returns-clause-sent g c =
     local_sent _ _ c.local_server.ensures.told (local_view c.args.asked.now) c.in-Ok-local_server.server c.in-Ok-local_server.ensures.starts _ None None c.in-Ok-read_query.query c.in-Ok-read_query.ensures.ok c.ask_server.ensures.sent
+
+pub returns-clause-requested : goal.returns-clause-requested
+returns-clause-requested g c =
+    local_requested _ _ c.local_server.ensures.told (local_view c.args.asked.now) c.in-Ok-local_server.server c.in-Ok-local_server.ensures.starts _ None None c.in-Ok-read_query.query c.in-Ok-read_query.ensures.ok c.ask_server.ensures.requested
 
 pub returns-in-Ok-ask_server-clause-replied : goal.returns-in-Ok-ask_server-clause-replied
 returns-in-Ok-ask_server-clause-replied g c =
