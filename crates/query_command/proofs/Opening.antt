@@ -1,6 +1,6 @@
 -- Files that are found one after another.
-use Rattle.std.proofs.Common.{ℕ, List, Option, refl, ◌∙◌, arith}
-use Rattle.tpf_base.specs.Outside.{LeavesOpened}
+use Rattle.std.proofs.Common.{ℕ, ◌≡◌, List, Option, refl, sym, subst, ◌∙◌, arith}
+use Rattle.tpf_base.specs.Outside.{HoldsName, LeavesOpened}
 use Rattle.query_command.specs.Files.{OpensAtMost}
 
 pub opens_none : (given : ℕ) (old : ℕ → Option (List ℕ)) → LeavesOpened given given old old
@@ -17,3 +17,7 @@ opens_two given mid now old at new a b =
       few = omega (arith, first, second);
       rest = λ k below. b.rest k (omega (arith, below, after)) ∙ a.rest k below;
     }
+
+-- a name is held still
+pub holds_still : (told told' : Option (List (List ℕ × List ℕ))) → told' ≡ told → (name : List ℕ) → HoldsName told name → HoldsName told' name
+holds_still told told' same name there = subst (λ (t : Option (List (List ℕ × List ℕ))). HoldsName t name) (sym same) there

@@ -1,7 +1,9 @@
 -- Which files a command opens.
-use Rattle.std.specs.Prelude.{ℕ, ◌≡◌, ◌+◌, ◌<◌, ◌≤◌, List, Option, Result, Ok, Err}
+use Rattle.std.specs.Prelude.{ℕ, ◌≡◌, ◌≢◌, ◌+◌, ◌<◌, ◌≤◌, List, Option, Result, Ok, Err}
 use Rattle.tpf_base.specs.Outside.{LeavesOpened}
 use Rattle.tpf_client.specs.declared.options.Report.{Report}
+use Rattle.data_files.specs.declared.fault.DataFault.TheVariants as data_faults
+use Rattle.data_files.specs.declared.fault.QueryFileFault.TheVariants as query_faults
 use Rattle.query_command.specs.declared.fault.AnswerFault.{AnswerFault}
 use Rattle.query_command.specs.declared.fault.AnswerFault.TheVariants as faults
 
@@ -17,3 +19,9 @@ OpensLocally given now old new (Ok report) = OpensAtMost 2 given now old new
 OpensLocally given now old new (Err (faults.Data fault)) = LeavesOpened given now old new
 OpensLocally given now old new (Err (faults.Query fault)) = OpensAtMost 2 given now old new
 OpensLocally given now old new (Err (faults.Client fault)) = OpensAtMost 2 given now old new
+
+-- it is not that a file could not be read
+abbrev pub IsNoFileFault : AnswerFault → Type 0
+IsNoFileFault (faults.Data fault) = fault ≢ data_faults.File
+IsNoFileFault (faults.Query fault) = fault ≢ query_faults.File
+IsNoFileFault (faults.Client fault) = Unit {0}

@@ -1,11 +1,12 @@
 // The query of generated data through a server in the same process.
-ghost use Rattle.std.specs.Prelude.{◌≡◌, ◌≤◌, None, IfOk, IfErr};
+ghost use Rattle.std.specs.Prelude.{◌≡◌, ◌<◌, ◌≤◌, ◌^◌, true, None, IfOk, IfErr};
 ghost use Rattle.tpf_base.specs.Causes.{Rose};
-ghost use Rattle.tpf_base.specs.Outside.{LeavesOpened};
+ghost use Rattle.tpf_base.specs.Outside.{HoldsName, LeavesOpened};
 ghost use Rattle.data_files.specs.Data.{IfTold};
 ghost use Rattle.data_files.specs.Queries.{QueryOutcome, IsQueryOutcome};
 ghost use Rattle.file_server.specs.Servers.{serving};
 ghost use Rattle.generated_server.specs.Starts.{StartsGenerated};
+ghost use Rattle.query_command.specs.Files.{IsNoFileFault};
 ghost use Rattle.query_command.specs.Answers.{GivesAnswer, IsWanting};
 ghost use Rattle.query_command.specs.Generated.{usual_options, CountsQuery, LoopsGenerated, AsksOver, FailsOn, GeneratedAnswers, GeneratedCause};
 ghost use Rattle.query_command.specs.Loops.{LoopsServer, local_base, local_config, wire_of};
@@ -117,6 +118,9 @@ fn read_and_count<R: Wait, F: Shelf>(
     ensures told { F.told shelf.new ≡ F.told shelf.old }
     ensures shelf_later { F.faults shelf.old ≤ F.faults shelf.new }
     ensures opened { LeavesOpened (F.given shelf.old) (F.given shelf.new) (F.rest shelf.old) (F.rest shelf.new) }
+    ensures faultless { F.faultless shelf.new ≡ F.faultless shelf.old }
+    ensures holds { F.faultless shelf.old ≡ true → HoldsName (F.told shelf.old) query.now → F.given shelf.old < 2 ^ 32 →
+        (F.faults shelf.new ≡ F.faults shelf.old) × IfErr result IsNoFileFault }
 {
     commands_keep_limits();
     served_is_one();
@@ -146,7 +150,8 @@ fn read_and_count<R: Wait, F: Shelf>(
 ///
 /// `Query` where the query is not read, and `Data` only where memory ran out: no wire is left then. `Client`
 /// where the call over the wire ended before the result was whole, which is never by `Sink`. The file is
-/// found once, and files found before are left as they were (`opened`).
+/// found once, and files found before are left as they were (`opened`). Over a faultless shelf that holds the
+/// name the shelf does not fail, as long as numbers are left (`holds`).
 ///
 /// As with `local`, requests are sent for addresses of the plan alone (`sent`), of any of them at most three
 /// times as many as the plan has (`requested`), at an answer each of these was answered, as often as the plan
@@ -174,6 +179,9 @@ pub fn query_generated<R: Wait, F: Shelf>(
     ensures told { F.told shelf.new ≡ F.told shelf.old }
     ensures shelf_later { F.faults shelf.old ≤ F.faults shelf.new }
     ensures opened { LeavesOpened (F.given shelf.old) (F.given shelf.new) (F.rest shelf.old) (F.rest shelf.new) }
+    ensures faultless { F.faultless shelf.new ≡ F.faultless shelf.old }
+    ensures holds { F.faultless shelf.old ≡ true → HoldsName (F.told shelf.old) query.now → F.given shelf.old < 2 ^ 32 →
+        (F.faults shelf.new ≡ F.faults shelf.old) × IfErr result IsNoFileFault }
 {
     read_and_count(rt, alloc, persons, query, shelf, inside)
 }

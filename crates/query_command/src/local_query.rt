@@ -1,8 +1,8 @@
 // The query of a file through a server in the same process.
-ghost use Rattle.std.specs.Prelude.{◌≡◌, ◌<◌, ◌≤◌, ◌^◌, [], ◌∷◌, codes, length, None, IfOk, IfErr, OnErr};
+ghost use Rattle.std.specs.Prelude.{◌≡◌, ◌≢◌, ◌<◌, ◌≤◌, ◌+◌, ◌^◌, [], ◌∷◌, true, codes, length, None, Err, IfOk, IfErr, OnErr};
 ghost use Rattle.std.specs.List.{AllByRecursion};
 ghost use Rattle.tpf_base.specs.Causes.{Rose};
-ghost use Rattle.tpf_base.specs.Outside.{LeavesOpened};
+ghost use Rattle.tpf_base.specs.Outside.{HoldsName, LeavesOpened};
 ghost use Rattle.data_files.specs.Data.{IfTold, Outcome, IsOutcome};
 ghost use Rattle.data_files.specs.Queries.{QueryOutcome, IsQueryOutcome};
 ghost use Rattle.data_files.specs.Causes.{DataCause};
@@ -11,7 +11,7 @@ ghost use Rattle.query_command.specs.Answers.{WritesOver, FailsOver, GivesAnswer
 ghost use Rattle.plan_laws.specs.Fitting.{AreServable, IsAskable};
 ghost use Rattle.tpf_client.specs.Requested.{AnswersPlan};
 ghost use Rattle.query_command.specs.Loops.{LoopsServer, WritesAnswer, WritesAnswerFront, LocalAnswers, LocalCause, GivesData, local_view, allows_of, local_base, local_config, wire_of};
-ghost use Rattle.query_command.specs.Files.{OpensLocally};
+ghost use Rattle.query_command.specs.Files.{OpensLocally, IsNoFileFault};
 ghost use Rattle.query_command.specs.Plans.{SendsPlan, BoundsRequests, EndsAsPlanned, SendsLocally, RequestsLocally, RepliesLocally, EndsByPlan, SucceedsByPlan};
 
 use crate::AnswerFault;
@@ -66,6 +66,9 @@ fn local_server<F: Shelf>(
     ensures told { F.told shelf.new ≡ F.told shelf.old }
     ensures later { F.faults shelf.old ≤ F.faults shelf.new }
     ensures opened { LeavesOpened (F.given shelf.old) (F.given shelf.new) (F.rest shelf.old) (F.rest shelf.new) }
+    ensures faultless { F.faultless shelf.new ≡ F.faultless shelf.old }
+    ensures holds { F.faultless shelf.old ≡ true → HoldsName (F.told shelf.old) name.now → F.given shelf.old < 2 ^ 32 →
+        (F.faults shelf.new ≡ F.faults shelf.old) × (result ≢ Err DataFault.File) }
 {
     let Ok(config) = local_config(alloc, page_size) else {
         return Err(DataFault::OutOfMemory);
@@ -145,6 +148,9 @@ fn serve_and_ask<R: Wait, F: Shelf, K: Sink>(
     ensures told { F.told shelf.new ≡ F.told shelf.old }
     ensures shelf_later { F.faults shelf.old ≤ F.faults shelf.new }
     ensures opened { OpensLocally (F.given shelf.old) (F.given shelf.new) (F.rest shelf.old) (F.rest shelf.new) result }
+    ensures faultless { F.faultless shelf.new ≡ F.faultless shelf.old }
+    ensures holds { F.faultless shelf.old ≡ true → HoldsName (F.told shelf.old) asked.now.name.now → HoldsName (F.told shelf.old) asked.now.query.now → F.given shelf.old + 1 < 2 ^ 32 →
+        (F.faults shelf.new ≡ F.faults shelf.old) × IfErr result IsNoFileFault }
     ensures out_later { K.faults out.old ≤ K.faults out.new }
 {
     commands_keep_limits();
@@ -187,6 +193,8 @@ fn serve_and_ask<R: Wait, F: Shelf, K: Sink>(
 /// then, the output did not fail, and no wire is left. `Client` where the call over the wire ended before
 /// the result was whole: the output took a prefix of such a text. Each of the two files is found once, that
 /// of the query only where the data are served, and files found before are left as they were (`opened`).
+/// Over a faultless shelf that holds both names the shelf does not fail, as long as numbers are left
+/// (`holds`).
 ///
 /// Nothing is assumed of the wire. However the call ends, requests are sent for addresses of the plan alone
 /// (`sent`), of any of them at most `retries` + 1 times as many as the plan has (`requested`). At an answer
@@ -222,6 +230,9 @@ pub fn local<R: Wait, F: Shelf, K: Sink>(
     ensures told { F.told shelf.new ≡ F.told shelf.old }
     ensures shelf_later { F.faults shelf.old ≤ F.faults shelf.new }
     ensures opened { OpensLocally (F.given shelf.old) (F.given shelf.new) (F.rest shelf.old) (F.rest shelf.new) result }
+    ensures faultless { F.faultless shelf.new ≡ F.faultless shelf.old }
+    ensures holds { F.faultless shelf.old ≡ true → HoldsName (F.told shelf.old) asked.now.name.now → HoldsName (F.told shelf.old) asked.now.query.now → F.given shelf.old + 1 < 2 ^ 32 →
+        (F.faults shelf.new ≡ F.faults shelf.old) × IfErr result IsNoFileFault }
     ensures out_later { K.faults out.old ≤ K.faults out.new }
 {
     serve_and_ask(rt, alloc, asked, shelf, out, inside)

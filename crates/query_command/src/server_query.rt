@@ -1,13 +1,14 @@
 // The query of a file over a wire.
-ghost use Rattle.std.specs.Prelude.{◌≡◌, ◌≤◌, List, length, IfOk, IfErr};
+ghost use Rattle.std.specs.Prelude.{◌≡◌, ◌<◌, ◌≤◌, ◌^◌, true, List, length, IfOk, IfErr};
 ghost use Rattle.tpf_base.specs.Addresses.{address_text};
 ghost use Rattle.tpf_base.specs.Causes.{Rose};
 ghost use Rattle.tpf_base.specs.Links.{SameAllowed};
-ghost use Rattle.tpf_base.specs.Outside.{LeavesOpened};
+ghost use Rattle.tpf_base.specs.Outside.{HoldsName, LeavesOpened};
 ghost use Rattle.data_files.specs.Data.{IfTold};
 ghost use Rattle.data_files.specs.Queries.{QueryOutcome, IsQueryOutcome};
 ghost use Rattle.rdf_terms.specs.declared.term.Triple.{Triple};
 ghost use Rattle.template_fill.specs.Metadata.{Config};
+ghost use Rattle.query_command.specs.Files.{IsNoFileFault};
 ghost use Rattle.query_command.specs.Answers.{Answers, AskCause, GivesAnswer, FitsOver, OfQuery, IsWanting, IsClientWanting};
 
 use crate::AnswerFault;
@@ -41,6 +42,9 @@ fn read_and_ask<R: Wait, F: Shelf, W: Dial, K: Sink>(
     ensures told { F.told shelf.new ≡ F.told shelf.old }
     ensures shelf_later { F.faults shelf.old ≤ F.faults shelf.new }
     ensures opened { LeavesOpened (F.given shelf.old) (F.given shelf.new) (F.rest shelf.old) (F.rest shelf.new) }
+    ensures faultless { F.faultless shelf.new ≡ F.faultless shelf.old }
+    ensures holds { F.faultless shelf.old ≡ true → HoldsName (F.told shelf.old) name.now → F.given shelf.old < 2 ^ 32 →
+        (F.faults shelf.new ≡ F.faults shelf.old) × IfErr result IsNoFileFault }
     ensures out_later { K.faults out.old ≤ K.faults out.new }
 {
     commands_keep_limits();
@@ -64,7 +68,8 @@ fn read_and_ask<R: Wait, F: Shelf, W: Dial, K: Sink>(
 /// `Query` where the query is not read: nothing was written then, the output did not fail, and the wire is
 /// as before. `Client` where the call over the wire ended before the result was whole: the output took a
 /// prefix of such a text, with all rows that were given where neither the output nor memory failed. `Data`
-/// never comes. The file is found once, and files found before are left as they were (`opened`).
+/// never comes. The file is found once, and files found before are left as they were (`opened`). Over a
+/// faultless shelf that holds the name the shelf does not fail, as long as numbers are left (`holds`).
 ///
 /// Where the text of the start has at most 65536 bytes, the wire's other ends answer as a server of data
 /// within the limits of the program does, the plan fits, the faults of the wire rise at most as often as a
@@ -92,6 +97,9 @@ pub fn query<R: Wait, F: Shelf, W: Dial, K: Sink>(
     ensures told { F.told shelf.new ≡ F.told shelf.old }
     ensures shelf_later { F.faults shelf.old ≤ F.faults shelf.new }
     ensures opened { LeavesOpened (F.given shelf.old) (F.given shelf.new) (F.rest shelf.old) (F.rest shelf.new) }
+    ensures faultless { F.faultless shelf.new ≡ F.faultless shelf.old }
+    ensures holds { F.faultless shelf.old ≡ true → HoldsName (F.told shelf.old) name.now → F.given shelf.old < 2 ^ 32 →
+        (F.faults shelf.new ≡ F.faults shelf.old) × IfErr result IsNoFileFault }
     ensures out_later { K.faults out.old ≤ K.faults out.new }
 {
     read_and_ask(rt, alloc, name, start, options, shelf, wire, out)

@@ -8,6 +8,9 @@ pub returns-in-Ok-ask_generated-clause-answers : goal.returns-in-Ok-ask_generate
 returns-in-Ok-ask_generated-clause-answers g c =
     generated_answers _ c.args.persons _ _ c.in-Ok.query c.in-Ok.ensures.ok c.in-Ok-ask_generated.counts c.in-Ok-ask_generated.ensures.counts c.in-Ok-ask_generated.ensures.answers
 
+pub returns-in-Ok-ask_generated-clause-holds : goal.returns-in-Ok-ask_generated-clause-holds
+returns-in-Ok-ask_generated-clause-holds g c = λ fine there room. ((c.read_query.ensures.holds fine there room).0, tt)
+
 pub returns-clause-cause : goal.returns-clause-cause
 returns-clause-cause g c = generated_fault _ c.args.persons _ _ c.in-Ok.query c.in-Ok.ensures.ok 0 0 c.in-Err-ask_generated.fault c.in-Err-ask_generated.ensures.cause
 

@@ -1,10 +1,10 @@
 -- What is said of the server is said of the file that it serves.
-use Rattle.std.proofs.Common.{None, Ok, Err, refl, ap}
+use Rattle.std.proofs.Common.{None, Ok, Err, refl, ap, ◌∙◌, arith}
 use Rattle.template_fill.specs.Metadata.{Config}
 use Rattle.file_server.specs.Servers.{serving}
 use Rattle.query_command.specs.Loops.{local_view}
 use Rattle.query_command.proofs.Locals.{local_answers, local_fault, local_ends, local_sent, local_requested, local_replied, valid_read, query_from}
-use Rattle.query_command.proofs.Opening.{opens_two}
+use Rattle.query_command.proofs.Opening.{opens_two, holds_still}
 use Rattle.query_command.proofs.local_query.serve_and_ask.Goals as goal
 
 pub returns-in-Err-read_query-clause-cause : goal.returns-in-Err-read_query-clause-cause
@@ -24,6 +24,27 @@ returns-in-Ok-ask_server-clause-opened g c = opens_two _ _ _ _ _ _ c.local_serve
 
 pub returns-clause-opened : goal.returns-clause-opened
 returns-clause-opened g c = opens_two _ _ _ _ _ _ c.local_server.ensures.opened c.read_query.ensures.opened
+
+pub returns-in-Err-read_query-clause-holds : goal.returns-in-Err-read_query-clause-holds
+returns-in-Err-read_query-clause-holds g c = λ fine data_there query_there room.
+    let few = c.local_server.ensures.opened.few in
+    let first = c.local_server.ensures.holds fine data_there (omega (arith, room)) in
+    let second = c.in-Err-read_query.ensures.holds (c.local_server.ensures.faultless ∙ fine) (holds_still _ _ c.local_server.ensures.told c.args.asked.now.query.now query_there) (omega (arith, few, room)) in
+    (second.0 ∙ first.0, λ e. second.1 (cc))
+
+pub returns-in-Ok-ask_server-clause-holds : goal.returns-in-Ok-ask_server-clause-holds
+returns-in-Ok-ask_server-clause-holds g c = λ fine data_there query_there room.
+    let few = c.local_server.ensures.opened.few in
+    let first = c.local_server.ensures.holds fine data_there (omega (arith, room)) in
+    let second = c.read_query.ensures.holds (c.local_server.ensures.faultless ∙ fine) (holds_still _ _ c.local_server.ensures.told c.args.asked.now.query.now query_there) (omega (arith, few, room)) in
+    (second.0 ∙ first.0, tt)
+
+pub returns-clause-holds : goal.returns-clause-holds
+returns-clause-holds g c = λ fine data_there query_there room.
+    let few = c.local_server.ensures.opened.few in
+    let first = c.local_server.ensures.holds fine data_there (omega (arith, room)) in
+    let second = c.read_query.ensures.holds (c.local_server.ensures.faultless ∙ fine) (holds_still _ _ c.local_server.ensures.told c.args.asked.now.query.now query_there) (omega (arith, few, room)) in
+    (second.0 ∙ first.0, tt)
 
 pub returns-in-Ok-ask_server-clause-answers : goal.returns-in-Ok-ask_server-clause-answers
 returns-in-Ok-ask_server-clause-answers g c =

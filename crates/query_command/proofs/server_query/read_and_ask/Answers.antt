@@ -24,6 +24,9 @@ returns-in-Ok-query_server-clause-answers g c =
       };
     }
 
+pub returns-in-Ok-query_server-clause-holds : goal.returns-in-Ok-query_server-clause-holds
+returns-in-Ok-query_server-clause-holds g c = λ fine there room. ((c.read_query.ensures.holds fine there room).0, tt)
+
 pub returns-clause-cause : goal.returns-clause-cause
 returns-clause-cause g c =
     let e = c.in-Err-query_server.ensures in
