@@ -1,9 +1,10 @@
--- Which files a command opens.
+-- Which files a command opens, and that faultless ones do not fail.
 use Rattle.std.specs.Prelude.{ℕ, ◌≡◌, ◌≢◌, ◌+◌, ◌<◌, ◌≤◌, List, Option, Result, Ok, Err}
 use Rattle.tpf_base.specs.Outside.{LeavesOpened}
 use Rattle.tpf_client.specs.declared.options.Report.{Report}
 use Rattle.data_files.specs.declared.fault.DataFault.TheVariants as data_faults
 use Rattle.data_files.specs.declared.fault.QueryFileFault.TheVariants as query_faults
+use Rattle.tpf_client.specs.declared.fault.ClientFault.TheVariants as client_faults
 use Rattle.query_command.specs.declared.fault.AnswerFault.{AnswerFault}
 use Rattle.query_command.specs.declared.fault.AnswerFault.TheVariants as faults
 
@@ -25,3 +26,9 @@ abbrev pub IsNoFileFault : AnswerFault → Type 0
 IsNoFileFault (faults.Data fault) = fault ≢ data_faults.File
 IsNoFileFault (faults.Query fault) = fault ≢ query_faults.File
 IsNoFileFault (faults.Client fault) = Unit {0}
+
+-- it is not that the output failed
+abbrev pub IsNoSinkFault : AnswerFault → Type 0
+IsNoSinkFault (faults.Data fault) = Unit {0}
+IsNoSinkFault (faults.Query fault) = Unit {0}
+IsNoSinkFault (faults.Client fault) = fault ≢ client_faults.Sink

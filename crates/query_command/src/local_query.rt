@@ -1,5 +1,5 @@
 // The query of a file through a server in the same process.
-ghost use Rattle.std.specs.Prelude.{◌≡◌, ◌≢◌, ◌<◌, ◌≤◌, ◌+◌, ◌^◌, [], ◌∷◌, true, codes, length, None, Err, IfOk, IfErr, OnErr};
+ghost use Rattle.std.specs.Prelude.{◌≡◌, ◌≢◌, ◌<◌, ◌≤◌, ◌+◌, ◌^◌, [], ◌∷◌, true, codes, length, None, Err, IfOk, IfErr, IsErrOf, OnErr};
 ghost use Rattle.std.specs.List.{AllByRecursion};
 ghost use Rattle.tpf_base.specs.Causes.{Rose};
 ghost use Rattle.tpf_base.specs.Outside.{HoldsName, LeavesOpened};
@@ -11,7 +11,7 @@ ghost use Rattle.query_command.specs.Answers.{WritesOver, FailsOver, GivesAnswer
 ghost use Rattle.plan_laws.specs.Fitting.{AreServable, IsAskable};
 ghost use Rattle.tpf_client.specs.Requested.{AnswersPlan};
 ghost use Rattle.query_command.specs.Loops.{LoopsServer, WritesAnswer, WritesAnswerFront, LocalAnswers, LocalCause, GivesData, local_view, allows_of, local_base, local_config, wire_of};
-ghost use Rattle.query_command.specs.Files.{OpensLocally, IsNoFileFault};
+ghost use Rattle.query_command.specs.Files.{OpensLocally, IsNoFileFault, IsNoSinkFault};
 ghost use Rattle.query_command.specs.Plans.{SendsPlan, BoundsRequests, EndsAsPlanned, SendsLocally, RequestsLocally, RepliesLocally, EndsByPlan, SucceedsByPlan};
 
 use crate::AnswerFault;
@@ -112,6 +112,8 @@ pub(crate) fn ask_server<R: Wait, K: Sink>(
     ensures replied { IfOk result (λ report. LoopsServer server seed fail_every inside.new (λ old new. AnswersPlan ((serving server).data_set ∷ []) (serving server).config options.now query.now local_base report (wire_of old) (wire_of new))) }
     ensures ends { AreServable (serving server).data_set → AllByRecursion IsAskable query.now.patterns → options.now.budget < 2 ^ 63 → EndsAsPlanned fail_every options.now (serving server).data_set (serving server).config query.now result }
     ensures later { K.faults out.old ≤ K.faults out.new }
+    ensures faultless { K.faultless out.new ≡ K.faultless out.old }
+    ensures spared { K.faultless out.old ≡ true → (K.faults out.new ≡ K.faults out.old) × (IsErrOf result ClientFault.Sink → ⊥) }
 {
     plans_are_read();
     is_few(&server);
@@ -152,6 +154,8 @@ fn serve_and_ask<R: Wait, F: Shelf, K: Sink>(
     ensures holds { F.faultless shelf.old ≡ true → HoldsName (F.told shelf.old) asked.now.name.now → HoldsName (F.told shelf.old) asked.now.query.now → F.given shelf.old + 1 < 2 ^ 32 →
         (F.faults shelf.new ≡ F.faults shelf.old) × IfErr result IsNoFileFault }
     ensures out_later { K.faults out.old ≤ K.faults out.new }
+    ensures out_faultless { K.faultless out.new ≡ K.faultless out.old }
+    ensures spared { K.faultless out.old ≡ true → (K.faults out.new ≡ K.faults out.old) × IfErr result IsNoSinkFault }
 {
     commands_keep_limits();
     let Ok(start) = local_start(alloc) else {
@@ -194,7 +198,7 @@ fn serve_and_ask<R: Wait, F: Shelf, K: Sink>(
 /// the result was whole: the output took a prefix of such a text. Each of the two files is found once, that
 /// of the query only where the data are served, and files found before are left as they were (`opened`).
 /// Over a faultless shelf that holds both names the shelf does not fail, as long as numbers are left
-/// (`holds`).
+/// (`holds`). A faultless output does not fail (`spared`).
 ///
 /// Nothing is assumed of the wire. However the call ends, requests are sent for addresses of the plan alone
 /// (`sent`), of any of them at most `retries` + 1 times as many as the plan has (`requested`). At an answer
@@ -234,6 +238,8 @@ pub fn local<R: Wait, F: Shelf, K: Sink>(
     ensures holds { F.faultless shelf.old ≡ true → HoldsName (F.told shelf.old) asked.now.name.now → HoldsName (F.told shelf.old) asked.now.query.now → F.given shelf.old + 1 < 2 ^ 32 →
         (F.faults shelf.new ≡ F.faults shelf.old) × IfErr result IsNoFileFault }
     ensures out_later { K.faults out.old ≤ K.faults out.new }
+    ensures out_faultless { K.faultless out.new ≡ K.faultless out.old }
+    ensures spared { K.faultless out.old ≡ true → (K.faults out.new ≡ K.faults out.old) × IfErr result IsNoSinkFault }
 {
     serve_and_ask(rt, alloc, asked, shelf, out, inside)
 }

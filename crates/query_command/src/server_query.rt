@@ -8,7 +8,7 @@ ghost use Rattle.data_files.specs.Data.{IfTold};
 ghost use Rattle.data_files.specs.Queries.{QueryOutcome, IsQueryOutcome};
 ghost use Rattle.rdf_terms.specs.declared.term.Triple.{Triple};
 ghost use Rattle.template_fill.specs.Metadata.{Config};
-ghost use Rattle.query_command.specs.Files.{IsNoFileFault};
+ghost use Rattle.query_command.specs.Files.{IsNoFileFault, IsNoSinkFault};
 ghost use Rattle.query_command.specs.Answers.{Answers, AskCause, GivesAnswer, FitsOver, OfQuery, IsWanting, IsClientWanting};
 
 use crate::AnswerFault;
@@ -46,6 +46,8 @@ fn read_and_ask<R: Wait, F: Shelf, W: Dial, K: Sink>(
     ensures holds { F.faultless shelf.old ≡ true → HoldsName (F.told shelf.old) name.now → F.given shelf.old < 2 ^ 32 →
         (F.faults shelf.new ≡ F.faults shelf.old) × IfErr result IsNoFileFault }
     ensures out_later { K.faults out.old ≤ K.faults out.new }
+    ensures out_faultless { K.faultless out.new ≡ K.faultless out.old }
+    ensures spared { K.faultless out.old ≡ true → (K.faults out.new ≡ K.faults out.old) × IfErr result IsNoSinkFault }
 {
     commands_keep_limits();
     plans_are_read();
@@ -70,6 +72,7 @@ fn read_and_ask<R: Wait, F: Shelf, W: Dial, K: Sink>(
 /// prefix of such a text, with all rows that were given where neither the output nor memory failed. `Data`
 /// never comes. The file is found once, and files found before are left as they were (`opened`). Over a
 /// faultless shelf that holds the name the shelf does not fail, as long as numbers are left (`holds`).
+/// A faultless output does not fail (`spared`).
 ///
 /// Where the text of the start has at most 65536 bytes, the wire's other ends answer as a server of data
 /// within the limits of the program does, the plan fits, the faults of the wire rise at most as often as a
@@ -101,6 +104,8 @@ pub fn query<R: Wait, F: Shelf, W: Dial, K: Sink>(
     ensures holds { F.faultless shelf.old ≡ true → HoldsName (F.told shelf.old) name.now → F.given shelf.old < 2 ^ 32 →
         (F.faults shelf.new ≡ F.faults shelf.old) × IfErr result IsNoFileFault }
     ensures out_later { K.faults out.old ≤ K.faults out.new }
+    ensures out_faultless { K.faultless out.new ≡ K.faultless out.old }
+    ensures spared { K.faultless out.old ≡ true → (K.faults out.new ≡ K.faults out.old) × IfErr result IsNoSinkFault }
 {
     read_and_ask(rt, alloc, name, start, options, shelf, wire, out)
 }

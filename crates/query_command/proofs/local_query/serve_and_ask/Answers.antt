@@ -46,6 +46,12 @@ returns-clause-holds g c = λ fine data_there query_there room.
     let second = c.read_query.ensures.holds (c.local_server.ensures.faultless ∙ fine) (holds_still _ _ c.local_server.ensures.told c.args.asked.now.query.now query_there) (omega (arith, few, room)) in
     (second.0 ∙ first.0, tt)
 
+pub returns-in-Ok-ask_server-clause-spared : goal.returns-in-Ok-ask_server-clause-spared
+returns-in-Ok-ask_server-clause-spared g c = λ fine. ((c.ask_server.ensures.spared fine).0, tt)
+
+pub returns-clause-spared : goal.returns-clause-spared
+returns-clause-spared g c = λ fine. let h = c.in-Err-ask_server.ensures.spared fine in (h.0, λ e. h.1 (cc))
+
 pub returns-in-Ok-ask_server-clause-answers : goal.returns-in-Ok-ask_server-clause-answers
 returns-in-Ok-ask_server-clause-answers g c =
     local_answers _ _ c.local_server.ensures.told (local_view c.args.asked.now) c.in-Ok-local_server.server c.in-Ok-local_server.ensures.starts _ _ _ c.in-Ok-read_query.query c.in-Ok-read_query.ensures.ok c.in-Ok-ask_server.report c.in-Ok-ask_server.ensures.answers c.in-Ok-ask_server.ensures.answer

@@ -27,6 +27,12 @@ returns-in-Ok-query_server-clause-answers g c =
 pub returns-in-Ok-query_server-clause-holds : goal.returns-in-Ok-query_server-clause-holds
 returns-in-Ok-query_server-clause-holds g c = λ fine there room. ((c.read_query.ensures.holds fine there room).0, tt)
 
+pub returns-in-Ok-query_server-clause-spared : goal.returns-in-Ok-query_server-clause-spared
+returns-in-Ok-query_server-clause-spared g c = λ fine. ((c.in-Ok-query_server.ensures.spared fine).0, tt)
+
+pub returns-clause-spared : goal.returns-clause-spared
+returns-clause-spared g c = λ fine. let h = c.in-Err-query_server.ensures.spared fine in (h.0, λ e. h.1 (cc))
+
 pub returns-clause-cause : goal.returns-clause-cause
 returns-clause-cause g c =
     let e = c.in-Err-query_server.ensures in
