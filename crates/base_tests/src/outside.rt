@@ -170,6 +170,7 @@ fn no_wire_gives_no_link(rt: HostRuntime) {
     assert_eq!(rt; wire.listen("localhost", 80), Err(Fault::Failed));
     assert_eq!(rt; wire.accept(), Err(Fault::Failed));
     assert_eq!(rt; wire.wait(), Err(Fault::Failed));
+    wire.look();
     assert_eq!(rt; wire.send(0, b"x"), Moved::Failed);
     assert_eq!(rt; wire.recv(0, &mut [0u8; 1]), Moved::Failed);
     wire.close(0);

@@ -71,6 +71,10 @@ impl Played {
         self.wire.wait()
     }
 
+    pub fn look(&mut self) {
+        self.wire.look()
+    }
+
     /// `End`, which no send answers, where the link was not given or the piece is empty.
     #[tactic(auto, using(crate::proofs::Open::open_on))]
     pub fn send(&mut self, link: u64, piece: &[u8]) -> Moved {

@@ -113,6 +113,8 @@ fn a_wait_answers_what_can_move(rt: HostRuntime) -> Result<(), Fail> {
     assert_eq!(rt; wire.idle(), 0, "a link was given");
     assert_eq!(rt; wire.dial("host", 80), Ok(1));
     assert_eq!(rt; wire.wait(), Ok(Ready::Link(1)));
+    wire.look();
+    assert_eq!(rt; wire.idle(), 1, "a look is no wait");
     assert_eq!(rt; wire.wait(), Ok(Ready::Link(1)));
     assert_eq!(rt; wire.idle(), 2);
     let log = wire.heard(alloc, 1, 8, 2)?;

@@ -1,9 +1,10 @@
 -- What a kind of connection means, and what each call does in its terms.
 use Rattle.std.specs.Prelude.{ℕ, ◌≡◌, ◌⊎◌, ◌≤◌, ◌<◌, Bool, true, false, List, [], ◌∷◌, ◌++◌, length, take}
 use Rattle.std.specs.List.{AllByRecursion}
+use Rattle.connections.specs.declared.connection.TheConstants.{ENOUGH_PENDING}
 use Rattle.connections.specs.declared.reloaded.Reloaded.{Reloaded}
 use Rattle.connections.specs.declared.reloaded.Reloaded.TheVariants as outcomes
-use Rattle.tpf_base.specs.Marks.{Mark, Served, Failed, Starved}
+use Rattle.tpf_base.specs.Marks.{Mark, Served, Failed, Starved, version_at}
 use Rattle.connections.specs.Versions.{Serving, IsHistory}
 
 -- A kind of connection. The first four are of its value; `Answers history config fed taken marks c` ties it to all that came and went: `marks` has one mark for each head that was read. The last four are the kind's definitions.
@@ -80,7 +81,11 @@ module _ {C Data Settings : Type 0} where
   -- further bytes of the response are pending: many, or all
   pub record Fills (kind : Kind C Data Settings) (server : Serving Data Settings) (old new : C) : Type 0 where
     pub answers : (history : List Data) (fed taken : List ℕ) (marks : List Mark) → kind.Answers history server.config fed taken marks old → kind.Answers history server.config fed taken marks new
-    pub enough : (65536 ≤ length (kind.pending new)) ⊎ (kind.owes new ≡ false)
+    -- what was made stands behind what was pending, and is nothing where nothing was owed
+    pub more : List ℕ
+    pub pending : kind.pending new ≡ kind.pending old ++ more
+    pub idle : kind.owes old ≡ false → more ≡ []
+    pub enough : (ENOUGH_PENDING ≤ length (kind.pending new)) ⊎ (kind.owes new ≡ false)
     pub some : kind.owes old ≡ true → 0 < length (kind.pending new)
     pub wants : kind.wants new ≡ kind.wants old
     pub closing : kind.closing new ≡ kind.closing old
@@ -99,6 +104,8 @@ module _ {C Data Settings : Type 0} where
     pub rest : List ℕ
     pub split : all ≡ marks ++ padding
     pub no_failure : AllByRecursion IsNoFailure padding
+    -- what is not yet marked is answered over the last version
+    pub latest : AllByRecursion (λ mark. length history ≤ version_at mark) padding
     pub marked : kind.IsMarked history config bytes all
     pub text : kind.response history config bytes all ≡ sent ++ rest
     pub numbers : kind.reloads config bytes all ≡ kind.reloads config fed marks

@@ -6,6 +6,9 @@ use crate::{Reloaded, Serves};
 use std::alloc::Global;
 use tpf_base::OutOfMemory;
 
+/// How many bytes of the response are made before they are sent, where so many are owed.
+pub const ENOUGH_PENDING: usize = 65536;
+
 /// A connection: from the bytes that come to those of the response.
 ///
 /// After `OutOfMemory` nothing is promised of it: it can only be closed.
@@ -32,7 +35,8 @@ pub trait Converses: Drop {
         ensures feeds { OnOk result (Feeds kind (Self.Server.serving server.now) piece.now self.old self.new) }
         ensures suits { OnOk result (Suits server.now self.new) };
 
-    /// Makes further bytes of the response, until at least 65536 are pending or nothing is owed.
+    /// Makes further bytes of the response behind those that are pending, until at least
+    /// `ENOUGH_PENDING` are or nothing is owed.
     fn fill(&mut self, server: &Self::Server) -> Result<(), OutOfMemory>
         requires suits { Suits server.now self.old }
         ensures fills { OnOk result (Fills kind (Self.Server.serving server.now) self.old self.new) }

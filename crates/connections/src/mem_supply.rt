@@ -32,9 +32,11 @@ impl<T: Drop> MemSupply<T> {
 }
 
 impl<V: Serves> Supply<V> for MemSupply<V::Table> {
-    ghost faults = { λ supply. (supply_counts supply).faults };
-
-    ghost left = { λ supply. Some (map V.data_of (tables_left supply)) };
+    ghost state = { λ supply. record {
+      left = Some (map V.data_of (tables_left supply));
+      faults = (supply_counts supply).faults;
+      calls = (supply_counts supply).calls;
+    } };
 
     // Which tables it gives, what is left says.
     ghost may = { λ supply data_set. Unit {0} };

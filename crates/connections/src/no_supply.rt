@@ -22,9 +22,7 @@ impl NoSupply {
 }
 
 impl<V: Serves> Supply<V> for NoSupply {
-    ghost faults = { λ supply. refusals supply };
-
-    ghost left = { λ supply. Some [] };
+    ghost state = { λ supply. record { left = Some []; faults = refusals supply; calls = refusals supply } };
 
     ghost may = { λ supply data_set. ⊥ };
 

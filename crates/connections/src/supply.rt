@@ -1,18 +1,16 @@
 // Where a reload gets its data.
-ghost use Rattle.std.specs.Prelude.{ℕ, ◌≡◌, ◌↔◌, List, Option, IfOk, OnErr};
-ghost use Rattle.tpf_base.specs.Causes.{HasCause};
-ghost use Rattle.connections.specs.Versions.{with_first};
+ghost use Rattle.std.specs.Prelude.{◌≡◌, ◌↔◌, IfOk, OnErr};
+ghost use Rattle.tpf_base.specs.Causes.{HasCause, counted};
+ghost use Rattle.connections.specs.Versions.{SupplyState, with_first};
 
 use crate::Serves;
 use tpf_base::Fault;
 
 /// Gives the tables of a server, one for each reload.
 pub trait Supply<V: Serves> {
-    /// How often it has failed.
-    ghost faults: { Self → ℕ };
-
-    /// The data sets that it has left, where it tells them.
-    ghost left: { Self → Option (List V.Data) };
+    /// What it holds: the data sets that it has left, where it tells them, how often it failed, and how
+    /// often it was called. The counts stop at 2^64 - 1.
+    ghost state: { Self → SupplyState V.Data };
 
     /// The data sets that it may give. No call changes them.
     ghost may: { Self → V.Data → Type 0 };
@@ -22,14 +20,16 @@ pub trait Supply<V: Serves> {
 
     /// The next table.
     ///
-    /// `Failed` where there is none, or it could not be read. After an error what is left stays.
+    /// `Failed` where there is none, or it could not be read. Each call counts, and after an error what
+    /// is left stays.
     fn next(&mut self) -> Result<V::Table, Fault>
         ensures given { IfOk result (λ table. may self.old (V.data_of table)) }
-        ensures first { IfOk result (λ table. left self.old ≡ with_first (V.data_of table) (left self.new)) }
-        ensures err { OnErr result (left self.new ≡ left self.old) }
+        ensures first { IfOk result (λ table. (state self.old).left ≡ with_first (V.data_of table) (state self.new).left) }
+        ensures err { OnErr result ((state self.new).left ≡ (state self.old).left) }
         ensures same { (data_set : V.Data) → may self.new data_set ↔ may self.old data_set }
         ensures keeps { Keeps self.old self.new }
-        ensures cause { HasCause (faults self.old) (faults self.new) result };
+        ensures cause { HasCause (state self.old).faults (state self.new).faults result }
+        ensures counts { (state self.new).calls ≡ counted (state self.old).calls };
 
     ghost keeps_itself: { (a : Self) → Keeps a a };
 

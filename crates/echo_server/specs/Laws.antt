@@ -1,9 +1,10 @@
 -- Serves proofs alone: the laws of a connection that gives back what it gets.
 use Rattle.std.specs.Prelude.{ℕ, ◌≡◌, List, [], ◌∷◌, ◌++◌, length, take, drop, Bool, true, false, not, ◌==◌}
-use Rattle.std.proofs.Common.{refl, sym, ◌∙◌, ap, append_assoc, append-nil, arith}
+use Rattle.std.proofs.Common.{refl, sym, ◌∙◌, ap, append_assoc, append-nil, length-append, inr, ◌<◌, arith}
 use Rattle.std.proofs.lemmas.Bool.{eqb-true}
 use Rattle.std.proofs.lemmas.List.{take-append-drop}
-use Rattle.connections.specs.Kinds.{BeginsResponse, IsWhole, Takes}
+use Rattle.connections.specs.Kinds.{BeginsResponse, IsWhole, Takes, Fills}
+use Rattle.connections.specs.Versions.{Serving}
 use Rattle.loop_wire.specs.Response.{BeginsAt}
 use Rattle.echo_server.specs.declared.echo.Echo.{Echo}
 use Rattle.echo_server.specs.Echoes.{echoes}
@@ -15,6 +16,7 @@ all_begins {Data = Data} {Settings = Settings} = λ history config fed taken mar
   rest = drop n c.pending.items ++ (c.owed.items ++ more);
   split = sym (append-nil marks ∙ answers.1);
   no_failure = tt;
+  latest = tt;
   marked = refl;
   text = ap (λ (x : List ℕ). x ++ more) (sym answers.0) ∙ append_assoc taken (c.pending.items ++ c.owed.items) more
       ∙ ap (λ (x : List ℕ). taken ++ x) (append_assoc c.pending.items c.owed.items more ∙ ap (λ (x : List ℕ). x ++ (c.owed.items ++ more)) (sym (take-append-drop n c.pending.items))
@@ -53,4 +55,28 @@ takes_front {Data = Data} {Settings = Settings} n old new rest same = record {
         ∙ a.0,
     a.1,
   );
+}
+
+some_owed : (xs : List ℕ) → not (length xs == 0) ≡ true → 0 < length xs
+some_owed [] e = absurd cc
+some_owed (x ∷ xs) e = omega arith
+
+-- all that was owed is pending behind what was
+pub fills_all : {Data Settings : Type 0} (server : Serving Data Settings) (old new : Echo) → new.pending.items ≡ old.pending.items ++ old.owed.items → new.owed.items ≡ []
+    → Fills (echoes {Data = Data} {Settings = Settings}) server old new
+fills_all {Data = Data} {Settings = Settings} server old new made none = record {
+  answers = λ history fed taken marks a. (
+    ap (λ (x : List ℕ). taken ++ (x ++ new.owed.items)) made
+        ∙ ap (λ (x : List ℕ). taken ++ ((old.pending.items ++ old.owed.items) ++ x)) none
+        ∙ ap (λ (x : List ℕ). taken ++ x) (append-nil (old.pending.items ++ old.owed.items))
+        ∙ a.0,
+    a.1,
+  );
+  more = old.owed.items;
+  pending = made;
+  idle = λ free. none_owed old.owed.items free;
+  enough = inr (ap (λ (x : List ℕ). not (length x == 0)) none);
+  some = λ owing. omega (arith, some_owed old.owed.items owing, ap length made, length-append old.pending.items old.owed.items);
+  wants = refl;
+  closing = refl;
 }

@@ -37,6 +37,7 @@ impl Converses for Echo {
         Ok(())
     }
 
+    #[tactic(auto, using(crate::specs::Laws::fills_all))]
     fn fill(&mut self, _server: &EchoServer) -> Result<(), OutOfMemory> {
         self.pending.extend_from_slice(&self.owed)?;
         self.owed.clear();

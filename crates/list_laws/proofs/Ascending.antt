@@ -1,6 +1,6 @@
 -- Strictly ascending lists, their parts and their images.
-use Rattle.std.proofs.Common.{ℕ, ◌≡◌, ◌≢◌, ◌+◌, ◌<◌, Bool, true, false, refl, List, [], ◌∷◌, zero, suc, sym, ap, subst, ◌∙◌, length, get_or, take, drop, map, arith}
-use Rattle.std.specs.List.{AllByRecursion, IsDistinct}
+use Rattle.std.proofs.Common.{ℕ, ◌≡◌, ◌≢◌, ◌+◌, ◌<◌, Bool, true, false, cond, refl, List, [], ◌∷◌, zero, suc, sym, ap, subst, ◌∙◌, length, get_or, take, drop, map, arith}
+use Rattle.std.specs.List.{AllByRecursion, IsDistinct, filter}
 use Rattle.std.specs.List.Sorted.{IsStrictlySortedBy, IsSorted, IsSortedBy}
 use Rattle.std.specs.declared.cmp.Ordering.{Ordering}
 use Rattle.std.specs.declared.cmp.Ordering.TheVariants.{Less, Equal, Greater}
@@ -10,6 +10,7 @@ use Rattle.std.proofs.lemmas.Bool.{true≢false}
 use Rattle.std.proofs.lemmas.Cmp.{tied_itself}
 use Rattle.std.proofs.lemmas.List.Elements.{All-from_recursion, recursion_from_All, All-take}
 use Rattle.std.proofs.lemmas.List.Sorted.{sorted_far, ranks_by}
+use Rattle.list_laws.proofs.Each.{all_map, all_unmap, all_on, all_filter}
 
 -- ---- orderings
 
@@ -31,6 +32,9 @@ pub then_equal : (a b : Ordering) → ordering_then a b ≡ Equal → (a ≡ Equ
 then_equal Less b e = absurd (less_not_equal e)
 then_equal Equal b e = (refl, e)
 then_equal Greater b e = absurd (greater_not_equal e)
+
+pub then_three : (a b c : Ordering) → ordering_then a (ordering_then b c) ≡ Equal → (a ≡ Equal) × (b ≡ Equal) × (c ≡ Equal)
+then_three a b c e = let p = then_equal a (ordering_then b c) e in let q = then_equal b c p.1 in (p.0, q.0, q.1)
 
 -- ---- two places
 
@@ -94,30 +98,30 @@ strict_take {X} R (suc n) (x ∷ xs) s = (recursion_from_All (λ y. R x y ≡ Le
 
 -- ---- images
 
-all_map : {X Y : Type 0} (f : X → Y) (P : Y → Type 0) (xs : List X) → AllByRecursion (λ x. P (f x)) xs → AllByRecursion P (map f xs)
-all_map f P [] h = tt
-all_map f P (x ∷ xs) h = (h.0, all_map f P xs h.1)
-
 pub ascending_map : {X Y : Type 0} (f : X → Y) (R : Y → Y → Ordering) (xs : List X) → IsStrictlySortedBy (λ x y. R (f x) (f y)) xs → IsStrictlySortedBy R (map f xs)
 unfolding IsStrictlySortedBy
 ascending_map f R [] h = tt
 ascending_map f R (x ∷ xs) h = (all_map f (λ y. R (f x) y ≡ Less) xs h.0, ascending_map f R xs h.1)
-
-all_unmap : {X Y : Type 0} (f : X → Y) (P : Y → Type 0) (xs : List X) → AllByRecursion P (map f xs) → AllByRecursion (λ x. P (f x)) xs
-all_unmap f P [] h = tt
-all_unmap f P (x ∷ xs) h = (h.0, all_unmap f P xs h.1)
 
 pub ascending_unmap : {X Y : Type 0} (f : X → Y) (R : Y → Y → Ordering) (xs : List X) → IsStrictlySortedBy R (map f xs) → IsStrictlySortedBy (λ x y. R (f x) (f y)) xs
 unfolding IsStrictlySortedBy
 ascending_unmap f R [] h = tt
 ascending_unmap f R (x ∷ xs) h = (all_unmap f (λ y. R (f x) y ≡ Less) xs h.0, ascending_unmap f R xs h.1)
 
-all_on : {X Y : Type 0} (f : X → Y) (Q : Y → Type 0) (P S : X → Type 0) → ((x : X) → P x → S x → Q (f x)) → (xs : List X) → AllByRecursion P xs → AllByRecursion S xs → AllByRecursion Q (map f xs)
-all_on f Q P S w [] p s = tt
-all_on f Q P S w (x ∷ xs) p s = (w x p.0 s.0, all_on f Q P S w xs p.1 s.1)
-
 pub strict_on : {X Y : Type 0} (f : X → Y) (R : Y → Y → Ordering) (S : X → X → Ordering) (P : X → Type 0) → ((x y : X) → P x → P y → S x y ≡ R (f x) (f y)) → (xs : List X) → AllByRecursion P xs →
     IsStrictlySortedBy S xs → IsStrictlySortedBy R (map f xs)
 unfolding IsStrictlySortedBy
 strict_on f R S P w [] p s = tt
 strict_on f R S P w (x ∷ xs) p s = (all_on f (λ y. R (f x) y ≡ Less) P (λ y. S x y ≡ Less) (λ y q e. sym (w x y p.0 q) ∙ e) xs p.1 s.0, strict_on f R S P w xs p.1 s.1)
+
+-- ---- what a filter keeps
+
+kept_strict : {X : Type 0} (R : X → X → Ordering) (b : Bool) (x : X) (xs : List X) → AllByRecursion (λ y. R x y ≡ Less) xs → IsStrictlySortedBy R xs → IsStrictlySortedBy R (cond b (x ∷ xs) xs)
+unfolding IsStrictlySortedBy
+kept_strict R true x xs below s = (below, s)
+kept_strict R false x xs below s = s
+
+pub strict_filter : {X : Type 0} (R : X → X → Ordering) (p : X → Bool) (xs : List X) → IsStrictlySortedBy R xs → IsStrictlySortedBy R (filter p xs)
+unfolding IsStrictlySortedBy
+strict_filter R p [] s = tt
+strict_filter R p (x ∷ xs) s = kept_strict R (p x) x (filter p xs) (all_filter (λ y. R x y ≡ Less) p xs s.0) (strict_filter R p xs s.1)

@@ -1,7 +1,10 @@
 pub mod Ascending
 pub mod Begins
+pub mod Each
 pub mod Members
 pub mod Options
+pub mod Lists
 pub mod Places
+pub mod Results
 pub mod Tests
 pub mod Told

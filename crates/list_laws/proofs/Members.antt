@@ -84,6 +84,15 @@ pub from_filter : {X : Type 0} (p : X → Bool) (xs : List X) (x : X) → Contai
 from_filter p [] x h = absurd (none_in x h)
 from_filter p (y ∷ xs) x h = ⊎_elim (λ s. subst (λ z. Contains (y ∷ xs) z) s (at_head y xs)) (λ t. in_tail y x xs (from_filter p xs x t)) (from_kept y x (p y) (filter p xs) h)
 
+from_passed : {X : Type 0} (p : X → Bool) (x y : X) (b : Bool) (xs : List X) → p x ≡ b → (Contains xs y → p y ≡ true) → Contains (cond b (x ∷ xs) xs) y → p y ≡ true
+from_passed p x y true xs e later h = ⊎_elim (λ s. ap p (sym s) ∙ e) later (head_or_tail x y xs h)
+from_passed p x y false xs e later h = later h
+
+-- what a filter keeps passes its test
+pub passed_filter : {X : Type 0} (p : X → Bool) (xs : List X) (x : X) → Contains (filter p xs) x → p x ≡ true
+passed_filter p [] x h = absurd (none_in x h)
+passed_filter p (y ∷ xs) x h = from_passed p y x (p y) (filter p xs) refl (passed_filter p xs x) h
+
 -- ---- a filter_map
 
 gives : {X Y : Type 0} (f : X → Option Y) (x : X) (xs : List X) (o : Option Y) (y : Y) → f x ≡ o → Contains (filter_map f xs) y → Contains (filter_map f (x ∷ xs)) y

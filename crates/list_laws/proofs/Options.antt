@@ -1,13 +1,27 @@
 -- What a value that is there tells of the steps that gave it.
-use Rattle.std.proofs.Common.{◌≡◌, ◌⊎◌, inl, inr, Bool, true, false, Option, Some, None, refl}
+use Rattle.std.proofs.Common.{◌≡◌, ◌⊎◌, inl, inr, Bool, true, false, Option, Some, None, refl, sym, ◌∙◌}
 use Rattle.std.specs.Option.{option_map}
 use Rattle.list_laws.specs.Options.{◌>>=◌, when, first_of}
 
-none_some : {A : Type 0} {x : A} → None ≡ Some x → ⊥
-none_some e = cc
+pub none_not_some : {A : Type 0} {x : A} → None ≡ Some x → ⊥
+none_not_some e = cc
+
+pub some_not_none : {A : Type 0} {x : A} → Some x ≡ None → ⊥
+some_not_none e = cc
+
+pub some_same : {A : Type 0} {x y : A} → Some x ≡ Some y → x ≡ y
+some_same e = cc
+
+-- one option is not both
+pub not_some_and_none : {A : Type 0} (o : Option A) {x : A} → o ≡ Some x → o ≡ None → ⊥
+not_some_and_none o e f = some_not_none (sym e ∙ f)
+
+-- what an option has is one value
+pub one_value : {A : Type 0} (o : Option A) {x y : A} → o ≡ Some x → o ≡ Some y → x ≡ y
+one_value o e f = some_same (sym e ∙ f)
 
 pub bind_some : {A B : Type 0} (o : Option A) (f : A → Option B) (y : B) → (o >>= f) ≡ Some y → (x : A) × (o ≡ Some x) × (f x ≡ Some y)
-bind_some None f y e = absurd (none_some e)
+bind_some None f y e = absurd (none_not_some e)
 bind_some (Some x) f y e = (x, refl, e)
 
 pub bind_none : {A B : Type 0} (o : Option A) (f : A → Option B) → (o >>= f) ≡ None → (o ≡ None) ⊎ ((x : A) × (o ≡ Some x) × (f x ≡ None))

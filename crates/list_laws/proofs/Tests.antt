@@ -5,6 +5,13 @@ use Rattle.std.proofs.lemmas.Bool.{true≢false, both_ways, and_parts, ltb-true,
 pub not_both_ways : (b : Bool) → b ≡ true → b ≡ false → ⊥
 not_both_ways b h k = both_ways b k h
 
+-- the halves of a test; both at once are std's `and_parts`, and back from both `and_from`
+pub and_first : (a b : Bool) → (a && b) ≡ true → a ≡ true
+and_first a b h = (and_parts a b h).0
+
+pub and_second : (a b : Bool) → (a && b) ≡ true → b ≡ true
+and_second a b h = (and_parts a b h).1
+
 pub implied : (p q : Bool) → (not p || q) ≡ true → p ≡ true → q ≡ true
 implied true q e h = e
 implied false q e h = absurd (true≢false (sym h))

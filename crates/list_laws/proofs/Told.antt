@@ -8,14 +8,12 @@ use Rattle.std.specs.declared.cmp.Ordering.TheVariants.{Less}
 use Rattle.std.specs.Ordering.{ordering_reverse}
 use Rattle.std.proofs.lemmas.Cmp.{tied_itself}
 use Rattle.list_laws.proofs.Members.{at_head, in_tail, head_or_tail, none_in}
+use Rattle.list_laws.proofs.Lists.{cons_same}
 use Rattle.list_laws.proofs.Ascending.{less_not_equal, less_not_greater}
 
 pub all_in : {X : Type 0} (P : X → Type 0) (xs : List X) (x : X) → AllByRecursion P xs → Contains xs x → P x
 all_in P [] x a h = absurd (none_in x h)
 all_in P (y ∷ xs) x a h = ⊎_elim (λ e. subst P e a.0) (λ t. all_in P xs x a.1 t) (head_or_tail y x xs h)
-
-cons_same : {X : Type 0} (x y : X) (xs ys : List X) → x ≡ y → xs ≡ ys → x ∷ xs ≡ y ∷ ys
-cons_same x y xs ys e f = ap (λ z. z ∷ xs) e ∙ ap (λ zs. y ∷ zs) f
 
 module _ {X : Type 0} {R : X → X → Ordering} (o : IsTotalOrder R) where
   -- the first elements of two such lists with the same elements

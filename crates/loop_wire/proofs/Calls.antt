@@ -12,6 +12,7 @@ use Rattle.tpf_base.specs.declared.wire.Moved.{Moved}
 use Rattle.tpf_base.specs.declared.wire.Moved.TheVariants as answers
 use Rattle.loop_wire.specs.Held as held
 use Rattle.loop_wire.specs.Held.{Held, no_link, new_link, told, settled, stalled_at, sent_more, received_more, ended_now, closed, IsHeld, Hears}
+use Rattle.loop_wire.specs.Waits.{WaitCounts}
 use Rattle.loop_wire.specs.Looped.{wire_of, nature_of, is_steady, every_of, woke_after}
 use Rattle.loop_wire.proofs.Talks.{front_lasts}
 
@@ -58,7 +59,7 @@ pub record CountsFailed (old new : CallCounts) : Type 0 where
   pub faults : new.faults ≡ counted old.faults
   pub unsteady : is_steady old.failing ≡ false
 
-turns_set : (owes : List ℕ → List ℕ) (k : ℕ) (links : List Held) (h' : Held) (counts counts' : CallCounts) (provoked waits : ℕ) (woke woke' : Bool)
+turns_set : (owes : List ℕ → List ℕ) (k : ℕ) (links : List Held) (h' : Held) (counts counts' : CallCounts) (provoked : ℕ) (waits : WaitCounts) (woke woke' : Bool)
     → k < length links → CountsOn counts counts'
     → Turns owes k (get_or links k no_link) h' (wire_of owes links counts provoked waits woke) (wire_of owes (set links k h') counts' provoked waits woke')
 turns_set owes k links h' counts counts' provoked waits woke woke' below on = record {
@@ -70,7 +71,6 @@ turns_set owes k links h' counts counts' provoked waits woke woke' below on = re
     dials = on.dials;
     waits = refl;
     door = refl;
-    door_stalls = refl;
     nature = ap nature_of on.failing;
   };
   was = refl;
@@ -96,6 +96,7 @@ sent_bytes owes k n piece rest h h' old new turn left longer within idle faults 
   failed = λ same. absurd cc;
   memory = λ same. absurd cc;
   no_end = λ same. absurd cc;
+  unfailed = λ able. faults;
   not_due = λ steady e every. (faults, λ same. absurd cc);
   woken = λ steady woken stalled same. absurd cc;
 }
@@ -118,6 +119,7 @@ sent_nothing owes k piece h h' old new turn left asleep later idle faults =
       failed = λ same. absurd cc;
       memory = λ same. absurd cc;
       no_end = λ same. absurd cc;
+      unfailed = λ able. faults;
       not_due = λ steady e every. (faults, λ same. absurd cc);
       woken = λ steady woken stalled same. let no : h.woken ≡ true = ap (λ (l : Link). l.woken) (sym turn.was) ∙ woken in absurd cc;
     }
@@ -137,6 +139,7 @@ sent_wanting owes k piece h h' old new turn left same = record {
   failed = λ e. absurd cc;
   memory = λ e. same;
   no_end = λ e. absurd cc;
+  unfailed = λ able. same.faults;
   not_due = λ steady e every. (same.faults, λ f. absurd cc);
   woken = λ steady woken stalled f. absurd cc;
 }
@@ -156,6 +159,7 @@ sent_failed owes k piece h h' old new turn left idle faults unsteady = record {
   failed = λ e. rw (turn.is, turn.was, left, idle, faults) (0, omega arith, ap Some (sym (append-nil h.sent)), (λ n. refl), refl, omega arith);
   memory = λ e. absurd cc;
   no_end = λ e. absurd cc;
+  unfailed = λ able. absurd (able refl);
   not_due = λ steady e every. absurd cc;
   woken = λ steady woken stalled e. absurd cc;
 }
@@ -178,6 +182,7 @@ heard_bytes owes k n to h h' old new turn left front idle faults some room = rec
   not_yet = λ same. absurd cc;
   failed = λ same. absurd cc;
   memory = λ same. absurd cc;
+  unfailed = λ able full. faults;
   not_due = λ steady e every. (faults, (λ same. absurd cc), λ same. absurd cc);
   woken = λ steady woken stalled same. absurd cc;
 }
@@ -199,6 +204,7 @@ heard_end owes k to h h' old new turn left over idle faults =
       not_yet = λ same. absurd cc;
       failed = λ same. absurd cc;
       memory = λ same. absurd cc;
+      unfailed = λ able full. faults;
       not_due = λ steady e every. (faults, (λ same. absurd cc), λ same. all);
       woken = λ steady woken stalled same. absurd cc;
     }
@@ -221,6 +227,7 @@ heard_nothing owes k to stalls h h' old new turn left later quiet awake idle fau
       not_yet = λ same. rw (turn.is, turn.was, left, idle) (refl, refl, omega arith, refl);
       failed = λ same. absurd cc;
       memory = λ same. absurd cc;
+      unfailed = λ able full. faults;
       not_due = λ steady e every. (faults, (λ same. absurd cc), λ same. absurd cc);
       woken = λ steady woken stalled same.
           let up : h.woken ≡ true = ap (λ (l : Link). l.woken) (sym turn.was) ∙ woken in
@@ -246,6 +253,7 @@ heard_wanting owes k to h h' old new turn left same = record {
   not_yet = λ e. absurd cc;
   failed = λ e. absurd cc;
   memory = λ e. same;
+  unfailed = λ able full. same.faults;
   not_due = λ steady e every. (same.faults, (λ f. absurd cc), λ f. absurd cc);
   woken = λ steady woken stalled f. absurd cc;
 }
@@ -265,6 +273,7 @@ heard_failed owes k to h h' old new turn left idle faults unsteady = record {
   not_yet = λ e. absurd cc;
   failed = λ e. rw (turn.is, turn.was, left, idle, faults) (refl, refl, refl, omega arith);
   memory = λ e. absurd cc;
+  unfailed = λ able full. absurd (able refl);
   not_due = λ steady e every. absurd cc;
   woken = λ steady woken stalled e. absurd cc;
 }
@@ -293,7 +302,7 @@ closed_link owes k h h' old new turn left idle faults = record {
 }
 
 -- ---- the call itself: one link is set, and the counts are others
-module _ (owes : List ℕ → List ℕ) (k : ℕ) (links links' : List Held) (counts counts' : CallCounts) (provoked waits : ℕ) (woke : Bool) where
+module _ (owes : List ℕ → List ℕ) (k : ℕ) (links links' : List Held) (counts counts' : CallCounts) (provoked : ℕ) (waits : WaitCounts) (woke : Bool) where
   abbrev here : Held
   here = get_or links k no_link
 
@@ -321,7 +330,6 @@ module _ (owes : List ℕ → List ℕ) (k : ℕ) (links links' : List Held) (co
         waits = refl;
         idle = refl;
         door = refl;
-        door_stalls = refl;
         nature = ap nature_of fine.on.failing;
       }
 
@@ -376,7 +384,7 @@ others_same (x ∷ links) h zero other = refl
 others_same (x ∷ links) h (suc k) other = others_same links h k (λ e. other (omega (arith, e)))
 
 -- a link that is given
-pub gives_as : (owes : List ℕ → List ℕ) (peer : Option (List ℕ × ℕ)) (number : ℕ) (links links' : List Held) (counts counts' : CallCounts) (provoked waits : ℕ) (woke : Bool)
+pub gives_as : (owes : List ℕ → List ℕ) (peer : Option (List ℕ × ℕ)) (number : ℕ) (links links' : List Held) (counts counts' : CallCounts) (provoked : ℕ) (waits : WaitCounts) (woke : Bool)
     → number ≡ length links → links' ≡ links ++ new_link peer ∷ [] → Gives peer number (wire_of owes links counts provoked waits woke) (wire_of owes links' counts' provoked waits false)
 gives_as owes peer number links links' counts counts' provoked waits woke first is =
     let at : get_or links' number no_link ≡ new_link peer = rw (is, first) (get_or-append_seam links (new_link peer) [] no_link) in

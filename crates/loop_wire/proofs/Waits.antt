@@ -11,6 +11,7 @@ use Rattle.connections.specs.Kinds.{Kind, Opens}
 use Rattle.connections.specs.Versions.{Serving}
 use Rattle.loop_wire.specs.declared.link.LoopLink.{LoopLink}
 use Rattle.loop_wire.specs.Held.{Held, no_link, new_link, told, woken_now, IsHeld, IsKept}
+use Rattle.loop_wire.specs.Waits.{WaitCounts}
 use Rattle.loop_wire.specs.Looped.{wire_of, idle_of, held_of, IsWire}
 use Rattle.loop_wire.proofs.Lists.{kept_push, length_held}
 use Rattle.loop_wire.proofs.Wires.{open_below}
@@ -25,7 +26,7 @@ asleep true none = let e : 1 ≡ 0 = none in absurd (omega (arith, e))
 asleep false none = refl
 
 -- a wait that answers a ripe link, where the one before it answered none
-pub wakes_as : (owes : List ℕ → List ℕ) (k : ℕ) (links links' : List Held) (counts counts' : CallCounts) (provoked waits waits' : ℕ) (woke : Bool)
+pub wakes_as : (owes : List ℕ → List ℕ) (k : ℕ) (links links' : List Held) (counts counts' : CallCounts) (provoked : ℕ) (waits waits' : WaitCounts) (woke : Bool)
     → k < length links → (get_or links k no_link).ripe ≡ true → IsHeld owes (get_or links k no_link) → links' ≡ set links k (woken_now (get_or links k no_link)) → woke ≡ false
     → Wakes (ready.Link k) (wire_of owes links counts provoked waits woke) (wire_of owes links' counts' provoked waits' true)
 wakes_as owes k links links' counts counts' provoked waits waits' woke below ripe held is none = (
@@ -35,7 +36,7 @@ wakes_as owes k links links' counts counts' provoked waits waits' woke below rip
   rw (none) refl,
 )
 
-pub waits_found : (owes : List ℕ → List ℕ) (k : ℕ) (links links' : List Held) (counts counts' : CallCounts) (provoked waits waits' : ℕ) (woke woke' : Bool)
+pub waits_found : (owes : List ℕ → List ℕ) (k : ℕ) (links links' : List Held) (counts counts' : CallCounts) (provoked : ℕ) (waits waits' : WaitCounts) (woke woke' : Bool)
     → (get_or links k no_link).ripe ≡ true → IsHeld owes (get_or links k no_link) → counts'.faults ≡ counts.faults
     → WaitsSteadily (wire_of owes links counts provoked waits woke) (wire_of owes links' counts' provoked waits' woke') (Ok (ready.Link k))
 waits_found owes k links links' counts counts' provoked waits waits' woke woke' ripe held faults =
@@ -57,7 +58,7 @@ module _ {C : Type 0} where
   ripe_along links seen k is ripe = subst (λ (ls : List (LoopLink C)). (get_or (held_of ls) k no_link).ripe ≡ true) is ripe
 
 -- a wait that finds no ripe link, or comes behind one that succeeded
-pub waits_none : (owes : List ℕ → List ℕ) (links : List Held) (counts : CallCounts) (provoked waits : ℕ) (woke : Bool) (new : WireState)
+pub waits_none : (owes : List ℕ → List ℕ) (links : List Held) (counts : CallCounts) (provoked : ℕ) (waits : WaitCounts) (woke : Bool) (new : WireState)
     → (woke ≡ false → (k : ℕ) → k < length links → (get_or links k no_link).ripe ≡ false) → ((k : ℕ) → k < length links → IsHeld owes (get_or links k no_link))
     → WaitsSteadily (wire_of owes links counts provoked waits woke) new (Err fault.Failed)
 waits_none owes links counts provoked waits woke new none held = record {

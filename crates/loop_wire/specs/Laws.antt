@@ -5,6 +5,7 @@ use Rattle.std.proofs.lemmas.List.{get_or_past, take-append-drop}
 use Rattle.tpf_base.specs.Failures.{CallCounts}
 use Rattle.tpf_base.specs.Links.{All, IsToldBy, ReceivesOwed, OwesAllowed, IsLively}
 use Rattle.loop_wire.specs.Held.{Held, no_link, told}
+use Rattle.loop_wire.specs.Waits.{WaitCounts}
 use Rattle.loop_wire.specs.Looped.{wire_of}
 
 told_of : (owes : List ℕ → List ℕ) (held : Held) → IsToldBy All (told owes held)
@@ -34,6 +35,6 @@ owed_front owes held = λ host port sent owed is_peer is_sent is_owed.
 pub front_owed : (owes : List ℕ → List ℕ) (links : List Held) (k : ℕ) → OwesAllowed (λ host port sent owed. owed ≡ owes sent) (told owes (get_or links k no_link))
 front_owed owes links k = owed_front owes (get_or links k no_link)
 
-pub is_calm : (owes : List ℕ → List ℕ) (links : List Held) (counts : CallCounts) (provoked waits : ℕ) (woke : Bool) → IsLively (wire_of owes links counts provoked waits woke)
+pub is_calm : (owes : List ℕ → List ℕ) (links : List Held) (counts : CallCounts) (provoked : ℕ) (waits : WaitCounts) (woke : Bool) → IsLively (wire_of owes links counts provoked waits woke)
 is_calm owes links counts provoked waits true = λ lively. lit< tt
 is_calm owes links counts provoked waits false = λ lively. lit< tt

@@ -13,6 +13,7 @@ use Rattle.connections.specs.Kinds.{Kind}
 use Rattle.connections.specs.Versions.{Serving}
 use Rattle.loop_wire.specs.declared.link.LoopLink.{LoopLink}
 use Rattle.loop_wire.specs.Held.{Held, no_link, told, IsKept}
+use Rattle.loop_wire.specs.Waits.{WaitCounts, no_waits}
 
 -- a wire that fails no call, or dials alone, is steady
 abbrev pub is_steady : Failing → Bool
@@ -48,18 +49,17 @@ CountsDue failing dials faults provoked = (n : ℕ) → every_of failing ≡ Som
 abbrev pub idle_of : Bool → ℕ
 idle_of woke = if woke then 1 else 0
 
--- these links and counts as a wire, where this is owed to what was sent
-abbrev pub wire_of : (List ℕ → List ℕ) → List Held → CallCounts → ℕ → ℕ → Bool → WireState
+-- these links and counts as a wire, where this is owed to what was sent; its door is never opened, and each wait that failed is a fault of it
+abbrev pub wire_of : (List ℕ → List ℕ) → List Held → CallCounts → ℕ → WaitCounts → Bool → WireState
 wire_of owes links counts provoked waits woke = record {
   links = λ k. told owes (get_or links k no_link);
   given = length links;
   faults = counts.faults;
   provoked = provoked;
   dials = counts.dials;
-  waits = waits;
+  waits = waits.calls;
   idle = idle_of woke;
-  door = None;
-  door_stalls = 0;
+  door = record { place = None; stalls = 0; faults = waits.faults; calls = 0 };
   nature = nature_of counts.failing;
 }
 
@@ -71,7 +71,7 @@ called fails counts = record counts { calls = counted counts.calls; faults = if 
 abbrev pub dialled : Bool → CallCounts → CallCounts
 dialled fails counts = record counts { calls = counted counts.calls; dials = counted counts.dials; faults = if fails then counted counts.faults else counts.faults }
 
--- A wire in one process: its server, its links, its counts, the state of its generator, how many bytes moved, how many faults were provoked, how many waits there were, and whether the last one succeeded with no byte moved since.
+-- A wire in one process: its server, its links, its counts, the state of its generator, how many bytes moved, how many faults were provoked, how many waits there were and how many of them failed, and whether the last one succeeded with no byte moved since.
 pub record Looped (Server : Type 0) : Type 0 where
   pub server : Server
   pub links : List Held
@@ -79,12 +79,12 @@ pub record Looped (Server : Type 0) : Type 0 where
   pub generator : Lcg
   pub moved : ℕ
   pub provoked : ℕ
-  pub waits : ℕ
+  pub waits : WaitCounts
   pub woke : Bool
 
 -- a wire that has given no link yet
 abbrev pub new_wire : {Server : Type 0} → Server → Lcg → Failing → Looped Server
-new_wire server generator failing = record { server = server; links = []; counts = no_calls failing; generator = generator; moved = 0; provoked = 0; waits = 0; woke = false }
+new_wire server generator failing = record { server = server; links = []; counts = no_calls failing; generator = generator; moved = 0; provoked = 0; waits = no_waits; woke = false }
 
 -- where this is owed to what was sent
 abbrev pub state_of : {Server : Type 0} → (List ℕ → List ℕ) → Looped Server → WireState

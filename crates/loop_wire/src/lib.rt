@@ -11,6 +11,7 @@
 //! ```
 #![tactic(auto)]
 
+mod counts;
 mod cuts;
 mod held;
 mod link;

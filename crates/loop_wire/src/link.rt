@@ -18,9 +18,11 @@ impl<C: RespondsAt> LoopLink<C> {
     /// Sends these bytes, unless the call is to stall. A connection that runs out of memory is given
     /// up, and nothing is told of it.
     pub fn send(&mut self, server: &C::Server, stalls: bool, front: &[u8]) -> Moved
-        requires kept { IsKept C.kind (C.Suits server.now) (C.Server.serving server.now) (C.response_at (C.Server.serving server.now)) self.old.held self.old.connection }
+        requires kept { IsKept C.kind (C.Suits server.now) (C.Server.serving server.now)
+            (C.response_at (C.Server.serving server.now)) self.old.held self.old.connection }
         requires is_open { self.old.held.is_open ≡ true }
-        ensures kept { IsKept C.kind (C.Suits server.now) (C.Server.serving server.now) (C.response_at (C.Server.serving server.now)) self.new.held self.new.connection }
+        ensures kept { IsKept C.kind (C.Suits server.now) (C.Server.serving server.now)
+            (C.response_at (C.Server.serving server.now)) self.new.held self.new.connection }
         ensures hears { Hears stalls front.now self.old.held self.new.held result }
         ensures gone { self.old.connection ≡ None → (result ≡ Moved.OutOfMemory) × (self.new.connection ≡ None) }
     {
@@ -45,13 +47,16 @@ impl<C: RespondsAt> LoopLink<C> {
     /// Receives at most so many bytes of the response into the start of the buffer, unless the call
     /// is to stall. A connection that runs out of memory is given up, and nothing is told of it.
     pub fn receive(&mut self, server: &C::Server, stalls: bool, most: usize, to: &mut [u8]) -> Moved
-        requires kept { IsKept C.kind (C.Suits server.now) (C.Server.serving server.now) (C.response_at (C.Server.serving server.now)) self.old.held self.old.connection }
+        requires kept { IsKept C.kind (C.Suits server.now) (C.Server.serving server.now)
+            (C.response_at (C.Server.serving server.now)) self.old.held self.old.connection }
         requires version { 1 ≤ (C.Server.serving server.now).version }
         requires is_open { self.old.held.is_open ≡ true }
         requires most { 0 < most }
         requires room { 0 < length to.old }
-        ensures kept { IsKept C.kind (C.Suits server.now) (C.Server.serving server.now) (C.response_at (C.Server.serving server.now)) self.new.held self.new.connection }
-        ensures gives { Gives (C.response_at (C.Server.serving server.now)) most stalls to.new self.old.held self.new.held result }
+        ensures kept { IsKept C.kind (C.Suits server.now) (C.Server.serving server.now)
+            (C.response_at (C.Server.serving server.now)) self.new.held self.new.connection }
+        ensures gives { Gives (C.response_at (C.Server.serving server.now)) most stalls to.new
+            self.old.held self.new.held result }
         ensures gone { self.old.connection ≡ None → (result ≡ Moved.OutOfMemory) × (self.new.connection ≡ None) }
     {
         let Some(mut connection) = self.connection.take() else {

@@ -11,7 +11,8 @@ use tpf_base::Moved;
 fn first_ripe<C: RespondsAt>(links: &[LoopLink<C>], from: usize, to: usize) -> Option<usize>
     requires { to ≤ length links.now }
     ensures found { IfSome result (λ k. (k < length links.now) × ((get_or (held_of links.now) k no_link).ripe ≡ true)) }
-    ensures none { IfNone result ((k : ℕ) → k < to → from ≤ k → (get_or (held_of links.now) k no_link).ripe ≡ false) }
+    ensures none { IfNone result ((k : ℕ) → k < to → from ≤ k
+        → (get_or (held_of links.now) k no_link).ripe ≡ false) }
 {
     for k in from..to {
         if links[k].held.is_ripe() {
@@ -25,7 +26,8 @@ fn first_ripe<C: RespondsAt>(links: &[LoopLink<C>], from: usize, to: usize) -> O
 fn ripe_link<C: RespondsAt>(links: &[LoopLink<C>], start: usize) -> Option<usize>
     requires { start ≤ length links.now }
     ensures found { IfSome result (λ k. (k < length links.now) × ((get_or (held_of links.now) k no_link).ripe ≡ true)) }
-    ensures none { IfNone result ((k : ℕ) → k < length links.now → (get_or (held_of links.now) k no_link).ripe ≡ false) }
+    ensures none { IfNone result ((k : ℕ) → k < length links.now
+        → (get_or (held_of links.now) k no_link).ripe ≡ false) }
 {
     match first_ripe(links, start, links.len()) {
         Some(k) => Some(k),
@@ -38,7 +40,8 @@ pub fn next_ripe<C: RespondsAt>(links: &[LoopLink<C>], start: usize, woke: bool)
     requires { start ≤ length links.now }
     ensures found { IfSome result (λ k. (k < length links.now) × ((get_or (held_of links.now) k no_link).ripe ≡ true)) }
     ensures first { IfSome result (λ k. woke ≡ false) }
-    ensures none { IfNone result (woke ≡ false → (k : ℕ) → k < length links.now → (get_or (held_of links.now) k no_link).ripe ≡ false) }
+    ensures none { IfNone result (woke ≡ false → (k : ℕ) → k < length links.now
+        → (get_or (held_of links.now) k no_link).ripe ≡ false) }
 {
     if woke {
         return None;
@@ -50,7 +53,9 @@ pub fn next_ripe<C: RespondsAt>(links: &[LoopLink<C>], start: usize, woke: bool)
 pub fn settle<C: RespondsAt>(links: &mut [LoopLink<C>], k: usize)
     requires { k < length links.old }
     ensures held { held_of links.new ≡ set (held_of links.old) k (settled (get_or (held_of links.old) k no_link)) }
-    ensures kept { (served : C.Server) → AreKept C.kind (C.Suits served) (C.Server.serving served) (C.response_at (C.Server.serving served)) links.old → AreKept C.kind (C.Suits served) (C.Server.serving served) (C.response_at (C.Server.serving served)) links.new }
+    ensures kept { (served : C.Server)
+        → AreKept C.kind (C.Suits served) (C.Server.serving served) (C.response_at (C.Server.serving served)) links.old
+        → AreKept C.kind (C.Suits served) (C.Server.serving served) (C.response_at (C.Server.serving served)) links.new }
 {
     links[k].held.settle();
 }
@@ -60,7 +65,9 @@ pub fn wake<C: RespondsAt>(links: &mut [LoopLink<C>], k: usize)
     requires below { k < length links.old }
     requires ripe { (get_or (held_of links.old) k no_link).ripe ≡ true }
     ensures held { held_of links.new ≡ set (held_of links.old) k (woken_now (get_or (held_of links.old) k no_link)) }
-    ensures kept { (served : C.Server) → AreKept C.kind (C.Suits served) (C.Server.serving served) (C.response_at (C.Server.serving served)) links.old → AreKept C.kind (C.Suits served) (C.Server.serving served) (C.response_at (C.Server.serving served)) links.new }
+    ensures kept { (served : C.Server)
+        → AreKept C.kind (C.Suits served) (C.Server.serving served) (C.response_at (C.Server.serving served)) links.old
+        → AreKept C.kind (C.Suits served) (C.Server.serving served) (C.response_at (C.Server.serving served)) links.new }
 {
     links[k].held.wake();
 }
@@ -69,7 +76,9 @@ pub fn wake<C: RespondsAt>(links: &mut [LoopLink<C>], k: usize)
 pub fn close<C: RespondsAt>(links: &mut [LoopLink<C>], k: usize)
     requires { k < length links.old }
     ensures held { held_of links.new ≡ set (held_of links.old) k (closed (get_or (held_of links.old) k no_link)) }
-    ensures kept { (served : C.Server) → AreKept C.kind (C.Suits served) (C.Server.serving served) (C.response_at (C.Server.serving served)) links.old → AreKept C.kind (C.Suits served) (C.Server.serving served) (C.response_at (C.Server.serving served)) links.new }
+    ensures kept { (served : C.Server)
+        → AreKept C.kind (C.Suits served) (C.Server.serving served) (C.response_at (C.Server.serving served)) links.old
+        → AreKept C.kind (C.Suits served) (C.Server.serving served) (C.response_at (C.Server.serving served)) links.new }
 {
     links[k].close();
 }
@@ -84,10 +93,13 @@ pub fn send<C: RespondsAt>(
 ) -> Moved
     requires below { k < length links.old }
     requires is_open { (get_or (held_of links.old) k no_link).is_open ≡ true }
-    requires kept { AreKept C.kind (C.Suits server.now) (C.Server.serving server.now) (C.response_at (C.Server.serving server.now)) links.old }
-    ensures hears { Hears stalls front.now (get_or (held_of links.old) k no_link) (get_or (held_of links.new) k no_link) result }
+    requires kept { AreKept C.kind (C.Suits server.now) (C.Server.serving server.now)
+        (C.response_at (C.Server.serving server.now)) links.old }
+    ensures hears { Hears stalls front.now
+        (get_or (held_of links.old) k no_link) (get_or (held_of links.new) k no_link) result }
     ensures held { held_of links.new ≡ set (held_of links.old) k (get_or (held_of links.new) k no_link) }
-    ensures kept { AreKept C.kind (C.Suits server.now) (C.Server.serving server.now) (C.response_at (C.Server.serving server.now)) links.new }
+    ensures kept { AreKept C.kind (C.Suits server.now) (C.Server.serving server.now)
+        (C.response_at (C.Server.serving server.now)) links.new }
 {
     links[k].send(server, stalls, front)
 }
@@ -106,10 +118,13 @@ pub fn receive<C: RespondsAt>(
     requires version { 1 ≤ (C.Server.serving server.now).version }
     requires most { 0 < most }
     requires room { 0 < length to.old }
-    requires kept { AreKept C.kind (C.Suits server.now) (C.Server.serving server.now) (C.response_at (C.Server.serving server.now)) links.old }
-    ensures gives { Gives (C.response_at (C.Server.serving server.now)) most stalls to.new (get_or (held_of links.old) k no_link) (get_or (held_of links.new) k no_link) result }
+    requires kept { AreKept C.kind (C.Suits server.now) (C.Server.serving server.now)
+        (C.response_at (C.Server.serving server.now)) links.old }
+    ensures gives { Gives (C.response_at (C.Server.serving server.now)) most stalls to.new
+        (get_or (held_of links.old) k no_link) (get_or (held_of links.new) k no_link) result }
     ensures held { held_of links.new ≡ set (held_of links.old) k (get_or (held_of links.new) k no_link) }
-    ensures kept { AreKept C.kind (C.Suits server.now) (C.Server.serving server.now) (C.response_at (C.Server.serving server.now)) links.new }
+    ensures kept { AreKept C.kind (C.Suits server.now) (C.Server.serving server.now)
+        (C.response_at (C.Server.serving server.now)) links.new }
 {
     links[k].receive(server, stalls, most, to)
 }

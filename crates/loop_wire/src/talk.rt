@@ -31,7 +31,8 @@ pub fn feed<C: RespondsAt>(
 ) -> Result<(), OutOfMemory>
     requires { C.Suits server.now connection.old }
     ensures suits { OnOk result (C.Suits server.now connection.new) }
-    ensures feeds { OnOk result (Continues C.kind (C.Server.serving server.now) piece.now [] connection.old connection.new) }
+    ensures feeds { OnOk result (Continues C.kind (C.Server.serving server.now) piece.now []
+        connection.old connection.new) }
 {
     refuse_reloads(connection, server)?;
     connection.feed(server, piece)?;
@@ -63,7 +64,8 @@ pub fn hand_out<C: RespondsAt>(connection: &mut C, most: usize, to: &mut [u8]) -
     ensures pending { result ≤ length (C.kind.pending connection.old) }
     ensures bytes { take result to.new ≡ take result (C.kind.pending connection.old) }
     ensures suits { (server : C.Server) → C.Suits server connection.old → C.Suits server connection.new }
-    ensures takes { (serving : _) → Continues C.kind serving [] (take result (C.kind.pending connection.old)) connection.old connection.new }
+    ensures takes { (serving : _)
+        → Continues C.kind serving [] (take result (C.kind.pending connection.old)) connection.old connection.new }
 {
     let pending = connection.pending();
     let n = pending.len().min(to.len()).min(most);

@@ -10,6 +10,7 @@ ghost use Rattle.rand_pcg.specs.Pcg.{multiplier_64};
 ghost use Rattle.rand_pcg.specs.Lcg.{started, increment_of};
 
 use crate::RespondsAt;
+use crate::counts::Waits;
 use crate::cuts::{cut, is_woke_after, moved_after, place, stalls};
 use crate::held::HeldLink;
 use crate::link::LoopLink;
@@ -33,7 +34,7 @@ const STREAM: u64 = 54;
 /// The calls of `send`, `recv`, `dial` and `wait` count, also one that ends in out of memory, and
 /// fail where its `Failing` says so; a dial counts among the dials too. A wait fails too where no
 /// link is ripe, or where the wait before it succeeded and no byte moved since: the caller
-/// provoked that.
+/// provoked that. Each wait that fails is a fault of the door, which is never opened.
 ///
 /// Where a connection runs out of memory, each further call on its link that is not failed answers
 /// `OutOfMemory`, and nothing that is told of it changes from then on.
@@ -45,7 +46,7 @@ pub struct LoopWire<C: RespondsAt> {
     generator: Pcg32,
     moved: u64,
     provoked: u64,
-    waits: u64,
+    waits: Waits,
     /// Whether the last wait succeeded and no byte moved since.
     woke: bool,
 }
@@ -64,7 +65,8 @@ impl<C: RespondsAt> Model for LoopWire<C> {
       woke = w.woke;
     } };
 
-    ghost invariant = { λ w. IsWire C.kind (C.Suits w.server) (C.Server.serving w.server) (C.response_at (C.Server.serving w.server)) w.links.items
+    ghost invariant = { λ w. IsWire C.kind (C.Suits w.server) (C.Server.serving w.server)
+        (C.response_at (C.Server.serving w.server)) w.links.items
         × CountsDue w.failures.failing w.failures.dials w.failures.faults w.provoked };
 }
 
@@ -80,7 +82,7 @@ impl<C: RespondsAt> LoopWire<C> {
             generator: Pcg32::new(seed, STREAM),
             moved: 0,
             provoked: 0,
-            waits: 0,
+            waits: Waits::new(),
             woke: false,
         }
     }
@@ -124,7 +126,8 @@ impl<C: RespondsAt> Wire for LoopWire<C> {
 
     ghost owed_is_allowed = { λ wire k. front_owed (C.response_at (C.Server.serving wire.server)) wire.links k };
 
-    ghost is_lively = { λ wire. is_calm (C.response_at (C.Server.serving wire.server)) wire.links wire.counts wire.provoked wire.waits wire.woke };
+    ghost is_lively = { λ wire.
+        is_calm (C.response_at (C.Server.serving wire.server)) wire.links wire.counts wire.provoked wire.waits wire.woke };
 
     fn send(&mut self, link: u64, piece: &[u8]) -> Moved {
         let k = link as usize;
@@ -162,14 +165,16 @@ impl<C: RespondsAt> Wire for LoopWire<C> {
     }
 
     fn wait(&mut self) -> Result<Ready, Fault> {
-        self.waits = self.waits.saturating_add(1);
+        self.waits.count();
         if self.failures.is_next_due(self.moved) {
             self.failures.fail();
+            self.waits.fail();
             return Err(Fault::Failed);
         }
         let start = place(&mut self.generator, self.links.len());
         let Some(k) = next_ripe(&self.links, start, self.woke) else {
             self.failures.fail();
+            self.waits.fail();
             self.provoked = self.provoked.saturating_add(1);
             return Err(Fault::Failed);
         };
@@ -177,6 +182,10 @@ impl<C: RespondsAt> Wire for LoopWire<C> {
         self.woke = true;
         Ok(Ready::Link(k as u64))
     }
+
+    fn look(&mut self)
+        ensures { self.new ≡ self.old }
+    {}
 
     fn idle(&self) -> u64 {
         if self.woke { 1 } else { 0 }

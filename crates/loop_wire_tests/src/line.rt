@@ -63,6 +63,7 @@ impl Line {
         if to.is_empty() {
             return 0;
         }
+        self.wire.look();
         let most = self.owed.min(to.len());
         let answer = self.wire.recv(self.link, to);
         let n = self.moved(answer);

@@ -1,9 +1,9 @@
 -- What a call does to a wire of scripts, from what it does to its link.
-use Rattle.std.proofs.Common.{ℕ, ◌≡◌, ◌<◌, ◌≤◌, ◌++◌, false, Option, List, length, take, min, set, get_or, slice_get, Some, refl, ap, sym, subst, ◌∙◌, length-set, arith}
+use Rattle.std.proofs.Common.{ℕ, ◌≡◌, ◌<◌, ◌≤◌, ◌++◌, false, List, length, take, min, set, get_or, slice_get, Some, refl, ap, sym, subst, ◌∙◌, length-set, arith}
 use Rattle.std.proofs.lemmas.List.{get_or-set_same, get_or-set_other}
 use Rattle.tpf_base.specs.Causes.{counted}
 use Rattle.tpf_base.specs.Failures.{CallCounts, room}
-use Rattle.tpf_base.specs.Links.{Sending, SentAndReceived, WireState}
+use Rattle.tpf_base.specs.Links.{Sending, SentAndReceived, Door, WireState}
 use Rattle.tpf_base.specs.Calls.{OnlyOn, Sends, Receives}
 use Rattle.tpf_base.specs.declared.failing.Failing.{Failing}
 use Rattle.tpf_base.specs.declared.wire.Moved.{Moved}
@@ -18,13 +18,14 @@ record Turns (k : ℕ) (held held' : Scripted) (old new : WireState) : Type 0 wh
   only : OnlyOn k old new
   was : old.links k ≡ told_link held
   is : new.links k ≡ told_link held'
+  unfailed : new.faults ≡ old.faults
   unsteady : old.nature.steady ≡ false
   tells : old.nature.tells ≡ SentAndReceived
 
 -- nothing but the link changed
-only_on : (k m : ℕ) (links : List Scripted) (held : Scripted) (counts : CallCounts) (waits idle idle' : ℕ) (door : Option (List ℕ × ℕ)) (door_stalls : ℕ)
-    → OnlyOn k (wire_of links counts waits idle door door_stalls) (wire_of (set links k held) (record counts { calls = m }) waits idle' door door_stalls)
-only_on k m links held counts waits idle idle' door door_stalls = record {
+only_on : (k m : ℕ) (links : List Scripted) (held : Scripted) (counts : CallCounts) (waits idle idle' : ℕ) (door : Door)
+    → OnlyOn k (wire_of links counts waits idle door) (wire_of (set links k held) (record counts { calls = m }) waits idle' door)
+only_on k m links held counts waits idle idle' door = record {
   others = λ j other. ap told_link (get_or-set_other links k j held no_link other);
   later = omega arith;
   given = length-set links k held;
@@ -32,18 +33,18 @@ only_on k m links held counts waits idle idle' door door_stalls = record {
   dials = refl;
   waits = refl;
   door = refl;
-  door_stalls = refl;
   nature = refl;
 }
 
-turns : (k m : ℕ) (links : List Scripted) (held held' : Scripted) (counts counts' : CallCounts) (waits idle idle' : ℕ) (door : Option (List ℕ × ℕ)) (door_stalls : ℕ)
+turns : (k m : ℕ) (links : List Scripted) (held held' : Scripted) (counts counts' : CallCounts) (waits idle idle' : ℕ) (door : Door)
     → k < length links → held ≡ get_or links k held → counts' ≡ record counts { calls = m }
-    → Turns k held held' (wire_of links counts waits idle door door_stalls) (wire_of (set links k held') counts' waits idle' door door_stalls)
-turns k m links held held' counts counts' waits idle idle' door door_stalls below read called = record {
-  only = subst (λ (c : CallCounts). OnlyOn k (wire_of links counts waits idle door door_stalls) (wire_of (set links k held') c waits idle' door door_stalls)) (sym called)
-      (only_on k m links held' counts waits idle idle' door door_stalls);
+    → Turns k held held' (wire_of links counts waits idle door) (wire_of (set links k held') counts' waits idle' door)
+turns k m links held held' counts counts' waits idle idle' door below read called = record {
+  only = subst (λ (c : CallCounts). OnlyOn k (wire_of links counts waits idle door) (wire_of (set links k held') c waits idle' door)) (sym called)
+      (only_on k m links held' counts waits idle idle' door);
   was = ap told_link (held_at links k held no_link below read);
   is = ap told_link (get_or-set_same links k held' no_link below);
+  unfailed = ap (λ (c : CallCounts). c.faults) called;
   unsteady = refl;
   tells = refl;
 }
@@ -64,6 +65,7 @@ heard_bytes k n to rest held place old new turn idle some within front = record 
   not_yet = λ same. absurd cc;
   failed = λ same. absurd cc;
   memory = λ same. absurd cc;
+  unfailed = λ able full. turn.unfailed;
   not_due = λ steady. absurd cc;
   woken = λ steady. absurd cc;
 }
@@ -83,6 +85,7 @@ heard_end k to rest held place old new turn idle = record {
   not_yet = λ same. absurd cc;
   failed = λ same. absurd cc;
   memory = λ same. absurd cc;
+  unfailed = λ able full. turn.unfailed;
   not_due = λ steady. absurd cc;
   woken = λ steady. absurd cc;
 }
@@ -102,6 +105,7 @@ heard_nothing k to rest held place old new turn idle later = record {
   not_yet = λ same. rw (turn.is, turn.was, idle) (refl, refl, omega arith, refl);
   failed = λ same. absurd cc;
   memory = λ same. absurd cc;
+  unfailed = λ able full. turn.unfailed;
   not_due = λ steady. absurd cc;
   woken = λ steady. absurd cc;
 }
@@ -121,42 +125,43 @@ sent_nothing k piece held old new turn idle later = record {
   failed = λ same. absurd cc;
   memory = λ same. absurd cc;
   no_end = λ same. absurd cc;
+  unfailed = λ able. turn.unfailed;
   not_due = λ steady. absurd cc;
   woken = λ steady. absurd cc;
 }
 
 -- a receive that gave bytes
-pub hears_bytes : (k n m : ℕ) (to rest : List ℕ) (links : List Scripted) (held held' : Scripted) (place : Place) (counts counts' : CallCounts) (waits idle : ℕ) (door : Option (List ℕ × ℕ)) (door_stalls : ℕ)
+pub hears_bytes : (k n m : ℕ) (to rest : List ℕ) (links : List Scripted) (held held' : Scripted) (place : Place) (counts counts' : CallCounts) (waits idle : ℕ) (door : Door)
     → k < length links → held ≡ get_or links k held → held' ≡ record (after_answer (answers.Moved n) rest held) { place = place } → counts' ≡ record counts { calls = m }
     → 0 < n → n ≤ length to → take n to ≡ take n rest
-    → Receives k to (wire_of links counts waits idle door door_stalls) (wire_of (set links k held') counts' waits 0 door door_stalls) (answers.Moved n)
-hears_bytes k n m to rest links held held' place counts counts' waits idle door door_stalls below read after called some within front =
-    subst (λ (h : Scripted). Receives k to (wire_of links counts waits idle door door_stalls) (wire_of (set links k h) counts' waits 0 door door_stalls) (answers.Moved n)) (sym after)
-    (heard_bytes k n to rest held place _ _ (turns k m links held _ counts counts' waits idle 0 door door_stalls below read called) refl some within front)
+    → Receives k to (wire_of links counts waits idle door) (wire_of (set links k held') counts' waits 0 door) (answers.Moved n)
+hears_bytes k n m to rest links held held' place counts counts' waits idle door below read after called some within front =
+    subst (λ (h : Scripted). Receives k to (wire_of links counts waits idle door) (wire_of (set links k h) counts' waits 0 door) (answers.Moved n)) (sym after)
+    (heard_bytes k n to rest held place _ _ (turns k m links held _ counts counts' waits idle 0 door below read called) refl some within front)
 
 -- a receive that gave the end
-pub hears_end : (k m : ℕ) (to rest : List ℕ) (links : List Scripted) (held held' : Scripted) (place : Place) (counts counts' : CallCounts) (waits idle : ℕ) (door : Option (List ℕ × ℕ)) (door_stalls : ℕ)
+pub hears_end : (k m : ℕ) (to rest : List ℕ) (links : List Scripted) (held held' : Scripted) (place : Place) (counts counts' : CallCounts) (waits idle : ℕ) (door : Door)
     → k < length links → held ≡ get_or links k held → held' ≡ record (after_answer answers.End rest held) { place = place } → counts' ≡ record counts { calls = m }
-    → Receives k to (wire_of links counts waits idle door door_stalls) (wire_of (set links k held') counts' waits 0 door door_stalls) answers.End
-hears_end k m to rest links held held' place counts counts' waits idle door door_stalls below read after called =
-    subst (λ (h : Scripted). Receives k to (wire_of links counts waits idle door door_stalls) (wire_of (set links k h) counts' waits 0 door door_stalls) answers.End) (sym after)
-    (heard_end k to rest held place _ _ (turns k m links held _ counts counts' waits idle 0 door door_stalls below read called) refl)
+    → Receives k to (wire_of links counts waits idle door) (wire_of (set links k held') counts' waits 0 door) answers.End
+hears_end k m to rest links held held' place counts counts' waits idle door below read after called =
+    subst (λ (h : Scripted). Receives k to (wire_of links counts waits idle door) (wire_of (set links k h) counts' waits 0 door) answers.End) (sym after)
+    (heard_end k to rest held place _ _ (turns k m links held _ counts counts' waits idle 0 door below read called) refl)
 
 -- a receive that stalled
-pub hears_nothing : (k m : ℕ) (to rest : List ℕ) (links : List Scripted) (held held' : Scripted) (place : Place) (counts counts' : CallCounts) (waits idle : ℕ) (door : Option (List ℕ × ℕ)) (door_stalls : ℕ)
+pub hears_nothing : (k m : ℕ) (to rest : List ℕ) (links : List Scripted) (held held' : Scripted) (place : Place) (counts counts' : CallCounts) (waits idle : ℕ) (door : Door)
     → k < length links → held ≡ get_or links k held → held' ≡ record (after_answer answers.NotYet rest held) { place = place } → counts' ≡ record counts { calls = m } → held.stalls ≤ held'.stalls
-    → Receives k to (wire_of links counts waits idle door door_stalls) (wire_of (set links k held') counts' waits idle door door_stalls) answers.NotYet
-hears_nothing k m to rest links held held' place counts counts' waits idle door door_stalls below read after called later =
-    subst (λ (h : Scripted). Receives k to (wire_of links counts waits idle door door_stalls) (wire_of (set links k h) counts' waits idle door door_stalls) answers.NotYet) (sym after)
-    (heard_nothing k to rest held place _ _ (turns k m links held _ counts counts' waits idle idle door door_stalls below read called) refl (subst (λ (h : Scripted). held.stalls ≤ h.stalls) after later))
+    → Receives k to (wire_of links counts waits idle door) (wire_of (set links k held') counts' waits idle door) answers.NotYet
+hears_nothing k m to rest links held held' place counts counts' waits idle door below read after called later =
+    subst (λ (h : Scripted). Receives k to (wire_of links counts waits idle door) (wire_of (set links k h) counts' waits idle door) answers.NotYet) (sym after)
+    (heard_nothing k to rest held place _ _ (turns k m links held _ counts counts' waits idle idle door below read called) refl (subst (λ (h : Scripted). held.stalls ≤ h.stalls) after later))
 
 -- a send that stalled
-pub sends_nothing : (k m : ℕ) (piece : List ℕ) (links : List Scripted) (held held' : Scripted) (counts counts' : CallCounts) (waits idle : ℕ) (door : Option (List ℕ × ℕ)) (door_stalls : ℕ)
+pub sends_nothing : (k m : ℕ) (piece : List ℕ) (links : List Scripted) (held held' : Scripted) (counts counts' : CallCounts) (waits idle : ℕ) (door : Door)
     → k < length links → held ≡ get_or links k held → held' ≡ stalled_at Sending held → counts' ≡ record counts { calls = m } → held.stalls ≤ held'.stalls
-    → Sends k piece (wire_of links counts waits idle door door_stalls) (wire_of (set links k held') counts' waits idle door door_stalls) answers.NotYet
-sends_nothing k m piece links held held' counts counts' waits idle door door_stalls below read after called later =
-    subst (λ (h : Scripted). Sends k piece (wire_of links counts waits idle door door_stalls) (wire_of (set links k h) counts' waits idle door door_stalls) answers.NotYet) (sym after)
-    (sent_nothing k piece held _ _ (turns k m links held _ counts counts' waits idle idle door door_stalls below read called) refl (subst (λ (h : Scripted). held.stalls ≤ h.stalls) after later))
+    → Sends k piece (wire_of links counts waits idle door) (wire_of (set links k held') counts' waits idle door) answers.NotYet
+sends_nothing k m piece links held held' counts counts' waits idle door below read after called later =
+    subst (λ (h : Scripted). Sends k piece (wire_of links counts waits idle door) (wire_of (set links k h) counts' waits idle door) answers.NotYet) (sym after)
+    (sent_nothing k piece held _ _ (turns k m links held _ counts counts' waits idle idle door below read called) refl (subst (λ (h : Scripted). held.stalls ≤ h.stalls) after later))
 
 -- what a receive does by this script on this link
 record Says (script : Script) (held : Scripted) (spoken n k : ℕ) (old new : List Scripted) (to : List ℕ) (answer : Moved) : Type 0 where

@@ -1,6 +1,8 @@
 -- What a link does by its script.
-use Rattle.std.specs.Prelude.{ℕ, ◌≡◌, ◌+◌, ◌<◌, ◌≤◌, Bool, true, false, not, ◌&&◌, ◌==◌, nat_lt, nat_le, List, [], ◌∷◌, ◌++◌, length, take, drop, get_or, set, slice_get, Option, Some, None, Result, Ok, Err, if◌then◌else◌}
+use Rattle.std.specs.Prelude.{ℕ, ◌≡◌, ◌+◌, ◌<◌, ◌≤◌, Bool, true, false, not, ◌&&◌, ◌==◌, nat_lt, nat_le, List, [], ◌∷◌, ◌++◌, length, take, drop, min, get_or, set, slice_get, Option, Some, None, Result, Ok, Err, if◌then◌else◌}
 use Rattle.tpf_base.specs.Causes.{counted}
+use Rattle.tpf_base.specs.Failures.{room}
+use Rattle.tpf_base.specs.declared.failing.Failing.{Failing}
 use Rattle.tpf_base.specs.Links.{Way, Sending, Receiving, Link}
 use Rattle.tpf_base.specs.declared.wire.Moved.{Moved}
 use Rattle.tpf_base.specs.declared.wire.Moved.TheVariants as answers
@@ -90,6 +92,10 @@ answer_of n = if n == 0 then answers.NotYet else answers.Moved n
 -- the bytes that are left of the next piece
 abbrev pub rest_at : Script → Place → List ℕ
 rest_at script place = drop place.at (get_or script.pieces.items place.piece [])
+
+-- how many of them a receive that is not failed may move, into a buffer with this room
+abbrev pub room_at : Failing → ℕ → Script → ℕ → Place → ℕ
+room_at failing moved script most place = room failing moved (min most (length (rest_at script place)))
 
 -- every piece came whole
 abbrev pub is_over : Script → Place → Bool

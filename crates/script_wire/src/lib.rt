@@ -14,6 +14,7 @@
 //! ```
 #![tactic(auto)]
 
+mod door;
 mod link;
 mod script;
 mod wire;

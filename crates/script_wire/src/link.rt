@@ -1,7 +1,7 @@
 // One link, and where in its script it stands.
 ghost use Rattle.std.specs.Prelude.{ℕ, ◌≡◌, ◌≢◌, ◌+◌, ◌^◌, ◌<◌, ◌≤◌, ◌==◌, ◌++◌, not, [], length, take, drop, min, get_or, None, true, false, OnOk, OnErr};
 ghost use Rattle.tpf_base.specs.Failures.{room};
-ghost use Rattle.script_wire.specs.Scripts.{Scripted, new_link, settled, stalled_at, closed, answer_of, rest_at, is_over, is_held, taken_piece, answer_to_receive, after_receive, can_move};
+ghost use Rattle.script_wire.specs.Scripts.{Scripted, new_link, settled, stalled_at, closed, answer_of, rest_at, room_at, is_over, is_held, taken_piece, answer_to_receive, after_receive, can_move};
 ghost use Rattle.script_wire.specs.Peers.{peer_of, way_of, stalled_of};
 
 use crate::Script;
@@ -139,7 +139,8 @@ impl ScriptLink {
 
     /// Sends these bytes.
     pub fn send(&mut self, front: &[u8]) -> Result<(), OutOfMemory>
-        ensures ok { OnOk result (self.new ≡ record self.old { sent = self.old.sent ++ front.now; stalled = None; woken = false }) }
+        ensures ok { OnOk result (self.new
+            ≡ record self.old { sent = self.old.sent ++ front.now; stalled = None; woken = false }) }
         ensures err { OnErr result (self.new ≡ self.old) }
     {
         self.sent.extend_from_slice(front)?;
@@ -184,11 +185,14 @@ impl ScriptLink {
     ) -> Moved
         requires next { is_over script.now self.old.place ≡ false }
         requires some { (there : ℕ) → 0 < there → 0 < room failures.now.failing moved there }
-        ensures answer { result ≢ Moved.OutOfMemory → result ≡ answer_of (room failures.now.failing moved (min (length to.old) (length (rest_at script.now self.old.place)))) }
-        ensures taken { result ≢ Moved.OutOfMemory → self.new ≡ taken_piece script.now (room failures.now.failing moved (min (length to.old) (length (rest_at script.now self.old.place)))) self.old }
+        ensures answer { result ≢ Moved.OutOfMemory → result
+            ≡ answer_of (room_at failures.now.failing moved script.now (length to.old) self.old.place) }
+        ensures taken { result ≢ Moved.OutOfMemory → self.new
+            ≡ taken_piece script.now (room_at failures.now.failing moved script.now (length to.old) self.old.place) self.old }
         ensures later { self.old.stalls ≤ self.new.stalls }
         ensures memory { result ≡ Moved.OutOfMemory → self.new ≡ self.old }
-        ensures bytes { (n : ℕ) → result ≡ Moved.Moved n → (n ≤ length to.new) × (take n to.new ≡ take n (rest_at script.now self.old.place)) }
+        ensures bytes { (n : ℕ) → result ≡ Moved.Moved n → (n ≤ length to.new) × (take n to.new
+            ≡ take n (rest_at script.now self.old.place)) }
     {
         let rest = rest_of(script, self.piece, self.at);
         let n = failures.room(moved, to.len().min(rest.len()));
@@ -221,12 +225,15 @@ impl ScriptLink {
         to: &mut [u8],
     ) -> Moved
         requires some { (there : ℕ) → 0 < there → 0 < room failures.now.failing moved there }
-        ensures answer { result ≢ Moved.OutOfMemory → result ≡ answer_to_receive script.now spoken (room failures.now.failing moved (min (length to.old) (length (rest_at script.now self.old.place)))) self.old.place }
-        ensures after { result ≢ Moved.OutOfMemory → self.new ≡ after_receive script.now spoken (room failures.now.failing moved (min (length to.old) (length (rest_at script.now self.old.place)))) self.old }
+        ensures answer { result ≢ Moved.OutOfMemory → result
+            ≡ answer_to_receive script.now spoken (room_at failures.now.failing moved script.now (length to.old) self.old.place) self.old.place }
+        ensures after { result ≢ Moved.OutOfMemory → self.new
+            ≡ after_receive script.now spoken (room_at failures.now.failing moved script.now (length to.old) self.old.place) self.old }
         ensures never { result ≢ Moved.Failed }
         ensures later { self.old.stalls ≤ self.new.stalls }
         ensures memory { result ≡ Moved.OutOfMemory → self.new ≡ self.old }
-        ensures bytes { (n : ℕ) → result ≡ Moved.Moved n → (0 < n) × (n ≤ length to.new) × (take n to.new ≡ take n (rest_at script.now self.old.place)) }
+        ensures bytes { (n : ℕ) → result ≡ Moved.Moved n → (0 < n) × (n ≤ length to.new) × (take n to.new
+            ≡ take n (rest_at script.now self.old.place)) }
     {
         if self.is_over(script) {
             if script.ends {

@@ -1,13 +1,14 @@
 // A wire in memory whose links do what scripts say.
 ghost use Rattle.std.specs.Prelude.{ℕ, ◌≡◌, ◌≢◌, ◌+◌, ◌<◌, ◌≤◌, ◌==◌, ◌||◌, nat_le, [], ◌∷◌, ◌++◌, length, min, set, get_or, slice_get, Option, Some, None, Ok, Err, true, false, IfOk, OnOk, OnErr, IfSome, IfNone, IsErrOf, is_err, ◌↔◌, if◌then◌else◌};
 ghost use Rattle.tpf_base.specs.Causes.{HasCause, counted};
-ghost use Rattle.tpf_base.specs.Failures.{no_calls, is_next_due, is_next_dial_due, room};
-ghost use Rattle.tpf_base.specs.Links.{listens};
+ghost use Rattle.tpf_base.specs.Failures.{no_calls};
+ghost use Rattle.tpf_base.specs.Links.{listens, closed_door};
 ghost use Rattle.tpf_base.specs.Calls.{Sends, Receives, Closes, GivesDialled, GivesAccepted, GivesNone, OnlyDials, OnlyListens, Opens, LeavesDoor, OnlyAccepts, OnlyWaits, Wakes};
-ghost use Rattle.script_wire.specs.Scripts.{no_link, new_link, closed, settled, after_send, answer_of, rest_at, spoken_on, may_move, IsFirst, ReceivesBy, WaitsBy, after_wait};
+ghost use Rattle.script_wire.specs.Scripts.{no_link, new_link, closed, settled, after_send, answer_of, room_at, spoken_on, may_move, IsFirst, ReceivesBy, WaitsBy, after_wait};
 ghost use Rattle.script_wire.specs.Peers.{peer_of};
 
 use crate::Script;
+use crate::door::ScriptDoor;
 use crate::link::{Peer, ScriptLink, Side};
 use std::alloc::Global;
 use tpf_base::{Accept, Dial, Failing, Failures, Fault, Moved, OutOfMemory, Ready, Text, Wire};
@@ -26,9 +27,7 @@ pub struct ScriptWire {
     moved: u64,
     waits: u64,
     idle: u64,
-    // Where the door is open.
-    door: Option<Peer>,
-    door_stalls: u64,
+    door: ScriptDoor,
     ghost scripted: { length links.items ≤ length scripts.items },
 }
 
@@ -71,7 +70,7 @@ impl ScriptWire {
         ensures links { links_of result ≡ [] }
         ensures counts { counts_of result ≡ no_calls failing }
         ensures moved { moved_of result ≡ 0 }
-        ensures state { state_of result ≡ wire_of [] (no_calls failing) 0 0 None 0 }
+        ensures state { state_of result ≡ wire_of [] (no_calls failing) 0 0 closed_door }
     {
         ScriptWire {
             scripts,
@@ -80,8 +79,7 @@ impl ScriptWire {
             moved: 0,
             waits: 0,
             idle: 0,
-            door: None,
-            door_stalls: 0,
+            door: ScriptDoor::new(),
         }
     }
 
@@ -102,17 +100,20 @@ impl ScriptWire {
 
     /// Gives the next link, where a script is left.
     fn give(&mut self, peer: Option<Peer>) -> Result<Option<u64>, OutOfMemory>
-        ensures number { IfOk result (λ link. IfSome link (λ number. (number ≡ length (links_of self.old)) × (number < length (scripts_of self.old)))) }
-        ensures given { IfOk result (λ link. IfSome link (λ number. (links_of self.new ≡ links_of self.old ++ new_link (peer_of peer) ∷ []) × ((state_of self.new).idle ≡ 0))) }
+        ensures number { IfOk result (λ link. IfSome link (λ number. (number ≡ length (links_of self.old))
+            × (number < length (scripts_of self.old)))) }
+        ensures given { IfOk result (λ link. IfSome link (λ number. (links_of self.new
+            ≡ links_of self.old ++ new_link (peer_of peer) ∷ []) × ((state_of self.new).idle ≡ 0))) }
         ensures none { IfOk result (λ link. IfNone link (length (scripts_of self.old) ≤ length (links_of self.old))) }
-        ensures same { IfOk result (λ link. IfNone link ((links_of self.new ≡ links_of self.old) × ((state_of self.new).idle ≡ (state_of self.old).idle))) }
-        ensures err { OnErr result ((links_of self.new ≡ links_of self.old) × ((state_of self.new).idle ≡ (state_of self.old).idle)) }
+        ensures same { IfOk result (λ link. IfNone link ((links_of self.new ≡ links_of self.old)
+            × ((state_of self.new).idle ≡ (state_of self.old).idle))) }
+        ensures err { OnErr result ((links_of self.new ≡ links_of self.old) × ((state_of self.new).idle
+            ≡ (state_of self.old).idle)) }
         ensures scripts { scripts_of self.new ≡ scripts_of self.old }
         ensures counts { counts_of self.new ≡ counts_of self.old }
         ensures moved { moved_of self.new ≡ moved_of self.old }
         ensures waits { (state_of self.new).waits ≡ (state_of self.old).waits }
         ensures door { (state_of self.new).door ≡ (state_of self.old).door }
-        ensures door_stalls { (state_of self.new).door_stalls ≡ (state_of self.old).door_stalls }
     {
         let number = self.links.len();
         if number >= self.scripts.len() {
@@ -125,10 +126,30 @@ impl ScriptWire {
         self.idle = 0;
         Ok(Some(number as u64))
     }
+
+    /// Counts a fault of the door, which is one of the wire.
+    fn fail_at_door(&mut self) -> Fault
+        ensures answer { result ≡ Fault.Failed }
+        ensures state { state_of self.new ≡ record (state_of self.old) {
+          faults = counted (state_of self.old).faults;
+          door = record (state_of self.old).door { faults = counted (state_of self.old).door.faults };
+        } }
+        ensures later { (state_of self.old).door.faults ≤ (state_of self.new).door.faults }
+        ensures links { links_of self.new ≡ links_of self.old }
+        ensures counts { counts_of self.new
+            ≡ record (counts_of self.old) { faults = counted (counts_of self.old).faults } }
+        ensures fault { (counts_of self.old).faults ≤ (counts_of self.new).faults }
+        ensures moved { moved_of self.new ≡ moved_of self.old }
+        ensures scripts { scripts_of self.new ≡ scripts_of self.old }
+    {
+        self.failures.fail();
+        self.door.fail();
+        Fault::Failed
+    }
 }
 
 impl Wire for ScriptWire {
-    ghost use Rattle.script_wire.specs.Held.{scripts_of, links_of, counts_of, moved_of, state_of, called, moved_by};
+    ghost use Rattle.script_wire.specs.Held.{scripts_of, links_of, counts_of, moved_of, state_of, is_due_on, room_on, called, failed_by, moved_by};
     ghost use Rattle.script_wire.specs.Laws.{all_told, none_open, none_owed, nothing_allowed, not_lively};
 
     ghost state = { state_of };
@@ -151,11 +172,13 @@ impl Wire for ScriptWire {
     fn send(&mut self, link: u64, piece: &[u8]) -> Moved
         requires is_open { ((state_of self.old).links link).is_open ≡ true }
         requires some { 0 < length piece.now }
-        ensures due { is_next_due (counts_of self.old) (moved_of self.old) ≡ true → result ≡ Moved.Failed }
-        ensures answer { is_next_due (counts_of self.old) (moved_of self.old) ≡ false → result ≢ Moved.OutOfMemory → (script : Script) → slice_get (scripts_of self.old) link ≡ Some script
-            → result ≡ answer_of (room (counts_of self.old).failing (moved_of self.old) (min script.most (length piece.now))) }
-        ensures links { links_of self.new ≡ set (links_of self.old) link (after_send result piece.now (get_or (links_of self.old) link no_link)) }
-        ensures counts { counts_of self.new ≡ called (is_next_due (counts_of self.old) (moved_of self.old)) (counts_of self.old) }
+        ensures due { is_due_on self.old ≡ true → result ≡ Moved.Failed }
+        ensures answer { is_due_on self.old ≡ false → result ≢ Moved.OutOfMemory
+            → (script : Script) → slice_get (scripts_of self.old) link ≡ Some script
+            → result ≡ answer_of (room_on self.old (min script.most (length piece.now))) }
+        ensures links { links_of self.new
+            ≡ set (links_of self.old) link (after_send result piece.now (get_or (links_of self.old) link no_link)) }
+        ensures counts { counts_of self.new ≡ called (is_due_on self.old) (counts_of self.old) }
         ensures moved { moved_of self.new ≡ moved_by result (moved_of self.old) }
         ensures scripts { scripts_of self.new ≡ scripts_of self.old }
         ensures sends { Sends link piece.now (state_of self.old) (state_of self.new) result }
@@ -185,12 +208,15 @@ impl Wire for ScriptWire {
     fn recv(&mut self, link: u64, to: &mut [u8]) -> Moved
         requires is_open { ((state_of self.old).links link).is_open ≡ true }
         requires room { 0 < length to.old }
-        ensures due { is_next_due (counts_of self.old) (moved_of self.old) ≡ true → (result ≡ Moved.Failed) × (links_of self.new ≡ set (links_of self.old) link (settled (get_or (links_of self.old) link no_link))) }
-        ensures answer { is_next_due (counts_of self.old) (moved_of self.old) ≡ false → result ≢ Moved.OutOfMemory → (script : Script) → slice_get (scripts_of self.old) link ≡ Some script
-            → ReceivesBy script (spoken_on (links_of self.old)) (room (counts_of self.old).failing (moved_of self.old) (min (length to.old) (length (rest_at script (get_or (links_of self.old) link no_link).place))))
+        ensures due { is_due_on self.old ≡ true → (result ≡ Moved.Failed) × (links_of self.new
+            ≡ set (links_of self.old) link (settled (get_or (links_of self.old) link no_link))) }
+        ensures answer { is_due_on self.old ≡ false → result ≢ Moved.OutOfMemory
+            → (script : Script) → slice_get (scripts_of self.old) link ≡ Some script
+            → ReceivesBy script (spoken_on (links_of self.old))
+            (room_at (counts_of self.old).failing (moved_of self.old) script (length to.old) (get_or (links_of self.old) link no_link).place)
             link (links_of self.old) (links_of self.new) to.new result }
         ensures memory { result ≡ Moved.OutOfMemory → links_of self.new ≡ links_of self.old }
-        ensures counts { counts_of self.new ≡ called (is_next_due (counts_of self.old) (moved_of self.old)) (counts_of self.old) }
+        ensures counts { counts_of self.new ≡ called (is_due_on self.old) (counts_of self.old) }
         ensures moved { moved_of self.new ≡ moved_by result (moved_of self.old) }
         ensures scripts { scripts_of self.new ≡ scripts_of self.old }
         ensures receives { Receives link to.new (state_of self.old) (state_of self.new) result }
@@ -227,7 +253,8 @@ impl Wire for ScriptWire {
 
     fn close(&mut self, link: u64)
         requires is_open { ((state_of self.old).links link).is_open ≡ true }
-        ensures links { links_of self.new ≡ set (links_of self.old) link (closed (get_or (links_of self.old) link no_link)) }
+        ensures links { links_of self.new
+            ≡ set (links_of self.old) link (closed (get_or (links_of self.old) link no_link)) }
         ensures counts { counts_of self.new ≡ counts_of self.old }
         ensures moved { moved_of self.new ≡ moved_of self.old }
         ensures scripts { scripts_of self.new ≡ scripts_of self.old }
@@ -240,21 +267,24 @@ impl Wire for ScriptWire {
     /// listener), if it is open and a script is left. `Failed` exactly where the call is due, or neither
     /// is there.
     fn wait(&mut self) -> Result<Ready, Fault>
-        ensures due { is_next_due (counts_of self.old) (moved_of self.old) ≡ true → IsErrOf result Fault.Failed }
-        ensures answer { is_next_due (counts_of self.old) (moved_of self.old) ≡ false → WaitsBy (scripts_of self.old) (links_of self.old) (listens (state_of self.old)) result }
+        ensures due { is_due_on self.old ≡ true → IsErrOf result Fault.Failed }
+        ensures answer { is_due_on self.old ≡ false
+            → WaitsBy (scripts_of self.old) (links_of self.old) (listens (state_of self.old)) result }
         ensures links { links_of self.new ≡ after_wait result (links_of self.old) }
         ensures counts { counts_of self.new ≡ called (is_err result) (counts_of self.old) }
         ensures ok { IfOk result (λ answer. Wakes answer (state_of self.old) (state_of self.new)) }
         ensures err { OnErr result (GivesNone (state_of self.old) (state_of self.new)) }
         ensures only { OnlyWaits (state_of self.old) (state_of self.new) }
         ensures cause { HasCause (counts_of self.old).faults (counts_of self.new).faults result }
+        ensures door { HasCause (state_of self.old).door.faults (state_of self.new).door.faults result }
+        ensures door_faults { (state_of self.new).door.faults
+            ≡ failed_by (is_err result) (state_of self.old).door.faults }
         ensures moved { moved_of self.new ≡ moved_of self.old }
         ensures scripts { scripts_of self.new ≡ scripts_of self.old }
     {
         self.waits = self.waits.saturating_add(1);
         if self.failures.is_next_due(self.moved) {
-            self.failures.fail();
-            return Err(Fault::Failed);
+            return Err(self.fail_at_door());
         }
         let spoken = count_spoken(&self.links);
         if let Some(k) = first_to_move(&self.scripts, &self.links, spoken) {
@@ -262,13 +292,16 @@ impl Wire for ScriptWire {
             self.idle = self.idle.saturating_add(1);
             return Ok(Ready::Link(k as u64));
         }
-        if self.door.is_some() && self.links.len() < self.scripts.len() {
+        if self.door.is_open() && self.links.len() < self.scripts.len() {
             self.idle = self.idle.saturating_add(1);
             return Ok(Ready::Door);
         }
-        self.failures.fail();
-        Err(Fault::Failed)
+        Err(self.fail_at_door())
     }
+
+    fn look(&mut self)
+        ensures { self.new ≡ self.old }
+    {}
 
     fn idle(&self) -> u64 {
         self.idle
@@ -276,14 +309,16 @@ impl Wire for ScriptWire {
 }
 
 impl Dial for ScriptWire {
-    ghost use Rattle.script_wire.specs.Held.{scripts_of, links_of, counts_of, moved_of, state_of, dialled};
+    ghost use Rattle.script_wire.specs.Held.{scripts_of, links_of, counts_of, moved_of, state_of, is_dial_due_on, dialled};
 
     /// `Failed` exactly where the call is due, or no script is left; after an error no link was given.
     fn dial(&mut self, host: &str, port: u16) -> Result<u64, Fault>
-        ensures due { is_next_dial_due (counts_of self.old) (moved_of self.old) ≡ true → IsErrOf result Fault.Failed }
+        ensures due { is_dial_due_on self.old ≡ true → IsErrOf result Fault.Failed }
         ensures unscripted { length (scripts_of self.old) ≤ length (links_of self.old) → IsErrOf result Fault.Failed }
-        ensures failed { IsErrOf result Fault.Failed → is_next_dial_due (counts_of self.old) (moved_of self.old) ≡ false → length (scripts_of self.old) ≤ length (links_of self.old) }
-        ensures counts { counts_of self.new ≡ dialled (is_next_dial_due (counts_of self.old) (moved_of self.old) || nat_le (length (scripts_of self.old)) (length (links_of self.old))) (counts_of self.old) }
+        ensures failed { IsErrOf result Fault.Failed → is_dial_due_on self.old ≡ false
+            → length (scripts_of self.old) ≤ length (links_of self.old) }
+        ensures counts { counts_of self.new
+            ≡ dialled (is_dial_due_on self.old || nat_le (length (scripts_of self.old)) (length (links_of self.old))) (counts_of self.old) }
         ensures links { OnOk result (links_of self.new ≡ links_of self.old ++ new_link (Some (host.now, port)) ∷ []) }
         ensures ok { IfOk result (λ number. GivesDialled host.now port number (state_of self.old) (state_of self.new)) }
         ensures err { OnErr result (GivesNone (state_of self.old) (state_of self.new)) }
@@ -308,32 +343,33 @@ impl Dial for ScriptWire {
 }
 
 impl Accept for ScriptWire {
-    ghost use Rattle.script_wire.specs.Held.{scripts_of, links_of, counts_of, moved_of, state_of, called};
+    ghost use Rattle.script_wire.specs.Held.{scripts_of, links_of, counts_of, moved_of, state_of, is_due_on, called, failed_by};
 
     /// `Failed` exactly where the call is due. After an error the door is as before.
     fn listen(&mut self, host: &str, port: u16) -> Result<(), Fault>
-        ensures failed { IsErrOf result Fault.Failed ↔ (is_next_due (counts_of self.old) (moved_of self.old) ≡ true) }
-        ensures counts { counts_of self.new ≡ called (is_next_due (counts_of self.old) (moved_of self.old)) (counts_of self.old) }
+        ensures failed { IsErrOf result Fault.Failed ↔ (is_due_on self.old ≡ true) }
+        ensures counts { counts_of self.new ≡ called (is_due_on self.old) (counts_of self.old) }
         ensures ok { OnOk result (Opens host.now port (state_of self.old) (state_of self.new)) }
-        ensures again { listens (state_of self.old) ≡ true → (state_of self.new).door_stalls ≡ (state_of self.old).door_stalls }
+        ensures again { listens (state_of self.old) ≡ true → (state_of self.new).door.stalls
+            ≡ (state_of self.old).door.stalls }
         ensures err { OnErr result (LeavesDoor (state_of self.old) (state_of self.new)) }
         ensures only { OnlyListens (state_of self.old) (state_of self.new) }
         ensures cause { HasCause (counts_of self.old).faults (counts_of self.new).faults result }
+        ensures door { HasCause (state_of self.old).door.faults (state_of self.new).door.faults result }
+        ensures door_faults { (state_of self.new).door.faults
+            ≡ failed_by (is_due_on self.old) (state_of self.old).door.faults }
         ensures links { links_of self.new ≡ links_of self.old }
         ensures moved { moved_of self.new ≡ moved_of self.old }
         ensures scripts { scripts_of self.new ≡ scripts_of self.old }
     {
+        self.door.count_call();
         if self.failures.is_next_due(self.moved) {
-            self.failures.fail();
-            return Err(Fault::Failed);
+            return Err(self.fail_at_door());
         }
         let Ok(host) = Text::copy(*self.links.allocator(), host) else {
             return Err(Fault::OutOfMemory);
         };
-        if self.door.is_none() {
-            self.door_stalls = 0;
-        }
-        self.door = Some(Peer { host, port });
+        self.door.open(Peer { host, port });
         Ok(())
     }
 
@@ -341,29 +377,36 @@ impl Accept for ScriptWire {
     /// after an error no link was given.
     fn accept(&mut self) -> Result<Option<u64>, Fault>
         requires { listens (state_of self.old) ≡ true }
-        ensures failed { IsErrOf result Fault.Failed ↔ (is_next_due (counts_of self.old) (moved_of self.old) ≡ true) }
-        ensures counts { counts_of self.new ≡ called (is_next_due (counts_of self.old) (moved_of self.old)) (counts_of self.old) }
-        ensures links { IfOk result (λ link. IfSome link (λ number. (number < length (scripts_of self.old)) × (links_of self.new ≡ links_of self.old ++ new_link None ∷ []))) }
-        ensures nobody { IfOk result (λ link. IfNone link ((length (scripts_of self.old) ≤ length (links_of self.old)) × (links_of self.new ≡ links_of self.old))) }
-        ensures given { IfOk result (λ link. IfSome link (λ number. GivesAccepted number (state_of self.old) (state_of self.new))) }
+        ensures failed { IsErrOf result Fault.Failed ↔ (is_due_on self.old ≡ true) }
+        ensures counts { counts_of self.new ≡ called (is_due_on self.old) (counts_of self.old) }
+        ensures links { IfOk result (λ link. IfSome link (λ number. (number < length (scripts_of self.old))
+            × (links_of self.new ≡ links_of self.old ++ new_link None ∷ []))) }
+        ensures nobody { IfOk result (λ link. IfNone link ((length (scripts_of self.old) ≤ length (links_of self.old))
+            × (links_of self.new ≡ links_of self.old))) }
+        ensures given { IfOk result (λ link. IfSome link (λ number.
+            GivesAccepted number (state_of self.old) (state_of self.new))) }
         ensures none { IfOk result (λ link. IfNone link (GivesNone (state_of self.old) (state_of self.new))) }
-        ensures stalled { IfOk result (λ link. IfNone link ((state_of self.new).door_stalls ≡ counted (state_of self.old).door_stalls)) }
-        ensures unstalled { IfOk result (λ link. IfSome link (λ number. (state_of self.new).door_stalls ≡ (state_of self.old).door_stalls)) }
-        ensures door { OnErr result (LeavesDoor (state_of self.old) (state_of self.new)) }
+        ensures stalled { IfOk result (λ link. IfNone link ((state_of self.new).door.stalls
+            ≡ counted (state_of self.old).door.stalls)) }
+        ensures unstalled { IfOk result (λ link. IfSome link (λ number. (state_of self.new).door.stalls
+            ≡ (state_of self.old).door.stalls)) }
+        ensures leaves { OnErr result (LeavesDoor (state_of self.old) (state_of self.new)) }
         ensures err { OnErr result (GivesNone (state_of self.old) (state_of self.new)) }
         ensures only { OnlyAccepts (state_of self.old) (state_of self.new) }
         ensures cause { HasCause (counts_of self.old).faults (counts_of self.new).faults result }
+        ensures door { HasCause (state_of self.old).door.faults (state_of self.new).door.faults result }
+        ensures door_faults { (state_of self.new).door.faults
+            ≡ failed_by (is_due_on self.old) (state_of self.old).door.faults }
         ensures moved { moved_of self.new ≡ moved_of self.old }
         ensures scripts { scripts_of self.new ≡ scripts_of self.old }
     {
         if self.failures.is_next_due(self.moved) {
-            self.failures.fail();
-            return Err(Fault::Failed);
+            return Err(self.fail_at_door());
         }
         match self.give(None) {
             Ok(Some(number)) => Ok(Some(number)),
             Ok(None) => {
-                self.door_stalls = self.door_stalls.saturating_add(1);
+                self.door.stall();
                 Ok(None)
             }
             Err(OutOfMemory) => Err(Fault::OutOfMemory),

@@ -1,6 +1,7 @@
 pub mod Appended
 pub mod Shelves
 pub mod Rooms
+pub mod SendingLemmas
 pub mod AddressRows
 pub mod HttpReaderLemmas
 pub mod HttpRows

@@ -1,10 +1,11 @@
 -- Files by their place, and numbers given one after another.
-use Rattle.std.proofs.Common.{ℕ, zero, suc, ◌≡◌, ◌<◌, true, List, [], ◌∷◌, ◌++◌, length, get_or, drop, Some, Option, slice_get, option_and_then, refl, subst, length-append, ap, sym, ◌∙◌, arith}
+use Rattle.std.proofs.Common.{ℕ, zero, suc, ◌≡◌, ◌<◌, Bool, true, List, [], ◌∷◌, ◌++◌, length, get_or, drop, Some, Option, slice_get, option_and_then, refl, subst, length-append, ap, sym, ◌∙◌, arith, Ok}
 use Rattle.std.proofs.Math.Seq.{drop-cons}
 use Rattle.std.specs.Str.{bytes_eq}
-use Rattle.tpf_base.specs.Outside.{content_of, Finds}
+use Rattle.tpf_base.specs.Memory.{shelf_of}
+use Rattle.tpf_base.specs.Failures.{CallCounts, spares_calls}
+use Rattle.tpf_base.specs.Outside.{content_of, Finds, FindsFile}
 use Rattle.tpf_base.specs.declared.mem_shelf.Opened.{Opened}
-use Rattle.tpf_base.specs.Files.{file_rest}
 
 pub content_at : (files : List (List ℕ × List ℕ)) (name : List ℕ) (i : ℕ) (file : List ℕ × List ℕ) → i < length files → file ≡ get_or files i file → bytes_eq file.0 name ≡ true → content_of (drop i files) name ≡ Some file.1
 content_at files name i file h e same =
@@ -21,10 +22,11 @@ slice_get-push_other (y ∷ ys) x zero h = refl
 slice_get-push_other (y ∷ ys) x (suc k) h = slice_get-push_other ys x k (omega arith)
 
 -- what a find leaves, once a number was given for a place
-pub finds_push : (files : List (List ℕ × List ℕ)) (name : List ℕ) (opened : List Opened) (which : ℕ) (file : List ℕ × List ℕ) → slice_get files which ≡ Some file → content_of files name ≡ Some file.1 →
-    let rest : List Opened → ℕ → Option (List ℕ) = λ os k. option_and_then (λ o. file_rest files o.which o.at) (slice_get os k) in
-    Finds (Some files) name (length opened) (length (opened ++ record { which = which; at = 0 } ∷ [])) (rest opened) (rest (opened ++ record { which = which; at = 0 } ∷ [])) (length opened)
-finds_push files name opened which file at_place content = record {
+pub finds_push : (files : List (List ℕ × List ℕ)) (name : List ℕ) (opened : List Opened) (which : ℕ) (file : List ℕ × List ℕ)
+    (asked asked' : List (List ℕ)) (faults faults' : ℕ) (faultless faultless' : Bool)
+    → slice_get files which ≡ Some file → content_of files name ≡ Some file.1
+    → Finds name (shelf_of files opened asked faults faultless) (shelf_of files (opened ++ record { which = which; at = 0 } ∷ []) asked' faults' faultless') (length opened)
+finds_push files name opened which file asked asked' faults faults' faultless faultless' at_place content = record {
   number = refl;
   more = simp length-append;
   front = λ told same.
@@ -34,7 +36,30 @@ finds_push files name opened which file at_place content = record {
   others = λ k h. rw (slice_get-push_other opened _ k h) refl;
 }
 
-pub finds_by : (files files' : List (List ℕ × List ℕ)) (name : List ℕ) (opened opened' : List Opened) (which number : ℕ) (file : List ℕ × List ℕ) → files' ≡ files → opened' ≡ opened ++ record { which = which; at = 0 } ∷ [] → number ≡ length opened → slice_get files' which ≡ Some file → content_of files' name ≡ Some file.1 →
-    Finds (Some files) name (length opened) (length opened') (λ k. option_and_then (λ o. file_rest files o.which o.at) (slice_get opened k)) (λ k. option_and_then (λ o. file_rest files' o.which o.at) (slice_get opened' k)) number
-finds_by files files' name opened opened' which number file same pushed is place content =
-    rw (pushed, same, is) (finds_push files name opened which file (rw (← same) place) (rw (← same) content))
+pub finds_by : (files files' : List (List ℕ × List ℕ)) (name : List ℕ) (opened opened' : List Opened) (which number : ℕ) (file : List ℕ × List ℕ)
+    (asked asked' : List (List ℕ)) (faults faults' : ℕ) (faultless faultless' : Bool)
+    → files' ≡ files → opened' ≡ opened ++ record { which = which; at = 0 } ∷ [] → number ≡ length opened
+    → slice_get files' which ≡ Some file → content_of files' name ≡ Some file.1
+    → Finds name (shelf_of files opened asked faults faultless) (shelf_of files' opened' asked' faults' faultless') number
+finds_by files files' name opened opened' which number file asked asked' faults faults' faultless faultless' same pushed is place content =
+    rw (pushed, same, is) (finds_push files name opened which file asked asked' faults faults' faultless faultless' (rw (← same) place) (rw (← same) content))
+
+-- a find that gave a number
+pub finds_file : (files files' : List (List ℕ × List ℕ)) (name : List ℕ) (opened opened' : List Opened) (which number : ℕ) (file : List ℕ × List ℕ)
+    (asked asked' : List (List ℕ)) (counts counts' : CallCounts) (calls : ℕ)
+    → files' ≡ files → opened' ≡ opened ++ record { which = which; at = 0 } ∷ [] → number ≡ length opened
+    → slice_get files' which ≡ Some file → content_of files' name ≡ Some file.1
+    → asked' ≡ asked ++ name ∷ [] → counts' ≡ record counts { calls = calls }
+    → FindsFile name (shelf_of files opened asked counts.faults (spares_calls counts.failing))
+    (shelf_of files' opened' asked' counts'.faults (spares_calls counts'.failing)) (Ok number)
+finds_file files files' name opened opened' which number file asked asked' counts counts' calls same pushed is place content noted counted =
+    let faults : counts'.faults ≡ counts.faults = ap (λ (c : CallCounts). c.faults) counted in
+    let faultless : spares_calls counts'.failing ≡ spares_calls counts.failing = ap (λ (c : CallCounts). spares_calls c.failing) counted in record {
+      found = noted;
+      ok = finds_by files files' name opened opened' which number file asked asked' _ _ _ _ same pushed is place content;
+      err = tt;
+      told = ap Some same;
+      cause = record { later = omega (arith, faults); success = faults; failed = λ failed. absurd cc; memory = λ memory. absurd cc };
+      faultless = faultless;
+      holds = λ spares held few. record { same = faults; answer = λ failed. cc };
+    }

@@ -8,7 +8,7 @@ use Rattle.tpf_base.specs.declared.wire.Moved.{Moved}
 use Rattle.tpf_base.specs.declared.wire.Moved.TheVariants as answers
 use Rattle.tpf_base.specs.declared.wire.Ready.{Ready}
 use Rattle.tpf_base.specs.declared.wire.Ready.TheVariants as ready
-use Rattle.tpf_base.specs.Links.{Way, Sending, Receiving, told_by, is_short, IsRipe, WireState, listens}
+use Rattle.tpf_base.specs.Links.{Way, Sending, Receiving, told_by, is_short, IsRipe, WireState, KeepsDoor, listens}
 
 -- ---- a call on a link
 
@@ -21,7 +21,6 @@ pub record OnlyOn (k : ℕ) (old new : WireState) : Type 0 where
   pub dials : new.dials ≡ old.dials
   pub waits : new.waits ≡ old.waits
   pub door : new.door ≡ old.door
-  pub door_stalls : new.door_stalls ≡ old.door_stalls
   pub nature : new.nature ≡ old.nature
 
 -- nothing at all changed
@@ -34,7 +33,6 @@ pub record SameWire (old new : WireState) : Type 0 where
   pub waits : new.waits ≡ old.waits
   pub idle : new.idle ≡ old.idle
   pub door : new.door ≡ old.door
-  pub door_stalls : new.door_stalls ≡ old.door_stalls
   pub nature : new.nature ≡ old.nature
 
 -- which way a link is stalled after a call
@@ -63,6 +61,7 @@ pub record Sends (k : ℕ) (piece : List ℕ) (old new : WireState) (answer : Mo
       × (new.idle ≡ (if n == 0 then old.idle else 0)) × Rose old.faults new.faults
   pub memory : answer ≡ answers.OutOfMemory → SameWire old new
   pub no_end : answer ≢ answers.End
+  pub unfailed : answer ≢ answers.Failed → new.faults ≡ old.faults
   -- a steady wire fails only where that is due, and moves a byte where a wait answered the link
   pub not_due : old.nature.steady ≡ true → (e : ℕ) → old.nature.every ≡ Some e → (new.faults ≡ old.faults) × (answer ≢ answers.Failed)
   pub woken : old.nature.steady ≡ true → (old.links k).woken ≡ true → (old.links k).stalled ≡ Some Sending → answer ≢ answers.NotYet
@@ -85,6 +84,8 @@ pub record Receives (k : ℕ) (to : List ℕ) (old new : WireState) (answer : Mo
   pub failed : answer ≡ answers.Failed → ((new.links k).received ≡ (old.links k).received) × ((new.links k).ended ≡ (old.links k).ended)
       × (new.idle ≡ old.idle) × Rose old.faults new.faults
   pub memory : answer ≡ answers.OutOfMemory → SameWire old new
+  -- the end is no fault where all that is owed was received, or it is not told
+  pub unfailed : answer ≢ answers.Failed → (answer ≡ answers.End → is_short (old.links k) ≡ false) → new.faults ≡ old.faults
   -- a steady wire fails only where that is due, and moves a byte where a wait answered the link
   pub not_due : old.nature.steady ≡ true → (e : ℕ) → old.nature.every ≡ Some e
       → (new.faults ≡ old.faults) × (answer ≢ answers.Failed) × (answer ≡ answers.End → is_short (old.links k) ≡ false)
@@ -143,7 +144,6 @@ pub record OnlyDials (old new : WireState) : Type 0 where
   pub provoked : old.provoked ≤ new.provoked
   pub waits : new.waits ≡ old.waits
   pub door : new.door ≡ old.door
-  pub door_stalls : new.door_stalls ≡ old.door_stalls
   pub nature : new.nature ≡ old.nature
 
 -- Of the dial with the number new.dials on a steady wire: unless 2 ^ 63 links were given it provokes nothing, and unless it is due it does not fail.
@@ -152,8 +152,9 @@ pub record DialsSteadily (old new : WireState) (result : Result ℕ Fault) : Typ
   pub not_due : old.given < 2 ^ 63 → (e : ℕ) → old.nature.every ≡ Some e → is_nth e new.dials ≡ false
       → DoesNotFail old.faults new.faults result
 
--- Nothing but the faults and the door changed.
+-- Nothing but the faults and the door changed, of which one more call is counted.
 pub record OnlyListens (old new : WireState) : Type 0 where
+  pub count : new.door.calls ≡ counted old.door.calls
   pub none_given : GivesNone old new
   pub later : old.faults ≤ new.faults
   pub provoked : new.provoked ≡ old.provoked
@@ -163,23 +164,24 @@ pub record OnlyListens (old new : WireState) : Type 0 where
 
 -- The door is open at a host and a port. Where it was closed before, it was not yet found empty.
 pub record Opens (host : List ℕ) (port : ℕ) (old new : WireState) : Type 0 where
-  pub door : new.door ≡ Some (host, port)
-  pub first : listens old ≡ false → new.door_stalls ≡ 0
-  pub again : listens old ≡ true → old.door_stalls ≤ new.door_stalls
+  pub place : new.door.place ≡ Some (host, port)
+  pub first : listens old ≡ false → new.door.stalls ≡ 0
+  pub again : listens old ≡ true → old.door.stalls ≤ new.door.stalls
 
--- The door is as it was.
+-- The door is where it was, and was found empty as often as before.
 pub record LeavesDoor (old new : WireState) : Type 0 where
-  pub door : new.door ≡ old.door
-  pub door_stalls : new.door_stalls ≡ old.door_stalls
+  pub place : new.door.place ≡ old.door.place
+  pub stalls : new.door.stalls ≡ old.door.stalls
 
--- Nothing but the links, the faults, the stalls of the door and the idle waits changed.
+-- Nothing but the links, the faults, the stalls and the faults of the door and the idle waits changed.
 pub record OnlyAccepts (old new : WireState) : Type 0 where
   pub later : old.faults ≤ new.faults
   pub provoked : new.provoked ≡ old.provoked
   pub dials : new.dials ≡ old.dials
   pub waits : new.waits ≡ old.waits
-  pub door : new.door ≡ old.door
-  pub door_stalls : old.door_stalls ≤ new.door_stalls
+  pub place : new.door.place ≡ old.door.place
+  pub stalls : old.door.stalls ≤ new.door.stalls
+  pub calls : new.door.calls ≡ old.door.calls
   pub nature : new.nature ≡ old.nature
 
 -- Of a call at the door of a steady wire: where a wire tells which dials are due, nothing is due here.
@@ -195,8 +197,7 @@ pub record OnlyWaits (old new : WireState) : Type 0 where
   pub later : old.faults ≤ new.faults
   pub provoked : old.provoked ≤ new.provoked
   pub dials : new.dials ≡ old.dials
-  pub door : new.door ≡ old.door
-  pub door_stalls : new.door_stalls ≡ old.door_stalls
+  pub door : KeepsDoor old.door new.door
   pub nature : new.nature ≡ old.nature
 
 -- What may be ready: an open link, which is woken, or the door, at which the wire listens. One more wait succeeded.

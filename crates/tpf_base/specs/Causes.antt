@@ -1,5 +1,5 @@
 -- Counts that never fall, kept as u64, and the causes of an answer.
-use Rattle.std.specs.Prelude.{ℕ, ◌≡◌, ◌≢◌, ◌+◌, ◌-◌, ◌^◌, ◌≤◌, min, Result, IsErrOf, Err}
+use Rattle.std.specs.Prelude.{ℕ, ◌≡◌, ◌≢◌, ◌+◌, ◌-◌, ◌^◌, ◌≤◌, min, Result, OnOk, IsErrOf, Err}
 use Rattle.tpf_base.specs.declared.fault.Fault.{Fault}
 use Rattle.tpf_base.specs.declared.fault.Fault.TheVariants.{Failed, OutOfMemory}
 
@@ -19,9 +19,10 @@ RoseBy n before now = counted_by n before ≤ now
 abbrev pub Rose : ℕ → ℕ → Type 0
 Rose before now = RoseBy 1 before now
 
--- `Failed` comes only with a rise of the count, out of memory leaves the count, and no call lowers it.
+-- `Failed` comes only with a rise of the count, success and out of memory leave the count, and no call lowers it.
 pub record HasCause {T : Type 0} (before now : ℕ) (result : Result T Fault) : Type 0 where
   pub later : before ≤ now
+  pub success : OnOk result (now ≡ before)
   pub failed : IsErrOf result Failed → Rose before now
   pub memory : IsErrOf result OutOfMemory → now ≡ before
 

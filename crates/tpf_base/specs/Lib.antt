@@ -10,6 +10,7 @@ pub mod Memory
 pub mod Links
 pub mod Calls
 pub mod Unlinked
+pub mod Sending
 pub mod Addresses
 pub mod HttpReader
 pub mod HttpHeads

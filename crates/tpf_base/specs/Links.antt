@@ -1,5 +1,6 @@
 -- What a wire holds: its links, its counts, and what it is from its making.
 use Rattle.std.specs.Prelude.{ℕ, ◌≡◌, ◌≤◌, ◌<◌, ◌↔◌, List, ◌++◌, length, Option, Some, None, is_some, Bool, true, false, nat_lt}
+use Rattle.tpf_base.specs.declared.wire.TheConstants.{MOST_IDLE}
 
 -- what a call on a link does with bytes
 pub data Way : Type 0 where
@@ -76,19 +77,41 @@ pub data IsRipe (link : Link) : Type 0 where
 -- what no call changes
 pub record Nature : Type 0 where
   pub tells : Tells
-  -- fewer than 1000 waits follow one another with no byte moved
+  -- fewer than MOST_IDLE waits follow one another with no byte moved
   pub lively : Bool
   -- it fails only where that is due or provoked
   pub steady : Bool
   -- of a steady wire, where told: the dials whose number is a multiple of this one are due to fail, none for 0, and nothing else is due
   pub every : Option ℕ
 
+-- The door, which is the listener.
+pub record Door : Type 0 where
+  -- the host and the port at which it is open, none where it is closed
+  pub place : Option (List ℕ × ℕ)
+  -- how often no connection waited there
+  pub stalls : ℕ
+  -- how often `listen`, `accept` or `wait` failed
+  pub faults : ℕ
+  -- how often `listen` was called
+  pub calls : ℕ
+
+-- a door that was never opened
+abbrev pub closed_door : Door
+closed_door = record { place = None; stalls = 0; faults = 0; calls = 0 }
+
+-- the door is as it was but for its faults, which never fall
+pub record KeepsDoor (old new : Door) : Type 0 where
+  pub place : new.place ≡ old.place
+  pub stalls : new.stalls ≡ old.stalls
+  pub later : old.faults ≤ new.faults
+  pub calls : new.calls ≡ old.calls
+
 -- A wire. Links have the numbers 0, 1, 2 .. in the order in which they were given. Counts stand still at their last value.
 pub record WireState : Type 0 where
   pub links : ℕ → Link
   -- how many links were given
   pub given : ℕ
-  -- how often it failed; and, of a steady wire, how many of these faults the caller provoked
+  -- how often it failed, on a link, at a dial or at the door; and, of a steady wire, how many of these faults the caller provoked
   pub faults : ℕ
   pub provoked : ℕ
   -- how often a dial and a wait was called
@@ -96,14 +119,12 @@ pub record WireState : Type 0 where
   pub waits : ℕ
   -- how many waits succeeded, one after another, since a byte moved, a receive answered the end, or a link was given
   pub idle : ℕ
-  -- the host and the port at which its door is open, none where it is closed; and how often no connection waited there
-  pub door : Option (List ℕ × ℕ)
-  pub door_stalls : ℕ
+  pub door : Door
   pub nature : Nature
 
 -- its door is open
 abbrev pub listens : WireState → Bool
-listens wire = is_some wire.door
+listens wire = is_some wire.door.place
 
 -- the same replies are allowed, where a relation says of a host, a port and the bytes sent there which bytes may be owed
 abbrev pub SameAllowed : (List ℕ → ℕ → List ℕ → List ℕ → Type 0) → (List ℕ → ℕ → List ℕ → List ℕ → Type 0) → Type 0
@@ -119,6 +140,6 @@ OwesAllowed allows link =
 abbrev pub OpensGiven : WireState → Type 0
 OpensGiven wire = (k : ℕ) → wire.given ≤ k → (wire.links k).is_open ≡ false
 
--- over a lively wire fewer than 1000 waits follow one another
+-- over a lively wire fewer waits than the most follow one another
 abbrev pub IsLively : WireState → Type 0
-IsLively wire = wire.nature.lively ≡ true → wire.idle < 1000
+IsLively wire = wire.nature.lively ≡ true → wire.idle < MOST_IDLE

@@ -37,11 +37,7 @@ impl Drain {
 impl Sink for Drain {
     ghost use Rattle.std.specs.Prelude.{None, true};
 
-    ghost taken = { λ _. None };
-
-    ghost faults = { λ _. 0 };
-
-    ghost faultless = { λ _. true };
+    ghost state = { λ _. record { taken = None; faults = 0; faultless = true } };
 
     /// Takes the piece whole, also an empty one.
     fn write(&mut self, piece: &[u8]) -> Result<usize, Fault>

@@ -24,28 +24,33 @@
 //! ```
 #![tactic(auto)]
 
+mod bytes;
 mod decimal;
 mod drain;
 mod failing;
 mod fault;
 mod mem_shelf;
 mod mem_sink;
+mod names;
 mod no_wire;
+mod send;
 mod shelf;
 mod sink;
 mod steps;
-mod text;
 mod wire;
 
+pub use bytes::Bytes;
 pub use decimal::numbers_read_back;
 pub use drain::Drain;
 pub use failing::{Failing, Failures};
-pub use fault::{Fault, OutOfMemory};
+pub use fault::Fault;
 pub use mem_shelf::MemShelf;
 pub use mem_sink::MemSink;
+pub use names::Names;
 pub use no_wire::NoWire;
+pub use send::{Halt, send_rest};
 pub use shelf::{FileFault, Shelf, read_file};
 pub use sink::{Sink, write_all};
 pub use steps::Steps;
-pub use text::{Bytes, Text};
-pub use wire::{Accept, Dial, Moved, Ready, Wire};
+pub use text_base::{OutOfMemory, Text};
+pub use wire::{Accept, Dial, MOST_IDLE, Moved, Ready, Wire};

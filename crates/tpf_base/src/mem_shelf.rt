@@ -1,11 +1,10 @@
 // A shelf in memory, which fails where it is told to.
-ghost use Rattle.std.specs.Prelude.{ℕ, ◌≡◌, ◌≢◌, ◌+◌, ◌-◌, ◌^◌, ◌<◌, ◌≤◌, ◌⊎◌, ◌↔◌, ◌++◌, List, [], length, take, drop, min, Option, Some, None, true, false, IsTrue, Err, IfOk, OnErr, IfSome, IfNone, IsErrOf, slice_get};
-ghost use Rattle.tpf_base.specs.Causes.{HasCause, DoesNotFail};
-ghost use Rattle.tpf_base.specs.Outside.{content_of, HoldsName, Finds, Leaves, Reads};
-ghost use Rattle.tpf_base.specs.Failures.{no_calls, is_next_due, room, spares_calls, CountsCall};
+ghost use Rattle.std.specs.Prelude.{ℕ, ◌≡◌, ◌≢◌, ◌+◌, ◌-◌, ◌^◌, ◌<◌, ◌≤◌, ◌⊎◌, ◌↔◌, ◌++◌, List, [], length, take, drop, min, Some, None, IsTrue, Err, IfOk, OnErr, IfSome, IfNone, IsErrOf, slice_get};
+ghost use Rattle.tpf_base.specs.Outside.{content_of, FindsFile, ReadsFile};
+ghost use Rattle.tpf_base.specs.Failures.{no_calls, is_next_due, room, CountsCall};
 ghost use Rattle.tpf_base.specs.Files.{file_rest};
 
-use crate::{Bytes, Failing, Failures, Fault, Shelf, Text};
+use crate::{Bytes, Failing, Failures, Fault, Names, Shelf, Text};
 use std::alloc::Global;
 
 /// A file that was found: which of the contents, and how many of its bytes were read.
@@ -22,6 +21,7 @@ pub struct Opened {
 #[derive(Drop)]
 pub struct MemShelf {
     files: Vec<(Text, Bytes)>,
+    asked: Names,
     opened: Vec<Opened>,
     moved: u64,
     failures: Failures,
@@ -70,7 +70,7 @@ fn copy_front(failures: &Failures, moved: u64, from: &[u8], to: &mut [u8]) -> us
 }
 
 impl MemShelf {
-    ghost use Rattle.tpf_base.specs.Memory.{shelf_files, shelf_given, shelf_moved, shelf_counts};
+    ghost use Rattle.tpf_base.specs.Memory.{shelf_files, shelf_given, shelf_moved, shelf_counts, shelf_state};
 
     /// A shelf with these files, each a name and its bytes, of which none was found yet. It takes no
     /// memory.
@@ -79,9 +79,11 @@ impl MemShelf {
         ensures given { shelf_given result ≡ 0 }
         ensures counts { shelf_counts result ≡ no_calls failing }
         ensures moved { shelf_moved result ≡ 0 }
+        ensures found { (shelf_state result).found ≡ [] }
     {
         MemShelf {
             files,
+            asked: Names::new(),
             opened: Vec::new(alloc),
             moved: 0,
             failures: Failures::new(failing),
@@ -90,36 +92,23 @@ impl MemShelf {
 }
 
 impl Shelf for MemShelf {
-    ghost use Rattle.tpf_base.specs.Memory.{shelf_files, shelf_given, shelf_rest, shelf_moved, shelf_counts};
+    ghost use Rattle.tpf_base.specs.Memory.{shelf_files, shelf_given, shelf_rest, shelf_moved, shelf_counts, shelf_state};
 
-    ghost told = { λ shelf. Some (shelf_files shelf) };
-
-    ghost given = { shelf_given };
-
-    ghost rest = { shelf_rest };
-
-    ghost faults = { λ shelf. (shelf_counts shelf).faults };
-
-    ghost faultless = { λ shelf. spares_calls (shelf_counts shelf).failing };
+    ghost state = { shelf_state };
 
     /// `Failed` exactly where the call is due, the name is not held, or all 2^32 numbers were given;
     /// after an error no number was given.
     #[tactic(auto, using(crate::proofs::Rooms::spared_next))]
     fn find(&mut self, name: &str) -> Result<u32, Fault>
-        ensures ok { IfOk result (Finds (Some (shelf_files self.old)) name.now (shelf_given self.old) (shelf_given self.new) (shelf_rest self.old) (shelf_rest self.new)) }
-        ensures err { OnErr result (Leaves (shelf_given self.old) (shelf_given self.new) (shelf_rest self.old) (shelf_rest self.new)) }
-        ensures told { shelf_files self.new ≡ shelf_files self.old }
-        ensures cause { HasCause (shelf_counts self.old).faults (shelf_counts self.new).faults result }
+        ensures finds { FindsFile name.now (shelf_state self.old) (shelf_state self.new) result }
         ensures failed { IsErrOf result Fault.Failed → IsTrue (is_next_due (shelf_counts self.old) (shelf_moved self.old))
             ⊎ (content_of (shelf_files self.old) name.now ≡ None) ⊎ (2 ^ 32 ≤ shelf_given self.old) }
         ensures due { IsTrue (is_next_due (shelf_counts self.old) (shelf_moved self.old)) → IsErrOf result Fault.Failed }
         ensures missing { content_of (shelf_files self.old) name.now ≡ None → IsErrOf result Fault.Failed }
-        ensures faultless { spares_calls (shelf_counts self.new).failing ≡ spares_calls (shelf_counts self.old).failing }
-        ensures holds { spares_calls (shelf_counts self.old).failing ≡ true → HoldsName (Some (shelf_files self.old)) name.now → shelf_given self.old < 2 ^ 32
-            → DoesNotFail (shelf_counts self.old).faults (shelf_counts self.new).faults result }
         ensures counts { CountsCall (shelf_counts self.old) (shelf_counts self.new) result }
         ensures moved { shelf_moved self.new ≡ shelf_moved self.old }
     {
+        self.asked = self.asked.with(name.as_bytes());
         if self.failures.is_next_due(self.moved) {
             self.failures.fail();
             return Err(Fault::Failed);
@@ -144,16 +133,10 @@ impl Shelf for MemShelf {
     fn read(&mut self, file: u32, to: &mut [u8]) -> Result<usize, Fault>
         requires given { file < shelf_given self.old }
         requires room { 0 < length to.old }
-        ensures ok { IfOk result (λ n. Reads file n to.new (shelf_rest self.old) (shelf_rest self.new)) }
-        ensures err { OnErr result (Leaves (shelf_given self.old) (shelf_given self.new) (shelf_rest self.old) (shelf_rest self.new)) }
-        ensures given { shelf_given self.new ≡ shelf_given self.old }
-        ensures told { shelf_files self.new ≡ shelf_files self.old }
-        ensures cause { HasCause (shelf_counts self.old).faults (shelf_counts self.new).faults result }
+        ensures reads { ReadsFile file to.new (shelf_state self.old) (shelf_state self.new) result }
         ensures failed { IsErrOf result Fault.Failed ↔ IsTrue (is_next_due (shelf_counts self.old) (shelf_moved self.old)) }
         ensures memory { result ≢ Err Fault.OutOfMemory }
         ensures amount { IfOk result (λ n. (rest : List ℕ) → shelf_rest self.old file ≡ Some rest → n ≡ room (shelf_counts self.old).failing (shelf_moved self.old) (min (length to.old) (length rest))) }
-        ensures faultless { spares_calls (shelf_counts self.new).failing ≡ spares_calls (shelf_counts self.old).failing }
-        ensures spared { spares_calls (shelf_counts self.old).failing ≡ true → DoesNotFail (shelf_counts self.old).faults (shelf_counts self.new).faults result }
         ensures counts { CountsCall (shelf_counts self.old) (shelf_counts self.new) result }
         ensures moved { IfOk result (λ n. shelf_moved self.new ≡ min (shelf_moved self.old + n) (2 ^ 64 - 1)) }
         ensures still { OnErr result (shelf_moved self.new ≡ shelf_moved self.old) }

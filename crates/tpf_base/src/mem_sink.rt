@@ -1,9 +1,8 @@
 // A sink in memory, which fails where it is told to.
-ghost use Rattle.std.specs.Prelude.{◌≡◌, ◌<◌, ◌≤◌, ◌↔◌, ◌++◌, [], length, take, Some, true, IsTrue, IfOk, OnErr, IsErrOf};
-ghost use Rattle.tpf_base.specs.Causes.{HasCause, DoesNotFail};
-ghost use Rattle.tpf_base.specs.Failures.{no_calls, is_next_due, room, spares_calls, CountsCall};
-ghost use Rattle.tpf_base.specs.Memory.{sink_bytes, sink_counts};
-ghost use Rattle.tpf_base.specs.Wrote.{Writes};
+ghost use Rattle.std.specs.Prelude.{◌≡◌, ◌<◌, ◌↔◌, [], length, IsTrue, IfOk, IsErrOf};
+ghost use Rattle.tpf_base.specs.Failures.{no_calls, is_next_due, room, CountsCall};
+ghost use Rattle.tpf_base.specs.Memory.{sink_bytes, sink_counts, sink_state};
+ghost use Rattle.tpf_base.specs.Wrote.{WritesPiece};
 
 use crate::{Failing, Failures, Fault, Sink};
 use std::alloc::Global;
@@ -39,23 +38,15 @@ impl MemSink {
 }
 
 impl Sink for MemSink {
-    ghost taken = { λ sink. Some (sink_bytes sink) };
-
-    ghost faults = { λ sink. (sink_counts sink).faults };
-
-    ghost faultless = { λ sink. spares_calls (sink_counts sink).failing };
+    ghost state = { sink_state };
 
     /// `Failed` exactly where the call is due. After an error it has taken none of the piece.
     #[tactic(auto, using(crate::proofs::Rooms::spared_next))]
     fn write(&mut self, piece: &[u8]) -> Result<usize, Fault>
         requires { 0 < length piece.now }
-        ensures ok { IfOk result (λ n. Writes n piece.now (Some (sink_bytes self.old)) (Some (sink_bytes self.new))) }
-        ensures err { OnErr result (sink_bytes self.new ≡ sink_bytes self.old) }
-        ensures cause { HasCause (sink_counts self.old).faults (sink_counts self.new).faults result }
+        ensures writes { WritesPiece piece.now (sink_state self.old) (sink_state self.new) result }
         ensures failed { IsErrOf result Fault.Failed ↔ IsTrue (is_next_due (sink_counts self.old) (length (sink_bytes self.old))) }
         ensures amount { IfOk result (λ n. n ≡ room (sink_counts self.old).failing (length (sink_bytes self.old)) (length piece.now)) }
-        ensures faultless { spares_calls (sink_counts self.new).failing ≡ spares_calls (sink_counts self.old).failing }
-        ensures spared { spares_calls (sink_counts self.old).failing ≡ true → DoesNotFail (sink_counts self.old).faults (sink_counts self.new).faults result }
         ensures counts { CountsCall (sink_counts self.old) (sink_counts self.new) result }
     {
         let moved = self.taken.len() as u64;

@@ -1,27 +1,36 @@
 // A wire that gives no link.
 ghost use Rattle.std.specs.Prelude.{◌≡◌, ◌≤◌, Err};
 ghost use Rattle.tpf_base.specs.Causes.{HasCause, counted};
-ghost use Rattle.tpf_base.specs.Unlinked.{Attempts, unlinked, no_attempts};
+ghost use Rattle.tpf_base.specs.Unlinked.{Attempts, unlinked, no_attempts, door_failed};
 ghost use Rattle.tpf_base.specs.Calls.{Sends, Receives, OnlyWaits, OnlyDials, OnlyListens, OnlyAccepts};
 
 use crate::{Accept, Dial, Fault, Moved, Ready, Wire};
 use std::marker::Model;
 
 /// A wire that gives no link: no connection is opened or accepted. Contracts see it as the counts of
-/// its faults, its dials and its waits, each of which stops at 2^64 - 1.
+/// its faults, those of the door among them, its dials, its waits and its listens, each of which stops
+/// at 2^64 - 1.
 ///
 /// `send`, `recv`, `dial`, `listen`, `accept` and `wait` answer `Failed`, and each such call counts.
 #[derive(Debug, Drop)]
 pub struct NoWire {
     faults: u64,
+    door_faults: u64,
     dials: u64,
     waits: u64,
+    listens: u64,
 }
 
 impl Model for NoWire {
     ghost Value = { Attempts };
 
-    ghost view = { λ wire. record { faults = wire.faults; dials = wire.dials; waits = wire.waits } };
+    ghost view = { λ wire. record {
+      faults = wire.faults;
+      door_faults = wire.door_faults;
+      dials = wire.dials;
+      waits = wire.waits;
+      listens = wire.listens;
+    } };
 }
 
 impl NoWire {
@@ -31,11 +40,14 @@ impl NoWire {
     {
         NoWire {
             faults: 0,
+            door_faults: 0,
             dials: 0,
             waits: 0,
+            listens: 0,
         }
     }
 
+    /// A fault.
     fn fail(&mut self) -> Fault
         ensures answer { result ≡ Fault.Failed }
         ensures fault { self.new ≡ record self.old { faults = counted self.old.faults } }
@@ -43,6 +55,17 @@ impl NoWire {
     {
         self.faults = self.faults.saturating_add(1);
         Fault::Failed
+    }
+
+    /// A fault of the door.
+    fn fail_at_door(&mut self) -> Fault
+        ensures answer { result ≡ Fault.Failed }
+        ensures fault { self.new ≡ door_failed self.old }
+        ensures later { self.old.faults ≤ self.new.faults }
+        ensures door_later { self.old.door_faults ≤ self.new.door_faults }
+    {
+        self.door_faults = self.door_faults.saturating_add(1);
+        self.fail()
     }
 }
 
@@ -88,13 +111,18 @@ impl Wire for NoWire {
 
     fn wait(&mut self) -> Result<Ready, Fault>
         ensures failed { result ≡ Err Fault.Failed }
-        ensures counts { self.new ≡ record self.old { faults = counted self.old.faults; waits = counted self.old.waits } }
+        ensures counts { self.new ≡ record (door_failed self.old) { waits = counted self.old.waits } }
         ensures only { OnlyWaits (unlinked self.old) (unlinked self.new) }
         ensures cause { HasCause self.old.faults self.new.faults result }
+        ensures door { HasCause self.old.door_faults self.new.door_faults result }
     {
         self.waits = self.waits.saturating_add(1);
-        Err(self.fail())
+        Err(self.fail_at_door())
     }
+
+    fn look(&mut self)
+        ensures { self.new ≡ self.old }
+    {}
 
     fn idle(&self) -> u64 {
         0
@@ -116,20 +144,23 @@ impl Dial for NoWire {
 impl Accept for NoWire {
     fn listen(&mut self, _host: &str, _port: u16) -> Result<(), Fault>
         ensures failed { result ≡ Err Fault.Failed }
-        ensures fault { self.new ≡ record self.old { faults = counted self.old.faults } }
+        ensures counts { self.new ≡ record (door_failed self.old) { listens = counted self.old.listens } }
         ensures only { OnlyListens (unlinked self.old) (unlinked self.new) }
         ensures cause { HasCause self.old.faults self.new.faults result }
+        ensures door { HasCause self.old.door_faults self.new.door_faults result }
     {
-        Err(self.fail())
+        self.listens = self.listens.saturating_add(1);
+        Err(self.fail_at_door())
     }
 
     // It asks no listen, since none succeeds.
     fn accept(&mut self) -> Result<Option<u64>, Fault>
         ensures failed { result ≡ Err Fault.Failed }
-        ensures fault { self.new ≡ record self.old { faults = counted self.old.faults } }
+        ensures fault { self.new ≡ door_failed self.old }
         ensures only { OnlyAccepts (unlinked self.old) (unlinked self.new) }
         ensures cause { HasCause self.old.faults self.new.faults result }
+        ensures door { HasCause self.old.door_faults self.new.door_faults result }
     {
-        Err(self.fail())
+        Err(self.fail_at_door())
     }
 }

@@ -1,31 +1,20 @@
 // Files to read.
-ghost use Rattle.std.specs.Prelude.{ℕ, ◌≡◌, ◌≢◌, ◌^◌, ◌<◌, ◌≤◌, List, length, Bool, true, Option, Some, Err, IfOk, OnErr, IsErrOf, vec_len};
-ghost use Rattle.tpf_base.specs.Causes.{Rose, HasCause, DoesNotFail};
-ghost use Rattle.tpf_base.specs.Outside.{content_of, HoldsName, Finds, Leaves, LeavesOpened, Reads};
+ghost use Rattle.std.specs.Prelude.{ℕ, ◌≡◌, ◌≢◌, ◌^◌, ◌<◌, ◌≤◌, List, length, true, Some, Err, IfOk, IsErrOf, vec_len};
+ghost use Rattle.tpf_base.specs.Outside.{ShelfState, content_of, HoldsName, FindsFile, ReadsFile, LeavesOther, AsksOnce};
+ghost use Rattle.tpf_base.specs.FileFaults.{HasFileCause};
 
 use crate::Fault;
 use std::alloc::{AllocError, Global};
 
 /// A source of files, which are found by name and read from their beginning.
 ///
-/// A find gives a number, under which the file is read. The count of faults never falls, and
-/// stops at 2^64 - 1.
+/// A find gives a number, under which the file is read. Each name that is asked for is told. The
+/// count of faults never falls, and stops at 2^64 - 1.
 pub trait Shelf {
-    /// The contents by name, where it tells. No call changes them.
-    ghost told: { Self → Option (List (List ℕ × List ℕ)) };
-
-    /// How many numbers were given. They are those below it.
-    ghost given: { Self → ℕ };
-
-    /// The bytes that are left under a number, where it tells.
-    ghost rest: { Self → ℕ → Option (List ℕ) };
-
-    /// How often it has failed.
-    ghost faults: { Self → ℕ };
-
-    /// Whether it finds each name that it holds and each of its reads succeeds, but for the number
-    /// of files and for memory. No call changes it.
-    ghost faultless: { Self → Bool };
+    /// What it holds: the contents by name, where it tells them, the names that it was asked for, the
+    /// numbers that were given and what is left under each, how often it failed, and whether it never
+    /// does but for the number of files and for memory.
+    ghost state: { Self → ShelfState };
 
     /// Gives a new number, also for a name found before. Its next bytes are the first of the
     /// contents.
@@ -33,27 +22,16 @@ pub trait Shelf {
     /// `Failed` for a name that it does not hold, where no number is left, and where the file can't
     /// be opened. After an error no number was given.
     fn find(&mut self, name: &str) -> Result<u32, Fault>
-        ensures ok { IfOk result (Finds (told self.old) name.now (given self.old) (given self.new) (rest self.old) (rest self.new)) }
-        ensures err { OnErr result (Leaves (given self.old) (given self.new) (rest self.old) (rest self.new)) }
-        ensures told { told self.new ≡ told self.old }
-        ensures cause { HasCause (faults self.old) (faults self.new) result }
-        ensures faultless { faultless self.new ≡ faultless self.old }
-        ensures holds { faultless self.old ≡ true → HoldsName (told self.old) name.now → given self.old < 2 ^ 32 → DoesNotFail (faults self.old) (faults self.new) result };
+        ensures { FindsFile name.now (state self.old) (state self.new) result };
 
     /// Reads the next bytes of a file that was found into the beginning of the buffer, and says how
     /// many. 0 is the end.
     ///
     /// After an error the same bytes are still to be read.
     fn read(&mut self, file: u32, to: &mut [u8]) -> Result<usize, Fault>
-        requires given { file < given self.old }
+        requires given { file < (state self.old).given }
         requires room { 0 < length to.old }
-        ensures ok { IfOk result (λ n. Reads file n to.new (rest self.old) (rest self.new)) }
-        ensures err { OnErr result (Leaves (given self.old) (given self.new) (rest self.old) (rest self.new)) }
-        ensures given { given self.new ≡ given self.old }
-        ensures told { told self.new ≡ told self.old }
-        ensures cause { HasCause (faults self.old) (faults self.new) result }
-        ensures faultless { faultless self.new ≡ faultless self.old }
-        ensures spared { faultless self.old ≡ true → DoesNotFail (faults self.old) (faults self.new) result };
+        ensures { ReadsFile file to.new (state self.old) (state self.new) result };
 }
 
 /// Why a file was not read.
@@ -109,18 +87,15 @@ fn read_rest<F: Shelf>(
     most: usize,
     piece: &mut [u8],
 ) -> Result<Vec<u8>, FileFault>
-    requires given { file < F.given shelf.old }
+    requires given { file < (F.state shelf.old).given }
     requires room { 0 < length piece.old }
-    ensures whole { IfOk result (λ bytes. (rest : List ℕ) → F.rest shelf.old file ≡ Some rest → rest ≡ bytes.items) }
+    ensures whole { IfOk result (λ bytes. (rest : List ℕ) → (F.state shelf.old).rest file ≡ Some rest → rest ≡ bytes.items) }
     ensures within { IfOk result (λ bytes. length bytes.items ≤ most) }
-    ensures too_long { IsErrOf result FileFault.TooLong → (rest : List ℕ) → F.rest shelf.old file ≡ Some rest → most < length rest }
-    ensures failed { IsErrOf result FileFault.Failed → Rose (F.faults shelf.old) (F.faults shelf.new) }
-    ensures told { F.told shelf.new ≡ F.told shelf.old }
-    ensures given { F.given shelf.new ≡ F.given shelf.old }
-    ensures others { (k : ℕ) → k < F.given shelf.old → k ≢ file → F.rest shelf.new k ≡ F.rest shelf.old k }
-    ensures later { F.faults shelf.old ≤ F.faults shelf.new }
-    ensures faultless { F.faultless shelf.new ≡ F.faultless shelf.old }
-    ensures spared { F.faultless shelf.old ≡ true → (F.faults shelf.new ≡ F.faults shelf.old) × (result ≢ Err FileFault.Failed) }
+    ensures too_long { IsErrOf result FileFault.TooLong
+        → (rest : List ℕ) → (F.state shelf.old).rest file ≡ Some rest → most < length rest }
+    ensures leaves { LeavesOther file (F.state shelf.old) (F.state shelf.new) }
+    ensures cause { HasFileCause (F.state shelf.old).faults (F.state shelf.new).faults result }
+    ensures spared { (F.state shelf.old).faultless ≡ true → result ≢ Err FileFault.Failed }
 {
     let mut bytes = Vec::new(alloc);
     while bytes.len() <= most {
@@ -136,27 +111,27 @@ fn read_rest<F: Shelf>(
 /// Reads the whole of a file of at most `most` bytes.
 ///
 /// `TooLong` only where it has more bytes, and never `Ok` then. `Failed` only where the shelf's count
-/// of faults rose, and never over a faultless shelf that holds the name and has a number left. The
-/// file is found once, and files found before are left as they were.
+/// of faults rose, and never over a faultless shelf that holds the name and has a number left; after
+/// any other answer the count is as before. The file is asked for once and no other is, and files
+/// found before are left as they were.
 pub fn read_file<F: Shelf>(
     alloc: Global,
     shelf: &mut F,
     name: &str,
     most: usize,
 ) -> Result<Vec<u8>, FileFault>
-    ensures whole { IfOk result (λ bytes. (files : List (List ℕ × List ℕ)) → F.told shelf.old ≡ Some files → content_of files name.now ≡ Some bytes.items) }
+    ensures whole { IfOk result (λ bytes. (files : List (List ℕ × List ℕ))
+        → (F.state shelf.old).told ≡ Some files → content_of files name.now ≡ Some bytes.items) }
     ensures within { IfOk result (λ bytes. length bytes.items ≤ most) }
-    ensures too_long { IsErrOf result FileFault.TooLong → (files : List (List ℕ × List ℕ)) → F.told shelf.old ≡ Some files →
-        (bytes : List ℕ) × (content_of files name.now ≡ Some bytes) × (most < length bytes) }
-    ensures failed { IsErrOf result FileFault.Failed → Rose (F.faults shelf.old) (F.faults shelf.new) }
-    ensures told { F.told shelf.new ≡ F.told shelf.old }
-    ensures opened { LeavesOpened (F.given shelf.old) (F.given shelf.new) (F.rest shelf.old) (F.rest shelf.new) }
-    ensures later { F.faults shelf.old ≤ F.faults shelf.new }
-    ensures faultless { F.faultless shelf.new ≡ F.faultless shelf.old }
-    ensures holds { F.faultless shelf.old ≡ true → HoldsName (F.told shelf.old) name.now → F.given shelf.old < 2 ^ 32 →
-        (F.faults shelf.new ≡ F.faults shelf.old) × (result ≢ Err FileFault.Failed) }
+    ensures too_long { IsErrOf result FileFault.TooLong
+        → (files : List (List ℕ × List ℕ)) → (F.state shelf.old).told ≡ Some files
+        → (bytes : List ℕ) × (content_of files name.now ≡ Some bytes) × (most < length bytes) }
+    ensures asks { AsksOnce name.now (F.state shelf.old) (F.state shelf.new) }
+    ensures cause { HasFileCause (F.state shelf.old).faults (F.state shelf.new).faults result }
+    ensures holds { (F.state shelf.old).faultless ≡ true → HoldsName (F.state shelf.old).told name.now
+        → (F.state shelf.old).given < 2 ^ 32 → result ≢ Err FileFault.Failed }
 {
-    let mut piece = new_piece(alloc)?;
     let file = shelf.find(name)?;
+    let mut piece = new_piece(alloc)?;
     read_rest(alloc, shelf, file, most, piece.as_mut_slice())
 }

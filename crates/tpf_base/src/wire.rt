@@ -2,9 +2,12 @@
 ghost use Rattle.std.specs.Prelude.{ℕ, ◌≡◌, ◌<◌, List, length, IfOk, OnOk, OnErr, IfSome, IfNone, true};
 ghost use Rattle.tpf_base.specs.Causes.{HasCause, Rose};
 ghost use Rattle.tpf_base.specs.Links.{WireState, listens, IsToldBy, ReceivesOwed, SameAllowed, OwesAllowed, OpensGiven, IsLively};
-ghost use Rattle.tpf_base.specs.Calls.{Sends, Receives, Closes, GivesDialled, GivesAccepted, GivesNone, OnlyDials, DialsSteadily, OnlyListens, Opens, LeavesDoor, OnlyAccepts, ServesSteadily, OnlyWaits, Wakes, WaitsSteadily};
+ghost use Rattle.tpf_base.specs.Calls.{SameWire, Sends, Receives, Closes, GivesDialled, GivesAccepted, GivesNone, OnlyDials, DialsSteadily, OnlyListens, Opens, LeavesDoor, OnlyAccepts, ServesSteadily, OnlyWaits, Wakes, WaitsSteadily};
 
 use crate::Fault;
+
+/// Over a lively wire fewer waits than this follow one another with no byte moved between.
+pub const MOST_IDLE: u64 = 1000;
 
 /// What a send or a receive did.
 #[derive(Clone, Copy, Debug, PartialEq, Eq)]
@@ -72,14 +75,21 @@ pub trait Wire {
 
     /// Waits until an open link or the door may be ready, and says which.
     ///
-    /// `Failed` where the time for it is over, or nothing can become ready. After an error each link
-    /// is as before.
+    /// `Failed` where the time for it is over, or nothing can become ready: a fault of the door. After an
+    /// error each link is as before.
     fn wait(&mut self) -> Result<Ready, Fault>
         ensures ok { IfOk result (λ answer. Wakes answer (state self.old) (state self.new)) }
         ensures err { OnErr result (GivesNone (state self.old) (state self.new)) }
         ensures only { OnlyWaits (state self.old) (state self.new) }
         ensures cause { HasCause (state self.old).faults (state self.new).faults result }
+        ensures door { HasCause (state self.old).door.faults (state self.new).door.faults result }
         ensures steady { (state self.old).nature.steady ≡ true → WaitsSteadily (state self.old) (state self.new) result }
+        ensures allowed { SameAllowed (allows self.old) (allows self.new) };
+
+    /// Takes what is known of readiness without waiting, so that a link or the door that became ready
+    /// is served in the next calls. Nothing that is told changes.
+    fn look(&mut self)
+        ensures same { SameWire (state self.old) (state self.new) }
         ensures allowed { SameAllowed (allows self.old) (allows self.new) };
 
     /// How many waits succeeded, one after another, since a byte last moved, a receive answered
@@ -99,7 +109,7 @@ pub trait Wire {
     /// What a dialled link owes is allowed.
     ghost owed_is_allowed: { (wire : Self) (k : ℕ) → OwesAllowed (allows wire) ((state wire).links k) };
 
-    /// Over a lively wire fewer than 1000 waits follow one another.
+    /// Over a lively wire fewer than `MOST_IDLE` waits follow one another.
     ghost is_lively: { (wire : Self) → IsLively (state wire) };
 }
 
@@ -122,26 +132,30 @@ pub trait Dial: Wire {
 pub trait Accept: Wire {
     /// Opens the door, which is the listener, at a host and a port of this machine.
     ///
-    /// `Failed` where it can't be opened. After an error it is as before.
+    /// `Failed` where it can't be opened, which is a fault of the door. Each call counts, and after an
+    /// error the door is where it was.
     fn listen(&mut self, host: &str, port: u16) -> Result<(), Fault>
         ensures ok { OnOk result (Opens host.now port (Self.state self.old) (Self.state self.new)) }
         ensures err { OnErr result (LeavesDoor (Self.state self.old) (Self.state self.new)) }
         ensures only { OnlyListens (Self.state self.old) (Self.state self.new) }
         ensures cause { HasCause (Self.state self.old).faults (Self.state self.new).faults result }
+        ensures door { HasCause (Self.state self.old).door.faults (Self.state self.new).door.faults result }
         ensures steady { (Self.state self.old).nature.steady ≡ true → ServesSteadily (Self.state self.old) (Self.state self.new) result }
         ensures allowed { SameAllowed (Self.allows self.old) (Self.allows self.new) };
 
     /// Accepts a connection that waits at the door and gives its number, or `None` where none waits.
     ///
-    /// `Failed` where that can't be found out, or no number is left. After an error no link was given.
+    /// `Failed` where that can't be found out, or no number is left, which is a fault of the door. After
+    /// an error no link was given.
     fn accept(&mut self) -> Result<Option<u64>, Fault>
         requires { listens (Self.state self.old) ≡ true }
         ensures given { IfOk result (λ link. IfSome link (λ number. GivesAccepted number (Self.state self.old) (Self.state self.new))) }
         ensures none { IfOk result (λ link. IfNone link (GivesNone (Self.state self.old) (Self.state self.new))) }
-        ensures stalled { IfOk result (λ link. IfNone link (Rose (Self.state self.old).door_stalls (Self.state self.new).door_stalls)) }
+        ensures stalled { IfOk result (λ link. IfNone link (Rose (Self.state self.old).door.stalls (Self.state self.new).door.stalls)) }
         ensures err { OnErr result (GivesNone (Self.state self.old) (Self.state self.new)) }
         ensures only { OnlyAccepts (Self.state self.old) (Self.state self.new) }
         ensures cause { HasCause (Self.state self.old).faults (Self.state self.new).faults result }
+        ensures door { HasCause (Self.state self.old).door.faults (Self.state self.new).door.faults result }
         ensures steady { (Self.state self.old).nature.steady ≡ true → ServesSteadily (Self.state self.old) (Self.state self.new) result }
         ensures allowed { SameAllowed (Self.allows self.old) (Self.allows self.new) };
 }

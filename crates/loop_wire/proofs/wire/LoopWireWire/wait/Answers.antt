@@ -16,14 +16,14 @@ invariant_of-self-2 g c = (
 pub invariant_of-self-in_default : goal.invariant_of-self-in_default
 invariant_of-self-in_default g c = (
   c.self.invariant.0,
-  due_provoked c.self.inside.failures c.is_next_due.new.self c.fail-in_default.new.self _ c.self.inside.provoked c.saturating_add-self-inside-in_default.result c.is_next_due.ensures.counts c.fail-in_default.ensures.counts c.saturating_add-self-inside-in_default.ensures c.self.invariant.1,
+  due_provoked c.self.inside.failures c.is_next_due.new.self c.fail-in_default.new.self _ c.self.inside.provoked _ c.is_next_due.ensures.counts c.fail-in_default.ensures.counts c.saturating_add-self-inside.ensures c.self.invariant.1,
 )
 
 pub returns-clause-ok : goal.returns-clause-ok
 returns-clause-ok g c =
     let owes : List ℕ → List ℕ = g.C.RespondsAt.response_at (g.C.Server.Serves.serving c.self.inside.server) in
     let below : c.in-Some.k < length (held_of c.self.inside.links.items) = omega (arith, c.in-Some.ensures.found.0, ap length c.deref.ensures.value, length_held c.self.inside.links.items) in
-    rw (← c.self.view_is) (wakes_as owes c.in-Some.k (held_of c.self.inside.links.items) _ c.self.inside.failures c.is_next_due.new.self c.self.inside.provoked c.self.inside.waits c.saturating_add-self-inside.result c.self.inside.woke below
+    rw (← c.self.view_is) (wakes_as owes c.in-Some.k (held_of c.self.inside.links.items) _ c.self.inside.failures c.is_next_due.new.self c.self.inside.provoked c.self.inside.waits c.count.new.self c.self.inside.woke below
     (ripe_along c.self.inside.links.items c.deref.result.now c.in-Some.k c.deref.ensures.value c.in-Some.ensures.found.1)
     (is_held_at _ _ _ _ _ _ c.self.invariant.0.kept below)
     (held_put_by woken_now _ _ c.deref_mut.result.now _ _ c.deref_mut.ensures.value c.wake.auto.links c.deref_mut.ensures.len c.wake.ensures.held) c.in-Some.ensures.first)
@@ -39,6 +39,6 @@ pub returns-clause-steady : goal.returns-clause-steady
 returns-clause-steady g c = λ steady.
     let owes : List ℕ → List ℕ = g.C.RespondsAt.response_at (g.C.Server.Serves.serving c.self.inside.server) in
     let below : c.in-Some.k < length (held_of c.self.inside.links.items) = omega (arith, c.in-Some.ensures.found.0, ap length c.deref.ensures.value, length_held c.self.inside.links.items) in
-    rw (← c.self.view_is) (waits_found owes c.in-Some.k (held_of c.self.inside.links.items) _ c.self.inside.failures c.is_next_due.new.self c.self.inside.provoked c.self.inside.waits c.saturating_add-self-inside.result c.self.inside.woke true
+    rw (← c.self.view_is) (waits_found owes c.in-Some.k (held_of c.self.inside.links.items) _ c.self.inside.failures c.is_next_due.new.self c.self.inside.provoked c.self.inside.waits c.count.new.self c.self.inside.woke true
     (ripe_along c.self.inside.links.items c.deref.result.now c.in-Some.k c.deref.ensures.value c.in-Some.ensures.found.1)
     (is_held_at _ _ _ _ _ _ c.self.invariant.0.kept below) (counts_fine c.self.inside.failures c.is_next_due.new.self _ c.is_next_due.ensures.counts).faults)

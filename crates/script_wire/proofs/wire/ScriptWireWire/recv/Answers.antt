@@ -37,7 +37,7 @@ returns-in-Moved-clause-receives c =
     let room_for = room c.is_next_due.new.self.failing c.args.self.now.moved (min (length c.args.to.now) (length (rest_at script held.place))) in
     let some = heard.bytes c.in-Moved.n refl in
     hears_bytes _ c.in-Moved.n (counted c.args.self.now.failures.calls) _ (rest_at script held.place) _ held c.receive-answer.new.self
-    (place_after script c.count_spoken-spoken.result room_for held.place) c.args.self.now.failures c.is_next_due.new.self _ _ _ _ (open_below _ _ c.requires.is_open) c.index_mut-2.ensures.value
+    (place_after script c.count_spoken-spoken.result room_for held.place) c.args.self.now.failures c.is_next_due.new.self _ _ _ (open_below _ _ c.requires.is_open) c.index_mut-2.ensures.value
     (after_as script c.count_spoken-spoken.result room_for held _ _ (heard.answer able) (heard.after able)) c.is_next_due.ensures.counts some.0 some.1 some.2
 
 pub returns-in-End-clause-receives : goal.returns-in-End-clause-receives
@@ -48,7 +48,7 @@ returns-in-End-clause-receives c =
     let held = c.index_mut-2.result.now in
     let room_for = room c.is_next_due.new.self.failing c.args.self.now.moved (min (length c.args.to.now) (length (rest_at script held.place))) in
     hears_end _ (counted c.args.self.now.failures.calls) _ (rest_at script held.place) _ held c.receive-answer.new.self
-    (place_after script c.count_spoken-spoken.result room_for held.place) c.args.self.now.failures c.is_next_due.new.self _ _ _ _ (open_below _ _ c.requires.is_open) c.index_mut-2.ensures.value
+    (place_after script c.count_spoken-spoken.result room_for held.place) c.args.self.now.failures c.is_next_due.new.self _ _ _ (open_below _ _ c.requires.is_open) c.index_mut-2.ensures.value
     (after_as script c.count_spoken-spoken.result room_for held _ _ (heard.answer able) (heard.after able)) c.is_next_due.ensures.counts
 
 pub returns-in-NotYet-clause-receives : goal.returns-in-NotYet-clause-receives
@@ -59,5 +59,5 @@ returns-in-NotYet-clause-receives c =
     let held = c.index_mut-2.result.now in
     let room_for = room c.is_next_due.new.self.failing c.args.self.now.moved (min (length c.args.to.now) (length (rest_at script held.place))) in
     hears_nothing _ (counted c.args.self.now.failures.calls) _ (rest_at script held.place) _ held c.receive-answer.new.self
-    (place_after script c.count_spoken-spoken.result room_for held.place) c.args.self.now.failures c.is_next_due.new.self _ _ _ _ (open_below _ _ c.requires.is_open) c.index_mut-2.ensures.value
+    (place_after script c.count_spoken-spoken.result room_for held.place) c.args.self.now.failures c.is_next_due.new.self _ _ _ (open_below _ _ c.requires.is_open) c.index_mut-2.ensures.value
     (after_as script c.count_spoken-spoken.result room_for held _ _ (heard.answer able) (heard.after able)) c.is_next_due.ensures.counts heard.later

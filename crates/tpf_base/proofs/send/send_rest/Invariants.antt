@@ -1,8 +1,8 @@
 -- The bytes were sent so far; where none were, the wire is as it was.
 use Rattle.std.proofs.Common.{◌≡◌, ◌-◌, length}
 use Rattle.tpf_base.specs.Links.{SameAllowed}
-use Rattle.link_calls.specs.Sending.{SendsFrom}
-use Rattle.link_calls.proofs.send_rest.Given as goal
+use Rattle.tpf_base.specs.Sending.{SendsFrom}
+use Rattle.tpf_base.proofs.send.send_rest.Given as goal
 
 abbrev pub invariant-loop-sent : goal.invariant-loop-sent
 invariant-loop-sent g l = record {

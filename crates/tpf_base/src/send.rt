@@ -1,22 +1,9 @@
-//! Calls on one open connection (a link) that belong together: sending bytes on from where that was left.
-//!
-//! A request is sent with as many polls as that takes, and each answer leads on:
-//!
-//! ```rust
-//! match send_rest(wire, link, self.request.as_slice(), &mut self.sent) {
-//!     Halt::Done => self.receive_reply(wire, buffer, link),
-//!     Halt::NotYet => Poll::Pending,
-//!     Halt::Failed => self.break_off(wire, link, ExchangeFault::Failed),
-//!     Halt::OutOfMemory => self.break_off(wire, link, ExchangeFault::OutOfMemory),
-//! }
-//! ```
-#![tactic(auto)]
-
+// Sending bytes on an open link, with as many calls as that takes.
 ghost use Rattle.std.specs.Prelude.{ℕ, ◌≡◌, ◌≢◌, ◌≤◌, length, true};
 ghost use Rattle.tpf_base.specs.Links.{SameAllowed};
-ghost use Rattle.link_calls.specs.Sending.{FrontSent, SendsFrom, SendsEnd};
+ghost use Rattle.tpf_base.specs.Sending.{FrontSent, SendsFrom, SendsEnd};
 
-use tpf_base::{Moved, Wire};
+use crate::{Moved, Wire};
 
 /// How calls on a link came to an end.
 #[derive(Clone, Copy, Debug, PartialEq, Eq)]

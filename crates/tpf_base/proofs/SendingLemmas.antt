@@ -1,5 +1,5 @@
 -- Calls on a link, one after another.
-use Rattle.std.proofs.Common.{ℕ, ◌≡◌, ◌+◌, ◌<◌, ◌≤◌, ◌++◌, List, length, take, drop, Option, Some, None, Bool, true, false, refl, sym, ◌∙◌, ap, arith, append_assoc, length-drop, if◌then◌else◌, ◌-◌, ◌⊎◌, inl, inr}
+use Rattle.std.proofs.Common.{ℕ, ◌≡◌, ◌≢◌, ◌+◌, ◌<◌, ◌≤◌, ◌++◌, List, length, take, drop, Option, Some, None, Bool, true, false, refl, sym, ◌∙◌, ap, arith, append_assoc, length-drop, if◌then◌else◌, ◌-◌, ◌⊎◌, inl, inr}
 use Rattle.std.proofs.lemmas.Grind.{common_steps}
 use Rattle.std.proofs.lemmas.List.{take-append-drop, length-take-le}
 use Rattle.std.proofs.Math.Seq.{take-append-add}
@@ -9,7 +9,7 @@ use Rattle.tpf_base.specs.declared.wire.Moved.{Moved}
 use Rattle.tpf_base.specs.declared.wire.Moved.TheVariants as answers
 use Rattle.tpf_base.specs.Links.{Sending, WireState, SameAllowed}
 use Rattle.tpf_base.specs.Calls.{OnlyOn, Sends}
-use Rattle.link_calls.specs.Sending.{Holds, CallsOn, SendsFrom, FrontSent}
+use Rattle.tpf_base.specs.Sending.{Holds, CallsOn, SendsFrom, FrontSent}
 
 pub only_then : (k : ℕ) (a b c : WireState) → OnlyOn k a b → OnlyOn k b c → OnlyOn k a c
 only_then k a b c p q = record {
@@ -20,7 +20,6 @@ only_then k a b c p q = record {
   dials = q.dials ∙ p.dials;
   waits = q.waits ∙ p.waits;
   door = q.door ∙ p.door;
-  door_stalls = q.door_stalls ∙ p.door_stalls;
   nature = q.nature ∙ p.nature;
 }
 
@@ -33,7 +32,6 @@ only_same k a = record {
   dials = refl;
   waits = refl;
   door = refl;
-  door_stalls = refl;
   nature = refl;
 }
 
@@ -111,6 +109,7 @@ sends_none k request n a h = record {
   within = h;
   sent_is = λ s t. t;
   moved = λ l. absurd (omega (arith, l));
+  unfailed = refl;
 }
 
 -- one more send moved n bytes
@@ -127,12 +126,13 @@ sends_more k request piece from mid n a b c e p s =
       within = let w = p.within in omega (arith, fits, w, length-drop mid request);
       sent_is = λ before h. sent_more before request piece mid n (b.links k).sent (c.links k).sent e p.within m.2 (p.sent_is before h);
       moved = λ l. m.3;
+      unfailed = s.unfailed (λ same. absurd cc) ∙ p.unfailed;
     }
 
 -- it did not move: the sends end where they were
 pub sends_stop : (k : ℕ) (request piece : List ℕ) (from mid : ℕ) (a b c : WireState) (answer : Moved)
-    → SendsFrom k request from mid a b → Sends k piece b c answer → (c.links k).sent ≡ (b.links k).sent → c.idle ≡ b.idle → SendsFrom k request from mid a c
-sends_stop k request piece from mid a b c answer p s e i = record {
+    → SendsFrom k request from mid a b → Sends k piece b c answer → answer ≢ answers.Failed → (c.links k).sent ≡ (b.links k).sent → c.idle ≡ b.idle → SendsFrom k request from mid a c
+sends_stop k request piece from mid a b c answer p s able e i = record {
   calls = calls_then k a b c p.calls (sends_call k piece b c answer s);
   received = s.received ∙ p.received;
   ended = s.ended ∙ p.ended;
@@ -140,6 +140,7 @@ sends_stop k request piece from mid a b c answer p s e i = record {
   within = p.within;
   sent_is = λ before h. holds_same _ _ _ e (p.sent_is before h);
   moved = λ l. i ∙ p.moved l;
+  unfailed = s.unfailed able ∙ p.unfailed;
 }
 
 -- what stands behind a place is as long as that

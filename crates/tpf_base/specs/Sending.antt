@@ -3,8 +3,8 @@ use Rattle.std.specs.Prelude.{ℕ, ◌≡◌, ◌<◌, ◌≤◌, List, ◌++◌
 use Rattle.tpf_base.specs.Causes.{Rose}
 use Rattle.tpf_base.specs.Links.{Sending, WireState}
 use Rattle.tpf_base.specs.Calls.{OnlyOn}
-use Rattle.link_calls.specs.declared.Halt.{Halt}
-use Rattle.link_calls.specs.declared.Halt.TheVariants.{Done, NotYet, Failed, OutOfMemory}
+use Rattle.tpf_base.specs.declared.send.Halt.{Halt}
+use Rattle.tpf_base.specs.declared.send.Halt.TheVariants.{Done, NotYet, Failed, OutOfMemory}
 
 -- where it is told, it is this
 abbrev pub Holds : {T : Type 0} → Option T → T → Type 0
@@ -36,6 +36,7 @@ pub record SendsFrom (k : ℕ) (bytes : List ℕ) (from to : ℕ) (old new : Wir
   pub within : to ≤ length bytes
   pub sent_is : (s : List ℕ) → Holds (old.links k).sent (s ++ take from bytes) → Holds (new.links k).sent (s ++ take to bytes)
   pub moved : from < to → new.idle ≡ 0
+  pub unfailed : new.faults ≡ old.faults
 
 -- Whatever happened, the bytes up to some place were sent.
 pub record FrontSent (k : ℕ) (bytes : List ℕ) (from : ℕ) (old new : WireState) : Type 0 where

@@ -1,7 +1,7 @@
 -- Each send goes on from what was sent before.
 use Rattle.std.proofs.Common.{refl, arith, ap}
-use Rattle.link_calls.proofs.SendingLemmas.{front_of, front_failed, moved_fits, sends_more, sends_stop, rest_is, stopped_idle, woken_moved, stopped_rose, allowed_then, send_not_due, failed_rose}
-use Rattle.link_calls.proofs.send_rest.Goals as goal
+use Rattle.tpf_base.proofs.SendingLemmas.{front_of, front_failed, moved_fits, sends_more, sends_stop, rest_is, stopped_idle, woken_moved, stopped_rose, allowed_then, send_not_due, failed_rose}
+use Rattle.tpf_base.proofs.send.send_rest.Goals as goal
 
 pub loop-sent-preserved : goal.loop-sent-preserved
 loop-sent-preserved g c = record {
@@ -17,7 +17,7 @@ pub loop-sent-smaller : goal.loop-sent-smaller
 loop-sent-smaller g c = let f = moved_fits _ c.args.bytes.now c.loop-sent.sent c.in-Moved.n _ _ c.in-Moved.ensures.sends c.loop-sent.invariant.sends.within in omega (arith, f.0, f.1)
 
 pub returns-in-NotYet-clause-sends : goal.returns-in-NotYet-clause-sends
-returns-in-NotYet-clause-sends g c = λ h. sends_stop _ _ _ _ _ _ _ _ _ c.loop-sent.invariant.sends c.in-NotYet.ensures.sends (stopped_idle _ _ _ _ c.in-NotYet.ensures.sends).0 (stopped_idle _ _ _ _ c.in-NotYet.ensures.sends).1
+returns-in-NotYet-clause-sends g c = λ h. sends_stop _ _ _ _ _ _ _ _ _ c.loop-sent.invariant.sends c.in-NotYet.ensures.sends (λ same. absurd cc) (stopped_idle _ _ _ _ c.in-NotYet.ensures.sends).0 (stopped_idle _ _ _ _ c.in-NotYet.ensures.sends).1
 
 pub returns-in-NotYet-clause-end_ : goal.returns-in-NotYet-clause-end_
 returns-in-NotYet-clause-end_ g c = (
@@ -30,14 +30,14 @@ returns-in-NotYet-clause-end_ g c = (
 
 pub returns-in-OutOfMemory-clause-sends : goal.returns-in-OutOfMemory-clause-sends
 returns-in-OutOfMemory-clause-sends g c = λ h. let m = c.in-OutOfMemory.ensures.sends.memory refl in
-    sends_stop _ _ _ _ _ _ _ _ _ c.loop-sent.invariant.sends c.in-OutOfMemory.ensures.sends (ap (λ l. l.sent) (m.links c.args.link)) m.idle
+    sends_stop _ _ _ _ _ _ _ _ _ c.loop-sent.invariant.sends c.in-OutOfMemory.ensures.sends (λ same. absurd cc) (ap (λ l. l.sent) (m.links c.args.link)) m.idle
 
 pub returns-in-NotYet-clause-front : goal.returns-in-NotYet-clause-front
-returns-in-NotYet-clause-front g c = front_of _ _ _ _ _ _ (sends_stop _ _ _ _ _ _ _ _ _ c.loop-sent.invariant.sends c.in-NotYet.ensures.sends (stopped_idle _ _ _ _ c.in-NotYet.ensures.sends).0 (stopped_idle _ _ _ _ c.in-NotYet.ensures.sends).1)
+returns-in-NotYet-clause-front g c = front_of _ _ _ _ _ _ (sends_stop _ _ _ _ _ _ _ _ _ c.loop-sent.invariant.sends c.in-NotYet.ensures.sends (λ same. absurd cc) (stopped_idle _ _ _ _ c.in-NotYet.ensures.sends).0 (stopped_idle _ _ _ _ c.in-NotYet.ensures.sends).1)
 
 pub returns-in-OutOfMemory-clause-front : goal.returns-in-OutOfMemory-clause-front
 returns-in-OutOfMemory-clause-front g c = let m = c.in-OutOfMemory.ensures.sends.memory refl in
-    front_of _ _ _ _ _ _ (sends_stop _ _ _ _ _ _ _ _ _ c.loop-sent.invariant.sends c.in-OutOfMemory.ensures.sends (ap (λ l. l.sent) (m.links c.args.link)) m.idle)
+    front_of _ _ _ _ _ _ (sends_stop _ _ _ _ _ _ _ _ _ c.loop-sent.invariant.sends c.in-OutOfMemory.ensures.sends (λ same. absurd cc) (ap (λ l. l.sent) (m.links c.args.link)) m.idle)
 
 pub returns-in-Failed-clause-front : goal.returns-in-Failed-clause-front
 returns-in-Failed-clause-front g c = front_failed _ _ _ _ _ _ _ _ (rest_is c.args.bytes.now c.loop-sent.sent) c.loop-sent.invariant.sends c.in-Failed.ensures.sends
