@@ -6,7 +6,7 @@ ghost use Rattle.bgp_core.specs.Instances.{slot, instance};
 use crate::{Part, Pattern, Row};
 use rdf_terms::{Slot, Slots, Term};
 use std::alloc::Global;
-use tpf_base::OutOfMemory;
+use text_base::OutOfMemory;
 
 fn slot(alloc: Global, part: &Part, row: &Row) -> Result<Slot, OutOfMemory>
     ensures { IfOk result (λ s. s ≡ slot row.now part.now) }

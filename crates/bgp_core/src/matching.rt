@@ -10,7 +10,7 @@ ghost use Rattle.bgp_core.specs.Fits.{allows, agree, fits};
 use crate::{Part, Pattern, Row};
 use rdf_terms::{Term, Triple};
 use std::alloc::Global;
-use tpf_base::OutOfMemory;
+use text_base::OutOfMemory;
 
 /// Whether a row lets a part become a term.
 fn allows(part: &Part, term: &Term, row: &Row) -> bool

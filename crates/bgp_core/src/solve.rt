@@ -11,7 +11,7 @@ use crate::{Pattern, Query, Row, match_triple};
 use rdf_terms::Triple;
 use std::alloc::Global;
 use std::collections::BTreeSet;
-use tpf_base::OutOfMemory;
+use text_base::OutOfMemory;
 
 /// Adds a triple at the end, unless it was seen before.
 fn add_new<'a>(

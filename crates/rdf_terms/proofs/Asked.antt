@@ -1,6 +1,7 @@
 -- Slots that a server is asked for, and the others.
 use Rattle.std.proofs.Common.{◌≡◌, Bool, true, false, ◌&&◌, List, [], ◌∷◌, if◌then◌else◌, refl, sym, ◌∙◌, ap}
 use Rattle.std.specs.List.{AllByRecursion, filter}
+use Rattle.list_laws.proofs.Tests.{and_first, and_second}
 use Rattle.rdf_terms.specs.declared.term.Term.{Term}
 use Rattle.rdf_terms.specs.declared.term.Term.TheVariants.{Iri, Blank, Literal}
 use Rattle.rdf_terms.specs.declared.term.Triple.{Triple}
@@ -14,14 +15,6 @@ use Rattle.rdf_terms.specs.Fragments.{sorted, fragment}
 use Rattle.rdf_terms.specs.Valid.{IsValidTerm, IsNotBlank}
 use Rattle.rdf_terms.specs.Kept.{IsValidSlot, IsKeptTerm, IsKeptSlot, AreValid, AreKept}
 use Rattle.rdf_terms.specs.Askable.{is_iri_term, is_iri_or_literal, slot_allows, askable, AskableAreKept, UnaskedMatchNothing}
-
-and_left : (a b : Bool) → a && b ≡ true → a ≡ true
-and_left true b h = refl
-and_left false b h = h
-
-and_right : (a b : Bool) → a && b ≡ true → b ≡ true
-and_right true b h = h
-and_right false b h = absurd (cc)
 
 -- ---- kept slots
 
@@ -41,12 +34,12 @@ kept_slot test rule (Fixed term) is valid = record { not_blank = rule term is; v
 
 pub askable_are_kept : AskableAreKept
 askable_are_kept slots is valid =
-    let subject = and_left (slot_allows is_iri_term slots.subject) _ is in
-    let behind = and_right (slot_allows is_iri_term slots.subject) _ is in
+    let subject = and_first (slot_allows is_iri_term slots.subject) _ is in
+    let behind = and_second (slot_allows is_iri_term slots.subject) _ is in
     record {
       subject = kept_slot is_iri_term iri_not_blank slots.subject subject valid.subject;
-      predicate = kept_slot is_iri_term iri_not_blank slots.predicate (and_left (slot_allows is_iri_term slots.predicate) _ behind) valid.predicate;
-      object = kept_slot is_iri_or_literal object_not_blank slots.object (and_right (slot_allows is_iri_term slots.predicate) _ behind) valid.object;
+      predicate = kept_slot is_iri_term iri_not_blank slots.predicate (and_first (slot_allows is_iri_term slots.predicate) _ behind) valid.predicate;
+      object = kept_slot is_iri_or_literal object_not_blank slots.object (and_second (slot_allows is_iri_term slots.predicate) _ behind) valid.object;
     }
 
 -- ---- other slots
@@ -78,11 +71,11 @@ all_three a b c p q r = rw (p, q, r) refl
 
 matched : (slots : Slots) (t : Triple) → matches slots t ≡ true → IsGroundTriple t → askable slots ≡ true
 matched slots t same ground =
-    let behind = and_right (matches_slot slots.subject t.subject) _ same in
+    let behind = and_second (matches_slot slots.subject t.subject) _ same in
     all_three (slot_allows is_iri_term slots.subject) (slot_allows is_iri_term slots.predicate) (slot_allows is_iri_or_literal slots.object)
-    (slot_matched IsIri is_iri_term iri_allows slots.subject t.subject (and_left (matches_slot slots.subject t.subject) _ same) ground.subject)
-    (slot_matched IsIri is_iri_term iri_allows slots.predicate t.predicate (and_left (matches_slot slots.predicate t.predicate) _ behind) ground.predicate)
-    (slot_matched IsIriOrLiteral is_iri_or_literal object_allows slots.object t.object (and_right (matches_slot slots.predicate t.predicate) _ behind) ground.object)
+    (slot_matched IsIri is_iri_term iri_allows slots.subject t.subject (and_first (matches_slot slots.subject t.subject) _ same) ground.subject)
+    (slot_matched IsIri is_iri_term iri_allows slots.predicate t.predicate (and_first (matches_slot slots.predicate t.predicate) _ behind) ground.predicate)
+    (slot_matched IsIriOrLiteral is_iri_or_literal object_allows slots.object t.object (and_second (matches_slot slots.predicate t.predicate) _ behind) ground.object)
 
 unmatched : (slots : Slots) (t : Triple) → askable slots ≡ false → IsGroundTriple t → matches slots t ≡ false
 unmatched slots t barred ground =

@@ -5,23 +5,19 @@ use Rattle.std.proofs.Math.Seq.{take-append_seam}
 use Rattle.std.specs.Map.{lookup}
 use Rattle.std.specs.Ordering.{is_eq}
 use Rattle.std.specs.Cmp.{Equal-is}
+use Rattle.list_laws.proofs.Options.{none_not_some, some_same}
+use Rattle.list_laws.proofs.Tests.{not_both_ways}
 use Rattle.rdf_terms.specs.declared.term.Term.{Term}
 use Rattle.rdf_terms.specs.Order.{term_order}
 use Rattle.rdf_terms.specs.OrderLaws.{term_equal}
 use Rattle.rdf_terms.specs.Book.{Finds}
 use Rattle.rdf_terms.specs.Index.{IsIndex}
 
-same_some : {X : Type 0} (x y : X) → Some x ≡ Some y → x ≡ y
-same_some x y e = cc
-
-none_some : {X : Type 0} (x : X) → None ≡ Some x → ⊥
-none_some x e = cc
-
 -- ---- places in a list with one more element
 
 pushed : (xs : List Term) (x t : Term) (id : ℕ) → slice_get (xs ++ x ∷ []) id ≡ Some t → (slice_get xs id ≡ Some t) ⊎ ((length xs ≡ id) × (x ≡ t))
-pushed [] x t zero h = inr (refl, same_some x t h)
-pushed [] x t (suc i) h = absurd (none_some t h)
+pushed [] x t zero h = inr (refl, some_same h)
+pushed [] x t (suc i) h = absurd (none_not_some h)
 pushed (y ∷ ys) x t zero h = inl h
 pushed (y ∷ ys) x t (suc i) h = more (pushed ys x t i h)
   where
@@ -34,7 +30,7 @@ at_end [] x = refl
 at_end (y ∷ ys) x = at_end ys x
 
 before_end : (xs : List Term) (x t : Term) (id : ℕ) → slice_get xs id ≡ Some t → slice_get (xs ++ x ∷ []) id ≡ Some t
-before_end [] x t id h = absurd (none_some t h)
+before_end [] x t id h = absurd (none_not_some h)
 before_end (y ∷ ys) x t zero h = h
 before_end (y ∷ ys) x t (suc i) h = before_end ys x t i h
 
@@ -45,14 +41,14 @@ finds_new : (xs : List Term) (x t : Term) (found : Option ℕ) → Finds xs x No
 finds_new xs x t found absent e f id = (there, back)
   where
     by_place : (slice_get xs id ≡ Some t) ⊎ ((length xs ≡ id) × (x ≡ t)) → found ≡ Some id
-    by_place (inl h) = absurd (none_some id ((absent id).0 (h ∙ ap (λ (u : Term). Some u) (sym e))))
+    by_place (inl h) = absurd (none_not_some ((absent id).0 (h ∙ ap (λ (u : Term). Some u) (sym e))))
     by_place (inr p) = f ∙ ap (λ (n : ℕ). Some n) p.0
 
     there : slice_get (xs ++ x ∷ []) id ≡ Some t → found ≡ Some id
     there h = by_place (pushed xs x t id h)
 
     back : found ≡ Some id → slice_get (xs ++ x ∷ []) id ≡ Some t
-    back h = ap (λ (n : ℕ). slice_get (xs ++ x ∷ []) n) (sym (same_some (length xs) id (sym f ∙ h))) ∙ at_end xs x ∙ ap (λ (u : Term). Some u) e
+    back h = ap (λ (n : ℕ). slice_get (xs ++ x ∷ []) n) (sym (some_same (sym f ∙ h))) ∙ at_end xs x ∙ ap (λ (u : Term). Some u) e
 
 -- of another term
 finds_old : (xs : List Term) (x t : Term) (found : Option ℕ) → (x ≡ t → ⊥) → Finds xs t found → Finds (xs ++ x ∷ []) t found
@@ -65,15 +61,11 @@ finds_old xs x t found differ finds id = (there, λ h. before_end xs x t id ((fi
     there : slice_get (xs ++ x ∷ []) id ≡ Some t → found ≡ Some id
     there h = by_place (pushed xs x t id h)
 
-not_both : (b : Bool) → b ≡ true → b ≡ false → ⊥
-not_both true e f = cc
-not_both false e f = cc
-
 -- whether t is the added term, by the order
 by_tie : (tie : Bool) (xs : List Term) (x t : Term) (found old : Option ℕ) → is_eq (term_order x t) ≡ tie → Finds xs x None → Finds xs t old → found ≡ cond tie (Some (length xs)) old → Finds (xs ++ x ∷ []) t found
 by_tie true xs x t found old h absent finds f = finds_new xs x t found absent ((term_equal x t).0 ((Equal-is (term_order x t)).0 h)) f
 by_tie false xs x t found old h absent finds f =
-    finds_old xs x t found (λ e. not_both (is_eq (term_order x t)) ((Equal-is (term_order x t)).1 ((term_equal x t).1 e)) h) (subst (λ (o : Option ℕ). Finds xs t o) (sym f) finds)
+    finds_old xs x t found (λ e. not_both_ways (is_eq (term_order x t)) ((Equal-is (term_order x t)).1 ((term_equal x t).1 e)) h) (subst (λ (o : Option ℕ). Finds xs t o) (sym f) finds)
 
 index_with : (xs : List Term) (x : Term) (m n : BTreeMap Term ℕ) → IsIndex xs m → Finds xs x None → Updates term_order m n x (Some (length xs)) → IsIndex (xs ++ x ∷ []) n
 index_with xs x m n index absent updates t = by_tie (is_eq (term_order x t)) xs x t (get term_order n t) (get term_order m t) refl absent (index t) (updates.0 t)

@@ -4,16 +4,20 @@ use Rattle.std.specs.Bool.{Decides}
 use Rattle.std.specs.List.{AllByRecursion, Contains, filter}
 use Rattle.std.specs.List.Sorted.{IsStrictlySortedBy}
 use Rattle.std.specs.Cmp.{IsTotalOrder}
-use Rattle.std.proofs.lemmas.Cmp.{on_total, then_total, tied_itself}
+use Rattle.std.proofs.lemmas.Bool.{false≢true}
+use Rattle.std.proofs.lemmas.Cmp.{on_total, then_total}
 use Rattle.std.specs.declared.cmp.Ordering.{Ordering}
 use Rattle.std.specs.declared.cmp.Ordering.TheVariants.{Less, Equal, Greater}
 use Rattle.std.specs.Ordering.{ordering_reverse, ordering_then}
+use Rattle.list_laws.proofs.Ascending.{then_three}
+use Rattle.list_laws.proofs.Members.{all_from, in_filter, from_filter, passed_filter}
+use Rattle.list_laws.proofs.Told.{all_in, one_list}
 use Rattle.rdf_terms.specs.declared.term.Term.{Term}
 use Rattle.rdf_terms.specs.declared.term.Triple.{Triple}
 use Rattle.rdf_terms.specs.declared.slots.Slot.{Slot}
 use Rattle.rdf_terms.specs.declared.slots.Slot.TheVariants.{Any, Fixed}
 use Rattle.rdf_terms.specs.declared.slots.Slots.{Slots}
-use Rattle.rdf_terms.specs.EqualityLaws.{term_decides}
+use Rattle.rdf_terms.specs.EqualityLaws.{term_decides, same_triple}
 use Rattle.rdf_terms.specs.Order.{term_order}
 use Rattle.rdf_terms.specs.OrderLaws.{term_total, term_equal, triple_total, triple_equal}
 use Rattle.rdf_terms.specs.Slots.{MatchesSlot, Matches, matches_slot, matches, pos_order, osp_order, is_fixed, order_by, order_of}
@@ -41,48 +45,15 @@ contains [] t h = absurd h
 contains (x ∷ xs) t (inl e) = (zero, omega arith, e)
 contains (x ∷ xs) t (inr h) = let c = contains xs t h in (suc c.0, omega (arith, c.1), c.2)
 
-all_in : (P : Triple → Type 0) (xs : List Triple) (t : Triple) → AllByRecursion P xs → IsIn t xs → P t
-all_in P [] t a h = absurd h
-all_in P (x ∷ xs) t a (inl e) = subst P e a.0
-all_in P (x ∷ xs) t a (inr h) = all_in P xs t a.1 h
+holds_in : (P : Triple → Type 0) (xs : List Triple) (t : Triple) → AllByRecursion P xs → IsIn t xs → P t
+holds_in P xs t a h = all_in P xs t a (contains xs t h)
 
-all_from : (P : Triple → Type 0) (xs : List Triple) → ((t : Triple) → IsIn t xs → P t) → AllByRecursion P xs
-all_from P [] f = tt
-all_from P (x ∷ xs) f = (f x (inl refl), all_from P xs (λ t h. f t (inr h)))
-
-less_greater : Less ≡ Greater → ⊥
-less_greater e = cc
-
-less_equal : Less ≡ Equal → ⊥
-less_equal e = cc
-
-cons_same : (x y : Triple) (xs ys : List Triple) → x ≡ y → xs ≡ ys → x ∷ xs ≡ y ∷ ys
-cons_same x y xs ys e f = cc
+holds_from : (P : Triple → Type 0) (xs : List Triple) → ((t : Triple) → IsIn t xs → P t) → AllByRecursion P xs
+holds_from P xs f = all_from P xs (λ t c. f t (is_in xs t c))
 
 -- ---- under an order that tells triples apart
 
 module _ (R : Triple → Triple → Ordering) (o : IsTotalOrder R) (tells : (a b : Triple) → R a b ≡ Equal → a ≡ b) where
-  -- the first elements of two such lists with the same elements
-  heads : (x y : Triple) (xs ys : List Triple) → AllByRecursion (λ t. R x t ≡ Less) xs → AllByRecursion (λ t. R y t ≡ Less) ys → (y ≡ x) ⊎ IsIn x ys → (x ≡ y) ⊎ IsIn y xs → x ≡ y
-  heads x y xs ys a b (inl e) k = sym e
-  heads x y xs ys a b (inr h) (inl e) = e
-  heads x y xs ys a b (inr h) (inr k) =
-      absurd (less_greater (sym (all_in (λ t. R x t ≡ Less) xs y a k) ∙ o.antisymm x y ∙ ap ordering_reverse (all_in (λ t. R y t ≡ Less) ys x b h)))
-
-  -- an element of the one list's rest stands in the other's rest
-  rest : (x y t : Triple) (xs ys : List Triple) → AllByRecursion (λ u. R x u ≡ Less) xs → x ≡ y → IsIn t xs → (y ≡ t) ⊎ IsIn t ys → IsIn t ys
-  rest x y t xs ys a e h (inl k) = absurd (less_equal (sym (all_in (λ u. R x u ≡ Less) xs t a h) ∙ ap (λ (u : Triple). R x u) (sym (e ∙ k)) ∙ tied_itself o x))
-  rest x y t xs ys a e h (inr k) = k
-
-  one_list : (xs ys : List Triple) → IsStrictlySortedBy R xs → IsStrictlySortedBy R ys → ((t : Triple) → IsIn t xs → IsIn t ys) → ((t : Triple) → IsIn t ys → IsIn t xs) → xs ≡ ys
-  unfolding IsStrictlySortedBy
-  one_list [] [] s u f g = refl
-  one_list [] (y ∷ ys) s u f g = absurd (g y (inl refl))
-  one_list (x ∷ xs) [] s u f g = absurd (f x (inl refl))
-  one_list (x ∷ xs) (y ∷ ys) s u f g =
-      let e = heads x y xs ys s.0 u.0 (f x (inl refl)) (g y (inl refl)) in
-      cons_same x y xs ys e (one_list xs ys s.1 u.1 (λ t h. rest x y t xs ys s.0 e h (f t (inr h))) (λ t h. rest y x t ys xs u.0 (sym e) h (g t (inr h))))
-
   put_in : (x : Triple) (xs : List Triple) (t : Triple) → IsIn t (put R x xs) → (x ≡ t) ⊎ IsIn t xs
   put_in x [] t h = h
   put_in x (y ∷ ys) t h = by_order (put_in x ys t) (R x y) h
@@ -125,14 +96,14 @@ module _ (R : Triple → Triple → Ordering) (o : IsTotalOrder R) (tells : (a b
     where
       later : (t : Triple) → R y x ≡ Less → (x ≡ t) ⊎ IsIn t ys → R y t ≡ Less
       later t e (inl k) = subst (λ (u : Triple). R y u ≡ Less) k e
-      later t e (inr k) = all_in (λ u. R y u ≡ Less) ys t s.0 k
+      later t e (inr k) = holds_in (λ u. R y u ≡ Less) ys t s.0 k
 
       by_order : IsStrictlySortedBy R (put R x ys) → (r : Ordering) → R x y ≡ r → IsStrictlySortedBy R (put_by r x y ys (put R x ys))
-      by_order again Less e = ((e, all_from (λ u. R x u ≡ Less) ys (λ t h. o.trans x y t e (all_in (λ u. R y u ≡ Less) ys t s.0 h))), s)
+      by_order again Less e = ((e, holds_from (λ u. R x u ≡ Less) ys (λ t h. o.trans x y t e (holds_in (λ u. R y u ≡ Less) ys t s.0 h))), s)
       by_order again Equal e = s
       by_order again Greater e =
           let back : R y x ≡ Less = o.antisymm y x ∙ ap ordering_reverse e in
-          (all_from (λ u. R y u ≡ Less) (put R x ys) (λ t h. later t back (put_in x ys t h)), again)
+          (holds_from (λ u. R y u ≡ Less) (put R x ys) (λ t h. later t back (put_in x ys t h)), again)
 
   sorted_sorted : (xs : List Triple) → IsStrictlySortedBy R (sorted R xs)
   unfolding IsStrictlySortedBy
@@ -152,36 +123,6 @@ module _ (R : Triple → Triple → Ordering) (o : IsTotalOrder R) (tells : (a b
   sorted_has (x ∷ xs) t (inl e) = put_has x (sorted R xs) t (inl e)
   sorted_has (x ∷ xs) t (inr h) = put_has x (sorted R xs) t (inr (sorted_has xs t h))
 
--- ---- what a filter keeps
-
-false_true : false ≡ true → ⊥
-false_true e = cc
-
-filter_in : (p : Triple → Bool) (xs : List Triple) (t : Triple) → IsIn t (filter p xs) → IsIn t xs × (p t ≡ true)
-filter_in p [] t h = absurd h
-filter_in p (x ∷ xs) t h = by_test (filter_in p xs t) (p x) refl h
-  where
-    by_rest : IsIn t xs × (p t ≡ true) → IsIn t (x ∷ xs) × (p t ≡ true)
-    by_rest q = (inr q.0, q.1)
-
-    by_first : (IsIn t (filter p xs) → IsIn t xs × (p t ≡ true)) → p x ≡ true → (x ≡ t) ⊎ IsIn t (filter p xs) → IsIn t (x ∷ xs) × (p t ≡ true)
-    by_first again e (inl k) = (inl k, subst (λ (u : Triple). p u ≡ true) k e)
-    by_first again e (inr k) = by_rest (again k)
-
-    by_test : (IsIn t (filter p xs) → IsIn t xs × (p t ≡ true)) → (b : Bool) → p x ≡ b → IsIn t (cond b (x ∷ filter p xs) (filter p xs)) → IsIn t (x ∷ xs) × (p t ≡ true)
-    by_test again true e k = by_first again e k
-    by_test again false e k = by_rest (again k)
-
-filter_has : (p : Triple → Bool) (xs : List Triple) (t : Triple) → IsIn t xs → p t ≡ true → IsIn t (filter p xs)
-filter_has p [] t h q = absurd h
-filter_has p (x ∷ xs) t h q = by_test (λ k. filter_has p xs t k q) (p x) refl h
-  where
-    by_test : (IsIn t xs → IsIn t (filter p xs)) → (b : Bool) → p x ≡ b → (x ≡ t) ⊎ IsIn t xs → IsIn t (cond b (x ∷ filter p xs) (filter p xs))
-    by_test again true e (inl k) = inl k
-    by_test again true e (inr k) = inr (again k)
-    by_test again false e (inl k) = absurd (false_true (sym e ∙ ap p k ∙ q))
-    by_test again false e (inr k) = again k
-
 -- ---- the test of slots
 
 slot_decides : (s : Slot) (t : Term) → Decides (matches_slot s t) (MatchesSlot s t)
@@ -190,24 +131,16 @@ slot_decides (Fixed f) t = term_decides f t
 
 both : (s t : Bool) {P Q : Type 0} → Decides s P → Decides t Q → Decides (s && t) (P × Q)
 both true true d e = ((λ h. (d.0 refl, e.0 refl)), (λ h. refl))
-both true false d e = ((λ h. absurd (false_true h)), (λ h. e.1 h.1))
-both false t d e = ((λ h. absurd (false_true h)), (λ h. d.1 h.0))
+both true false d e = ((λ h. absurd (false≢true h)), (λ h. e.1 h.1))
+both false t d e = ((λ h. absurd (false≢true h)), (λ h. d.1 h.0))
 
-matches_decides : (slots : Slots) (t : Triple) → Decides (matches slots t) (Matches slots t)
+pub matches_decides : (slots : Slots) (t : Triple) → Decides (matches slots t) (Matches slots t)
 matches_decides slots t =
     let d = both (matches_slot slots.subject t.subject) (matches_slot slots.predicate t.predicate && matches_slot slots.object t.object) (slot_decides slots.subject t.subject)
     (both (matches_slot slots.predicate t.predicate) (matches_slot slots.object t.object) (slot_decides slots.predicate t.predicate) (slot_decides slots.object t.object)) in
     ((λ h. let q = d.0 h in record { subject = q.0; predicate = q.1.0; object = q.1.1 }), (λ m. d.1 (m.subject, (m.predicate, m.object))))
 
 -- ---- the orders of fragments
-
-then_equal : (r q : Ordering) → ordering_then r q ≡ Equal → (r ≡ Equal) × (q ≡ Equal)
-then_equal Less q e = cc
-then_equal Equal q e = (refl, e)
-then_equal Greater q e = cc
-
-same_triple : (a b : Triple) → a.subject ≡ b.subject → a.predicate ≡ b.predicate → a.object ≡ b.object → a ≡ b
-same_triple a b e f g = λ i. record { subject = e i; predicate = f i; object = g i }
 
 subjects_total : IsTotalOrder (λ (a b : Triple). term_order a.subject b.subject)
 subjects_total = on_total (λ (t : Triple). t.subject) term_total
@@ -224,17 +157,14 @@ pos_total = then_total predicates_total (then_total objects_total subjects_total
 osp_total : IsTotalOrder osp_order
 osp_total = then_total objects_total (then_total subjects_total predicates_total)
 
-three : (p q r : Ordering) → ordering_then p (ordering_then q r) ≡ Equal → (p ≡ Equal) × (q ≡ Equal) × (r ≡ Equal)
-three p q r h = let u = then_equal p (ordering_then q r) h in let v = then_equal q r u.1 in (u.0, v.0, v.1)
-
 pos_tells : (a b : Triple) → pos_order a b ≡ Equal → a ≡ b
 pos_tells a b h =
-    let u = three (term_order a.predicate b.predicate) (term_order a.object b.object) (term_order a.subject b.subject) h in
+    let u = then_three (term_order a.predicate b.predicate) (term_order a.object b.object) (term_order a.subject b.subject) h in
     same_triple a b ((term_equal a.subject b.subject).0 u.2) ((term_equal a.predicate b.predicate).0 u.0) ((term_equal a.object b.object).0 u.1)
 
 osp_tells : (a b : Triple) → osp_order a b ≡ Equal → a ≡ b
 osp_tells a b h =
-    let u = three (term_order a.object b.object) (term_order a.subject b.subject) (term_order a.predicate b.predicate) h in
+    let u = then_three (term_order a.object b.object) (term_order a.subject b.subject) (term_order a.predicate b.predicate) h in
     same_triple a b ((term_equal a.subject b.subject).0 u.1) ((term_equal a.predicate b.predicate).0 u.2) ((term_equal a.object b.object).0 u.0)
 
 by_total : (s p o : Bool) → IsTotalOrder (order_by s p o)
@@ -283,18 +213,16 @@ fragment_is triples slots = record { ascending = sorted_sorted R o tells found; 
 
     inside : (t : Triple) → Contains (sorted R found) t → Contains triples t × Matches slots t
     inside t c =
-        let q = filter_in (matches slots) triples t (sorted_in R o tells found t (is_in (sorted R found) t c)) in
-        (contains triples t q.0, (matches_decides slots t).0 q.1)
+        let kept = contains found t (sorted_in R o tells found t (is_in (sorted R found) t c)) in
+        (from_filter (matches slots) triples t kept, (matches_decides slots t).0 (passed_filter (matches slots) triples t kept))
 
     outside : (t : Triple) → Contains triples t × Matches slots t → Contains (sorted R found) t
-    outside t q = contains (sorted R found) t (sorted_has R o tells found t (filter_has (matches slots) triples t (is_in triples t q.0) ((matches_decides slots t).1 q.1)))
+    outside t q = contains (sorted R found) t (sorted_has R o tells found t (is_in found t (in_filter (matches slots) triples t ((matches_decides slots t).1 q.1) q.0)))
 
 -- two fragments of the same triples and slots
 pub fragments_same : (triples : List Triple) (slots : Slots) (xs ys : List Triple) → IsFragment triples slots xs → IsFragment triples slots ys → xs ≡ ys
 fragments_same triples slots xs ys f g =
-    one_list (order_of slots) (order_of_total slots) (order_of_tells slots) xs ys f.ascending g.ascending
-    (λ t h. is_in ys t ((g.members t).1 ((f.members t).0 (contains xs t h))))
-    (λ t h. is_in xs t ((f.members t).1 ((g.members t).0 (contains ys t h))))
+    one_list (order_of_total slots) xs ys f.ascending g.ascending (λ t h. (g.members t).1 ((f.members t).0 h)) (λ t h. (f.members t).1 ((g.members t).0 h))
 
 pub fragment_only : (triples : List Triple) (slots : Slots) (items : List Triple) → IsFragment triples slots items → items ≡ fragment triples slots
 fragment_only triples slots items f = fragments_same triples slots items (fragment triples slots) f (fragment_is triples slots)

@@ -16,10 +16,10 @@ both true true d e = ((λ h. (d.0 refl, e.0 refl)), (λ h. refl))
 both true false d e = ((λ h. cc), (λ h. e.1 h.1))
 both false t d e = ((λ h. cc), (λ h. d.1 h.0))
 
-same_typed : (a b : List ℕ) → Typed a ≡ Typed b → a ≡ b
+pub same_typed : (a b : List ℕ) → Typed a ≡ Typed b → a ≡ b
 same_typed a b e = cc
 
-same_tagged : (a b : List ℕ) → Tagged a ≡ Tagged b → a ≡ b
+pub same_tagged : (a b : List ℕ) → Tagged a ≡ Tagged b → a ≡ b
 same_tagged a b e = cc
 
 pub kind_decides : (a b : Kind) → Decides (kind_eq a b) (a ≡ b)
@@ -33,19 +33,19 @@ kind_decides (Tagged a) Plain = ((λ h. cc), (λ h. cc))
 kind_decides (Tagged a) (Typed b) = ((λ h. cc), (λ h. cc))
 kind_decides (Tagged a) (Tagged b) = let d = bytes_eq-Decides a b in ((λ h. ap (λ (t : List ℕ). Tagged t) (d.0 h)), (λ h. d.1 (same_tagged a b h)))
 
-same_iri : (a b : List ℕ) → Iri a ≡ Iri b → a ≡ b
+pub same_iri : (a b : List ℕ) → Iri a ≡ Iri b → a ≡ b
 same_iri a b e = cc
 
-same_blank : (a b : List ℕ) → Blank a ≡ Blank b → a ≡ b
+pub same_blank : (a b : List ℕ) → Blank a ≡ Blank b → a ≡ b
 same_blank a b e = cc
 
-same_form : (a b : List ℕ) (k l : Kind) → Literal a k ≡ Literal b l → a ≡ b
+pub same_form : (a b : List ℕ) (k l : Kind) → Literal a k ≡ Literal b l → a ≡ b
 same_form a b k l e = cc
 
-same_kind : (a b : List ℕ) (k l : Kind) → Literal a k ≡ Literal b l → k ≡ l
+pub same_kind : (a b : List ℕ) (k l : Kind) → Literal a k ≡ Literal b l → k ≡ l
 same_kind a b k l e = cc
 
-same_literal : (a b : List ℕ) (k l : Kind) → a ≡ b → k ≡ l → Literal a k ≡ Literal b l
+pub same_literal : (a b : List ℕ) (k l : Kind) → a ≡ b → k ≡ l → Literal a k ≡ Literal b l
 same_literal a b k l e f = cc
 
 pub term_decides : (a b : Term) → Decides (term_eq a b) (a ≡ b)
@@ -61,7 +61,7 @@ term_decides (Literal a k) (Literal b l) =
     let d = both (bytes_eq a b) (kind_eq k l) (bytes_eq-Decides a b) (kind_decides k l) in
     ((λ h. let p = d.0 h in same_literal a b k l p.0 p.1), (λ h. d.1 (same_form a b k l h, same_kind a b k l h)))
 
-same_triple : (a b : Triple) → a.subject ≡ b.subject → a.predicate ≡ b.predicate → a.object ≡ b.object → a ≡ b
+pub same_triple : (a b : Triple) → a.subject ≡ b.subject → a.predicate ≡ b.predicate → a.object ≡ b.object → a ≡ b
 same_triple a b e f g = λ i. record { subject = e i; predicate = f i; object = g i }
 
 pub triple_decides : (a b : Triple) → Decides (triple_eq a b) (a ≡ b)

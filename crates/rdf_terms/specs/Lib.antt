@@ -14,8 +14,10 @@ pub mod Label
 pub mod Order
 pub mod OrderLaws
 pub mod Same
+pub mod Selections
 pub mod Sizes
 pub mod Slots
 pub mod Tag
+pub mod TripleOrders
 pub mod Triples
 pub mod Valid

@@ -6,8 +6,12 @@ use Rattle.std.specs.Ordering.{nat_cmp, ordering_then, is_eq, as_partial_cmp}
 use Rattle.std.specs.Bool.{Decides, one_answer}
 use Rattle.std.specs.Cmp.{IsTotalOrder, IsPartialOrder, Equal-is, po}
 use Rattle.std.proofs.lemmas.Cmp.{nat_cmp_total, nat_list_cmp_total, on_total, then_total, tied_itself}
+use Rattle.list_laws.proofs.Ascending.{less_not_equal, greater_not_equal, then_equal}
+use Rattle.list_laws.proofs.Lists.{cons_same}
+use Rattle.list_laws.proofs.Tests.{not_both_ways}
 use Rattle.rdf_terms.specs.Same.{term_eq, triple_eq}
-use Rattle.rdf_terms.specs.EqualityLaws.{term_decides, triple_decides}
+use Rattle.rdf_terms.specs.EqualityLaws.{term_decides}
+use Rattle.rdf_terms.specs.TripleOrders.{by_terms_total, by_terms_equal, by_terms_ties}
 use Rattle.rdf_terms.specs.declared.term.Triple.{Triple}
 use Rattle.rdf_terms.specs.declared.term.Term.{Term}
 use Rattle.rdf_terms.specs.declared.term.Term.TheVariants.{Iri, Blank, Literal}
@@ -112,11 +116,6 @@ cmp_is (Literal a k) (Literal b l) = ap (λ (o : Ordering). form_cmp o a b) (kin
 
 -- ---- the same where equal
 
-then_equal : (o p : Ordering) → ordering_then o p ≡ Equal → (o ≡ Equal) × (p ≡ Equal)
-then_equal Less p e = cc
-then_equal Equal p e = (refl, e)
-then_equal Greater p e = cc
-
 nat_by : (t u : Bool) (x y : ℕ) → nat_lt x y ≡ t → nat_eq x y ≡ u → cond t Less (cond u Equal Greater) ≡ Equal → x ≡ y
 nat_by true u x y e f h = cc
 nat_by false true x y e f h = grind (arith, f)
@@ -125,36 +124,23 @@ nat_by false false x y e f h = cc
 nat_same : (x y : ℕ) → nat_cmp x y ≡ Equal → x ≡ y
 nat_same x y h = nat_by (nat_lt x y) (nat_eq x y) x y refl refl h
 
-cons_same : (x y : ℕ) (xs ys : List ℕ) → x ≡ y → xs ≡ ys → x ∷ xs ≡ y ∷ ys
-cons_same x y xs ys e f = cc
-
-bytes_same : (xs ys : List ℕ) → bytes_order xs ys ≡ Equal → xs ≡ ys
+pub bytes_same : (xs ys : List ℕ) → bytes_order xs ys ≡ Equal → xs ≡ ys
 bytes_same [] [] h = refl
 bytes_same [] (y ∷ ys) h = cc
 bytes_same (x ∷ xs) [] h = cc
 bytes_same (x ∷ xs) (y ∷ ys) h = let p = then_equal (nat_cmp x y) (bytes_order xs ys) h in cons_same x y xs ys (nat_same x y p.0) (bytes_same xs ys p.1)
 
-not_less : Less ≡ Equal → ⊥
-not_less e = cc
-
-not_greater : Greater ≡ Equal → ⊥
-not_greater e = cc
-
 ended_same : (end : ℕ) (xs ys : List ℕ) → ended_cmp end xs ys ≡ Equal → xs ≡ ys
 ended_same end [] [] h = refl
-ended_same end [] (y ∷ ys) h = absurd (not_less (then_equal (nat_cmp end y) Less h).1)
-ended_same end (x ∷ xs) [] h = absurd (not_greater (then_equal (nat_cmp x end) Greater h).1)
+ended_same end [] (y ∷ ys) h = absurd (less_not_equal (then_equal (nat_cmp end y) Less h).1)
+ended_same end (x ∷ xs) [] h = absurd (greater_not_equal (then_equal (nat_cmp x end) Greater h).1)
 ended_same end (x ∷ xs) (y ∷ ys) h = let p = then_equal (nat_cmp x y) (ended_cmp end xs ys) h in cons_same x y xs ys (nat_same x y p.0) (ended_same end xs ys p.1)
 
-not_true_false : (b : Bool) → b ≡ true → b ≡ false → ⊥
-not_true_false true e f = cc
-not_true_false false e f = cc
-
 differ_by : (k l : Bool) (x y : ℕ) → is_marked x ≡ k → is_marked y ≡ l → nat_eq x y ≡ false → (if k then (if l then nat_cmp (after_mark x) (after_mark y) else nat_cmp 92 y) else (if l then nat_cmp x 92 else nat_cmp x y)) ≡ Equal → ⊥
-differ_by true true x y h k e g = let s = nat_same (after_mark x) (after_mark y) g in let d = seconds_differ x y h k e in let t : nat_eq (after_mark x) (after_mark y) ≡ true = grind (arith, s) in not_true_false _ t d
-differ_by true false x y h k e g = let s = nat_same 92 y g in let d = (not_mark y k).0 in let t : nat_eq 92 y ≡ true = grind (arith, s) in not_true_false _ t d
-differ_by false true x y h k e g = let s = nat_same x 92 g in let d = (not_mark x h).1 in let t : nat_eq x 92 ≡ true = grind (arith, s) in not_true_false _ t d
-differ_by false false x y h k e g = let s = nat_same x y g in let t : nat_eq x y ≡ true = grind (arith, s) in not_true_false _ t e
+differ_by true true x y h k e g = let s = nat_same (after_mark x) (after_mark y) g in let d = seconds_differ x y h k e in let t : nat_eq (after_mark x) (after_mark y) ≡ true = grind (arith, s) in not_both_ways _ t d
+differ_by true false x y h k e g = let s = nat_same 92 y g in let d = (not_mark y k).0 in let t : nat_eq 92 y ≡ true = grind (arith, s) in not_both_ways _ t d
+differ_by false true x y h k e g = let s = nat_same x 92 g in let d = (not_mark x h).1 in let t : nat_eq x 92 ≡ true = grind (arith, s) in not_both_ways _ t d
+differ_by false false x y h k e g = let s = nat_same x y g in let t : nat_eq x y ≡ true = grind (arith, s) in not_both_ways _ t e
 
 no_quote : (l : Bool) (y : ℕ) → is_marked y ≡ l → 34 ≡ (if l then 92 else y) → ⊥
 no_quote true y h e = omega (arith, e)
@@ -172,13 +158,13 @@ form_same rest (x ∷ xs) (y ∷ ys) h = form_same_step (nat_eq x y) (form_cmp r
 
 kind_same : (k l : Kind) → kind_cmp k l ≡ Equal → k ≡ l
 kind_same Plain Plain h = refl
-kind_same Plain (Typed e) h = absurd (not_less h)
-kind_same Plain (Tagged u) h = absurd (not_less h)
-kind_same (Typed d) Plain h = absurd (not_greater h)
+kind_same Plain (Typed e) h = absurd (less_not_equal h)
+kind_same Plain (Tagged u) h = absurd (less_not_equal h)
+kind_same (Typed d) Plain h = absurd (greater_not_equal h)
 kind_same (Typed d) (Typed e) h = ap (λ (t : List ℕ). Typed t) (ended_same 62 d e h)
-kind_same (Typed d) (Tagged u) h = absurd (not_greater h)
-kind_same (Tagged t) Plain h = absurd (not_greater h)
-kind_same (Tagged t) (Typed e) h = absurd (not_less h)
+kind_same (Typed d) (Tagged u) h = absurd (greater_not_equal h)
+kind_same (Tagged t) Plain h = absurd (greater_not_equal h)
+kind_same (Tagged t) (Typed e) h = absurd (less_not_equal h)
 kind_same (Tagged t) (Tagged u) h = ap (λ (t : List ℕ). Tagged t) (bytes_same t u h)
 
 literal_same : (a b : List ℕ) (k l : Kind) → a ≡ b → k ≡ l → Literal a k ≡ Literal b l
@@ -186,13 +172,13 @@ literal_same a b k l e f = cc
 
 cmp_same : (a b : Term) → term_cmp a b ≡ Equal → a ≡ b
 cmp_same (Iri a) (Iri b) h = ap (λ (t : List ℕ). Iri t) (ended_same 62 a b h)
-cmp_same (Iri a) (Blank b) h = absurd (not_less h)
-cmp_same (Iri a) (Literal b l) h = absurd (not_less h)
-cmp_same (Blank a) (Iri b) h = absurd (not_greater h)
+cmp_same (Iri a) (Blank b) h = absurd (less_not_equal h)
+cmp_same (Iri a) (Literal b l) h = absurd (less_not_equal h)
+cmp_same (Blank a) (Iri b) h = absurd (greater_not_equal h)
 cmp_same (Blank a) (Blank b) h = ap (λ (t : List ℕ). Blank t) (bytes_same a b h)
-cmp_same (Blank a) (Literal b l) h = absurd (not_less h)
-cmp_same (Literal a k) (Iri b) h = absurd (not_greater h)
-cmp_same (Literal a k) (Blank b) h = absurd (not_greater h)
+cmp_same (Blank a) (Literal b l) h = absurd (less_not_equal h)
+cmp_same (Literal a k) (Iri b) h = absurd (greater_not_equal h)
+cmp_same (Literal a k) (Blank b) h = absurd (greater_not_equal h)
 cmp_same (Literal a k) (Literal b l) h = let p = form_same (kind_cmp k l) a b h in literal_same a b k l p.0 (kind_same k l p.1)
 
 term_same : (a b : Term) → term_order a b ≡ Equal → a ≡ b
@@ -217,25 +203,13 @@ term_partial = po term_total term_ties
 -- ---- triples
 
 pub triple_total : IsTotalOrder triple_order
-triple_total = then_total (on_total (λ (t : Triple). t.subject) term_total) (then_total (on_total (λ (t : Triple). t.predicate) term_total) (on_total (λ (t : Triple). t.object) term_total))
-
-same_triple : (a b : Triple) → a.subject ≡ b.subject → a.predicate ≡ b.predicate → a.object ≡ b.object → a ≡ b
-same_triple a b e f g = λ i. record { subject = e i; predicate = f i; object = g i }
-
-triple_same : (a b : Triple) → triple_order a b ≡ Equal → a ≡ b
-triple_same a b h =
-    let p = then_equal (term_order a.subject b.subject) (ordering_then (term_order a.predicate b.predicate) (term_order a.object b.object)) h in
-    let q = then_equal (term_order a.predicate b.predicate) (term_order a.object b.object) p.1 in
-    same_triple a b (term_same a.subject b.subject p.0) (term_same a.predicate b.predicate q.0) (term_same a.object b.object q.1)
-
-triple_tied : (a b : Triple) → a ≡ b → triple_order a b ≡ Equal
-triple_tied a b e = subst (λ (t : Triple). triple_order a t ≡ Equal) e (tied_itself triple_total a)
+triple_total = by_terms_total term_total
 
 pub triple_equal : (a b : Triple) → (triple_order a b ≡ Equal) ↔ (a ≡ b)
-triple_equal a b = (triple_same a b, triple_tied a b)
+triple_equal = by_terms_equal term_total term_equal
 
 pub triple_ties : (a b : Triple) → triple_eq a b ≡ is_eq (triple_order a b)
-triple_ties = ties_by triple_order triple_eq triple_decides triple_equal
+triple_ties = by_terms_ties term_total term_equal
 
 pub triple_partial : IsPartialOrder triple_eq (as_partial_cmp triple_order)
 triple_partial = po triple_total triple_ties

@@ -5,12 +5,13 @@ use Rattle.rdf_terms.specs.declared.term.Term.TheVariants.{Iri, Blank, Literal}
 use Rattle.rdf_terms.specs.declared.term.Kind.{Kind}
 use Rattle.rdf_terms.specs.declared.term.Kind.TheVariants.{Plain, Typed, Tagged}
 use Rattle.rdf_terms.specs.declared.term.Triple.{Triple}
+use Rattle.rdf_terms.specs.declared.limits.TheConstants.{LONGEST_LABEL}
 use Rattle.rdf_terms.specs.Canon.{canonical_term}
 
--- a label of at most 1024 bytes
+-- a label that is not too long
 abbrev pub HasShortLabel : Term → Type 0
 HasShortLabel (Iri text) = ⊤
-HasShortLabel (Blank label) = length label ≤ 1024
+HasShortLabel (Blank label) = length label ≤ LONGEST_LABEL
 HasShortLabel (Literal form kind) = ⊤
 
 -- canonical text of at most so many bytes, and such a label

@@ -7,7 +7,7 @@ use crate::Term;
 use std::alloc::Global;
 use std::collections::BTreeMap;
 use std::marker::Model;
-use tpf_base::OutOfMemory;
+use text_base::OutOfMemory;
 
 /// A term dictionary: distinct terms, numbered from 0 as they came, which contracts see as their list. The number is the
 /// term's id. A term is found by the order of terms, in time that grows with the logarithm of their number. Each term is

@@ -6,7 +6,7 @@ ghost use Rattle.rdf_terms.specs.Datatype.{xsd_string, lang_string, is_xsd_strin
 use crate::iri::is_iri;
 use std::alloc::Global;
 use std::marker::Model;
-use tpf_base::{OutOfMemory, Text};
+use text_base::{OutOfMemory, Text};
 
 /// Whether a text is the IRI xsd:string, the datatype of plain literals (RDF 1.1 Concepts 3.3).
 #[tactic(auto, unfolding(crate::specs::Datatype::xsd_string))]

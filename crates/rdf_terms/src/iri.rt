@@ -6,7 +6,7 @@ ghost use Rattle.rdf_terms.specs.Iri.{is_iri, is_iri_byte, is_scheme_byte, is_le
 
 use std::alloc::Global;
 use std::marker::Model;
-use tpf_base::{OutOfMemory, Text};
+use text_base::{OutOfMemory, Text};
 
 fn is_letter(b: u8) -> bool
     ensures { result ≡ is_letter b }

@@ -5,7 +5,7 @@ ghost use Rattle.rdf_terms.specs.Label.{is_base, is_label_start, is_label_char, 
 
 use std::alloc::Global;
 use std::marker::Model;
-use tpf_base::{OutOfMemory, Text};
+use text_base::{OutOfMemory, Text};
 
 fn is_base(c: char) -> bool
     ensures { result ≡ is_base c }

@@ -1,5 +1,5 @@
-//! Terms of RDF: their grammar, equality and order, triples and quads, and the slots of a fragment (a
-//! triple pattern).
+//! Terms of RDF: their grammar, equality and order, triples and quads, the slots of a fragment (a triple
+//! pattern), and selections: fragments that rows restrict.
 //!
 //! A literal of the datatype xsd:string is the plain one, and what is no term is refused:
 //!
@@ -20,7 +20,9 @@ mod datatype;
 mod fragment;
 mod iri;
 mod label;
+mod limits;
 mod order;
+mod selection;
 mod slots;
 mod tag;
 mod term;
@@ -33,9 +35,11 @@ pub use datatype::{Datatype, is_datatype, is_lang_string, is_xsd_string};
 pub use fragment::{canonical_len_is, fragment_is_one, no_other_fragment};
 pub use iri::{IriText, has_scheme, is_iri, is_iri_byte};
 pub use label::{Label, is_label, is_label_char, is_label_start};
+pub use limits::{LONGEST_LABEL, MOST_ROWS};
 pub use order::{
     order_is_total, order_tells_apart, triple_order_is_total, triple_order_tells_apart,
 };
+pub use selection::{no_rows_select_all, selection_is_one};
 pub use slots::{Slot, Slots};
 pub use tag::{Tag, is_tag, lower_is_kept, lowered};
 pub use term::{Kind, Quad, Term, TermFault, Triple};

@@ -3,7 +3,7 @@ ghost use Rattle.std.specs.Prelude.{◌≡◌, ◌↔◌, IfOk, IsTrue};
 
 use crate::{Term, Triple};
 use std::alloc::Global;
-use tpf_base::OutOfMemory;
+use text_base::OutOfMemory;
 
 /// One place of a triple pattern: free (a variable), or fixed to a term.
 #[derive(PartialEq, Eq, Debug, Drop)]

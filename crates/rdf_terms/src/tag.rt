@@ -5,7 +5,7 @@ ghost use Rattle.rdf_terms.specs.Tag.{may_stand, runs_tag, lower, is_tag, is_low
 
 use std::alloc::Global;
 use std::marker::Model;
-use tpf_base::{OutOfMemory, Text};
+use text_base::{OutOfMemory, Text};
 
 /// Whether a byte may stand in the first group of a tag, or in a later one.
 fn may_stand(in_first: bool, b: u8) -> bool

@@ -11,7 +11,7 @@ use crate::label::is_label;
 use crate::tag::{is_tag, lowered};
 use crate::{Datatype, IriText, Label, Tag};
 use std::alloc::Global;
-use tpf_base::{OutOfMemory, Text};
+use text_base::{OutOfMemory, Text};
 
 /// The kind of a literal (RDF 1.1 Concepts 3.3): plain, whose datatype is xsd:string; typed; or tagged, whose datatype is
 /// rdf:langString.
