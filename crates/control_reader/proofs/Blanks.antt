@@ -8,8 +8,8 @@ use Rattle.rdf_terms.specs.declared.term.Term.{Term}
 use Rattle.rdf_terms.specs.declared.term.Term.TheVariants.{Iri, Blank, Literal}
 use Rattle.rdf_terms.specs.declared.term.Triple.{Triple}
 use Rattle.rdf_terms.specs.declared.term.Quad.{Quad}
-use Rattle.control_reader.specs.Contents.{page_triples, IsBlank, HoldsBlank, HasBlankData}
-use Rattle.control_reader.specs.Seen.{is_blank, holds_blank}
+use Rattle.page_controls.specs.Contents.{page_triples, IsBlank, HoldsBlank, HasBlankData}
+use Rattle.control_reader.specs.Blanks.{is_blank, holds_blank}
 
 blank_is : (t : Term) → is_blank t ≡ true → IsBlank t
 blank_is (Iri text) h = absurd (cc)

@@ -7,7 +7,7 @@ use Rattle.rdf_terms.specs.declared.term.Quad.{Quad}
 use Rattle.tpf_base.specs.Addresses.{Address, IsAddress, address_text, authority_of}
 use Rattle.template_fill.specs.Templates.{Template, expansion}
 use Rattle.template_fill.specs.Authorities.{ShareAuthority, IsTemplate, AuthoritiesAreHostsAndPorts, TemplatesAreKept, ExpansionsShareAuthority}
-use Rattle.control_reader.specs.Controls.{IsLink, IsNext, IsHome}
+use Rattle.page_controls.specs.Controls.{IsLink, IsNext, IsHome}
 use Rattle.control_reader.specs.Authorities.{PagesKeepAuthority}
 
 module _ (hosts_and_ports : AuthoritiesAreHostsAndPorts) (kept : TemplatesAreKept) (expansions : ExpansionsShareAuthority) where

@@ -5,18 +5,21 @@ use Rattle.rdf_terms.specs.declared.term.Triple.{Triple}
 use Rattle.nquads_text.proofs.ReadLaws.{reads_text, not_both}
 use Rattle.tpf_base.specs.Addresses.{Address, address_text, authority_of}
 use Rattle.template_fill.proofs.Reading.{one_address}
-use Rattle.control_reader.specs.declared.read.Told.{Told}
-use Rattle.control_reader.specs.declared.page.Page.{Page}
-use Rattle.control_reader.specs.declared.page.PageFault.{PageFault}
-use Rattle.control_reader.specs.declared.page.PageFault.TheVariants as faults
-use Rattle.control_reader.specs.Controls.{IsTopic, FormTexts, IsCount, IsLeastForm, IsNext, IsFormOf, IsVersion}
-use Rattle.control_reader.specs.Contents.{page_triples, HasBlankData}
-use Rattle.control_reader.specs.Takes.{IsBody, HasControls, Takes, Finds, HasForeignLink, IsWrong, place_of, Faults}
-use Rattle.control_reader.specs.Outcomes.{Answers, IsFaultOf, IsPageOrMemory, IsFaultOrMemory}
-use Rattle.control_reader.specs.Seen.{TakesTriples}
-use Rattle.control_reader.specs.Stages.{WhyNoBody, IsAmiss, FirstAmiss, TakesPage, WhyNoPage}
-use Rattle.control_reader.proofs.Topics.{one_topic}
-use Rattle.control_reader.proofs.Fine.{one_count, count_there, count_good, one_least, one_form, form_there, form_good, one_version, one_next, next_one, next_home, form_home, earlier}
+use Rattle.page_controls.specs.declared.told.Told.{Told}
+use Rattle.fragment_page.specs.declared.page.Page.{Page}
+use Rattle.fragment_page.specs.declared.page.PageFault.{PageFault}
+use Rattle.fragment_page.specs.declared.page.PageFault.TheVariants as faults
+use Rattle.page_controls.specs.Controls.{IsTopic, FormTexts, IsCount, IsLeastForm, IsNext, IsFormOf, IsVersion}
+use Rattle.page_controls.specs.Contents.{page_triples, HasBlankData}
+use Rattle.control_reader.specs.Takes.{IsBody, HasControls, Takes, Finds, IsWrong, Faults}
+use Rattle.page_controls.specs.Faults.{HasForeignLink, place_of}
+use Rattle.page_controls.specs.Outcomes.{Answers, IsFaultOf}
+use Rattle.control_reader.specs.Outcomes.{IsPageOrMemory, IsFaultOrMemory}
+use Rattle.control_reader.specs.Blanks.{TakesTriples}
+use Rattle.control_reader.specs.Takes.{WhyNoBody}
+use Rattle.page_controls.specs.Stages.{IsAmiss, FirstAmiss, TakesPage, WhyNoPage}
+use Rattle.page_controls.proofs.Topics.{one_topic}
+use Rattle.page_controls.proofs.Fine.{one_count, count_there, count_good, one_least, one_form, form_there, form_good, one_version, one_next, next_one, next_home, form_home, earlier}
 
 ok_same : {E : Type 0} (x y : List Quad) → ◌≡◌ {A = Result (List Quad) E} (Ok x) (Ok y) → x ≡ y
 ok_same x y e = cc

@@ -2,7 +2,7 @@
 use Rattle.std.specs.Prelude.{ℕ, List, IfSome}
 use Rattle.tpf_base.specs.Addresses.{Address, IsAddress}
 use Rattle.template_fill.specs.Authorities.{ShareAuthority, IsTemplate}
-use Rattle.control_reader.specs.declared.page.Page.{Page}
+use Rattle.fragment_page.specs.declared.page.Page.{Page}
 use Rattle.control_reader.specs.Takes.{Takes}
 
 -- the page's form and the next page have the authority of the address, so each further address has it

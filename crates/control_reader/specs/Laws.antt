@@ -1,8 +1,8 @@
 -- Laws of pages.
 use Rattle.std.specs.Prelude.{ℕ, ◌≡◌, List}
 use Rattle.tpf_base.specs.Addresses.{Address}
-use Rattle.control_reader.specs.declared.page.Page.{Page}
-use Rattle.control_reader.specs.declared.page.PageFault.{PageFault}
+use Rattle.fragment_page.specs.declared.page.Page.{Page}
+use Rattle.fragment_page.specs.declared.page.PageFault.{PageFault}
 use Rattle.control_reader.specs.Takes.{Takes, Faults}
 
 -- a body is one page at most

@@ -5,11 +5,12 @@ use Rattle.nquads_text.specs.declared.fault.Why.{Why}
 use Rattle.nquads_text.specs.Reads.{Reads, FirstFault}
 use Rattle.tpf_base.specs.Addresses.{Address, address_text, authority_of}
 use Rattle.template_fill.specs.Templates.{Template, read_template}
-use Rattle.control_reader.specs.declared.page.Page.{Page}
-use Rattle.control_reader.specs.declared.page.PageFault.{PageFault}
-use Rattle.control_reader.specs.declared.page.PageFault.TheVariants.{Text, NoTopic, NoCount, CountText, NoForm, BadTemplate, TwoNext, ForeignLink, BlankData, OutOfMemory}
-use Rattle.control_reader.specs.Controls.{IsTopic, HasNoTopic, IsCount, HasNoCount, HasBadCount, FormTexts, IsLeastForm, HasNoForm, IsFormOf, HasBadTemplate, IsNext, HasTwoNext, HasForeignNext, IsHome, IsForeign, IsVersion}
-use Rattle.control_reader.specs.Contents.{page_triples, HasBlankData}
+use Rattle.fragment_page.specs.declared.page.Page.{Page}
+use Rattle.fragment_page.specs.declared.page.PageFault.{PageFault}
+use Rattle.fragment_page.specs.declared.page.PageFault.TheVariants.{Text, NoTopic, NoCount, CountText, NoForm, BadTemplate, TwoNext, ForeignLink, BlankData, OutOfMemory}
+use Rattle.page_controls.specs.Controls.{IsTopic, HasNoTopic, IsCount, HasNoCount, HasBadCount, FormTexts, IsLeastForm, HasNoForm, IsFormOf, HasBadTemplate, IsNext, HasTwoNext, HasForeignNext, IsHome, IsForeign, IsVersion}
+use Rattle.page_controls.specs.Contents.{page_triples, HasBlankData}
+use Rattle.page_controls.specs.Faults.{FindsForm, HasForeignLink, place_of}
 
 -- the quads of a body whose terms have canonical texts of at most 4194304 bytes
 abbrev pub IsBody : List ℕ → List Quad → Type 0
@@ -41,16 +42,6 @@ pub record Takes (bytes : List ℕ) (address : Address) (page : Page) : Type 0 w
 abbrev pub Finds : List ℕ → Address → (List Quad → List ℕ → Type 0) → Type 0
 Finds bytes address P = (quads : List Quad) × (topic : List ℕ) × HasControls bytes address quads topic × P quads topic
 
--- the texts of its least form are so
-abbrev pub FindsForm : (FormTexts → Type 0) → List Quad → List ℕ → Type 0
-FindsForm P quads topic = (texts : FormTexts) × IsLeastForm quads topic texts × P texts
-
-abbrev pub HasForeignForm : List ℕ → FormTexts → Type 0
-HasForeignForm authority texts = (template : Template) × (read_template texts.template ≡ Some template) × IsForeign template authority
-
-abbrev pub HasForeignLink : List ℕ → List Quad → List ℕ → Type 0
-HasForeignLink authority quads topic = HasForeignNext quads topic authority ⊎ FindsForm (HasForeignForm authority) quads topic
-
 -- what each fault says; want of memory says nothing of the body
 abbrev pub IsWrong : List ℕ → Address → PageFault → Type 0
 IsWrong bytes address Text = (line : ℕ) × (why : Why) × FirstFault bytes 4194304 line why
@@ -64,20 +55,11 @@ IsWrong bytes address ForeignLink = Finds bytes address (HasForeignLink (authori
 IsWrong bytes address BlankData = Finds bytes address (λ quads topic. HasBlankData quads)
 IsWrong bytes address OutOfMemory = ⊥
 
--- the order of the faults
-abbrev pub place_of : PageFault → ℕ
-place_of Text = 0
-place_of NoTopic = 1
-place_of NoCount = 2
-place_of CountText = 3
-place_of NoForm = 4
-place_of BadTemplate = 5
-place_of TwoNext = 6
-place_of ForeignLink = 7
-place_of BlankData = 8
-place_of OutOfMemory = 9
-
 -- the first fault that a body has
 pub record Faults (bytes : List ℕ) (address : Address) (fault : PageFault) : Type 0 where
   pub wrong : IsWrong bytes address fault
   pub first : (other : PageFault) → place_of other < place_of fault → IsWrong bytes address other → ⊥
+
+-- the body is no text
+abbrev pub WhyNoBody : List ℕ → PageFault → Type 0
+WhyNoBody bytes fault = (fault ≡ Text) × ((line : ℕ) × (why : Why) × FirstFault bytes 4194304 line why)

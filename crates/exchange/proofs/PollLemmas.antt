@@ -12,9 +12,9 @@ use Rattle.futures.specs.declared.task.Poll.TheVariants.{Ready, Pending}
 use Rattle.tpf_base.specs.Links.{Link, WireState, Sending, Receiving, IsRipe, is_short, some_left}
 use Rattle.tpf_base.specs.Links as links
 use Rattle.tpf_base.specs.Calls.{Closes}
-use Rattle.link_calls.specs.Sending.{Holds, SendsFrom}
-use Rattle.link_calls.specs.Sending as sending
-use Rattle.link_calls.proofs.SendingLemmas.{holds_same, rose_on}
+use Rattle.tpf_base.specs.Sending.{Holds, SendsFrom}
+use Rattle.tpf_base.specs.Sending as sending
+use Rattle.tpf_base.proofs.SendingLemmas.{holds_same, rose_on}
 use Rattle.exchange.specs.Exchanges.{Exchanging, request_of}
 use Rattle.exchange.specs.Incoming.{Coming}
 use Rattle.exchange.specs.Receiving.{ReceivesFrom}

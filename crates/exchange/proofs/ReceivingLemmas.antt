@@ -5,8 +5,8 @@ use Rattle.tpf_base.specs.declared.wire.Moved.{Moved}
 use Rattle.tpf_base.specs.declared.wire.Moved.TheVariants as answers
 use Rattle.tpf_base.specs.Links.{Receiving, WireState, Tells, CountsAlone, SentAndReceived, All, told_by, is_short, some_left}
 use Rattle.tpf_base.specs.Calls.{Receives}
-use Rattle.link_calls.specs.Sending.{Holds, CallsOn}
-use Rattle.link_calls.proofs.SendingLemmas.{calls_then, holds_append, holds_same, rose_on}
+use Rattle.tpf_base.specs.Sending.{Holds, CallsOn}
+use Rattle.tpf_base.proofs.SendingLemmas.{calls_then, holds_append, holds_same, rose_on}
 use Rattle.exchange.specs.Incoming.{Coming}
 use Rattle.exchange.specs.Receiving.{ReceivesFrom}
 

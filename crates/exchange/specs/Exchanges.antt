@@ -3,7 +3,7 @@ use Rattle.std.specs.Prelude.{ℕ, ◌≡◌, ◌++◌, true, List, [], Option, 
 use Rattle.tpf_base.specs.Addresses.{Address, authority_of, target_of}
 use Rattle.tpf_base.specs.HttpText.{request_text}
 use Rattle.tpf_base.specs.Links.{WireState}
-use Rattle.link_calls.specs.Sending.{Holds}
+use Rattle.tpf_base.specs.Sending.{Holds}
 use Rattle.exchange.specs.declared.exchange.Standing.{Standing}
 use Rattle.exchange.specs.declared.exchange.Standing.TheVariants.{Underway, Left, Over}
 

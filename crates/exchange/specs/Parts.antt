@@ -10,7 +10,7 @@ use Rattle.futures.specs.declared.task.Poll.{Poll}
 use Rattle.futures.specs.declared.task.Poll.TheVariants.{Ready, Pending}
 use Rattle.tpf_base.specs.Links.{WireState}
 use Rattle.tpf_base.specs.Calls.{Closes}
-use Rattle.link_calls.specs.Sending.{CallsOnOpen}
+use Rattle.tpf_base.specs.Sending.{CallsOnOpen}
 use Rattle.exchange.specs.Exchanges.{Exchanging, Stands}
 use Rattle.exchange.specs.Polls.{Touches, Awaits, RoseOn}
 use Rattle.exchange.specs.declared.exchange.Standing.TheVariants.{Left, Over}

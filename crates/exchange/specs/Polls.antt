@@ -11,7 +11,7 @@ use Rattle.http_wire.specs.declared.message.Reply.{Reply}
 use Rattle.futures.specs.declared.task.Poll.{Poll}
 use Rattle.futures.specs.declared.task.Poll.TheVariants.{Ready, Pending}
 use Rattle.tpf_base.specs.Links.{Link, WireState, Sending, Receiving, IsRipe, is_short, told_by}
-use Rattle.link_calls.specs.Sending.{Holds}
+use Rattle.tpf_base.specs.Sending.{Holds}
 use Rattle.exchange.specs.Exchanges.{Exchanging, IsFront, request_of, Stands}
 use Rattle.exchange.specs.declared.exchange.Standing.TheVariants.{Underway, Left, Over}
 use Rattle.exchange.specs.declared.fault.ExchangeFault.{ExchangeFault}
@@ -38,7 +38,6 @@ pub record Touches (old new : Exchanging) (wire wire' : WireState) : Type 0 wher
   pub waits : wire'.waits ≡ wire.waits
   pub idle : wire'.idle ≤ wire.idle
   pub door : wire'.door ≡ wire.door
-  pub door_stalls : wire'.door_stalls ≡ wire.door_stalls
   pub nature : wire'.nature ≡ wire.nature
   -- only a dial may provoke a fault, and over a steady wire none does below 2 ^ 63 links
   pub unprovoked : (old.link ≡ None → (wire.nature.steady ≡ true) × (wire.given < 2 ^ 63)) → wire'.provoked ≡ wire.provoked

@@ -3,7 +3,7 @@ use Rattle.std.specs.Prelude.{ℕ, ◌≡◌, ◌++◌, List, Some, None, true, 
 use Rattle.tpf_base.specs.Causes.{Rose}
 use Rattle.tpf_base.specs.HttpReply.{is_open}
 use Rattle.tpf_base.specs.Links.{Receiving, WireState, is_short}
-use Rattle.link_calls.specs.Sending.{Holds, CallsOn}
+use Rattle.tpf_base.specs.Sending.{Holds, CallsOn}
 use Rattle.exchange.specs.Incoming.{Coming}
 use Rattle.exchange.specs.declared.receiving.Received.{Received}
 use Rattle.exchange.specs.declared.receiving.Received.TheVariants.{Read, End, NotYet, Failed, OutOfMemory}

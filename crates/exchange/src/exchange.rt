@@ -13,12 +13,11 @@ use crate::incoming::{Conclusion, Incoming};
 use crate::receiving::{Received, receive};
 use futures::task::Poll;
 use http_wire::{Reply, what_is_read_is_given, write_request};
-use link_calls::{Halt, send_rest};
 use std::alloc::Global;
 use std::marker::Model;
 use std::mem;
 use template_fill::WebAddress;
-use tpf_base::{Dial, Fault, OutOfMemory};
+use tpf_base::{Dial, Fault, Halt, OutOfMemory, send_rest};
 
 /// Where an exchange stands.
 #[derive(Clone, Copy, Debug, PartialEq, Eq)]

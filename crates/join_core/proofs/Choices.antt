@@ -5,7 +5,7 @@ use Rattle.std.proofs.lemmas.Bool.Decides.{nat_tests}
 use Rattle.tpf_base.specs.Addresses.{Address}
 use Rattle.bgp_core.specs.declared.pattern.Pattern.{Pattern}
 use Rattle.bgp_core.specs.Solutions.{Places}
-use Rattle.control_reader.specs.declared.page.Page.{Page}
+use Rattle.fragment_page.specs.declared.page.Page.{Page}
 use Rattle.join_core.specs.declared.first.First.{First}
 use Rattle.join_core.specs.declared.first.First.TheVariants.{Out, Got}
 use Rattle.join_core.specs.Nodes.{Stage, NodeData, node, is_got, count_of, least}

@@ -19,7 +19,6 @@ pub mod Took
 pub mod Starts
 pub mod Keeping
 pub mod Small
-pub mod Servers
 pub mod Evaluating
 pub mod Bindings
 pub mod Choices

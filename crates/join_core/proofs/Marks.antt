@@ -19,7 +19,7 @@ use Rattle.bgp_core.specs.Instances.{instance}
 use Rattle.bgp_core.specs.Queries.{IsValidPattern}
 use Rattle.template_fill.specs.declared.form.Form.{Form}
 use Rattle.template_fill.specs.WebAddress.{OneAddress}
-use Rattle.control_reader.specs.declared.page.Page.{Page}
+use Rattle.fragment_page.specs.declared.page.Page.{Page}
 use Rattle.join_core.specs.declared.first.First.{First}
 use Rattle.join_core.specs.declared.first.First.TheVariants.{Out, Got}
 use Rattle.join_core.specs.declared.node.Waits.{Waits}

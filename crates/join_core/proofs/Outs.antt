@@ -14,7 +14,7 @@ use Rattle.bgp_core.specs.Solutions.{Places, extension, rows_from}
 use Rattle.bgp_core.specs.Instances.{instance}
 use Rattle.bgp_core.proofs.Patterns.{same}
 use Rattle.bgp_core.proofs.Orders.{front}
-use Rattle.control_reader.specs.declared.page.Page.{Page}
+use Rattle.fragment_page.specs.declared.page.Page.{Page}
 use Rattle.join_core.specs.declared.first.First.{First}
 use Rattle.join_core.specs.declared.first.First.TheVariants.{Out, Got}
 use Rattle.join_core.specs.declared.node.Waits.TheVariants.{First as ForFirst, Next as ForNext}

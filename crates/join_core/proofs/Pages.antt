@@ -19,7 +19,7 @@ use Rattle.bgp_core.specs.Instances.{instance}
 use Rattle.bgp_core.proofs.Patterns.{same, solutions-first}
 use Rattle.bgp_core.proofs.Orders.{front}
 use Rattle.bgp_core.proofs.Fragments.{over_fragment}
-use Rattle.control_reader.specs.declared.page.Page.{Page}
+use Rattle.fragment_page.specs.declared.page.Page.{Page}
 use Rattle.join_core.specs.declared.first.First.{First}
 use Rattle.join_core.specs.declared.first.First.TheVariants.{Out, Got}
 use Rattle.join_core.specs.Worlds.{World, IsWorld, items, last, IsPageAfter}

@@ -11,7 +11,7 @@ use Rattle.bgp_core.proofs.Patterns.{same}
 use Rattle.bgp_core.proofs.Orders.{flat_map-IsPermutation}
 use Rattle.template_fill.specs.declared.form.Form.{Form}
 use Rattle.template_fill.specs.WebAddress.{OneAddress}
-use Rattle.control_reader.specs.declared.page.Page.{Page}
+use Rattle.fragment_page.specs.declared.page.Page.{Page}
 use Rattle.join_core.specs.declared.first.First.TheVariants.{Got}
 use Rattle.join_core.specs.declared.node.Waits.TheVariants.{First as ForFirst, Next as ForNext}
 use Rattle.join_core.specs.Worlds.{World, HasForm}

@@ -9,7 +9,7 @@ use Rattle.bgp_core.specs.Solutions.{Places}
 use Rattle.bgp_core.specs.Instances.{instance}
 use Rattle.template_fill.specs.declared.form.Form.{Form}
 use Rattle.template_fill.specs.Forms.{form_text}
-use Rattle.control_reader.specs.declared.page.Page.{Page}
+use Rattle.fragment_page.specs.declared.page.Page.{Page}
 use Rattle.join_core.specs.declared.first.First.{First}
 use Rattle.join_core.specs.declared.first.First.TheVariants.{Out, Got}
 use Rattle.join_core.specs.declared.node.Waits.{Waits}

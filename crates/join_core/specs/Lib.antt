@@ -9,6 +9,5 @@ pub mod Outcomes
 pub mod Runs
 pub mod Evaluations
 pub mod Sound
-pub mod Servers
 pub mod JoinAccounts
 pub mod JoinLaws

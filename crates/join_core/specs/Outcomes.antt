@@ -6,7 +6,7 @@ use Rattle.join_core.specs.declared.evaluation.Ask.{Ask}
 use Rattle.join_core.specs.declared.evaluation.Answered.{Answered}
 use Rattle.join_core.specs.declared.evaluation.Answered.TheVariants.{Taken, Stranger}
 use Rattle.bgp_core.specs.Solutions.{Places}
-use Rattle.control_reader.specs.declared.page.Page.{Page}
+use Rattle.fragment_page.specs.declared.page.Page.{Page}
 use Rattle.join_core.specs.Worlds.{World}
 use Rattle.join_core.specs.Events.{works, is_idle, has_ask}
 use Rattle.join_core.specs.Joins.{JoinData, nodes, HandsOut, TakesPage, tickets_out, NoneIn, AsksAt, TakesFirst, TakesNext}

@@ -12,7 +12,7 @@ use Rattle.rdf_terms.specs.Kept.{AreValid}
 use Rattle.rdf_terms.specs.Fragments.{last_page_of}
 use Rattle.template_fill.specs.declared.form.Form.{Form}
 use Rattle.template_fill.specs.Forms.{form_text}
-use Rattle.control_reader.specs.declared.page.Page.{Page}
+use Rattle.fragment_page.specs.declared.page.Page.{Page}
 
 pub record World : Type 0 where
   pub triples : List Triple

@@ -8,7 +8,7 @@ ghost use Rattle.join_core.specs.JoinLaws.{done-owes-nothing, done-is-quiet, tic
 use crate::evaluation::{Answered, Ask, Evaluates};
 use crate::join::Join;
 use bgp_core::Row;
-use control_reader::Page;
+use fragment_page::Page;
 use std::alloc::Global;
 use tpf_base::OutOfMemory;
 

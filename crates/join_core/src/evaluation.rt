@@ -2,11 +2,11 @@
 ghost use Rattle.std.specs.Prelude.{◌≡◌, ◌<◌, ◌^◌, ◌-◌, ⊤, true, [], length, Ok, None, IfOk, OnErr, MatchOption};
 ghost use Rattle.std.specs.List.{All, Contains};
 ghost use Rattle.tpf_base.specs.Addresses.{Address};
-ghost use Rattle.control_reader.specs.declared.page.Page.{Page};
+ghost use Rattle.fragment_page.specs.declared.page.Page.{Page};
 ghost use Rattle.join_core.specs.Evaluations.{Account, nothing, GivesOwed, OwesAfterAsk, OwesAfterAnswer, Standing, TakesOne, StandsAfterAsk, StandsAfterAnswer, EndsInQuiet, Terms, AsksAtHome, NextAtHome};
 
 use bgp_core::Row;
-use control_reader::Page;
+use fragment_page::Page;
 use std::alloc::Global;
 use template_fill::WebAddress;
 use tpf_base::OutOfMemory;

@@ -2,7 +2,7 @@
 ghost use Rattle.std.specs.Prelude.{◌≡◌};
 ghost use Rattle.join_core.specs.Nodes.{is_got, count_of};
 
-use control_reader::Page;
+use fragment_page::Page;
 
 /// The first page of a pattern: asked for under a ticket, or held.
 #[derive(Debug, Drop)]

@@ -21,7 +21,7 @@ use crate::levels::{ask_at, find, open_nodes, place_to_ask, take_first, take_nex
 use crate::node::Waits;
 use crate::pattern_list::PatternList;
 use bgp_core::{Query, Row};
-use control_reader::Page;
+use fragment_page::Page;
 use std::alloc::Global;
 use std::marker::Model;
 use std::rc::Rc;

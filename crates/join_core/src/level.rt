@@ -16,7 +16,7 @@ use crate::started::{
     ask_of, asker_can_ask, begin, forget, idle_can_ask, next_page_of, note, replace, take_first_of,
     take_out, waits_of,
 };
-use control_reader::Page;
+use fragment_page::Page;
 use std::alloc::Global;
 use std::collections::{BTreeMap, BTreeSet, VecDeque};
 use std::marker::Model;

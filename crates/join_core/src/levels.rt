@@ -12,7 +12,7 @@ use crate::level::Level;
 use crate::node::{Made, Node, Waits};
 use crate::opening::Opening;
 use bgp_core::Row;
-use control_reader::Page;
+use fragment_page::Page;
 use std::alloc::Global;
 use template_fill::{Form, WebAddress};
 use tpf_base::OutOfMemory;

@@ -32,4 +32,4 @@ mod started;
 
 pub use evaluation::{Answered, Ask, Evaluates};
 pub use join::Join;
-pub use laws::{a_run_asks_the_plan, a_run_gives_the_solutions, a_server_is_a_world};
+pub use laws::{a_run_asks_the_plan, a_run_gives_the_solutions};

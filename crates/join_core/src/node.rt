@@ -20,7 +20,7 @@ use crate::next_page::NextPage;
 use crate::opening::Opening;
 use crate::pattern_list::PatternList;
 use bgp_core::{Pattern, Row, instance};
-use control_reader::Page;
+use fragment_page::Page;
 use std::alloc::Global;
 use std::marker::Model;
 use std::mem;

@@ -12,7 +12,7 @@ ghost use Rattle.join_core.specs.Levels.{seed_node, is_key, Sets, Notes, Has};
 
 use crate::first::First;
 use crate::node::{Made, Node, Waits};
-use control_reader::Page;
+use fragment_page::Page;
 use std::alloc::Global;
 use std::collections::{BTreeMap, BTreeSet};
 use template_fill::{Form, WebAddress};

@@ -16,11 +16,8 @@ pub mod Escapes
 pub mod ReadLaws
 pub mod Runs
 pub mod RoundTrip
-pub mod PieceLaws
-pub mod FedLaws
 pub mod Utf8
 pub mod Written
-pub mod EndedLaws
 pub mod Loads
 pub mod Plain
 pub mod Schemes

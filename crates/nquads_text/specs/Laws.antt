@@ -1,12 +1,11 @@
 -- Laws of readings: what the empty functions of the crate promise.
-use Rattle.std.specs.Prelude.{ℕ, ◌≡◌, ◌⊎◌, min, List}
+use Rattle.std.specs.Prelude.{ℕ, ◌⊎◌, List}
 use Rattle.std.specs.List.{AllByRecursion}
 use Rattle.rdf_terms.specs.Canon.{canon}
 use Rattle.rdf_terms.specs.declared.term.Quad.{Quad}
 use Rattle.nquads_text.specs.declared.fault.Why.{Why}
 use Rattle.nquads_text.specs.Quads.{IsReadable}
 use Rattle.nquads_text.specs.Reads.{Reads, FirstFault}
-use Rattle.nquads_text.specs.Feed.{last_number, nothing_fed, ReadsWith, FaultWith}
 
 -- a text has a reading or a first fault
 abbrev pub IsReadOrFaulty : Type 0
@@ -23,10 +22,3 @@ ReadIsReadable = (bytes : List ℕ) (longest : ℕ) (quads : List Quad) → Read
 -- the canonical text of quads that text can give is read as these quads
 abbrev pub CanonReadsBack : Type 0
 CanonReadsBack = (longest : ℕ) (quads : List Quad) → AllByRecursion (IsReadable longest) quads → Reads (canon quads) longest quads
-
--- before the first piece, what comes is read as the whole text is read
-pub record BeginsWithText : Type 0 where
-  pub reads : (longest : ℕ) (bytes : List ℕ) (quads : List Quad) → ReadsWith (nothing_fed longest) bytes quads → Reads bytes longest quads
-  pub only_reads : (longest : ℕ) (bytes : List ℕ) (quads : List Quad) → Reads bytes longest quads → ReadsWith (nothing_fed longest) bytes quads
-  pub faults : (longest : ℕ) (bytes : List ℕ) (number : ℕ) (why : Why) → FirstFault bytes longest number why → FaultWith (nothing_fed longest) bytes (min number last_number) why
-  pub only_faults : (longest : ℕ) (bytes : List ℕ) (number : ℕ) (why : Why) → FaultWith (nothing_fed longest) bytes number why → (n : ℕ) × FirstFault bytes longest n why × (number ≡ min n last_number)

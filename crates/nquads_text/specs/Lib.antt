@@ -9,7 +9,5 @@ pub mod Views
 pub mod Escape
 pub mod Line
 pub mod Lines
-pub mod Feed
-pub mod Pieces
 pub mod Laws
 pub mod Runs

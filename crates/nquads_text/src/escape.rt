@@ -14,7 +14,7 @@ use memchr::memchr;
 use rdf_terms::is_iri_byte;
 use std::alloc::Global;
 use std::{char, str};
-use tpf_base::{OutOfMemory, Text};
+use text_base::{OutOfMemory, Text};
 
 fn short_value(b: u8) -> u8
     ensures { result ≡ short_value b }

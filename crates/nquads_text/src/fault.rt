@@ -1,6 +1,6 @@
 // Faults of texts.
 use std::alloc::{AllocError, AllocFailed};
-use tpf_base::OutOfMemory;
+use text_base::OutOfMemory;
 
 /// The faults of a line, by the grammar (RDF 1.1 N-Quads 4) and by the limits of the reader. The first of them in this
 /// order is told.

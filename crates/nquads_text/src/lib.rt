@@ -1,4 +1,4 @@
-//! N-Quads text, read whole or in pieces, and written in canonical form (RDF 1.1 N-Quads, RDF 1.1 N-Triples 4).
+//! N-Quads text, read whole, and written in canonical form (RDF 1.1 N-Quads, RDF 1.1 N-Triples 4).
 //!
 //! A text is read into quads, and each of them is written as its canonical line:
 //!
@@ -16,7 +16,6 @@
 
 mod escape;
 mod fault;
-mod feed;
 mod lanes;
 mod line;
 mod loose;
@@ -26,6 +25,8 @@ mod text;
 mod write;
 
 pub use fault::{TextFault, Why};
-pub use feed::{QuadFeed, a_feed_begins_with_the_text};
-pub use text::{one_of_two, read_all, what_is_read_is_readable};
+pub use line::LineFault;
+pub use text::{
+    after_end, line_end, one_of_two, read_all, read_line, what_is_read_is_readable, without_lf,
+};
 pub use write::{canonical, canonical_text_reads_back, write_quad};

@@ -15,7 +15,7 @@ use crate::raw::{RawQuad, line_form};
 use crate::scan::as_text;
 use rdf_terms::{Datatype, IriText, Kind, Label, Quad, Tag, Term, Triple};
 use std::alloc::Global;
-use tpf_base::{OutOfMemory, Text};
+use text_base::{OutOfMemory, Text};
 
 fn kind(kind: LooseKind) -> Kind
     requires { IsValidKind (loose_kind kind) }

@@ -18,7 +18,7 @@ use crate::raw::{RawKind, RawQuad, RawTerm};
 use rdf_terms::{has_scheme, is_lang_string, is_xsd_string, lowered, marks};
 use std::alloc::Global;
 use std::str;
-use tpf_base::{OutOfMemory, Text};
+use text_base::{OutOfMemory, Text};
 
 /// What follows a lexical form. xsd:string is left out and a tag is in lower case; a datatype may be no IRI with a scheme
 /// yet, or rdf:langString.

@@ -6,7 +6,7 @@ ghost use Rattle.list_laws.specs.Begins.{Begins};
 ghost use Rattle.nquads_text.specs.Laws.{CanonReadsBack};
 
 use rdf_terms::{Kind, Quad, Term, Triple, after_mark, is_marked};
-use tpf_base::OutOfMemory;
+use text_base::OutOfMemory;
 
 #[tactic(auto, using(list_laws::proofs::Begins::same_begins, list_laws::proofs::Begins::more_begins))]
 fn push_all(bytes: &[u8], out: &mut Vec<u8>) -> Result<(), OutOfMemory>

@@ -21,7 +21,7 @@ use crate::triple::{Placed, triples};
 use bgp_core::{Pattern, Query};
 use query_words::word::Word;
 use std::alloc::Global;
-use tpf_base::{OutOfMemory, Text};
+use text_base::{OutOfMemory, Text};
 
 /// Finds the first fault of names and terms, in the tokens from SELECT on and in all.
 pub fn check_terms(prefixes: &Prefixes, words: &[Word], body: &[Word]) -> Result<(), QueryFault>

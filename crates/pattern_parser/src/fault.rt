@@ -1,5 +1,5 @@
 // Why a text is no query.
-use tpf_base::OutOfMemory;
+use text_base::OutOfMemory;
 
 /// The kinds of faults of a query's text. Of several, the first kind in this order is told, and of
 /// this kind the first place. Places are in bytes, from 0.

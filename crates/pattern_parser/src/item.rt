@@ -12,7 +12,7 @@ use bgp_core::Part;
 use query_words::word::{Value, Word};
 use rdf_terms::{IriText, Kind, Term, is_iri, is_lang_string, is_tag};
 use std::alloc::Global;
-use tpf_base::{OutOfMemory, Text};
+use text_base::{OutOfMemory, Text};
 
 /// A term or name with the place of its first token, or a mark.
 #[derive(Debug, Drop)]

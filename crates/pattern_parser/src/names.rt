@@ -5,7 +5,7 @@ ghost use Rattle.pattern_parser.specs.Names.{anonymous, place_of, number, with_t
 
 use std::alloc::Global;
 use std::collections::BTreeMap;
-use tpf_base::{OutOfMemory, Text};
+use text_base::{OutOfMemory, Text};
 
 /// The names of a query in the order of their numbers, and a map that has the number of each text
 /// but that of an anonymous node.

@@ -10,7 +10,7 @@ use query_words::word::{Value, Word};
 use rdf_terms::{is_iri, is_lang_string};
 use std::alloc::Global;
 use std::collections::BTreeMap;
-use tpf_base::{OutOfMemory, Text};
+use text_base::{OutOfMemory, Text};
 
 /// The declared IRI of each prefix.
 pub type Prefixes = BTreeMap<String, Text>;

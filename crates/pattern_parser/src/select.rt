@@ -6,7 +6,7 @@ ghost use Rattle.pattern_parser.specs.Queries.{is_select, is_brace, is_star, has
 
 use query_words::word::{Value, Word};
 use std::alloc::Global;
-use tpf_base::{OutOfMemory, Text};
+use text_base::{OutOfMemory, Text};
 
 fn is_select(value: &Value) -> bool
     ensures { result ≡ is_select value.now }

@@ -11,7 +11,7 @@ use query_tokens::kind::PieceKind;
 use query_tokens::piece::{Piece, PieceFault, pieces};
 use query_words::text::decode;
 use std::alloc::Global;
-use tpf_base::OutOfMemory;
+use text_base::OutOfMemory;
 
 /// The kinds of tokens (SPARQL 1.1, section 19.8).
 #[derive(Clone, Copy, Debug, PartialEq, Eq)]

@@ -7,7 +7,7 @@ ghost use Rattle.pattern_parser.specs.Triples.{placed, triples_after};
 use crate::item::Item;
 use bgp_core::{Part, Pattern};
 use std::alloc::Global;
-use tpf_base::OutOfMemory;
+use text_base::OutOfMemory;
 
 /// A triple pattern with the place of its object.
 #[derive(Debug, Drop)]

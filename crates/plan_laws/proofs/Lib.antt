@@ -4,3 +4,4 @@ pub mod Slots
 pub mod Asked
 pub mod Plans
 pub mod Reading
+pub mod Servers

@@ -13,8 +13,8 @@ use Rattle.rdf_terms.specs.Datatype.{is_xsd_string}
 use Rattle.rdf_terms.specs.Canon.{is_marked, after_mark, canonical_byte, canonical_form, canonical_kind, canonical_term}
 use Rattle.template_fill.specs.Metadata.{foaf, void, hydra, rdf, owl, plain, integer, statement, topic_quads, form_quads, mapping_quads, count_quads, link_quads, version_quads}
 use Rattle.template_fill.specs.Bodies.{in_default_graph}
-use Rattle.control_reader.specs.Law.{HasShortTerms}
-use Rattle.control_reader.proofs.LawMetadata.{Parts, metadata}
+use Rattle.control_laws.specs.Law.{HasShortTerms}
+use Rattle.control_laws.proofs.LawMetadata.{Parts, metadata}
 
 -- ---- terms
 

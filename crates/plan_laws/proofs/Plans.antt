@@ -15,7 +15,7 @@ use Rattle.bgp_core.specs.declared.pattern.Pattern.{Pattern}
 use Rattle.bgp_core.specs.Solutions.{Places, extension, rows_from}
 use Rattle.bgp_core.specs.Instances.{instance}
 use Rattle.join_core.specs.Worlds.{World}
-use Rattle.join_core.specs.Servers.{server_world}
+use Rattle.plan_laws.specs.Servers.{server_world}
 use Rattle.join_core.specs.Nodes.{Plans, numbers, pages_after, first_addresses, all_askable, least, counts, plans_over, chosen_plan, asking_plan, plan_for}
 use Rattle.join_core.proofs.Valid.{every-remove}
 use Rattle.plan_laws.proofs.Slots.{Binds, HasTerms, HasParts, HasSlots, instance_slots, extended_binds}

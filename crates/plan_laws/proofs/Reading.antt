@@ -31,15 +31,15 @@ use Rattle.template_fill.specs.Bodies.{version_of, page_quads}
 use Rattle.template_fill.specs.HttpAnswer.{Answer}
 use Rattle.template_fill.specs.Answered.{is_answered, GivesPage, PagesAreGiven, AnsweredGivePages}
 use Rattle.control_reader.specs.Takes.{Takes}
-use Rattle.control_reader.specs.Law.{IsWithinLimits, ControlsReadBack, PagesAreThere}
-use Rattle.control_reader.proofs.LawData.{page_all}
-use Rattle.control_reader.proofs.LawMetadata.{parts_for, metadata_is}
+use Rattle.control_laws.specs.Law.{IsWithinLimits, ControlsReadBack, PagesAreThere}
+use Rattle.control_laws.proofs.LawData.{page_all}
+use Rattle.control_laws.proofs.LawMetadata.{parts_for, metadata_is}
 use Rattle.bgp_core.specs.declared.pattern.Part.{Part}
 use Rattle.bgp_core.specs.declared.pattern.Part.TheVariants.{Fixed, Name}
 use Rattle.bgp_core.specs.declared.pattern.Pattern.{Pattern}
 use Rattle.bgp_core.specs.Queries.{IsValidPart}
 use Rattle.http_ends.specs.Requests.{request_for}
-use Rattle.join_core.specs.Servers.{server_world}
+use Rattle.plan_laws.specs.Servers.{server_world}
 use Rattle.join_core.specs.Nodes.{plan}
 use Rattle.plan_laws.specs.Fitting.{IsRead, AreServable, IsAskablePart, IsAskable, IsServable}
 use Rattle.plan_laws.proofs.Lengths.{IsShortSlot, AreShort, address_short}

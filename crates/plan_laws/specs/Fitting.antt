@@ -15,14 +15,14 @@ use Rattle.template_fill.specs.Bodies.{version_of}
 use Rattle.template_fill.specs.Responses.{IsVersion}
 use Rattle.template_fill.specs.Answered.{address_answer, is_answered}
 use Rattle.http_ends.specs.Requests.{request_for}
-use Rattle.control_reader.specs.declared.page.Page.{Page}
+use Rattle.fragment_page.specs.declared.page.Page.{Page}
 use Rattle.control_reader.specs.Takes.{Takes}
 use Rattle.bgp_core.specs.declared.pattern.Part.{Part}
 use Rattle.bgp_core.specs.declared.pattern.Part.TheVariants.{Fixed, Name}
 use Rattle.bgp_core.specs.declared.pattern.Pattern.{Pattern}
 use Rattle.bgp_core.specs.Queries.{IsValidPattern}
 use Rattle.join_core.specs.Nodes.{plan}
-use Rattle.join_core.specs.Servers.{server_world}
+use Rattle.plan_laws.specs.Servers.{server_world}
 
 -- the request for the address is within the limit of heads, and is answered with the status 200 and a body that is read as a page of the address
 pub record IsRead (history : List (List Triple)) (mark : Mark) (config : Config) (address : Address) : Type 0 where

@@ -1,4 +1,5 @@
-//! Under the limits of the program a plan fits: each of its addresses is answered with a page that is read.
+//! What joins a plan with a server: a server of fragments is a world over which a join goes, and under the limits of the
+//! program a plan fits: each of its addresses is answered with a page that is read.
 //!
 //! A law is called where its statement is wanted, and does nothing when it runs. So a query over a server in the same process
 //! ends as planned:
@@ -14,11 +15,13 @@
 #![tactic(auto)]
 
 ghost use Rattle.plan_laws.specs.Fitting.{PlansAreRead, BasesAreRead, StartsAreRead};
+ghost use Rattle.plan_laws.specs.Servers.{ServersAreWorlds, ServersHaveForms, ServersPagesAreTrue};
 
-use control_reader::controls_read_back;
-use rdf_terms::askable_slots_are_kept;
+use control_laws::controls_read_back;
+use rdf_terms::{askable_slots_are_kept, triple_order_tells_apart};
 use template_fill::{
-    explicit_forms_are_short, pages_are_answered, pages_share_authority, versions_are_valid,
+    an_address_is_one, explicit_forms_are_short, first_page_is_expansion, pages_are_answered,
+    pages_share_authority, versions_are_valid,
 };
 
 /// Over data whose terms have canonical texts of at most 262144 bytes, and for patterns whose fixed
@@ -36,6 +39,23 @@ pub fn plans_are_read()
     askable_slots_are_kept();
     explicit_forms_are_short();
     pages_are_answered();
+    pages_share_authority();
+    versions_are_valid();
+}
+
+/// A server of fragments is a world: the data of a version of its history, their fragments in pages of its size, and the
+/// addresses of these. The form that its pages tell gives the addresses of the first pages, and a page that is read from
+/// the body which the server's definition gives under an address is true for it.
+pub fn a_server_is_a_world()
+    ensures world { ServersAreWorlds }
+    ensures form { ServersHaveForms }
+    ensures pages { ServersPagesAreTrue }
+{
+    controls_read_back();
+    askable_slots_are_kept();
+    triple_order_tells_apart();
+    an_address_is_one();
+    first_page_is_expansion();
     pages_share_authority();
     versions_are_valid();
 }

@@ -18,7 +18,7 @@ use Rattle.http_ends.specs.Requests.{request_for, asks, AddressesArePlain}
 use Rattle.http_ends.specs.Answers.{AnswersAreRead, LongHeadsAreRefused, HeadsAreShort, AnswersHaveStatus, PagesAreNQuads, ServerAnswersAreRead, ReadingsStay}
 use Rattle.http_ends.specs.Cuts.{Answered, RequestIsSent, ResponseIsCut, RepliesAreCut, NextAnswerIsCut, sent_for, bytes_of, sent_of, received_of}
 use Rattle.http_ends.proofs.Answers.{status_case}
-use Rattle.exchange_laws.specs.Honest.{IsAnsweredByAll}
+use Rattle.pool_laws.specs.Honest.{IsAnsweredByAll}
 use Rattle.request_pool.specs.declared.fault.PoolFault.TheVariants as faults
 use Rattle.pool_laws.specs.Following.{IsWebAddress, IsReplied}
 use Rattle.pool_laws.specs.Causes.{RepliedOn}

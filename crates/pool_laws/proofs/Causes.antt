@@ -11,7 +11,7 @@ use Rattle.tpf_base.specs.HttpReply.{reply_of}
 use Rattle.tpf_base.specs.Links.{Nature, WireState, OpensGiven, told_by}
 use Rattle.http_wire.specs.declared.message.Reply.{Reply}
 use Rattle.template_fill.specs.Authorities.{AuthoritiesAreHostsAndPorts}
-use Rattle.link_calls.specs.Sending.{Holds}
+use Rattle.tpf_base.specs.Sending.{Holds}
 use Rattle.http_ends.specs.Requests.{request_for}
 use Rattle.http_ends.specs.Cuts.{bytes_of, sent_of, received_of}
 use Rattle.exchange.specs.Exchanges.{request_of, left_link}

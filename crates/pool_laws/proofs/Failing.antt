@@ -12,7 +12,7 @@ use Rattle.tpf_base.specs.declared.fault.Fault.{Fault}
 use Rattle.tpf_base.specs.declared.fault.Fault.TheVariants as wires
 use Rattle.tpf_base.specs.declared.wire.Ready.{Ready}
 use Rattle.http_wire.specs.declared.message.Reply.{Reply}
-use Rattle.link_calls.specs.Sending.{Holds}
+use Rattle.tpf_base.specs.Sending.{Holds}
 use Rattle.exchange.specs.Exchanges.{Exchanging, left_link}
 use Rattle.exchange.specs.Polls.{Touches}
 use Rattle.exchange.specs.declared.fault.ExchangeFault.{ExchangeFault}

@@ -15,7 +15,7 @@ use Rattle.http_wire.specs.declared.message.Reply.{Reply}
 use Rattle.template_fill.specs.Authorities.{AuthoritiesAreHostsAndPorts}
 use Rattle.http_ends.specs.Requests.{request_for}
 use Rattle.http_ends.specs.Cuts.{Answered, Sent, sent_for, bytes_of, sent_of, received_of}
-use Rattle.link_calls.specs.Sending.{Holds}
+use Rattle.tpf_base.specs.Sending.{Holds}
 use Rattle.exchange.specs.Exchanges.{Exchanging, StandsOn, starting, request_of, left_link, left_by}
 use Rattle.exchange.specs.Polls.{Touches, LinkAfter, Replies}
 use Rattle.exchange.specs.declared.exchange.Standing.{Standing}

@@ -1,3 +1,4 @@
+pub mod HonestLemmas
 pub mod Lists
 pub mod Following
 pub mod KeptBySteps

@@ -7,7 +7,7 @@ use Rattle.futures.specs.declared.task.Poll.TheVariants as poll
 use Rattle.tpf_base.specs.Addresses.{Address}
 use Rattle.tpf_base.specs.HttpReply.{reply_of}
 use Rattle.tpf_base.specs.Links.{Link, WireState, OpensGiven}
-use Rattle.link_calls.specs.Sending.{Holds}
+use Rattle.tpf_base.specs.Sending.{Holds}
 use Rattle.http_wire.specs.declared.message.Reply.{Reply}
 use Rattle.http_ends.specs.Requests.{request_for}
 use Rattle.exchange.specs.Exchanges.{Exchanging, IsFront, IsLinked, StandsOn, starting, request_of}

@@ -9,7 +9,7 @@ use Rattle.tpf_base.specs.declared.fault.Fault.{Fault}
 use Rattle.tpf_base.specs.declared.wire.Ready.{Ready}
 use Rattle.tpf_base.specs.Links.{Link, WireState, OpensGiven}
 use Rattle.tpf_base.specs.Calls.{Closes}
-use Rattle.link_calls.specs.Sending.{Holds}
+use Rattle.tpf_base.specs.Sending.{Holds}
 use Rattle.http_wire.specs.declared.message.Reply.{Reply}
 use Rattle.http_ends.specs.Requests.{request_for}
 use Rattle.exchange.specs.Exchanges.{Exchanging, StandsOn, starting, request_of, left_link}

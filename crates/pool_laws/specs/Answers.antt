@@ -4,7 +4,7 @@ use Rattle.tpf_base.specs.Causes.{Rose}
 use Rattle.tpf_base.specs.HttpHeads.{head_limit}
 use Rattle.http_wire.specs.declared.message.ReplyFault.{ReplyFault}
 use Rattle.http_wire.specs.declared.message.ReplyFault.TheVariants.{TooLong}
-use Rattle.exchange_laws.specs.Honest.{IsAnsweredByAll}
+use Rattle.pool_laws.specs.Honest.{IsAnsweredByAll}
 use Rattle.request_pool.specs.declared.fault.PoolFault.TheVariants as faults
 use Rattle.rdf_terms.specs.declared.term.Triple.{Triple}
 use Rattle.tpf_base.specs.Addresses.{Address}

@@ -10,7 +10,7 @@ use Rattle.tpf_base.specs.Links.{WireState, OpensGiven, told_by, is_short}
 use Rattle.http_wire.specs.Replies.{shown_fault}
 use Rattle.http_wire.specs.declared.message.Reply.{Reply}
 use Rattle.http_wire.specs.declared.message.ReplyFault.{ReplyFault}
-use Rattle.link_calls.specs.Sending.{Holds}
+use Rattle.tpf_base.specs.Sending.{Holds}
 use Rattle.http_ends.specs.Requests.{request_for}
 use Rattle.http_ends.specs.Cuts.{Answered, bytes_of, sent_of, received_of}
 use Rattle.request_pool.specs.declared.fault.PoolFault.{PoolFault}

@@ -1,3 +1,4 @@
+pub mod Honest
 pub mod Following
 pub mod Answers
 pub mod Owning

@@ -5,7 +5,7 @@ use Rattle.tpf_base.specs.Addresses.{Address}
 use Rattle.tpf_base.specs.Causes.{RoseBy}
 use Rattle.tpf_base.specs.HttpReply.{Whole, reply_of}
 use Rattle.tpf_base.specs.Links.{Link, WireState, OpensGiven}
-use Rattle.link_calls.specs.Sending.{Holds}
+use Rattle.tpf_base.specs.Sending.{Holds}
 use Rattle.http_ends.specs.Requests.{request_for}
 use Rattle.exchange.specs.Exchanges.{Exchanging, IsFront, Stands, starting}
 use Rattle.request_pool.specs.declared.asks.Waiting.{Waiting}

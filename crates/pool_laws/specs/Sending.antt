@@ -3,7 +3,7 @@ use Rattle.std.specs.Prelude.{ℕ, ◌≡◌, ◌≤◌, ◌<◌, ◌++◌, List
 use Rattle.std.specs.List.{AllByRecursion, Contains, flat_map}
 use Rattle.tpf_base.specs.Addresses.{Address}
 use Rattle.tpf_base.specs.Links.{Link, WireState, OpensGiven}
-use Rattle.link_calls.specs.Sending.{Holds}
+use Rattle.tpf_base.specs.Sending.{Holds}
 use Rattle.http_ends.specs.Requests.{request_for}
 use Rattle.exchange.specs.Exchanges.{Exchanging, IsFront, Stands, starting}
 use Rattle.request_pool.specs.declared.fault.PoolFault.{PoolFault}

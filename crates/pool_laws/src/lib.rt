@@ -16,6 +16,7 @@
 ghost use Rattle.std.specs.Prelude.{◌≡◌};
 ghost use Rattle.tpf_base.specs.Links.{All};
 ghost use Rattle.pool_laws.specs.Answers.{CutsAreFaults, RefusalsAreTooLong, RepliesAreAnswers, TellsAll};
+ghost use Rattle.pool_laws.specs.Honest.{RefusedAsTooLongAlone};
 ghost use Rattle.pool_laws.specs.Owning.{ClosingCloses, EmptyPoolsOwn, FaultsOwn, PutsOwn, StepsOwn};
 ghost use Rattle.pool_laws.specs.Causes.{FaultsHaveCauses, RepliesAreRead};
 ghost use Rattle.pool_laws.specs.Counting.{ClosingDials, EmptyPoolsDial, EmptyPoolsFewFailed, FaultsDial, PutsDial, PutsFewFailed, StepsCountTries, StepsDial, StepsFewFailed};
@@ -205,4 +206,16 @@ pub fn steps_provoke_nothing<W: Wire>(wire: &W)
     a_reading_stays();
     a_response_is_cut();
     authorities_are_hosts_and_ports();
+}
+
+/// Where the other end of a link (a TCP connection) answers as a server does, and each request before
+/// on the link was answered by one whole reply, a poll of an exchange never refuses the reply to an
+/// address that all versions of the data answer with status 200, unless its body is longer than the
+/// limit.
+pub fn an_honest_reply_is_refused_as_too_long_alone()
+    ensures { RefusedAsTooLongAlone }
+{
+    a_response_is_cut();
+    an_answer_is_read();
+    a_reading_stays();
 }

@@ -6,7 +6,7 @@ ghost use Rattle.query_words.specs.Texts.{same_word, inside, colon, unescaped, r
 
 use query_tokens::escape::{character_of, first_chars, hex_value};
 use std::alloc::Global;
-use tpf_base::{OutOfMemory, Text};
+use text_base::{OutOfMemory, Text};
 
 /// The characters of a text. `OutOfMemory` comes only where memory runs out, here and below.
 pub fn decode(alloc: Global, text: &str) -> Result<Vec<char>, OutOfMemory>

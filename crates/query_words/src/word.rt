@@ -10,7 +10,7 @@ use query_grammar::kind::Kind;
 use query_tokens::kind::PieceKind;
 use query_tokens::piece::Piece;
 use std::alloc::Global;
-use tpf_base::{OutOfMemory, Text};
+use text_base::{OutOfMemory, Text};
 
 /// What a token says: its text without its marks and with its escapes resolved, or which word or
 /// mark it is.

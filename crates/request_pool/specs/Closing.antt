@@ -24,7 +24,6 @@ pub record ClosesSome (was is : ℕ → ℕ) (wire wire' : WireState) : Type 0 w
   pub waits : wire'.waits ≡ wire.waits
   pub idle : wire'.idle ≡ wire.idle
   pub door : wire'.door ≡ wire.door
-  pub door_stalls : wire'.door_stalls ≡ wire.door_stalls
   pub nature : wire'.nature ≡ wire.nature
 
 -- how many exchanges in flight and links that were left a pool holds

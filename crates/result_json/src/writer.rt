@@ -1,9 +1,7 @@
 // A result that is written row by row.
-ghost use Rattle.std.specs.Prelude.{◌≡◌, ◌≤◌, true, false, [], ◌++◌, IfOk, OnOk, OnErr, IsErrOf, codes, if◌then◌else◌};
-ghost use Rattle.std.specs.Io.KnownBytes.{Appends};
+ghost use Rattle.std.specs.Prelude.{◌≡◌, true, false, [], ◌++◌, IfOk, OnOk, OnErr, codes, if◌then◌else◌};
 ghost use Rattle.json.specs.Print.{print};
-ghost use Rattle.tpf_base.specs.Causes.{Rose, DoesNotFail};
-ghost use Rattle.tpf_base.specs.Wrote.{AppendsPrefix};
+ghost use Rattle.tpf_base.specs.Wrote.{WritesWhole};
 ghost use Rattle.result_json.specs.Results.{row_object, result_text};
 ghost use Rattle.result_json.specs.Pieces.{front_text, row_piece, end_text};
 
@@ -140,13 +138,8 @@ impl<'a> ResultWriter<'a> {
     /// Gives the pending bytes to a sink; nothing is pending afterwards, and the room stays. At a fault the sink took a prefix
     /// of them. `Failed` only where the sink's count of faults rose in this call, and never over a faultless sink.
     pub fn give<K: Sink>(&mut self, out: &mut K) -> Result<(), Fault>
-        ensures ok { OnOk result (Appends (K.taken out.old) (K.taken out.new) self.old.pending) }
-        ensures err { OnErr result (AppendsPrefix (K.taken out.old) (K.taken out.new) self.old.pending) }
+        ensures writes { WritesWhole self.old.pending (K.state out.old) (K.state out.new) result }
         ensures given { self.new ≡ record { query = self.old.query; has_rows = self.old.has_rows; pending = [] } }
-        ensures later { K.faults out.old ≤ K.faults out.new }
-        ensures failed { IsErrOf result Fault.Failed → Rose (K.faults out.old) (K.faults out.new) }
-        ensures faultless { K.faultless out.new ≡ K.faultless out.old }
-        ensures spared { K.faultless out.old ≡ true → DoesNotFail (K.faults out.old) (K.faults out.new) result }
     {
         let given = write_all(out, &self.text);
         self.text.clear();

@@ -7,11 +7,11 @@ use Rattle.tpf_base.specs.Addresses.{Address}
 use Rattle.bgp_core.specs.Solutions.{Places}
 use Rattle.request_pool.specs.Pools.{Ask}
 use Rattle.std.specs.Prelude.{Option}
-use Rattle.control_reader.specs.declared.page.Page.{Page}
+use Rattle.fragment_page.specs.declared.page.Page.{Page}
 use Rattle.join_core.specs.Evaluations.{Account, HandsOver, GivesOwed}
 use Rattle.tpf_client.specs.Traffic.{Event, Asked, Came, Waited, Broke}
 use Rattle.tpf_client.specs.Asking.{AreWaits}
-use Rattle.tpf_client.specs.Turns.{HandsAll, GivesAll, Owes, OwesMore, address_of, asked_in, AreTrue}
+use Rattle.tpf_client.specs.Turns.{HandsAll, GivesAll, Owes, OwesMore, address_of, asked_in, AreTrue, IsPageReply, ArePages}
 
 -- a front, and then more of what was behind it
 pub perm-then : {X : Type 0} (x a y b z : List X) → IsPermutation x (a ++ y) → IsPermutation y (b ++ z) → IsPermutation x ((a ++ b) ++ z)
@@ -77,6 +77,22 @@ asked-append (Broke fault ∷ first) second = asked-append first second
 pub asked-asks : (asks : List Ask) → asked_in (map Asked asks) ≡ asks
 asked-asks [] = refl
 asked-asks (ask ∷ asks) = ap (λ (l : List Ask). ask ∷ l) (asked-asks asks)
+
+pub pages-then : (version : Option ℕ) (first second : List Event) → ArePages version first → ArePages version second → ArePages version (first ++ second)
+pages-then version [] second f s = s
+pages-then version (event ∷ first) second f s = (f.0, pages-then version first second f.1 s)
+
+page-waited : (version : Option ℕ) (event : Event) → event ≡ Waited → IsPageReply version event
+page-waited version event e = subst (IsPageReply version) (sym e) tt
+
+-- no reply came where each step waited, and none where asks were put
+pub pages-waits : (version : Option ℕ) (events : List Event) → AreWaits events → ArePages version events
+pages-waits version [] h = tt
+pages-waits version (event ∷ events) h = (page-waited version event h.0, pages-waits version events h.1)
+
+pub pages-asks : (version : Option ℕ) (asks : List Ask) → ArePages version (map Asked asks)
+pages-asks version [] = tt
+pages-asks version (ask ∷ asks) = (tt, pages-asks version asks)
 
 pub asked-waits : (events : List Event) → AreWaits events → asked_in events ≡ []
 asked-waits [] h = refl

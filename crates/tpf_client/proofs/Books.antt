@@ -1,7 +1,7 @@
 -- The book of addresses, as asks are put and replies come.
 use Rattle.std.proofs.Common.{ℕ, ◌≡◌, ◌≢◌, List, [], ◌∷◌, ◌++◌, Option, Some, None, sym, ap, subst, ◌∙◌}
 use Rattle.std.specs.Prelude.{Result, Ok, Err, OnOk, OnErr}
-use Rattle.tpf_base.specs.declared.fault.OutOfMemory.{OutOfMemory}
+use Rattle.text_base.specs.declared.memory.OutOfMemory.{OutOfMemory}
 use Rattle.std.specs.List.{AllByRecursion}
 use Rattle.std.specs.List.Sorted.{IsPermutation}
 use Rattle.std.specs.BTreeMap.{BTreeMap, get}

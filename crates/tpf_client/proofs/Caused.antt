@@ -8,9 +8,9 @@ use Rattle.tpf_base.specs.HttpReply.{reply_of}
 use Rattle.std.specs.List.{Contains}
 use Rattle.http_wire.specs.Replies.{shown_fault}
 use Rattle.http_wire.specs.declared.message.ReplyFault.{ReplyFault}
-use Rattle.link_calls.specs.Sending.{Holds}
+use Rattle.tpf_base.specs.Sending.{Holds}
 use Rattle.pool_laws.specs.Causes.{RepliedOn, IsRead, IsCut, IsRefused}
-use Rattle.control_reader.specs.declared.page.PageFault.{PageFault}
+use Rattle.fragment_page.specs.declared.page.PageFault.{PageFault}
 use Rattle.control_reader.specs.Takes.{Faults}
 use Rattle.std.proofs.lemmas.List.Sorted.{IsPermutation-sym, Contains-permutation}
 use Rattle.list_laws.proofs.Members.{at_head}
@@ -129,16 +129,17 @@ module _ (laws : Laws) (traffic : TrafficLaws) (allows : List ℕ → ℕ → Li
       (c.loses.fresh since.given (record { given = x.knows.owns.gives.later; none = x.knows.owns.none_before })) c.why c.is_fault c.bad
 
   page-at : (limit : ℕ) → limit ≡ options.max_body → (events : List Event) (p : Pooled) → RunsPool allows options since now events p → (ask : Ask) → Contains (asked_in events) ask → (fault : PageFault) (body : List ℕ) → Faults body ask.address fault
-      → (received : List ℕ) (at_end : Bool) (n : ℕ) (keeps : Bool) (on : RepliedOn limit ask.address received now) → since.given ≤ on.k → reply_of received at_end limit ≡ replies.Whole body n keeps → IsNoPageOf allows options since now fault body
+      → (received : List ℕ) (at_end : Bool) (n : ℕ) (keeps : Bool) (on : RepliedOn limit ask.address received now) → since.given ≤ on.k → (at_end ≡ true → Holds (now.links on.k).ended true) → reply_of received at_end limit ≡ replies.Whole body n keeps → IsNoPageOf allows options since now fault body
   page-at limit e events p r ask asked fault body why received at_end n keeps =
-      subst (λ (m : ℕ). (on : RepliedOn m ask.address received now) → since.given ≤ on.k → reply_of received at_end m ≡ replies.Whole body n keeps → IsNoPageOf allows options since now fault body) (sym e)
-      (λ on fresh whole. record {
+      subst (λ (m : ℕ). (on : RepliedOn m ask.address received now) → since.given ≤ on.k → (at_end ≡ true → Holds (now.links on.k).ended true) → reply_of received at_end m ≡ replies.Whole body n keeps → IsNoPageOf allows options since now fault body) (sym e)
+      (λ on fresh ended whole. record {
         received = received;
         is_received = record { events = events; pool = p; runs = r; ask = ask; asked = asked; on = on; fresh = fresh };
         at_end = at_end;
         n = n;
         keeps = keeps;
         whole = whole;
+        ended = ended;
         why = why;
       })
 
@@ -156,6 +157,7 @@ module _ (laws : Laws) (traffic : TrafficLaws) (allows : List ℕ → ℕ → Li
       (lost-in laws traffic allows options since now lawful start events (Came e.ask e.reply) p r x p c.hands.ask h.had_none c.hands.others)
       fault body (subst (λ (y : Ask). Faults body y.address fault) (sym same) e.why) c.received c.at_end c.n e.reply.keeps on
       (c.fresh since.given (record { given = x.knows.owns.gives.later; none = x.knows.owns.none_before }))
+      (λ at. subst (λ (o : Option Bool). Holds o true) (sym (x.told c.on.k).ended) (c.ended at).0)
       (subst (λ (l : List ℕ). reply_of c.received c.at_end x.mid.limit ≡ replies.Whole l c.n e.reply.keeps) e.body_is c.whole)
 
   cause-of : (fault : ClientFault) (version : Option ℕ) (events : List Event) (p : Pooled) → Explains version options.budget fault events → RunsPool allows options since now events p → AsksAt start events → IsCause allows options since now fault

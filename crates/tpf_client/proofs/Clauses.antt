@@ -14,12 +14,10 @@ use Rattle.tpf_client.specs.declared.options.Options.{Options}
 use Rattle.tpf_client.specs.declared.options.Report.{Report}
 use Rattle.tpf_client.specs.declared.fault.ClientFault.{ClientFault}
 use Rattle.tpf_client.specs.Traffic.{Event, IsLawful}
-use Rattle.tpf_client.specs.Calls.{Ran, Returns, WritesSome, RunsPool, IsCause}
+use Rattle.tpf_client.specs.Acts.{ActsOnWire}
+use Rattle.tpf_client.specs.Calls.{Ran, Returns, WritesSome, RunsPool}
 use Rattle.tpf_client.specs.Honest.{Laws, IsHonestWire}
-use Rattle.tpf_client.specs.Requests.{TrafficLaws, DialsAtMost, GivesAtMost, AnswersAll, RequestsAreTries, DialsAreTries}
-use Rattle.tpf_client.specs.Requested.{RequestsPlan, AnswersPlan}
-use Rattle.tpf_client.specs.Plans.{AsksPlan, OverHonest, OverLively, CountsRises, PacesRequests, IsHonestCause, IsLivelyCause, StaysUnprovoked}
-use Rattle.tpf_client.specs.Failing.{IsFailedOften, ForBudget, SpendsRequests, SpendsTries, SpendsPlan}
+use Rattle.tpf_client.specs.Requests.{TrafficLaws}
 use Rattle.tpf_client.proofs.Known.{begun}
 use Rattle.tpf_client.proofs.Shutting.{if-ok-from, if-err-from}
 use Rattle.tpf_client.proofs.Caused.{fault-caused}
@@ -30,29 +28,6 @@ use Rattle.tpf_client.proofs.HonestCauses.{honest-cause}
 use Rattle.tpf_client.proofs.LivelyCauses.{counts-so, paces-so, lively-cause}
 use Rattle.tpf_client.proofs.Requested.{requests-plan, answers-plan}
 use Rattle.tpf_client.proofs.Exits.{AnyExit, RowsExit, any-exit, rows-exit, dials-so, asks-plan, requests-so, unprovoked-so, called, called-some, at-run, at-whole, at-explained, at-planned}
-
--- the clauses that both calls have of their wire, where a report is told of what they answer
-pub record ExitClauses {A : Type 0} (allows : List ℕ → ℕ → List ℕ → List ℕ → Type 0) (options : Options) (start : Address) (q : QueryData) (result : Result A ClientFault) (told : A → Report) (since now : WireState) : Type 0 where
-  pub links : AnyExit allows options start since now
-  pub cause : IfErr result (IsCause allows options since now)
-  pub answered : IfOk result (λ x. AnswersAll allows options start (told x).requests since now)
-  pub within : IfOk result (λ x. (told x).requests ≤ options.budget)
-  pub dialled : IfOk result (λ x. DialsAtMost (told x).requests since now)
-  pub linked : IfOk result (λ x. GivesAtMost (told x).requests since now)
-  pub requests : OverHonest allows since (λ history config. IfOk result (λ x. RequestsAreTries history config options q start (told x)))
-  pub planned : OverHonest allows since (λ history config. DialsAreTries history config options q start since now)
-  pub asked : OverHonest allows since (λ history config. AsksPlan history config q start since now)
-  pub requested : OverHonest allows since (λ history config. RequestsPlan history config options q start since now)
-  pub replied : OverHonest allows since (λ history config. IfOk result (λ x. AnswersPlan history config options q start (told x) since now))
-  pub honest_cause : OverHonest allows since (λ history config. IfErr result (IsHonestCause history config options q start))
-  pub counted : OverLively allows since (λ history config. CountsRises allows history config options q start since now)
-  pub paced : OverLively allows since (λ history config. IfOk result (λ x. PacesRequests history config q start (told x) since now))
-  pub lively_cause : OverLively allows since (λ history config. IfErr result (IsLivelyCause history config options q start since now))
-  pub failed_often : since.nature.lively ≡ true → IfErr result (IsFailedOften options since now)
-  pub spent_requests : IfErr result (ForBudget (SpendsRequests options since now))
-  pub spent_tries : IfErr result (ForBudget (SpendsTries allows options start since now))
-  pub spent_plan : OverHonest allows since (λ history config. IfErr result (ForBudget (SpendsPlan history config options q start)))
-  pub unprovoked : OverHonest allows since (λ history config. StaysUnprovoked options since now)
 
 module _ (laws : Laws) (traffic : TrafficLaws) (allows : List ℕ → ℕ → List ℕ → List ℕ → Type 0) (options : Options) (since between now : WireState) (lawful : IsLawful allows since) (limit : options.max_body < 2 ^ 64) (some : 1 ≤ options.links) (start : Address) (q : QueryData)
     (first new : Pooled) (is : first ≡ begun options) (closes : ClosesSome (held_on new) (λ k. 0) between now) where
@@ -85,9 +60,18 @@ module _ (laws : Laws) (traffic : TrafficLaws) (allows : List ℕ → ℕ → Li
       explained = if-err-from result (λ fault. WritesSome Body q start options.budget fault t u) (λ fault. ExplainedRun allows history config options since now start q fault) err (λ fault w.
           at-explained allows options since between now start q first new is closes laws lawful history config honest limit fault t u w)
 
-    pub exit-clauses : ExitClauses allows options start q result told since now
-    exit-clauses = record {
-      links = any-exit laws traffic allows options since now lawful start run;
+    at-exit : AnyExit allows options start since now
+    at-exit = any-exit laws traffic allows options since now lawful start run
+
+    pub acts-on-wire : ActsOnWire allows options start q result told since now
+    acts-on-wire = record {
+      closed = at-exit.closed;
+      peers = at-exit.peers;
+      others = at-exit.others;
+      dials = at-exit.dials;
+      given = at-exit.given;
+      started = at-exit.started;
+      sent = at-exit.sent;
       cause = if-err-from result _ _ some-faults (λ fault w. fault-caused laws traffic allows options since now lawful start q fault t u w);
       answered = if-ok-from result _ _ some-rows (λ x e. e.answers);
       within = if-ok-from result _ _ some-rows (λ x e. e.within);

@@ -16,7 +16,7 @@ use Rattle.tpf_client.specs.declared.options.Report.{Report}
 use Rattle.tpf_client.specs.declared.fault.ClientFault.{ClientFault}
 use Rattle.tpf_client.specs.Traffic.{Event, IsLawful}
 use Rattle.tpf_client.specs.Turns.{asked_in, address_of}
-use Rattle.tpf_client.specs.Calls.{Ran, Returns, WritesSome, RunsPool}
+use Rattle.tpf_client.specs.Calls.{Ran, Returns, WritesSome, RunsPool, StartsFew}
 use Rattle.tpf_client.specs.Honest.{Laws, IsHonestWire}
 use Rattle.tpf_client.specs.Requests.{TrafficLaws, AreClosed, AreDialledFor, OthersStay, DialsAtMost, GivesAtMost, addresses_of, tries_of, AnswersAll, RequestsAreTries, DialsAreTries}
 use Rattle.tpf_client.specs.Plans.{SendsAsked, AsksPlan, StaysUnprovoked}
@@ -35,6 +35,7 @@ pub record AnyExit (allows : List ℕ → ℕ → List ℕ → List ℕ → Type
   pub others : OthersStay since now
   pub dials : DialsAtMost options.budget since now
   pub given : GivesAtMost options.budget since now
+  pub started : StartsFew allows options since now
   pub sent : SendsAsked allows options start since now
 
 -- and where it answers rows
@@ -63,6 +64,7 @@ module _ (laws : Laws) (traffic : TrafficLaws) (allows : List ℕ → ℕ → Li
         others = x.others;
         dials = more-than now.dials since.dials run.pool.started options.budget x.dials x.within;
         given = more-than now.given since.given run.pool.started options.budget x.given x.within;
+        started = record { events = run.events; pool = run.pool; runs = run.runs; few = x.within };
         sent = sends-so laws traffic allows options since now lawful start run;
       }
 

@@ -8,7 +8,7 @@ use Rattle.tpf_base.specs.Addresses.{Address}
 use Rattle.tpf_base.specs.Causes.{Rose}
 use Rattle.tpf_base.specs.Links.{WireState, SameAllowed}
 use Rattle.bgp_core.specs.Solutions.{Places}
-use Rattle.control_reader.specs.declared.page.Page.{Page}
+use Rattle.fragment_page.specs.declared.page.Page.{Page}
 use Rattle.request_pool.specs.declared.fault.PoolFault.{PoolFault}
 use Rattle.request_pool.specs.declared.fault.PoolFault.TheVariants as pool
 use Rattle.request_pool.specs.Pools.{Pooled, Ask}
@@ -24,7 +24,7 @@ use Rattle.tpf_base.specs.declared.fault.Fault.TheVariants as failures
 use Rattle.tpf_client.specs.Rows.{sink_fault}
 use Rattle.tpf_client.specs.Asking.{Arrives, Stops, AreWaits, ask_of}
 use Rattle.tpf_client.specs.Turns.{Meets, Hands, Gives, Readies, TakesReply, Went, Failed, Owes, OwesMore, asked_in, AreTrue, IsTrueReply}
-use Rattle.tpf_client.proofs.Accounting.{owes-none, owes-then, owes-more, more-then, asked-append, asked-asks, asked-waits, true-first, true-second}
+use Rattle.tpf_client.proofs.Accounting.{owes-none, owes-then, owes-more, more-then, asked-append, asked-asks, asked-waits, true-first, true-second, pages-then, pages-waits, pages-asks}
 use Rattle.tpf_client.proofs.Homes.{puts-homes, homes-then, homes-of}
 use Rattle.tpf_client.proofs.Meeting.{meets-came, meets-home, outs-came, outs-address}
 use Rattle.tpf_client.proofs.Turning.{give-meets, give-outs}
@@ -138,6 +138,7 @@ module _ {Source Eval : Type 0} (suits : Source → Eval → Type 0) (account : 
   went-none allows e p w s = record {
     travels = no-events allows p w;
     on_wire = s;
+    pages = tt;
     meets = λ terms m. m;
     homes = λ terms m. tt;
     width = λ terms m. All-nil (λ row. length row ≡ terms.width);
@@ -150,6 +151,7 @@ module _ {Source Eval : Type 0} (suits : Source → Eval → Type 0) (account : 
   went-asks allows a b c rows asked p q w s l g h = record {
     travels = puts-travel allows asked p q w h.puts s l;
     on_wire = puts-suit asked p q w h.puts s;
+    pages = pages-asks version asked;
     meets = λ terms m. h.meets terms (give-meets suits account keeps standing a b rows p terms g m);
     homes = λ terms m.
         homes-of (λ ask. HasHome terms.homes ask.address) (map Asked asked) asked (asked-asks asked)
@@ -184,6 +186,7 @@ module _ {Source Eval : Type 0} (suits : Source → Eval → Type 0) (account : 
       record {
         travels = h.travels;
         on_wire = h.suits;
+        pages = pages-then version h.before (Came (ask_of arrived) arrived.reply ∷ []) (pages-waits version h.before h.waits) ((t.page, t.taken, t.is_version), tt);
         meets = λ terms m. meets-came terms (keeps terms a) (standing a) p (keeps terms b) (standing b) q (ask_of arrived) m h.others t.ends h.no_fault
             (t.kept terms m.kept (meets-home terms (keeps terms a) (standing a) p q (ask_of arrived) m h.others));
         homes = λ terms m. homes-of (λ ask. HasHome terms.homes ask.address) (h.before ++ Came (ask_of arrived) arrived.reply ∷ []) [] none tt;
@@ -216,6 +219,7 @@ module _ {Source Eval : Type 0} (suits : Source → Eval → Type 0) (account : 
   went-then allows later a b c first second rows more p q r u v w same f s = record {
     travels = travels-then allows first second p q r u v w f.travels (travels-allowed allows later second q r v w same s.travels);
     on_wire = s.on_wire;
+    pages = pages-then version first second f.pages s.pages;
     meets = λ terms m. s.meets terms (f.meets terms m);
     homes = λ terms m. homes-then (λ ask. HasHome terms.homes ask.address) first second (f.homes terms m) (s.homes terms (f.meets terms m));
     width = λ terms m. All-append (λ row. length row ≡ terms.width) rows more (f.width terms m) (s.width terms (f.meets terms m));

@@ -7,7 +7,7 @@ use Rattle.tpf_base.specs.Marks.{version_at}
 use Rattle.http_wire.specs.declared.message.ReplyFault.{ReplyFault}
 use Rattle.template_fill.specs.HttpAnswer.{Answer}
 use Rattle.template_fill.specs.Metadata.{Config}
-use Rattle.control_reader.specs.declared.page.PageFault.{PageFault}
+use Rattle.fragment_page.specs.declared.page.PageFault.{PageFault}
 use Rattle.control_reader.specs.Takes.{Takes, Faults}
 use Rattle.bgp_core.specs.Queries.{QueryData}
 use Rattle.request_pool.specs.declared.fault.PoolFault.TheVariants as pool

@@ -79,6 +79,7 @@ module _ (allows : List ℕ → ℕ → List ℕ → List ℕ → Type 0) (q : Q
     asks = asks-home form.template.start events (went.homes (terms-of form.template.start q) begun-so);
     none_held = quiet-holds-none (terms-of form.template.start q) (KeepsTo (terms-of form.template.start q) k) (standing_of k) new (went.meets (terms-of form.template.start q) begun-so) (done-is-quiet k done).0;
     no_fault = (went.meets (terms-of form.template.start q) begun-so).no_fault;
+    pages = went.pages;
     width = went.width (terms-of form.template.start q) begun-so;
     gives = λ w is.
         let b = begins-in w events is in

@@ -11,7 +11,7 @@ use Rattle.tpf_base.specs.Links.{Link, Nature, WireState, told_by}
 use Rattle.request_pool.specs.Pools.{Pooled, Ask, held}
 use Rattle.request_pool.specs.Owned.{held_on}
 use Rattle.request_pool.specs.Closing.{ClosesSome, IsClosed}
-use Rattle.link_calls.specs.Sending.{Holds}
+use Rattle.tpf_base.specs.Sending.{Holds}
 use Rattle.http_ends.specs.Requests.{request_for}
 use Rattle.http_ends.specs.Cuts.{bytes_of, sent_of, received_of}
 use Rattle.pool_laws.specs.Causes.{RepliedOn}

@@ -63,6 +63,7 @@ module _ (ran ran' : List Event → Pooled → Type 0) (goes : (events : List Ev
     none_held = r.none_held;
     no_fault = r.no_fault;
     is_version = r.is_version;
+    pages = r.pages;
     requests = r.requests;
     count = r.count;
     width = r.width;

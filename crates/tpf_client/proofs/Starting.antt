@@ -6,7 +6,7 @@ use Rattle.std.proofs.lemmas.List.Sorted.{IsPermutation-sym, IsPermutation-trans
 use Rattle.list_laws.proofs.Members.{at_head, one_of}
 use Rattle.tpf_base.specs.Addresses.{Address}
 use Rattle.tpf_base.specs.Links.{WireState}
-use Rattle.control_reader.specs.declared.page.Page.{Page}
+use Rattle.fragment_page.specs.declared.page.Page.{Page}
 use Rattle.control_reader.specs.Takes.{Takes}
 use Rattle.request_pool.specs.declared.fault.PoolFault.{PoolFault}
 use Rattle.request_pool.specs.Pools.{Pooled, Ask, held}
@@ -21,6 +21,7 @@ use Rattle.tpf_client.specs.Causes.{Explains, shown_as}
 use Rattle.tpf_client.specs.Asking.{Arrives, Stops, PutsOne, StepsOn, ask_of, IsReadFault, ReadsPage}
 use Rattle.tpf_client.specs.Starts.{Starts, HasNoStart, start_ask}
 use Rattle.tpf_client.proofs.Traveling.{travels-then, one-event, no-events}
+use Rattle.tpf_client.proofs.Accounting.{pages-then, pages-waits}
 use Rattle.tpf_client.proofs.Waiting.{empty-list}
 use Rattle.tpf_client.proofs.Distinct.{put-held}
 use Rattle.tpf_client.specs.Turns.{asked_in}
@@ -70,6 +71,7 @@ module _ (allows : List ℕ → ℕ → List ℕ → List ℕ → Type 0) (start
         last = record { before = h.before; is_last = ap (λ (a : Ask). h.before ++ Came a arrived.reply ∷ []) is.0 };
         asked_are = asked-last h.before (Came (ask_of arrived) arrived.reply) h.waits refl;
         taken = subst (λ (x : Address). Takes arrived.reply.body x page) (ap (λ (a : Ask). a.address) is.0) r;
+        pages = pages-then page.version h.before (Came (ask_of arrived) arrived.reply ∷ []) (pages-waits page.version h.before h.waits) ((page, r, refl), tt);
         none = is.1;
         no_fault = h.no_fault;
         suits = h.suits;
@@ -120,6 +122,7 @@ module _ (allows : List ℕ → ℕ → List ℕ → List ℕ → Type 0) (start
     reply = k.reply;
     last = record { before = Asked (start_ask start) ∷ k.last.before; is_last = ap (λ (x : List Event). Asked (start_ask start) ∷ x) k.last.is_last };
     taken = k.taken;
+    pages = (tt, k.pages);
     asked_are = ap (λ (l : List Ask). start_ask start ∷ l) k.asked_are;
     none = k.none;
     no_fault = k.no_fault;

@@ -7,7 +7,7 @@ use Rattle.list_laws.proofs.Members.{head_or_tail, none_in}
 use Rattle.tpf_base.specs.Addresses.{Address}
 use Rattle.template_fill.specs.Authorities.{ShareAuthority}
 use Rattle.control_reader.specs.Authorities.{KeepsAuthority}
-use Rattle.control_reader.specs.declared.page.Page.{Page}
+use Rattle.fragment_page.specs.declared.page.Page.{Page}
 use Rattle.control_reader.specs.Takes.{Takes}
 use Rattle.join_core.specs.Evaluations.{Account, Standing, Terms, HasHome, NextAtHome, StandsAfterAnswer, OwesAfterAnswer}
 use Rattle.join_core.specs.declared.evaluation.Answered.{Answered}

@@ -12,12 +12,12 @@ use Rattle.template_fill.specs.Metadata.{Config}
 use Rattle.template_fill.specs.Bodies.{version_of, page_body}
 use Rattle.template_fill.specs.Configurations.{IsConfig, IsHistory}
 use Rattle.template_fill.specs.Answered.{PagesAreGiven, AnsweredGivePages, GivesSomePage, GivesPage}
-use Rattle.control_reader.specs.declared.page.Page.{Page}
+use Rattle.fragment_page.specs.declared.page.Page.{Page}
 use Rattle.control_reader.specs.Takes.{Takes}
-use Rattle.control_reader.specs.Law.{NothingElseIsRead, IsReadFrom, IsServerForm}
+use Rattle.control_laws.specs.Law.{NothingElseIsRead, IsReadFrom, IsServerForm}
 use Rattle.pool_laws.specs.Answers.{IsBodyOf}
 use Rattle.join_core.specs.Worlds.{IsPageAt}
-use Rattle.join_core.specs.Servers.{server_world, ServersAreWorlds, ServersHaveForms, ServersPagesAreTrue}
+use Rattle.plan_laws.specs.Servers.{server_world, ServersAreWorlds, ServersHaveForms, ServersPagesAreTrue}
 use Rattle.tpf_client.specs.Traffic.{Event, Asked, Came, Waited, Broke}
 use Rattle.tpf_client.specs.Turns.{AreTrue, IsTrueReply}
 use Rattle.tpf_client.specs.Calls.{IsWorldOf}

@@ -1,5 +1,5 @@
 -- The start page, and then the rest of a call.
-use Rattle.std.proofs.Common.{ℕ, ◌++◌, List, [], ◌∷◌, Option, refl}
+use Rattle.std.proofs.Common.{ℕ, ◌≡◌, ◌++◌, List, [], ◌∷◌, Option, refl, sym, subst}
 use Rattle.std.specs.Prelude.{Result, Ok, Err, IfOk, IfErr}
 use Rattle.std.proofs.lemmas.List.Sorted.{IsPermutation-refl}
 use Rattle.template_fill.specs.declared.form.Form.{Form}
@@ -8,7 +8,7 @@ use Rattle.tpf_base.specs.Addresses.{Address}
 use Rattle.tpf_base.specs.Links.{WireState, SameAllowed}
 use Rattle.bgp_core.specs.Queries.{QueryData}
 use Rattle.bgp_core.specs.Solutions.{Places}
-use Rattle.control_reader.specs.declared.page.Page.{Page}
+use Rattle.fragment_page.specs.declared.page.Page.{Page}
 use Rattle.result_json.specs.Pieces.{PiecesMakeTheText, RowsGoOn}
 use Rattle.request_pool.specs.Pools.{Pooled}
 use Rattle.request_pool.specs.Owned.{SuitsWire}
@@ -19,9 +19,10 @@ use Rattle.tpf_client.specs.Traffic.{Event, Travels}
 use Rattle.template_fill.specs.Authorities.{ShareAuthority}
 use Rattle.tpf_client.specs.Causes.{Explains}
 use Rattle.tpf_client.specs.Shown.{ShowsRest, ShowsGiven}
-use Rattle.tpf_client.specs.Turns.{AsksAt}
+use Rattle.tpf_client.specs.Turns.{ArePages, AsksAt}
 use Rattle.tpf_client.specs.Starts.{HasStart, HasNoStart, start_ask}
 use Rattle.tpf_client.proofs.Homes.{asks-behind}
+use Rattle.tpf_client.proofs.Accounting.{pages-then}
 use Rattle.tpf_client.specs.Calls.{Ran, Returns, ReadsStart, WritesAll, WritesSome, WritesRest, WritesLess, PartOf, WholeOf, GathersRest, Before, Behind, AtEnd, WritesResult, WritesPrefix, JoinsSome, solutions_of, no_names_bound}
 use Rattle.tpf_client.proofs.Traveling.{travels-then, travels-allowed, no-events}
 use Rattle.tpf_client.proofs.Texts.{same-written, nothing-written, rows-more}
@@ -40,6 +41,9 @@ module _ (allows between-allows : List ℕ → ℕ → List ℕ → List ℕ →
   asked-behind : (later : List Event) → AsksAt page.form.template.start later → AsksAt start (s.events ++ later)
   asked-behind later a = asks-behind start page.form.template.start s.events later home s.asked_are a
 
+  pages-of : (told : Option ℕ) (later : List Event) → told ≡ page.version → ArePages page.version later → ArePages told (s.events ++ later)
+  pages-of told later e p = subst (λ (v : Option ℕ). ArePages v (s.events ++ later)) (sym e) (pages-then page.version s.events later s.pages p)
+
   pub all-written : (report : Report) (t u : Option (List ℕ)) → WritesRest between-allows q page.form page.version report mid new between wire' t u → WritesAll (Ran allows old new wire wire') q start report t u
   all-written report t u w = record {
     rows = w.rows;
@@ -53,6 +57,7 @@ module _ (allows between-allows : List ℕ → ℕ → List ℕ → List ℕ →
       none_held = w.joins.none_held;
       no_fault = w.joins.no_fault;
       is_version = w.is_version;
+      pages = pages-of report.version w.events w.is_version w.joins.pages;
       requests = w.requests;
       count = w.count;
       width = w.joins.width;
@@ -104,6 +109,7 @@ module _ (allows between-allows : List ℕ → ℕ → List ℕ → List ℕ →
     none_held = w.joins.none_held;
     no_fault = w.joins.no_fault;
     is_version = w.is_version;
+    pages = pages-of report.version w.events w.is_version w.joins.pages;
     requests = w.requests;
     count = w.count;
     width = w.joins.width;

@@ -14,10 +14,10 @@ use Rattle.tpf_base.specs.HttpReply.{reply_of}
 use Rattle.http_wire.specs.Replies.{shown_fault}
 use Rattle.http_wire.specs.declared.message.Reply.{Reply}
 use Rattle.http_wire.specs.declared.message.ReplyFault.{ReplyFault}
-use Rattle.link_calls.specs.Sending.{Holds}
+use Rattle.tpf_base.specs.Sending.{Holds}
 use Rattle.pool_laws.specs.Causes.{RepliedOn}
-use Rattle.control_reader.specs.declared.page.Page.{Page}
-use Rattle.control_reader.specs.declared.page.PageFault.{PageFault}
+use Rattle.fragment_page.specs.declared.page.Page.{Page}
+use Rattle.fragment_page.specs.declared.page.PageFault.{PageFault}
 use Rattle.control_reader.specs.Takes.{Takes, Faults}
 use Rattle.bgp_core.specs.Queries.{QueryData}
 use Rattle.bgp_core.specs.Solutions.{Places, solutions}
@@ -35,7 +35,7 @@ use Rattle.tpf_client.specs.declared.fault.ClientFault.TheVariants as faults
 use Rattle.tpf_client.specs.Traffic.{Event, Came, Travels, EndsWith}
 use Rattle.tpf_client.specs.Causes.{Explains}
 use Rattle.tpf_client.specs.Starts.{start_ask}
-use Rattle.tpf_client.specs.Turns.{AreTrue, AsksAt, asked_in, address_of}
+use Rattle.tpf_client.specs.Turns.{AreTrue, ArePages, AsksAt, asked_in, address_of}
 
 -- ---- the text
 
@@ -84,6 +84,7 @@ pub record Joins (allows : List ℕ → ℕ → List ℕ → List ℕ → Type 0
   pub asks : AsksAt form.template.start events
   pub none_held : held new ≡ []
   pub no_fault : new.fault ≡ None
+  pub pages : ArePages version events
   pub width : All (λ row. length row ≡ length q.names) rows
   pub gives : (w : World) → IsWorldOf w form version events → GivesSolutions w q rows events
 
@@ -114,7 +115,7 @@ pub record ReadsStart (start : Address) (events : List Event) : Type 0 where
 
 -- ---- a call on its wire, and the text; `ran` says which events there were, and which pool stood at their end
 
--- A call that gave these rows. Each address that it asked has the authority of the start, and each was answered.
+-- A call that gave these rows. Each address that it asked has the authority of the start, and each was answered by a page of the version that the report tells.
 pub record Returns (ran : List Event → Pooled → Type 0) (q : QueryData) (start : Address) (report : Report) (rows : List Places) : Type 0 where
   pub first : List Event
   pub later : List Event
@@ -125,6 +126,7 @@ pub record Returns (ran : List Event → Pooled → Type 0) (q : QueryData) (sta
   pub none_held : held pool ≡ []
   pub no_fault : pool.fault ≡ None
   pub is_version : report.version ≡ reads.page.version
+  pub pages : ArePages report.version (first ++ later)
   pub requests : report.requests ≡ pool.started
   pub count : report.rows ≡ counted_by (length rows) 0
   pub width : All (λ row. length row ≡ length q.names) rows
@@ -210,6 +212,13 @@ pub data WritesLess (allows : List ℕ → ℕ → List ℕ → List ℕ → Typ
 
 -- ---- causes
 
+-- no more exchanges were started than the budget says
+pub record StartsFew (allows : List ℕ → ℕ → List ℕ → List ℕ → Type 0) (options : Options) (since now : WireState) : Type 0 where
+  pub events : List Event
+  pub pool : Pooled
+  pub runs : RunsPool allows options since now events pool
+  pub few : pool.started ≤ options.budget
+
 -- as many exchanges were started as the budget says
 pub record IsSpent (allows : List ℕ → ℕ → List ℕ → List ℕ → Type 0) (options : Options) (since now : WireState) : Type 0 where
   pub events : List Event
@@ -240,7 +249,7 @@ pub record IsRefusedReply (allows : List ℕ → ℕ → List ℕ → List ℕ �
   pub is_fault : fault ≡ shown_fault why
   pub bad : reply_of received false options.max_body ≡ replies.Bad why
 
--- This is the body of a whole reply, which was received, and for this reason no page of the address that was asked.
+-- This is the body of a whole reply, which was received, and for this reason no page of the address that was asked. Where the reply is whole at its end alone the link ended.
 pub record IsNoPageOf (allows : List ℕ → ℕ → List ℕ → List ℕ → Type 0) (options : Options) (since now : WireState) (fault : PageFault) (body : List ℕ) : Type 0 where
   pub received : List ℕ
   pub is_received : IsReceived allows options since now received
@@ -248,6 +257,7 @@ pub record IsNoPageOf (allows : List ℕ → ℕ → List ℕ → List ℕ → T
   pub n : ℕ
   pub keeps : Bool
   pub whole : reply_of received at_end options.max_body ≡ replies.Whole body n keeps
+  pub ended : at_end ≡ true → Holds (now.links is_received.on.k).ended true
   pub why : Faults body is_received.ask.address fault
 
 -- What each fault shows of the wire and of what came: the faults rose; so many waits followed one another, which is never so over a lively wire; a link was cut; a reply is refused; a body is no page; two versions differ; the budget is spent.

@@ -1,8 +1,8 @@
 -- Why a call ended with a fault, by its last event.
 use Rattle.std.specs.Prelude.{ℕ, ◌≡◌, ◌≢◌, List, Option}
 use Rattle.http_wire.specs.declared.message.Reply.{Reply}
-use Rattle.control_reader.specs.declared.page.Page.{Page}
-use Rattle.control_reader.specs.declared.page.PageFault.{PageFault}
+use Rattle.fragment_page.specs.declared.page.Page.{Page}
+use Rattle.fragment_page.specs.declared.page.PageFault.{PageFault}
 use Rattle.control_reader.specs.Takes.{Takes, Faults}
 use Rattle.request_pool.specs.declared.fault.PoolFault.{PoolFault}
 use Rattle.request_pool.specs.declared.fault.PoolFault.TheVariants as pool

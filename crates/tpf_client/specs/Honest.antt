@@ -16,12 +16,12 @@ use Rattle.result_json.specs.Results.{result_text}
 use Rattle.rdf_terms.specs.Askable.{AskableAreKept}
 use Rattle.template_fill.specs.Authorities.{PagesAreAddresses}
 use Rattle.template_fill.specs.Answered.{PagesAreGiven, AnsweredGivePages}
-use Rattle.control_reader.specs.Law.{NothingElseIsRead}
+use Rattle.control_laws.specs.Law.{NothingElseIsRead}
 use Rattle.control_reader.specs.Laws.{NoPageAtFault}
 use Rattle.result_json.specs.Pieces.{PiecesMakeTheText, RowsGoOn}
 use Rattle.pool_laws.specs.Following.{EmptyPoolsFollow, PutsFollow, StepsFollow, FaultsFollow}
 use Rattle.pool_laws.specs.Answers.{IsBodyOf}
-use Rattle.join_core.specs.Servers.{ServersAreWorlds, ServersHaveForms, ServersPagesAreTrue}
+use Rattle.plan_laws.specs.Servers.{ServersAreWorlds, ServersHaveForms, ServersPagesAreTrue}
 use Rattle.tpf_client.specs.Traffic.{Event, Asked, Came, Waited, Broke}
 use Rattle.tpf_client.specs.Calls.{solutions_of}
 

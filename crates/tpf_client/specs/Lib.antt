@@ -2,6 +2,7 @@ pub mod Traffic
 pub mod Causes
 pub mod Asking
 pub mod Rows
+pub mod Sinks
 pub mod RowLaws
 pub mod Starts
 pub mod Turns
@@ -12,3 +13,4 @@ pub mod Requests
 pub mod Plans
 pub mod Requested
 pub mod Failing
+pub mod Acts

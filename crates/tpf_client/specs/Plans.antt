@@ -14,8 +14,8 @@ use Rattle.template_fill.specs.Answers.{answer_to}
 use Rattle.http_wire.specs.declared.message.ReplyFault.{ReplyFault}
 use Rattle.http_wire.specs.declared.message.ReplyFault.TheVariants as refusals
 use Rattle.http_ends.specs.Requests.{asks, request_for}
-use Rattle.exchange_laws.specs.Honest.{IsAnsweredByAll}
-use Rattle.control_reader.specs.declared.page.Page.{Page}
+use Rattle.pool_laws.specs.Honest.{IsAnsweredByAll}
+use Rattle.fragment_page.specs.declared.page.Page.{Page}
 use Rattle.control_reader.specs.Takes.{Takes}
 use Rattle.bgp_core.specs.Queries.{QueryData}
 use Rattle.request_pool.specs.Pools.{Pooled}

@@ -18,7 +18,7 @@ use Rattle.pool_laws.specs.Provoking.{EmptyPoolsReady, PutsReady, StepsSpare}
 use Rattle.pool_laws.specs.Requested.{EmptyPoolsRequested, PutsRequested, FaultsRequested, StepsRequested, ClosingRequested, RequestsAreFew, RequestsAreRises, EmptyPoolsAnswered, PutsAnswered, StepsAnswered, ClosingAnswered, AsksAreAnswered}
 use Rattle.request_pool.specs.Pools.{Pooled}
 use Rattle.join_core.specs.Nodes.{plan}
-use Rattle.join_core.specs.Servers.{server_world}
+use Rattle.plan_laws.specs.Servers.{server_world}
 use Rattle.tpf_client.specs.declared.options.Options.{Options}
 use Rattle.tpf_client.specs.declared.options.Report.{Report}
 use Rattle.tpf_client.specs.Traffic.{Event}

@@ -3,14 +3,14 @@ use Rattle.std.specs.Prelude.{ℕ, ◌≡◌, ◌-◌, ◌^◌, ◌⊎◌, List,
 use Rattle.tpf_base.specs.Addresses.{Address}
 use Rattle.tpf_base.specs.Links.{WireState}
 use Rattle.http_wire.specs.declared.message.Reply.{Reply}
-use Rattle.control_reader.specs.declared.page.Page.{Page}
+use Rattle.fragment_page.specs.declared.page.Page.{Page}
 use Rattle.control_reader.specs.Takes.{Takes}
 use Rattle.request_pool.specs.Pools.{Pooled, Ask, held}
 use Rattle.request_pool.specs.Owned.{SuitsWire}
 use Rattle.tpf_client.specs.declared.fault.ClientFault.{ClientFault}
 use Rattle.tpf_client.specs.Traffic.{Event, Came, Travels, EndsWith}
 use Rattle.tpf_client.specs.Causes.{Explains}
-use Rattle.tpf_client.specs.Turns.{asked_in}
+use Rattle.tpf_client.specs.Turns.{ArePages, asked_in}
 
 -- the ask for the start: its ticket is one that no evaluation gives
 abbrev pub start_ask : Address → Ask
@@ -23,6 +23,7 @@ pub record HasStart (allows : List ℕ → ℕ → List ℕ → List ℕ → Typ
   pub reply : Reply
   pub last : EndsWith (Came (start_ask start) reply) events
   pub taken : Takes reply.body start page
+  pub pages : ArePages page.version events
   pub asked_are : asked_in events ≡ asked
   pub none : held new ≡ []
   pub no_fault : new.fault ≡ None

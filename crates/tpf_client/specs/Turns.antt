@@ -6,7 +6,7 @@ use Rattle.tpf_base.specs.Addresses.{Address}
 use Rattle.tpf_base.specs.Links.{WireState}
 use Rattle.bgp_core.specs.Solutions.{Places}
 use Rattle.template_fill.specs.Authorities.{ShareAuthority}
-use Rattle.control_reader.specs.declared.page.Page.{Page}
+use Rattle.fragment_page.specs.declared.page.Page.{Page}
 use Rattle.control_reader.specs.Takes.{Takes}
 use Rattle.request_pool.specs.Pools.{Pooled, Ask, held}
 use Rattle.request_pool.specs.Owned.{SuitsWire}
@@ -98,6 +98,17 @@ IsTrueReply is_true version (Came ask reply) = (page : Page) → Takes reply.bod
 IsTrueReply is_true version Waited = Unit {0}
 IsTrueReply is_true version (Broke fault) = Unit {0}
 
+-- the reply that came is a page of this version
+abbrev pub IsPageReply : Option ℕ → Event → Type 0
+IsPageReply version (Asked ask) = Unit {0}
+IsPageReply version (Came ask reply) = (page : Page) × Takes reply.body ask.address page × (page.version ≡ version)
+IsPageReply version Waited = Unit {0}
+IsPageReply version (Broke fault) = Unit {0}
+
+-- so is each that came
+abbrev pub ArePages : Option ℕ → List Event → Type 0
+ArePages version events = AllByRecursion (IsPageReply version) events
+
 abbrev pub AreTrue : (Address → Page → Type 0) → Option ℕ → List Event → Type 0
 AreTrue is_true version events = AllByRecursion (IsTrueReply is_true version) events
 
@@ -162,6 +173,7 @@ module _ {Source Eval : Type 0} (suits : Source → Eval → Type 0) (account : 
       pub record Went (old new : Eval) (version : Option ℕ) (events : List Event) (rows : List Places) (pool pool' : Pooled) (wire wire' : WireState) : Type 0 where
         pub travels : Travels allows events pool pool' wire wire'
         pub on_wire : SuitsWire pool' wire'
+        pub pages : ArePages version events
         pub meets : (terms : Terms) → Meets terms (keeps terms old) (standing old) pool → Meets terms (keeps terms new) (standing new) pool'
         pub homes : (terms : Terms) → Meets terms (keeps terms old) (standing old) pool → AllByRecursion (λ ask. HasHome terms.homes ask.address) (asked_in events)
         pub width : (terms : Terms) → Meets terms (keeps terms old) (standing old) pool → All (λ row. length row ≡ terms.width) rows

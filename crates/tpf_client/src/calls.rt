@@ -10,14 +10,14 @@ ghost use Rattle.request_pool.specs.Pools.{held};
 ghost use Rattle.request_pool.specs.Owned.{SuitsWire};
 ghost use Rattle.join_core.specs.Evaluations.{HasHome};
 ghost use Rattle.tpf_client.specs.Traffic.{Event};
-ghost use Rattle.tpf_client.specs.Calls.{Joins, JoinsSome, GathersRest, WritesRest, WritesLess, WritesAll, WritesSome, Returns, Ran, RunsPool, WritesResult, WritesPrefix, IsCause};
+ghost use Rattle.tpf_client.specs.Calls.{Joins, JoinsSome, GathersRest, WritesRest, WritesLess, WritesAll, WritesSome, Returns, Ran, RunsPool, WritesResult, WritesPrefix};
 ghost use Rattle.tpf_client.specs.Causes.{IsLocal};
+ghost use Rattle.tpf_client.specs.Sinks.{LeavesSink};
 ghost use Rattle.tpf_client.specs.Shown.{ShowsGiven, ShowsRest};
 ghost use Rattle.tpf_client.specs.Honest.{Laws, IsSolutions, WritesSolutions, WritesSolutionsFront};
-ghost use Rattle.tpf_client.specs.Requests.{AreClosed, AreDialledFor, OthersStay, DialsAtMost, GivesAtMost, AnswersAll, RequestsAreTries, DialsAreTries, TrafficLaws};
-ghost use Rattle.tpf_client.specs.Plans.{SendsAsked, AsksPlan, OverHonest, OverLively, CountsRises, PacesRequests, IsHonestCause, IsLivelyCause, RisesFew, PlanFits, MayStill, StaysUnprovoked};
-ghost use Rattle.tpf_client.specs.Requested.{RequestsPlan, AnswersPlan};
-ghost use Rattle.tpf_client.specs.Failing.{IsFailedOften, ForBudget, SpendsRequests, SpendsTries, SpendsPlan};
+ghost use Rattle.tpf_client.specs.Requests.{TrafficLaws};
+ghost use Rattle.tpf_client.specs.Plans.{OverHonest, RisesFew, PlanFits, MayStill};
+ghost use Rattle.tpf_client.specs.Acts.{ActsOnWire};
 
 use crate::asks::{Asks, is_lawful};
 use crate::fault::of_sink;
@@ -26,8 +26,10 @@ use crate::start::ask_start;
 use crate::turns::{Bounds, evaluate};
 use crate::{ClientFault, Options, Report};
 use bgp_core::{Query, Row};
-use control_reader::{Page, a_body_is_one_page, controls_read_back, pages_keep_authority};
-use join_core::{Join, a_server_is_a_world};
+use control_laws::controls_read_back;
+use control_reader::{Page, a_body_is_one_page, pages_keep_authority};
+use join_core::Join;
+use plan_laws::a_server_is_a_world;
 use pool_laws::{
     a_step_has_a_cause, asks_are_answered, exchanges_are_counted, failures_are_ends,
     failures_are_rises, links_are_closed, requests_are_counted, starts_are_spent,
@@ -63,10 +65,7 @@ fn join_pages<R: Wait, W: Dial, B, T: TakesRows<B>>(
         × T.takes given rows.old rows.new behind.old behind.new) }
     ensures some { IfErr result (λ fault. (events : List Event) × (given : List Places) × JoinsSome (W.allows wire.old) query.now form bounds.version bounds.budget fault events given asks.old asks.new (W.state wire.old) (W.state wire.new)
         × T.takes_front given rows.old rows.new behind.old behind.new × (IsLocal fault ⊎ T.takes given rows.old rows.new behind.old behind.new)) }
-    ensures later { T.faults behind.old ≤ T.faults behind.new }
-    ensures sink { IsErrOf result ClientFault.Sink → Rose (T.faults behind.old) (T.faults behind.new) }
-    ensures faultless { T.faultless behind.new ≡ T.faultless behind.old }
-    ensures spared { T.faultless behind.old ≡ true → (T.faults behind.new ≡ T.faults behind.old) × (IsErrOf result ClientFault.Sink → ⊥) }
+    ensures sink { LeavesSink (T.sink behind.old) (T.sink behind.new) result }
     ensures allowed { SameAllowed (W.allows wire.old) (W.allows wire.new) }
 {
     match Join::new(alloc, query, form, window) {
@@ -101,14 +100,11 @@ fn write_joined<'a, R: Wait, W: Dial, K: Sink>(
     requires suits { SuitsWire asks.old (W.state wire.old) }
     requires fresh { text.old ≡ begun query.now }
     ensures ok { OnOk result ((events : List Event) × (rows : List Places) × Joins (W.allows wire.old) query.now form bounds.version events rows asks.old asks.new (W.state wire.old) (W.state wire.new)
-        × Appends (K.taken out.old) (K.taken out.new) (result_text query.now rows) × (text.new.count ≡ counted_by (length rows) 0)) }
-    ensures err { IfErr result (λ fault. WritesLess (W.allows wire.old) query.now form bounds.version bounds.budget fault asks.old asks.new (W.state wire.old) (W.state wire.new) (K.taken out.old) (K.taken out.new)) }
-    ensures shown { IfErr result (λ fault. (less : WritesLess (W.allows wire.old) query.now form bounds.version bounds.budget fault asks.old asks.new (W.state wire.old) (W.state wire.new) (K.taken out.old) (K.taken out.new))
-        × ShowsRest (W.allows wire.old) query.now form bounds.version bounds.budget fault asks.old asks.new (W.state wire.old) (W.state wire.new) (K.faults out.old) (K.faults out.new) (K.taken out.old) (K.taken out.new) less) }
-    ensures later { K.faults out.old ≤ K.faults out.new }
-    ensures sink { IsErrOf result ClientFault.Sink → Rose (K.faults out.old) (K.faults out.new) }
-    ensures faultless { K.faultless out.new ≡ K.faultless out.old }
-    ensures spared { K.faultless out.old ≡ true → (K.faults out.new ≡ K.faults out.old) × (IsErrOf result ClientFault.Sink → ⊥) }
+        × Appends (K.state out.old).taken (K.state out.new).taken (result_text query.now rows) × (text.new.count ≡ counted_by (length rows) 0)) }
+    ensures err { IfErr result (λ fault. WritesLess (W.allows wire.old) query.now form bounds.version bounds.budget fault asks.old asks.new (W.state wire.old) (W.state wire.new) (K.state out.old).taken (K.state out.new).taken) }
+    ensures shown { IfErr result (λ fault. (less : WritesLess (W.allows wire.old) query.now form bounds.version bounds.budget fault asks.old asks.new (W.state wire.old) (W.state wire.new) (K.state out.old).taken (K.state out.new).taken)
+        × ShowsRest (W.allows wire.old) query.now form bounds.version bounds.budget fault asks.old asks.new (W.state wire.old) (W.state wire.new) (K.state out.old).faults (K.state out.new).faults (K.state out.old).taken (K.state out.new).taken less) }
+    ensures sink { LeavesSink (K.state out.old) (K.state out.new) result }
     ensures allowed { SameAllowed (W.allows wire.old) (W.allows wire.new) }
 {
     pieces_make_the_text();
@@ -144,14 +140,11 @@ fn write_rows<R: Wait, W: Dial, K: Sink>(
     requires none { held asks.old ≡ [] }
     requires no_fault { asks.old.fault ≡ None }
     requires suits { SuitsWire asks.old (W.state wire.old) }
-    ensures ok { IfOk result (λ report. WritesRest (W.allows wire.old) query.now page.form page.version report asks.old asks.new (W.state wire.old) (W.state wire.new) (K.taken out.old) (K.taken out.new)) }
-    ensures err { IfErr result (λ fault. WritesLess (W.allows wire.old) query.now page.form page.version options.now.budget fault asks.old asks.new (W.state wire.old) (W.state wire.new) (K.taken out.old) (K.taken out.new)) }
-    ensures shown { IfErr result (λ fault. (less : WritesLess (W.allows wire.old) query.now page.form page.version options.now.budget fault asks.old asks.new (W.state wire.old) (W.state wire.new) (K.taken out.old) (K.taken out.new))
-        × ShowsRest (W.allows wire.old) query.now page.form page.version options.now.budget fault asks.old asks.new (W.state wire.old) (W.state wire.new) (K.faults out.old) (K.faults out.new) (K.taken out.old) (K.taken out.new) less) }
-    ensures later { K.faults out.old ≤ K.faults out.new }
-    ensures sink { IsErrOf result ClientFault.Sink → Rose (K.faults out.old) (K.faults out.new) }
-    ensures faultless { K.faultless out.new ≡ K.faultless out.old }
-    ensures spared { K.faultless out.old ≡ true → (K.faults out.new ≡ K.faults out.old) × (IsErrOf result ClientFault.Sink → ⊥) }
+    ensures ok { IfOk result (λ report. WritesRest (W.allows wire.old) query.now page.form page.version report asks.old asks.new (W.state wire.old) (W.state wire.new) (K.state out.old).taken (K.state out.new).taken) }
+    ensures err { IfErr result (λ fault. WritesLess (W.allows wire.old) query.now page.form page.version options.now.budget fault asks.old asks.new (W.state wire.old) (W.state wire.new) (K.state out.old).taken (K.state out.new).taken) }
+    ensures shown { IfErr result (λ fault. (less : WritesLess (W.allows wire.old) query.now page.form page.version options.now.budget fault asks.old asks.new (W.state wire.old) (W.state wire.new) (K.state out.old).taken (K.state out.new).taken)
+        × ShowsRest (W.allows wire.old) query.now page.form page.version options.now.budget fault asks.old asks.new (W.state wire.old) (W.state wire.new) (K.state out.old).faults (K.state out.new).faults (K.state out.old).taken (K.state out.new).taken less) }
+    ensures sink { LeavesSink (K.state out.old) (K.state out.new) result }
     ensures allowed { SameAllowed (W.allows wire.old) (W.allows wire.new) }
 {
     let Page { form, version, .. } = page;
@@ -202,15 +195,12 @@ fn write_result<R: Wait, W: Dial, K: Sink>(
     requires none { held asks.old ≡ [] }
     requires no_fault { asks.old.fault ≡ None }
     requires suits { SuitsWire asks.old (W.state wire.old) }
-    ensures ok { IfOk result (λ report. WritesAll (Ran (W.allows wire.old) asks.old asks.new (W.state wire.old) (W.state wire.new)) query.now start.now report (K.taken out.old) (K.taken out.new)) }
-    ensures err { IfErr result (λ fault. WritesSome (Ran (W.allows wire.old) asks.old asks.new (W.state wire.old) (W.state wire.new)) query.now start.now options.now.budget fault (K.taken out.old) (K.taken out.new)) }
-    ensures shown { IfErr result (λ fault. (some : WritesSome (Ran (W.allows wire.old) asks.old asks.new (W.state wire.old) (W.state wire.new)) query.now start.now options.now.budget fault (K.taken out.old) (K.taken out.new))
-        × ShowsGiven (Ran (W.allows wire.old) asks.old asks.new (W.state wire.old) (W.state wire.new)) query.now start.now options.now.budget fault (K.faults out.old) (K.faults out.new) (K.taken out.old) (K.taken out.new) some) }
+    ensures ok { IfOk result (λ report. WritesAll (Ran (W.allows wire.old) asks.old asks.new (W.state wire.old) (W.state wire.new)) query.now start.now report (K.state out.old).taken (K.state out.new).taken) }
+    ensures err { IfErr result (λ fault. WritesSome (Ran (W.allows wire.old) asks.old asks.new (W.state wire.old) (W.state wire.new)) query.now start.now options.now.budget fault (K.state out.old).taken (K.state out.new).taken) }
+    ensures shown { IfErr result (λ fault. (some : WritesSome (Ran (W.allows wire.old) asks.old asks.new (W.state wire.old) (W.state wire.new)) query.now start.now options.now.budget fault (K.state out.old).taken (K.state out.new).taken)
+        × ShowsGiven (Ran (W.allows wire.old) asks.old asks.new (W.state wire.old) (W.state wire.new)) query.now start.now options.now.budget fault (K.state out.old).faults (K.state out.new).faults (K.state out.old).taken (K.state out.new).taken some) }
     ensures suits { SuitsWire asks.new (W.state wire.new) }
-    ensures later { K.faults out.old ≤ K.faults out.new }
-    ensures sink { IsErrOf result ClientFault.Sink → Rose (K.faults out.old) (K.faults out.new) }
-    ensures faultless { K.faultless out.new ≡ K.faultless out.old }
-    ensures spared { K.faultless out.old ≡ true → (K.faults out.new ≡ K.faults out.old) × (IsErrOf result ClientFault.Sink → ⊥) }
+    ensures sink { LeavesSink (K.state out.old) (K.state out.new) result }
     ensures allowed { SameAllowed (W.allows wire.old) (W.allows wire.new) }
 {
     pages_keep_authority();
@@ -283,45 +273,18 @@ pub fn query<R: Wait, W: Dial, K: Sink>(
     requires window { 1 ≤ options.now.window }
     requires some { 1 ≤ options.now.links }
     requires few { options.now.links ≤ 256 }
-    ensures whole { IfOk result (λ report. WritesResult query.now report.rows (K.taken out.old) (K.taken out.new)) }
-    ensures front { OnErr result (WritesPrefix query.now (K.taken out.old) (K.taken out.new)) }
-    ensures ok { IfOk result (λ report. WritesAll (RunsPool (W.allows wire.old) options.now (W.state wire.old) (W.state wire.new)) query.now start.now report (K.taken out.old) (K.taken out.new)) }
-    ensures err { IfErr result (λ fault. WritesSome (RunsPool (W.allows wire.old) options.now (W.state wire.old) (W.state wire.new)) query.now start.now options.now.budget fault (K.taken out.old) (K.taken out.new)) }
-    ensures shown { IfErr result (λ fault. (some : WritesSome (RunsPool (W.allows wire.old) options.now (W.state wire.old) (W.state wire.new)) query.now start.now options.now.budget fault (K.taken out.old) (K.taken out.new))
-        × ShowsGiven (RunsPool (W.allows wire.old) options.now (W.state wire.old) (W.state wire.new)) query.now start.now options.now.budget fault (K.faults out.old) (K.faults out.new) (K.taken out.old) (K.taken out.new) some) }
-    ensures headline { OverHonest (W.allows wire.old) (W.state wire.old) (λ history config. IfOk result (λ report. WritesSolutions history query.now report.version report.rows (K.taken out.old) (K.taken out.new))) }
-    ensures prefix { OverHonest (W.allows wire.old) (W.state wire.old) (λ history config. OnErr result (WritesSolutionsFront history query.now (K.taken out.old) (K.taken out.new))) }
-    ensures cause { IfErr result (IsCause (W.allows wire.old) options.now (W.state wire.old) (W.state wire.new)) }
-    ensures closed { AreClosed (W.state wire.old) (W.state wire.new) }
-    ensures peers { AreDialledFor start.now (W.state wire.old) (W.state wire.new) }
-    ensures others { OthersStay (W.state wire.old) (W.state wire.new) }
-    ensures dials { DialsAtMost options.now.budget (W.state wire.old) (W.state wire.new) }
-    ensures given { GivesAtMost options.now.budget (W.state wire.old) (W.state wire.new) }
-    ensures answered { IfOk result (λ report. AnswersAll (W.allows wire.old) options.now start.now report.requests (W.state wire.old) (W.state wire.new)) }
-    ensures within { IfOk result (λ report. report.requests ≤ options.now.budget) }
-    ensures dialled { IfOk result (λ report. DialsAtMost report.requests (W.state wire.old) (W.state wire.new)) }
-    ensures linked { IfOk result (λ report. GivesAtMost report.requests (W.state wire.old) (W.state wire.new)) }
-    ensures requests { OverHonest (W.allows wire.old) (W.state wire.old) (λ history config. IfOk result (λ report. RequestsAreTries history config options.now query.now start.now report)) }
-    ensures planned { OverHonest (W.allows wire.old) (W.state wire.old) (λ history config. DialsAreTries history config options.now query.now start.now (W.state wire.old) (W.state wire.new)) }
-    ensures sent { SendsAsked (W.allows wire.old) options.now start.now (W.state wire.old) (W.state wire.new) }
-    ensures asked { OverHonest (W.allows wire.old) (W.state wire.old) (λ history config. AsksPlan history config query.now start.now (W.state wire.old) (W.state wire.new)) }
-    ensures requested { OverHonest (W.allows wire.old) (W.state wire.old) (λ history config. RequestsPlan history config options.now query.now start.now (W.state wire.old) (W.state wire.new)) }
-    ensures replied { OverHonest (W.allows wire.old) (W.state wire.old) (λ history config. IfOk result (λ report. AnswersPlan history config options.now query.now start.now report (W.state wire.old) (W.state wire.new))) }
-    ensures honest_cause { OverHonest (W.allows wire.old) (W.state wire.old) (λ history config. IfErr result (IsHonestCause history config options.now query.now start.now)) }
-    ensures counted { OverLively (W.allows wire.old) (W.state wire.old) (λ history config. CountsRises (W.allows wire.old) history config options.now query.now start.now (W.state wire.old) (W.state wire.new)) }
-    ensures paced { OverLively (W.allows wire.old) (W.state wire.old) (λ history config. IfOk result (λ report. PacesRequests history config query.now start.now report (W.state wire.old) (W.state wire.new))) }
-    ensures lively_cause { OverLively (W.allows wire.old) (W.state wire.old) (λ history config. IfErr result (IsLivelyCause history config options.now query.now start.now (W.state wire.old) (W.state wire.new))) }
-    ensures failed_often { (W.state wire.old).nature.lively ≡ true → IfErr result (IsFailedOften options.now (W.state wire.old) (W.state wire.new)) }
-    ensures spent_requests { IfErr result (ForBudget (SpendsRequests options.now (W.state wire.old) (W.state wire.new))) }
-    ensures spent_tries { IfErr result (ForBudget (SpendsTries (W.allows wire.old) options.now start.now (W.state wire.old) (W.state wire.new))) }
-    ensures spent_plan { OverHonest (W.allows wire.old) (W.state wire.old) (λ history config. IfErr result (ForBudget (SpendsPlan history config options.now query.now start.now))) }
+    ensures whole { IfOk result (λ report. WritesResult query.now report.rows (K.state out.old).taken (K.state out.new).taken) }
+    ensures front { OnErr result (WritesPrefix query.now (K.state out.old).taken (K.state out.new).taken) }
+    ensures ok { IfOk result (λ report. WritesAll (RunsPool (W.allows wire.old) options.now (W.state wire.old) (W.state wire.new)) query.now start.now report (K.state out.old).taken (K.state out.new).taken) }
+    ensures err { IfErr result (λ fault. WritesSome (RunsPool (W.allows wire.old) options.now (W.state wire.old) (W.state wire.new)) query.now start.now options.now.budget fault (K.state out.old).taken (K.state out.new).taken) }
+    ensures shown { IfErr result (λ fault. (some : WritesSome (RunsPool (W.allows wire.old) options.now (W.state wire.old) (W.state wire.new)) query.now start.now options.now.budget fault (K.state out.old).taken (K.state out.new).taken)
+        × ShowsGiven (RunsPool (W.allows wire.old) options.now (W.state wire.old) (W.state wire.new)) query.now start.now options.now.budget fault (K.state out.old).faults (K.state out.new).faults (K.state out.old).taken (K.state out.new).taken some) }
+    ensures headline { OverHonest (W.allows wire.old) (W.state wire.old) (λ history config. IfOk result (λ report. WritesSolutions history query.now report.version report.rows (K.state out.old).taken (K.state out.new).taken)) }
+    ensures prefix { OverHonest (W.allows wire.old) (W.state wire.old) (λ history config. OnErr result (WritesSolutionsFront history query.now (K.state out.old).taken (K.state out.new).taken)) }
+    ensures acts { ActsOnWire (W.allows wire.old) options.now start.now query.now result (λ report. report) (W.state wire.old) (W.state wire.new) }
     ensures complete { OverHonest (W.allows wire.old) (W.state wire.old) (λ history config. (W.state wire.old).nature.lively ≡ true → (rise : ℕ) → RisesFew options.now rise (W.state wire.old) (W.state wire.new)
-        → PlanFits history config options.now query.now start.now rise → (Rose (K.faults out.old) (K.faults out.new) → ⊥) → IfErr result (MayStill history)) }
-    ensures unprovoked { OverHonest (W.allows wire.old) (W.state wire.old) (λ history config. StaysUnprovoked options.now (W.state wire.old) (W.state wire.new)) }
-    ensures later { K.faults out.old ≤ K.faults out.new }
-    ensures sink { IsErrOf result ClientFault.Sink → Rose (K.faults out.old) (K.faults out.new) }
-    ensures faultless { K.faultless out.new ≡ K.faultless out.old }
-    ensures spared { K.faultless out.old ≡ true → (K.faults out.new ≡ K.faults out.old) × (IsErrOf result ClientFault.Sink → ⊥) }
+        → PlanFits history config options.now query.now start.now rise → (Rose (K.state out.old).faults (K.state out.new).faults → ⊥) → IfErr result (MayStill history)) }
+    ensures sink { LeavesSink (K.state out.old) (K.state out.new) result }
     ensures allowed { SameAllowed (W.allows wire.old) (W.allows wire.new) }
 {
     is_lawful(wire);
@@ -431,33 +394,9 @@ pub fn collect<R: Wait, W: Dial>(
     ensures ok { IfOk result (λ r. Returns (RunsPool (W.allows wire.old) options.now (W.state wire.old) (W.state wire.new)) query.now start.now r.1 r.0.items) }
     ensures err { IfErr result (λ fault. WritesSome (RunsPool (W.allows wire.old) options.now (W.state wire.old) (W.state wire.new)) query.now start.now options.now.budget fault None None) }
     ensures headline { OverHonest (W.allows wire.old) (W.state wire.old) (λ history config. IfOk result (λ r. IsSolutions history query.now r.1.version r.0.items)) }
-    ensures cause { IfErr result (IsCause (W.allows wire.old) options.now (W.state wire.old) (W.state wire.new)) }
-    ensures closed { AreClosed (W.state wire.old) (W.state wire.new) }
-    ensures peers { AreDialledFor start.now (W.state wire.old) (W.state wire.new) }
-    ensures others { OthersStay (W.state wire.old) (W.state wire.new) }
-    ensures dials { DialsAtMost options.now.budget (W.state wire.old) (W.state wire.new) }
-    ensures given { GivesAtMost options.now.budget (W.state wire.old) (W.state wire.new) }
-    ensures answered { IfOk result (λ r. AnswersAll (W.allows wire.old) options.now start.now r.1.requests (W.state wire.old) (W.state wire.new)) }
-    ensures within { IfOk result (λ r. r.1.requests ≤ options.now.budget) }
-    ensures dialled { IfOk result (λ r. DialsAtMost r.1.requests (W.state wire.old) (W.state wire.new)) }
-    ensures linked { IfOk result (λ r. GivesAtMost r.1.requests (W.state wire.old) (W.state wire.new)) }
-    ensures requests { OverHonest (W.allows wire.old) (W.state wire.old) (λ history config. IfOk result (λ r. RequestsAreTries history config options.now query.now start.now r.1)) }
-    ensures planned { OverHonest (W.allows wire.old) (W.state wire.old) (λ history config. DialsAreTries history config options.now query.now start.now (W.state wire.old) (W.state wire.new)) }
-    ensures sent { SendsAsked (W.allows wire.old) options.now start.now (W.state wire.old) (W.state wire.new) }
-    ensures asked { OverHonest (W.allows wire.old) (W.state wire.old) (λ history config. AsksPlan history config query.now start.now (W.state wire.old) (W.state wire.new)) }
-    ensures requested { OverHonest (W.allows wire.old) (W.state wire.old) (λ history config. RequestsPlan history config options.now query.now start.now (W.state wire.old) (W.state wire.new)) }
-    ensures replied { OverHonest (W.allows wire.old) (W.state wire.old) (λ history config. IfOk result (λ r. AnswersPlan history config options.now query.now start.now r.1 (W.state wire.old) (W.state wire.new))) }
-    ensures honest_cause { OverHonest (W.allows wire.old) (W.state wire.old) (λ history config. IfErr result (IsHonestCause history config options.now query.now start.now)) }
-    ensures counted { OverLively (W.allows wire.old) (W.state wire.old) (λ history config. CountsRises (W.allows wire.old) history config options.now query.now start.now (W.state wire.old) (W.state wire.new)) }
-    ensures paced { OverLively (W.allows wire.old) (W.state wire.old) (λ history config. IfOk result (λ r. PacesRequests history config query.now start.now r.1 (W.state wire.old) (W.state wire.new))) }
-    ensures lively_cause { OverLively (W.allows wire.old) (W.state wire.old) (λ history config. IfErr result (IsLivelyCause history config options.now query.now start.now (W.state wire.old) (W.state wire.new))) }
-    ensures failed_often { (W.state wire.old).nature.lively ≡ true → IfErr result (IsFailedOften options.now (W.state wire.old) (W.state wire.new)) }
-    ensures spent_requests { IfErr result (ForBudget (SpendsRequests options.now (W.state wire.old) (W.state wire.new))) }
-    ensures spent_tries { IfErr result (ForBudget (SpendsTries (W.allows wire.old) options.now start.now (W.state wire.old) (W.state wire.new))) }
-    ensures spent_plan { OverHonest (W.allows wire.old) (W.state wire.old) (λ history config. IfErr result (ForBudget (SpendsPlan history config options.now query.now start.now))) }
+    ensures acts { ActsOnWire (W.allows wire.old) options.now start.now query.now result (λ r. r.1) (W.state wire.old) (W.state wire.new) }
     ensures complete { OverHonest (W.allows wire.old) (W.state wire.old) (λ history config. (W.state wire.old).nature.lively ≡ true → (rise : ℕ) → RisesFew options.now rise (W.state wire.old) (W.state wire.new)
         → PlanFits history config options.now query.now start.now rise → IfErr result (MayStill history)) }
-    ensures unprovoked { OverHonest (W.allows wire.old) (W.state wire.old) (λ history config. StaysUnprovoked options.now (W.state wire.old) (W.state wire.new)) }
     ensures sink { IsErrOf result ClientFault.Sink → ⊥ }
     ensures allowed { SameAllowed (W.allows wire.old) (W.allows wire.new) }
 {

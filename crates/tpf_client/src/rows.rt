@@ -1,11 +1,10 @@
 // Where rows go.
-ghost use Rattle.std.specs.Prelude.{ℕ, ◌≡◌, ◌≤◌, ◌++◌, [], ◌∷◌, List, Bool, true, OnOk, OnErr, IsErrOf};
-ghost use Rattle.tpf_base.specs.Causes.{Rose, DoesNotFail};
-ghost use Rattle.tpf_base.specs.Wrote.{AppendsPrefix};
-ghost use Rattle.std.specs.Io.KnownBytes.{Appends};
+ghost use Rattle.std.specs.Prelude.{◌≡◌, ◌++◌, [], ◌∷◌, List, OnOk, OnErr};
+ghost use Rattle.tpf_base.specs.Wrote.{SinkState, WritesWhole};
 ghost use Rattle.result_json.specs.Pieces.{end_text};
 ghost use Rattle.bgp_core.specs.Solutions.{Places};
 ghost use Rattle.tpf_client.specs.Rows.{WritesRows, WritesFront, with_row};
+ghost use Rattle.tpf_client.specs.Sinks.{KeepsSink, no_sink};
 ghost use Rattle.tpf_client.specs.RowLaws.{text-takes-none, text-takes-then, text-front-then, text-front-all, list-takes-none, list-takes-then};
 
 use bgp_core::Row;
@@ -25,29 +24,20 @@ pub(crate) trait TakesRows<B> {
     /// A front of what is made of these rows was handed on, or is still held.
     ghost takes_front: { List Places → Self → Self → B → B → Type 0 };
 
-    /// How often what stands behind it has failed.
-    ghost faults: { B → ℕ };
-
-    /// Whether what stands behind it never fails but for memory.
-    ghost faultless: { B → Bool };
+    /// What stands behind it, as a sink.
+    ghost sink: { B → SinkState };
 
     /// Takes a row. `Failed` only where what stands behind failed in this call.
     fn take(&mut self, behind: &mut B, row: Row) -> Result<(), Fault>
         ensures ok { OnOk result (takes (row ∷ []) self.old self.new behind.old behind.new) }
         ensures err { OnErr result (takes_front (row ∷ []) self.old self.new behind.old behind.new) }
-        ensures later { faults behind.old ≤ faults behind.new }
-        ensures failed { IsErrOf result Fault.Failed → Rose (faults behind.old) (faults behind.new) }
-        ensures faultless { faultless behind.new ≡ faultless behind.old }
-        ensures spared { faultless behind.old ≡ true → DoesNotFail (faults behind.old) (faults behind.new) result };
+        ensures sink { KeepsSink (sink behind.old) (sink behind.new) result };
 
     /// Hands on what is held.
     fn hand_on(&mut self, behind: &mut B) -> Result<(), Fault>
         ensures ok { OnOk result (takes [] self.old self.new behind.old behind.new) }
         ensures err { OnErr result (takes_front [] self.old self.new behind.old behind.new) }
-        ensures later { faults behind.old ≤ faults behind.new }
-        ensures failed { IsErrOf result Fault.Failed → Rose (faults behind.old) (faults behind.new) }
-        ensures faultless { faultless behind.new ≡ faultless behind.old }
-        ensures spared { faultless behind.old ≡ true → DoesNotFail (faults behind.old) (faults behind.new) result };
+        ensures sink { KeepsSink (sink behind.old) (sink behind.new) result };
 
     /// Without a row nothing is taken.
     ghost takes_none: { (x : Self) (b : B) → takes [] x x b b };
@@ -104,30 +94,22 @@ impl<'a> ResultText<'a> {
 
     /// Adds the end of the text, and gives all to the sink.
     pub(crate) fn finish<K: Sink>(&mut self, out: &mut K) -> Result<(), Fault>
-        ensures ok { OnOk result (Appends (K.taken out.old) (K.taken out.new) (self.old.writer.pending ++ end_text)) }
-        ensures err { OnErr result (AppendsPrefix (K.taken out.old) (K.taken out.new) (self.old.writer.pending ++ end_text)) }
+        ensures writes { WritesWhole (self.old.writer.pending ++ end_text) (K.state out.old) (K.state out.new) result }
         ensures count { self.new.count ≡ self.old.count }
-        ensures later { K.faults out.old ≤ K.faults out.new }
-        ensures failed { IsErrOf result Fault.Failed → Rose (K.faults out.old) (K.faults out.new) }
-        ensures faultless { K.faultless out.new ≡ K.faultless out.old }
-        ensures spared { K.faultless out.old ≡ true → DoesNotFail (K.faults out.old) (K.faults out.new) result }
     {
-        let finished = self.writer.finish();
-        let given = self.writer.give(out);
-        if finished.is_err() {
-            return Err(Fault::OutOfMemory);
+        match self.writer.finish() {
+            Ok(()) => self.give(out),
+            Err(_) => match self.give(out) {
+                Ok(()) => Err(Fault::OutOfMemory),
+                Err(fault) => Err(fault),
+            },
         }
-        given
     }
 
     /// Gives all that is held to the sink.
     pub(crate) fn give<K: Sink>(&mut self, out: &mut K) -> Result<(), Fault>
-        ensures ok { OnOk result (Appends (K.taken out.old) (K.taken out.new) self.old.writer.pending) }
-        ensures err { OnErr result (AppendsPrefix (K.taken out.old) (K.taken out.new) self.old.writer.pending) }
-        ensures later { K.faults out.old ≤ K.faults out.new }
-        ensures failed { IsErrOf result Fault.Failed → Rose (K.faults out.old) (K.faults out.new) }
-        ensures faultless { K.faultless out.new ≡ K.faultless out.old }
-        ensures spared { K.faultless out.old ≡ true → DoesNotFail (K.faults out.old) (K.faults out.new) result }
+        ensures writes { WritesWhole self.old.writer.pending (K.state out.old) (K.state out.new) result }
+        ensures count { self.new.count ≡ self.old.count }
     {
         self.writer.give(out)
     }
@@ -139,13 +121,11 @@ impl<'a> ResultText<'a> {
 }
 
 impl<'a, K: Sink> TakesRows<K> for ResultText<'a> {
-    ghost takes = { λ rows old new out out'. WritesRows rows old new (K.taken out) (K.taken out') };
+    ghost takes = { λ rows old new out out'. WritesRows rows old new (K.state out).taken (K.state out').taken };
 
-    ghost takes_front = { λ rows old new out out'. WritesFront rows old new (K.taken out) (K.taken out') };
+    ghost takes_front = { λ rows old new out out'. WritesFront rows old new (K.state out).taken (K.state out').taken };
 
-    ghost faults = { K.faults };
-
-    ghost faultless = { K.faultless };
+    ghost sink = { K.state };
 
     fn take(&mut self, behind: &mut K, row: Row) -> Result<(), Fault> {
         if self.add(&row).is_err() {
@@ -161,13 +141,13 @@ impl<'a, K: Sink> TakesRows<K> for ResultText<'a> {
         self.writer.give(behind)
     }
 
-    ghost takes_none = { text-takes-none K.taken };
+    ghost takes_none = { text-takes-none (λ out. (K.state out).taken) };
 
-    ghost takes_then = { text-takes-then K.taken };
+    ghost takes_then = { text-takes-then (λ out. (K.state out).taken) };
 
-    ghost front_then = { text-front-then K.taken };
+    ghost front_then = { text-front-then (λ out. (K.state out).taken) };
 
-    ghost front_all = { text-front-all K.taken };
+    ghost front_all = { text-front-all (λ out. (K.state out).taken) };
 }
 
 /// Rows in a list.
@@ -208,9 +188,7 @@ impl TakesRows<()> for RowList {
 
     ghost takes_front = { λ rows old new b b'. Unit {0} };
 
-    ghost faults = { λ b. 0 };
-
-    ghost faultless = { λ b. true };
+    ghost sink = { λ b. no_sink };
 
     fn take(&mut self, _behind: &mut (), row: Row) -> Result<(), Fault> {
         match self.rows.push(row) {

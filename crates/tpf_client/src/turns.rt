@@ -1,7 +1,6 @@
 // The loop of a call: an evaluation, a pool over a wire, and where rows go.
-ghost use Rattle.std.specs.Prelude.{◌≡◌, ◌≢◌, ◌≤◌, ◌<◌, ◌-◌, ◌^◌, ◌⊎◌, [], ◌∷◌, List, true, false, IfOk, IfErr, OnOk, OnErr, IsErrOf};
+ghost use Rattle.std.specs.Prelude.{◌≡◌, ◌≢◌, ◌<◌, ◌-◌, ◌^◌, ◌⊎◌, [], ◌∷◌, List, true, false, IfOk, IfErr, OnOk, OnErr, IsErrOf};
 ghost use Rattle.std.specs.List.{Contains};
-ghost use Rattle.tpf_base.specs.Causes.{Rose, DoesNotFail};
 ghost use Rattle.tpf_base.specs.Links.{SameAllowed};
 ghost use Rattle.bgp_core.specs.Solutions.{Places};
 ghost use Rattle.request_pool.specs.Pools.{Ask, held};
@@ -10,6 +9,7 @@ ghost use Rattle.join_core.specs.Evaluations.{Terms, EndsInQuiet};
 ghost use Rattle.tpf_client.specs.Traffic.{Event};
 ghost use Rattle.tpf_client.specs.Turns.{Meets, Hands, Gives, Readies, TakesReply, Went, Failed};
 ghost use Rattle.tpf_client.specs.Causes.{IsTakeFault, IsLocal};
+ghost use Rattle.tpf_client.specs.Sinks.{KeepsSink, LeavesSink};
 
 use crate::ClientFault;
 use crate::asks::{Arrived, Asks, is_lawful};
@@ -83,10 +83,7 @@ fn give_rows<E: Evaluates, B, T: TakesRows<B>>(
     ensures gives { (given : List Places) × Gives E.suits E.account E.keeps_to E.standing evaluation.old evaluation.new given
         × OnOk result (T.takes given rows.old rows.new behind.old behind.new) × OnErr result (T.takes_front given rows.old rows.new behind.old behind.new) }
     ensures none { OnOk result ((E.standing evaluation.new).waiting ≡ 0) }
-    ensures later { T.faults behind.old ≤ T.faults behind.new }
-    ensures failed { IsErrOf result Fault.Failed → Rose (T.faults behind.old) (T.faults behind.new) }
-    ensures faultless { T.faultless behind.new ≡ T.faultless behind.old }
-    ensures spared { T.faultless behind.old ≡ true → DoesNotFail (T.faults behind.old) (T.faults behind.new) result }
+    ensures sink { KeepsSink (T.sink behind.old) (T.sink behind.new) result }
 {
     'waiting: while let Some(row) = evaluation.take_row() {
         match rows.take(behind, row) {
@@ -161,10 +158,7 @@ fn prepare<E: Evaluates, B, T: TakesRows<B>>(
     ensures given { OnOk result (tickets.new ≡ (E.standing evaluation.new).given) }
     ensures err { IfErr result (λ fault. (taken : List Places) × (asked : List Ask) × (end : E) × Readies E.suits E.account E.keeps_to E.standing evaluation.old end taken asked asks.old asks.new
         × T.takes_front taken rows.old rows.new behind.old behind.new × IsLocal fault) }
-    ensures later { T.faults behind.old ≤ T.faults behind.new }
-    ensures sink { IsErrOf result ClientFault.Sink → Rose (T.faults behind.old) (T.faults behind.new) }
-    ensures faultless { T.faultless behind.new ≡ T.faultless behind.old }
-    ensures spared { T.faultless behind.old ≡ true → (T.faults behind.new ≡ T.faults behind.old) × (IsErrOf result ClientFault.Sink → ⊥) }
+    ensures sink { LeavesSink (T.sink behind.old) (T.sink behind.new) result }
 {
     match give_rows(evaluation, rows, behind) {
         Err(fault) => Err(of_sink(fault)),
@@ -221,10 +215,7 @@ fn turn<R: Wait, E: Evaluates, W: Dial, B, T: TakesRows<B>>(
     ensures done { result ≡ Ok true → (E.standing evaluation.new).done ≡ true }
     ensures failed { IfErr result (λ fault. (events : List Event) × (taken : List Places) × Failed E.suits E.account E.keeps_to E.standing E.is_true (W.allows wire.old) evaluation.old bounds.version bounds.budget fault events taken asks.old asks.new (W.state wire.old) (W.state wire.new)
         × T.takes_front taken rows.old rows.new behind.old behind.new × (IsLocal fault ⊎ T.takes taken rows.old rows.new behind.old behind.new)) }
-    ensures later { T.faults behind.old ≤ T.faults behind.new }
-    ensures sink { IsErrOf result ClientFault.Sink → Rose (T.faults behind.old) (T.faults behind.new) }
-    ensures faultless { T.faultless behind.new ≡ T.faultless behind.old }
-    ensures spared { T.faultless behind.old ≡ true → (T.faults behind.new ≡ T.faults behind.old) × (IsErrOf result ClientFault.Sink → ⊥) }
+    ensures sink { LeavesSink (T.sink behind.old) (T.sink behind.new) result }
     ensures allowed { SameAllowed (W.allows wire.old) (W.allows wire.new) }
 {
     is_lawful(wire);
@@ -274,10 +265,7 @@ pub(crate) fn evaluate<R: Wait, E: Evaluates, W: Dial, B, T: TakesRows<B>>(
     ensures done { OnOk result ((E.standing evaluation.new).done ≡ true) }
     ensures failed { IfErr result (λ fault. (events : List Event) × (taken : List Places) × Failed E.suits E.account E.keeps_to E.standing E.is_true (W.allows wire.old) evaluation.old bounds.version bounds.budget fault events taken asks.old asks.new (W.state wire.old) (W.state wire.new)
         × T.takes_front taken rows.old rows.new behind.old behind.new × (IsLocal fault ⊎ T.takes taken rows.old rows.new behind.old behind.new)) }
-    ensures later { T.faults behind.old ≤ T.faults behind.new }
-    ensures sink { IsErrOf result ClientFault.Sink → Rose (T.faults behind.old) (T.faults behind.new) }
-    ensures faultless { T.faultless behind.new ≡ T.faultless behind.old }
-    ensures spared { T.faultless behind.old ≡ true → (T.faults behind.new ≡ T.faults behind.old) × (IsErrOf result ClientFault.Sink → ⊥) }
+    ensures sink { LeavesSink (T.sink behind.old) (T.sink behind.new) result }
     ensures allowed { SameAllowed (W.allows wire.old) (W.allows wire.new) }
 {
     let mut tickets = 0;

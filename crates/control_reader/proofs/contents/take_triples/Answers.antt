@@ -1,6 +1,6 @@
 use Rattle.std.proofs.Common.{refl, sym, ap, ◌∙◌, inr}
 use Rattle.std.specs.List.{list_any}
-use Rattle.control_reader.specs.Seen.{holds_blank}
+use Rattle.control_reader.specs.Blanks.{holds_blank}
 use Rattle.control_reader.proofs.Blanks.{blank_data}
 use Rattle.control_reader.proofs.contents.take_triples.Goals as goal
 

@@ -2,7 +2,7 @@
 use Rattle.std.proofs.Common.{refl, sym, ◌∙◌, ap, arith, [], length-take-le}
 use Rattle.exchange.proofs.ReceivingLemmas.{received_more, received_lost, received_stop, end_rose, failed_rose, woken_received, longer_by, told_holds, end_not_due, receive_not_due}
 use Rattle.tpf_base.specs.HttpReply.{is_open}
-use Rattle.link_calls.proofs.SendingLemmas.{rose_on, allowed_then}
+use Rattle.tpf_base.proofs.SendingLemmas.{rose_on, allowed_then}
 use Rattle.exchange.proofs.receiving.receive.Goals as goal
 
 pub slice_bounds-read-end : goal.slice_bounds-read-end

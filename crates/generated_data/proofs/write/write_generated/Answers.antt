@@ -19,7 +19,7 @@ loop-person-preserved g c =
     elim c.if-len-ge-PIECE.branch [
       | then-len-ge-PIECE+in_ok-write_all w ↦ rw w.out-is (rw w.piece-is record {
         written = piece_written _ _ _ _ _ _ _ _ w.clear.ensures.items w.deref.ensures.value w.in_ok-write_all.ensures.ok added;
-        later = omega (arith, before.later, w.write_all.ensures.later);
+        later = omega (arith, before.later, w.write_all.ensures.cause.later);
         faultless = w.write_all.ensures.faultless ∙ before.faultless;
         spared = λ spares. (w.write_all.ensures.spared (before.faultless ∙ spares)).same ∙ before.spared spares;
       })

@@ -6,8 +6,8 @@ use Rattle.generated_data.proofs.write.write_generated.Given as goal
 
 abbrev pub invariant-loop-person : goal.invariant-loop-person
 invariant-loop-person g l = record {
-  written : IsWriting (canon (generated l.persons)) (g.K.Sink.taken l.initial.out) (g.K.Sink.taken l.out) l.piece.items (left l.persons l.person);
-  later : g.K.Sink.faults l.initial.out ≤ g.K.Sink.faults l.out;
-  faultless : g.K.Sink.faultless l.out ≡ g.K.Sink.faultless l.initial.out;
-  spared : g.K.Sink.faultless l.initial.out ≡ true → g.K.Sink.faults l.out ≡ g.K.Sink.faults l.initial.out;
+  written : IsWriting (canon (generated l.persons)) (g.K.Sink.state l.initial.out).taken (g.K.Sink.state l.out).taken l.piece.items (left l.persons l.person);
+  later : (g.K.Sink.state l.initial.out).faults ≤ (g.K.Sink.state l.out).faults;
+  faultless : (g.K.Sink.state l.out).faultless ≡ (g.K.Sink.state l.initial.out).faultless;
+  spared : (g.K.Sink.state l.initial.out).faultless ≡ true → (g.K.Sink.state l.out).faults ≡ (g.K.Sink.state l.initial.out).faults;
 }

@@ -6,7 +6,8 @@ use Rattle.tpf_client.specs.Calls.{Ran, RunsPool}
 use Rattle.tpf_client.proofs.Shutting.{if-ok, if-err, returns-so, writes-some-so, ran-closed, suits-empty}
 use Rattle.tpf_client.proofs.Headline.{solutions-given}
 use Rattle.tpf_client.proofs.Completing.{completes}
-use Rattle.tpf_client.proofs.Clauses.{ExitClauses, exit-clauses}
+use Rattle.tpf_client.specs.Acts.{ActsOnWire}
+use Rattle.tpf_client.proofs.Clauses.{acts-on-wire}
 use Rattle.tpf_client.proofs.calls.collect.Given as given
 use Rattle.tpf_client.proofs.calls.collect.Goals as goal
 
@@ -30,9 +31,9 @@ closes : (g : given.Over) (c : goal.After-drop-asks-inside-7 g) (events : List E
 closes g c = ran-closed (g.W.Wire.allows c.args.wire.now) c.args.options.now c.new-asks.result c.gather-ended.new.asks (g.W.Wire.state c.args.wire.now) (g.W.Wire.state c.gather-ended.new.wire) (g.W.Wire.state c.close.new.wire) c.new-asks.ensures.empty c.close.ensures.closes
 
 -- the clauses that both calls have
-exit : (g : given.Over) (c : goal.After-drop-asks-inside-7 g) → ExitClauses (g.W.Wire.allows c.args.wire.now) c.args.options.now c.args.start.now c.args.query.now c.gather-ended.result (λ r. r.1) (g.W.Wire.state c.args.wire.now) (g.W.Wire.state c.close.new.wire)
+exit : (g : given.Over) (c : goal.After-drop-asks-inside-7 g) → ActsOnWire (g.W.Wire.allows c.args.wire.now) c.args.options.now c.args.start.now c.args.query.now c.gather-ended.result (λ r. r.1) (g.W.Wire.state c.args.wire.now) (g.W.Wire.state c.close.new.wire)
 exit g c =
-    exit-clauses c.solutions_rest_on_laws.ensures c.traffic_rests_on_laws.ensures (g.W.Wire.allows c.args.wire.now) c.args.options.now (g.W.Wire.state c.args.wire.now) (g.W.Wire.state c.gather-ended.new.wire) (g.W.Wire.state c.close.new.wire) c.is_lawful.ensures c.new-asks.ensures.limit c.requires.some c.args.start.now c.args.query.now
+    acts-on-wire c.solutions_rest_on_laws.ensures c.traffic_rests_on_laws.ensures (g.W.Wire.allows c.args.wire.now) c.args.options.now (g.W.Wire.state c.args.wire.now) (g.W.Wire.state c.gather-ended.new.wire) (g.W.Wire.state c.close.new.wire) c.is_lawful.ensures c.new-asks.ensures.limit c.requires.some c.args.start.now c.args.query.now
     c.new-asks.result c.gather-ended.new.asks c.new-asks.ensures.empty c.close.ensures.closes c.gather-ended.result (λ r. r.1) _ _ _ c.gather-ended.ensures.ok c.gather-ended.ensures.err (λ r w. (r.0.items, w))
 
 -- ---- the result
@@ -54,86 +55,10 @@ returns-clause-headline g c = λ history config honest.
 pub returns-clause-sink : goal.returns-clause-sink
 returns-clause-sink g c = c.gather-ended.ensures.sink
 
-pub returns-clause-cause : goal.returns-clause-cause
-returns-clause-cause g c = (exit g c).cause
-
-pub returns-clause-honest_cause : goal.returns-clause-honest_cause
-returns-clause-honest_cause g c = (exit g c).honest_cause
-
-pub returns-clause-lively_cause : goal.returns-clause-lively_cause
-returns-clause-lively_cause g c = (exit g c).lively_cause
-
-pub returns-clause-failed_often : goal.returns-clause-failed_often
-returns-clause-failed_often g c = (exit g c).failed_often
-
-pub returns-clause-spent_requests : goal.returns-clause-spent_requests
-returns-clause-spent_requests g c = (exit g c).spent_requests
-
-pub returns-clause-spent_tries : goal.returns-clause-spent_tries
-returns-clause-spent_tries g c = (exit g c).spent_tries
-
-pub returns-clause-spent_plan : goal.returns-clause-spent_plan
-returns-clause-spent_plan g c = (exit g c).spent_plan
-
 pub returns-clause-complete : goal.returns-clause-complete
 returns-clause-complete g c = λ history config honest alive rise few fits.
     completes history config c.args.options.now c.args.query.now c.args.start.now (g.W.Wire.state c.args.wire.now) (g.W.Wire.state c.close.new.wire) rise few fits c.gather-ended.result ((exit g c).honest_cause history config honest)
     ((exit g c).lively_cause history config honest alive) c.gather-ended.ensures.sink
 
--- ---- links
-
-pub returns-clause-closed : goal.returns-clause-closed
-returns-clause-closed g c = (exit g c).links.closed
-
-pub returns-clause-peers : goal.returns-clause-peers
-returns-clause-peers g c = (exit g c).links.peers
-
-pub returns-clause-others : goal.returns-clause-others
-returns-clause-others g c = (exit g c).links.others
-
-pub returns-clause-dials : goal.returns-clause-dials
-returns-clause-dials g c = (exit g c).links.dials
-
-pub returns-clause-given : goal.returns-clause-given
-returns-clause-given g c = (exit g c).links.given
-
-pub returns-clause-sent : goal.returns-clause-sent
-returns-clause-sent g c = (exit g c).links.sent
-
--- ---- requests
-
-pub returns-clause-answered : goal.returns-clause-answered
-returns-clause-answered g c = (exit g c).answered
-
-pub returns-clause-within : goal.returns-clause-within
-returns-clause-within g c = (exit g c).within
-
-pub returns-clause-dialled : goal.returns-clause-dialled
-returns-clause-dialled g c = (exit g c).dialled
-
-pub returns-clause-linked : goal.returns-clause-linked
-returns-clause-linked g c = (exit g c).linked
-
-pub returns-clause-requests : goal.returns-clause-requests
-returns-clause-requests g c = (exit g c).requests
-
-pub returns-clause-planned : goal.returns-clause-planned
-returns-clause-planned g c = (exit g c).planned
-
-pub returns-clause-asked : goal.returns-clause-asked
-returns-clause-asked g c = (exit g c).asked
-
-pub returns-clause-counted : goal.returns-clause-counted
-returns-clause-counted g c = (exit g c).counted
-
-pub returns-clause-paced : goal.returns-clause-paced
-returns-clause-paced g c = (exit g c).paced
-
-pub returns-clause-unprovoked : goal.returns-clause-unprovoked
-returns-clause-unprovoked g c = (exit g c).unprovoked
-
-pub returns-clause-requested : goal.returns-clause-requested
-returns-clause-requested g c = (exit g c).requested
-
-pub returns-clause-replied : goal.returns-clause-replied
-returns-clause-replied g c = (exit g c).replied
+pub returns-clause-acts : goal.returns-clause-acts
+returns-clause-acts g c = exit g c

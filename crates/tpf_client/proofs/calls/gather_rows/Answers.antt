@@ -23,4 +23,4 @@ pub returns-in-Err-clause-err : goal.returns-in-Err-clause-err
 returns-in-Err-clause-err g c = let s = c.in-Err.ensures.some in PartOf s.0 s.1 s.2 (nothing-written _ _)
 
 pub returns-in-Err-clause-sink : goal.returns-in-Err-clause-sink
-returns-in-Err-clause-sink g c = λ e. (c.in-Err.ensures.spared refl).1 (err-as _ (Unit {0}) c.in-Err.fault faults.Sink e)
+returns-in-Err-clause-sink g c = λ e. (c.in-Err.ensures.sink.spared refl).1 (err-as _ (Unit {0}) c.in-Err.fault faults.Sink e)

@@ -4,6 +4,7 @@ use Rattle.join_core.specs.Evaluations.{Terms}
 use Rattle.tpf_client.proofs.Homes.{own-home}
 use Rattle.tpf_client.proofs.Joining.{begins-meets, joins-of, some-of}
 use Rattle.tpf_client.proofs.Shutting.{on-ok-two, if-err-from}
+use Rattle.tpf_client.proofs.Sinks.{stays-none, leaves-lacking}
 use Rattle.tpf_client.proofs.Waiting.{same-allowed}
 use Rattle.tpf_client.proofs.Written.{nothing-joined}
 use Rattle.tpf_client.proofs.calls.join_pages.Goals as goal
@@ -50,3 +51,6 @@ returns-in-Err-clause-some g c = (
 
 pub returns-in-Err-clause-allowed : goal.returns-in-Err-clause-allowed
 returns-in-Err-clause-allowed g c = same-allowed (g.W.Wire.allows c.args.wire.now)
+
+pub returns-in-Err-clause-sink : goal.returns-in-Err-clause-sink
+returns-in-Err-clause-sink g c = leaves-lacking _ _ (stays-none (g.T.TakesRows.sink c.args.behind.now))

@@ -1,8 +1,11 @@
 -- The start page has a form with the authority of the start, and nothing is held behind it.
 use Rattle.std.proofs.Common.{[]}
 use Rattle.list_laws.proofs.Members.{at_head}
+use Rattle.tpf_client.specs.declared.fault.ClientFault.TheVariants as faults
 use Rattle.tpf_client.proofs.Shutting.{if-ok, if-err}
 use Rattle.tpf_client.proofs.Written.{all-written, some-written, some-shown, none-written, none-shown, rest-suits}
+use Rattle.tpf_client.proofs.Going.{err-as}
+use Rattle.tpf_client.proofs.Sinks.{stays-none, leaves-other}
 use Rattle.tpf_client.proofs.Waiting.{allowed-then}
 use Rattle.tpf_client.proofs.calls.write_result.Goals as goal
 
@@ -54,3 +57,6 @@ returns-in-Ok-clause-shown g c =
 
 pub returns-in-Err-clause-shown : goal.returns-in-Err-clause-shown
 returns-in-Err-clause-shown g c = (none-written (g.W.Wire.allows c.args.wire.now) c.args.query.now c.args.start.now c.args.options.now.budget c.in-Err.fault c.args.asks.now c.ask_start.new.asks (g.W.Wire.state c.args.wire.now) (g.W.Wire.state c.ask_start.new.wire) _ c.in-Err.ensures.starts, none-shown _ _ _ _ _ _ _ _ _ _ c.in-Err.ensures.starts _ _)
+
+pub returns-in-Err-clause-sink : goal.returns-in-Err-clause-sink
+returns-in-Err-clause-sink g c = leaves-other _ _ c.in-Err.fault (λ e. c.in-Err.ensures.no_sink (err-as _ _ c.in-Err.fault faults.Sink e)) (stays-none (g.K.Sink.state c.args.out.now))

@@ -1,8 +1,8 @@
 -- One turn more.
-use Rattle.std.proofs.Common.{Bool, [], ◌++◌, ◌∙◌, ◌⊎◌, inl, inr, refl, sym, ap, arith}
+use Rattle.std.proofs.Common.{Bool, [], ◌++◌, ◌⊎◌, inl, inr, sym, ap}
 use Rattle.std.specs.Prelude.{Ok}
-use Rattle.tpf_client.specs.declared.fault.ClientFault.TheVariants as faults
-use Rattle.tpf_client.proofs.Going.{went-none, went-then, failed-then, rose-then, err-as}
+use Rattle.tpf_client.proofs.Going.{went-none, went-then, failed-then}
+use Rattle.tpf_client.proofs.Sinks.{stays-none, stays-then, leaves-stays, leaves-ok, leaves-behind, leaves-as}
 use Rattle.tpf_client.proofs.Waiting.{same-allowed, allowed-then}
 use Rattle.tpf_client.proofs.turns.evaluate.Goals as goal
 
@@ -15,9 +15,7 @@ pub loop-init : goal.loop-init
 loop-init g c = record {
   went = ([], [], went-none g.E.Evaluates.suits g.E.Evaluates.account g.E.Evaluates.keeps_to g.E.Evaluates.standing g.E.Evaluates.is_true c.args.bounds.version (g.W.Wire.allows c.args.wire.now) c.args.evaluation.now c.args.asks.now (g.W.Wire.state c.args.wire.now) c.requires.suits, g.met.T.TakesRows.takes_none c.args.rows.now c.args.behind.now);
   counts = sym c.requires.given;
-  later = omega arith;
-  faultless = refl;
-  spared = λ h. refl;
+  sink = stays-none (g.T.TakesRows.sink c.args.behind.now);
   allowed = same-allowed (g.W.Wire.allows c.args.wire.now);
 }
 
@@ -40,9 +38,7 @@ loop-preserved g c =
         g.met.T.TakesRows.takes_then i.went.1 t.1 _ _ _ _ _ _ i.went.3 t.3,
       );
       counts = c.in-Ok.ensures.given;
-      later = let a = i.later in let b = c.in-Ok.ensures.later in omega arith;
-      faultless = c.in-Ok.ensures.faultless ∙ i.faultless;
-      spared = λ h. (c.in-Ok.ensures.spared (i.faultless ∙ h)).0 ∙ i.spared h;
+      sink = stays-then _ _ _ i.sink (leaves-stays _ _ _ c.in-Ok.ensures.sink);
       allowed = allowed-then (g.W.Wire.allows c.args.wire.now) (g.W.Wire.allows c.loop.wire) (g.W.Wire.allows c.turn.new.wire) i.allowed c.in-Ok.ensures.allowed;
     }
 
@@ -60,15 +56,6 @@ returns-then-done-clause-went g c =
 pub returns-then-done-clause-done : goal.returns-then-done-clause-done
 returns-then-done-clause-done g c = c.in-Ok.ensures.done (ap (λ (b : Bool). Ok b) c.if-done.true)
 
-pub returns-then-done-clause-later : goal.returns-then-done-clause-later
-returns-then-done-clause-later g c = let a = c.loop.invariant.later in let b = c.in-Ok.ensures.later in omega arith
-
-pub returns-then-done-clause-faultless : goal.returns-then-done-clause-faultless
-returns-then-done-clause-faultless g c = c.in-Ok.ensures.faultless ∙ c.loop.invariant.faultless
-
-pub returns-then-done-clause-spared : goal.returns-then-done-clause-spared
-returns-then-done-clause-spared g c = λ h. let i = c.loop.invariant in ((c.in-Ok.ensures.spared (i.faultless ∙ h)).0 ∙ i.spared h, λ e. cc)
-
 pub returns-then-done-clause-allowed : goal.returns-then-done-clause-allowed
 returns-then-done-clause-allowed g c = allowed-then (g.W.Wire.allows c.args.wire.now) (g.W.Wire.allows c.loop.wire) (g.W.Wire.allows c.turn.new.wire) c.loop.invariant.allowed c.in-Ok.ensures.allowed
 
@@ -84,17 +71,11 @@ returns-in-Err-clause-failed g c =
       behind-takes _ _ _ (g.met.T.TakesRows.takes_then i.went.1 t.1 _ _ _ _ _ _ i.went.3) t.4,
     )
 
-pub returns-in-Err-clause-later : goal.returns-in-Err-clause-later
-returns-in-Err-clause-later g c = let a = c.loop.invariant.later in let b = c.in-Err.ensures.later in omega arith
-
-pub returns-in-Err-clause-sink : goal.returns-in-Err-clause-sink
-returns-in-Err-clause-sink g c = λ e. rose-then _ _ _ c.loop.invariant.later (c.in-Err.ensures.sink (err-as (Unit {0}) Bool c.in-Err.fault faults.Sink e))
-
-pub returns-in-Err-clause-faultless : goal.returns-in-Err-clause-faultless
-returns-in-Err-clause-faultless g c = c.in-Err.ensures.faultless ∙ c.loop.invariant.faultless
-
-pub returns-in-Err-clause-spared : goal.returns-in-Err-clause-spared
-returns-in-Err-clause-spared g c = λ h. let i = c.loop.invariant in let d = c.in-Err.ensures.spared (i.faultless ∙ h) in (d.0 ∙ i.spared h, λ e. d.1 (err-as (Unit {0}) Bool c.in-Err.fault faults.Sink e))
-
 pub returns-in-Err-clause-allowed : goal.returns-in-Err-clause-allowed
 returns-in-Err-clause-allowed g c = allowed-then (g.W.Wire.allows c.args.wire.now) (g.W.Wire.allows c.loop.wire) (g.W.Wire.allows c.turn.new.wire) c.loop.invariant.allowed c.in-Err.ensures.allowed
+
+pub returns-then-done-clause-sink : goal.returns-then-done-clause-sink
+returns-then-done-clause-sink g c = leaves-ok _ _ _ (stays-then _ _ _ c.loop.invariant.sink (leaves-stays _ _ _ c.in-Ok.ensures.sink))
+
+pub returns-in-Err-clause-sink : goal.returns-in-Err-clause-sink
+returns-in-Err-clause-sink g c = leaves-behind _ _ _ _ c.loop.invariant.sink (leaves-as _ _ c.in-Err.fault c.in-Err.ensures.sink)

@@ -1,17 +1,16 @@
 -- The turns so far.
-use Rattle.std.proofs.Common.{◌≡◌, ◌≤◌, true, List}
+use Rattle.std.proofs.Common.{◌≡◌, List}
 use Rattle.tpf_base.specs.Links.{SameAllowed}
 use Rattle.bgp_core.specs.Solutions.{Places}
 use Rattle.tpf_client.specs.Traffic.{Event}
 use Rattle.tpf_client.specs.Turns.{Went}
+use Rattle.tpf_client.proofs.Sinks.{StaysSink}
 use Rattle.tpf_client.proofs.turns.evaluate.Given as goal
 
 abbrev pub invariant-loop : goal.invariant-loop
 invariant-loop g l = record {
   went : (events : List Event) × (taken : List Places) × Went g.E.Evaluates.suits g.E.Evaluates.account g.E.Evaluates.keeps_to g.E.Evaluates.standing g.E.Evaluates.is_true (g.W.Wire.allows l.fn.wire) l.fn.evaluation l.evaluation l.bounds.version events taken l.fn.asks l.asks (g.W.Wire.state l.fn.wire) (g.W.Wire.state l.wire) × g.T.TakesRows.takes taken l.fn.rows l.rows l.fn.behind l.behind;
   counts : l.tickets ≡ (g.E.Evaluates.standing l.evaluation).given;
-  later : g.T.TakesRows.faults l.fn.behind ≤ g.T.TakesRows.faults l.behind;
-  faultless : g.T.TakesRows.faultless l.behind ≡ g.T.TakesRows.faultless l.fn.behind;
-  spared : g.T.TakesRows.faultless l.fn.behind ≡ true → g.T.TakesRows.faults l.behind ≡ g.T.TakesRows.faults l.fn.behind;
+  sink : StaysSink (g.T.TakesRows.sink l.fn.behind) (g.T.TakesRows.sink l.behind);
   allowed : SameAllowed (g.W.Wire.allows l.fn.wire) (g.W.Wire.allows l.wire);
 }

@@ -1,15 +1,14 @@
 -- These rows were given so far.
-use Rattle.std.proofs.Common.{◌≡◌, ◌≤◌, true, List}
+use Rattle.std.proofs.Common.{List}
 use Rattle.bgp_core.specs.Solutions.{Places}
 use Rattle.tpf_client.specs.Turns.{Gives}
+use Rattle.tpf_client.proofs.Sinks.{StaysSink}
 use Rattle.tpf_client.proofs.turns.give_rows.Given as goal
 
 abbrev pub invariant-waiting : goal.invariant-waiting
 invariant-waiting g l = record {
   gives : (taken : List Places) × Gives g.E.Evaluates.suits g.E.Evaluates.account g.E.Evaluates.keeps_to g.E.Evaluates.standing l.fn.evaluation l.evaluation taken × g.T.TakesRows.takes taken l.fn.rows l.rows l.fn.behind l.behind;
-  later : g.T.TakesRows.faults l.fn.behind ≤ g.T.TakesRows.faults l.behind;
-  faultless : g.T.TakesRows.faultless l.behind ≡ g.T.TakesRows.faultless l.fn.behind;
-  spared : g.T.TakesRows.faultless l.fn.behind ≡ true → g.T.TakesRows.faults l.behind ≡ g.T.TakesRows.faults l.fn.behind;
+  sink : StaysSink (g.T.TakesRows.sink l.fn.behind) (g.T.TakesRows.sink l.behind);
 }
 
 abbrev pub decreases-waiting : goal.decreases-waiting

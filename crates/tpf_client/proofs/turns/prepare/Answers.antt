@@ -3,7 +3,8 @@ use Rattle.std.proofs.Common.{[], ◌∙◌, sym, subst}
 use Rattle.tpf_client.specs.declared.fault.ClientFault.{ClientFault}
 use Rattle.tpf_client.specs.Causes.{IsLocal}
 use Rattle.tpf_client.proofs.Turning.{give-meets, hands-nothing}
-use Rattle.tpf_client.proofs.Going.{sink-local, sink-of}
+use Rattle.tpf_client.proofs.Going.{sink-local}
+use Rattle.tpf_client.proofs.Sinks.{stays-ok, leaves-ok, leaves-lacking, leaves-fault}
 use Rattle.tpf_client.proofs.turns.prepare.Goals as goal
 
 pub hand_over-requires-clause-meets : goal.hand_over-requires-clause-meets
@@ -45,7 +46,10 @@ returns-in-Err-clause-err g c =
     )
 
 pub returns-in-Err-clause-sink : goal.returns-in-Err-clause-sink
-returns-in-Err-clause-sink g c = λ e. c.in-Err.ensures.failed (sink-of c.in-Err.fault c.of_sink.result c.of_sink.ensures e)
+returns-in-Err-clause-sink g c = leaves-fault _ _ c.in-Err.fault c.of_sink.result c.of_sink.ensures c.in-Err.ensures.sink
 
-pub returns-in-Err-clause-spared : goal.returns-in-Err-clause-spared
-returns-in-Err-clause-spared g c = λ h. let d = c.in-Err.ensures.spared h in (d.same, λ e. d.answer (sink-of c.in-Err.fault c.of_sink.result c.of_sink.ensures e))
+pub returns-in-Err-hand_over-clause-sink : goal.returns-in-Err-hand_over-clause-sink
+returns-in-Err-hand_over-clause-sink g c = leaves-lacking _ _ (stays-ok _ _ _ c.in-Ok.ensures.sink)
+
+pub returns-in-Ok-hand_over-clause-sink : goal.returns-in-Ok-hand_over-clause-sink
+returns-in-Ok-hand_over-clause-sink g c = leaves-ok _ _ _ (stays-ok _ _ _ c.in-Ok.ensures.sink)

@@ -1,12 +1,13 @@
 -- Rows and asks, and then the next reply.
-use Rattle.std.proofs.Common.{Bool, List, [], ◌++◌, ◌∙◌, sym, map, subst, append-nil, inl, inr, arith}
+use Rattle.std.proofs.Common.{Bool, List, [], ◌++◌, ◌∙◌, sym, map, subst, append-nil, inl, inr}
 use Rattle.bgp_core.specs.Solutions.{Places}
 use Rattle.tpf_client.specs.declared.fault.ClientFault.{ClientFault}
 use Rattle.tpf_client.specs.declared.fault.ClientFault.TheVariants as faults
 use Rattle.tpf_client.specs.Causes.{IsLocal}
 use Rattle.tpf_client.specs.Traffic.{Asked}
 use Rattle.tpf_client.proofs.Meeting.{meets-some}
-use Rattle.tpf_client.proofs.Going.{ready-meets, went-ready, went-then, failed-ready, failed-here, failed-then, explains-local, sink-local, sink-of, rose-then, err-as}
+use Rattle.tpf_client.proofs.Going.{ready-meets, went-ready, went-then, failed-ready, failed-here, failed-then, explains-local, sink-local, err-as}
+use Rattle.tpf_client.proofs.Sinks.{stays-then, stays-ok, leaves-stays, leaves-ok, leaves-behind, leaves-other, leaves-fault}
 use Rattle.tpf_client.proofs.Waiting.{same-allowed}
 use Rattle.tpf_client.proofs.turns.turn.Goals as goal
 
@@ -56,20 +57,6 @@ returns-in-Err-hand_on-clause-failed g c =
       inl (subst (λ (f : ClientFault). IsLocal f) (sym c.of_sink.ensures) (sink-local c.in-Err-hand_on.fault)),
     )
 
-pub returns-in-Err-hand_on-clause-later : goal.returns-in-Err-hand_on-clause-later
-returns-in-Err-hand_on-clause-later g c = let a = c.in-Ok.ensures.later in let b = c.in-Err-hand_on.ensures.later in omega arith
-
-pub returns-in-Err-hand_on-clause-sink : goal.returns-in-Err-hand_on-clause-sink
-returns-in-Err-hand_on-clause-sink g c = λ e. rose-then _ _ _ c.in-Ok.ensures.later (c.in-Err-hand_on.ensures.failed (sink-of c.in-Err-hand_on.fault c.of_sink.result c.of_sink.ensures e))
-
-pub returns-in-Err-hand_on-clause-faultless : goal.returns-in-Err-hand_on-clause-faultless
-returns-in-Err-hand_on-clause-faultless g c = c.in-Err-hand_on.ensures.faultless ∙ c.in-Ok.ensures.faultless
-
-pub returns-in-Err-hand_on-clause-spared : goal.returns-in-Err-hand_on-clause-spared
-returns-in-Err-hand_on-clause-spared g c = λ h.
-    let d = c.in-Err-hand_on.ensures.spared (c.in-Ok.ensures.faultless ∙ h) in
-    (d.same ∙ (c.in-Ok.ensures.spared h).0, λ e. d.answer (sink-of c.in-Err-hand_on.fault c.of_sink.result c.of_sink.ensures e))
-
 pub returns-in-Err-take_next-clause-failed : goal.returns-in-Err-take_next-clause-failed
 returns-in-Err-take_next-clause-failed g c =
     let r = c.in-Ok.ensures.ok in
@@ -96,23 +83,16 @@ returns-in-Ok-take_next-clause-went g c =
 pub returns-in-Ok-take_next-clause-given : goal.returns-in-Ok-take_next-clause-given
 returns-in-Ok-take_next-clause-given g c = c.in-Ok.ensures.given ∙ sym c.in-Ok-take_next.ensures.given
 
-pub returns-in-Err-take_next-clause-later : goal.returns-in-Err-take_next-clause-later
-returns-in-Err-take_next-clause-later g c = let a = c.in-Ok.ensures.later in let b = c.in-Ok-hand_on.ensures.later in omega arith
+pub returns-then-done-clause-sink : goal.returns-then-done-clause-sink
+returns-then-done-clause-sink g c = leaves-ok _ _ _ (leaves-stays _ _ _ c.in-Ok.ensures.sink)
 
-pub returns-in-Err-take_next-clause-faultless : goal.returns-in-Err-take_next-clause-faultless
-returns-in-Err-take_next-clause-faultless g c = c.in-Ok-hand_on.ensures.faultless ∙ c.in-Ok.ensures.faultless
-
-pub returns-in-Err-take_next-clause-spared : goal.returns-in-Err-take_next-clause-spared
-returns-in-Err-take_next-clause-spared g c = λ h. ((c.in-Ok-hand_on.ensures.spared (c.in-Ok.ensures.faultless ∙ h)).same ∙ (c.in-Ok.ensures.spared h).0, λ e. c.in-Err-take_next.ensures.no_sink (err-as Bool (Unit {0}) c.in-Err-take_next.fault faults.Sink e))
+pub returns-in-Err-hand_on-clause-sink : goal.returns-in-Err-hand_on-clause-sink
+returns-in-Err-hand_on-clause-sink g c = leaves-behind _ _ _ _ (leaves-stays _ _ _ c.in-Ok.ensures.sink) (leaves-fault _ _ c.in-Err-hand_on.fault c.of_sink.result c.of_sink.ensures c.in-Err-hand_on.ensures.sink)
 
 pub returns-in-Err-take_next-clause-sink : goal.returns-in-Err-take_next-clause-sink
-returns-in-Err-take_next-clause-sink g c = λ e. absurd (c.in-Err-take_next.ensures.no_sink (err-as Bool (Unit {0}) c.in-Err-take_next.fault faults.Sink e))
+returns-in-Err-take_next-clause-sink g c =
+    leaves-other _ _ c.in-Err-take_next.fault (λ e. c.in-Err-take_next.ensures.no_sink (err-as Bool (Unit {0}) c.in-Err-take_next.fault faults.Sink e))
+    (stays-then _ _ _ (leaves-stays _ _ _ c.in-Ok.ensures.sink) (stays-ok _ _ _ c.in-Ok-hand_on.ensures.sink))
 
-pub returns-in-Ok-take_next-clause-later : goal.returns-in-Ok-take_next-clause-later
-returns-in-Ok-take_next-clause-later g c = let a = c.in-Ok.ensures.later in let b = c.in-Ok-hand_on.ensures.later in omega arith
-
-pub returns-in-Ok-take_next-clause-faultless : goal.returns-in-Ok-take_next-clause-faultless
-returns-in-Ok-take_next-clause-faultless g c = c.in-Ok-hand_on.ensures.faultless ∙ c.in-Ok.ensures.faultless
-
-pub returns-in-Ok-take_next-clause-spared : goal.returns-in-Ok-take_next-clause-spared
-returns-in-Ok-take_next-clause-spared g c = λ h. ((c.in-Ok-hand_on.ensures.spared (c.in-Ok.ensures.faultless ∙ h)).same ∙ (c.in-Ok.ensures.spared h).0, λ e. cc)
+pub returns-in-Ok-take_next-clause-sink : goal.returns-in-Ok-take_next-clause-sink
+returns-in-Ok-take_next-clause-sink g c = leaves-ok _ _ _ (stays-then _ _ _ (leaves-stays _ _ _ c.in-Ok.ensures.sink) (stays-ok _ _ _ c.in-Ok-hand_on.ensures.sink))

@@ -1,6 +1,6 @@
 -- The pool goes on.
 use Rattle.std.proofs.Common.{sym, ◌∙◌}
-use Rattle.link_calls.proofs.SendingLemmas.{allowed_then}
+use Rattle.tpf_base.proofs.SendingLemmas.{allowed_then}
 use Rattle.request_pool.specs.Runs.{Next}
 use Rattle.request_pool.proofs.Running.{runs_more}
 use Rattle.request_pool.proofs.Steps.{runs_suit, poll_suits}

@@ -1,0 +1,39 @@
+-- Counts as they are written, and numbers of pages.
+use Rattle.std.proofs.Common.{◌≡◌, ℕ, ◌^◌, ◌<◌, ◌≤◌, true, nat_le, List, length, sym, arith}
+use Rattle.std.specs.List.{list_all}
+use Rattle.std.specs.Char.{is_ascii, is_ascii_digit}
+use Rattle.std.specs.Str.{IsUtf8}
+use Rattle.std.specs.Str.Parse.{digits_value}
+use Rattle.std.proofs.lemmas.Bool.{and_from}
+use Rattle.std.proofs.lemmas.Bool.Decides.{nat_tests}
+use Rattle.tpf_base.specs.Decimals.{decimal_text}
+use Rattle.tpf_base.proofs.DecimalTexts.{decimal_text-digits, decimal_text-some, decimal_text-short, decimal_text-long, decimal_text-value}
+use Rattle.template_fill.proofs.Addresses.{and_left, and_right, utf8-ascii}
+use Rattle.template_fill.proofs.Passing.{list_all-wider}
+use Rattle.page_controls.specs.Controls.{is_count_text}
+
+-- ---- counts
+
+count_digits : (form : List ℕ) → 0 < length form → length form ≤ 19 → list_all is_ascii_digit form ≡ true → is_count_text form ≡ true
+count_digits form some few all = and_from (nat_le 1 (length form)) _ (grind (arith, nat_tests)) (and_from (nat_le (length form) 19) _ (grind (arith, nat_tests)) all)
+
+pub count_text : (n : ℕ) → n ≤ 9999999999999999999 → is_count_text (decimal_text n) ≡ true
+count_text n fits =
+    let below : n < 10 ^ 19 = omega arith in
+    count_digits (decimal_text n) (decimal_text-some n) (decimal_text-short n 19 (omega arith) below) (decimal_text-digits n)
+
+pub count_value : (n : ℕ) → n ≡ digits_value 10 (decimal_text n)
+count_value n = sym (decimal_text-value n)
+
+-- a number that is written as a count is one
+pub count_bound : (n : ℕ) → is_count_text (decimal_text n) ≡ true → n ≤ 9999999999999999999
+count_bound n h =
+    let few : length (decimal_text n) ≤ 19 = grind (arith, nat_tests, and_left (nat_le (length (decimal_text n)) 19) _ (and_right (nat_le 1 (length (decimal_text n))) _ h)) in
+    let below : n < 10 ^ 19 = decimal_text-long n 19 few in
+    omega arith
+
+digit_ascii : (b : ℕ) → is_ascii_digit b ≡ true → is_ascii b ≡ true
+digit_ascii b h = grind (arith, nat_tests)
+
+pub number_utf8 : (n : ℕ) → IsUtf8 (decimal_text n)
+number_utf8 n = utf8-ascii (decimal_text n) (list_all-wider is_ascii_digit is_ascii digit_ascii (decimal_text n) (decimal_text-digits n))

@@ -1,0 +1,96 @@
+-- The law of controls: what a page's body was made of is what is taken from it (Triple Pattern Fragments, "Data", "Metadata" and "Controls").
+use Rattle.std.specs.Prelude.{ℕ, ◌≡◌, ◌+◌, ◌<◌, ◌≤◌, List, codes, length, Option, Some, None, ⊤}
+use Rattle.std.specs.List.{AllByRecursion}
+use Rattle.rdf_terms.specs.declared.term.Term.{Term}
+use Rattle.rdf_terms.specs.declared.term.Triple.{Triple}
+use Rattle.rdf_terms.specs.declared.term.Quad.{Quad}
+use Rattle.rdf_terms.specs.declared.slots.Slots.{Slots}
+use Rattle.rdf_terms.specs.Canon.{canonical_term}
+use Rattle.rdf_terms.specs.Fragments.{fragment, page_of, last_page}
+use Rattle.tpf_base.specs.Addresses.{Address, IsAddress, authority_of}
+use Rattle.template_fill.specs.declared.form.Form.{Form}
+use Rattle.template_fill.specs.Pages.{page_address, server_template}
+use Rattle.template_fill.specs.Metadata.{Config}
+use Rattle.template_fill.specs.Configurations.{IsConfig, IsHistory, most_versions}
+use Rattle.template_fill.specs.Bodies.{version_of, page_quads, page_body}
+use Rattle.fragment_page.specs.declared.page.Page.{Page}
+use Rattle.control_reader.specs.Takes.{Takes}
+
+-- canonical texts of at most longest bytes
+abbrev pub IsShort : ℕ → Term → Type 0
+IsShort longest term = length (canonical_term term) ≤ longest
+
+abbrev pub IsShortGraph : ℕ → Option Term → Type 0
+IsShortGraph longest None = ⊤
+IsShortGraph longest (Some graph) = IsShort longest graph
+
+pub record HasShortTerms (longest : ℕ) (q : Quad) : Type 0 where
+  pub subject : IsShort longest q.triple.subject
+  pub predicate : IsShort longest q.triple.predicate
+  pub object : IsShort longest q.triple.object
+  pub graph : IsShortGraph longest q.graph
+
+-- within the limits of reading: a count of 19 digits at most, and terms of at most 4194304 bytes
+pub record IsWithinLimits (history : List (List Triple)) (version : ℕ) (config : Config) (slots : Slots) (k : ℕ) : Type 0 where
+  pub count : length (fragment (version_of history version) slots) ≤ 9999999999999999999
+  pub terms : AllByRecursion (HasShortTerms 4194304) (page_quads history version config slots k)
+
+-- the address of the next page, exactly where k is below the last
+abbrev pub IsNextOf : Config → Slots → ℕ → ℕ → Option Address → Type 0
+IsNextOf config slots k last None = last ≤ k
+IsNextOf config slots k last (Some next) = (k < last) × IsAddress (page_address config.base slots (k + 1)) next
+
+-- the server's form
+pub record IsServerForm (base : Address) (form : Form) : Type 0 where
+  pub template : form.template ≡ server_template base
+  pub subject : form.subject ≡ codes "subject"
+  pub predicate : form.predicate ≡ codes "predicate"
+  pub object : form.object ≡ codes "object"
+
+-- page k of the fragment: its triples, the fragment's length, the next page, the server's form, and the version
+pub record IsPageOf (triples : List Triple) (version : ℕ) (config : Config) (slots : Slots) (k : ℕ) (page : Page) : Type 0 where
+  pub triples_are : page.triples ≡ page_of triples slots k config.page_size
+  pub count : page.count ≡ length (fragment triples slots)
+  pub next : IsNextOf config slots k (last_page triples slots config.page_size) page.next
+  pub form : IsServerForm config.base page.form
+  pub version_is : page.version ≡ Some version
+
+-- the version has 1 to 19 digits, as each version of a history has
+abbrev pub IsVersionNumber : ℕ → Type 0
+IsVersionNumber version = version ≤ most_versions
+
+-- within these limits, and under each address of the server's authority, the body of a page is read as that page
+abbrev pub ControlsReadBack : Type 0
+ControlsReadBack =
+    (history : List (List Triple)) (version : ℕ) (config : Config) (slots : Slots) (k : ℕ) (address : Address) (page : Page)
+    → IsHistory history
+    → IsVersionNumber version
+    → IsConfig config
+    → IsWithinLimits history version config slots k
+    → authority_of address ≡ authority_of config.base
+    → IsPageOf (version_of history version) version config slots k page
+    → Takes (page_body history version config slots k) address page
+
+-- what is read from a body that a server's definition gives
+pub record IsReadFrom (history : List (List Triple)) (version : ℕ) (config : Config) (slots : Slots) (k : ℕ) (address : Address) (page : Page) : Type 0 where
+  pub within : IsWithinLimits history version config slots k
+  pub authority : authority_of address ≡ authority_of config.base
+  pub is_page : IsPageOf (version_of history version) version config slots k page
+
+-- nothing else is read from it, and nothing at all past the limits or under another authority
+abbrev pub NothingElseIsRead : Type 0
+NothingElseIsRead =
+    (history : List (List Triple)) (version : ℕ) (config : Config) (slots : Slots) (k : ℕ) (address : Address) (page : Page)
+    → IsHistory history
+    → IsVersionNumber version
+    → IsConfig config
+    → Takes (page_body history version config slots k) address page
+    → IsReadFrom history version config slots k address page
+
+-- and there is such a page
+abbrev pub PagesAreThere : Type 0
+PagesAreThere =
+    (history : List (List Triple)) (version : ℕ) (config : Config) (slots : Slots) (k : ℕ)
+    → IsHistory history
+    → IsConfig config
+    → (page : Page) × IsPageOf (version_of history version) version config slots k page

@@ -1,0 +1,17 @@
+use Rattle.std.proofs.Common.{sym, ◌∙◌}
+use Rattle.page_controls.specs.Parts.{borrowed_triples}
+use Rattle.page_controls.proofs.Versioned.{no_version, several, said_by}
+use Rattle.page_controls.proofs.version.read_version.Goals as goal
+
+pub returns-in-None : goal.returns-in-None
+returns-in-None c = no_version c.args.controls.now.quads c.args.controls.now.topic (borrowed_triples c.triples-triples.result.now) c.triples-triples.ensures (sym c.in-None.ensures)
+
+pub returns-then-has_other_version : goal.returns-then-has_other_version
+returns-then-has_other_version c =
+    several c.args.controls.now.quads c.args.controls.now.topic (borrowed_triples c.triples-triples.result.now) c.triples-triples.ensures c.in-Some.version.now (sym c.in-Some.ensures)
+    (sym c.has_other_version.ensures ∙ c.if-has_other_version.true)
+
+pub returns : goal.returns
+returns c =
+    said_by c.args.controls.now.quads c.args.controls.now.topic (borrowed_triples c.triples-triples.result.now) c.triples-triples.ensures c.in-Some.version.now (sym c.in-Some.ensures)
+    (sym c.has_other_version.ensures ∙ c.if-has_other_version.false) c.number.result c.number.ensures

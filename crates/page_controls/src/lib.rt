@@ -1,0 +1,27 @@
+//! The controls of a page: what the quads of a body tell of the page (Triple Pattern Fragments, "Metadata" and
+//! "Controls"; Hydra core vocabulary; VoID).
+//!
+//! The quads of a body are gone through once, and tell the number of triples, the form, the next page and the version:
+//!
+//! ```rust
+//! let address = WebAddress::read(alloc, "http://h/d")?;
+//! let quads = read_all(alloc, body.as_bytes(), 262144)?;
+//! let read = read_controls(alloc, quads.as_slice(), &address);
+//! let told = read.ok().ok_or("controls")?.told;
+//! assert_eq!(rt; told.count, 1);
+//! ```
+#![tactic(auto)]
+
+mod controls;
+mod count;
+mod form;
+mod link;
+mod mark;
+mod order;
+mod told;
+mod topic;
+mod variable;
+mod version;
+mod vocabulary;
+
+pub use told::{PageControls, Told, read_controls};

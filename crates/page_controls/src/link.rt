@@ -1,0 +1,94 @@
+// The next page, and the authority of links.
+ghost use Rattle.std.specs.Prelude.{ℕ, ◌≡◌, List};
+ghost use Rattle.std.specs.List.Sorted.{IsStrictlySortedBy};
+ghost use Rattle.rdf_terms.specs.declared.term.Quad.{Quad};
+ghost use Rattle.tpf_base.specs.Addresses.{IsAddress, authority_of};
+ghost use Rattle.template_fill.specs.WebAddress.{IsNoAddress};
+ghost use Rattle.page_controls.specs.Controls.{IsNext, IsHome, IsForeign};
+ghost use Rattle.page_controls.specs.Counts.{WhyNoNext, TakesLink, IsNoLink, AreNexts};
+ghost use Rattle.page_controls.specs.Parts.{objects_in};
+ghost use Rattle.page_controls.specs.Ranges.{length_order};
+ghost use Rattle.page_controls.specs.Outcomes.{Answers};
+
+use crate::controls::Controls;
+use crate::vocabulary::next_page;
+use fragment_page::PageFault;
+use rdf_terms::{Term, Triple};
+use std::alloc::Global;
+use template_fill::{AddressFault, Template, WebAddress};
+
+/// The address that an IRI is.
+fn link(alloc: Global, text: &str) -> Result<WebAddress, PageFault>
+    ensures { Answers (λ a. IsAddress text.now a) (λ fault. (fault ≡ PageFault.ForeignLink) × IsNoAddress text.now) result }
+{
+    match WebAddress::read(alloc, text) {
+        Ok(next) => Ok(next),
+        Err(AddressFault::BadAddress) => Err(PageFault::ForeignLink),
+        Err(AddressFault::OutOfMemory) => Err(PageFault::OutOfMemory),
+    }
+}
+
+/// The address of the authority that a term is.
+fn home_link(alloc: Global, term: &Term, address: &WebAddress) -> Result<WebAddress, PageFault>
+    ensures { Answers (TakesLink (authority_of address.now) term.now) (λ fault. (fault ≡ PageFault.ForeignLink) × IsNoLink (authority_of address.now) term.now) result }
+{
+    let Term::Iri(iri) = term else {
+        return Err(PageFault::ForeignLink);
+    };
+    let next = match link(alloc, iri.as_str()) {
+        Ok(next) => next,
+        Err(fault) => return Err(fault),
+    };
+    if next.same_authority(address) {
+        Ok(next)
+    } else {
+        Err(PageFault::ForeignLink)
+    }
+}
+
+/// The address of the next page that these objects give, if there are any.
+fn next_of(
+    alloc: Global,
+    objects: &[&Triple],
+    address: &WebAddress,
+) -> Result<Option<WebAddress>, PageFault>
+    requires { IsStrictlySortedBy length_order (objects_in objects.now) }
+    ensures { (quads : List Quad) (topic : List ℕ) → AreNexts quads topic objects.now → Answers (IsNext quads topic (authority_of address.now)) (WhyNoNext quads topic (authority_of address.now)) result }
+{
+    match objects {
+        [] => Ok(None),
+        [only] => match home_link(alloc, &only.object, address) {
+            Ok(next) => Ok(Some(next)),
+            Err(fault) => Err(fault),
+        },
+        _ => Err(PageFault::TwoNext),
+    }
+}
+
+/// The address of the next page, if there is one.
+pub(crate) fn read_next(
+    alloc: Global,
+    controls: &Controls,
+    address: &WebAddress,
+) -> Result<Option<WebAddress>, PageFault>
+    ensures { Answers (IsNext controls.now.quads controls.now.topic (authority_of address.now)) (WhyNoNext controls.now.quads controls.now.topic (authority_of address.now)) result }
+{
+    let next = next_page(alloc)?;
+    next_of(alloc, controls.objects(controls.topic(), &next), address)
+}
+
+/// Refuses a template of another authority.
+pub(crate) fn check_home(
+    alloc: Global,
+    template: &Template,
+    address: &WebAddress,
+) -> Result<(), PageFault>
+    ensures { Answers (λ done. IsHome template.now (authority_of address.now)) (λ fault. (fault ≡ PageFault.ForeignLink) × IsForeign template.now (authority_of address.now)) result }
+{
+    let start = template.expand(alloc, &[])?;
+    if start.same_authority(address) {
+        Ok(())
+    } else {
+        Err(PageFault::ForeignLink)
+    }
+}

@@ -1,0 +1,143 @@
+-- A server of fragments is a world.
+use Rattle.std.proofs.Common.{ℕ, suc, ◌≡◌, ◌+◌, ◌-◌, ◌*◌, ◌≤◌, nat_lt, Bool, true, false, if◌then◌else◌, List, [], ◌∷◌, length, drop, take, Option, Some, None, refl, ap, sym, subst, ◌∙◌, arith, codes}
+use Rattle.std.specs.List.{filter, All, AllByRecursion}
+use Rattle.std.specs.List.Sorted.{IsPermutation, IsStrictlySortedBy}
+use Rattle.std.specs.declared.cmp.Ordering.{Ordering}
+use Rattle.std.specs.declared.cmp.Ordering.TheVariants.{Less, Equal, Greater}
+use Rattle.std.proofs.lemmas.Bool.Decides.{nat_tests}
+use Rattle.std.proofs.lemmas.List.Elements.{All-nil, All-cons, All-head, All-tail}
+use Rattle.std.proofs.lemmas.List.Sorted.{IsPermutation-refl, IsPermutation-trans, IsPermutation-cons, IsPermutation-append_left, IsPermutation-append_comm, All-permutation, length_permutation}
+use Rattle.tpf_base.specs.Addresses.{Address, IsAddress}
+use Rattle.rdf_terms.specs.declared.term.Triple.{Triple}
+use Rattle.rdf_terms.specs.declared.slots.Slots.{Slots}
+use Rattle.rdf_terms.specs.Askable.{UnaskedMatchNothing}
+use Rattle.rdf_terms.specs.Order.{triple_order}
+use Rattle.rdf_terms.specs.Slots.{matches, order_of}
+use Rattle.rdf_terms.specs.Fragments.{fragment, put_by, put, sorted}
+use Rattle.rdf_terms.specs.Valid.{IsValidTriple}
+use Rattle.rdf_terms.proofs.FragmentLaws.{order_of_tells}
+use Rattle.template_fill.specs.declared.form.Form.{Form}
+use Rattle.template_fill.specs.WebAddress.{OneAddress}
+use Rattle.template_fill.specs.Authorities.{PagesAreAddresses, address_of_page}
+use Rattle.template_fill.specs.Pages.{FirstPageIsExpansion, page_address, server_template}
+use Rattle.template_fill.specs.Forms.{form_text, filled}
+use Rattle.template_fill.specs.Templates.{Template, expansion}
+use Rattle.template_fill.specs.Metadata.{Config}
+use Rattle.template_fill.specs.Configurations.{IsValidDataSet, VersionsAreValid}
+use Rattle.template_fill.specs.Bodies.{version_of}
+use Rattle.control_laws.specs.Law.{IsServerForm, IsPageOf, IsNextOf, NothingElseIsRead}
+use Rattle.join_core.specs.Worlds.{World, last}
+use Rattle.plan_laws.specs.Servers.{server_world, ServersAreWorlds, ServersHaveForms, ServersPagesAreTrue}
+
+-- ---- a fragment holds the matching triples, each as often as they
+
+-- x is none of these
+abbrev Apart : (Triple → Triple → Ordering) → Triple → List Triple → Type 0
+Apart order x ys = All (λ y. order x y ≡ Equal → ⊥) ys
+
+put-in : (order : Triple → Triple → Ordering) (x y : Triple) (ys more : List Triple) (o : Ordering) → (o ≡ Equal → ⊥) → IsPermutation (x ∷ ys) more → IsPermutation (x ∷ y ∷ ys) (put_by o x y ys more)
+put-in order x y ys more Less h g = IsPermutation-refl _
+put-in order x y ys more Equal h g = absurd (h refl)
+put-in order x y ys more Greater h g = IsPermutation-trans _ _ _ (IsPermutation-append_left ys (x ∷ y ∷ []) (y ∷ x ∷ []) (IsPermutation-append_comm (x ∷ []) (y ∷ []))) (IsPermutation-cons y _ _ g)
+
+put-turned : (order : Triple → Triple → Ordering) (x : Triple) (ys : List Triple) → Apart order x ys → IsPermutation (x ∷ ys) (put order x ys)
+put-turned order x [] a = IsPermutation-refl _
+put-turned order x (y ∷ ys) a = put-in order x y ys (put order x ys) (order x y) (All-head (λ z. order x z ≡ Equal → ⊥) y ys a) (put-turned order x ys (All-tail (λ z. order x z ≡ Equal → ⊥) y ys a))
+
+abbrev AllApart : (Triple → Triple → Ordering) → List Triple → Type 0
+AllApart order [] = Unit {0}
+AllApart order (x ∷ xs) = Apart order x xs × AllApart order xs
+
+sorted-turned : (order : Triple → Triple → Ordering) (xs : List Triple) → AllApart order xs → IsPermutation xs (sorted order xs)
+sorted-turned order [] a = IsPermutation-refl _
+sorted-turned order (x ∷ xs) a =
+    let more = sorted-turned order xs a.1 in
+    IsPermutation-trans _ _ _ (IsPermutation-cons x _ _ more) (put-turned order x (sorted order xs) (All-permutation (λ y. order x y ≡ Equal → ⊥) xs (sorted order xs) more a.0))
+
+-- the triples of a data set differ, and those of them that match
+not-less : (t : Triple) → ((a b : Triple) → a ≡ b → triple_order a b ≡ Equal) → triple_order t t ≡ Less → ⊥
+not-less t same e = let g = same t t refl in cc
+
+differ : (order : Triple → Triple → Ordering) (x y : Triple) → ((a b : Triple) → order a b ≡ Equal → a ≡ b) → ((a b : Triple) → a ≡ b → triple_order a b ≡ Equal) → triple_order x y ≡ Less → order x y ≡ Equal → ⊥
+differ order x y tells same less e = not-less x same (subst (λ (z : Triple). triple_order x z ≡ Less) (sym (tells x y e)) less)
+
+kept-step : (order : Triple → Triple → Ordering) (x y : Triple) (ys : List Triple) (b : Bool) → (order x y ≡ Equal → ⊥) → Apart order x ys → Apart order x (if b then y ∷ ys else ys)
+kept-step order x y ys true h a = All-cons (λ z. order x z ≡ Equal → ⊥) y ys h a
+kept-step order x y ys false h a = a
+
+kept-apart : (test : Triple → Bool) (order : Triple → Triple → Ordering) (x : Triple) (xs : List Triple) → ((a b : Triple) → order a b ≡ Equal → a ≡ b) → ((a b : Triple) → a ≡ b → triple_order a b ≡ Equal) → AllByRecursion (λ y. triple_order x y ≡ Less) xs → Apart order x (filter test xs)
+kept-apart test order x [] tells same a = All-nil (λ y. order x y ≡ Equal → ⊥)
+kept-apart test order x (y ∷ ys) tells same a = kept-step order x y (filter test ys) (test y) (differ order x y tells same a.0) (kept-apart test order x ys tells same a.1)
+
+filter-step : (order : Triple → Triple → Ordering) (x : Triple) (ys : List Triple) (b : Bool) → Apart order x ys → AllApart order ys → AllApart order (if b then x ∷ ys else ys)
+filter-step order x ys true h a = (h, a)
+filter-step order x ys false h a = a
+
+filter-apart : (test : Triple → Bool) (order : Triple → Triple → Ordering) (xs : List Triple) → ((a b : Triple) → order a b ≡ Equal → a ≡ b) → ((a b : Triple) → a ≡ b → triple_order a b ≡ Equal) → IsStrictlySortedBy triple_order xs → AllApart order (filter test xs)
+unfolding IsStrictlySortedBy
+filter-apart test order [] tells same s = tt
+filter-apart test order (x ∷ xs) tells same s = filter-step order x (filter test xs) (test x) (kept-apart test order x xs tells same s.0) (filter-apart test order xs tells same s.1)
+
+pub fragment-turned : (triples : List Triple) (slots : Slots) → ((a b : Triple) → a ≡ b → triple_order a b ≡ Equal) → IsStrictlySortedBy triple_order triples → IsPermutation (filter (matches slots) triples) (fragment triples slots)
+unfolding fragment
+fragment-turned triples slots same s = sorted-turned (order_of slots) (filter (matches slots) triples) (filter-apart (matches slots) (order_of slots) triples (order_of_tells slots) same s)
+
+-- ---- the world
+
+all-from : {X : Type 0} (P : X → Type 0) (xs : List X) → AllByRecursion P xs → All P xs
+all-from P [] a = All-nil P
+all-from P (x ∷ xs) a = All-cons P x xs a.0 (all-from P xs a.1)
+
+one-longer : {X : Type 0} (x : X) (ys : List X) (n : ℕ) (b : Bool) → length ys ≤ n → length (if b then x ∷ ys else ys) ≤ suc n
+one-longer x ys n true h = omega (arith, h)
+one-longer x ys n false h = omega (arith, h)
+
+filter-length : {X : Type 0} (test : X → Bool) (xs : List X) → length (filter test xs) ≤ length xs
+filter-length test [] = omega arith
+filter-length test (x ∷ xs) = one-longer x (filter test xs) (length xs) (test x) (filter-length test xs)
+
+pub world-of : ((a b : Triple) → a ≡ b → triple_order a b ≡ Equal) → UnaskedMatchNothing → VersionsAreValid → ServersAreWorlds
+world-of same unasked versions history version config h c few =
+    let triples = version_of history version in
+    let valid : IsValidDataSet triples = versions history version h in
+    let turned : (s : Slots) → IsPermutation (filter (matches s) triples) (fragment triples s) = λ s. fragment-turned triples s same valid.data_set.ascending in
+    record {
+      fragments = turned;
+      sized = omega (arith, c.low);
+      unasked = λ s e. unasked triples s e valid.data_set.classes;
+      valid = all-from IsValidTriple triples valid.terms;
+      few = λ s. omega (arith, few, filter-length (matches s) triples, length_permutation _ _ (turned s));
+    }
+
+form-is : (base : Address) (form : Form) (s : Slots) → IsServerForm base form → form_text form s ≡ expansion (server_template base) (filled (codes "subject") (codes "predicate") (codes "object") s)
+form-is base form s f =
+    ap (λ (t : Template). expansion t (filled form.subject form.predicate form.object s)) f.template
+    ∙ ap (λ (x : List ℕ). expansion (server_template base) (filled x form.predicate form.object s)) f.subject
+    ∙ ap (λ (x : List ℕ). expansion (server_template base) (filled (codes "subject") x form.object s)) f.predicate
+    ∙ ap (λ (x : List ℕ). expansion (server_template base) (filled (codes "subject") (codes "predicate") x s)) f.object
+
+pub form-of : PagesAreAddresses → FirstPageIsExpansion → ServersHaveForms
+form-of addresses first triples config form c f = record {
+  first = λ s e. subst (λ (x : List ℕ). IsAddress x (address_of_page config.base s 1)) (first config.base s ∙ sym (form-is config.base form s f)) (addresses config.base s 1 c.base);
+}
+
+next-is : (w : World) (base : Address) (config : Config) (s : Slots) (k : ℕ) (o : Option Address) (b : Bool) → nat_lt (suc k) (last w s) ≡ b → OneAddress → (IsAddress (page_address config.base s (suc k + 1)) (w.address s (suc (suc k)))) → IsNextOf config s (suc k) (last w s) o → o ≡ (if b then Some (w.address s (suc (suc k))) else None)
+next-is w base config s k None true e one a n = let h : last w s ≤ suc k = n in absurd (grind (arith, nat_tests))
+next-is w base config s k None false e one a n = refl
+next-is w base config s k (Some next) true e one a n = ap (λ (x : Address). let r : Option Address = Some x in r) (one _ _ _ n.1 a)
+next-is w base config s k (Some next) false e one a n = let h = n.0 in absurd (grind (arith, nat_tests))
+
+pub pages-of : PagesAreAddresses → OneAddress → NothingElseIsRead → ServersPagesAreTrue
+pages-of addresses one only history version config address page h number_is c read = record {
+  stands = λ s k valid ask at below.
+      let triples = version_of history version in
+      let w = server_world triples config in
+      let is : IsPageOf triples version config s (suc k) page = (only history version config s (suc k) address page h number_is c (read s k valid ask at below)).is_page in
+      let number : suc k + 1 ≡ suc (suc k) = omega arith in
+      let there : IsAddress (page_address config.base s (suc k + 1)) (address_of_page config.base s (suc (suc k))) = subst (λ (n : ℕ). IsAddress (page_address config.base s n) (address_of_page config.base s (suc (suc k)))) (sym number) (addresses config.base s (suc (suc k)) c.base) in
+      record {
+        triples = is.triples_are ∙ ap (λ (n : ℕ). take config.page_size (drop (n * config.page_size) (fragment triples s))) (let one : suc k - 1 ≡ k = omega arith in one);
+        count = is.count;
+        next = next-is w config.base config s k page.next (nat_lt (suc k) (last w s)) refl one there is.next;
+      };
+}

@@ -1,0 +1,3 @@
+pub mod PieceLaws
+pub mod FedLaws
+pub mod EndedLaws

@@ -1,0 +1,16 @@
+//! N-Quads text that comes in pieces, cut at any places (RDF 1.1 N-Quads).
+//!
+//! Each line is read when it has ended, and the whole text is never kept:
+//!
+//! ```rust
+//! let mut feed = QuadFeed::new(alloc, LONGEST);
+//! for piece in text.as_bytes().chunks(7) {
+//!     feed.feed(piece)?;
+//! }
+//! let quads = feed.finish()?;
+//! ```
+#![tactic(auto)]
+
+mod feed;
+
+pub use feed::{QuadFeed, a_feed_begins_with_the_text};

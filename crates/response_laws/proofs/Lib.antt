@@ -1,4 +1,0 @@
-pub mod Lists
-pub mod Responses
-pub mod Marks
-pub mod Longer
