@@ -13,7 +13,7 @@ use Rattle.template_fill.specs.Bodies.{version_of}
 use Rattle.template_fill.specs.Responses.{FitsHead, answering, answers, asks_reload, reload_version, reload_versions, response_by}
 use Rattle.template_fill.proofs.Histories.{last_served}
 use Rattle.http_wire.proofs.ConnectionLemmas.{more_heads}
-use Rattle.response_laws.proofs.Responses.{answers_append, longer_heads}
+use Rattle.http_ends.proofs.Growing.{answers_append, longer_heads}
 use Rattle.connections.specs.Versions.{IsHistory, Serving}
 use Rattle.loop_wire.specs.Response.{BeginsAt, IsOf, IsResponse, Lasts}
 use Rattle.tpf_server.specs.Conversation.{owed_text}

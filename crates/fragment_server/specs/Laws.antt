@@ -1,6 +1,6 @@
 -- Serves proofs alone: what a connection of a server of fragments does, in the words of any kind of connection.
 use Rattle.std.specs.Prelude.{ℕ, ◌≡◌, ◌≤◌, ◌<◌, Bool, true, false, List, [], ◌∷◌, ◌++◌, length, take, drop, if◌then◌else◌}
-use Rattle.std.specs.List.{AllByRecursion}
+use Rattle.std.specs.List.{AllByRecursion, concat}
 use Rattle.std.proofs.Common.{refl, sym, ap, ap₂, subst, ◌∙◌, arith, append_assoc, append-nil, length-append}
 use Rattle.std.proofs.lemmas.Bool.{true≢false}
 use Rattle.std.proofs.lemmas.List.{take-append-drop}
@@ -12,8 +12,8 @@ use Rattle.template_fill.specs.Metadata.{Config}
 use Rattle.template_fill.specs.Responses.{AreMarks, IsVersion, answering, answers, asks_reload, padding, reload_versions, response_by}
 use Rattle.template_fill.proofs.Histories.{versions_stay}
 use Rattle.http_wire.proofs.ConnectionLemmas.{more_heads}
-use Rattle.response_laws.proofs.Marks.{padded}
-use Rattle.response_laws.proofs.Responses.{longer_heads}
+use Rattle.http_ends.proofs.Marks.{padded}
+use Rattle.http_ends.proofs.Growing.{longer_heads}
 use Rattle.connections.specs.Versions.{IsHistory}
 use Rattle.connections.specs.Kinds.{BeginsResponse, Feeds, Fills, Grows, IsNoFailure, IsOutcome, IsWhole, Opens, Reads, Reloads}
 use Rattle.connections.specs.declared.reloaded.Reloaded.{Reloaded}
@@ -24,13 +24,14 @@ use Rattle.tpf_server.specs.Read.{Stands, heads_then}
 use Rattle.tpf_server.specs.Reading.{is_ended, waits}
 use Rattle.tpf_server.specs.Reloads as core_outcomes
 use Rattle.tpf_server.specs.Conversation as conversations
-use Rattle.tpf_server.specs.Conversation.{Answers, Conversation, Makes, ReadsFurther, opening, owed_text, owes, wants_reload}
+use Rattle.tpf_server.specs.Conversation.{Answers, Conversation, Makes, ReadsFurther, opening, owed_pieces, owed_text, owes, wants_reload}
 use Rattle.tpf_server.specs.declared.reading.Reading.{Reading}
 use Rattle.tpf_server.specs.declared.reading.Reading.TheVariants.{Reads as Going, Waits, Ended}
 use Rattle.tpf_server.proofs.HeadAnswers.{heads_at}
 use Rattle.tpf_server.proofs.HeadsLaws.{left_heads}
 use Rattle.tpf_server.proofs.MarkLaws.{numbers_front}
 use Rattle.tpf_server.proofs.ConversationLaws.{none_owed}
+use Rattle.tpf_server.proofs.PageLaws.{concat_more}
 use Rattle.fragment_server.specs.declared.connection.FragmentConnection.{FragmentConnection}
 use Rattle.fragment_server.specs.Fragments.{fragments, numbers_told, outcome_of, serving_of}
 use Rattle.fragment_server.specs.Alike.{IsAlike, answers_alike, fits_alike, numbers_alike}
@@ -87,6 +88,14 @@ no_failures : (history : List (List Triple)) (config : Config) (version : ℕ) (
 no_failures history config version [] = tt
 no_failures history config version (h ∷ heads) = (padded_mark (asks_reload (answering history config) h) version, no_failures history config version heads)
 
+padded_level : (b : Bool) (version : ℕ) → version ≤ version_at (if b then Starved version else Served version)
+padded_level true version = omega arith
+padded_level false version = omega arith
+
+padded_latest : (history : List (List Triple)) (config : Config) (version : ℕ) (heads : List Verdict) → AllByRecursion (λ (mark : Mark). version ≤ version_at mark) (padding (answering history config) version heads)
+padded_latest history config version [] = tt
+padded_latest history config version (h ∷ heads) = (padded_level (asks_reload (answering history config) h) version, padded_latest history config version heads)
+
 below : (most : ℕ) (marks : List Mark) → AllByRecursion (IsVersion most) marks → AllByRecursion (λ (mark : Mark). version_at mark ≤ most) marks
 below most [] all = tt
 below most (m ∷ marks) all = (all.0.high, below most marks all.1)
@@ -119,6 +128,7 @@ all_begins history config fed taken marks c some a more n within =
       rest = (drop n pending ++ owed) ++ answers server left.0 pad;
       split = refl;
       no_failure = no_failures history config (length history) left.0;
+      latest = padded_latest history config (length history) left.0;
       marked = all.marked;
       text =
           all.text
@@ -188,11 +198,18 @@ feeds_as server piece old new f = record {
   reads = λ history fed taken marks last a. reads_as history server fed taken marks piece [] [] new (f.reads history fed taken marks (history_as history server last) a);
 }
 
+no_front : (xs ys : List ℕ) → xs ++ ys ≡ [] → xs ≡ []
+no_front [] ys none = refl
+no_front (x ∷ xs) ys none = absurd (cc)
+
 pub fills_as : (server : core.Serving) (old new : FragmentConnection) → Makes server.config old.connection new.connection
     → ((history : List (List Triple)) (fed taken : List ℕ) (marks : List Mark) → Answers history server.config fed taken marks old.connection → Answers history server.config fed taken marks new.connection)
     → (owes old.connection ≡ true → 0 < length new.connection.pending) → Fills fragments (serving_of server) old new
 fills_as server old new makes answers some = record {
   answers = answers;
+  more = concat makes.pieces;
+  pending = makes.pending;
+  idle = λ none. no_front (concat makes.pieces) (owed_text server.config new.connection) (sym (ap concat makes.owed ∙ concat_more makes.pieces (owed_pieces server.config new.connection)) ∙ none_owed old.connection server.config none);
   enough = makes.enough;
   some = some;
   wants = ap waits makes.reading;

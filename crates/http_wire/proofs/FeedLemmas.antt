@@ -96,9 +96,10 @@ searched_more held piece blank searched s =
       searched_within = let far = s.searched_within in let whole = ap (λ (x : List ℕ). length x) behind in omega arith;
     }
 
-pub kept_searched : (items piece after : List ℕ) (given blank searched : ℕ) → given ≤ length items → IsSearched (drop given items) blank searched
-    → after ≡ items ++ piece → (given ≤ length after) × IsSearched (drop given after) blank searched
-kept_searched items piece after given blank searched within s is =
+pub kept_searched : (items piece after : List ℕ) (given blank searched : ℕ) → given + given ≤ length items → IsSearched (drop given items) blank searched
+    → after ≡ items ++ piece → (given + given ≤ length after) × IsSearched (drop given after) blank searched
+kept_searched items piece after given blank searched half s is =
+    let within : given ≤ length items = omega arith in
     let count : length after ≡ length items + length piece = ap (λ (x : List ℕ). length x) is ∙ length-append items piece in
     let held : drop given after ≡ drop given items ++ piece = ap (λ (x : List ℕ). drop given x) is ∙ drop-append-le given items piece within in
     (omega arith, subst (λ (x : List ℕ). IsSearched x blank searched) (sym held) (searched_more (drop given items) piece blank searched s))
@@ -119,17 +120,17 @@ searched_all held blank searched is none all =
 pub head_begins : (held : List ℕ) (blank n : ℕ) → blank ≡ blank_length held → blank_length (take n (drop blank held)) ≡ 0
 head_begins held blank n is = blank_cut n (drop blank held) (ap (λ (k : ℕ). blank_length (drop k held)) is ∙ blank_behind held)
 
-pub pass_searched : (items : List ℕ) (given n : ℕ) (bytes : List ℕ) → drop given items ≡ bytes → given ≤ length items → n ≤ length bytes
-    → (given + n ≤ length items) × IsSearched (drop (given + n) items) 0 0
-pass_searched items given n bytes held within few =
+pub pass_within : (items : List ℕ) (given n : ℕ) (bytes : List ℕ) → drop given items ≡ bytes → given + given ≤ length items → n ≤ length bytes
+    → given + n ≤ length items
+pass_within items given n bytes held half few =
     let count : length bytes ≡ length items - given = ap (λ (x : List ℕ). length x) (sym held) ∙ length-drop given items in
-    (omega arith, unsearched _)
+    omega arith
 
-pub note_searched : (items : List ℕ) (given blank searched : ℕ) (bytes : List ℕ) → drop given items ≡ bytes → given ≤ length items
+pub note_searched : (items : List ℕ) (given blank searched : ℕ) (bytes : List ℕ) → drop given items ≡ bytes → given + given ≤ length items
     → blank ≡ blank_length bytes → head_length (drop blank bytes) ≡ None → searched ≡ length bytes - blank + 1
-    → (given ≤ length items) × IsSearched (drop given items) blank searched
-note_searched items given blank searched bytes held within is none all =
-    (within, subst (λ (x : List ℕ). IsSearched x blank searched) (sym held) (searched_all bytes blank searched is none all))
+    → (given + given ≤ length items) × IsSearched (drop given items) blank searched
+note_searched items given blank searched bytes held half is none all =
+    (half, subst (λ (x : List ℕ). IsSearched x blank searched) (sym held) (searched_all bytes blank searched is none all))
 
 -- ---- what stands next
 

@@ -18,6 +18,7 @@ mod chunk;
 mod compact;
 mod fields;
 mod framing;
+mod given;
 mod heads;
 mod judge;
 mod laws;
@@ -29,6 +30,7 @@ mod state;
 mod target;
 mod write;
 
+pub use given::drop_given;
 pub use laws::{
     a_reply_is_bounded, a_request_stays, cuts_do_not_matter, heads_are_read, what_is_read_is_given,
 };

@@ -4,6 +4,7 @@ ghost use Rattle.tpf_base.specs.HttpHeads.{blank_length, head_length, judged, wi
 ghost use Rattle.http_wire.specs.Requests.{Held, holding, refusing, fed, next_of, after_next, after_answer, shown, shown_verdict};
 ghost use Rattle.http_wire.specs.Searches.{IsSearched};
 
+use crate::given::drop_given;
 use crate::heads::{behind, blank_length, front, head_length};
 use crate::judge::judge;
 use crate::message::NextHead;
@@ -37,7 +38,7 @@ fn search(held: &[u8], blank: usize, searched: usize) -> (usize, Option<usize>)
 pub struct RequestFeed {
     alloc: Global,
     bytes: Vec<u8>,
-    /// How many of the bytes were given as heads.
+    /// How many of the bytes were given as heads: at most half of all.
     given: usize,
     /// How many bytes of empty lines stand behind those.
     blank: usize,
@@ -51,7 +52,7 @@ impl Model for RequestFeed {
 
     ghost view = { λ f. record { bytes = drop f.given f.bytes.items; refused = f.refused } };
 
-    ghost invariant = { λ f. (f.given ≤ length f.bytes.items) × IsSearched (drop f.given f.bytes.items) f.blank f.searched };
+    ghost invariant = { λ f. (f.given + f.given ≤ length f.bytes.items) × IsSearched (drop f.given f.bytes.items) f.blank f.searched };
 }
 
 impl RequestFeed {
@@ -81,16 +82,6 @@ impl RequestFeed {
         self.searched = 0;
     }
 
-    /// Drops the bytes that were given, where they are as many as the others.
-    fn compact(&mut self)
-        ensures { self.new ≡ self.old }
-    {
-        if self.given > 0 && self.given >= self.bytes.len() - self.given {
-            self.bytes.drain(..self.given);
-            self.given = 0;
-        }
-    }
-
     #[tactic(auto, using(crate::proofs::FeedLemmas::searched_more))]
     fn append(&mut self, piece: &[u8]) -> Result<(), OutOfMemory>
         requires { self.old.refused ≡ None }
@@ -110,7 +101,6 @@ impl RequestFeed {
         if self.refused.is_some() {
             return Ok(());
         }
-        self.compact();
         self.append(piece)
     }
 
@@ -147,7 +137,7 @@ impl RequestFeed {
             self.clear();
             return;
         }
-        self.given += n;
+        self.given = drop_given(&mut self.bytes, self.given + n);
         self.blank = 0;
         self.searched = 0;
     }

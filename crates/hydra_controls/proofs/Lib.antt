@@ -1,3 +1,4 @@
+pub mod CutLaws
 pub mod Iris
 pub mod Labels
 pub mod TermLaws

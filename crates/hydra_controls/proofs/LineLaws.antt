@@ -1,7 +1,7 @@
 -- The lines of a page's metadata: the quads that they are of, and what is written of them.
-use Rattle.std.proofs.Common.{◌≡◌, ℕ, ◌+◌, ◌-◌, ◌<◌, Bool, nat_lt, List, [], ◌∷◌, ◌++◌, length, take, Result, Ok, Err, refl, sym, ap, subst, ◌∙◌, arith, append_assoc, append-nil, length-append}
+use Rattle.std.proofs.Common.{◌≡◌, ℕ, ◌+◌, ◌-◌, ◌<◌, Bool, nat_lt, List, [], ◌∷◌, ◌++◌, length, take, drop, false, Result, Ok, Err, refl, sym, ap, ap₂, subst, ◌∙◌, arith, append_assoc, append-nil, length-append}
 use Rattle.std.specs.Prelude.{OnOk, codes, slice_index_or}
-use Rattle.std.proofs.lemmas.List.{take_more}
+use Rattle.std.proofs.lemmas.List.{take_all, take_more}
 use Rattle.rdf_terms.specs.Canon.{canonical_line}
 use Rattle.rdf_terms.specs.Fragments.{last_page_of}
 use Rattle.rdf_terms.specs.declared.term.Quad.{Quad}
@@ -9,7 +9,9 @@ use Rattle.rdf_terms.specs.declared.slots.Slots.{Slots}
 use Rattle.tpf_base.specs.Addresses.{Address, address_text}
 use Rattle.template_fill.specs.Pages.{page_address, page_mark, page_pair, places_text, template_text}
 use Rattle.template_fill.specs.Metadata.{Config, graph_at, topic_quads, form_quads, version_quads, metadata_at, page_addresses, page_metadata}
+use Rattle.hydra_controls.specs.declared.cut.Cut.{Cut}
 use Rattle.hydra_controls.specs.declared.facts.PageFacts.{PageFacts}
+use Rattle.hydra_controls.specs.Cuts.{Cuts}
 use Rattle.hydra_controls.specs.Facts.{addresses_by, addresses_of, closing_of, counts_of, links_of, mapping_of, mappings_of, mark_of, next_of, page_text, previous_of, quads_of}
 use Rattle.hydra_controls.proofs.TableLaws.{is_above, is_below}
 
@@ -88,12 +90,20 @@ placed quads value i d q same is = ap (λ (l : List Quad). slice_index_or l i d)
 pub within : (quads value : List Quad) (i : ℕ) → quads ≡ value → i < length value → i < length quads
 within quads value i same h = subst (λ (l : List Quad). i < length l) (sym same) h
 
-appended : {T E : Type 0} (r : Result T E) (old middle new : List ℕ) (q at : Quad) → OnOk r (new ≡ middle) → OnOk r (middle ≡ old ++ canonical_line q) → at ≡ q → OnOk r (new ≡ old ++ canonical_line at)
-appended (Ok x) old middle new q at kept written is = kept ∙ written ∙ ap (λ (x : Quad). old ++ canonical_line x) (sym is)
-appended (Err e) old middle new q at kept written is = kept
+cut_is : (from most : ℕ) (text old new : List ℕ) (after : Cut) → Cuts (record { skip = from; room = most; more = false }) after text old new → (new ≡ old ++ take most (drop from text)) × (after.more ≡ nat_lt most (length text - from))
+cut_is from most text old new after h = (h.appended, ap (λ (c : Cut). c.more) h.behind)
 
-pub line_appended : {T E : Type 0} (r s : Result T E) (old middle new : List ℕ) (q at : Quad) → r ≡ s → OnOk r (new ≡ middle) → OnOk s (middle ≡ old ++ canonical_line q) → at ≡ q → OnOk r (new ≡ old ++ canonical_line at)
-line_appended r s old middle new q at same kept written is = appended r old middle new q at kept (subst (λ (x : Result _ _). OnOk x (middle ≡ old ++ canonical_line q)) (sym same) written) is
+-- a part of the line of a quad was appended
+pub part_appended : (from most : ℕ) (before after : Cut) (old new : List ℕ) (q at : Quad) → before ≡ record { skip = from; room = most; more = false } → Cuts before after (canonical_line q) old new → at ≡ q
+    → (new ≡ old ++ take most (drop from (canonical_line at))) × (after.more ≡ nat_lt most (length (canonical_line at) - from))
+part_appended from most before after old new q at begun written is =
+    let own = cut_is from most (canonical_line q) old new after (subst (λ (c : Cut). Cuts c after (canonical_line q) old new) begun written) in
+    (own.0 ∙ ap (λ (x : Quad). old ++ take most (drop from (canonical_line x))) (sym is), own.1 ∙ ap (λ (x : Quad). nat_lt most (length (canonical_line x) - from)) (sym is))
+
+-- a part as long as the line is the line
+pub whole_appended : (room : ℕ) (line old mid new : List ℕ) → room ≡ length line → mid ≡ old → new ≡ mid ++ take room (drop 0 line) → new ≡ old ++ line
+whole_appended room line old mid new is kept appended =
+    appended ∙ ap₂ (λ (l : List ℕ) (n : ℕ). l ++ take n line) kept is ∙ ap (λ (l : List ℕ). old ++ l) (take_all (length line) line (omega arith))
 
 -- one quad more was made
 pub quad_taken : (value before after : List Quad) (i : ℕ) (q made : Quad) → i < length value → before ≡ take i value → ((d : Quad) → slice_index_or value i d ≡ made) → q ≡ made → after ≡ before ++ q ∷ [] → after ≡ take (i + 1) value

@@ -9,7 +9,10 @@ use Rattle.hydra_controls.specs.declared.term_text.TermKind.{TermKind}
 use Rattle.hydra_controls.specs.declared.term_text.TermKind.TheVariants as kinds
 use Rattle.hydra_controls.specs.declared.term_text.TermText.{TermText}
 use Rattle.hydra_controls.specs.declared.quad_text.QuadText.{QuadText}
+use Rattle.hydra_controls.specs.declared.cut.Cut.{Cut}
+use Rattle.hydra_controls.specs.Cuts.{Cuts}
 use Rattle.hydra_controls.specs.TermTexts.{IsTerm, IsTextOf, closing, digits_of, is_plain_byte, opening, quad_of, term_as, term_of, text_of, xsd_integer}
+use Rattle.hydra_controls.proofs.CutLaws.{cuts_same, cuts_then}
 
 -- ---- forms
 
@@ -39,12 +42,26 @@ term_written : (t : TermText) → IsTerm t → canonical_term (term_of t) ≡ op
 unfolding term_of
 term_written t own = written_as t.kind (text_of t) own.text
 
-pub written : (t : TermText) (old opened within new : List ℕ) → IsTerm t → opened ≡ old ++ opening t.kind → within ≡ opened ++ text_of t → new ≡ within ++ closing t.kind → new ≡ old ++ canonical_term (term_of t)
-written t old opened within new own first second third =
-    third ∙ ap (λ (l : List ℕ). l ++ closing t.kind) (second ∙ ap (λ (l : List ℕ). l ++ text_of t) first)
-    ∙ append_assoc (old ++ opening t.kind) (text_of t) (closing t.kind)
-    ∙ append_assoc old (opening t.kind) (text_of t ++ closing t.kind)
-    ∙ ap (λ (l : List ℕ). old ++ l) (sym (term_written t own))
+-- the text of a term, part by part
+pub text_cut : (t : TermText) (a b d e f : Cut) (front middle end old one two three new : List ℕ) → front ≡ t.front.now → middle ≡ t.middle.now → end ≡ t.end.now
+    → Cuts a b front old one → Cuts b d middle one two → Cuts d e (digits_of t.number) two three → Cuts e f end three new → Cuts a f (text_of t) old new
+text_cut t a b d e f front middle end old one two three new of_front of_middle of_end first second third fourth =
+    cuts_then a b f t.front.now (t.middle.now ++ (digits_of t.number ++ t.end.now)) old one new (cuts_same a b front t.front.now old one of_front first)
+    (cuts_then b d f t.middle.now (digits_of t.number ++ t.end.now) one two new (cuts_same b d middle t.middle.now one two of_middle second)
+    (cuts_then d e f (digits_of t.number) t.end.now two three new third (cuts_same e f end t.end.now three new of_end fourth)))
+
+spaced : (opened text closed : List ℕ) → opened ++ (text ++ (closed ++ 32 ∷ [])) ≡ (opened ++ (text ++ closed)) ++ 32 ∷ []
+spaced opened text closed = simp append_assoc
+
+-- its canonical text and a space
+pub term_cut : (t : TermText) → IsTerm t → (a b d e f : Cut) (opened closed old one two three new : List ℕ) → opened ≡ opening t.kind → closed ≡ closing t.kind
+    → Cuts a b opened old one → Cuts b d (text_of t) one two → Cuts d e closed two three → Cuts e f (32 ∷ []) three new → Cuts a f (canonical_term (term_of t) ++ 32 ∷ []) old new
+term_cut t own a b d e f opened closed old one two three new of_opened of_closed first second third fourth =
+    cuts_same a f (opening t.kind ++ (text_of t ++ (closing t.kind ++ 32 ∷ []))) (canonical_term (term_of t) ++ 32 ∷ []) old new
+    (spaced (opening t.kind) (text_of t) (closing t.kind) ∙ ap (λ (l : List ℕ). l ++ 32 ∷ []) (sym (term_written t own)))
+    (cuts_then a b f (opening t.kind) (text_of t ++ (closing t.kind ++ 32 ∷ [])) old one new (cuts_same a b opened (opening t.kind) old one of_opened first)
+    (cuts_then b d f (text_of t) (closing t.kind ++ 32 ∷ []) one two new second
+    (cuts_then d e f (closing t.kind) (32 ∷ []) two three new (cuts_same d e closed (closing t.kind) two three of_closed third) fourth)))
 
 pub text_length : (t : TermText) → length (text_of t) ≡ length t.front.now + length t.middle.now + length (digits_of t.number) + length t.end.now
 text_length t =
@@ -62,23 +79,25 @@ pub quad_is : (q : QuadText) (s p o g : Term) → s ≡ term_of q.subject → p 
 unfolding quad_of
 quad_is q s p o g es ep eo eg = λ i. record { triple = record { subject = es i; predicate = ep i; object = eo i }; graph = Some (eg i) }
 
-parts_stand : (old s p o g : List ℕ)
-    → ((((old ++ (s ++ 32 ∷ [])) ++ (p ++ 32 ∷ [])) ++ (o ++ 32 ∷ [])) ++ (g ++ 32 ∷ [])) ++ 46 ∷ 10 ∷ [] ≡ old ++ (s ++ 32 ∷ (p ++ 32 ∷ (o ++ (32 ∷ g) ++ 32 ∷ 46 ∷ 10 ∷ [])))
-parts_stand old s p o g = simp append_assoc
+parts_stand : (s p o g : List ℕ) → (s ++ 32 ∷ []) ++ ((p ++ 32 ∷ []) ++ ((o ++ 32 ∷ []) ++ ((g ++ 32 ∷ []) ++ 46 ∷ 10 ∷ []))) ≡ s ++ 32 ∷ (p ++ 32 ∷ (o ++ (32 ∷ g) ++ 32 ∷ 46 ∷ 10 ∷ []))
+parts_stand s p o g = simp append_assoc
 
-pub line_stands : (q : QuadText) (old one two three four new : List ℕ)
-    → one ≡ old ++ (canonical_term (term_of q.subject) ++ 32 ∷ []) → two ≡ one ++ (canonical_term (term_of q.predicate) ++ 32 ∷ [])
-    → three ≡ two ++ (canonical_term (term_of q.object) ++ 32 ∷ []) → four ≡ three ++ (canonical_term (term_of q.graph) ++ 32 ∷ []) → new ≡ four ++ 46 ∷ 10 ∷ []
-    → new ≡ old ++ canonical_line (quad_of q)
+-- the line of a quad
+pub line_cut : (q : QuadText) (a b d e f g : Cut) (old one two three four new : List ℕ)
+    → Cuts a b (canonical_term (term_of q.subject) ++ 32 ∷ []) old one → Cuts b d (canonical_term (term_of q.predicate) ++ 32 ∷ []) one two
+    → Cuts d e (canonical_term (term_of q.object) ++ 32 ∷ []) two three → Cuts e f (canonical_term (term_of q.graph) ++ 32 ∷ []) three four → Cuts f g (46 ∷ 10 ∷ []) four new
+    → Cuts a g (canonical_line (quad_of q)) old new
 unfolding quad_of
-line_stands q old one two three four new e1 e2 e3 e4 e5 =
+line_cut q a b d e f g old one two three four new first second third fourth fifth =
     let s = canonical_term (term_of q.subject) in
     let p = canonical_term (term_of q.predicate) in
     let o = canonical_term (term_of q.object) in
-    let g = canonical_term (term_of q.graph) in
-    let fourth : four ≡ (((old ++ (s ++ 32 ∷ [])) ++ (p ++ 32 ∷ [])) ++ (o ++ 32 ∷ [])) ++ (g ++ 32 ∷ []) =
-    e4 ∙ ap (λ (l : List ℕ). l ++ (g ++ 32 ∷ [])) (e3 ∙ ap (λ (l : List ℕ). l ++ (o ++ 32 ∷ [])) (e2 ∙ ap (λ (l : List ℕ). l ++ (p ++ 32 ∷ [])) e1)) in
-    e5 ∙ ap (λ (l : List ℕ). l ++ 46 ∷ 10 ∷ []) fourth ∙ parts_stand old s p o g
+    let n = canonical_term (term_of q.graph) in
+    cuts_same a g ((s ++ 32 ∷ []) ++ ((p ++ 32 ∷ []) ++ ((o ++ 32 ∷ []) ++ ((n ++ 32 ∷ []) ++ 46 ∷ 10 ∷ [])))) (canonical_line (quad_of q)) old new (parts_stand s p o n)
+    (cuts_then a b g (s ++ 32 ∷ []) ((p ++ 32 ∷ []) ++ ((o ++ 32 ∷ []) ++ ((n ++ 32 ∷ []) ++ 46 ∷ 10 ∷ []))) old one new first
+    (cuts_then b d g (p ++ 32 ∷ []) ((o ++ 32 ∷ []) ++ ((n ++ 32 ∷ []) ++ 46 ∷ 10 ∷ [])) one two new second
+    (cuts_then d e g (o ++ 32 ∷ []) ((n ++ 32 ∷ []) ++ 46 ∷ 10 ∷ []) two three new third
+    (cuts_then e f g (n ++ 32 ∷ []) (46 ∷ 10 ∷ []) three four new fourth fifth))))
 
 parts_length : (s p o g : List ℕ) → length (s ++ 32 ∷ (p ++ 32 ∷ (o ++ (32 ∷ g) ++ 32 ∷ 46 ∷ 10 ∷ []))) ≡ length s + length p + length o + length g + 6
 parts_length s p o g =

@@ -1,3 +1,4 @@
 pub mod TermTexts
 pub mod Facts
 pub mod Laws
+pub mod Cuts

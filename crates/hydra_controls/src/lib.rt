@@ -16,6 +16,7 @@
 #![tactic(auto)]
 
 mod config;
+mod cut;
 mod facts;
 mod laws;
 mod lines;
@@ -24,6 +25,7 @@ mod quad_text;
 mod term_text;
 
 pub use config::Config;
+pub use cut::Cut;
 pub use laws::metadata_is_rdf;
 pub use lines::MetadataLines;
 pub use pages::{address, metadata};

@@ -1,18 +1,17 @@
 // The lines of a page's metadata, each made when it is written.
-ghost use Rattle.std.specs.Prelude.{◌≡◌, ◌≤◌, ◌<◌, ◌^◌, ◌++◌, length, take, nat_lt, slice_index_or, IfOk, OnOk, OnErr};
+ghost use Rattle.std.specs.Prelude.{◌≡◌, ◌-◌, ◌≤◌, ◌<◌, ◌^◌, ◌++◌, length, take, drop, nat_lt, slice_index_or, IfOk, OnOk, OnErr};
 ghost use Rattle.rdf_terms.specs.Canon.{canonical_line};
 ghost use Rattle.rdf_terms.specs.declared.term.Quad.{Quad};
 ghost use Rattle.list_laws.specs.Begins.{Begins};
 ghost use Rattle.tpf_base.specs.Addresses.{address_text};
 ghost use Rattle.template_fill.specs.Forms.{HasNoBlank};
 ghost use Rattle.template_fill.specs.Metadata.{page_metadata};
-ghost use Rattle.hydra_controls.specs.TermTexts.{AreTerms, quad_of};
 ghost use Rattle.hydra_controls.specs.Facts.{AreFacts, quads_of};
 
 use crate::Config;
+use crate::cut::Cut;
 use crate::facts::PageFacts;
 use crate::pages::{address, last_page};
-use crate::quad_text::QuadText;
 use rdf_terms::{Quad, Slots};
 use std::alloc::Global;
 use std::marker::Model;
@@ -55,37 +54,26 @@ fn has_fixed(base: &WebAddress, first: &WebAddress) -> bool
 }
 
 /// Makes room for so many bytes more at once, so that a line of any length is copied once.
-fn make_room(length: u128, out: &mut Vec<u8>) -> Result<(), OutOfMemory>
-    ensures { out.new.items ≡ out.old.items }
+fn make_room(length: u128, out: &mut Vec<u8>) -> Result<usize, OutOfMemory>
+    ensures room { IfOk result (λ room. room ≡ length) }
+    ensures same { out.new.items ≡ out.old.items }
 {
     match usize::try_from(length) {
         Ok(room) => {
             out.reserve(room)?;
-            Ok(())
+            Ok(room)
         }
         Err(_) => Err(OutOfMemory),
     }
 }
 
-/// Appends the line of a quad.
-#[tactic(auto, using(list_laws::proofs::Begins::same_begins, list_laws::proofs::Begins::begins_on))]
-fn write_line(quad: QuadText<'_>, out: &mut Vec<u8>) -> Result<(), OutOfMemory>
-    requires { AreTerms quad }
-    ensures ok { OnOk result (out.new.items ≡ out.old.items ++ canonical_line (quad_of quad.entry)) }
-    ensures front { Begins out.old.items out.new.items }
-{
-    make_room(quad.length(), out)?;
-    quad.write(out)?;
-    Ok(())
-}
-
 /// Takes back what was appended since `out` had this length, where the writing failed.
 #[tactic(auto, using(list_laws::proofs::Begins::cut_back))]
 fn taken_back(
-    written: Result<(), OutOfMemory>,
+    written: Result<bool, OutOfMemory>,
     before: usize,
     out: &mut Vec<u8>,
-) -> Result<(), OutOfMemory>
+) -> Result<bool, OutOfMemory>
     ensures same { result ≡ written }
     ensures ok { OnOk result (out.new.items ≡ out.old.items) }
     ensures err { OnErr result (out.new.items ≡ take before out.old.items) }
@@ -161,17 +149,56 @@ impl MetadataLines {
         self.facts().quad(i).length()
     }
 
+    /// Appends what is written of the line in this place, and tells whether bytes of the line are left.
+    #[tactic(auto, using(list_laws::proofs::Begins::same_begins))]
+    fn write_cut(
+        &self,
+        i: usize,
+        from: u128,
+        most: usize,
+        out: &mut Vec<u8>,
+    ) -> Result<bool, OutOfMemory>
+        requires { i < length self.now }
+        ensures ok { (d : Quad) → OnOk result (out.new.items ≡ out.old.items ++ take most (drop from (canonical_line (slice_index_or self.now i d)))) }
+        ensures more { (d : Quad) → IfOk result (λ more. more ≡ nat_lt most (length (canonical_line (slice_index_or self.now i d)) - from)) }
+        ensures front { Begins out.old.items out.new.items }
+    {
+        let mut cut = Cut::new(from, most);
+        self.facts().quad(i).write(&mut cut, out)?;
+        Ok(cut.more)
+    }
+
+    /// Appends at most `most` bytes of the line in this place, its end LF with it (N-Quads, canonical form),
+    /// behind the first `from`, and tells whether there are more. After `OutOfMemory`, which comes only
+    /// when memory ran out, `out` is as before.
+    #[tactic(auto, using(list_laws::proofs::Begins::cut_back))]
+    pub fn write_part(
+        &self,
+        i: usize,
+        from: u128,
+        most: usize,
+        out: &mut Vec<u8>,
+    ) -> Result<bool, OutOfMemory>
+        requires { i < length self.now }
+        ensures ok { (d : Quad) → OnOk result (out.new.items ≡ out.old.items ++ take most (drop from (canonical_line (slice_index_or self.now i d)))) }
+        ensures more { (d : Quad) → IfOk result (λ more. more ≡ nat_lt most (length (canonical_line (slice_index_or self.now i d)) - from)) }
+        ensures err { OnErr result (out.new.items ≡ out.old.items) }
+    {
+        let before = out.len();
+        let written = self.write_cut(i, from, most, out);
+        taken_back(written, before, out)
+    }
+
     /// Appends the line in this place, its end LF with it (N-Quads, canonical form). After
     /// `OutOfMemory`, which comes only when memory ran out, `out` is as before.
-    #[tactic(auto, using(list_laws::proofs::Begins::cut_back))]
     pub fn write(&self, i: usize, out: &mut Vec<u8>) -> Result<(), OutOfMemory>
         requires { i < length self.now }
         ensures ok { (d : Quad) → OnOk result (out.new.items ≡ out.old.items ++ canonical_line (slice_index_or self.now i d)) }
         ensures err { OnErr result (out.new.items ≡ out.old.items) }
     {
-        let before = out.len();
-        let written = write_line(self.facts().quad(i), out);
-        taken_back(written, before, out)
+        let room = make_room(self.length(i), out)?;
+        self.write_part(i, 0, room, out)?;
+        Ok(())
     }
 
     /// The quads. `OutOfMemory` comes only when memory ran out.

@@ -1,10 +1,12 @@
 // Quads as the texts that they are written with.
-ghost use Rattle.std.specs.Prelude.{◌≡◌, ◌<◌, ◌^◌, ◌++◌, length, IfOk, OnOk};
+ghost use Rattle.std.specs.Prelude.{◌≡◌, ◌<◌, ◌^◌, length, IfOk, OnOk};
 ghost use Rattle.rdf_terms.specs.Canon.{canonical_line};
 ghost use Rattle.list_laws.specs.Begins.{Begins};
+ghost use Rattle.hydra_controls.specs.Cuts.{Cuts};
 ghost use Rattle.hydra_controls.specs.TermTexts.{AreTerms, quad_of};
 
-use crate::term_text::{TermText, push};
+use crate::cut::Cut;
+use crate::term_text::TermText;
 use rdf_terms::{Quad, Triple};
 use std::alloc::Global;
 use tpf_base::OutOfMemory;
@@ -50,18 +52,18 @@ impl<'a> QuadText<'a> {
             + 6
     }
 
-    /// Appends its canonical line.
+    /// Appends what is written of its canonical line.
     #[tactic(auto, using(list_laws::proofs::Begins::begins_on))]
-    pub(crate) fn write(self, out: &mut Vec<u8>) -> Result<(), OutOfMemory>
+    pub(crate) fn write(self, cut: &mut Cut, out: &mut Vec<u8>) -> Result<(), OutOfMemory>
         requires { AreTerms self }
-        ensures ok { OnOk result (out.new.items ≡ out.old.items ++ canonical_line (quad_of self.entry)) }
+        ensures ok { OnOk result (Cuts cut.old cut.new (canonical_line (quad_of self.entry)) out.old.items out.new.items) }
         ensures front { Begins out.old.items out.new.items }
     {
-        self.subject.write_spaced(out)?;
-        self.predicate.write_spaced(out)?;
-        self.object.write_spaced(out)?;
-        self.graph.write_spaced(out)?;
-        push(".\n", out)?;
+        self.subject.write(cut, out)?;
+        self.predicate.write(cut, out)?;
+        self.object.write(cut, out)?;
+        self.graph.write(cut, out)?;
+        cut.push(b".\n", out)?;
         Ok(())
     }
 }

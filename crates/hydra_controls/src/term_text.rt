@@ -8,8 +8,10 @@ ghost use Rattle.rdf_terms.specs.Label.{is_label};
 ghost use Rattle.list_laws.specs.Begins.{Begins};
 ghost use Rattle.tpf_base.specs.Decimals.{decimal_text};
 ghost use Rattle.template_fill.specs.Metadata.{foaf, void, hydra, rdf, owl, integer, plain};
+ghost use Rattle.hydra_controls.specs.Cuts.{Cuts};
 ghost use Rattle.hydra_controls.specs.TermTexts.{IsTerm, IsTextOf, closing, digits_of, is_plain_byte, opening, term_as, term_of, text_of, xsd_integer};
 
+use crate::cut::Cut;
 use itoa::Buffer;
 use rdf_terms::{Datatype, IriText, Kind, Label, Term};
 use std::alloc::Global;
@@ -39,35 +41,25 @@ pub(crate) struct TermText<'a> {
 
 // ---- appending
 
-/// Appends a text.
-#[tactic(auto, using(list_laws::proofs::Begins::same_begins, list_laws::proofs::Begins::more_begins))]
-pub(crate) fn push(text: &str, out: &mut Vec<u8>) -> Result<(), OutOfMemory>
-    ensures ok { OnOk result (out.new.items ≡ out.old.items ++ text.now) }
-    ensures front { Begins out.old.items out.new.items }
-{
-    out.extend_from_slice(text.as_bytes())?;
-    Ok(())
-}
-
-/// Appends the digits of a number.
-fn push_number(number: u64, out: &mut Vec<u8>) -> Result<(), OutOfMemory>
-    ensures ok { OnOk result (out.new.items ≡ out.old.items ++ decimal_text number) }
+/// Appends what is written of the digits of a number.
+fn push_number(number: u64, cut: &mut Cut, out: &mut Vec<u8>) -> Result<(), OutOfMemory>
+    ensures ok { OnOk result (Cuts cut.old cut.new (decimal_text number) out.old.items out.new.items) }
     ensures front { Begins out.old.items out.new.items }
 {
     let mut digits = Buffer::new();
-    push(digits.format(number), out)?;
+    cut.push(digits.format(number).as_bytes(), out)?;
     Ok(())
 }
 
-/// Appends the digits of a number, if there is one.
-#[tactic(auto, using(list_laws::proofs::Begins::itself_begins))]
-fn push_digits(number: Option<u64>, out: &mut Vec<u8>) -> Result<(), OutOfMemory>
-    ensures ok { OnOk result (out.new.items ≡ out.old.items ++ digits_of number) }
+/// Appends what is written of the digits of a number, if there is one.
+#[tactic(auto, using(list_laws::proofs::Begins::itself_begins, crate::proofs::CutLaws::cuts_nothing))]
+fn push_digits(number: Option<u64>, cut: &mut Cut, out: &mut Vec<u8>) -> Result<(), OutOfMemory>
+    ensures ok { OnOk result (Cuts cut.old cut.new (digits_of number) out.old.items out.new.items) }
     ensures front { Begins out.old.items out.new.items }
 {
     match number {
         None => Ok(()),
-        Some(number) => push_number(number, out),
+        Some(number) => push_number(number, cut, out),
     }
 }
 
@@ -209,41 +201,30 @@ impl<'a> TermText<'a> {
         self.text_length() + around as u128
     }
 
-    /// Appends the text.
+    /// Appends what is written of the text.
     #[tactic(auto, using(list_laws::proofs::Begins::begins_on))]
-    fn write_text(self, out: &mut Vec<u8>) -> Result<(), OutOfMemory>
-        ensures ok { OnOk result (out.new.items ≡ out.old.items ++ text_of self.entry) }
+    fn write_text(self, cut: &mut Cut, out: &mut Vec<u8>) -> Result<(), OutOfMemory>
+        ensures ok { OnOk result (Cuts cut.old cut.new (text_of self.entry) out.old.items out.new.items) }
         ensures front { Begins out.old.items out.new.items }
     {
-        push(self.front, out)?;
-        push(self.middle, out)?;
-        push_digits(self.number, out)?;
-        push(self.end, out)?;
+        cut.push(self.front.as_bytes(), out)?;
+        cut.push(self.middle.as_bytes(), out)?;
+        push_digits(self.number, cut, out)?;
+        cut.push(self.end.as_bytes(), out)?;
         Ok(())
     }
 
-    /// Appends the canonical text of the term.
+    /// Appends what is written of the canonical text of the term and a space.
     #[tactic(auto, using(list_laws::proofs::Begins::begins_on))]
-    fn write(self, out: &mut Vec<u8>) -> Result<(), OutOfMemory>
+    pub(crate) fn write(self, cut: &mut Cut, out: &mut Vec<u8>) -> Result<(), OutOfMemory>
         requires { IsTerm self }
-        ensures ok { OnOk result (out.new.items ≡ out.old.items ++ canonical_term (term_of self.entry)) }
+        ensures ok { OnOk result (Cuts cut.old cut.new (canonical_term (term_of self.entry) ++ 32 ∷ []) out.old.items out.new.items) }
         ensures front { Begins out.old.items out.new.items }
     {
-        push(self.kind.opening(), out)?;
-        self.write_text(out)?;
-        push(self.kind.closing(), out)?;
-        Ok(())
-    }
-
-    /// Appends the canonical text of the term and a space.
-    #[tactic(auto, using(list_laws::proofs::Begins::begins_on))]
-    pub(crate) fn write_spaced(self, out: &mut Vec<u8>) -> Result<(), OutOfMemory>
-        requires { IsTerm self }
-        ensures ok { OnOk result (out.new.items ≡ out.old.items ++ (canonical_term (term_of self.entry) ++ 32 ∷ [])) }
-        ensures front { Begins out.old.items out.new.items }
-    {
-        self.write(out)?;
-        push(" ", out)?;
+        cut.push(self.kind.opening().as_bytes(), out)?;
+        self.write_text(cut, out)?;
+        cut.push(self.kind.closing().as_bytes(), out)?;
+        cut.push(b" ", out)?;
         Ok(())
     }
 }

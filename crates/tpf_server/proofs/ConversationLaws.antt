@@ -18,8 +18,8 @@ use Rattle.template_fill.specs.HttpAnswer.{Answer, MediaType, answer_text, head_
 use Rattle.tpf_base.specs.Marks.{Mark, Served, Failed, Starved, version_at}
 use Rattle.template_fill.specs.Answers.{answer_to, is_path_of_reload, is_read, is_reload, reload_answer, version_answer}
 use Rattle.template_fill.specs.Responses.{AreMarks, FitsHead, answering, answers, asks_reload, head_answer, reload_version, reload_versions}
-use Rattle.response_laws.proofs.Lists.{zip_length}
-use Rattle.response_laws.proofs.Responses.{answers_append}
+use Rattle.http_ends.proofs.Lists.{zip_length}
+use Rattle.http_ends.proofs.Growing.{answers_append}
 use Rattle.tpf_server.specs.declared.asked.Queued.{Queued}
 use Rattle.tpf_server.specs.declared.outcome.Reloaded.{Reloaded}
 use Rattle.tpf_server.specs.declared.outcome.Reloaded.TheVariants as outcomes

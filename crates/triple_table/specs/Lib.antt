@@ -6,3 +6,4 @@ pub mod Rows
 pub mod Stored
 pub mod Ranking
 pub mod Short
+pub mod Lengths

@@ -21,23 +21,25 @@ use crate::gather::{gather, genid_terms, served_terms};
 use crate::ids::{IdTriple, Order};
 use crate::ranking::{id_triples, rank_terms};
 use crate::rows::{Rows, key};
-use crate::term_list::TermList;
+use crate::term_list::{TermList, kept_length};
 use crate::{BuildFault, Choice, Table};
 use rdf_terms::{Quad, Term};
 use std::alloc::Global;
 use tpf_base::OutOfMemory;
 
-fn copies_of(alloc: Global, terms: &[&Term]) -> Result<Vec<Term>, OutOfMemory>
-    ensures copies { IfOk result (λ v. v.items ≡ borrowed_terms terms.now) }
-    ensures valid { IfOk result (λ v. All IsValidTerm v.items) }
+/// Copies of terms, each with the length of its canonical text.
+fn copies_of(alloc: Global, terms: &[&Term]) -> Result<TermList, OutOfMemory>
+    ensures { IfOk result (λ copies. copies ≡ borrowed_terms terms.now) }
 {
     let mut copies = Vec::with_capacity(alloc, terms.len())?;
+    let mut lengths = Vec::with_capacity(alloc, terms.len())?;
     for term in terms {
         let copy = term.copy(alloc)?;
         copy.is_valid();
+        lengths.push(kept_length(&copy))?;
         copies.push(copy)?;
     }
-    Ok(copies)
+    Ok(TermList::from_vecs(copies, lengths))
 }
 
 /// The served terms in their order, each once, and the chosen triples as they are served, with repeats,
@@ -65,7 +67,7 @@ fn ranked_triples(
         return Err(BuildFault::TooMany);
     }
     let ids = id_triples(alloc, gathered.triples.as_slice(), ranked.ranks.as_slice())?;
-    let terms = TermList::from_vec(copies_of(alloc, ranked.terms.as_slice())?);
+    let terms = copies_of(alloc, ranked.terms.as_slice())?;
     Ok((terms, ids))
 }
 

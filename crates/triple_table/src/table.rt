@@ -3,6 +3,7 @@ ghost use Rattle.std.specs.Prelude.{ℕ, ◌≡◌, ◌+◌, ◌-◌, ◌*◌, �
 ghost use Rattle.std.specs.List.{Contains, AllByRecursion};
 ghost use Rattle.rdf_terms.specs.declared.term.Triple.{Triple};
 ghost use Rattle.rdf_terms.specs.declared.term.Term.{Term};
+ghost use Rattle.rdf_terms.specs.Canon.{canonical_term};
 ghost use Rattle.rdf_terms.specs.Fragments.{IsFragment};
 ghost use Rattle.rdf_terms.specs.Triples.{IsDataSet};
 ghost use Rattle.rdf_terms.specs.Valid.{IsValidTerm, IsValidTriple};
@@ -21,7 +22,8 @@ use tpf_base::Steps;
 /// A data set in memory, from which the triples of a pattern are listed by binary search.
 ///
 /// A term's id is its place, from 0, in the term dictionary: all terms of the data set, each once, in
-/// the order of terms. The table keeps one copy of each term and 36 bytes for each triple.
+/// the order of terms. The table keeps one copy of each term, 4 bytes for its length, and 36 bytes for each
+/// triple.
 #[derive(Drop)]
 pub struct Table {
     pub(crate) terms: TermList,
@@ -76,6 +78,16 @@ impl Table {
         let term = self.terms.get(id as usize);
         term.is_valid();
         term
+    }
+
+    /// How many bytes the canonical text of the term with an id has, which is to be an id of this table. The
+    /// number is kept: only of a text of 4294967295 bytes or more is a byte read.
+    pub fn canonical_len(&self, id: u32) -> u128
+        requires { id < length (held_terms self.now) }
+        ensures length { result ≡ length (canonical_term (term_at (held_terms self.now) id)) }
+        ensures small { result < 2 ^ 67 }
+    {
+        self.terms.canonical_len(id as usize)
     }
 
     /// How many triples there are, each counted once. They are a data set of valid terms, and the term

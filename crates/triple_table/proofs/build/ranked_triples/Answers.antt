@@ -40,18 +40,18 @@ pub returns-clause-ranking : goal.returns-clause-ranking
 returns-clause-ranking c =
     let r = served_ranked c.args.authority.now c.in_ok-gathered.gathered.terms.items c.as_slice.result.now c.as_slice-2.result.now c.in_ok-served.served.items c.as_slice-4.result.now c.in_ok-genids.genids.items c.as_slice-3.result.now
     (borrowed_terms c.in_ok-ranked.ranked.terms.items) c.in_ok-ranked.ranked.ranks.items c.in_ok-genids.ensures c.as_slice.ensures.value c.as_slice-2.ensures.value c.as_slice-3.ensures.value c.in_ok-served.ensures c.as_slice-4.ensures.value c.in_ok-ranked.ensures in
-    subst (λ (ts : List Term). IsRanking (map (skolem_triple c.args.authority.now) (chosen c.args.choice.now c.args.quads.now)) ts) (sym (c.from_vec-terms.ensures ∙ c.in_ok-copies_of.ensures.copies ∙ ap borrowed_terms c.as_slice-7.ensures.value)) (is_ranking c.args.authority.now (chosen c.args.choice.now c.args.quads.now) (borrowed_terms c.in_ok-gathered.gathered.terms.items) (borrowed_terms c.in_ok-ranked.ranked.terms.items) c.in_ok-gathered.gathered.triples.items c.in_ok-ranked.ranked.ranks.items c.in_ok-gathered.ensures r)
+    subst (λ (ts : List Term). IsRanking (map (skolem_triple c.args.authority.now) (chosen c.args.choice.now c.args.quads.now)) ts) (sym (c.in_ok-terms.ensures ∙ ap borrowed_terms c.as_slice-7.ensures.value)) (is_ranking c.args.authority.now (chosen c.args.choice.now c.args.quads.now) (borrowed_terms c.in_ok-gathered.gathered.terms.items) (borrowed_terms c.in_ok-ranked.ranked.terms.items) c.in_ok-gathered.gathered.triples.items c.in_ok-ranked.ranked.ranks.items c.in_ok-gathered.ensures r)
 
 pub returns-clause-ids : goal.returns-clause-ids
 returns-clause-ids c =
     let r = served_ranked c.args.authority.now c.in_ok-gathered.gathered.terms.items c.as_slice.result.now c.as_slice-2.result.now c.in_ok-served.served.items c.as_slice-4.result.now c.in_ok-genids.genids.items c.as_slice-3.result.now
     (borrowed_terms c.in_ok-ranked.ranked.terms.items) c.in_ok-ranked.ranked.ranks.items c.in_ok-genids.ensures c.as_slice.ensures.value c.as_slice-2.ensures.value c.as_slice-3.ensures.value c.in_ok-served.ensures c.as_slice-4.ensures.value c.in_ok-ranked.ensures in
-    ids_moved (λ (ts : List Term) (ids : List IdTriple). All (IsIdTriple ts) ids) c.from_vec-terms.result (borrowed_terms c.in_ok-ranked.ranked.terms.items) c.in_ok-ids.ids.items c.in_ok-ranked.ranked.ranks.items c.as_slice-6.result.now c.in_ok-gathered.gathered.triples.items c.as_slice-5.result.now
-    (c.from_vec-terms.ensures ∙ c.in_ok-copies_of.ensures.copies ∙ ap borrowed_terms c.as_slice-7.ensures.value) c.in_ok-ids.ensures c.as_slice-6.ensures.value c.as_slice-5.ensures.value (all_ids c.args.authority.now (chosen c.args.choice.now c.args.quads.now) (borrowed_terms c.in_ok-gathered.gathered.terms.items) (borrowed_terms c.in_ok-ranked.ranked.terms.items) c.in_ok-gathered.gathered.triples.items c.in_ok-ranked.ranked.ranks.items c.in_ok-gathered.ensures r)
+    ids_moved (λ (ts : List Term) (ids : List IdTriple). All (IsIdTriple ts) ids) c.in_ok-terms.terms (borrowed_terms c.in_ok-ranked.ranked.terms.items) c.in_ok-ids.ids.items c.in_ok-ranked.ranked.ranks.items c.as_slice-6.result.now c.in_ok-gathered.gathered.triples.items c.as_slice-5.result.now
+    (c.in_ok-terms.ensures ∙ ap borrowed_terms c.as_slice-7.ensures.value) c.in_ok-ids.ensures c.as_slice-6.ensures.value c.as_slice-5.ensures.value (all_ids c.args.authority.now (chosen c.args.choice.now c.args.quads.now) (borrowed_terms c.in_ok-gathered.gathered.terms.items) (borrowed_terms c.in_ok-ranked.ranked.terms.items) c.in_ok-gathered.gathered.triples.items c.in_ok-ranked.ranked.ranks.items c.in_ok-gathered.ensures r)
 
 pub returns-clause-triples : goal.returns-clause-triples
 returns-clause-triples c =
     let r = served_ranked c.args.authority.now c.in_ok-gathered.gathered.terms.items c.as_slice.result.now c.as_slice-2.result.now c.in_ok-served.served.items c.as_slice-4.result.now c.in_ok-genids.genids.items c.as_slice-3.result.now
     (borrowed_terms c.in_ok-ranked.ranked.terms.items) c.in_ok-ranked.ranked.ranks.items c.in_ok-genids.ensures c.as_slice.ensures.value c.as_slice-2.ensures.value c.as_slice-3.ensures.value c.in_ok-served.ensures c.as_slice-4.ensures.value c.in_ok-ranked.ensures in
-    ids_moved (λ (ts : List Term) (ids : List IdTriple). map (triple_at ts) ids ≡ map (skolem_triple c.args.authority.now) (chosen c.args.choice.now c.args.quads.now)) c.from_vec-terms.result (borrowed_terms c.in_ok-ranked.ranked.terms.items) c.in_ok-ids.ids.items c.in_ok-ranked.ranked.ranks.items c.as_slice-6.result.now c.in_ok-gathered.gathered.triples.items c.as_slice-5.result.now
-    (c.from_vec-terms.ensures ∙ c.in_ok-copies_of.ensures.copies ∙ ap borrowed_terms c.as_slice-7.ensures.value) c.in_ok-ids.ensures c.as_slice-6.ensures.value c.as_slice-5.ensures.value (triples_are c.args.authority.now (chosen c.args.choice.now c.args.quads.now) (borrowed_terms c.in_ok-gathered.gathered.terms.items) (borrowed_terms c.in_ok-ranked.ranked.terms.items) c.in_ok-gathered.gathered.triples.items c.in_ok-ranked.ranked.ranks.items c.in_ok-gathered.ensures r)
+    ids_moved (λ (ts : List Term) (ids : List IdTriple). map (triple_at ts) ids ≡ map (skolem_triple c.args.authority.now) (chosen c.args.choice.now c.args.quads.now)) c.in_ok-terms.terms (borrowed_terms c.in_ok-ranked.ranked.terms.items) c.in_ok-ids.ids.items c.in_ok-ranked.ranked.ranks.items c.as_slice-6.result.now c.in_ok-gathered.gathered.triples.items c.as_slice-5.result.now
+    (c.in_ok-terms.ensures ∙ ap borrowed_terms c.as_slice-7.ensures.value) c.in_ok-ids.ensures c.as_slice-6.ensures.value c.as_slice-5.ensures.value (triples_are c.args.authority.now (chosen c.args.choice.now c.args.quads.now) (borrowed_terms c.in_ok-gathered.gathered.terms.items) (borrowed_terms c.in_ok-ranked.ranked.terms.items) c.in_ok-gathered.gathered.triples.items c.in_ok-ranked.ranked.ranks.items c.in_ok-gathered.ensures r)
