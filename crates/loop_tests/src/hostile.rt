@@ -169,3 +169,23 @@ fn a_peer_that_never_reads_holds_up_no_page(rt: HostRuntime) -> Result<(), Fail>
     assert_eq!(rt; sent.as_str(), "200 keeps 3");
     Ok(())
 }
+
+#[test]
+fn a_connection_that_is_kept_is_answered_before_its_end(rt: HostRuntime) -> Result<(), Fail> {
+    let alloc = rt.alloc();
+    let text = "GET /data HTTP/1.1\r\nHost: localhost\r\n\r\n";
+    let mut scripts = Vec::new(alloc);
+    scripts.push(script(alloc, &[text], false, 65536)?)?;
+    // Nothing comes on the second link until a byte is sent on the first.
+    let mut later = script(alloc, &[text], true, 65536)?;
+    later.after = 1;
+    scripts.push(later)?;
+    let (wire, told) = served(&rt, alloc, scripts, 1)?;
+    assert_eq!(rt; told.as_str(), "1 0");
+    assert_eq!(rt; wire.links(), 2);
+    let first = shown(alloc, str::from_utf8(wire.sent_on(0))?)?;
+    assert_eq!(rt; first.as_str(), "200 keeps 3");
+    let second = shown(alloc, str::from_utf8(wire.sent_on(1))?)?;
+    assert_eq!(rt; second.as_str(), "200 keeps 3");
+    Ok(())
+}

@@ -90,6 +90,30 @@ fn a_door_that_fails_ends_the_service(rt: HostRuntime) -> Result<(), Fail> {
     Ok(())
 }
 
+#[test]
+fn a_link_that_fails_ends_alone(rt: HostRuntime) -> Result<(), Fail> {
+    let alloc = rt.alloc();
+    let mut scripts = Vec::new(alloc);
+    scripts.push(script(alloc, &["abc"], true, 65536)?)?;
+    scripts.push(script(alloc, &["12", "34"], true, 65536)?)?;
+    scripts.push(script(alloc, &["xy"], true, 1)?)?;
+    // The listen, an accept, a receive, an accept, and then the second receive on the first link.
+    let mut calls = Vec::new(alloc);
+    calls.push(5)?;
+    let mut wire = ScriptWire::new(alloc, scripts, Failing::At(calls));
+    let served = echoed(&rt, alloc, &mut wire, 3);
+    let want = Served {
+        connections: 3,
+        starved: 0,
+    };
+    assert_eq!(rt; served, Some(Ok(want)));
+    assert_eq!(rt; wire.links(), 3);
+    assert_eq!(rt; wire.sent_on(0), b"".as_slice());
+    assert_eq!(rt; wire.sent_on(1), b"1234".as_slice());
+    assert_eq!(rt; wire.sent_on(2), b"xy".as_slice());
+    Ok(())
+}
+
 /// A first link that stalls six hundred times before it ends, and 256 that are silent.
 fn crowd(alloc: Global) -> Result<Vec<Script>, Fail> {
     let mut scripts = Vec::new(alloc);

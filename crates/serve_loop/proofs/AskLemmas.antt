@@ -1,8 +1,11 @@
 -- How often the supply was asked.
-use Rattle.std.proofs.Common.{ℕ, zero, suc, ◌≡◌, ◌+◌, ◌≤◌, inl, inr, List, [], ◌∷◌, ◌++◌, length, Option, Some, None, Bool, true, false, refl, sym, ◌∙◌, ap, subst, arith, length-append, add-one}
+use Rattle.std.proofs.Common.{ℕ, zero, suc, ◌≡◌, ◌+◌, ◌^◌, ◌<◌, ◌≤◌, inl, inr, List, [], ◌∷◌, ◌++◌, length, Option, Some, None, Bool, true, false, refl, sym, ◌∙◌, ap, subst, arith, length-append, add-one}
 use Rattle.connections.specs.Kinds.{Kind}
 use Rattle.connections.specs.declared.reloaded.Reloaded.{Reloaded}
+use Rattle.connections.specs.declared.reloaded.Reloaded.TheVariants as outcomes
+use Rattle.tpf_base.specs.Causes.{counted_by}
 use Rattle.tpf_base.specs.Links.{WireState}
+use Rattle.connections.specs.Versions.{Serving, MOST_VERSIONS}
 use Rattle.serve_loop.specs.declared.live.Live.{Live}
 use Rattle.serve_loop.specs.Traffic.{Moment, took}
 use Rattle.serve_loop.specs.Steps.{Supplies, Welcomes}
@@ -21,6 +24,8 @@ module _ {Data Settings : Type 0} where
     none = s.none;
     failed = s.failed;
     faults = s.faults;
+    asked = s.asked;
+    unasked = s.unasked;
     wire = s.wire;
   }
 
@@ -31,6 +36,26 @@ module _ {Data Settings : Type 0} where
   answered_then : (may : Data → Type 0) (xs ys : List Reloaded) (old mid now : Moment Data Settings) → AreAnswered may xs old mid → AreAnswered may ys mid now → AreAnswered may (ys ++ xs) old now
   answered_then may xs [] old mid now a b = subst (λ (m : Moment Data Settings). AreAnswered may xs old m) (sym b) a
   answered_then may xs (outcome ∷ outcomes) old mid now a b = (b.0, answered_then may xs outcomes old mid b.0 a b.1, b.2)
+
+  version_more : (may : Data → Type 0) (outcome : Reloaded) (old now : Moment Data Settings) → Supplies may outcome old now → now.served.version ≤ old.served.version + 1
+  version_more may (outcomes.Version v) old now s = let x = s.version v refl in omega (arith, ap (λ (y : Serving Data Settings). y.version) x.1.2, x.1.1)
+  version_more may outcomes.Failed old now s = let n = s.none (λ v e. cc) in omega (arith, ap (λ (y : Serving Data Settings). y.version) n.1)
+  version_more may outcomes.OutOfMemory old now s = let n = s.none (λ v e. cc) in omega (arith, ap (λ (y : Serving Data Settings). y.version) n.1)
+
+  -- how often it was asked
+  calls_answered : (may : Data → Type 0) (xs : List Reloaded) (old now : Moment Data Settings) → AreAnswered may xs old now → old.served.version + length xs ≤ MOST_VERSIONS → old.supply.calls < 2 ^ 64
+      → (now.supply.calls ≡ counted_by (length xs) old.supply.calls) × (now.served.version ≤ old.served.version + length xs)
+  calls_answered may [] old now a few fits =
+      let c = ap (λ (m : Moment Data Settings). m.supply.calls) a in
+      let v = ap (λ (m : Moment Data Settings). m.served.version) a in
+      (omega (arith, c, fits), omega (arith, v))
+  calls_answered may (x ∷ xs) old now a few fits =
+      let h = calls_answered may xs old a.0 a.1 (omega (arith, few)) fits in
+      let hc = h.0 in
+      let hv = h.1 in
+      let c = a.2.asked (λ e. omega (arith, few, hv, e)) in
+      let v = version_more may x a.0 now a.2 in
+      (omega (arith, hc, c), omega (arith, hv, v))
 
 module _ {C Data Settings : Type 0} where
   one_if : (kind : Kind C Data Settings) (l : Live C) → kind.wants l.connection ≡ true → waits_for kind (Some l) ≡ 1
@@ -73,7 +98,14 @@ module _ {C Data Settings : Type 0} where
       }
 
   pub answers_all : (kind : Kind C Data Settings) (may : Data → Type 0) (at : ℕ → Option (Live C)) (n : ℕ) (old now : Moment Data Settings) → ((key : ℕ) → n ≤ key → at key ≡ None) → AnswersBelow kind may at n old now → AnswersAll kind may at old now
-  answers_all kind may at n old now above h = record { keys = n; above = above; outcomes = h.outcomes; count = h.count; answered = h.answered }
+  answers_all kind may at n old now above h = record {
+    keys = n;
+    above = above;
+    outcomes = h.outcomes;
+    count = h.count;
+    answered = h.answered;
+    asked = λ few fits. let c = h.count in subst (λ (m : ℕ). now.supply.calls ≡ counted_by m old.supply.calls) h.count (calls_answered may h.outcomes old now h.answered (omega (arith, few, c)) fits).0;
+  }
 
   -- ---- a new connection waits for nothing
 
@@ -106,4 +138,6 @@ module _ {C Data Settings : Type 0} where
     outcomes = h.outcomes;
     count = h.count ∙ waiting_same kind at at' h.keys (same_waits kind at at' accepted len after a b w);
     answered = h.answered;
+    asked = subst (λ (m : ℕ). old.served.version + m ≤ MOST_VERSIONS → old.supply.calls < 2 ^ 64 → now.supply.calls ≡ counted_by m old.supply.calls)
+        (waiting_same kind at at' h.keys (same_waits kind at at' accepted len after a b w)) h.asked;
   }

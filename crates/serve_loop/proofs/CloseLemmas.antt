@@ -2,14 +2,16 @@
 use Rattle.std.proofs.Common.{ℕ, ◌≡◌, ◌≢◌, ◌+◌, ◌<◌, ◌≤◌, ◌⊎◌, inl, inr, List, length, Option, Some, None, Bool, true, false, refl, sym, ◌∙◌, ap, subst, arith}
 use Rattle.tpf_base.specs.Causes.{RoseBy}
 use Rattle.tpf_base.specs.Links.{Link, WireState}
-use Rattle.connections.specs.Versions.{Serving}
+use Rattle.connections.specs.Versions.{Serving, SupplyState}
 use Rattle.connections.specs.Kinds.{Kind}
 use Rattle.serve_loop.specs.declared.live.Live.{Live}
-use Rattle.serve_loop.specs.Traffic.{Talk, Traffic, Moment}
-use Rattle.serve_loop.specs.Relates.{IsOrdered, IsGone, Relates, TellsSame}
+use Rattle.serve_loop.specs.Traffic.{Talk, Traffic, Moment, moment}
+use Rattle.serve_loop.specs.Calls.{TellsSame, ClosesAt, LeavesBelow, LeavesAll}
+use Rattle.serve_loop.specs.Relates.{IsOrdered, IsGone, Relates}
 use Rattle.serve_loop.specs.Sentence.{AllClosed}
-use Rattle.serve_loop.specs.Steps.{ClosesAt, LeavesBelow, LeavesAll}
-use Rattle.serve_loop.proofs.TalkLemmas.{moment, same_talk, all_as, holds_same}
+use Rattle.serve_loop.specs.Service.{LeavesLinks}
+use Rattle.serve_loop.proofs.CallLemmas.{alone_none, alone_then, alone_on}
+use Rattle.serve_loop.proofs.TalkLemmas.{same_talk, all_as, holds_same}
 use Rattle.serve_loop.proofs.RelatesLemmas.{same_or, is_not, none_some, versions_on, older_as}
 use Rattle.serve_loop.proofs.SentenceLemmas.{some_same}
 use Rattle.serve_loop.proofs.BelowLemmas.{last_or, below_or}
@@ -33,6 +35,8 @@ module _ {C : Type 0} where
     given = refl;
     waits = refl;
     faults = refl;
+    door = refl;
+    alone = alone_none w;
   }
 
   -- no key has a connection twice, so the link of this key is as it was
@@ -54,6 +58,8 @@ module _ {C : Type 0} where
     given = h.given;
     waits = h.waits;
     faults = h.faults;
+    door = h.door;
+    alone = h.alone;
   })
   leaves_more n at a b c (Some m) alone h found d = record {
     closed = λ key l below e. elim (last_or key n below) [
@@ -68,6 +74,8 @@ module _ {C : Type 0} where
     given = d.only.given ∙ h.given;
     waits = d.only.waits ∙ h.waits;
     faults = d.faults ∙ h.faults;
+    door = d.only.door ∙ h.door;
+    alone = alone_then a b c h.alone (alone_on m.link b c d.only);
   }
 
   pub leaves_all : (n : ℕ) (at : ℕ → Option (Live C)) (a b : WireState) → ((key : ℕ) → n ≤ key → at key ≡ None) → LeavesBelow n at a b → LeavesAll at a b
@@ -79,10 +87,12 @@ module _ {C : Type 0} where
       record {
         closed = λ key l e. h.closed key l (within key l e) e;
         told = h.told;
-        others = λ k f. h.others k (λ key l below e. f key l e);
+        others = λ k f. h.others k (λ key l below e s. f (record { key = key; live = l; found = e; link = s }));
         given = h.given;
         waits = h.waits;
         faults = h.faults;
+        door = h.door;
+        alone = h.alone;
       }
 
   pub gone_below : (at at' : ℕ → Option (Live C)) (n : ℕ) → ((key : ℕ) → key < n → at key ≡ None) → ((k : ℕ) → k ≢ n → at' k ≡ at k) → at' n ≡ None → (key : ℕ) → key < n + 1 → at' key ≡ None
@@ -97,12 +107,26 @@ module _ {C : Type 0} where
     | inr q ↦ same key q ∙ none key q
   ]
 
+pub links_none : (w : WireState) → LeavesLinks w w
+links_none w = record { told = λ k. told_same (w.links k) (w.links k) refl; given = refl; waits = refl; faults = refl; door = refl; alone = alone_none w }
+
+-- what a close of all is to whom the connections are not seen
+pub links_then : {C : Type 0} (at : ℕ → Option (Live C)) (a b c : WireState) → LeavesLinks a b → LeavesAll at b c → LeavesLinks a c
+links_then at a b c x y = record {
+  told = λ k. told_then (a.links k) (b.links k) (c.links k) (x.told k) (y.told k);
+  given = y.given ∙ x.given;
+  waits = y.waits ∙ x.waits;
+  faults = y.faults ∙ x.faults;
+  door = y.door ∙ x.door;
+  alone = alone_then a b c x.alone y.alone;
+}
+
 module _ {C Data Settings : Type 0} where
   -- a link that is no live connection's is as it was
-  not_live : (kind : Kind C Data Settings) (may : Data → Type 0) (first : List Data) (since : Moment Data Settings) (t : Traffic C Data) (at : ℕ → Option (Live C)) (len : ℕ) (served : Serving Data Settings) (faults : ℕ) (left : Option (List Data)) (a b : WireState)
-      → Relates kind may first since t at len (moment served faults left a) → LeavesAll at a b → (k : ℕ) → (a.links k).is_open ≡ false → b.links k ≡ a.links k
-  not_live kind may first since t at len served faults left a b r w k closed =
-      w.others k (λ key l e s. is_not (a.links k).is_open (ap (λ (n : ℕ). (a.links n).is_open) (sym s) ∙ (r.lives key l e).is_open) closed)
+  not_live : (kind : Kind C Data Settings) (may : Data → Type 0) (first : List Data) (since : Moment Data Settings) (t : Traffic C Data) (at : ℕ → Option (Live C)) (len : ℕ) (served : Serving Data Settings) (supply : SupplyState Data) (a b : WireState)
+      → Relates kind may first since t at len (moment served supply a) → LeavesAll at a b → (k : ℕ) → (a.links k).is_open ≡ false → b.links k ≡ a.links k
+  not_live kind may first since t at len served supply a b r w k closed =
+      w.others k (λ o. is_not (a.links k).is_open (ap (λ (n : ℕ). (a.links n).is_open) (sym o.link) ∙ (r.lives o.key o.live o.found).is_open) closed)
 
   ordered_left : (kind : Kind C Data Settings) (since : Moment Data Settings) (talks : ℕ → Option (Talk C)) (a b : WireState) → b.given ≡ a.given → ((k : ℕ) → (a.links k).is_open ≡ false → b.links k ≡ a.links k)
       → (k : ℕ) → IsOrdered kind since talks a k → IsOrdered kind since talks b k
@@ -124,23 +148,23 @@ module _ {C Data Settings : Type 0} where
   gone_left since talks a b given same k h = record { later = h.later; given = subst (λ (n : ℕ). k < n) (sym given) h.given; closed = ap (λ (x : Link). x.is_open) (same k h.closed) ∙ h.closed }
 
   -- the traffic with all links closed
-  pub relates_left : (kind : Kind C Data Settings) (may : Data → Type 0) (first : List Data) (since : Moment Data Settings) (t : Traffic C Data) (at at' : ℕ → Option (Live C)) (len : ℕ) (served : Serving Data Settings) (faults : ℕ) (left : Option (List Data)) (a b : WireState)
-      → LeavesAll at a b → ((key : ℕ) → at' key ≡ None) → Relates kind may first since t at len (moment served faults left a)
-      → Relates kind may first since (record t { left = t.left + len }) at' 0 (moment served faults left b)
-  relates_left kind may first since t at at' len served faults left a b w none r =
+  pub relates_left : (kind : Kind C Data Settings) (may : Data → Type 0) (first : List Data) (since : Moment Data Settings) (t : Traffic C Data) (at at' : ℕ → Option (Live C)) (len : ℕ) (served : Serving Data Settings) (supply : SupplyState Data) (a b : WireState)
+      → LeavesAll at a b → ((key : ℕ) → at' key ≡ None) → Relates kind may first since t at len (moment served supply a)
+      → Relates kind may first since (record t { left = t.left + len }) at' 0 (moment served supply b)
+  relates_left kind may first since t at at' len served supply a b w none r =
       let e = r.ends in
       let ef = e.faults in
-      let same : (k : ℕ) → (a.links k).is_open ≡ false → b.links k ≡ a.links k = not_live kind may first since t at len served faults left a b r w in
+      let same : (k : ℕ) → (a.links k).is_open ≡ false → b.links k ≡ a.links k = not_live kind may first since t at len served supply a b r w in
       let wg = w.given in
       let rc = r.count in
       record {
-        versions = versions_on may first since t.history t.given served faults left a b r.versions;
+        versions = versions_on may first since t.history t.given served supply a b r.versions;
         lives = λ key l h. absurd (none_some l (sym (none key) ∙ h));
         alone = λ i j x y h g s. absurd (none_some x (sym (none i) ∙ h));
         talks = λ k later given. let x = r.talks k later (subst (λ (n : ℕ). k < n) wg given) in record {
           talk = x.talk;
           talk_is = x.talk_is;
-          is = same_talk kind since t.history t.owner served faults left a b k x.talk (w.told k).sent (w.told k).received x.is;
+          is = same_talk kind since t.history t.owner served supply a b k x.talk (w.told k).sent (w.told k).received x.is;
         };
         unseen = λ k above. r.unseen k (subst (λ (n : ℕ). n ≤ k) wg above);
         owned = λ k later given is_open. elim (open_or (a.links k).is_open) [
@@ -148,7 +172,7 @@ module _ {C Data Settings : Type 0} where
               absurd (is_not (b.links k).is_open is_open (ap (λ (n : ℕ). (b.links n).is_open) (sym x.link) ∙ w.closed x.key x.live x.found))
           | inr c ↦ absurd (is_not (b.links k).is_open is_open (ap (λ (x : Link). x.is_open) (same k c) ∙ c))
         ];
-        older = λ k below. older_as (since.wire.links k) (a.links k) (b.links k) (w.others k (λ key l h s. let x = (r.lives key l h).later in absurd (omega (arith, below, x, s)))) (r.older k below);
+        older = λ k below. older_as (since.wire.links k) (a.links k) (b.links k) (w.others k (λ o. let x = (r.lives o.key o.live o.found).later in let s = o.link in absurd (omega (arith, below, x, s)))) (r.older k below);
         count = omega (arith, wg, rc);
         ends = record {
           ordered = all_as _ _ (λ (k : ℕ). ordered_left kind since t.talks a b wg same k) t.ordered e.ordered;

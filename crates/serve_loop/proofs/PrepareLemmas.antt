@@ -3,29 +3,29 @@ use Rattle.std.proofs.Common.{ℕ, ◌≡◌, ◌+◌, ◌≤◌, ◌++◌, List
 use Rattle.std.specs.List.{AllByRecursion}
 use Rattle.tpf_base.specs.Marks.{Mark}
 use Rattle.tpf_base.specs.Links.{WireState}
-use Rattle.connections.specs.Versions.{Serving}
+use Rattle.connections.specs.Versions.{Serving, SupplyState}
 use Rattle.connections.specs.Kinds.{Kind, Grows}
 use Rattle.serve_loop.specs.declared.live.Live.{Live}
-use Rattle.serve_loop.specs.Traffic.{Given, Traffic, Moment, took, with_given, updated}
+use Rattle.serve_loop.specs.Traffic.{Given, Traffic, Moment, took, with_given, updated, moment}
 use Rattle.serve_loop.specs.Relates.{Relates}
-use Rattle.serve_loop.proofs.TalkLemmas.{moment, all_as}
+use Rattle.serve_loop.proofs.TalkLemmas.{all_as}
 use Rattle.serve_loop.proofs.ReloadLemmas.{talk_took, versions_took, versions_none, excused_later}
 
 module _ {C Data Settings : Type 0} where
   -- a data set that the server took: the next version, which is that of the link that asked
   pub relates_took : (kind : Kind C Data Settings) → Grows kind → (may : Data → Type 0) (first : List Data) (since : Moment Data Settings) (t : Traffic C Data) (at : ℕ → Option (Live C)) (len : ℕ)
-      (served served' : Serving Data Settings) (faults faults' : ℕ) (left left' : Option (List Data)) (w : WireState) (k : ℕ) (d : Data) (added : List (Given Data))
-      → Relates kind may first since t at len (moment served faults left w) → took added ≡ d ∷ [] → served' ≡ record served { data_set = d; version = served.version + 1 }
-      → left ≡ with_given added left' → AllByRecursion may (took added) → faults ≤ faults'
-      → Relates kind may first since (record t { history = t.history ++ d ∷ []; given = t.given ++ added; owner = updated t.owner (served.version + 1) k }) at len (moment served' faults' left' w)
-  relates_took kind grows may first since t at len served served' faults faults' left left' w k d added r one next told may_be later = record {
-    versions = versions_took may first since t.history t.given added d (moment served faults left w) (moment served' faults' left' w) r.versions one next told may_be later;
+      (served served' : Serving Data Settings) (supply supply' : SupplyState Data) (w : WireState) (k : ℕ) (d : Data) (added : List (Given Data))
+      → Relates kind may first since t at len (moment served supply w) → took added ≡ d ∷ [] → served' ≡ record served { data_set = d; version = served.version + 1 }
+      → supply.left ≡ with_given added supply'.left → AllByRecursion may (took added) → supply.faults ≤ supply'.faults
+      → Relates kind may first since (record t { history = t.history ++ d ∷ []; given = t.given ++ added; owner = updated t.owner (served.version + 1) k }) at len (moment served' supply' w)
+  relates_took kind grows may first since t at len served served' supply supply' w k d added r one next told may_be later = record {
+    versions = versions_took may first since t.history t.given added d (moment served supply w) (moment served' supply' w) r.versions one next told may_be later;
     lives = r.lives;
     alone = r.alone;
     talks = λ j from given. let h = r.talks j from given in record {
       talk = h.talk;
       talk_is = h.talk_is;
-      is = talk_took kind grows since t.history t.owner d (moment served faults left w) (moment served' faults' left' w) j k h.talk next later refl h.is;
+      is = talk_took kind grows since t.history t.owner d (moment served supply w) (moment served' supply' w) j k h.talk next later refl h.is;
     };
     unseen = r.unseen;
     owned = r.owned;
@@ -44,12 +44,12 @@ module _ {C Data Settings : Type 0} where
 
   -- nothing that the server took
   pub relates_none : (kind : Kind C Data Settings) (may : Data → Type 0) (first : List Data) (since : Moment Data Settings) (t : Traffic C Data) (at : ℕ → Option (Live C)) (len : ℕ)
-      (served : Serving Data Settings) (faults faults' : ℕ) (left left' : Option (List Data)) (w : WireState) (added : List (Given Data))
-      → Relates kind may first since t at len (moment served faults left w) → took added ≡ []
-      → left ≡ with_given added left' → faults ≤ faults'
-      → Relates kind may first since (record t { given = t.given ++ added }) at len (moment served faults' left' w)
-  relates_none kind may first since t at len served faults faults' left left' w added r none told later = record {
-    versions = versions_none may first since t.history t.given added (moment served faults left w) (moment served faults' left' w) r.versions none refl told later;
+      (served : Serving Data Settings) (supply supply' : SupplyState Data) (w : WireState) (added : List (Given Data))
+      → Relates kind may first since t at len (moment served supply w) → took added ≡ []
+      → supply.left ≡ with_given added supply'.left → supply.faults ≤ supply'.faults
+      → Relates kind may first since (record t { given = t.given ++ added }) at len (moment served supply' w)
+  relates_none kind may first since t at len served supply supply' w added r none told later = record {
+    versions = versions_none may first since t.history t.given added (moment served supply w) (moment served supply' w) r.versions none refl told later;
     lives = r.lives;
     alone = r.alone;
     talks = λ j from given. let h = r.talks j from given in let i = h.is in record {
@@ -60,7 +60,8 @@ module _ {C Data Settings : Type 0} where
         within = i.within;
         sent_is = i.sent_is;
         received_is = i.received_is;
-        excused = all_as _ _ (λ (m : Mark). excused_later since.faults faults faults' later m) h.talk.marks i.excused;
+        excused = all_as _ _ (λ (m : Mark). excused_later since.supply.faults supply.faults supply'.faults later m) h.talk.marks i.excused;
+        level = i.level;
         numbers = i.numbers;
         rising = i.rising;
       };

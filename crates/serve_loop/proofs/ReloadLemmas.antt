@@ -2,7 +2,7 @@
 use Rattle.std.proofs.Common.{ℕ, ◌≡◌, ◌≢◌, ◌+◌, ◌<◌, ◌≤◌, ◌⊎◌, inl, inr, ◌++◌, List, [], ◌∷◌, length, Option, Bool, true, false, refl, sym, ◌∙◌, ap, subst, arith, append-nil, append_assoc, length-append, if◌then◌else◌}
 use Rattle.std.specs.List.{AllByRecursion}
 use Rattle.tpf_base.specs.Marks.{Mark, Served, Failed, Starved, version_at}
-use Rattle.tpf_base.specs.Causes.{Rose}
+use Rattle.tpf_base.specs.Causes.{Rose, counted}
 use Rattle.tpf_base.specs.Links.{WireState}
 use Rattle.connections.specs.declared.reloaded.Reloaded.{Reloaded}
 use Rattle.connections.specs.declared.reloaded.Reloaded.TheVariants as outcomes
@@ -44,7 +44,7 @@ number_later owner k j before now n h = record {
 -- the versions where the supply gave a table that the server took
 pub versions_took : {Data Settings : Type 0} (may : Data → Type 0) (first : List Data) (since : Moment Data Settings) (history : List Data) (given added : List (Given Data)) (d : Data) (old now : Moment Data Settings)
     → Versions may first since history given old → took added ≡ d ∷ [] → now.served ≡ record old.served { data_set = d; version = old.served.version + 1 }
-    → old.left ≡ with_given added now.left → AllByRecursion may (took added) → old.faults ≤ now.faults
+    → old.supply.left ≡ with_given added now.supply.left → AllByRecursion may (took added) → old.supply.faults ≤ now.supply.faults
     → Versions may first since (history ++ d ∷ []) (given ++ added) now
 versions_took {Data = Data} {Settings = Settings} may first since history given added d old now v one served left may_be faults =
     let both = took_append given added ∙ ap (λ (x : List Data). took given ++ x) one in
@@ -61,7 +61,7 @@ versions_took {Data = Data} {Settings = Settings} may first since history given 
       };
       config = ap (λ (s : Serving Data Settings). s.config) served ∙ v.config;
       count = omega (arith, version, vc, ap (λ (x : List Data). length x) both, length-append (took given) (d ∷ []));
-      left = v.left ∙ ap (λ (x : Option (List Data)). with_given given x) left ∙ sym (given_append given added now.left);
+      left = v.left ∙ ap (λ (x : Option (List Data)). with_given given x) left ∙ sym (given_append given added now.supply.left);
       may_be = subst (λ (x : List Data). AllByRecursion may x) (sym (took_append given added)) (all_append may (took given) (took added) v.may_be may_be);
       faults = omega (arith, vf, faults);
     }
@@ -69,7 +69,7 @@ versions_took {Data = Data} {Settings = Settings} may first since history given 
 -- the versions where it took none
 pub versions_none : {Data Settings : Type 0} (may : Data → Type 0) (first : List Data) (since : Moment Data Settings) (history : List Data) (given added : List (Given Data)) (old now : Moment Data Settings)
     → Versions may first since history given old → took added ≡ [] → now.served ≡ old.served
-    → old.left ≡ with_given added now.left → old.faults ≤ now.faults
+    → old.supply.left ≡ with_given added now.supply.left → old.supply.faults ≤ now.supply.faults
     → Versions may first since history (given ++ added) now
 versions_none {Data = Data} {Settings = Settings} may first since history given added old now v none served left faults =
     let both : took (given ++ added) ≡ took given = took_append given added ∙ ap (λ (x : List Data). took given ++ x) none ∙ append-nil (took given) in
@@ -81,24 +81,25 @@ versions_none {Data = Data} {Settings = Settings} may first since history given 
       serves = subst (λ (s : Serving Data Settings). IsHistory history s) (sym served) v.serves;
       config = ap (λ (s : Serving Data Settings). s.config) served ∙ v.config;
       count = omega (arith, version, vc, ap (λ (x : List Data). length x) both);
-      left = v.left ∙ ap (λ (x : Option (List Data)). with_given given x) left ∙ sym (given_append given added now.left);
+      left = v.left ∙ ap (λ (x : Option (List Data)). with_given given x) left ∙ sym (given_append given added now.supply.left);
       may_be = subst (λ (x : List Data). AllByRecursion may x) (sym both) v.may_be;
       faults = omega (arith, vf, faults);
     }
 
-level_of : (version : ℕ) (outcome : Reloaded) → version ≤ version_at (mark_of version outcome)
-level_of version (outcomes.Version v) = omega arith
-level_of version outcomes.Failed = omega arith
-level_of version outcomes.OutOfMemory = omega arith
+level_of : (low version : ℕ) (outcome : Reloaded) → low ≤ version → low ≤ version_at (mark_of version outcome)
+level_of low version (outcomes.Version v) up = up
+level_of low version outcomes.Failed up = up
+level_of low version outcomes.OutOfMemory up = up
 
 pub rising_last : (ns : List ℕ) (v : ℕ) → IsRising ns → AllByRecursion (λ n. n < v) ns → IsRising (ns ++ v ∷ [])
 rising_last [] v r h = (tt, tt)
 rising_last (n ∷ ns) v r h = (all_append (λ m. n < m) ns (v ∷ []) r.0 (h.0, tt), rising_last ns v r.1 h.1)
 
 pub supplies_none : {Data Settings : Type 0} (may : Data → Type 0) (outcome : Reloaded) (old now : Moment Data Settings) (added : List (Given Data)) → ((v : ℕ) → outcome ≢ outcomes.Version v) → took added ≡ [] → now.served ≡ old.served
-    → old.left ≡ with_given added now.left → length added ≤ 1 → (outcome ≡ outcomes.Failed → (added ≡ []) × (Rose old.faults now.faults ⊎ (old.served.version ≡ MOST_VERSIONS))) → old.faults ≤ now.faults → now.wire ≡ old.wire
+    → old.supply.left ≡ with_given added now.supply.left → length added ≤ 1 → (outcome ≡ outcomes.Failed → (added ≡ []) × (Rose old.supply.faults now.supply.faults ⊎ (old.served.version ≡ MOST_VERSIONS))) → old.supply.faults ≤ now.supply.faults
+    → (old.served.version ≢ MOST_VERSIONS → now.supply.calls ≡ counted old.supply.calls) → (old.served.version ≡ MOST_VERSIONS → now.supply ≡ old.supply) → now.wire ≡ old.wire
     → Supplies may outcome old now
-supplies_none {Data = Data} {Settings = Settings} may outcome old now added other none served left few failed faults wire = record {
+supplies_none {Data = Data} {Settings = Settings} may outcome old now added other none served left few failed faults asked unasked wire = record {
   added = added;
   few = few;
   left = left;
@@ -107,12 +108,15 @@ supplies_none {Data = Data} {Settings = Settings} may outcome old now added othe
   none = λ n. (none, served);
   failed = failed;
   faults = faults;
+  asked = asked;
+  unasked = unasked;
   wire = wire;
 }
 
 pub supplies_took : {Data Settings : Type 0} (may : Data → Type 0) (v : ℕ) (d : Data) (old now : Moment Data Settings) → may d → v ≡ old.served.version + 1 → now.served ≡ record old.served { data_set = d; version = v }
-    → old.left ≡ with_first d now.left → old.faults ≤ now.faults → now.wire ≡ old.wire → Supplies may (outcomes.Version v) old now
-supplies_took {Data = Data} {Settings = Settings} may v d old now m next served left faults wire = record {
+    → old.supply.left ≡ with_first d now.supply.left → old.supply.faults ≤ now.supply.faults
+    → (old.served.version ≡ MOST_VERSIONS → ⊥) → now.supply.calls ≡ counted old.supply.calls → now.wire ≡ old.wire → Supplies may (outcomes.Version v) old now
+supplies_took {Data = Data} {Settings = Settings} may v d old now m next served left faults below calls wire = record {
   added = record { data_set = d; took = true } ∷ [];
   few = omega arith;
   left = left;
@@ -121,12 +125,18 @@ supplies_took {Data = Data} {Settings = Settings} may v d old now m next served 
   none = λ n. absurd (n v refl);
   failed = λ e. absurd cc;
   faults = faults;
+  asked = λ n. calls;
+  unasked = λ e. absurd (below e);
   wire = wire;
 }
 
 pub most_is : MOST_VERSIONS ≡ 9999999999999999999
 unfolding MOST_VERSIONS
 most_is = refl
+
+-- a version that is not the last one
+pub not_last : (n m : ℕ) → n ≡ m → (n ≡ 9999999999999999999 → ⊥) → m ≡ MOST_VERSIONS → ⊥
+not_last n m e no_most last = no_most (e ∙ last ∙ most_is)
 
 less_or : (n m : ℕ) → n ≤ m → (n < m) ⊎ (n ≡ m)
 less_or n m h = grind arith
@@ -140,7 +150,7 @@ below_most n m h e no_most = elim (less_or n MOST_VERSIONS h) [
 module _ {C Data Settings : Type 0} where
   -- a talk after the server took one more data set, which a link asked for
   pub talk_took : (kind : Kind C Data Settings) → Grows kind → (since : Moment Data Settings) (history : List Data) (owner : ℕ → ℕ) (d : Data) (old now : Moment Data Settings) (k j : ℕ) (talk : Talk C)
-      → now.served ≡ record old.served { data_set = d; version = old.served.version + 1 } → old.faults ≤ now.faults → now.wire ≡ old.wire
+      → now.served ≡ record old.served { data_set = d; version = old.served.version + 1 } → old.supply.faults ≤ now.supply.faults → now.wire ≡ old.wire
       → IsTalk kind since history owner old k talk
       → IsTalk kind since (history ++ d ∷ []) (updated owner (old.served.version + 1) j) now k talk
   talk_took kind grows since history owner d old now k j talk served faults wire h =
@@ -151,7 +161,8 @@ module _ {C Data Settings : Type 0} where
         within = h.within;
         sent_is = λ bytes b. h.sent_is bytes (ap (λ (w : WireState). (w.links k).sent) (sym wire) ∙ b);
         received_is = λ bytes b. h.received_is bytes (ap (λ (w : WireState). (w.links k).received) (sym wire) ∙ b);
-        excused = all_as _ _ (λ (m : Mark). excused_later since.faults old.faults now.faults faults m) talk.marks h.excused;
+        excused = all_as _ _ (λ (m : Mark). excused_later since.supply.faults old.supply.faults now.supply.faults faults m) talk.marks h.excused;
+        level = h.level;
         numbers = subst (λ (c : Settings). AllByRecursion (IsNumber (updated owner (old.served.version + 1) j) k since.served.version now.served.version) (kind.reloads c talk.fed talk.marks)) (sym config)
             (subst (λ (n : ℕ). AllByRecursion (IsNumber (updated owner (old.served.version + 1) j) k since.served.version n) (kind.reloads old.served.config talk.fed talk.marks)) (sym version)
             (all_as _ _ (λ (n : ℕ). number_later owner k j since.served.version old.served.version n) (kind.reloads old.served.config talk.fed talk.marks) h.numbers));
@@ -160,14 +171,14 @@ module _ {C Data Settings : Type 0} where
 
   -- the reload request of a link was answered, and the heads behind it
   pub talk_answered : (kind : Kind C Data Settings) (since : Moment Data Settings) (history : List Data) (owner : ℕ → ℕ) (now : Moment Data Settings) (k : ℕ) (outcome : Reloaded) (old new : C) (fed taken : List ℕ) (marks : List Mark)
-      → IsHistory history now.served → (r : Reloads kind now.served outcome old new)
-      → IsExcused since.faults now.faults (mark_of now.served.version outcome)
+      → IsHistory history now.served → since.served.version ≤ now.served.version → (r : Reloads kind now.served outcome old new)
+      → IsExcused since.supply.faults now.supply.faults (mark_of now.served.version outcome)
       → AllByRecursion (IsNumber owner k since.served.version now.served.version) (numbers_of outcome)
       → IsRising (kind.reloads now.served.config fed marks ++ numbers_of outcome)
       → IsTalk kind since history owner now k (plain fed taken marks old)
       → (talk : Talk C) × (IsTalk kind since history owner now k talk × GoesOn now.served.version (plain fed taken marks old) talk
       × (talk.connection ≡ new) × (talk.over ≡ 0) × (talk.unfed ≡ []))
-  talk_answered kind since history owner now k outcome old new fed taken marks is_history r mark numbers rising h =
+  talk_answered kind since history owner now k outcome old new fed taken marks is_history up r mark numbers rising h =
       let reads = r.reads history fed taken marks is_history h.answers in
       let first = mark_of now.served.version outcome in (
         plain (fed ++ []) taken (marks ++ (first ∷ [] ++ reads.later)) new,
@@ -177,14 +188,16 @@ module _ {C Data Settings : Type 0} where
             within = omega arith;
             sent_is = h.sent_is;
             received_is = holds_as _ _ _ (sym (append-nil (fed ++ []))) h.received_is;
-            excused = all_append _ marks (first ∷ [] ++ reads.later) h.excused (mark, all_as _ _ (λ (m : Mark). served_excused since.faults now.faults now.served.version m) reads.later reads.served);
+            excused = all_append _ marks (first ∷ [] ++ reads.later) h.excused (mark, all_as _ _ (λ (m : Mark). served_excused since.supply.faults now.supply.faults now.served.version m) reads.later reads.served);
+            level = all_append _ marks (first ∷ [] ++ reads.later) h.level
+                (level_of since.served.version now.served.version outcome up, all_as _ _ (λ (m : Mark). served_level since.served.version now.served.version m up) reads.later reads.served);
             numbers = subst (λ (ns : List ℕ). AllByRecursion (IsNumber owner k since.served.version now.served.version) ns) (sym reads.numbers) (all_append _ (kind.reloads now.served.config fed marks) (numbers_of outcome) h.numbers numbers);
             rising = subst (λ (ns : List ℕ). IsRising ns) (sym reads.numbers) rising;
           },
           record {
             later = first ∷ [] ++ reads.later;
             marks = refl;
-            not_below = (level_of now.served.version outcome, all_as _ _ (λ (m : Mark). served_level now.served.version m) reads.later reads.served);
+            not_below = (level_of now.served.version now.served.version outcome (omega arith), all_as _ _ (λ (m : Mark). served_level now.served.version now.served.version m (omega arith)) reads.later reads.served);
             piece = [];
             fed = refl;
             part = [];

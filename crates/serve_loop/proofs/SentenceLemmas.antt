@@ -1,7 +1,7 @@
 -- The server's sentence follows from the relation alone.
 use Rattle.std.proofs.Common.{ℕ, ◌≡◌, ◌≢◌, ◌+◌, ◌≤◌, inl, inr, ◌++◌, List, [], ◌∷◌, length, take, Option, Some, refl, sym, ◌∙◌, ap, subst, arith, append-nil, length-append}
 use Rattle.std.specs.List.{AllByRecursion}
-use Rattle.tpf_base.specs.Marks.{Mark, Served, Failed, Starved}
+use Rattle.tpf_base.specs.Marks.{Mark, Served, Failed, Starved, version_at}
 use Rattle.tpf_base.specs.Causes.{counted_by}
 use Rattle.connections.specs.Versions.{Serving, IsHistory}
 use Rattle.connections.specs.Kinds.{Kind, BeginsResponse, IsWhole, IsNoFailure}
@@ -10,12 +10,16 @@ use Rattle.serve_loop.specs.Traffic.{Talk, Traffic, Moment}
 use Rattle.serve_loop.specs.Relates.{IsTalk, IsExcused, IsNumber, IsRising, IsOrdered, AreDistinct, Relates}
 use Rattle.serve_loop.specs.Sentence.{SendsResponse, SendsWhole, Sentence, WholeSentence, SpeaksWhole}
 use Rattle.serve_loop.specs.Steps.{EndsBy}
-use Rattle.serve_loop.proofs.TalkLemmas.{all_append, all_as}
+use Rattle.serve_loop.proofs.TalkLemmas.{all_append, all_as, up_since}
 
 pad_excused : (before now : ℕ) (m : Mark) → IsNoFailure m → IsExcused before now m
 pad_excused before now (Served version) h = tt
 pad_excused before now (Failed version) h = absurd h
 pad_excused before now (Starved version) h = tt
+
+-- a mark of the latest version is not below an earlier one
+from_latest : (low latest : ℕ) (m : Mark) → low ≤ latest → latest ≤ version_at m → low ≤ version_at m
+from_latest low latest m h l = omega (arith, h, l)
 
 -- a history of data sets has at least one
 pub has_one : {Data Settings : Type 0} (history : List Data) (server : Serving Data Settings) → IsHistory history server → 1 ≤ length history
@@ -35,10 +39,12 @@ distinct_front (x ∷ xs) ys a = (all_front (λ m. m ≢ x) xs ys a.0, distinct_
 module _ {C Data Settings : Type 0} where
   -- what a talk sent is a prefix of the response to what was received
   pub sends_response : (kind : Kind C Data Settings) → BeginsResponse kind → (since now : Moment Data Settings) (history : List Data) (owner : ℕ → ℕ) (k : ℕ) (talk : Talk C)
-      → IsHistory history now.served → IsTalk kind since history owner now k talk → (sent received : List ℕ)
+      → IsHistory history now.served → since.served.version ≤ now.served.version → IsTalk kind since history owner now k talk → (sent received : List ℕ)
       → (now.wire.links k).sent ≡ Some sent → (now.wire.links k).received ≡ Some received
       → SendsResponse kind since now history owner k sent received
-  sends_response kind begins since now history owner k talk is_history h sent received told_sent told_received =
+  sends_response kind begins since now history owner k talk is_history up h sent received told_sent told_received =
+      let count = is_history.count in
+      let low : since.served.version ≤ length history = omega (arith, up, count) in
       let b = begins history now.served.config talk.fed talk.taken talk.marks talk.connection (has_one history now.served is_history) h.answers talk.unfed talk.over h.within in
       let s : talk.taken ++ take talk.over (kind.pending talk.connection) ≡ sent = sym (h.sent_is sent told_sent) in
       let r : talk.fed ++ talk.unfed ≡ received = sym (h.received_is received told_received) in
@@ -49,8 +55,10 @@ module _ {C Data Settings : Type 0} where
         marked = b.marked;
         rest = b.rest;
         response = b.text;
-        excused = subst (λ (ms : List Mark). AllByRecursion (IsExcused since.faults now.faults) ms) (sym b.split)
-            (all_append _ talk.marks b.padding h.excused (all_as _ _ (λ (m : Mark). pad_excused since.faults now.faults m) b.padding b.no_failure));
+        excused = subst (λ (ms : List Mark). AllByRecursion (IsExcused since.supply.faults now.supply.faults) ms) (sym b.split)
+            (all_append _ talk.marks b.padding h.excused (all_as _ _ (λ (m : Mark). pad_excused since.supply.faults now.supply.faults m) b.padding b.no_failure));
+        level = subst (λ (ms : List Mark). AllByRecursion (λ mark. since.served.version ≤ version_at mark) ms) (sym b.split)
+            (all_append _ talk.marks b.padding h.level (all_as _ _ (λ (m : Mark). from_latest since.served.version (length history) m low) b.padding b.latest));
         numbers = subst (λ (ns : List ℕ). AllByRecursion (IsNumber owner k since.served.version now.served.version) ns) (sym b.numbers) h.numbers;
         rising = subst (λ (ns : List ℕ). IsRising ns) (sym b.numbers) h.rising;
       }))
@@ -64,7 +72,7 @@ module _ {C Data Settings : Type 0} where
     owner = t.owner;
     versions = r.versions;
     links = λ k later given sent received told_sent told_received. let h = r.talks k later given in
-        sends_response kind begins since now t.history t.owner k h.talk r.versions.serves h.is sent received told_sent told_received;
+        sends_response kind begins since now t.history t.owner k h.talk r.versions.serves (up_since may first since t.history t.given now r.versions) h.is sent received told_sent told_received;
   }
 
   -- a link that was closed in order holds its whole response
@@ -88,6 +96,7 @@ module _ {C Data Settings : Type 0} where
             rest = [];
             response = ap (λ (x : List ℕ). kind.response t.history now.served.config x o.talk.marks) (sym f) ∙ sym (taken sent told_sent ∙ w.text) ∙ sym (append-nil sent);
             excused = h.excused;
+            level = h.level;
             numbers = subst (λ (x : List ℕ). AllByRecursion (IsNumber t.owner k since.served.version now.served.version) (kind.reloads now.served.config x o.talk.marks)) f h.numbers;
             rising = subst (λ (x : List ℕ). IsRising (kind.reloads now.served.config x o.talk.marks)) f h.rising;
           },

@@ -1,25 +1,25 @@
 -- Turns, one after another, and the exit.
 use Rattle.std.proofs.Common.{ℕ, ◌≡◌, ◌+◌, ◌-◌, ◌<◌, ◌≤◌, List, [], ◌∷◌, ◌++◌, replicate, Option, Some, None, refl, sym, ◌∙◌, ap, subst, arith, length-append}
 use Rattle.std.proofs.lemmas.List.{length-replicate}
-use Rattle.std.specs.Prelude.{◌↔◌, IfSome, IfOk, IfErr, Result, Ok, Err}
-use Rattle.tpf_base.specs.Causes.{Rose, counted_by}
+use Rattle.std.specs.Prelude.{◌↔◌, IfSome, IfOk, Result, Ok, Err}
+use Rattle.tpf_base.specs.Causes.{counted_by}
 use Rattle.tpf_base.specs.Links.{WireState}
-use Rattle.connections.specs.Versions.{Serving, IsHistory}
+use Rattle.connections.specs.Versions.{Serving, IsHistory, SupplyState}
 use Rattle.connections.specs.Kinds.{Kind, BeginsResponse, IsWhole}
 use Rattle.serve_loop.specs.declared.live.Live.{Live}
-use Rattle.serve_loop.specs.declared.live.ServeFault.{ServeFault}
-use Rattle.serve_loop.specs.declared.live.ServeFault.TheVariants as faults
+use Rattle.serve_loop.specs.declared.live.TheConstants.{MOST_LIVE}
 use Rattle.serve_loop.specs.declared.live.Served.{Served}
 use Rattle.serve_loop.specs.declared.live.Turned.{Turned}
 use Rattle.serve_loop.specs.Traffic.{Traffic, Moment, no_traffic}
 use Rattle.serve_loop.specs.Relates.{Relates, SuitsWire}
-use Rattle.serve_loop.specs.Sentence.{Sentence, SpeaksWhole, AllClosed}
-use Rattle.serve_loop.specs.Steps.{TurnsTo, ServesTo, Carries, RestsWire, LeavesAll, served_with}
-use Rattle.serve_loop.proofs.TalkLemmas.{moment}
+use Rattle.serve_loop.specs.Sentence.{Sentence, SpeaksWhole, AllClosed, LeavesOlder}
+use Rattle.serve_loop.specs.Calls.{RestsWire, LeavesAll, served_with}
+use Rattle.serve_loop.specs.Steps.{TurnsTo, ServesTo, Carries}
+use Rattle.serve_loop.specs.Traffic.{moment}
 use Rattle.serve_loop.proofs.SentenceLemmas.{sentence, speaks_whole}
 use Rattle.serve_loop.proofs.EndsLemmas.{ends_same, ends_then, ended_more}
 use Rattle.serve_loop.proofs.TurnLemmas.{relates_may}
-use Rattle.serve_loop.proofs.WelcomeLemmas.{relates_rests}
+use Rattle.serve_loop.proofs.WelcomeLemmas.{relates_rests, rests_open}
 use Rattle.serve_loop.proofs.CloseLemmas.{relates_left, all_closed}
 use Rattle.serve_loop.proofs.StepLemmas.{begins}
 
@@ -43,20 +43,13 @@ pub less_if : (o : Option ℕ) (n : ℕ) → IfSome o (λ m. n < m) → IfSome o
 less_if None n h = tt
 less_if (Some m) n h = omega (arith, h)
 
-pub first_if : (o : Option ℕ) (x y e : ℕ) → y ≡ counted_by e x → e ≤ 256 → IfSome o (λ m. x ≤ m - 1) → IfSome o (λ m. y ≤ (m - 1) + 256)
+pub first_if : (o : Option ℕ) (x y e : ℕ) → y ≡ counted_by e x → e ≤ MOST_LIVE → IfSome o (λ m. x ≤ m - 1) → IfSome o (λ m. y ≤ (m - 1) + MOST_LIVE)
 first_if None x y e is few h = tt
 first_if (Some m) x y e is few h = omega (arith, is, few, h)
 
 pub zero_if : (o : Option ℕ) → IfSome o (λ m. 0 ≤ m - 1)
 zero_if None = tt
 zero_if (Some m) = omega arith
-
--- a fault of the wire, since an earlier moment
-pub wire_from : {X : Type 0} (r : Result X ServeFault) (f y : ServeFault) (a b c : ℕ) → r ≡ Err y → y ≡ f → a ≤ b → (f ≡ faults.Wire → Rose b c) → IfErr r (λ fault. fault ≡ faults.Wire → Rose a c)
-wire_from {X = X} r f y a b c e i h w = subst (λ (x : Result X ServeFault). IfErr x (λ fault. fault ≡ faults.Wire → Rose a c)) (sym e) (λ q. let v = w (sym i ∙ q) in omega (arith, h, v))
-
-pub later_then : (a b c : ℕ) → a ≤ b → b ≤ c → a ≤ c
-later_then a b c h k = omega (arith, h, k)
 
 pub if_ok_map : {X E : Type 0} (r : Result X E) (P Q : X → Type 0) → ((x : X) → P x → Q x) → IfOk r P → IfOk r Q
 if_ok_map (Ok x) P Q f h = f x h
@@ -66,7 +59,7 @@ module _ {C : Type 0} where
   -- after a wait the same connections suit the wire
   pub suits_rests : {Server : Type 0} (Suits : Server → C → Type 0) (server : Server) (at : ℕ → Option (Live C)) (a b : WireState) → RestsWire a b → SuitsWire Suits server at a → SuitsWire Suits server at b
   suits_rests Suits server at a b w s = record {
-    is_open = λ key l h. w.opened l.link ∙ s.is_open key l h;
+    is_open = λ key l h. rests_open a b w l.link ∙ s.is_open key l h;
     given = λ key l h. subst (λ (n : ℕ). l.link < n) (sym w.given) (s.given key l h);
     suits = s.suits;
     distinct = s.distinct;
@@ -103,15 +96,15 @@ module _ {C Data Settings : Type 0} where
       }
 
   -- a wait
-  pub serves_rest : (kind : Kind C Data Settings) (may : Data → Type 0) (first : List Data) (since : Moment Data Settings) (t : Traffic C Data) (x : Served) (at : ℕ → Option (Live C)) (len : ℕ) (old : Moment Data Settings) (served : Serving Data Settings) (faults : ℕ) (left : Option (List Data)) (a b : WireState)
-      → RestsWire a b → ServesTo kind may first since t x at len old (moment served faults left a) → ServesTo kind may first since t x at len old (moment served faults left b)
-  serves_rest kind may first since t x at len old served faults left a b w p =
+  pub serves_rest : (kind : Kind C Data Settings) (may : Data → Type 0) (first : List Data) (since : Moment Data Settings) (t : Traffic C Data) (x : Served) (at : ℕ → Option (Live C)) (len : ℕ) (old : Moment Data Settings) (served : Serving Data Settings) (supply : SupplyState Data) (a b : WireState)
+      → RestsWire a b → ServesTo kind may first since t x at len old (moment served supply a) → ServesTo kind may first since t x at len old (moment served supply b)
+  serves_rest kind may first since t x at len old served supply a b w p =
       let e = p.ends in
       let er = e.rose in
-      let wf = w.faults in
+      let wf = w.alone.faults in
       record {
         traffic = p.traffic;
-        relates = relates_rests kind may first since p.traffic at len served faults left a b w p.relates;
+        relates = relates_rests kind may first since p.traffic at len served supply a b w p.relates;
         count = p.count;
         wanted = p.wanted;
         ends = record {
@@ -145,22 +138,22 @@ module _ {C Data Settings : Type 0} where
 
   -- ---- at the exit
 
-  pub sentence_left : (kind : Kind C Data Settings) → BeginsResponse kind → (may : Data → Type 0) (first : List Data) (since : Moment Data Settings) (at at' : ℕ → Option (Live C)) (len : ℕ) (served : Serving Data Settings) (faults : ℕ) (left : Option (List Data)) (a b : WireState)
-      → LeavesAll at a b → ((key : ℕ) → at' key ≡ None) → Carries kind may first since at len (moment served faults left a)
-      → Sentence kind may first since (moment served faults left b)
-  sentence_left kind begins may first since at at' len served faults left a b w none p =
-      sentence kind begins may first since (record p.traffic { left = p.traffic.left + len }) at' 0 (moment served faults left b)
-      (relates_left kind may first since p.traffic at at' len served faults left a b w none p.relates)
+  pub sentence_left : (kind : Kind C Data Settings) → BeginsResponse kind → (may : Data → Type 0) (first : List Data) (since : Moment Data Settings) (at at' : ℕ → Option (Live C)) (len : ℕ) (served : Serving Data Settings) (supply : SupplyState Data) (a b : WireState)
+      → LeavesAll at a b → ((key : ℕ) → at' key ≡ None) → Carries kind may first since at len (moment served supply a)
+      → Sentence kind may first since (moment served supply b)
+  sentence_left kind begins may first since at at' len served supply a b w none p =
+      sentence kind begins may first since (record p.traffic { left = p.traffic.left + len }) at' 0 (moment served supply b)
+      (relates_left kind may first since p.traffic at at' len served supply a b w none p.relates)
 
-  pub whole_left : (kind : Kind C Data Settings) → BeginsResponse kind → IsWhole kind → (may : Data → Type 0) (first : List Data) (since : Moment Data Settings) (t : Traffic C Data) (x : Served) (at at' : ℕ → Option (Live C)) (len : ℕ) (old : Moment Data Settings) (served : Serving Data Settings) (faults : ℕ) (left : Option (List Data)) (a b : WireState)
-      → LeavesAll at a b → ((key : ℕ) → at' key ≡ None) → ServesTo kind may first since t x at len old (moment served faults left a)
-      → SpeaksWhole kind may first since (moment served faults left b) old.wire.faults x.connections x.starved
-  whole_left kind begins whole may first since t x at at' len old served faults left a b w none p =
+  pub whole_left : (kind : Kind C Data Settings) → BeginsResponse kind → IsWhole kind → (may : Data → Type 0) (first : List Data) (since : Moment Data Settings) (t : Traffic C Data) (x : Served) (at at' : ℕ → Option (Live C)) (len : ℕ) (old : Moment Data Settings) (served : Serving Data Settings) (supply : SupplyState Data) (a b : WireState)
+      → LeavesAll at a b → ((key : ℕ) → at' key ≡ None) → ServesTo kind may first since t x at len old (moment served supply a)
+      → SpeaksWhole kind may first since (moment served supply b) old.wire.faults x.connections x.starved
+  whole_left kind begins whole may first since t x at at' len old served supply a b w none p =
       let e = p.ends in
       let er = e.rose in
       let wf = w.faults in
-      speaks_whole kind begins whole may first since t (record p.traffic { left = p.traffic.left + len }) at' 0 (moment served faults left b) p.count p.wanted old.wire.faults x.connections x.starved
-      (relates_left kind may first since p.traffic at at' len served faults left a b w none p.relates)
+      speaks_whole kind begins whole may first since t (record p.traffic { left = p.traffic.left + len }) at' 0 (moment served supply b) p.count p.wanted old.wire.faults x.connections x.starved
+      (relates_left kind may first since p.traffic at at' len served supply a b w none p.relates)
       (record {
         ordered = e.ordered;
         broken = e.broken;
@@ -184,18 +177,25 @@ module _ {C Data Settings : Type 0} where
       omega (arith, c, n, k)
 
   -- a loop without connections begins, whatever the length is called
-  pub begins_at : (kind : Kind C Data Settings) (may : Data → Type 0) (first : List Data) (at : ℕ → Option (Live C)) (len : ℕ) (served : Serving Data Settings) (faults : ℕ) (left : Option (List Data)) (a : WireState)
+  pub begins_at : (kind : Kind C Data Settings) (may : Data → Type 0) (first : List Data) (at : ℕ → Option (Live C)) (len : ℕ) (served : Serving Data Settings) (supply : SupplyState Data) (a : WireState)
       → len ≡ 0 → ((key : ℕ) → at key ≡ None) → IsHistory first served
-      → Relates kind may first (moment served faults left a) (no_traffic first) at len (moment served faults left a)
-  begins_at kind may first at len served faults left a zero none h =
-      subst (λ (n : ℕ). Relates kind may first (moment served faults left a) (no_traffic first) at n (moment served faults left a)) (sym zero) (begins kind may first at served faults left a h none)
+      → Relates kind may first (moment served supply a) (no_traffic first) at len (moment served supply a)
+  begins_at kind may first at len served supply a zero none h =
+      subst (λ (n : ℕ). Relates kind may first (moment served supply a) (no_traffic first) at n (moment served supply a)) (sym zero) (begins kind may first at served supply a h none)
 
-  pub closed_left : (kind : Kind C Data Settings) (may : Data → Type 0) (first : List Data) (since : Moment Data Settings) (at at' : ℕ → Option (Live C)) (len : ℕ) (served : Serving Data Settings) (faults : ℕ) (left : Option (List Data)) (a b : WireState)
-      → LeavesAll at a b → ((key : ℕ) → at' key ≡ None) → Carries kind may first since at len (moment served faults left a)
+  pub closed_left : (kind : Kind C Data Settings) (may : Data → Type 0) (first : List Data) (since : Moment Data Settings) (at at' : ℕ → Option (Live C)) (len : ℕ) (served : Serving Data Settings) (supply : SupplyState Data) (a b : WireState)
+      → LeavesAll at a b → ((key : ℕ) → at' key ≡ None) → Carries kind may first since at len (moment served supply a)
       → AllClosed since.wire b
-  closed_left kind may first since at at' len served faults left a b w none p =
-      all_closed kind may first since (record p.traffic { left = p.traffic.left + len }) at' 0 (moment served faults left b) none
-      (relates_left kind may first since p.traffic at at' len served faults left a b w none p.relates)
+  closed_left kind may first since at at' len served supply a b w none p =
+      all_closed kind may first since (record p.traffic { left = p.traffic.left + len }) at' 0 (moment served supply b) none
+      (relates_left kind may first since p.traffic at at' len served supply a b w none p.relates)
+
+  -- the links from before are as they were
+  pub older_left : (kind : Kind C Data Settings) (may : Data → Type 0) (first : List Data) (since : Moment Data Settings) (at at' : ℕ → Option (Live C)) (len : ℕ) (served : Serving Data Settings) (supply : SupplyState Data) (a b : WireState)
+      → LeavesAll at a b → ((key : ℕ) → at' key ≡ None) → Carries kind may first since at len (moment served supply a)
+      → LeavesOlder since.wire b
+  older_left kind may first since at at' len served supply a b w none p =
+      (relates_left kind may first since p.traffic at at' len served supply a b w none p.relates).older
 
   -- ---- what a turn says
 
@@ -204,7 +204,7 @@ module _ {C Data Settings : Type 0} where
   sentence_turn kind begins may first since t turned at len old now q = sentence kind begins may first since q.traffic at len now q.relates
 
   pub speaks_turn : (kind : Kind C Data Settings) → BeginsResponse kind → IsWhole kind → (may : Data → Type 0) (first : List Data) (since : Moment Data Settings) (t : Traffic C Data) (turned : Turned) (at : ℕ → Option (Live C)) (len : ℕ) (old now : Moment Data Settings)
-      → turned.ended ≤ 256 → TurnsTo kind may first since t turned at len old now → SpeaksWhole kind may first since now old.wire.faults turned.ended turned.starved
+      → turned.ended ≤ MOST_LIVE → TurnsTo kind may first since t turned at len old now → SpeaksWhole kind may first since now old.wire.faults turned.ended turned.starved
   speaks_turn kind begins whole may first since t turned at len old now few q =
       let c = q.ends.count_is in
       let w = q.ends.wanted_is in

@@ -1,26 +1,31 @@
 -- The turns and waits of a service, one after another.
-use Rattle.std.proofs.Common.{ℕ, ◌≡◌, ◌+◌, ◌<◌, ◌≤◌, ◌^◌, inl, inr, List, [], ◌∷◌, Option, Some, None, true, false, refl, ◌∙◌, subst, arith}
-use Rattle.std.specs.Prelude.{IfSome, Result, Ok, Err, OnErr}
-use Rattle.tpf_base.specs.Causes.{counted, counted_by}
-use Rattle.tpf_base.specs.Links.{WireState}
+use Rattle.std.proofs.Common.{ℕ, ◌≡◌, ◌+◌, ◌<◌, ◌≤◌, ◌^◌, inl, inr, List, [], ◌∷◌, ◌++◌, take, Option, Some, None, true, false, refl, sym, ◌∙◌, ap, subst, arith, append-nil}
+use Rattle.std.specs.Prelude.{IfSome, IfErr, Result, Ok, Err}
+use Rattle.tpf_base.specs.Causes.{Rose, counted_by}
+use Rattle.tpf_base.specs.Links.{Door, WireState}
 use Rattle.connections.specs.Kinds.{Kind}
 use Rattle.serve_loop.specs.declared.live.Live.{Live}
+use Rattle.serve_loop.specs.declared.live.ServeFault.{ServeFault}
+use Rattle.serve_loop.specs.declared.live.ServeFault.TheVariants as faults
+use Rattle.serve_loop.specs.declared.live.TheConstants.{MOST_LIVE}
 use Rattle.serve_loop.specs.declared.live.Turned.{Turned}
-use Rattle.serve_loop.specs.Traffic.{Traffic, Moment}
-use Rattle.serve_loop.specs.Relates.{Relates}
-use Rattle.serve_loop.specs.Steps.{IsBusy, HasTurned}
-use Rattle.serve_loop.specs.Service.{ended_in, TakesTurn, RestsAfter, TookTurns, AreTooFew, ServesTurns, FailsTurns}
+use Rattle.serve_loop.specs.Traffic.{Talk, Traffic, Moment}
+use Rattle.serve_loop.specs.Relates.{IsTalk, Relates}
+use Rattle.serve_loop.specs.Calls.{ServesAlone, IsBusy, LeavesAll, IsOwned}
+use Rattle.serve_loop.specs.Service.{ended_in, ServesLink, TakesTurn, RestsAfter, TookTurns, AreTooFew, FailsTurn, FailsWait, RoseAtDoor, HasDoorCause, ServesTurns, FailsTurns}
+use Rattle.serve_loop.proofs.CloseLemmas.{links_none, links_then}
+use Rattle.serve_loop.proofs.SentenceLemmas.{has_one, some_same}
 
 -- The turns so far.
-pub record SoFar (stop_after : Option ℕ) (connections live : ℕ) (old now : WireState) : Type 0 where
+pub record SoFar {C Data Settings : Type 0} (kind : Kind C Data Settings) (config : Settings) (stop_after : Option ℕ) (connections live : ℕ) (old now : WireState) : Type 0 where
   pub turns : List Turned
-  pub took : TookTurns old.given turns old now
+  pub took : TookTurns kind config old.given turns old now
   pub count : connections ≡ counted_by (ended_in turns) 0
   pub links : live + ended_in turns + old.given ≡ now.given
   pub too_few : AreTooFew stop_after turns
 
-pub so_far_none : (stop_after : Option ℕ) (live : ℕ) (w : WireState) → live ≡ 0 → SoFar stop_after 0 live w w
-so_far_none stop_after live w none = record {
+pub so_far_none : {C Data Settings : Type 0} (kind : Kind C Data Settings) (config : Settings) (stop_after : Option ℕ) (live : ℕ) (w : WireState) → live ≡ 0 → SoFar kind config stop_after 0 live w w
+so_far_none kind config stop_after live w none = record {
   turns = [];
   took = refl;
   count = refl;
@@ -36,11 +41,35 @@ count_more : (x y n e : ℕ) → x ≡ counted_by n 0 → y ≡ counted_by e x �
 count_more x y n e p q = omega (arith, p, q)
 
 module _ {C Data Settings : Type 0} where
+  -- an open link of the service is that of a connection that answers what came and went on it
+  serves_link : (kind : Kind C Data Settings) (may : Data → Type 0) (first : List Data) (since now : Moment Data Settings) (t : Traffic C Data) (turned : Turned) (at : ℕ → Option (Live C)) (live : ℕ) (b : WireState) (config : Settings) (k : ℕ)
+      → config ≡ since.served.config → Relates kind may first since t at live now → IsBusy kind MOST_LIVE turned at live now.wire b → since.wire.given ≤ k → k < now.wire.given → (o : IsOwned at k)
+      → ServesLink kind config turned k now.wire b
+  serves_link kind may first since now t turned at live b config k is r busy later given o =
+      let l = r.lives o.key o.live o.found in
+      let talks = r.talks o.live.link l.later l.given in
+      let h = subst (λ (x : Talk C). IsTalk kind since t.history t.owner now o.live.link x) (some_same (t.talks o.live.link) talks.talk l.talk talks.talk_is l.talk_is) talks.is in
+      subst (λ (j : ℕ). ServesLink kind config turned j now.wire b) o.link (record {
+        connection = o.live.connection;
+        history = t.history;
+        some = has_one t.history now.served r.versions.serves;
+        fed = l.talk.fed;
+        taken = l.talk.taken;
+        marks = l.talk.marks;
+        answers = subst (λ (c : Settings). kind.Answers t.history c l.talk.fed l.talk.taken l.talk.marks o.live.connection) (r.versions.config ∙ sym is)
+            (subst (λ (c : C). kind.Answers t.history now.served.config l.talk.fed l.talk.taken l.talk.marks c) l.connection h.answers);
+        sent_is = λ sent told. h.sent_is sent told ∙ ap (λ (n : ℕ). l.talk.taken ++ take n (kind.pending l.talk.connection)) l.over ∙ append-nil l.talk.taken;
+        received_is = λ received told. h.received_is received told ∙ ap (λ (x : List ℕ). l.talk.fed ++ x) l.unfed ∙ append-nil l.talk.fed;
+        turns = busy.links o.key o.live o.found;
+      })
+
   -- a turn of the loop is one of the service, whose links are those of its connections
-  pub takes_turn : (kind : Kind C Data Settings) (may : Data → Type 0) (first : List Data) (since now : Moment Data Settings) (t : Traffic C Data) (turned : Turned) (at : ℕ → Option (Live C)) (live done : ℕ) (b : WireState)
-      → Relates kind may first since t at live now → live + done + since.wire.given ≡ now.wire.given → IsBusy 256 turned at live now.wire b → (turned.moved ≡ true → b.idle ≡ 0) → TakesTurn since.wire.given done turned now.wire b
-  takes_turn kind may first since now t turned at live done b r links busy idle = record {
-    links = λ k later given is_open. let o = r.owned k later given is_open in subst (λ (j : ℕ). HasTurned turned j now.wire b) o.link (busy.links o.key o.live o.found);
+  pub takes_turn : (kind : Kind C Data Settings) (may : Data → Type 0) (first : List Data) (since now : Moment Data Settings) (t : Traffic C Data) (turned : Turned) (at : ℕ → Option (Live C)) (live done : ℕ) (b : WireState) (config : Settings)
+      → config ≡ since.served.config → Relates kind may first since t at live now → live + done + since.wire.given ≡ now.wire.given → IsBusy kind MOST_LIVE turned at live now.wire b → (turned.moved ≡ true → b.idle ≡ 0)
+      → TakesTurn kind config since.wire.given done turned now.wire b
+  takes_turn kind may first since now t turned at live done b config is r links busy idle = record {
+    links = λ k later given is_open. serves_link kind may first since now t turned at live b config k is r busy later given (r.owned k later given is_open);
+    others = λ k below. busy.others k (omega (arith, below, links)) (λ o. let x = (r.lives o.key o.live o.found).later in let s = o.link in absurd (omega (arith, below, x, s)));
     door = elim busy.door [ inl many ↦ inl (omega (arith, many, links)) | inr asked ↦ inr asked ];
     moved = λ e. elim (busy.moved e) [
       | inl more ↦ inl more
@@ -54,77 +83,116 @@ module _ {C Data Settings : Type 0} where
           (m.0, subst (λ (j : ℕ). since.wire.given ≤ j) o.link l.later, m.1, inr (subst (λ (j : ℕ). (now.wire.links j).is_open ≡ true) o.link l.is_open))
     ];
     waits = busy.waits;
+    calm = busy.calm;
+    alone = busy.alone;
   }
 
--- one turn more, and what came after it
-pub so_far_more : (stop_after : Option ℕ) (x y live rest : ℕ) (turned : Turned) (old a b c : WireState) (s : SoFar stop_after x live old a) → TakesTurn old.given (ended_in s.turns) turned a b → RestsAfter turned b c
-    → y ≡ counted_by turned.ended x → rest + turned.ended + a.given ≡ live + b.given → IfSome stop_after (λ m. m < 2 ^ 64) → IfSome stop_after (λ m. y < m)
-    → SoFar stop_after y rest old c
-so_far_more stop_after x y live rest turned old a b c s turn rests is count fits few =
-    let sl = s.links in
-    let rg = rests.only.given in
-    let counted_is = count_more x y (ended_in s.turns) turned.ended s.count is in
-    record {
-      turns = turned ∷ s.turns;
-      took = (a, b, s.took, turn, rests);
-      count = counted_is;
-      links = omega (arith, sl, rg, count);
-      too_few = λ some. few_enough stop_after y (ended_in s.turns + turned.ended) fits counted_is few;
-    }
+  -- one turn more, and what came after it
+  pub so_far_more : (kind : Kind C Data Settings) (config : Settings) (stop_after : Option ℕ) (x y live rest : ℕ) (turned : Turned) (old a b c : WireState) (s : SoFar kind config stop_after x live old a)
+      → TakesTurn kind config old.given (ended_in s.turns) turned a b → RestsAfter turned b c
+      → y ≡ counted_by turned.ended x → rest + turned.ended + a.given ≡ live + b.given → IfSome stop_after (λ m. m < 2 ^ 64) → IfSome stop_after (λ m. y < m)
+      → SoFar kind config stop_after y rest old c
+  so_far_more kind config stop_after x y live rest turned old a b c s turn rests is count fits few =
+      let sl = s.links in
+      let rg = rests.only.given in
+      let counted_is = count_more x y (ended_in s.turns) turned.ended s.count is in
+      record {
+        turns = turned ∷ s.turns;
+        took = (a, b, s.took, turn, rests);
+        count = counted_is;
+        links = omega (arith, sl, rg, count);
+        too_few = λ some. few_enough stop_after y (ended_in s.turns + turned.ended) fits counted_is few;
+      }
 
--- the last turn
-pub serves_turns : (stop_after : Option ℕ) (x y live : ℕ) (turned : Turned) (old a b : WireState) (s : SoFar stop_after x live old a) → TakesTurn old.given (ended_in s.turns) turned a b → y ≡ counted_by turned.ended x
-    → ServesTurns stop_after y old b
-serves_turns stop_after x y live turned old a b s turn is = record {
-  turns = s.turns;
-  last = turned;
-  before = a;
-  after = b;
-  took = s.took;
-  turn = turn;
-  waits = refl;
-  connections_is = count_more x y (ended_in s.turns) turned.ended s.count is;
-  too_few = s.too_few;
+  -- the last turn
+  pub serves_turns : (kind : Kind C Data Settings) (config : Settings) (stop_after : Option ℕ) (x y live : ℕ) (turned : Turned) (old a b : WireState) (s : SoFar kind config stop_after x live old a)
+      → TakesTurn kind config old.given (ended_in s.turns) turned a b → y ≡ counted_by turned.ended x
+      → ServesTurns kind config stop_after y old b
+  serves_turns kind config stop_after x y live turned old a b s turn is = record {
+    turns = s.turns;
+    last = turned;
+    before = a;
+    after = b;
+    took = s.took;
+    turn = turn;
+    left = links_none b;
+    connections_is = count_more x y (ended_in s.turns) turned.ended s.count is;
+    too_few = s.too_few;
+  }
+
+  -- a turn that failed
+  pub fails_turn : (kind : Kind C Data Settings) (config : Settings) (stop_after : Option ℕ) (fault : ServeFault) (x live : ℕ) (old a b : WireState) (s : SoFar kind config stop_after x live old a) → FailsTurn fault a b → FailsTurns kind config stop_after fault old b
+  fails_turn kind config stop_after fault x live old a b s fails = record { turns = s.turns; before = a; after = b; took = s.took; too_few = s.too_few; last = inl fails; left = links_none b }
+
+  -- a wait that failed
+  pub fails_wait : (kind : Kind C Data Settings) (config : Settings) (stop_after : Option ℕ) (fault : ServeFault) (x live : ℕ) (turned : Turned) (old a b c : WireState) (s : SoFar kind config stop_after x live old a)
+      → TakesTurn kind config old.given (ended_in s.turns) turned a b
+      → turned.moved ≡ false → turned.ended ≡ 0 → FailsWait fault b c → FailsTurns kind config stop_after fault old c
+  fails_wait kind config stop_after fault x live turned old a b c s turn moved ended fails = record {
+    turns = s.turns;
+    before = a;
+    after = c;
+    took = s.took;
+    too_few = s.too_few;
+    last = inr (record { turned = turned; after = b; turn = turn; still = moved; none = ended; fails = fails });
+    left = links_none c;
+  }
+
+  -- at the exit links are closed, and nothing waits
+  pub serves_left : (kind : Kind C Data Settings) (config : Settings) (stop_after : Option ℕ) (connections : ℕ) (at : ℕ → Option (Live C)) (old a b : WireState) → LeavesAll at a b
+      → ServesTurns kind config stop_after connections old a → ServesTurns kind config stop_after connections old b
+  serves_left kind config stop_after connections at old a b leaves s = record {
+    turns = s.turns;
+    last = s.last;
+    before = s.before;
+    after = s.after;
+    took = s.took;
+    turn = s.turn;
+    left = links_then at s.after a b s.left leaves;
+    connections_is = s.connections_is;
+    too_few = s.too_few;
+  }
+
+  pub fails_left : (kind : Kind C Data Settings) (config : Settings) (stop_after : Option ℕ) (fault : ServeFault) (at : ℕ → Option (Live C)) (old a b : WireState) → LeavesAll at a b
+      → FailsTurns kind config stop_after fault old a → FailsTurns kind config stop_after fault old b
+  fails_left kind config stop_after fault at old a b leaves s = record {
+    turns = s.turns;
+    before = s.before;
+    after = s.after;
+    took = s.took;
+    too_few = s.too_few;
+    last = s.last;
+    left = links_then at s.after a b s.left leaves;
+  }
+
+pub if_err_map : {X E : Type 0} (r : Result X E) (P Q : E → Type 0) → ((e : E) → P e → Q e) → IfErr r P → IfErr r Q
+if_err_map (Ok x) P Q f h = tt
+if_err_map (Err e) P Q f h = f e h
+
+-- ---- a fault, since an earlier moment
+
+pub rose_from : (a b c : WireState) → ServesAlone a b → RoseAtDoor b c → RoseAtDoor a c
+rose_from a b c x r =
+    let xf = x.faults in
+    let xd = x.door_faults in
+    let rf = r.faults in
+    let rd = r.door in
+    record { faults = omega (arith, xf, rf); door = omega (arith, xd, rd) }
+
+pub rose_left : {C : Type 0} (at : ℕ → Option (Live C)) (a b c : WireState) → LeavesAll at b c → RoseAtDoor a b → RoseAtDoor a c
+rose_left at a b c x r = record {
+  faults = subst (λ (n : ℕ). Rose a.faults n) (sym x.faults) r.faults;
+  door = subst (λ (d : Door). Rose a.door.faults d.faults) (sym x.door) r.door;
 }
 
--- a turn that failed
-pub fails_turn : (stop_after : Option ℕ) (x live : ℕ) (old a b : WireState) (s : SoFar stop_after x live old a) → b.waits ≡ a.waits → FailsTurns stop_after old b
-fails_turn stop_after x live old a b s waits = record { turns = s.turns; before = a; took = s.took; too_few = s.too_few; last = inl waits }
+pub cause_rose : (fault : ServeFault) (a b : WireState) → HasDoorCause fault a b → fault ≡ faults.Wire → RoseAtDoor a b
+cause_rose faults.Wire a b h e = h
+cause_rose faults.OutOfMemory a b h e = absurd cc
 
--- a wait that failed
-pub fails_wait : (stop_after : Option ℕ) (x live : ℕ) (turned : Turned) (old a b c : WireState) (s : SoFar stop_after x live old a) → TakesTurn old.given (ended_in s.turns) turned a b
-    → turned.moved ≡ false → turned.ended ≡ 0 → c.waits ≡ counted b.waits → FailsTurns stop_after old c
-fails_wait stop_after x live turned old a b c s turn moved ended waits = record {
-  turns = s.turns;
-  before = a;
-  took = s.took;
-  too_few = s.too_few;
-  last = inr (turned, b, turn, moved, ended, waits);
-}
+pub wire_from : {X : Type 0} (r : Result X ServeFault) (f y : ServeFault) (a b c : WireState) → r ≡ Err y → y ≡ f → ServesAlone a b → HasDoorCause f b c → IfErr r (λ fault. fault ≡ faults.Wire → RoseAtDoor a c)
+wire_from {X = X} r f y a b c e i h w = subst (λ (x : Result X ServeFault). IfErr x (λ fault. fault ≡ faults.Wire → RoseAtDoor a c)) (sym e)
+    (λ q. rose_from a b c h (cause_rose f b c w (sym i ∙ q)))
 
--- at the exit links are closed, and nothing waits
-pub serves_left : (stop_after : Option ℕ) (connections : ℕ) (old a b : WireState) → b.waits ≡ a.waits → ServesTurns stop_after connections old a → ServesTurns stop_after connections old b
-serves_left stop_after connections old a b same s = record {
-  turns = s.turns;
-  last = s.last;
-  before = s.before;
-  after = s.after;
-  took = s.took;
-  turn = s.turn;
-  waits = same ∙ s.waits;
-  connections_is = s.connections_is;
-  too_few = s.too_few;
-}
-
-pub fails_left : (stop_after : Option ℕ) (old a b : WireState) → b.waits ≡ a.waits → FailsTurns stop_after old a → FailsTurns stop_after old b
-fails_left stop_after old a b same s = record {
-  turns = s.turns;
-  before = s.before;
-  took = s.took;
-  too_few = s.too_few;
-  last = elim s.last [ inl turn ↦ inl (same ∙ turn) | inr m ↦ inr (m.0, m.1, m.2, m.3, m.4, same ∙ m.5) ];
-}
-
-pub on_err_map : {X E : Type 0} (r : Result X E) (P Q : Type 0) → (P → Q) → OnErr r P → OnErr r Q
-on_err_map (Ok x) P Q f h = tt
-on_err_map (Err e) P Q f h = f h
+-- the fault that is passed on
+pub fault_as : {X : Type 0} (r : Result X ServeFault) (f y : ServeFault) (P : ServeFault → Type 0) → r ≡ Err y → y ≡ f → P f → IfErr r P
+fault_as {X = X} r f y P e i p = subst (λ (x : Result X ServeFault). IfErr x P) (sym e) (subst P (sym i) p)

@@ -1,17 +1,18 @@
 -- A step on a link is a step of the traffic; and a loop without connections begins with no traffic.
 use Rattle.std.proofs.Common.{ℕ, ◌≡◌, ◌-◌, ◌<◌, ◌≤◌, inl, inr, List, [], ◌∷◌, Option, Some, None, true, refl, sym, ◌∙◌, ap, subst, arith, append-nil}
 use Rattle.tpf_base.specs.Causes.{Rose}
-use Rattle.tpf_base.specs.Links.{WireState}
+use Rattle.tpf_base.specs.Links.{WireState, Way}
 use Rattle.tpf_base.specs.Calls.{OnlyOn}
-use Rattle.connections.specs.Versions.{Serving, IsHistory}
+use Rattle.connections.specs.Versions.{Serving, IsHistory, SupplyState}
 use Rattle.connections.specs.Kinds.{Kind}
 use Rattle.serve_loop.specs.declared.live.Live.{Live}
 use Rattle.serve_loop.specs.declared.live.Stepped.{Stepped}
 use Rattle.serve_loop.specs.declared.live.Stepped.TheVariants as stepped
-use Rattle.serve_loop.specs.Traffic.{Talk, Traffic, Moment, updated, no_traffic}
+use Rattle.serve_loop.specs.Traffic.{Talk, Traffic, Moment, updated, no_traffic, moment}
 use Rattle.serve_loop.specs.Relates.{IsTalk, Relates}
-use Rattle.serve_loop.specs.Steps.{GoesOn, GoesOnAt, HasCalled, EndsBy, TalksTo, StepsLink, StepsTo, left_by}
-use Rattle.serve_loop.proofs.TalkLemmas.{moment, goes_nowhere}
+use Rattle.serve_loop.specs.Calls.{HasCalled, left_by}
+use Rattle.serve_loop.specs.Steps.{GoesOn, GoesOnAt, EndsBy, TalksTo, StepsLink, StepsTo}
+use Rattle.serve_loop.proofs.TalkLemmas.{goes_nowhere, up_since}
 use Rattle.serve_loop.proofs.SentenceLemmas.{some_same}
 use Rattle.serve_loop.proofs.RelatesLemmas.{here, there, same_or, stays_live, ends_ordered, ends_broken, ends_starved}
 use Rattle.serve_loop.proofs.EndsLemmas.{ends_none}
@@ -77,37 +78,37 @@ one_starved t u k a b o x s later = record {
 
 module _ {C Data Settings : Type 0} where
   -- by the answer
-  steps_by : (kind : Kind C Data Settings) (may : Data → Type 0) (first : List Data) (since : Moment Data Settings) (t : Traffic C Data) (at : ℕ → Option (Live C)) (len : ℕ) (served : Serving Data Settings) (faults : ℕ) (left : Option (List Data)) (a b : WireState)
-      (key : ℕ) (l l' : Live C) (answer : Stepped) (old : Talk C) → Relates kind may first since t at len (moment served faults left a) → 0 < len → at key ≡ Some l → l'.link ≡ l.link → OnlyOn l.link a b
-      → HasCalled answer l.link a b → (left_by answer l' ≡ Some l' → (b.links l.link).is_open ≡ true)
-      → t.talks l.link ≡ Some old → TalksTo kind since t.history t.owner l.link answer l'.connection old (moment served faults left a) (moment served faults left b)
-      → StepsTo kind may first since t at len key answer l' (moment served faults left a) (moment served faults left b)
-  steps_by kind may first since t at len served faults left a b key l l' stepped.Moved old r some found link only called is_open old_is s = record {
+  steps_by : (kind : Kind C Data Settings) (may : Data → Type 0) (first : List Data) (since : Moment Data Settings) (t : Traffic C Data) (at : ℕ → Option (Live C)) (len : ℕ) (served : Serving Data Settings) (supply : SupplyState Data) (a b : WireState)
+      (key : ℕ) (l l' : Live C) (answer : Stepped) (way : Way) (old : Talk C) → Relates kind may first since t at len (moment served supply a) → 0 < len → at key ≡ Some l → l'.link ≡ l.link → OnlyOn l.link a b
+      → HasCalled answer l.link a b way → (left_by answer l' ≡ Some l' → (b.links l.link).is_open ≡ true)
+      → t.talks l.link ≡ Some old → TalksTo kind since t.history t.owner l.link answer l'.connection old (moment served supply a) (moment served supply b)
+      → StepsTo kind may first since t at len key answer l' (moment served supply a) (moment served supply b)
+  steps_by kind may first since t at len served supply a b key l l' stepped.Moved way old r some found link only called is_open old_is s = record {
     traffic = record t { talks = updated t.talks l.link (Some s.talk') };
     left = len;
     len_is = omega arith;
     up = omega arith;
     ends = ends_none _ _ _ _ refl refl refl only.later;
-    relates = stays_live kind may first since t at len served faults left a b key l l' s.talk' r found link only (is_open refl) s.is s.end_.0 s.end_.1 s.end_.2;
+    relates = stays_live kind may first since t at len served supply a b key l l' s.talk' r found link only (is_open refl) s.is s.end_.0 s.end_.1 s.end_.2;
     goes_on = goes_on served.version t.talks l.link old s.talk' old_is s.goes_on;
   }
-  steps_by kind may first since t at len served faults left a b key l l' stepped.Still old r some found link only called is_open old_is s = record {
+  steps_by kind may first since t at len served supply a b key l l' stepped.Still way old r some found link only called is_open old_is s = record {
     traffic = record t { talks = updated t.talks l.link (Some s.talk') };
     left = len;
     len_is = omega arith;
     up = omega arith;
     ends = ends_none _ _ _ _ refl refl refl only.later;
-    relates = stays_live kind may first since t at len served faults left a b key l l' s.talk' r found link only (is_open refl) s.is s.end_.0 s.end_.1 s.end_.2;
+    relates = stays_live kind may first since t at len served supply a b key l l' s.talk' r found link only (is_open refl) s.is s.end_.0 s.end_.1 s.end_.2;
     goes_on = goes_on served.version t.talks l.link old s.talk' old_is s.goes_on;
   }
-  steps_by kind may first since t at len served faults left a b key l l' stepped.Ended old r some found link only called is_open old_is s = elim s.end_ [
+  steps_by kind may first since t at len served supply a b key l l' stepped.Ended way old r some found link only called is_open old_is s = elim s.end_ [
     | inl e ↦ record {
       traffic = record t { talks = updated t.talks l.link (Some s.talk'); ordered = l.link ∷ t.ordered };
       left = len - 1;
       len_is = omega (arith, some);
       up = omega arith;
       ends = one_more _ _ l.link _ _ refl refl refl only.later;
-      relates = ends_ordered kind may first since t at len (len - 1) served faults left a b key l s.talk' r found only called.closed s.is (omega (arith, some)) e;
+      relates = ends_ordered kind may first since t at len (len - 1) served supply a b key l s.talk' r found only called.closed s.is (omega (arith, some)) e;
       goes_on = goes_on served.version t.talks l.link old s.talk' old_is s.goes_on;
     }
     | inr rose ↦ record {
@@ -116,45 +117,45 @@ module _ {C Data Settings : Type 0} where
       len_is = omega (arith, some);
       up = omega arith;
       ends = one_broken _ _ l.link _ _ refl refl refl rose;
-      relates = ends_broken kind may first since t at len (len - 1) served faults left a b key l s.talk' r found only called.closed s.is (omega (arith, some)) rose;
+      relates = ends_broken kind may first since t at len (len - 1) served supply a b key l s.talk' r found only called.closed s.is (omega (arith, some)) rose;
       goes_on = goes_on served.version t.talks l.link old s.talk' old_is s.goes_on;
     }
   ]
-  steps_by kind may first since t at len served faults left a b key l l' stepped.Starved old r some found link only called is_open old_is s = record {
+  steps_by kind may first since t at len served supply a b key l l' stepped.Starved way old r some found link only called is_open old_is s = record {
     traffic = record t { talks = updated t.talks l.link (Some s.talk'); starved = l.link ∷ t.starved };
     left = len - 1;
     len_is = omega (arith, some);
     up = omega arith;
     ends = one_starved _ _ l.link _ _ refl refl refl only.later;
-    relates = ends_starved kind may first since t at len (len - 1) served faults left a b key l s.talk' r found only called.closed s.is (omega (arith, some));
+    relates = ends_starved kind may first since t at len (len - 1) served supply a b key l s.talk' r found only called.closed s.is (omega (arith, some));
     goes_on = goes_on served.version t.talks l.link old s.talk' old_is s.goes_on;
   }
 
   -- a call on a link is a step of the traffic
-  pub steps_to : (kind : Kind C Data Settings) (may : Data → Type 0) (first : List Data) (since : Moment Data Settings) (t : Traffic C Data) (at : ℕ → Option (Live C)) (len : ℕ) (served : Serving Data Settings) (faults : ℕ) (left : Option (List Data)) (a b : WireState)
-      (key : ℕ) (l l' : Live C) (answer : Stepped) → Relates kind may first since t at len (moment served faults left a) → 0 < len → at key ≡ Some l → l'.link ≡ l.link → OnlyOn l.link a b
-      → HasCalled answer l.link a b → (left_by answer l' ≡ Some l' → (b.links l.link).is_open ≡ true)
-      → StepsLink kind l.link l.connection l'.connection answer (moment served faults left a) (moment served faults left b)
-      → StepsTo kind may first since t at len key answer l' (moment served faults left a) (moment served faults left b)
-  steps_to kind may first since t at len served faults left a b key l l' answer r some found link only called is_open s =
+  pub steps_to : (kind : Kind C Data Settings) (may : Data → Type 0) (first : List Data) (since : Moment Data Settings) (t : Traffic C Data) (at : ℕ → Option (Live C)) (len : ℕ) (served : Serving Data Settings) (supply : SupplyState Data) (a b : WireState)
+      (key : ℕ) (l l' : Live C) (answer : Stepped) (way : Way) → Relates kind may first since t at len (moment served supply a) → 0 < len → at key ≡ Some l → l'.link ≡ l.link → OnlyOn l.link a b
+      → HasCalled answer l.link a b way → (left_by answer l' ≡ Some l' → (b.links l.link).is_open ≡ true)
+      → StepsLink kind l.link l.connection l'.connection answer (moment served supply a) (moment served supply b)
+      → StepsTo kind may first since t at len key answer l' (moment served supply a) (moment served supply b)
+  steps_to kind may first since t at len served supply a b key l l' answer way r some found link only called is_open s =
       let old = r.lives key l found in
       let talks = r.talks l.link old.later old.given in
-      let is = subst (λ (x : Talk C). IsTalk kind since t.history t.owner (moment served faults left a) l.link x) (some_same (t.talks l.link) talks.talk old.talk talks.talk_is old.talk_is) talks.is in
-      steps_by kind may first since t at len served faults left a b key l l' answer old.talk r some found link only called is_open old.talk_is
-      (s.talks since t.history t.owner old.talk r.versions.serves old.connection old.over old.unfed is)
+      let is = subst (λ (x : Talk C). IsTalk kind since t.history t.owner (moment served supply a) l.link x) (some_same (t.talks l.link) talks.talk old.talk talks.talk_is old.talk_is) talks.is in
+      steps_by kind may first since t at len served supply a b key l l' answer way old.talk r some found link only called is_open old.talk_is
+      (s.talks since t.history t.owner old.talk r.versions.serves (up_since may first since t.history t.given (moment served supply a) r.versions) old.connection old.over old.unfed is)
 
   -- before a link was given, there is no traffic
-  pub begins : (kind : Kind C Data Settings) (may : Data → Type 0) (first : List Data) (at : ℕ → Option (Live C)) (served : Serving Data Settings) (faults : ℕ) (left : Option (List Data)) (a : WireState)
+  pub begins : (kind : Kind C Data Settings) (may : Data → Type 0) (first : List Data) (at : ℕ → Option (Live C)) (served : Serving Data Settings) (supply : SupplyState Data) (a : WireState)
       → IsHistory first served → ((key : ℕ) → at key ≡ None)
-      → Relates kind may first (moment served faults left a) (no_traffic first) at 0 (moment served faults left a)
-  begins kind may first at served faults left a h none = record {
+      → Relates kind may first (moment served supply a) (no_traffic first) at 0 (moment served supply a)
+  begins kind may first at served supply a h none = record {
     versions = record { history_is = sym (append-nil first); serves = h; config = refl; count = omega arith; left = refl; may_be = tt; faults = omega arith };
     lives = λ key l e. absurd (none_found at key l (none key) e);
     alone = λ i j x y e f g. absurd (none_found at i x (none i) e);
     talks = λ k later given. absurd (omega (arith, later, given));
     unseen = λ k above. refl;
     owned = λ k later given is_open. absurd (omega (arith, later, given));
-    older = λ k below. (record { sent = refl; received = refl; ended = refl }, refl);
+    older = λ k below. ((a.links k).woken, refl);
     count = omega arith;
     ends = record { ordered = tt; broken = tt; starved = tt; ordered_once = tt; broken_once = tt; starved_once = tt; faults = omega arith };
   }

@@ -1,23 +1,23 @@
 -- What a call on a link does to its talk.
-use Rattle.std.proofs.Common.{ℕ, ◌≡◌, ◌<◌, ◌≤◌, inl, inr, ◌++◌, List, [], ◌∷◌, length, take, Option, Some, None, Bool, true, false, refl, sym, ◌∙◌, ap, subst, arith, append-nil, if◌then◌else◌, ◌==◌}
+use Rattle.std.proofs.Common.{ℕ, ◌≡◌, ◌<◌, ◌≤◌, inl, inr, ◌++◌, List, [], ◌∷◌, length, take, Option, Some, None, true, refl, sym, ◌∙◌, ap, subst, arith, append-nil}
 use Rattle.std.specs.List.{AllByRecursion}
 use Rattle.std.proofs.lemmas.List.{length-take-le}
 use Rattle.std.specs.Io.KnownBytes.{append_known}
 use Rattle.tpf_base.specs.Causes.{Rose}
-use Rattle.tpf_base.specs.declared.wire.Moved.{Moved}
 use Rattle.tpf_base.specs.declared.wire.Moved.TheVariants as answers
-use Rattle.tpf_base.specs.Links.{Link, WireState}
+use Rattle.tpf_base.specs.Links.{WireState}
 use Rattle.tpf_base.specs.Calls.{Sends, Receives, Closes}
-use Rattle.link_calls.specs.Sending.{Holds}
+use Rattle.tpf_base.specs.Sending.{Holds}
 use Rattle.tpf_base.specs.Marks.{Mark, Served, version_at}
-use Rattle.connections.specs.Versions.{Serving, IsHistory}
+use Rattle.connections.specs.Versions.{Serving, IsHistory, SupplyState}
 use Rattle.connections.specs.Kinds.{Kind, Takes, Feeds}
 use Rattle.serve_loop.specs.declared.live.Stepped.{Stepped}
 use Rattle.serve_loop.specs.declared.live.Stepped.TheVariants as stepped
 use Rattle.serve_loop.specs.declared.step.Received.TheVariants as received
-use Rattle.serve_loop.specs.Traffic.{Talk, Moment}
-use Rattle.serve_loop.specs.Relates.{IsTalk, IsExcused, IsNumber, IsRising}
-use Rattle.serve_loop.specs.Steps.{GoesOn, EndsAs, TalksTo, StepsLink, Hears, IsReady, CallsOnly, GoesOut, ComesIn, MovesOn, StallsOn, ClosesOn}
+use Rattle.serve_loop.specs.Traffic.{Talk, Given, Moment, moment}
+use Rattle.serve_loop.specs.Relates.{IsTalk, IsExcused, IsNumber, IsRising, Versions}
+use Rattle.serve_loop.specs.Steps.{GoesOn, EndsAs, TalksTo, StepsLink, Hears, IsReady}
+use Rattle.serve_loop.proofs.CallLemmas.{receives_only}
 
 pub holds_as : (told : Option (List ℕ)) (x y : List ℕ) → x ≡ y → Holds told x → Holds told y
 holds_as told x y e h = λ bytes b. h bytes b ∙ e
@@ -43,77 +43,16 @@ closes_as k j a b e c = subst (λ (n : ℕ). Closes n a b) e c
 pub length_of_take : (n : ℕ) (xs : List ℕ) → n ≤ length xs → n ≡ length (take n xs)
 length_of_take n xs h = sym (length-take-le n xs h)
 
--- ---- what else a call on a link leaves
-
-if_zero : (t : Bool) (x : ℕ) → x ≡ 0 → (if t then x else 0) ≡ 0
-if_zero true x e = e
-if_zero false x e = refl
-
-sends_idle : (k : ℕ) (piece : List ℕ) (a b : WireState) (answer : Moved) → Sends k piece a b answer → a.idle ≡ 0 → b.idle ≡ 0
-sends_idle k piece a b (answers.Moved n) s z = (s.moved n refl).3
-sends_idle k piece a b answers.End s z = absurd (s.no_end refl)
-sends_idle k piece a b answers.NotYet s z = (s.not_yet refl).3 ∙ z
-sends_idle k piece a b answers.Failed s z = let f = s.failed refl in f.4 ∙ if_zero (f.0 == 0) a.idle z
-sends_idle k piece a b answers.OutOfMemory s z = (s.memory refl).idle ∙ z
-
-pub sends_only : (k : ℕ) (piece : List ℕ) (a b : WireState) (answer : Moved) → Sends k piece a b answer → CallsOnly k a b
-sends_only k piece a b answer s = record { only = s.only; idle = sends_idle k piece a b answer s }
-
-receives_idle : (k : ℕ) (to : List ℕ) (a b : WireState) (answer : Moved) → Receives k to a b answer → a.idle ≡ 0 → b.idle ≡ 0
-receives_idle k to a b (answers.Moved n) r z = (r.moved n refl).4
-receives_idle k to a b answers.End r z = (r.end_ refl).2
-receives_idle k to a b answers.NotYet r z = (r.not_yet refl).3 ∙ z
-receives_idle k to a b answers.Failed r z = (r.failed refl).2 ∙ z
-receives_idle k to a b answers.OutOfMemory r z = (r.memory refl).idle ∙ z
-
-pub receives_only : (k : ℕ) (to : List ℕ) (a b : WireState) (answer : Moved) → Receives k to a b answer → CallsOnly k a b
-receives_only k to a b answer r = record { only = r.only; idle = receives_idle k to a b answer r }
-
-pub sends_moves : (k : ℕ) (piece : List ℕ) (a b : WireState) (n : ℕ) → (a.links k).is_open ≡ true → Sends k piece a b (answers.Moved n) → MovesOn k a b × (b.idle ≡ 0)
-sends_moves k piece a b n up s = let m = s.moved n refl in (record { piece = take n piece; some = omega (arith, m.0, length-take-le n piece m.1); way = GoesOut m.2 s.received; is_open = s.is_open ∙ up }, m.3)
-
-pub sends_stalls : (k : ℕ) (piece : List ℕ) (a b : WireState) → (a.links k).is_open ≡ true → Sends k piece a b answers.NotYet → StallsOn k a b
-sends_stalls k piece a b up s = let m = s.not_yet refl in record { stays = record { sent = m.0; received = s.received }; rose = m.2; is_open = s.is_open ∙ up }
-
--- a send after which the link was closed
-pub sends_wants : (k : ℕ) (piece : List ℕ) (a b w : WireState) → Sends k piece a b answers.OutOfMemory → Closes k b w → ClosesOn k a w
-sends_wants k piece a b w s c = let m = (s.memory refl).links k in record {
-  closed = c.is_open;
-  way = inl (record { sent = c.sent ∙ ap (λ (l : Link). l.sent) m; received = c.received ∙ ap (λ (l : Link). l.received) m });
-}
-
-pub sends_fails : (k : ℕ) (piece : List ℕ) (a b w : WireState) → Sends k piece a b answers.Failed → Closes k b w → ClosesOn k a w
-sends_fails k piece a b w s c = let f = s.failed refl in record { closed = c.is_open; way = inr (take f.0 piece, GoesOut (c.sent ∙ f.2) (c.received ∙ s.received)) }
-
--- only that
-pub closes_alone : (k : ℕ) (a w : WireState) → Closes k a w → ClosesOn k a w
-closes_alone k a w c = record { closed = c.is_open; way = inl (record { sent = c.sent; received = c.received }) }
-
--- and the link was closed behind it
-pub closes_only : (k : ℕ) (a b w : WireState) → CallsOnly k a b → Closes k b w → CallsOnly k a w
-closes_only k a b w c d = let x = c.only in let y = d.only in let xf = x.later in let yf = y.later in record {
-  only = record {
-    others = λ j n. y.others j n ∙ x.others j n;
-    later = omega (arith, xf, yf);
-    given = y.given ∙ x.given;
-    provoked = y.provoked ∙ x.provoked;
-    dials = y.dials ∙ x.dials;
-    waits = y.waits ∙ x.waits;
-    door = y.door ∙ x.door;
-    door_stalls = y.door_stalls ∙ x.door_stalls;
-    nature = y.nature ∙ x.nature;
-  };
-  idle = λ z. d.idle ∙ c.idle z;
-}
-
-abbrev pub moment : {Data Settings : Type 0} → Serving Data Settings → ℕ → Option (List Data) → WireState → Moment Data Settings
-moment served faults left wire = record { served = served; faults = faults; left = left; wire = wire }
+-- the version that is served is not below that at the start
+pub up_since : {Data Settings : Type 0} (may : Data → Type 0) (first : List Data) (since : Moment Data Settings) (history : List Data) (given : List (Given Data)) (now : Moment Data Settings)
+    → Versions may first since history given now → since.served.version ≤ now.served.version
+up_since may first since history given now v = let c = v.count in omega (arith, c)
 
 pub served_excused : (before now version : ℕ) (m : Mark) → m ≡ Served version → IsExcused before now m
 served_excused before now version m e = subst (λ (x : Mark). IsExcused before now x) (sym e) tt
 
-pub served_level : (version : ℕ) (m : Mark) → m ≡ Served version → version ≤ version_at m
-served_level version m e = subst (λ (x : Mark). version ≤ version_at x) (sym e) (omega arith)
+pub served_level : (low version : ℕ) (m : Mark) → low ≤ version → m ≡ Served version → low ≤ version_at m
+served_level low version m up e = subst (λ (x : Mark). low ≤ version_at x) (sym e) up
 
 module _ {C : Type 0} where
   -- a talk of a live connection
@@ -139,26 +78,27 @@ module _ {C : Type 0} where
 
 module _ {C Data Settings : Type 0} where
   -- the same bytes on the link
-  pub same_talk : (kind : Kind C Data Settings) (since : Moment Data Settings) (history : List Data) (owner : ℕ → ℕ) (served : Serving Data Settings) (faults : ℕ) (left : Option (List Data))
+  pub same_talk : (kind : Kind C Data Settings) (since : Moment Data Settings) (history : List Data) (owner : ℕ → ℕ) (served : Serving Data Settings) (supply : SupplyState Data)
       (a b : WireState) (k : ℕ) (talk : Talk C) → (b.links k).sent ≡ (a.links k).sent → (b.links k).received ≡ (a.links k).received
-      → IsTalk kind since history owner (moment served faults left a) k talk → IsTalk kind since history owner (moment served faults left b) k talk
-  same_talk kind since history owner served faults left a b k talk s r h = record {
+      → IsTalk kind since history owner (moment served supply a) k talk → IsTalk kind since history owner (moment served supply b) k talk
+  same_talk kind since history owner served supply a b k talk s r h = record {
     answers = h.answers;
     within = h.within;
     sent_is = holds_same _ _ _ s h.sent_is;
     received_is = holds_same _ _ _ r h.received_is;
     excused = h.excused;
+    level = h.level;
     numbers = h.numbers;
     rising = h.rising;
   }
 
   -- a front of what was pending was sent and taken
-  pub sent_talk : (kind : Kind C Data Settings) (since : Moment Data Settings) (history : List Data) (owner : ℕ → ℕ) (served : Serving Data Settings) (faults : ℕ) (left : Option (List Data))
+  pub sent_talk : (kind : Kind C Data Settings) (since : Moment Data Settings) (history : List Data) (owner : ℕ → ℕ) (served : Serving Data Settings) (supply : SupplyState Data)
       (a b : WireState) (k n : ℕ) (old new : C) (fed taken : List ℕ) (marks : List Mark)
       → 0 < n → n ≤ length (kind.pending old) → (b.links k).sent ≡ append_known (a.links k).sent (take n (kind.pending old)) → (b.links k).received ≡ (a.links k).received
-      → Takes kind n old new → IsTalk kind since history owner (moment served faults left a) k (plain fed taken marks old)
-      → TalksTo kind since history owner k stepped.Moved new (plain fed taken marks old) (moment served faults left a) (moment served faults left b)
-  sent_talk kind since history owner served faults left a b k n old new fed taken marks pos fits s r takes h = record {
+      → Takes kind n old new → IsTalk kind since history owner (moment served supply a) k (plain fed taken marks old)
+      → TalksTo kind since history owner k stepped.Moved new (plain fed taken marks old) (moment served supply a) (moment served supply b)
+  sent_talk kind since history owner served supply a b k n old new fed taken marks pos fits s r takes h = record {
     talk' = plain fed (taken ++ take n (kind.pending old)) marks new;
     is = record {
       answers = takes.answers history served.config fed taken marks h.answers;
@@ -166,6 +106,7 @@ module _ {C Data Settings : Type 0} where
       sent_is = holds_as _ _ _ (sym (append-nil _)) (holds_append (a.links k).sent (b.links k).sent taken _ s (holds_as _ _ _ (append-nil taken) h.sent_is));
       received_is = holds_same _ _ _ r h.received_is;
       excused = h.excused;
+      level = h.level;
       numbers = h.numbers;
       rising = h.rising;
     };
@@ -174,12 +115,12 @@ module _ {C Data Settings : Type 0} where
   }
 
   -- a send failed, which may have sent a front
-  pub failed_talk : (kind : Kind C Data Settings) (since : Moment Data Settings) (history : List Data) (owner : ℕ → ℕ) (served : Serving Data Settings) (faults : ℕ) (left : Option (List Data))
+  pub failed_talk : (kind : Kind C Data Settings) (since : Moment Data Settings) (history : List Data) (owner : ℕ → ℕ) (served : Serving Data Settings) (supply : SupplyState Data)
       (a b : WireState) (k n : ℕ) (old new : C) (fed taken : List ℕ) (marks : List Mark)
       → n ≤ length (kind.pending old) → (b.links k).sent ≡ append_known (a.links k).sent (take n (kind.pending old)) → (b.links k).received ≡ (a.links k).received
-      → Rose a.faults b.faults → IsTalk kind since history owner (moment served faults left a) k (plain fed taken marks old)
-      → TalksTo kind since history owner k stepped.Ended new (plain fed taken marks old) (moment served faults left a) (moment served faults left b)
-  failed_talk kind since history owner served faults left a b k n old new fed taken marks fits s r rose h = record {
+      → Rose a.faults b.faults → IsTalk kind since history owner (moment served supply a) k (plain fed taken marks old)
+      → TalksTo kind since history owner k stepped.Ended new (plain fed taken marks old) (moment served supply a) (moment served supply b)
+  failed_talk kind since history owner served supply a b k n old new fed taken marks fits s r rose h = record {
     talk' = record { fed = fed; unfed = []; taken = taken; over = n; marks = marks; connection = old };
     is = record {
       answers = h.answers;
@@ -187,6 +128,7 @@ module _ {C Data Settings : Type 0} where
       sent_is = holds_append (a.links k).sent (b.links k).sent taken _ s (holds_as _ _ _ (append-nil taken) h.sent_is);
       received_is = holds_same _ _ _ r h.received_is;
       excused = h.excused;
+      level = h.level;
       numbers = h.numbers;
       rising = h.rising;
     };
@@ -195,26 +137,26 @@ module _ {C Data Settings : Type 0} where
   }
 
   -- nothing moved
-  pub still_talk : (kind : Kind C Data Settings) (since : Moment Data Settings) (history : List Data) (owner : ℕ → ℕ) (served : Serving Data Settings) (faults : ℕ) (left : Option (List Data))
+  pub still_talk : (kind : Kind C Data Settings) (since : Moment Data Settings) (history : List Data) (owner : ℕ → ℕ) (served : Serving Data Settings) (supply : SupplyState Data)
       (a b : WireState) (k : ℕ) (answer : Stepped) (old new : C) (fed taken : List ℕ) (marks : List Mark)
       → (b.links k).sent ≡ (a.links k).sent → (b.links k).received ≡ (a.links k).received
       → EndsAs kind answer k new (plain fed taken marks old) (plain fed taken marks old) a b
-      → IsTalk kind since history owner (moment served faults left a) k (plain fed taken marks old)
-      → TalksTo kind since history owner k answer new (plain fed taken marks old) (moment served faults left a) (moment served faults left b)
-  still_talk kind since history owner served faults left a b k answer old new fed taken marks s r e h = record {
+      → IsTalk kind since history owner (moment served supply a) k (plain fed taken marks old)
+      → TalksTo kind since history owner k answer new (plain fed taken marks old) (moment served supply a) (moment served supply b)
+  still_talk kind since history owner served supply a b k answer old new fed taken marks s r e h = record {
     talk' = plain fed taken marks old;
-    is = same_talk kind since history owner served faults left a b k _ s r h;
+    is = same_talk kind since history owner served supply a b k _ s r h;
     goes_on = goes_nowhere served.version _;
     end_ = e;
   }
 
   -- bytes were received and fed
-  pub fed_talk : (kind : Kind C Data Settings) (since : Moment Data Settings) (history : List Data) (owner : ℕ → ℕ) (served : Serving Data Settings) (faults : ℕ) (left : Option (List Data))
+  pub fed_talk : (kind : Kind C Data Settings) (since : Moment Data Settings) (history : List Data) (owner : ℕ → ℕ) (served : Serving Data Settings) (supply : SupplyState Data)
       (a b : WireState) (k : ℕ) (piece : List ℕ) (old new : C) (fed taken : List ℕ) (marks : List Mark)
-      → IsHistory history served → 0 < length piece → (b.links k).sent ≡ (a.links k).sent → (b.links k).received ≡ append_known (a.links k).received piece
-      → Feeds kind served piece old new → IsTalk kind since history owner (moment served faults left a) k (plain fed taken marks old)
-      → TalksTo kind since history owner k stepped.Moved new (plain fed taken marks old) (moment served faults left a) (moment served faults left b)
-  fed_talk kind since history owner served faults left a b k piece old new fed taken marks is_history pos s r feeds h =
+      → IsHistory history served → since.served.version ≤ served.version → 0 < length piece → (b.links k).sent ≡ (a.links k).sent → (b.links k).received ≡ append_known (a.links k).received piece
+      → Feeds kind served piece old new → IsTalk kind since history owner (moment served supply a) k (plain fed taken marks old)
+      → TalksTo kind since history owner k stepped.Moved new (plain fed taken marks old) (moment served supply a) (moment served supply b)
+  fed_talk kind since history owner served supply a b k piece old new fed taken marks is_history up pos s r feeds h =
       let reads = feeds.reads history fed taken marks is_history h.answers in
       let same : kind.reloads served.config (fed ++ piece) (marks ++ reads.later) ≡ kind.reloads served.config fed marks = reads.numbers ∙ append-nil _ in
       record {
@@ -224,14 +166,15 @@ module _ {C Data Settings : Type 0} where
           within = omega arith;
           sent_is = holds_same _ _ _ s h.sent_is;
           received_is = holds_as _ _ _ (sym (append-nil _)) (holds_append (a.links k).received (b.links k).received fed piece r (holds_as _ _ _ (append-nil fed) h.received_is));
-          excused = all_append _ marks reads.later h.excused (all_as _ _ (λ (m : Mark). served_excused since.faults faults served.version m) reads.later reads.served);
+          excused = all_append _ marks reads.later h.excused (all_as _ _ (λ (m : Mark). served_excused since.supply.faults supply.faults served.version m) reads.later reads.served);
+          level = all_append _ marks reads.later h.level (all_as _ _ (λ (m : Mark). served_level since.served.version served.version m up) reads.later reads.served);
           numbers = subst (λ (ns : List ℕ). AllByRecursion (IsNumber owner k since.served.version served.version) ns) (sym same) h.numbers;
           rising = subst (λ (ns : List ℕ). IsRising ns) (sym same) h.rising;
         };
         goes_on = record {
           later = reads.later;
           marks = refl;
-          not_below = all_as _ _ (λ (m : Mark). served_level served.version m) reads.later reads.served;
+          not_below = all_as _ _ (λ (m : Mark). served_level served.version served.version m (omega arith)) reads.later reads.served;
           piece = piece;
           fed = append-nil _ ∙ ap (λ (x : List ℕ). x ++ piece) (sym (append-nil fed));
           part = [];
@@ -241,12 +184,12 @@ module _ {C Data Settings : Type 0} where
       }
 
   -- bytes were received, and want of memory kept them from being fed
-  pub unfed_talk : (kind : Kind C Data Settings) (since : Moment Data Settings) (history : List Data) (owner : ℕ → ℕ) (served : Serving Data Settings) (faults : ℕ) (left : Option (List Data))
+  pub unfed_talk : (kind : Kind C Data Settings) (since : Moment Data Settings) (history : List Data) (owner : ℕ → ℕ) (served : Serving Data Settings) (supply : SupplyState Data)
       (a b : WireState) (k : ℕ) (piece : List ℕ) (old new : C) (fed taken : List ℕ) (marks : List Mark)
       → (b.links k).sent ≡ (a.links k).sent → (b.links k).received ≡ append_known (a.links k).received piece
-      → IsTalk kind since history owner (moment served faults left a) k (plain fed taken marks old)
-      → TalksTo kind since history owner k stepped.Starved new (plain fed taken marks old) (moment served faults left a) (moment served faults left b)
-  unfed_talk kind since history owner served faults left a b k piece old new fed taken marks s r h = record {
+      → IsTalk kind since history owner (moment served supply a) k (plain fed taken marks old)
+      → TalksTo kind since history owner k stepped.Starved new (plain fed taken marks old) (moment served supply a) (moment served supply b)
+  unfed_talk kind since history owner served supply a b k piece old new fed taken marks s r h = record {
     talk' = record { fed = fed; unfed = piece; taken = taken; over = 0; marks = marks; connection = old };
     is = record {
       answers = h.answers;
@@ -254,6 +197,7 @@ module _ {C Data Settings : Type 0} where
       sent_is = holds_same _ _ _ s h.sent_is;
       received_is = holds_append (a.links k).received (b.links k).received fed piece r (holds_as _ _ _ (append-nil fed) h.received_is);
       excused = h.excused;
+      level = h.level;
       numbers = h.numbers;
       rising = h.rising;
     };
@@ -263,104 +207,104 @@ module _ {C Data Settings : Type 0} where
 
   -- ---- the steps of a send
 
-  pub moved_step : (kind : Kind C Data Settings) (served : Serving Data Settings) (faults : ℕ) (left : Option (List Data)) (a b : WireState) (k : ℕ) (old new : C) (n : ℕ)
+  pub moved_step : (kind : Kind C Data Settings) (served : Serving Data Settings) (supply : SupplyState Data) (a b : WireState) (k : ℕ) (old new : C) (n : ℕ)
       → Sends k (kind.pending old) a b (answers.Moved n) → Takes kind n old new
-      → StepsLink kind k old new stepped.Moved (moment served faults left a) (moment served faults left b)
-  moved_step kind served faults left a b k old new n s takes = record {
-    talks = λ since history owner talk is_history e o u h. let m = s.moved n refl in
-        on_plain (λ (x : Talk C). IsTalk kind since history owner (moment served faults left a) k x)
-        (λ (x : Talk C). TalksTo kind since history owner k stepped.Moved new x (moment served faults left a) (moment served faults left b))
-        talk old e o u (λ fed taken marks p. sent_talk kind since history owner served faults left a b k n old new fed taken marks m.0 m.1 m.2 s.received takes p) h;
+      → StepsLink kind k old new stepped.Moved (moment served supply a) (moment served supply b)
+  moved_step kind served supply a b k old new n s takes = record {
+    talks = λ since history owner talk is_history up e o u h. let m = s.moved n refl in
+        on_plain (λ (x : Talk C). IsTalk kind since history owner (moment served supply a) k x)
+        (λ (x : Talk C). TalksTo kind since history owner k stepped.Moved new x (moment served supply a) (moment served supply b))
+        talk old e o u (λ fed taken marks p. sent_talk kind since history owner served supply a b k n old new fed taken marks m.0 m.1 m.2 s.received takes p) h;
   }
 
-  pub not_yet_step : (kind : Kind C Data Settings) (served : Serving Data Settings) (faults : ℕ) (left : Option (List Data)) (a b : WireState) (k : ℕ) (old new : C)
+  pub not_yet_step : (kind : Kind C Data Settings) (served : Serving Data Settings) (supply : SupplyState Data) (a b : WireState) (k : ℕ) (old new : C)
       → Sends k (kind.pending old) a b answers.NotYet → new ≡ old
-      → StepsLink kind k old new stepped.Still (moment served faults left a) (moment served faults left b)
-  not_yet_step kind served faults left a b k old new s same = record {
-    talks = λ since history owner talk is_history e o u h.
-        on_plain (λ (x : Talk C). IsTalk kind since history owner (moment served faults left a) k x)
-        (λ (x : Talk C). TalksTo kind since history owner k stepped.Still new x (moment served faults left a) (moment served faults left b))
-        talk old e o u (λ fed taken marks p. still_talk kind since history owner served faults left a b k stepped.Still old new fed taken marks (s.not_yet refl).0 s.received (sym same, refl, refl) p) h;
+      → StepsLink kind k old new stepped.Still (moment served supply a) (moment served supply b)
+  not_yet_step kind served supply a b k old new s same = record {
+    talks = λ since history owner talk is_history up e o u h.
+        on_plain (λ (x : Talk C). IsTalk kind since history owner (moment served supply a) k x)
+        (λ (x : Talk C). TalksTo kind since history owner k stepped.Still new x (moment served supply a) (moment served supply b))
+        talk old e o u (λ fed taken marks p. still_talk kind since history owner served supply a b k stepped.Still old new fed taken marks (s.not_yet refl).0 s.received (sym same, refl, refl) p) h;
   }
 
   -- the link was closed behind the call
-  pub wanted_step : (kind : Kind C Data Settings) (served : Serving Data Settings) (faults : ℕ) (left : Option (List Data)) (a b w : WireState) (k : ℕ) (old new : C)
+  pub wanted_step : (kind : Kind C Data Settings) (served : Serving Data Settings) (supply : SupplyState Data) (a b w : WireState) (k : ℕ) (old new : C)
       → Sends k (kind.pending old) a b answers.OutOfMemory → Closes k b w
-      → StepsLink kind k old new stepped.Starved (moment served faults left a) (moment served faults left w)
-  wanted_step kind served faults left a b w k old new s c = record {
-    talks = λ since history owner talk is_history e o u h. let m = (s.memory refl).links k in
-        on_plain (λ (x : Talk C). IsTalk kind since history owner (moment served faults left a) k x)
-        (λ (x : Talk C). TalksTo kind since history owner k stepped.Starved new x (moment served faults left a) (moment served faults left w))
-        talk old e o u (λ fed taken marks p. still_talk kind since history owner served faults left a w k stepped.Starved old new fed taken marks
+      → StepsLink kind k old new stepped.Starved (moment served supply a) (moment served supply w)
+  wanted_step kind served supply a b w k old new s c = record {
+    talks = λ since history owner talk is_history up e o u h. let m = (s.memory refl).links k in
+        on_plain (λ (x : Talk C). IsTalk kind since history owner (moment served supply a) k x)
+        (λ (x : Talk C). TalksTo kind since history owner k stepped.Starved new x (moment served supply a) (moment served supply w))
+        talk old e o u (λ fed taken marks p. still_talk kind since history owner served supply a w k stepped.Starved old new fed taken marks
         (c.sent ∙ ap (λ l. l.sent) m) (c.received ∙ ap (λ l. l.received) m) tt p) h;
   }
 
-  pub failed_step : (kind : Kind C Data Settings) (served : Serving Data Settings) (faults : ℕ) (left : Option (List Data)) (a b w : WireState) (k : ℕ) (old new : C)
+  pub failed_step : (kind : Kind C Data Settings) (served : Serving Data Settings) (supply : SupplyState Data) (a b w : WireState) (k : ℕ) (old new : C)
       → Sends k (kind.pending old) a b answers.Failed → Closes k b w
-      → StepsLink kind k old new stepped.Ended (moment served faults left a) (moment served faults left w)
-  failed_step kind served faults left a b w k old new s c = record {
-    talks = λ since history owner talk is_history e o u h. let f = s.failed refl in
-        on_plain (λ (x : Talk C). IsTalk kind since history owner (moment served faults left a) k x)
-        (λ (x : Talk C). TalksTo kind since history owner k stepped.Ended new x (moment served faults left a) (moment served faults left w))
-        talk old e o u (λ fed taken marks p. failed_talk kind since history owner served faults left a w k f.0 old new fed taken marks f.1
+      → StepsLink kind k old new stepped.Ended (moment served supply a) (moment served supply w)
+  failed_step kind served supply a b w k old new s c = record {
+    talks = λ since history owner talk is_history up e o u h. let f = s.failed refl in
+        on_plain (λ (x : Talk C). IsTalk kind since history owner (moment served supply a) k x)
+        (λ (x : Talk C). TalksTo kind since history owner k stepped.Ended new x (moment served supply a) (moment served supply w))
+        talk old e o u (λ fed taken marks p. failed_talk kind since history owner served supply a w k f.0 old new fed taken marks f.1
         (c.sent ∙ f.2) (c.received ∙ s.received) (subst (λ (n : ℕ). Rose a.faults n) (sym c.faults) f.5) p) h;
   }
 
   -- ---- the steps of a receive
 
-  pub fed_step : (kind : Kind C Data Settings) (served : Serving Data Settings) (faults : ℕ) (left : Option (List Data)) (a b : WireState) (k : ℕ) (old new : C)
+  pub fed_step : (kind : Kind C Data Settings) (served : Serving Data Settings) (supply : SupplyState Data) (a b : WireState) (k : ℕ) (old new : C)
       → Hears kind served k old new a b received.Fed
-      → StepsLink kind k old new stepped.Moved (moment served faults left a) (moment served faults left b)
-  fed_step kind served faults left a b k old new s = record {
-    talks = λ since history owner talk is_history e o u h. let f = s.fed refl in
-        on_plain (λ (x : Talk C). IsTalk kind since history owner (moment served faults left a) k x)
-        (λ (x : Talk C). TalksTo kind since history owner k stepped.Moved new x (moment served faults left a) (moment served faults left b))
-        talk old e o u (λ fed taken marks p. fed_talk kind since history owner served faults left a b k f.0 old new fed taken marks is_history f.1 s.sent f.2 f.3 p) h;
+      → StepsLink kind k old new stepped.Moved (moment served supply a) (moment served supply b)
+  fed_step kind served supply a b k old new s = record {
+    talks = λ since history owner talk is_history up e o u h. let f = s.fed refl in
+        on_plain (λ (x : Talk C). IsTalk kind since history owner (moment served supply a) k x)
+        (λ (x : Talk C). TalksTo kind since history owner k stepped.Moved new x (moment served supply a) (moment served supply b))
+        talk old e o u (λ fed taken marks p. fed_talk kind since history owner served supply a b k f.0 old new fed taken marks is_history up f.1 s.sent f.2 f.3 p) h;
   }
 
-  pub quiet_step : (kind : Kind C Data Settings) (served : Serving Data Settings) (faults : ℕ) (left : Option (List Data)) (a b : WireState) (k : ℕ) (old new : C)
+  pub quiet_step : (kind : Kind C Data Settings) (served : Serving Data Settings) (supply : SupplyState Data) (a b : WireState) (k : ℕ) (old new : C)
       → Hears kind served k old new a b received.NotYet
-      → StepsLink kind k old new stepped.Still (moment served faults left a) (moment served faults left b)
-  quiet_step kind served faults left a b k old new s = record {
-    talks = λ since history owner talk is_history e o u h. let f = s.not_yet refl in
-        on_plain (λ (x : Talk C). IsTalk kind since history owner (moment served faults left a) k x)
-        (λ (x : Talk C). TalksTo kind since history owner k stepped.Still new x (moment served faults left a) (moment served faults left b))
-        talk old e o u (λ fed taken marks p. still_talk kind since history owner served faults left a b k stepped.Still old new fed taken marks s.sent f.0 (sym f.2, refl, refl) p) h;
+      → StepsLink kind k old new stepped.Still (moment served supply a) (moment served supply b)
+  quiet_step kind served supply a b k old new s = record {
+    talks = λ since history owner talk is_history up e o u h. let f = s.not_yet refl in
+        on_plain (λ (x : Talk C). IsTalk kind since history owner (moment served supply a) k x)
+        (λ (x : Talk C). TalksTo kind since history owner k stepped.Still new x (moment served supply a) (moment served supply b))
+        talk old e o u (λ fed taken marks p. still_talk kind since history owner served supply a b k stepped.Still old new fed taken marks s.sent f.0 (sym f.2, refl, refl) p) h;
   }
 
   -- the other side ended, and nothing is owed: the connection ends in order
-  pub end_step : (kind : Kind C Data Settings) (served : Serving Data Settings) (faults : ℕ) (left : Option (List Data)) (a b w : WireState) (k : ℕ) (old new : C)
+  pub end_step : (kind : Kind C Data Settings) (served : Serving Data Settings) (supply : SupplyState Data) (a b w : WireState) (k : ℕ) (old new : C)
       → IsReady kind old → kind.pending old ≡ [] → Hears kind served k old new a b received.End → Closes k b w
-      → StepsLink kind k old new stepped.Ended (moment served faults left a) (moment served faults left w)
-  end_step kind served faults left a b w k old new ready none s c = record {
-    talks = λ since history owner talk is_history e o u h. let f = s.end_ refl in
-        on_plain (λ (x : Talk C). IsTalk kind since history owner (moment served faults left a) k x)
-        (λ (x : Talk C). TalksTo kind since history owner k stepped.Ended new x (moment served faults left a) (moment served faults left w))
-        talk old e o u (λ fed taken marks p. still_talk kind since history owner served faults left a w k stepped.Ended old new fed taken marks
+      → StepsLink kind k old new stepped.Ended (moment served supply a) (moment served supply w)
+  end_step kind served supply a b w k old new ready none s c = record {
+    talks = λ since history owner talk is_history up e o u h. let f = s.end_ refl in
+        on_plain (λ (x : Talk C). IsTalk kind since history owner (moment served supply a) k x)
+        (λ (x : Talk C). TalksTo kind since history owner k stepped.Ended new x (moment served supply a) (moment served supply w))
+        talk old e o u (λ fed taken marks p. still_talk kind since history owner served supply a w k stepped.Ended old new fed taken marks
         (c.sent ∙ s.sent) (c.received ∙ f.0)
         (inl (record { over = refl; unfed = refl; pending = none; owes = ready.owes none; wants = ready.wants none; end_ = inr (holds_same (b.links k).ended (w.links k).ended true c.ended f.1) })) p) h;
   }
 
-  pub broken_step : (kind : Kind C Data Settings) (served : Serving Data Settings) (faults : ℕ) (left : Option (List Data)) (a b w : WireState) (k : ℕ) (old new : C)
+  pub broken_step : (kind : Kind C Data Settings) (served : Serving Data Settings) (supply : SupplyState Data) (a b w : WireState) (k : ℕ) (old new : C)
       → Hears kind served k old new a b received.Failed → Closes k b w
-      → StepsLink kind k old new stepped.Ended (moment served faults left a) (moment served faults left w)
-  broken_step kind served faults left a b w k old new s c = record {
-    talks = λ since history owner talk is_history e o u h. let f = s.failed refl in
-        on_plain (λ (x : Talk C). IsTalk kind since history owner (moment served faults left a) k x)
-        (λ (x : Talk C). TalksTo kind since history owner k stepped.Ended new x (moment served faults left a) (moment served faults left w))
-        talk old e o u (λ fed taken marks p. still_talk kind since history owner served faults left a w k stepped.Ended old new fed taken marks
+      → StepsLink kind k old new stepped.Ended (moment served supply a) (moment served supply w)
+  broken_step kind served supply a b w k old new s c = record {
+    talks = λ since history owner talk is_history up e o u h. let f = s.failed refl in
+        on_plain (λ (x : Talk C). IsTalk kind since history owner (moment served supply a) k x)
+        (λ (x : Talk C). TalksTo kind since history owner k stepped.Ended new x (moment served supply a) (moment served supply w))
+        talk old e o u (λ fed taken marks p. still_talk kind since history owner served supply a w k stepped.Ended old new fed taken marks
         (c.sent ∙ s.sent) (c.received ∙ f.0)
         (inr (subst (λ (n : ℕ). Rose a.faults n) (sym c.faults) f.1)) p) h;
   }
 
-  pub starved_step : (kind : Kind C Data Settings) (served : Serving Data Settings) (faults : ℕ) (left : Option (List Data)) (a b w : WireState) (k : ℕ) (old new : C)
+  pub starved_step : (kind : Kind C Data Settings) (served : Serving Data Settings) (supply : SupplyState Data) (a b w : WireState) (k : ℕ) (old new : C)
       → Hears kind served k old new a b received.Starved → Closes k b w
-      → StepsLink kind k old new stepped.Starved (moment served faults left a) (moment served faults left w)
-  starved_step kind served faults left a b w k old new s c = record {
-    talks = λ since history owner talk is_history e o u h. let f = s.starved refl in
-        on_plain (λ (x : Talk C). IsTalk kind since history owner (moment served faults left a) k x)
-        (λ (x : Talk C). TalksTo kind since history owner k stepped.Starved new x (moment served faults left a) (moment served faults left w))
-        talk old e o u (λ fed taken marks p. unfed_talk kind since history owner served faults left a w k f.0 old new fed taken marks
+      → StepsLink kind k old new stepped.Starved (moment served supply a) (moment served supply w)
+  starved_step kind served supply a b w k old new s c = record {
+    talks = λ since history owner talk is_history up e o u h. let f = s.starved refl in
+        on_plain (λ (x : Talk C). IsTalk kind since history owner (moment served supply a) k x)
+        (λ (x : Talk C). TalksTo kind since history owner k stepped.Starved new x (moment served supply a) (moment served supply w))
+        talk old e o u (λ fed taken marks p. unfed_talk kind since history owner served supply a w k f.0 old new fed taken marks
         (c.sent ∙ s.sent) (c.received ∙ f.1) p) h;
   }
 
@@ -391,23 +335,3 @@ module _ {C Data Settings : Type 0} where
     failed = λ e. absurd cc;
     starved = λ e. (take n buffer, m.2, omega (arith, m.1, few, length-take-le n buffer m.1));
   }
-
-  -- ---- what a receive did to its link
-
-  pub hears_moves : (kind : Kind C Data Settings) (served : Serving Data Settings) (k : ℕ) (old new : C) (a b : WireState) → (a.links k).is_open ≡ true
-      → Hears kind served k old new a b received.Fed → MovesOn k a b × (b.idle ≡ 0)
-  hears_moves kind served k old new a b up h = let f = h.fed refl in (record { piece = f.0; some = f.1; way = ComesIn f.5 f.2 h.sent; is_open = h.is_open ∙ up }, f.4)
-
-  pub hears_stalls : (kind : Kind C Data Settings) (served : Serving Data Settings) (k : ℕ) (old new : C) (a b : WireState) → (a.links k).is_open ≡ true
-      → Hears kind served k old new a b received.NotYet → StallsOn k a b
-  hears_stalls kind served k old new a b up h = let f = h.not_yet refl in record { stays = record { sent = h.sent; received = f.0 }; rose = f.1; is_open = h.is_open ∙ up }
-
-  -- and the link was closed behind it
-  pub hears_end : (kind : Kind C Data Settings) (served : Serving Data Settings) (k : ℕ) (old new : C) (a b w : WireState) → Hears kind served k old new a b received.End → Closes k b w → ClosesOn k a w
-  hears_end kind served k old new a b w h c = record { closed = c.is_open; way = inl (record { sent = c.sent ∙ h.sent; received = c.received ∙ (h.end_ refl).0 }) }
-
-  pub hears_fails : (kind : Kind C Data Settings) (served : Serving Data Settings) (k : ℕ) (old new : C) (a b w : WireState) → Hears kind served k old new a b received.Failed → Closes k b w → ClosesOn k a w
-  hears_fails kind served k old new a b w h c = record { closed = c.is_open; way = inl (record { sent = c.sent ∙ h.sent; received = c.received ∙ (h.failed refl).0 }) }
-
-  pub hears_wants : (kind : Kind C Data Settings) (served : Serving Data Settings) (k : ℕ) (old new : C) (a b w : WireState) → Hears kind served k old new a b received.Starved → Closes k b w → ClosesOn k a w
-  hears_wants kind served k old new a b w h c = let f = h.starved refl in record { closed = c.is_open; way = inr (f.0, ComesIn f.2 (c.received ∙ f.1) (c.sent ∙ h.sent)) }

@@ -9,7 +9,8 @@ use Rattle.serve_loop.specs.declared.live.Stepped.TheVariants as stepped
 use Rattle.serve_loop.specs.declared.live.Turned.{Turned}
 use Rattle.serve_loop.specs.Traffic.{Traffic, Moment, took, updated}
 use Rattle.serve_loop.specs.Relates.{Relates, SuitsWire}
-use Rattle.serve_loop.specs.Steps.{StepsOn, TurnsTo, ended_by, starved_by, left_by, ends, turned_by, turned_with}
+use Rattle.serve_loop.specs.Calls.{ended_by, starved_by, left_by, ends, turned_by, turned_with}
+use Rattle.serve_loop.specs.Steps.{StepsOn, TurnsTo}
 use Rattle.serve_loop.proofs.TalkLemmas.{all_as}
 use Rattle.serve_loop.proofs.RelatesLemmas.{here, there, same_or, none_some}
 use Rattle.serve_loop.proofs.StepLemmas.{goes_same}

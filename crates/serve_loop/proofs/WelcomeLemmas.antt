@@ -1,20 +1,25 @@
 -- A new connection begins its talk; and what is the same on a wire is the same of the traffic.
 use Rattle.std.proofs.Common.{ℕ, ◌≡◌, ◌≢◌, ◌+◌, ◌<◌, ◌≤◌, ◌⊎◌, inl, inr, List, [], Option, Some, None, Bool, true, false, refl, sym, ◌∙◌, ap, subst, arith}
 use Rattle.std.specs.List.{AllByRecursion}
-use Rattle.tpf_base.specs.Links.{Link, WireState, Tells, CountsAlone, SentAndReceived, All, told_by}
-use Rattle.tpf_base.specs.Calls.{GivesAccepted, GivesNone}
-use Rattle.link_calls.specs.Sending.{Holds}
-use Rattle.connections.specs.Versions.{Serving}
+use Rattle.tpf_base.specs.Links.{Door, Link, WireState, Tells, CountsAlone, SentAndReceived, All, told_by}
+use Rattle.tpf_base.specs.Calls.{GivesAccepted, GivesNone, OnlyAccepts, OnlyWaits, Wakes}
+use Rattle.tpf_base.specs.declared.wire.Ready.{Ready}
+use Rattle.tpf_base.specs.declared.wire.Ready.TheVariants as ready
+use Rattle.tpf_base.specs.Sending.{Holds}
+use Rattle.connections.specs.Versions.{Serving, SupplyState}
 use Rattle.connections.specs.Kinds.{Kind, Opens}
 use Rattle.serve_loop.specs.declared.live.Live.{Live}
+use Rattle.serve_loop.specs.declared.live.TheConstants.{MOST_LIVE}
 use Rattle.serve_loop.specs.declared.live.Turned.{Turned}
-use Rattle.serve_loop.specs.Traffic.{Talk, Traffic, Moment, updated}
+use Rattle.serve_loop.specs.Traffic.{Talk, Traffic, Moment, updated, moment}
 use Rattle.serve_loop.specs.Relates.{IsTalk, IsLive, IsOrdered, IsGone, IsNumber, IsRising, Relates}
-use Rattle.serve_loop.specs.Steps.{GoesOnAt, RestsWire, Welcomes, TurnsTo, StepsAll, IsBusy}
-use Rattle.serve_loop.proofs.BelowLemmas.{nothing, turned_keeps, moves_on, stays_on}
+use Rattle.serve_loop.specs.Calls.{IsUntouched, TellsSame, ServesAlone, RestsWire, StepsAll, IsBusy}
+use Rattle.serve_loop.specs.Steps.{GoesOnAt, Welcomes, TurnsTo}
+use Rattle.serve_loop.proofs.CallLemmas.{alone_none, alone_then}
+use Rattle.serve_loop.proofs.BelowLemmas.{nothing, live_keeps, moves_on, stays_on}
 use Rattle.tpf_base.specs.Causes.{Rose}
 use Rattle.std.specs.Prelude.{◌||◌, Result, Ok, Err, OnErr}
-use Rattle.serve_loop.proofs.TalkLemmas.{moment, same_talk, all_as, holds_same, plain}
+use Rattle.serve_loop.proofs.TalkLemmas.{same_talk, all_as, holds_same, plain}
 use Rattle.serve_loop.proofs.RelatesLemmas.{here, there, same_or, none_some, is_not, versions_on, older_as}
 use Rattle.serve_loop.proofs.SentenceLemmas.{some_same}
 use Rattle.serve_loop.proofs.StepLemmas.{goes_same}
@@ -27,20 +32,56 @@ told_nothing told CountsAlone e = λ x t. cc
 told_nothing told SentAndReceived e = λ x t. cc
 told_nothing told All e = λ x t. cc
 
-pub rests_none : (a b : WireState) → GivesNone a b → a.faults ≤ b.faults → b.door ≡ a.door → RestsWire a b
-rests_none a b h f l = record {
-  told = λ k. record { sent = ap (λ (x : Link). x.sent) (h.links k); received = ap (λ (x : Link). x.received) (h.links k); ended = ap (λ (x : Link). x.ended) (h.links k) };
-  opened = λ k. ap (λ (x : Link). x.is_open) (h.links k);
-  given = h.given;
-  door = l;
-  faults = f;
+pub rests_none : (a b : WireState) → GivesNone a b → ServesAlone a b → RestsWire a b
+rests_none a b h alone = record { links = λ k. older_as (a.links k) (a.links k) (b.links k) (h.links k) ((a.links k).woken, refl); given = h.given; alone = alone }
+
+pub rests_same : (w : WireState) → RestsWire w w
+rests_same w = record { links = λ k. ((w.links k).woken, refl); given = refl; alone = alone_none w }
+
+pub alone_waits : (a b : WireState) → OnlyWaits a b → ServesAlone a b
+alone_waits a b x = let s = x.door.stalls in record {
+  dials = x.dials;
+  nature = x.nature;
+  place = x.door.place;
+  calls = x.door.calls;
+  stalls = omega (arith, s);
+  door_faults = x.door.later;
+  faults = x.later;
 }
+
+pub alone_accepts : (a b : WireState) → OnlyAccepts a b → a.door.faults ≤ b.door.faults → ServesAlone a b
+alone_accepts a b x later = record { dials = x.dials; nature = x.nature; place = x.place; calls = x.calls; stalls = x.stalls; door_faults = later; faults = x.later }
+
+untouched_same : (x y : Link) → y ≡ x → IsUntouched x y
+untouched_same x y e = older_as x x y e (x.woken, refl)
+
+-- a wait that answered
+pub rests_wakes : (a b : WireState) (answer : Ready) → Wakes answer a b → OnlyWaits a b → RestsWire a b
+rests_wakes a b (ready.Link k) w x = record {
+  links = λ j. elim (same_or j k) [
+    | inl e ↦ subst (λ (i : ℕ). IsUntouched (a.links i) (b.links i)) (sym e) (true, w.1)
+    | inr n ↦ untouched_same (a.links j) (b.links j) (w.2 j n)
+  ];
+  given = x.given;
+  alone = alone_waits a b x;
+}
+rests_wakes a b ready.Door w x = record { links = λ j. untouched_same (a.links j) (b.links j) (w.1 j); given = x.given; alone = alone_waits a b x }
+
+-- what a wait leaves of each link
+pub rests_told : (a b : WireState) → RestsWire a b → (k : ℕ) → TellsSame (a.links k) (b.links k)
+rests_told a b w k = let e = (w.links k).1 in record { sent = ap (λ (x : Link). x.sent) e; received = ap (λ (x : Link). x.received) e; ended = ap (λ (x : Link). x.ended) e }
+
+pub rests_open : (a b : WireState) → RestsWire a b → (k : ℕ) → (b.links k).is_open ≡ (a.links k).is_open
+rests_open a b w k = ap (λ (x : Link). x.is_open) (w.links k).1
+
+pub untouched_then : (x y z : Link) → IsUntouched x y → IsUntouched y z → IsUntouched x z
+untouched_then x y z p q = (q.0, q.1 ∙ ap (λ (l : Link). record l { woken = q.0 }) p.1)
 
 below_other : (k n m : ℕ) → m ≡ n + 1 → k < m → k ≢ n → k < n
 below_other k n m e below other = grind arith
 
 gone_rests : (since a b : WireState) → RestsWire a b → (k : ℕ) → IsGone since a k → IsGone since b k
-gone_rests since a b w k h = record { later = h.later; given = subst (λ (n : ℕ). k < n) (sym w.given) h.given; closed = w.opened k ∙ h.closed }
+gone_rests since a b w k h = record { later = h.later; given = subst (λ (n : ℕ). k < n) (sym w.given) h.given; closed = rests_open a b w k ∙ h.closed }
 
 gone_given : (since a b : WireState) → GivesAccepted a.given a b → (k : ℕ) → IsGone since a k → IsGone since b k
 gone_given since a b g k h =
@@ -73,7 +114,7 @@ module _ {C Data Settings : Type 0} where
   ordered_rests kind since talks a b w k h = record {
     later = h.later;
     given = subst (λ (n : ℕ). k < n) (sym w.given) h.given;
-    closed = w.opened k ∙ h.closed;
+    closed = rests_open a b w k ∙ h.closed;
     talk = h.talk;
     talk_is = h.talk_is;
     over = h.over;
@@ -81,24 +122,24 @@ module _ {C Data Settings : Type 0} where
     pending = h.pending;
     owes = h.owes;
     wants = h.wants;
-    end_ = elim h.end_ [ inl c ↦ inl c | inr e ↦ inr (holds_same (a.links k).ended (b.links k).ended true (w.told k).ended e) ];
+    end_ = elim h.end_ [ inl c ↦ inl c | inr e ↦ inr (holds_same (a.links k).ended (b.links k).ended true (rests_told a b w k).ended e) ];
   }
 
   -- no byte moved, and no link was given or closed
-  pub relates_rests : (kind : Kind C Data Settings) (may : Data → Type 0) (first : List Data) (since : Moment Data Settings) (t : Traffic C Data) (at : ℕ → Option (Live C)) (len : ℕ) (served : Serving Data Settings) (faults : ℕ) (left : Option (List Data)) (a b : WireState)
-      → RestsWire a b → Relates kind may first since t at len (moment served faults left a)
-      → Relates kind may first since t at len (moment served faults left b)
-  relates_rests kind may first since t at len served faults left a b w r =
+  pub relates_rests : (kind : Kind C Data Settings) (may : Data → Type 0) (first : List Data) (since : Moment Data Settings) (t : Traffic C Data) (at : ℕ → Option (Live C)) (len : ℕ) (served : Serving Data Settings) (supply : SupplyState Data) (a b : WireState)
+      → RestsWire a b → Relates kind may first since t at len (moment served supply a)
+      → Relates kind may first since t at len (moment served supply b)
+  relates_rests kind may first since t at len served supply a b w r =
       let e = r.ends in
       let ef = e.faults in
-      let wf = w.faults in
+      let wf = w.alone.faults in
       let wg = w.given in
       record {
-        versions = versions_on may first since t.history t.given served faults left a b r.versions;
+        versions = versions_on may first since t.history t.given served supply a b r.versions;
         lives = λ key l h. let x = r.lives key l h in record {
           later = x.later;
           given = subst (λ (n : ℕ). l.link < n) (sym wg) x.given;
-          is_open = w.opened l.link ∙ x.is_open;
+          is_open = rests_open a b w l.link ∙ x.is_open;
           talk = x.talk;
           talk_is = x.talk_is;
           connection = x.connection;
@@ -109,12 +150,11 @@ module _ {C Data Settings : Type 0} where
         talks = λ k later given. let x = r.talks k later (subst (λ (n : ℕ). k < n) wg given) in record {
           talk = x.talk;
           talk_is = x.talk_is;
-          is = same_talk kind since t.history t.owner served faults left a b k x.talk (w.told k).sent (w.told k).received x.is;
+          is = same_talk kind since t.history t.owner served supply a b k x.talk (rests_told a b w k).sent (rests_told a b w k).received x.is;
         };
         unseen = λ k above. r.unseen k (subst (λ (n : ℕ). n ≤ k) wg above);
-        owned = λ k later given is_open. r.owned k later (subst (λ (n : ℕ). k < n) wg given) (sym (w.opened k) ∙ is_open);
-        older = λ k below. let o = r.older k below in let n = w.told k in
-            (record { sent = n.sent ∙ o.0.sent; received = n.received ∙ o.0.received; ended = n.ended ∙ o.0.ended }, w.opened k ∙ o.1);
+        owned = λ k later given is_open. r.owned k later (subst (λ (n : ℕ). k < n) wg given) (sym (rests_open a b w k) ∙ is_open);
+        older = λ k below. untouched_then (since.wire.links k) (a.links k) (b.links k) (r.older k below) (w.links k);
         count = wg ∙ r.count;
         ends = record {
           ordered = all_as _ _ (λ (k : ℕ). ordered_rests kind since t.talks a b w k) t.ordered e.ordered;
@@ -130,14 +170,15 @@ module _ {C Data Settings : Type 0} where
   -- ---- a link was given
 
   -- the talk of the new link
-  new_talk : (kind : Kind C Data Settings) (since : Moment Data Settings) (history : List Data) (owner : ℕ → ℕ) (served : Serving Data Settings) (faults : ℕ) (left : Option (List Data)) (a b : WireState) (c : C)
-      → Opens kind c → GivesAccepted a.given a b → IsTalk kind since history owner (moment served faults left b) a.given (plain [] [] [] c)
-  new_talk kind since history owner served faults left a b c opens g = record {
+  new_talk : (kind : Kind C Data Settings) (since : Moment Data Settings) (history : List Data) (owner : ℕ → ℕ) (served : Serving Data Settings) (supply : SupplyState Data) (a b : WireState) (c : C)
+      → Opens kind c → GivesAccepted a.given a b → IsTalk kind since history owner (moment served supply b) a.given (plain [] [] [] c)
+  new_talk kind since history owner served supply a b c opens g = record {
     answers = opens.answers history served.config;
     within = omega arith;
     sent_is = told_nothing (b.links a.given).sent a.nature.tells g.sent;
     received_is = told_nothing (b.links a.given).received a.nature.tells g.received;
     excused = tt;
+    level = tt;
     numbers = subst (λ (ns : List ℕ). AllByRecursion (IsNumber owner a.given since.served.version served.version) ns) (sym (opens.numbers served.config)) tt;
     rising = subst (λ (ns : List ℕ). IsRising ns) (sym (opens.numbers served.config)) tt;
   }
@@ -163,11 +204,11 @@ module _ {C Data Settings : Type 0} where
         end_ = elim h.end_ [ inl c ↦ inl c | inr e ↦ inr (holds_same (a.links k).ended (b.links k).ended true (ap (λ (x : Link). x.ended) same) e) ];
       }
 
-  pub relates_given : (kind : Kind C Data Settings) (may : Data → Type 0) (first : List Data) (since : Moment Data Settings) (t : Traffic C Data) (at at' : ℕ → Option (Live C)) (len after key : ℕ) (served : Serving Data Settings) (faults : ℕ) (left : Option (List Data)) (a b : WireState) (c : C)
+  pub relates_given : (kind : Kind C Data Settings) (may : Data → Type 0) (first : List Data) (since : Moment Data Settings) (t : Traffic C Data) (at at' : ℕ → Option (Live C)) (len after key : ℕ) (served : Serving Data Settings) (supply : SupplyState Data) (a b : WireState) (c : C)
       → Opens kind c → GivesAccepted a.given a b → a.faults ≤ b.faults → at key ≡ None → at' key ≡ Some (record { link = a.given; connection = c }) → ((k : ℕ) → k ≢ key → at' k ≡ at k) → after ≡ len + 1
-      → Relates kind may first since t at len (moment served faults left a)
-      → Relates kind may first since (record t { talks = updated t.talks a.given (Some (plain [] [] [] c)) }) at' after (moment served faults left b)
-  relates_given kind may first since t at at' len after key served faults left a b c opens g faults_up vacant found others more r =
+      → Relates kind may first since t at len (moment served supply a)
+      → Relates kind may first since (record t { talks = updated t.talks a.given (Some (plain [] [] [] c)) }) at' after (moment served supply b)
+  relates_given kind may first since t at at' len after key served supply a b c opens g faults_up vacant found others more r =
       let e = r.ends in
       let ef = e.faults in
       let gm = g.more in
@@ -180,7 +221,7 @@ module _ {C Data Settings : Type 0} where
       ] in
       let fresh : (i : ℕ) (x : Live C) → at i ≡ Some x → x.link ≢ a.given = λ i x h s. let f = (r.lives i x h).given in absurd (omega (arith, f, s)) in
       record {
-        versions = versions_on may first since t.history t.given served faults left a b r.versions;
+        versions = versions_on may first since t.history t.given served supply a b r.versions;
         lives = λ i x h. elim (back i x h) [
           | inl p ↦ subst (λ (y : Live C). IsLive since (updated t.talks a.given (Some (plain [] [] [] c))) b y) (sym p.1) (record {
             later = omega (arith, rc);
@@ -217,12 +258,12 @@ module _ {C Data Settings : Type 0} where
           | inl p ↦ record {
             talk = plain [] [] [] c;
             talk_is = here t.talks a.given (Some (plain [] [] [] c)) k p;
-            is = subst (λ (n : ℕ). IsTalk kind since t.history t.owner (moment served faults left b) n (plain [] [] [] c)) (sym p) (new_talk kind since t.history t.owner served faults left a b c opens g);
+            is = subst (λ (n : ℕ). IsTalk kind since t.history t.owner (moment served supply b) n (plain [] [] [] c)) (sym p) (new_talk kind since t.history t.owner served supply a b c opens g);
           }
           | inr n ↦ let x = r.talks k later (below_other k a.given b.given gm given n) in record {
             talk = x.talk;
             talk_is = there t.talks a.given (Some (plain [] [] [] c)) k n ∙ x.talk_is;
-            is = same_talk kind since t.history t.owner served faults left a b k x.talk (ap (λ (y : Link). y.sent) (g.others k n)) (ap (λ (y : Link). y.received) (g.others k n)) x.is;
+            is = same_talk kind since t.history t.owner served supply a b k x.talk (ap (λ (y : Link). y.sent) (g.others k n)) (ap (λ (y : Link). y.received) (g.others k n)) x.is;
           }
         ];
         unseen = λ k above. there t.talks a.given (Some (plain [] [] [] c)) k (λ s. absurd (omega (arith, above, gm, s))) ∙ r.unseen k (omega (arith, above, gm));
@@ -246,37 +287,37 @@ module _ {C Data Settings : Type 0} where
 
   -- ---- what the door did
 
-  pub welcomed : (kind : Kind C Data Settings) (may : Data → Type 0) (first : List Data) (since : Moment Data Settings) (t : Traffic C Data) (at at' : ℕ → Option (Live C)) (accepted : Bool) (len after : ℕ) (served : Serving Data Settings) (faults : ℕ) (left : Option (List Data)) (a b : WireState)
-      → Welcomes kind at at' accepted len after a b → b.door ≡ a.door → Relates kind may first since t at len (moment served faults left a)
-      → TurnsTo kind may first since t nothing at' after (moment served faults left a) (moment served faults left b)
-  welcomed kind may first since t at at' true len after served faults left a b w door r =
+  pub welcomed : (kind : Kind C Data Settings) (may : Data → Type 0) (first : List Data) (since : Moment Data Settings) (t : Traffic C Data) (at at' : ℕ → Option (Live C)) (accepted : Bool) (len after : ℕ) (served : Serving Data Settings) (supply : SupplyState Data) (a b : WireState)
+      → Welcomes kind at at' accepted len after a b → Relates kind may first since t at len (moment served supply a)
+      → TurnsTo kind may first since t nothing at' after (moment served supply a) (moment served supply b)
+  welcomed kind may first since t at at' true len after served supply a b w r =
       let f = w.found refl in
       let g = w.given refl in
       record {
         traffic = record t { talks = updated t.talks a.given (Some (plain [] [] [] f.0)) };
-        relates = relates_given kind may first since t at at' len after w.key served faults left a b f.0 f.1.0 g w.faults (w.vacant refl) f.1.1 (λ k n. w.others k (inl n)) (w.more refl) r;
-        ends = ends_none t (record t { talks = updated t.talks a.given (Some (plain [] [] [] f.0)) }) a.faults b.faults refl refl refl w.faults;
+        relates = relates_given kind may first since t at at' len after w.key served supply a b f.0 f.1.0 g w.alone.faults (w.vacant refl) f.1.1 (λ k n. w.others k (inl n)) (w.more refl) r;
+        ends = ends_none t (record t { talks = updated t.talks a.given (Some (plain [] [] [] f.0)) }) a.faults b.faults refl refl refl w.alone.faults;
         goes_on = new_goes_on served.version t.talks a.given f.0 (r.unseen a.given (omega arith));
         up = omega arith;
       }
-  welcomed kind may first since t at at' false len after served faults left a b w door r = record {
+  welcomed kind may first since t at at' false len after served supply a b w r = record {
     traffic = t;
-    relates = subst (λ (n : ℕ). Relates kind may first since t at' n (moment served faults left b)) (sym (w.same refl))
-        (relates_same kind may first since t at at' len (moment served faults left b) (λ k. w.others k (inr refl))
-        (relates_rests kind may first since t at len served faults left a b (rests_none a b (w.none refl) w.faults door) r));
-    ends = ends_same t a.faults b.faults w.faults;
+    relates = subst (λ (n : ℕ). Relates kind may first since t at' n (moment served supply b)) (sym (w.same refl))
+        (relates_same kind may first since t at at' len (moment served supply b) (λ k. w.others k (inr refl))
+        (relates_rests kind may first since t at len served supply a b (rests_none a b (w.none refl) w.alone) r));
+    ends = ends_same t a.faults b.faults w.alone.faults;
     goes_on = λ k. goes_same served.version (t.talks k);
     up = omega arith;
   }
 
   -- a turn whose door failed
-  pub unwelcomed : (kind : Kind C Data Settings) (may : Data → Type 0) (first : List Data) (since : Moment Data Settings) (t : Traffic C Data) (at at' : ℕ → Option (Live C)) (len after : ℕ) (served : Serving Data Settings) (faults : ℕ) (left : Option (List Data)) (a b : WireState)
-      → ((key : ℕ) → at' key ≡ at key) → after ≡ len → GivesNone a b → a.faults ≤ b.faults → b.door ≡ a.door → Relates kind may first since t at len (moment served faults left a)
-      → Relates kind may first since t at' after (moment served faults left b)
-  unwelcomed kind may first since t at at' len after served faults left a b same length_same none later door r =
-      subst (λ (n : ℕ). Relates kind may first since t at' n (moment served faults left b)) (sym length_same)
-      (relates_same kind may first since t at at' len (moment served faults left b) same
-      (relates_rests kind may first since t at len served faults left a b (rests_none a b none later door) r))
+  pub unwelcomed : (kind : Kind C Data Settings) (may : Data → Type 0) (first : List Data) (since : Moment Data Settings) (t : Traffic C Data) (at at' : ℕ → Option (Live C)) (len after : ℕ) (served : Serving Data Settings) (supply : SupplyState Data) (a b : WireState)
+      → ((key : ℕ) → at' key ≡ at key) → after ≡ len → GivesNone a b → ServesAlone a b → Relates kind may first since t at len (moment served supply a)
+      → Relates kind may first since t at' after (moment served supply b)
+  unwelcomed kind may first since t at at' len after served supply a b same length_same none alone r =
+      subst (λ (n : ℕ). Relates kind may first since t at' n (moment served supply b)) (sym length_same)
+      (relates_same kind may first since t at at' len (moment served supply b) same
+      (relates_rests kind may first since t at len served supply a b (rests_none a b none alone) r))
 
   -- what the door did, and then the steps
   pub turns_after : (kind : Kind C Data Settings) (may : Data → Type 0) (first : List Data) (since : Moment Data Settings) (t : Traffic C Data) (x y : Turned) (at at' : ℕ → Option (Live C)) (len rest : ℕ) (old mid now : Moment Data Settings)
@@ -298,35 +339,49 @@ module _ {C Data Settings : Type 0} where
 
   -- no idling, with the door
   pub busy : (kind : Kind C Data Settings) (x y : Turned) (at at' : ℕ → Option (Live C)) (accepted : Bool) (len after : ℕ) (a b c : WireState)
-      → Welcomes kind at at' accepted len after a b → ((key : ℕ) (l : Live C) → at key ≡ Some l → l.link < a.given) → StepsAll x at' b c
-      → y.moved ≡ (accepted || x.moved) → y.ended ≡ x.ended → IsBusy 256 y at len a c
+      → Welcomes kind at at' accepted len after a b → ((key : ℕ) (l : Live C) → at key ≡ Some l → l.link < a.given) → StepsAll kind x at' b c
+      → y.moved ≡ (accepted || x.moved) → y.ended ≡ x.ended → IsBusy kind MOST_LIVE y at len a c
   busy kind x y at at' true len after a b c w given s m e =
       let g = w.given refl in
       let more : c.given ≡ a.given + 1 = s.given ∙ g.more in
+      let kept : (key : ℕ) (l : Live C) → at key ≡ Some l → at' key ≡ Some l =
+      λ key l h. w.others key (inl (λ q. none_some l (sym (w.vacant refl) ∙ ap at (sym q) ∙ h))) ∙ h in
+      let found : (key : ℕ) (l : Live C) → at' key ≡ Some l → (l.link ≡ a.given) ⊎ (at key ≡ Some l) =
+      λ key l h. elim (same_or key w.key) [
+        | inl p ↦ inl (ap (λ (v : Live C). v.link) (some_same (at' w.key) l (record { link = a.given; connection = (w.found refl).0 }) (ap at' (sym p) ∙ h) (w.found refl).1.1))
+        | inr n ↦ inr (sym (w.others key (inl n)) ∙ h)
+      ] in
       record {
-        links = λ key l h. let n = given key l h in turned_keeps x y l.link a b c (λ q. m) (omega (arith, e)) (g.others l.link (λ q. absurd (omega (arith, n, q))))
-            (s.links key l (w.others key (inl (λ q. none_some l (sym (w.vacant refl) ∙ ap at (sym q) ∙ h))) ∙ h));
+        links = λ key l h. let n = given key l h in live_keeps kind l.connection x y l.link a b c c (λ q. m) (omega (arith, e)) (g.others l.link (λ q. absurd (omega (arith, n, q)))) refl (s.links key l (kept key l h));
+        others = λ k below foreign. s.others k (λ o. elim (found o.key o.live o.found) [
+          | inl p ↦ let q = o.link in absurd (omega (arith, below, p, q))
+          | inr q ↦ foreign (record { key = o.key; live = o.live; found = q; link = o.link })
+        ]) ∙ g.others k (λ q. absurd (omega (arith, below, q)));
         door = inr (inl (m, more));
         moved = λ q. inl more;
         still = λ q. absurd (is_not y.moved m q);
         ended = λ q. let o = s.ended (omega (arith, q, e)) in (
           o.1.link,
-          o.3.closed,
-          elim (same_or o.0 w.key) [
-            | inl p ↦ let same = some_same (at' w.key) o.1 (record { link = a.given; connection = (w.found refl).0 }) (ap at' (sym p) ∙ o.2) (w.found refl).1.1 in
-                let link : o.1.link ≡ a.given = ap (λ (l : Live C). l.link) same in inl (record { later = omega (arith, link); given = omega (arith, link, more) })
-            | inr n ↦ inr (record { key = o.0; live = o.1; found = sym (w.others o.0 (inl n)) ∙ o.2; link = refl })
+          o.3,
+          elim (found o.0 o.1 o.2) [
+            | inl p ↦ inl (record { later = omega (arith, p); given = omega (arith, p, more) })
+            | inr n ↦ inr (record { key = o.0; live = o.1; found = n; link = refl })
           ],
         );
         waits = s.waits ∙ w.waits;
+        calm = ap (λ (d : Door). d.faults) s.door ∙ w.calm;
+        alone = alone_then a b c w.alone s.alone;
       }
   busy kind x y at at' false len after a b c w given s m e =
       let n = w.none refl in
       record {
-        links = λ key l h. turned_keeps x y l.link a b c (λ q. m ∙ q) (omega (arith, e)) (n.links l.link) (s.links key l (w.others key (inr refl) ∙ h));
-        door = elim (w.door refl) [ inl p ↦ inl p | inr q ↦ inr (inr (subst (λ (d : ℕ). Rose a.door_stalls d) (sym s.door_stalls) q)) ];
-        moved = λ q. let o = s.moved (sym m ∙ q) in inr (o.0, o.1, sym (w.others o.0 (inr refl)) ∙ o.2, moves_on o.1.link a b c c (n.links o.1.link) refl o.3);
+        links = λ key l h. live_keeps kind l.connection x y l.link a b c c (λ q. m ∙ q) (omega (arith, e)) (n.links l.link) refl (s.links key l (w.others key (inr refl) ∙ h));
+        others = λ k below foreign. s.others k (λ o. foreign (record { key = o.key; live = o.live; found = sym (w.others o.key (inr refl)) ∙ o.found; link = o.link })) ∙ n.links k;
+        door = elim (w.door refl) [ inl p ↦ inl p | inr q ↦ inr (inr (subst (λ (d : Door). Rose a.door.stalls d.stalls) (sym s.door) q)) ];
+        moved = λ q. let o = s.moved (sym m ∙ q) in inr (o.0, o.1, sym (w.others o.0 (inr refl)) ∙ o.2, (o.3.0, moves_on o.3.0 o.1.link a b c c (n.links o.1.link) refl o.3.1));
         still = λ q. (s.given ∙ n.given, λ k is_open. stays_on k a b c c (n.links k) refl (s.still (sym m ∙ q) k is_open));
-        ended = λ q. let o = s.ended (omega (arith, q, e)) in (o.1.link, o.3.closed, inr (record { key = o.0; live = o.1; found = sym (w.others o.0 (inr refl)) ∙ o.2; link = refl }));
+        ended = λ q. let o = s.ended (omega (arith, q, e)) in (o.1.link, o.3, inr (record { key = o.0; live = o.1; found = sym (w.others o.0 (inr refl)) ∙ o.2; link = refl }));
         waits = s.waits ∙ w.waits;
+        calm = ap (λ (d : Door). d.faults) s.door ∙ w.calm;
+        alone = alone_then a b c w.alone s.alone;
       }

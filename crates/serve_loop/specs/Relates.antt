@@ -1,13 +1,14 @@
 -- How a loop's connections, its server, its supply and its wire stand to the traffic since some moment.
 use Rattle.std.specs.Prelude.{ℕ, ◌≡◌, ◌≢◌, ◌⊎◌, ◌+◌, ◌<◌, ◌≤◌, true, false, List, [], ◌∷◌, ◌++◌, length, take, Option, Some, None}
 use Rattle.std.specs.List.{AllByRecursion}
-use Rattle.tpf_base.specs.Marks.{Mark, Served, Failed, Starved}
+use Rattle.tpf_base.specs.Marks.{Mark, Served, Failed, Starved, version_at}
 use Rattle.tpf_base.specs.Causes.{Rose, RoseBy}
-use Rattle.tpf_base.specs.Links.{Link, WireState}
-use Rattle.link_calls.specs.Sending.{Holds}
+use Rattle.tpf_base.specs.Links.{WireState}
+use Rattle.tpf_base.specs.Sending.{Holds}
 use Rattle.connections.specs.Versions.{IsHistory, MOST_VERSIONS}
 use Rattle.connections.specs.Kinds.{Kind}
 use Rattle.serve_loop.specs.declared.live.Live.{Live}
+use Rattle.serve_loop.specs.Calls.{IsOwned, IsUntouched}
 use Rattle.serve_loop.specs.Traffic.{Talk, Given, Traffic, Moment, ended, took, with_given}
 
 -- ---- without history: what a turn needs to be allowed to call
@@ -18,12 +19,6 @@ pub record SuitsWire {Server C : Type 0} (Suits : Server → C → Type 0) (serv
   pub given : (key : ℕ) (l : Live C) → at key ≡ Some l → l.link < wire.given
   pub suits : (key : ℕ) (l : Live C) → at key ≡ Some l → Suits server l.connection
   pub distinct : (i j : ℕ) (a b : Live C) → at i ≡ Some a → at j ≡ Some b → a.link ≡ b.link → i ≡ j
-
--- the bytes of a link and its end are as before
-pub record TellsSame (old new : Link) : Type 0 where
-  pub sent : new.sent ≡ old.sent
-  pub received : new.received ≡ old.received
-  pub ended : new.ended ≡ old.ended
 
 -- ---- with history
 
@@ -55,13 +50,6 @@ pub record IsGone (since wire : WireState) (k : ℕ) : Type 0 where
   pub given : k < wire.given
   pub closed : (wire.links k).is_open ≡ false
 
--- a link is that of a live connection
-pub record IsOwned {C : Type 0} (at : ℕ → Option (Live C)) (k : ℕ) : Type 0 where
-  pub key : ℕ
-  pub live : Live C
-  pub found : at key ≡ Some live
-  pub link : live.link ≡ k
-
 module _ {Data Settings : Type 0} where
   -- the data sets since: those before, and then those that the supply gave and the server took
   pub record Versions (may : Data → Type 0) (first : List Data) (since : Moment Data Settings) (history : List Data) (given : List (Given Data)) (now : Moment Data Settings) : Type 0 where
@@ -69,9 +57,9 @@ module _ {Data Settings : Type 0} where
     pub serves : IsHistory history now.served
     pub config : now.served.config ≡ since.served.config
     pub count : now.served.version ≡ since.served.version + length (took given)
-    pub left : since.left ≡ with_given given now.left
+    pub left : since.supply.left ≡ with_given given now.supply.left
     pub may_be : AllByRecursion may (took given)
-    pub faults : since.faults ≤ now.faults
+    pub faults : since.supply.faults ≤ now.supply.faults
 
 module _ {C Data Settings : Type 0} where
   -- The connection answers what came and went, and the link holds that.
@@ -80,7 +68,8 @@ module _ {C Data Settings : Type 0} where
     pub within : talk.over ≤ length (kind.pending talk.connection)
     pub sent_is : Holds (now.wire.links k).sent (talk.taken ++ take talk.over (kind.pending talk.connection))
     pub received_is : Holds (now.wire.links k).received (talk.fed ++ talk.unfed)
-    pub excused : AllByRecursion (IsExcused since.faults now.faults) talk.marks
+    pub excused : AllByRecursion (IsExcused since.supply.faults now.supply.faults) talk.marks
+    pub level : AllByRecursion (λ mark. since.served.version ≤ version_at mark) talk.marks
     pub numbers : AllByRecursion (IsNumber owner k since.served.version now.served.version) (kind.reloads now.served.config talk.fed talk.marks)
     pub rising : IsRising (kind.reloads now.served.config talk.fed talk.marks)
 
@@ -137,7 +126,7 @@ module _ {C Data Settings : Type 0} where
     -- a link given since that is open has one live connection
     pub owned : (k : ℕ) → since.wire.given ≤ k → k < now.wire.given → (now.wire.links k).is_open ≡ true → IsOwned at k
     -- the links of others are as they were, but that a wait may have answered one
-    pub older : (k : ℕ) → k < since.wire.given → TellsSame (since.wire.links k) (now.wire.links k) × ((now.wire.links k).is_open ≡ (since.wire.links k).is_open)
+    pub older : (k : ℕ) → k < since.wire.given → IsUntouched (since.wire.links k) (now.wire.links k)
     -- each link given since ended, was closed with the loop, or is live
     pub count : now.wire.given ≡ since.wire.given + (ended t + t.left + len)
     pub ends : Ends kind since t now.wire

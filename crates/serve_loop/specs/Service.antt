@@ -1,24 +1,25 @@
 -- What a service does on its wire: turns, and a wait after each that moved and ended nothing.
-use Rattle.std.specs.Prelude.{ℕ, ◌≡◌, ◌≢◌, ◌⊎◌, ◌+◌, ◌<◌, ◌≤◌, true, false, List, [], ◌∷◌, Option, IfSome}
+use Rattle.std.specs.Prelude.{ℕ, ◌≡◌, ◌≢◌, ◌⊎◌, ◌+◌, ◌<◌, ◌≤◌, true, false, List, [], ◌∷◌, length, Option, IfSome}
 use Rattle.tpf_base.specs.Causes.{Rose, counted, counted_by}
 use Rattle.tpf_base.specs.Links.{WireState}
+use Rattle.tpf_base.specs.Calls.{GivesNone}
+use Rattle.tpf_base.specs.Marks.{Mark}
+use Rattle.tpf_base.specs.Sending.{Holds}
+use Rattle.connections.specs.Kinds.{Kind}
+use Rattle.serve_loop.specs.declared.live.ServeFault.{ServeFault}
+use Rattle.serve_loop.specs.declared.live.ServeFault.TheVariants as faults
 use Rattle.serve_loop.specs.declared.live.Turned.{Turned}
-use Rattle.serve_loop.specs.Steps.{HasTurned, MovesOn, StaysOn, IsFresh, RestsWire}
+use Rattle.serve_loop.specs.declared.live.TheConstants.{MOST_LIVE}
+use Rattle.serve_loop.specs.Calls.{MovesOn, StaysOn, IsFresh, RestsWire, ServesAlone, TellsSame, TurnsLive}
 
 -- how many connections ended in these turns
 abbrev pub ended_in : List Turned → ℕ
 ended_in [] = 0
 ended_in (turned ∷ turns) = ended_in turns + turned.ended
 
--- One turn, where the links of the service are those given since this one, of which so many have ended: each that was open was called on, and the door, unless 256 were open; and what the answer says of moves and ends is so.
-pub record TakesTurn (since done : ℕ) (turned : Turned) (old new : WireState) : Type 0 where
-  pub links : (k : ℕ) → since ≤ k → k < old.given → (old.links k).is_open ≡ true → HasTurned turned k old new
-  pub door : (since + done + 256 ≤ old.given) ⊎ (((turned.moved ≡ true) × (new.given ≡ old.given + 1)) ⊎ Rose old.door_stalls new.door_stalls)
-  pub moved : turned.moved ≡ true → (new.given ≡ old.given + 1) ⊎ ((k : ℕ) × (since ≤ k) × ((old.links k).is_open ≡ true) × MovesOn k old new)
-  pub idle : turned.moved ≡ true → new.idle ≡ 0
-  pub still : turned.moved ≡ false → (new.given ≡ old.given) × ((k : ℕ) → (new.links k).is_open ≡ true → StaysOn k old new)
-  pub ended : 0 < turned.ended → (k : ℕ) × (since ≤ k) × ((new.links k).is_open ≡ false) × (IsFresh k old new ⊎ ((old.links k).is_open ≡ true))
-  pub waits : new.waits ≡ old.waits
+-- before the last turn fewer had ended than are enough
+abbrev pub AreTooFew : Option ℕ → List Turned → Type 0
+AreTooFew stop_after turns = turns ≢ [] → IfSome stop_after (λ most. ended_in turns < most)
 
 -- After a turn: one wait, where it moved and ended nothing; else nothing.
 pub record RestsAfter (turned : Turned) (old new : WireState) : Type 0 where
@@ -26,33 +27,100 @@ pub record RestsAfter (turned : Turned) (old new : WireState) : Type 0 where
   pub busy : (turned.moved ≡ true) ⊎ (0 < turned.ended) → new ≡ old
   pub waits : turned.moved ≡ false → turned.ended ≡ 0 → new.waits ≡ counted old.waits
 
--- These turns, the last one first, each with what came after it.
-abbrev pub TookTurns : ℕ → List Turned → WireState → WireState → Type 0
-TookTurns since [] old new = new ≡ old
-TookTurns since (turned ∷ turns) old new =
-    (before : WireState) × (after : WireState) × TookTurns since turns old before × TakesTurn since (ended_in turns) turned before after × RestsAfter turned after new
+-- the faults of the door rose, and so did those of the wire
+pub record RoseAtDoor (old new : WireState) : Type 0 where
+  pub faults : Rose old.faults new.faults
+  pub door : Rose old.door.faults new.door.faults
 
--- before the last turn fewer had ended than are enough
-abbrev pub AreTooFew : Option ℕ → List Turned → Type 0
-AreTooFew stop_after turns = turns ≢ [] → IfSome stop_after (λ most. ended_in turns < most)
+-- A call at the door that failed raised the count of its faults, and want of memory left all counts of faults.
+abbrev pub HasDoorCause : ServeFault → WireState → WireState → Type 0
+HasDoorCause faults.Wire old new = RoseAtDoor old new
+HasDoorCause faults.OutOfMemory old new = (new.faults ≡ old.faults) × (new.door.faults ≡ old.door.faults)
 
--- A service that stopped: turns with what came after each, and a last turn, after which it did not wait.
-pub record ServesTurns (stop_after : Option ℕ) (connections : ℕ) (old new : WireState) : Type 0 where
-  pub turns : List Turned
-  pub last : Turned
-  pub before : WireState
-  pub after : WireState
-  pub took : TookTurns old.given turns old before
-  pub turn : TakesTurn old.given (ended_in turns) last before after
-  pub waits : new.waits ≡ after.waits
-  pub connections_is : connections ≡ counted_by (ended_in turns + last.ended) 0
-  pub too_few : AreTooFew stop_after turns
+-- A turn that failed at the door: no link was touched or given, and nothing waited.
+pub record FailsTurn (fault : ServeFault) (old new : WireState) : Type 0 where
+  pub cause : HasDoorCause fault old new
+  pub none : GivesNone old new
+  pub waits : new.waits ≡ old.waits
+  pub alone : ServesAlone old new
 
--- A service that gave up: turns with what came after each, and then a turn that failed at the door, or one that moved and ended nothing and a wait that failed.
-pub record FailsTurns (stop_after : Option ℕ) (old new : WireState) : Type 0 where
-  pub turns : List Turned
-  pub before : WireState
-  pub took : TookTurns old.given turns old before
-  pub too_few : AreTooFew stop_after turns
-  pub last : (new.waits ≡ before.waits) ⊎ ((turned : Turned) × (after : WireState) × TakesTurn old.given (ended_in turns) turned before after
-      × (turned.moved ≡ false) × (turned.ended ≡ 0) × (new.waits ≡ counted after.waits))
+-- A wait that failed: no link was touched.
+pub record FailsWait (fault : ServeFault) (old new : WireState) : Type 0 where
+  pub cause : HasDoorCause fault old new
+  pub none : GivesNone old new
+  pub waits : new.waits ≡ counted old.waits
+  pub alone : ServesAlone old new
+
+-- links were closed, and nothing else was done
+pub record LeavesLinks (old new : WireState) : Type 0 where
+  pub told : (k : ℕ) → TellsSame (old.links k) (new.links k)
+  pub given : new.given ≡ old.given
+  pub waits : new.waits ≡ old.waits
+  pub faults : new.faults ≡ old.faults
+  pub door : new.door ≡ old.door
+  pub alone : ServesAlone old new
+
+module _ {C Data Settings : Type 0} where
+  -- What a turn did on an open link: there is a connection that answers all that came and went on it before the turn, and by what that had to send, the turn sent, received or closed.
+  pub record ServesLink (kind : Kind C Data Settings) (config : Settings) (turned : Turned) (k : ℕ) (old new : WireState) : Type 0 where
+    pub connection : C
+    pub history : List Data
+    pub some : 1 ≤ length history
+    pub fed : List ℕ
+    pub taken : List ℕ
+    pub marks : List Mark
+    pub answers : kind.Answers history config fed taken marks connection
+    pub sent_is : Holds (old.links k).sent taken
+    pub received_is : Holds (old.links k).received fed
+    pub turns : TurnsLive kind connection turned k old new
+
+  -- One turn, where the links of the service are those given since this one, of which so many have ended: each that was open was called on by what its connection had to send, and the door, unless so many were open as are live at once; no other link was touched; and what the answer says of moves and ends is so.
+  pub record TakesTurn (kind : Kind C Data Settings) (config : Settings) (since done : ℕ) (turned : Turned) (old new : WireState) : Type 0 where
+    pub links : (k : ℕ) → since ≤ k → k < old.given → (old.links k).is_open ≡ true → ServesLink kind config turned k old new
+    pub others : (k : ℕ) → k < since → new.links k ≡ old.links k
+    pub door : (since + done + MOST_LIVE ≤ old.given) ⊎ (((turned.moved ≡ true) × (new.given ≡ old.given + 1)) ⊎ Rose old.door.stalls new.door.stalls)
+    pub moved : turned.moved ≡ true → (new.given ≡ old.given + 1) ⊎ ((k : ℕ) × (since ≤ k) × ((old.links k).is_open ≡ true) × ((way : _) × MovesOn way k old new))
+    pub idle : turned.moved ≡ true → new.idle ≡ 0
+    pub still : turned.moved ≡ false → (new.given ≡ old.given) × ((k : ℕ) → (new.links k).is_open ≡ true → StaysOn k old new)
+    pub ended : 0 < turned.ended → (k : ℕ) × (since ≤ k) × ((new.links k).is_open ≡ false) × (IsFresh k old new ⊎ ((old.links k).is_open ≡ true))
+    pub waits : new.waits ≡ old.waits
+    pub calm : new.door.faults ≡ old.door.faults
+    pub alone : ServesAlone old new
+
+  -- These turns, the last one first, each with what came after it.
+  abbrev pub TookTurns : Kind C Data Settings → Settings → ℕ → List Turned → WireState → WireState → Type 0
+  TookTurns kind config since [] old new = new ≡ old
+  TookTurns kind config since (turned ∷ turns) old new =
+      (before : WireState) × (after : WireState) × TookTurns kind config since turns old before
+      × TakesTurn kind config since (ended_in turns) turned before after × RestsAfter turned after new
+
+  -- A service that stopped: turns with what came after each, and a last turn, after which it closed the links that were left.
+  pub record ServesTurns (kind : Kind C Data Settings) (config : Settings) (stop_after : Option ℕ) (connections : ℕ) (old new : WireState) : Type 0 where
+    pub turns : List Turned
+    pub last : Turned
+    pub before : WireState
+    pub after : WireState
+    pub took : TookTurns kind config old.given turns old before
+    pub turn : TakesTurn kind config old.given (ended_in turns) last before after
+    pub left : LeavesLinks after new
+    pub connections_is : connections ≡ counted_by (ended_in turns + last.ended) 0
+    pub too_few : AreTooFew stop_after turns
+
+  -- a turn that moved and ended nothing, and a wait that failed
+  pub record FailsRest (kind : Kind C Data Settings) (config : Settings) (since done : ℕ) (fault : ServeFault) (old new : WireState) : Type 0 where
+    pub turned : Turned
+    pub after : WireState
+    pub turn : TakesTurn kind config since done turned old after
+    pub still : turned.moved ≡ false
+    pub none : turned.ended ≡ 0
+    pub fails : FailsWait fault after new
+
+  -- A service that gave up: turns with what came after each, then a turn that failed at the door, or one that moved and ended nothing and a wait that failed, after which it closed the links that were left.
+  pub record FailsTurns (kind : Kind C Data Settings) (config : Settings) (stop_after : Option ℕ) (fault : ServeFault) (old new : WireState) : Type 0 where
+    pub turns : List Turned
+    pub before : WireState
+    pub after : WireState
+    pub took : TookTurns kind config old.given turns old before
+    pub too_few : AreTooFew stop_after turns
+    pub last : FailsTurn fault before after ⊎ FailsRest kind config old.given (ended_in turns) fault before after
+    pub left : LeavesLinks after new

@@ -2,7 +2,9 @@
 use Rattle.std.specs.Prelude.{ℕ, ◌==◌, ◌+◌, Bool, List, [], ◌∷◌, length, Option, None, if◌then◌else◌}
 use Rattle.tpf_base.specs.Links.{WireState}
 use Rattle.tpf_base.specs.Marks.{Mark}
-use Rattle.connections.specs.Versions.{Serving, with_first}
+use Rattle.slab.specs.Slab.{Slab, get, slab_len}
+use Rattle.serve_loop.specs.declared.live.Live.{Live}
+use Rattle.connections.specs.Versions.{Serving, SupplyState, with_first}
 
 -- What came and went on one link.
 pub record Talk (C : Type 0) : Type 0 where
@@ -16,6 +18,14 @@ pub record Talk (C : Type 0) : Type 0 where
   pub marks : List Mark
   -- the connection, or how it was last, where the link is closed
   pub connection : C
+
+-- the live connections by their keys, and how many they are
+pub record Lives (C : Type 0) : Type 0 where
+  pub found : ℕ → Option (Live C)
+  pub count : ℕ
+
+abbrev pub kept : {C : Type 0} → Slab (Live C) → Lives C
+kept slab = record { found = get slab; count = slab_len slab }
 
 -- a data set that the supply gave, and whether the server took it
 pub record Given (Data : Type 0) : Type 0 where
@@ -48,12 +58,14 @@ module _ {Data : Type 0} where
   with_given [] left = left
   with_given (g ∷ gs) left = with_first g.data_set (with_given gs left)
 
--- how all stands at a moment: the server, the supply's faults and what it has left, the wire
+-- how all stands at a moment: the server, the supply, the wire
 pub record Moment (Data Settings : Type 0) : Type 0 where
   pub served : Serving Data Settings
-  pub faults : ℕ
-  pub left : Option (List Data)
+  pub supply : SupplyState Data
   pub wire : WireState
+
+abbrev pub moment : {Data Settings : Type 0} → Serving Data Settings → SupplyState Data → WireState → Moment Data Settings
+moment served supply wire = record { served = served; supply = supply; wire = wire }
 
 -- a function with another value at one place
 abbrev pub updated : {T : Type 0} → (ℕ → T) → ℕ → T → ℕ → T

@@ -18,6 +18,6 @@ mod service;
 mod step;
 mod turn;
 
-pub use live::{Live, ServeFault, Served, Turned};
+pub use live::{Live, MOST_LIVE, MOST_RECEIVED, MOST_SENT, ServeFault, Served, Turned};
 pub use service::serve;
 pub use turn::Loop;

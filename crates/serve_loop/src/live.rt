@@ -1,5 +1,15 @@
 // What the loop keeps, and what it answers.
 
+/// The most connections that are live at once.
+pub const MOST_LIVE: usize = 256;
+
+/// The most bytes that are received on a link in one turn.
+pub const MOST_RECEIVED: usize = 8192;
+
+/// The most bytes that are sent on a link in one turn. Where as many are pending, no further ones are
+/// made in it.
+pub const MOST_SENT: usize = 16384;
+
 /// A connection and the number of the link (the TCP connection) on which it lives.
 #[derive(Drop)]
 pub struct Live<C> {

@@ -1,16 +1,16 @@
 // One step of one connection.
-ghost use Rattle.std.specs.Prelude.{ℕ, ◌≡◌, ◌≢◌, ◌+◌, ◌<◌, ◌≤◌, ◌⊎◌, List, [], length, take, OnOk, Option, Some, None, true, false, ◌↔◌, is_ok};
-ghost use Rattle.tpf_base.specs.Links.{WireState};
-ghost use Rattle.tpf_base.specs.Calls.{Sends, OnlyOn};
-ghost use Rattle.tpf_base.specs.Causes.{Rose};
-ghost use Rattle.connections.specs.Versions.{Serving, MOST_VERSIONS};
-ghost use Rattle.connections.specs.Kinds.{Takes, Feeds, IsOutcome};
-ghost use Rattle.serve_loop.specs.Traffic.{Traffic, Moment};
-ghost use Rattle.serve_loop.specs.Relates.{Relates};
+ghost use Rattle.std.specs.Prelude.{ℕ, ◌≡◌, ◌≢◌, ◌<◌, ◌≤◌, [], length, OnOk, Some, true, false, ◌↔◌, is_ok};
+ghost use Rattle.tpf_base.specs.Links.{WireState, Sending, Receiving};
+ghost use Rattle.tpf_base.specs.Calls.{Sends};
+ghost use Rattle.connections.specs.Versions.{Serving, SupplyState};
+ghost use Rattle.connections.specs.Kinds.{Takes, IsOutcome};
+ghost use Rattle.serve_loop.specs.Traffic.{moment};
 ghost use Rattle.serve_loop.specs.Asks.{AnswersAt};
-ghost use Rattle.serve_loop.specs.Steps.{Supplies, StepsOn, StepsLink, Prepares, HasCalled, CallsOnly, Hears, IsReady, left_by};
+ghost use Rattle.serve_loop.specs.declared.live.TheConstants.{MOST_RECEIVED};
+ghost use Rattle.serve_loop.specs.Calls.{HasCalled, CallsOnly, IsPrepared, StepsLive, front_of, left_by};
+ghost use Rattle.serve_loop.specs.Steps.{Supplies, StepsOn, StepsLink, Makes, Prepares, Hears, IsReady};
 
-use crate::live::{Live, Stepped};
+use crate::live::{Live, MOST_SENT, Stepped};
 use connections::{Converses, Reloaded, Serves, Supply};
 use tpf_base::{Fault, Moved, OutOfMemory, Wire};
 
@@ -31,8 +31,8 @@ pub enum Received {
 fn reload<V: Serves, S: Supply<V>>(server: &mut V, supply: &mut S) -> Reloaded
     ensures outcome { IsOutcome (V.serving server.new) result }
     ensures supplies { (wire : WireState) → Supplies (S.may supply.old) result
-        (record { served = V.serving server.old; faults = S.faults supply.old; left = S.left supply.old; wire = wire })
-        (record { served = V.serving server.new; faults = S.faults supply.new; left = S.left supply.new; wire = wire }) }
+        (moment (V.serving server.old) (S.state supply.old) wire)
+        (moment (V.serving server.new) (S.state supply.new) wire) }
     ensures follows { V.Follows server.old server.new }
     ensures keeps { S.Keeps supply.old supply.new }
     ensures same { (data_set : V.Data) → S.may supply.new data_set ↔ S.may supply.old data_set }
@@ -50,17 +50,19 @@ fn reload<V: Serves, S: Supply<V>>(server: &mut V, supply: &mut S) -> Reloaded
     }
 }
 
-/// Sends a prefix of what is pending.
+/// Sends a prefix of what is pending, at most `MOST_SENT` bytes.
 fn send_pending<C: Converses, W: Wire>(live: &mut Live<C>, wire: &mut W) -> Moved
     requires is_open { ((W.state wire.old).links live.old.link).is_open ≡ true }
     requires some { 0 < length (C.kind.pending live.old.connection) }
-    ensures sends { Sends live.old.link (C.kind.pending live.old.connection) (W.state wire.old) (W.state wire.new) result }
+    ensures sends { Sends live.old.link (front_of (C.kind.pending live.old.connection)) (W.state wire.old) (W.state wire.new) result }
     ensures moved { (n : ℕ) → result ≡ Moved.Moved n → Takes C.kind n live.old.connection live.new.connection }
     ensures still { ((n : ℕ) → result ≢ Moved.Moved n) → live.new ≡ live.old }
     ensures link { live.new.link ≡ live.old.link }
     ensures suits { (server : C.Server) → C.Suits server live.old.connection → C.Suits server live.new.connection }
 {
-    let moved = wire.send(live.link, live.connection.pending());
+    let pending = live.connection.pending();
+    let most = MOST_SENT.min(pending.len());
+    let moved = wire.send(live.link, &pending[..most]);
     if let Moved::Moved(n) = moved {
         live.connection.take(n);
     }
@@ -75,7 +77,7 @@ fn receive<C: Converses, W: Wire>(
     wire: &mut W,
 ) -> Received
     requires room { 0 < length buffer.old }
-    requires most { length buffer.old ≤ 8192 }
+    requires most { length buffer.old ≤ MOST_RECEIVED }
     requires is_open { ((W.state wire.old).links live.old.link).is_open ≡ true }
     requires suits { C.Suits server.now live.old.connection }
     requires idle { C.kind.wants live.old.connection ≡ false }
@@ -105,11 +107,11 @@ fn answer_reload<C: Converses, S: Supply<C::Server>>(
     requires suits { C.Suits server.old live.old.connection }
     requires wants { C.kind.wants live.old.connection ≡ true }
     ensures prepares { (wire : WireState) → Prepares C.kind (S.may supply.old) live.old live.new (is_ok result)
-        (record { served = C.Server.serving server.old; faults = S.faults supply.old; left = S.left supply.old; wire = wire })
-        (record { served = C.Server.serving server.new; faults = S.faults supply.new; left = S.left supply.new; wire = wire }) }
+        (moment (C.Server.serving server.old) (S.state supply.old) wire)
+        (moment (C.Server.serving server.new) (S.state supply.new) wire) }
     ensures asks { (wire : WireState) → AnswersAt C.kind (S.may supply.old) (Some live.old)
-        (record { served = C.Server.serving server.old; faults = S.faults supply.old; left = S.left supply.old; wire = wire })
-        (record { served = C.Server.serving server.new; faults = S.faults supply.new; left = S.left supply.new; wire = wire }) }
+        (moment (C.Server.serving server.old) (S.state supply.old) wire)
+        (moment (C.Server.serving server.new) (S.state supply.new) wire) }
     ensures link { live.new.link ≡ live.old.link }
     ensures owes { OnOk result (C.kind.owes live.new.connection ≡ true) }
     ensures suits { OnOk result (C.Suits server.new live.new.connection) }
@@ -121,6 +123,19 @@ fn answer_reload<C: Converses, S: Supply<C::Server>>(
     live.connection.reloaded(server, outcome)
 }
 
+/// Makes further bytes of the response, unless as many are pending as one call sends.
+fn make<C: Converses>(live: &mut Live<C>, server: &C::Server) -> Result<(), OutOfMemory>
+    requires suits { C.Suits server.now live.old.connection }
+    ensures makes { OnOk result (Makes C.kind (C.Server.serving server.now) live.old.connection live.new.connection) }
+    ensures link { live.new.link ≡ live.old.link }
+    ensures suits { OnOk result (C.Suits server.now live.new.connection) }
+{
+    if live.connection.pending().len() >= MOST_SENT {
+        return Ok(());
+    }
+    live.connection.fill(server)
+}
+
 /// Answers a reload request where one waits, and makes bytes of the response.
 fn prepare<C: Converses, S: Supply<C::Server>>(
     live: &mut Live<C>,
@@ -129,13 +144,14 @@ fn prepare<C: Converses, S: Supply<C::Server>>(
 ) -> Result<(), OutOfMemory>
     requires suits { C.Suits server.old live.old.connection }
     ensures prepares { (wire : WireState) → Prepares C.kind (S.may supply.old) live.old live.new (is_ok result)
-        (record { served = C.Server.serving server.old; faults = S.faults supply.old; left = S.left supply.old; wire = wire })
-        (record { served = C.Server.serving server.new; faults = S.faults supply.new; left = S.left supply.new; wire = wire }) }
+        (moment (C.Server.serving server.old) (S.state supply.old) wire)
+        (moment (C.Server.serving server.new) (S.state supply.new) wire) }
     ensures asks { (wire : WireState) → AnswersAt C.kind (S.may supply.old) (Some live.old)
-        (record { served = C.Server.serving server.old; faults = S.faults supply.old; left = S.left supply.old; wire = wire })
-        (record { served = C.Server.serving server.new; faults = S.faults supply.new; left = S.left supply.new; wire = wire }) }
+        (moment (C.Server.serving server.old) (S.state supply.old) wire)
+        (moment (C.Server.serving server.new) (S.state supply.new) wire) }
     ensures link { live.new.link ≡ live.old.link }
     ensures ready { OnOk result (IsReady C.kind live.new.connection) }
+    ensures prepared { OnOk result (IsPrepared C.kind live.old.connection live.new.connection) }
     ensures suits { OnOk result (C.Suits server.new live.new.connection) }
     ensures follows { C.Server.Follows server.old server.new }
     ensures keeps { S.Keeps supply.old supply.new }
@@ -143,19 +159,19 @@ fn prepare<C: Converses, S: Supply<C::Server>>(
 {
     if live.connection.wants_reload() {
         answer_reload(live, server, supply)?;
-        return live.connection.fill(server);
+        return make(live, server);
     }
-    live.connection.fill(server)
+    make(live, server)
 }
 
 /// Sends what is pending. A link that fails is closed.
 fn send_step<C: Converses, W: Wire>(live: &mut Live<C>, wire: &mut W) -> Stepped
     requires is_open { ((W.state wire.old).links live.old.link).is_open ≡ true }
     requires some { 0 < length (C.kind.pending live.old.connection) }
-    ensures steps { (served : Serving C.Server.Data C.Server.Settings) (faults : ℕ) (left : Option (List C.Server.Data)) → StepsLink C.kind live.old.link live.old.connection live.new.connection result
-        (record { served = served; faults = faults; left = left; wire = W.state wire.old })
-        (record { served = served; faults = faults; left = left; wire = W.state wire.new }) }
-    ensures called { HasCalled result live.old.link (W.state wire.old) (W.state wire.new) }
+    ensures steps { (served : Serving C.Server.Data C.Server.Settings) (supply : SupplyState C.Server.Data) → StepsLink C.kind live.old.link live.old.connection live.new.connection result
+        (moment served supply (W.state wire.old))
+        (moment served supply (W.state wire.new)) }
+    ensures called { HasCalled result live.old.link (W.state wire.old) (W.state wire.new) Sending }
     ensures only { CallsOnly live.old.link (W.state wire.old) (W.state wire.new) }
     ensures kept { live.new.link ≡ live.old.link }
     ensures is_open { left_by result live.new ≡ Some live.new → ((W.state wire.new).links live.old.link).is_open ≡ true }
@@ -187,16 +203,16 @@ fn receive_step<C: Converses, W: Wire>(
     wire: &mut W,
 ) -> Stepped
     requires room { 0 < length buffer.old }
-    requires most { length buffer.old ≤ 8192 }
+    requires most { length buffer.old ≤ MOST_RECEIVED }
     requires is_open { ((W.state wire.old).links live.old.link).is_open ≡ true }
     requires suits { C.Suits server.now live.old.connection }
     requires ready { IsReady C.kind live.old.connection }
     requires none { C.kind.pending live.old.connection ≡ [] }
     ensures room { length buffer.new ≡ length buffer.old }
-    ensures steps { (faults : ℕ) (left : Option (List C.Server.Data)) → StepsLink C.kind live.old.link live.old.connection live.new.connection result
-        (record { served = C.Server.serving server.now; faults = faults; left = left; wire = W.state wire.old })
-        (record { served = C.Server.serving server.now; faults = faults; left = left; wire = W.state wire.new }) }
-    ensures called { HasCalled result live.old.link (W.state wire.old) (W.state wire.new) }
+    ensures steps { (supply : SupplyState C.Server.Data) → StepsLink C.kind live.old.link live.old.connection live.new.connection result
+        (moment (C.Server.serving server.now) supply (W.state wire.old))
+        (moment (C.Server.serving server.now) supply (W.state wire.new)) }
+    ensures called { HasCalled result live.old.link (W.state wire.old) (W.state wire.new) Receiving }
     ensures only { CallsOnly live.old.link (W.state wire.old) (W.state wire.new) }
     ensures kept { live.new.link ≡ live.old.link }
     ensures is_open { left_by result live.new ≡ Some live.new → ((W.state wire.new).links live.old.link).is_open ≡ true }
@@ -230,17 +246,17 @@ pub fn step<C: Converses, S: Supply<C::Server>, W: Wire>(
     wire: &mut W,
 ) -> Stepped
     requires room { 0 < length buffer.old }
-    requires most { length buffer.old ≤ 8192 }
+    requires most { length buffer.old ≤ MOST_RECEIVED }
     requires is_open { ((W.state wire.old).links live.old.link).is_open ≡ true }
     requires suits { C.Suits server.old live.old.connection }
     ensures room { length buffer.new ≡ length buffer.old }
     ensures steps { StepsOn C.kind (S.may supply.old) live.old live.new result
-        (record { served = C.Server.serving server.old; faults = S.faults supply.old; left = S.left supply.old; wire = W.state wire.old })
-        (record { served = C.Server.serving server.new; faults = S.faults supply.new; left = S.left supply.new; wire = W.state wire.new }) }
+        (moment (C.Server.serving server.old) (S.state supply.old) (W.state wire.old))
+        (moment (C.Server.serving server.new) (S.state supply.new) (W.state wire.new)) }
     ensures asks { (same : WireState) → AnswersAt C.kind (S.may supply.old) (Some live.old)
-        (record { served = C.Server.serving server.old; faults = S.faults supply.old; left = S.left supply.old; wire = same })
-        (record { served = C.Server.serving server.new; faults = S.faults supply.new; left = S.left supply.new; wire = same }) }
-    ensures called { HasCalled result live.old.link (W.state wire.old) (W.state wire.new) }
+        (moment (C.Server.serving server.old) (S.state supply.old) same)
+        (moment (C.Server.serving server.new) (S.state supply.new) same) }
+    ensures called { StepsLive C.kind live.old.connection result live.old.link (W.state wire.old) (W.state wire.new) }
     ensures only { CallsOnly live.old.link (W.state wire.old) (W.state wire.new) }
     ensures kept { live.new.link ≡ live.old.link }
     ensures is_open { left_by result live.new ≡ Some live.new → ((W.state wire.new).links live.old.link).is_open ≡ true }

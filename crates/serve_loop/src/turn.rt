@@ -1,55 +1,60 @@
 // Turns over the live connections.
 ghost use Rattle.std.specs.Prelude.{ℕ, ◌≡◌, ◌≢◌, ◌+◌, ◌<◌, ◌≤◌, ◌^◌, List, [], length, IfOk, OnOk, OnErr, IfErr, Option, Some, None, true, ◌↔◌};
 ghost use Rattle.slab.specs.Slab.{get, slab_len};
-ghost use Rattle.tpf_base.specs.Causes.{Rose};
 ghost use Rattle.tpf_base.specs.Links.{WireState, listens};
-ghost use Rattle.tpf_base.specs.Calls.{GivesNone};
 ghost use Rattle.connections.specs.Versions.{IsHistory};
-ghost use Rattle.serve_loop.specs.Traffic.{Traffic, Moment, no_traffic};
+ghost use Rattle.serve_loop.specs.declared.live.TheConstants.{MOST_LIVE, MOST_RECEIVED};
+ghost use Rattle.serve_loop.specs.Traffic.{moment, kept, no_traffic};
 ghost use Rattle.serve_loop.specs.Relates.{Relates, SuitsWire};
 ghost use Rattle.serve_loop.specs.Asks.{AnswersAt, AnswersAll, AreAnswered};
-ghost use Rattle.serve_loop.specs.Sentence.{Sentence, SpeaksWhole};
-ghost use Rattle.serve_loop.specs.Steps.{TurnsTo, IsBusy, StepsAll, CallsAt, ClosesAt, Welcomes, LeavesAll, ends, turned_by, turned_with};
+ghost use Rattle.serve_loop.specs.Sentence.{RelatesOn, TurnsOn, SpeaksOn, SpeaksWholeOn};
+ghost use Rattle.serve_loop.specs.Calls.{ServesAlone, IsBusy, StepsAll, CallsAt, ClosesAt, LeavesAll, ends, turned_by, turned_with};
+ghost use Rattle.serve_loop.specs.Service.{FailsTurn};
+ghost use Rattle.serve_loop.specs.Steps.{Welcomes};
 
-use crate::live::{Live, ServeFault, Stepped, Turned};
+use crate::live::{Live, MOST_LIVE, MOST_RECEIVED, ServeFault, Stepped, Turned};
 use crate::step::step;
 use connections::{Converses, Supply};
 use slab::Slab;
 use std::alloc::Global;
 use tpf_base::{Accept, Fault, Wire};
 
-/// The most connections that are live at once.
-const MOST_LIVE: usize = 256;
-
 /// The live connections of a server, each with its link, and a buffer for what is received.
 #[derive(Drop)]
 pub struct Loop<C> {
     alloc: Global,
     live: Slab<Live<C>>,
-    buffer: [u8; 8192],
+    buffer: [u8; MOST_RECEIVED],
 }
 
-/// Keeps a new connection for the link that the door gives, where fewer than 256 are live. The place
+/// Takes what the system knows of readiness, so that a link that became ready is served in this turn,
+/// whatever the others do.
+fn look<W: Wire>(wire: &mut W)
+    ensures same { W.state wire.new ≡ W.state wire.old }
+{
+    wire.look();
+}
+
+/// Keeps a new connection for the link that the door gives, where fewer than `MOST_LIVE` are live. The place
 /// for it is found before the door is asked.
-fn welcome<C: Converses, W: Accept>(
+fn greet<C: Converses, W: Accept>(
     alloc: Global,
     live: &mut Slab<Live<C>>,
     server: &C::Server,
     wire: &mut W,
 ) -> Result<bool, ServeFault>
     requires listens { listens (W.state wire.old) ≡ true }
-    requires few { slab_len live.old ≤ 256 }
+    requires few { slab_len live.old ≤ MOST_LIVE }
     requires suits { SuitsWire C.Suits server.now (λ key. get live.old key) (W.state wire.old) }
-    ensures door { (W.state wire.new).door ≡ (W.state wire.old).door }
-    ensures few { slab_len live.new ≤ 256 }
+    ensures few { slab_len live.new ≤ MOST_LIVE }
     ensures suits { SuitsWire C.Suits server.now (λ key. get live.new key) (W.state wire.new) }
-    ensures welcomes { IfOk result (λ accepted. Welcomes C.kind (get live.old) (get live.new) accepted (slab_len live.old) (slab_len live.new) (W.state wire.old) (W.state wire.new)) }
+    ensures welcomes { IfOk result (λ accepted. Welcomes C.kind (get live.old) (get live.new) accepted
+        (slab_len live.old) (slab_len live.new) (W.state wire.old) (W.state wire.new)) }
     ensures err { OnErr result ((key : ℕ) → get live.new key ≡ get live.old key) }
     ensures len { OnErr result (slab_len live.new ≡ slab_len live.old) }
-    ensures none { OnErr result (GivesNone (W.state wire.old) (W.state wire.new)) }
-    ensures later { (W.state wire.old).faults ≤ (W.state wire.new).faults }
+    ensures fails { IfErr result (λ fault. FailsTurn fault (W.state wire.old) (W.state wire.new)) }
+    ensures alone { ServesAlone (W.state wire.old) (W.state wire.new) }
     ensures waits { (W.state wire.new).waits ≡ (W.state wire.old).waits }
-    ensures wire { IfErr result (λ fault. fault ≡ ServeFault.Wire → Rose (W.state wire.old).faults (W.state wire.new).faults) }
 {
     if live.len() >= MOST_LIVE {
         return Ok(false);
@@ -69,6 +74,30 @@ fn welcome<C: Converses, W: Accept>(
         Err(Fault::Failed) => Err(ServeFault::Wire),
         Err(Fault::OutOfMemory) => Err(ServeFault::OutOfMemory),
     }
+}
+
+/// Begins a turn: takes what the system knows of readiness, and asks the door.
+fn welcome<C: Converses, W: Accept>(
+    alloc: Global,
+    live: &mut Slab<Live<C>>,
+    server: &C::Server,
+    wire: &mut W,
+) -> Result<bool, ServeFault>
+    requires listens { listens (W.state wire.old) ≡ true }
+    requires few { slab_len live.old ≤ MOST_LIVE }
+    requires suits { SuitsWire C.Suits server.now (λ key. get live.old key) (W.state wire.old) }
+    ensures few { slab_len live.new ≤ MOST_LIVE }
+    ensures suits { SuitsWire C.Suits server.now (λ key. get live.new key) (W.state wire.new) }
+    ensures welcomes { IfOk result (λ accepted. Welcomes C.kind (get live.old) (get live.new) accepted
+        (slab_len live.old) (slab_len live.new) (W.state wire.old) (W.state wire.new)) }
+    ensures err { OnErr result ((key : ℕ) → get live.new key ≡ get live.old key) }
+    ensures len { OnErr result (slab_len live.new ≡ slab_len live.old) }
+    ensures fails { IfErr result (λ fault. FailsTurn fault (W.state wire.old) (W.state wire.new)) }
+    ensures alone { ServesAlone (W.state wire.old) (W.state wire.new) }
+    ensures waits { (W.state wire.new).waits ≡ (W.state wire.old).waits }
+{
+    look(wire);
+    greet(alloc, live, server, wire)
 }
 
 /// Whether the connection is live no more.
@@ -93,21 +122,19 @@ fn step_at<C: Converses, S: Supply<C::Server>, W: Wire>(
     wire: &mut W,
 ) -> Option<Stepped>
     requires room { 0 < length buffer.old }
-    requires most { length buffer.old ≤ 8192 }
+    requires most { length buffer.old ≤ MOST_RECEIVED }
     requires suits { SuitsWire C.Suits server.old (λ key. get live.old key) (W.state wire.old) }
     ensures room { length buffer.new ≡ length buffer.old }
     ensures suits { SuitsWire C.Suits server.new (λ key. get live.new key) (W.state wire.new) }
     ensures others { (other : ℕ) → other ≢ key → get live.new other ≡ get live.old other }
     ensures len { slab_len live.new + (turned_by result).ended ≡ slab_len live.old }
-    ensures turns { (first : List C.Server.Data) (since : Moment C.Server.Data C.Server.Settings) (t : Traffic C C.Server.Data) → Relates C.kind (S.may supply.old) first since t (get live.old) (slab_len live.old)
-        (record { served = C.Server.serving server.old; faults = S.faults supply.old; left = S.left supply.old; wire = W.state wire.old })
-        → TurnsTo C.kind (S.may supply.old) first since t (turned_by result) (get live.new) (slab_len live.new)
-        (record { served = C.Server.serving server.old; faults = S.faults supply.old; left = S.left supply.old; wire = W.state wire.old })
-        (record { served = C.Server.serving server.new; faults = S.faults supply.new; left = S.left supply.new; wire = W.state wire.new }) }
+    ensures turns { TurnsOn C.kind (S.may supply.old) (kept live.old) (kept live.new)
+        (moment (C.Server.serving server.old) (S.state supply.old) (W.state wire.old))
+        (moment (C.Server.serving server.new) (S.state supply.new) (W.state wire.new)) (turned_by result) }
     ensures asks { (same : WireState) → AnswersAt C.kind (S.may supply.old) (get live.old key)
-        (record { served = C.Server.serving server.old; faults = S.faults supply.old; left = S.left supply.old; wire = same })
-        (record { served = C.Server.serving server.new; faults = S.faults supply.new; left = S.left supply.new; wire = same }) }
-    ensures calls { CallsAt (get live.old key) result (W.state wire.old) (W.state wire.new) }
+        (moment (C.Server.serving server.old) (S.state supply.old) same)
+        (moment (C.Server.serving server.new) (S.state supply.new) same) }
+    ensures calls { CallsAt C.kind (get live.old key) result (W.state wire.old) (W.state wire.new) }
     ensures follows { C.Server.Follows server.old server.new }
     ensures keeps { S.Keeps supply.old supply.new }
     ensures same { (data_set : C.Server.Data) → S.may supply.new data_set ↔ S.may supply.old data_set }
@@ -158,20 +185,18 @@ fn step_all<C: Converses, S: Supply<C::Server>, W: Wire>(
     wire: &mut W,
 ) -> Turned
     requires room { 0 < length buffer.old }
-    requires most { length buffer.old ≤ 8192 }
-    requires few { slab_len live.old ≤ 256 }
+    requires most { length buffer.old ≤ MOST_RECEIVED }
+    requires few { slab_len live.old ≤ MOST_LIVE }
     requires suits { SuitsWire C.Suits server.old (λ key. get live.old key) (W.state wire.old) }
     ensures suits { SuitsWire C.Suits server.new (λ key. get live.new key) (W.state wire.new) }
     ensures len { slab_len live.new + result.ended ≡ slab_len live.old }
-    ensures turns { (first : List C.Server.Data) (since : Moment C.Server.Data C.Server.Settings) (t : Traffic C C.Server.Data) → Relates C.kind (S.may supply.old) first since t (get live.old) (slab_len live.old)
-        (record { served = C.Server.serving server.old; faults = S.faults supply.old; left = S.left supply.old; wire = W.state wire.old })
-        → TurnsTo C.kind (S.may supply.old) first since t result (get live.new) (slab_len live.new)
-        (record { served = C.Server.serving server.old; faults = S.faults supply.old; left = S.left supply.old; wire = W.state wire.old })
-        (record { served = C.Server.serving server.new; faults = S.faults supply.new; left = S.left supply.new; wire = W.state wire.new }) }
+    ensures turns { TurnsOn C.kind (S.may supply.old) (kept live.old) (kept live.new)
+        (moment (C.Server.serving server.old) (S.state supply.old) (W.state wire.old))
+        (moment (C.Server.serving server.new) (S.state supply.new) (W.state wire.new)) result }
     ensures asks { (same : WireState) → AnswersAll C.kind (S.may supply.old) (get live.old)
-        (record { served = C.Server.serving server.old; faults = S.faults supply.old; left = S.left supply.old; wire = same })
-        (record { served = C.Server.serving server.new; faults = S.faults supply.new; left = S.left supply.new; wire = same }) }
-    ensures all { StepsAll result (get live.old) (W.state wire.old) (W.state wire.new) }
+        (moment (C.Server.serving server.old) (S.state supply.old) same)
+        (moment (C.Server.serving server.new) (S.state supply.new) same) }
+    ensures all { StepsAll C.kind result (get live.old) (W.state wire.old) (W.state wire.new) }
     ensures follows { C.Server.Follows server.old server.new }
     ensures keeps { S.Keeps supply.old supply.new }
     ensures same { (data_set : C.Server.Data) → S.may supply.new data_set ↔ S.may supply.old data_set }
@@ -194,7 +219,6 @@ fn close_at<C: Drop, W: Wire>(live: &mut Slab<Live<C>>, key: usize, wire: &mut W
     ensures none { get live.new key ≡ None }
     ensures others { (other : ℕ) → other ≢ key → get live.new other ≡ get live.old other }
     ensures closes { ClosesAt (get live.old key) (W.state wire.old) (W.state wire.new) }
-    ensures door { (W.state wire.new).door ≡ (W.state wire.old).door }
 {
     if let Some(connection) = live.try_remove(key) {
         wire.close(connection.link);
@@ -207,7 +231,6 @@ fn close_all<C: Drop, W: Wire>(live: &mut Slab<Live<C>>, wire: &mut W)
     requires is_open { (key : ℕ) (l : Live C) → get live.old key ≡ Some l → ((W.state wire.old).links l.link).is_open ≡ true }
     ensures none { (key : ℕ) → get live.new key ≡ None }
     ensures leaves { LeavesAll (get live.old) (W.state wire.old) (W.state wire.new) }
-    ensures door { (W.state wire.new).door ≡ (W.state wire.old).door }
 {
     let keys = live.capacity();
     for key in 0..keys {
@@ -216,7 +239,7 @@ fn close_all<C: Drop, W: Wire>(live: &mut Slab<Live<C>>, wire: &mut W)
 }
 
 impl<C: Converses> Loop<C> {
-    ghost use Rattle.serve_loop.specs.Held.{held, held_count};
+    ghost use Rattle.serve_loop.specs.Held.{held, held_count, lives};
 
     /// A loop without connections. It takes no memory.
     pub fn new(alloc: Global) -> Loop<C>
@@ -226,7 +249,7 @@ impl<C: Converses> Loop<C> {
         Loop {
             alloc,
             live: Slab::new(alloc),
-            buffer: [0; 8192],
+            buffer: [0; MOST_RECEIVED],
         }
     }
 
@@ -236,25 +259,27 @@ impl<C: Converses> Loop<C> {
         requires { (key : ℕ) → held self.now key ≡ None }
         ensures { (first : List C.Server.Data) → IsHistory first (C.Server.serving _server.now)
             → Relates C.kind (S.may _supply.now) first
-            (record { served = C.Server.serving _server.now; faults = S.faults _supply.now; left = S.left _supply.now; wire = W.state _wire.now })
+            (moment (C.Server.serving _server.now) (S.state _supply.now) (W.state _wire.now))
             (no_traffic first) (held self.now) 0
-            (record { served = C.Server.serving _server.now; faults = S.faults _supply.now; left = S.left _supply.now; wire = W.state _wire.now }) }
+            (moment (C.Server.serving _server.now) (S.state _supply.now) (W.state _wire.now)) }
     {}
 
-    /// How many connections are live: at most 256.
+    /// How many connections are live: at most `MOST_LIVE`.
     pub fn live(&self) -> usize
         ensures { result ≡ held_count self.now }
     {
         self.live.len()
     }
 
-    /// Asks the door (the listener) for a link where fewer than 256 connections are live, and then steps
-    /// each connection once: it sends what is pending; where nothing is, it closes a connection that is
-    /// to end, and receives at most 8192 bytes of another. A connection that waits for a reload asks the
-    /// supply once before. A connection that runs out of memory, or whose link fails, ends alone.
+    /// Takes what the system knows of readiness, asks the door (the listener) for a link where fewer than
+    /// `MOST_LIVE` connections are live, and then steps each connection once: it sends at most `MOST_SENT`
+    /// bytes of what is pending or owed; where nothing is, it closes a connection that is to end, and
+    /// receives at most `MOST_RECEIVED` bytes of another. A connection that waits for a reload asks the
+    /// supply once before, unless the version is the last possible one. A connection that runs out of
+    /// memory, or whose link fails, ends alone.
     ///
-    /// `Wire` where the accept failed. `OutOfMemory` where memory ran out there, or for the place of a
-    /// new connection. In both cases the live connections stay, and the next turn goes on with them.
+    /// `Wire` where the accept failed: the faults of the door rose. `OutOfMemory` where memory ran out
+    /// there, or for the place of a new connection. In both cases the live connections stay, and the next turn goes on with them.
     pub fn turn<S: Supply<C::Server>, W: Accept>(
         &mut self,
         server: &mut C::Server,
@@ -262,43 +287,39 @@ impl<C: Converses> Loop<C> {
         wire: &mut W,
     ) -> Result<Turned, ServeFault>
         requires listens { listens (W.state wire.old) ≡ true }
-        requires few { held_count self.old ≤ 256 }
+        requires few { held_count self.old ≤ MOST_LIVE }
         requires suits { SuitsWire C.Suits server.old (λ key. held self.old key) (W.state wire.old) }
-        ensures door { (W.state wire.new).door ≡ (W.state wire.old).door }
-        ensures few { held_count self.new ≤ 256 }
+        ensures alone { ServesAlone (W.state wire.old) (W.state wire.new) }
+        ensures few { held_count self.new ≤ MOST_LIVE }
         ensures suits { SuitsWire C.Suits server.new (λ key. held self.new key) (W.state wire.new) }
-        ensures turns { IfOk result (λ turned. (first : List C.Server.Data) (since : Moment C.Server.Data C.Server.Settings) (t : Traffic C C.Server.Data) → Relates C.kind (S.may supply.old) first since t (held self.old) (held_count self.old)
-            (record { served = C.Server.serving server.old; faults = S.faults supply.old; left = S.left supply.old; wire = W.state wire.old })
-            → TurnsTo C.kind (S.may supply.old) first since t turned (held self.new) (held_count self.new)
-            (record { served = C.Server.serving server.old; faults = S.faults supply.old; left = S.left supply.old; wire = W.state wire.old })
-            (record { served = C.Server.serving server.new; faults = S.faults supply.new; left = S.left supply.new; wire = W.state wire.new })) }
-        ensures prefixes { (first : List C.Server.Data) (since : Moment C.Server.Data C.Server.Settings) (t : Traffic C C.Server.Data) → Relates C.kind (S.may supply.old) first since t (held self.old) (held_count self.old)
-            (record { served = C.Server.serving server.old; faults = S.faults supply.old; left = S.left supply.old; wire = W.state wire.old })
-            → Sentence C.kind (S.may supply.old) first since
-            (record { served = C.Server.serving server.new; faults = S.faults supply.new; left = S.left supply.new; wire = W.state wire.new }) }
-        ensures whole { IfOk result (λ turned. (first : List C.Server.Data) (since : Moment C.Server.Data C.Server.Settings) (t : Traffic C C.Server.Data) → Relates C.kind (S.may supply.old) first since t (held self.old) (held_count self.old)
-            (record { served = C.Server.serving server.old; faults = S.faults supply.old; left = S.left supply.old; wire = W.state wire.old })
-            → SpeaksWhole C.kind (S.may supply.old) first since
-            (record { served = C.Server.serving server.new; faults = S.faults supply.new; left = S.left supply.new; wire = W.state wire.new })
-            (W.state wire.old).faults turned.ended turned.starved) }
+        ensures turns { IfOk result (TurnsOn C.kind (S.may supply.old) (lives self.old) (lives self.new)
+            (moment (C.Server.serving server.old) (S.state supply.old) (W.state wire.old))
+            (moment (C.Server.serving server.new) (S.state supply.new) (W.state wire.new))) }
+        ensures prefixes { SpeaksOn C.kind (S.may supply.old) (lives self.old)
+            (moment (C.Server.serving server.old) (S.state supply.old) (W.state wire.old))
+            (moment (C.Server.serving server.new) (S.state supply.new) (W.state wire.new)) }
+        ensures whole { IfOk result (SpeaksWholeOn C.kind (S.may supply.old) (lives self.old)
+            (moment (C.Server.serving server.old) (S.state supply.old) (W.state wire.old))
+            (moment (C.Server.serving server.new) (S.state supply.new) (W.state wire.new))) }
         ensures asks { IfOk result (λ turned. (same : WireState) → AnswersAll C.kind (S.may supply.old) (held self.old)
-            (record { served = C.Server.serving server.old; faults = S.faults supply.old; left = S.left supply.old; wire = same })
-            (record { served = C.Server.serving server.new; faults = S.faults supply.new; left = S.left supply.new; wire = same })) }
+            (moment (C.Server.serving server.old) (S.state supply.old) same)
+            (moment (C.Server.serving server.new) (S.state supply.new) same)) }
         ensures unasked { OnErr result ((same : WireState) → AreAnswered (S.may supply.old) []
-            (record { served = C.Server.serving server.old; faults = S.faults supply.old; left = S.left supply.old; wire = same })
-            (record { served = C.Server.serving server.new; faults = S.faults supply.new; left = S.left supply.new; wire = same })) }
-        ensures busy { IfOk result (λ turned. IsBusy 256 turned (held self.old) (held_count self.old) (W.state wire.old) (W.state wire.new)) }
+            (moment (C.Server.serving server.old) (S.state supply.old) same)
+            (moment (C.Server.serving server.new) (S.state supply.new) same)) }
+        ensures calm { OnOk result ((W.state wire.new).door.faults ≡ (W.state wire.old).door.faults) }
+        ensures busy { IfOk result (λ turned. IsBusy C.kind MOST_LIVE turned
+            (held self.old) (held_count self.old) (W.state wire.old) (W.state wire.new)) }
         ensures idle { IfOk result (λ turned. turned.moved ≡ true → (W.state wire.new).idle ≡ 0) }
-        ensures count { IfOk result (λ turned. held_count self.new + turned.ended + (W.state wire.old).given ≡ held_count self.old + (W.state wire.new).given) }
-        ensures most { IfOk result (λ turned. turned.ended ≤ 256) }
-        ensures later { (W.state wire.old).faults ≤ (W.state wire.new).faults }
+        ensures count { IfOk result (λ turned. held_count self.new + turned.ended + (W.state wire.old).given
+            ≡ held_count self.old + (W.state wire.new).given) }
+        ensures most { IfOk result (λ turned. turned.ended ≤ MOST_LIVE) }
         ensures waits { (W.state wire.new).waits ≡ (W.state wire.old).waits }
-        ensures err { OnErr result ((first : List C.Server.Data) (since : Moment C.Server.Data C.Server.Settings) (t : Traffic C C.Server.Data) → Relates C.kind (S.may supply.old) first since t (held self.old) (held_count self.old)
-            (record { served = C.Server.serving server.old; faults = S.faults supply.old; left = S.left supply.old; wire = W.state wire.old })
-            → Relates C.kind (S.may supply.old) first since t (held self.new) (held_count self.new)
-            (record { served = C.Server.serving server.new; faults = S.faults supply.new; left = S.left supply.new; wire = W.state wire.new })) }
+        ensures err { OnErr result (RelatesOn C.kind (S.may supply.old) (lives self.old) (lives self.new)
+            (moment (C.Server.serving server.old) (S.state supply.old) (W.state wire.old))
+            (moment (C.Server.serving server.new) (S.state supply.new) (W.state wire.new))) }
+        ensures fails { IfErr result (λ fault. FailsTurn fault (W.state wire.old) (W.state wire.new)) }
         ensures stay { OnErr result ((key : ℕ) → held self.new key ≡ held self.old key) }
-        ensures wire { IfErr result (λ fault. fault ≡ ServeFault.Wire → Rose (W.state wire.old).faults (W.state wire.new).faults) }
         ensures follows { C.Server.Follows server.old server.new }
         ensures keeps { S.Keeps supply.old supply.new }
         ensures same { (data_set : C.Server.Data) → S.may supply.new data_set ↔ S.may supply.old data_set }
@@ -318,7 +339,6 @@ impl<C: Converses> Loop<C> {
         ensures none { (key : ℕ) → held self.new key ≡ None }
         ensures len { held_count self.new ≡ 0 }
         ensures leaves { LeavesAll (held self.old) (W.state wire.old) (W.state wire.new) }
-        ensures door { (W.state wire.new).door ≡ (W.state wire.old).door }
     {
         close_all(&mut self.live, wire);
     }

@@ -5,7 +5,7 @@ use Rattle.serve_loop.proofs.CloseLemmas.{leaves_none, leaves_more, leaves_all, 
 use Rattle.serve_loop.proofs.turn.close_all.Goals as goal
 
 pub loop-key-init : goal.loop-key-init
-loop-key-init g c = record { gone = λ key h. absurd (omega (arith, h)); untouched = λ key h. refl; leaves = leaves_none _ _; door = refl }
+loop-key-init g c = record { gone = λ key h. absurd (omega (arith, h)); untouched = λ key h. refl; leaves = leaves_none _ _ }
 
 pub close_at-requires : goal.close_at-requires
 close_at-requires g c = record {
@@ -19,7 +19,6 @@ loop-key-preserved g c = record {
   gone = gone_below _ _ c.loop-key.key c.loop-key.invariant.gone c.close_at.ensures.others c.close_at.ensures.none;
   untouched = λ key h. c.close_at.ensures.others key (λ e. absurd (omega (arith, h, e))) ∙ c.loop-key.invariant.untouched key (omega (arith, h));
   leaves = leaves_more c.loop-key.key _ _ _ _ _ c.requires.distinct c.loop-key.invariant.leaves (sym (c.loop-key.invariant.untouched c.loop-key.key (omega arith))) c.close_at.ensures.closes;
-  door = c.close_at.ensures.door ∙ c.loop-key.invariant.door;
 }
 
 pub returns-clause-none : goal.returns-clause-none

@@ -15,7 +15,7 @@ loop-key-init g c = record {
   untouched = λ key h. refl;
   turns = λ first since t r. turns_none _ _ _ _ _ _ _ _ r;
   asks = λ w. answers_below _ _ _ _;
-  below = below_none _ _;
+  below = below_none _ _ _;
   follows = g.met.C.Server.Serves.follows_itself c.args.server.now;
   keeps = g.met.S.Supply.keeps_itself c.args.supply.now;
   same = λ d. (λ x. x, λ x. x);
@@ -31,7 +31,7 @@ loop-key-preserved g c = record {
   turns = λ first since t r. turns_more _ _ _ _ _ _ c.loop-key.turned _ c.step_at.result _ _ _ _ _ _ _ c.loop-key.invariant.same c.with-turned.ensures (c.loop-key.invariant.turns first since t r)
       (λ u q. c.step_at.ensures.turns first since u q);
   asks = λ w. answers_more _ _ _ _ c.loop-key.key _ _ _ _ (λ d. (c.loop-key.invariant.same d).0) (c.loop-key.invariant.asks w) (sym (c.loop-key.invariant.untouched c.loop-key.key (omega arith))) (c.step_at.ensures.asks w);
-  below = below_more c.loop-key.turned _ c.loop-key.key _ _ _ _ _ c.step_at.result c.requires.suits.distinct c.with-turned.ensures c.loop-key.invariant.below
+  below = below_more _ c.loop-key.turned _ c.loop-key.key _ _ _ _ _ c.step_at.result c.requires.suits.distinct c.with-turned.ensures c.loop-key.invariant.below
       (sym (c.loop-key.invariant.untouched c.loop-key.key (omega arith))) c.step_at.ensures.calls;
   follows = g.met.C.Server.Serves.follows_then _ _ _ c.loop-key.invariant.follows c.step_at.ensures.follows;
   keeps = g.met.S.Supply.keeps_then _ _ _ c.loop-key.invariant.keeps c.step_at.ensures.keeps;
@@ -40,7 +40,7 @@ loop-key-preserved g c = record {
 
 pub returns-clause-all : goal.returns-clause-all
 returns-clause-all g c = let e = c.loop-key-test.false in
-    below_all c.loop-key.turned c.loop-key.key _ _ _ (λ key h. past_none c.args.live.now c.capacity-keys.result key c.capacity-keys.ensures.slots (omega (arith, e, h))) c.loop-key.invariant.below
+    below_all _ c.loop-key.turned c.loop-key.key _ _ _ (λ key h. past_none c.args.live.now c.capacity-keys.result key c.capacity-keys.ensures.slots (omega (arith, e, h))) c.loop-key.invariant.below
 
 pub returns-clause-asks : goal.returns-clause-asks
 returns-clause-asks g c = let e = c.loop-key-test.false in

@@ -5,8 +5,9 @@ use Rattle.slab.specs.Slab.{get, slab_len}
 use Rattle.tpf_base.specs.Links.{WireState}
 use Rattle.serve_loop.specs.Relates.{Relates, SuitsWire}
 use Rattle.serve_loop.specs.Asks.{AnswersBelow}
-use Rattle.serve_loop.specs.Steps.{TurnsTo, StepsBelow}
-use Rattle.serve_loop.proofs.TalkLemmas.{moment}
+use Rattle.serve_loop.specs.Calls.{StepsBelow}
+use Rattle.serve_loop.specs.Steps.{TurnsTo}
+use Rattle.serve_loop.specs.Traffic.{moment}
 use Rattle.serve_loop.proofs.turn.step_all.Given as goal
 
 abbrev pub invariant-loop-key : goal.invariant-loop-key
@@ -17,14 +18,14 @@ invariant-loop-key g l = record {
   few : l.turned.starved ≤ l.turned.ended;
   untouched : (key : ℕ) → l.key ≤ key → get l.live key ≡ get l.fn.live key;
   turns : (first : _) (since : _) (t : _) → Relates g.C.Converses.kind (g.S.Supply.may l.fn.supply) first since t (get l.fn.live) (slab_len l.fn.live)
-      (moment (g.C.Server.Serves.serving l.fn.server) (g.S.Supply.faults l.fn.supply) (g.S.Supply.left l.fn.supply) (g.W.Wire.state l.fn.wire))
+      (moment (g.C.Server.Serves.serving l.fn.server) (g.S.Supply.state l.fn.supply) (g.W.Wire.state l.fn.wire))
       → TurnsTo g.C.Converses.kind (g.S.Supply.may l.fn.supply) first since t l.turned (get l.live) (slab_len l.live)
-      (moment (g.C.Server.Serves.serving l.fn.server) (g.S.Supply.faults l.fn.supply) (g.S.Supply.left l.fn.supply) (g.W.Wire.state l.fn.wire))
-      (moment (g.C.Server.Serves.serving l.server) (g.S.Supply.faults l.supply) (g.S.Supply.left l.supply) (g.W.Wire.state l.wire));
+      (moment (g.C.Server.Serves.serving l.fn.server) (g.S.Supply.state l.fn.supply) (g.W.Wire.state l.fn.wire))
+      (moment (g.C.Server.Serves.serving l.server) (g.S.Supply.state l.supply) (g.W.Wire.state l.wire));
   asks : (w : WireState) → AnswersBelow g.C.Converses.kind (g.S.Supply.may l.fn.supply) (get l.fn.live) l.key
-      (moment (g.C.Server.Serves.serving l.fn.server) (g.S.Supply.faults l.fn.supply) (g.S.Supply.left l.fn.supply) w)
-      (moment (g.C.Server.Serves.serving l.server) (g.S.Supply.faults l.supply) (g.S.Supply.left l.supply) w);
-  below : StepsBelow l.turned l.key (get l.fn.live) (g.W.Wire.state l.fn.wire) (g.W.Wire.state l.wire);
+      (moment (g.C.Server.Serves.serving l.fn.server) (g.S.Supply.state l.fn.supply) w)
+      (moment (g.C.Server.Serves.serving l.server) (g.S.Supply.state l.supply) w);
+  below : StepsBelow g.C.Converses.kind l.turned l.key (get l.fn.live) (g.W.Wire.state l.fn.wire) (g.W.Wire.state l.wire);
   follows : g.C.Server.Serves.Follows l.fn.server l.server;
   keeps : g.S.Supply.Keeps l.fn.supply l.supply;
   same : (data_set : _) → g.S.Supply.may l.supply data_set ↔ g.S.Supply.may l.fn.supply data_set;
