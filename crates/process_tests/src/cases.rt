@@ -1,11 +1,14 @@
 // The cases. Each prints what was seen: the stored output of this program says what is to be seen.
 
 use crate::answers::show;
+use crate::edge::{addresses, large_page, reload_of_no_file, three_connections};
+use crate::files::found_and_dropped;
 use crate::programs::{Server, serve, start};
 use std::io::{Read, Write};
 use std::net::{Ipv4Addr, Net, TcpStream};
 use std::process::{Child, OpenProcess, Output, Processes};
 use std::rt::Files;
+use std::time::Clock;
 use std::{fs, io};
 
 /// What a whole answer to a query ends with.
@@ -16,7 +19,7 @@ const SOME: usize = 1024;
 
 /// Prints how a program ended and what it said. It is a fault where the status is not the one that is
 /// wanted, so that nobody waits for what does not come.
-fn tell<R: Print>(rt: &R, who: &str, ended: &Output, wanted: i32) -> io::Result<()> {
+pub fn tell<R: Print>(rt: &R, who: &str, ended: &Output, wanted: i32) -> io::Result<()> {
     let code = ended.status.code();
     match code {
         Some(number) => println!(rt; "{who}: status {number}")?,
@@ -57,7 +60,7 @@ fn reload<R: Net + Print + AllocGlobal>(rt: &R, port: u16) -> io::Result<()> {
 
 /// Waits for the end of a server and prints how it ended. Where something went wrong before, the server
 /// is ended, since it may wait for connections that do not come.
-fn end<R: Print + AllocGlobal, P: OpenProcess + Drop>(
+pub fn end<R: Print + AllocGlobal, P: OpenProcess + Drop>(
     rt: &R,
     server: Server<P>,
     so_far: io::Result<()>,
@@ -154,8 +157,15 @@ fn reload_between_pages<R: Processes + Files + Net + Print + AllocGlobal>(
 }
 
 /// Runs every case.
-pub fn run_cases<R: Processes + Files + Net + Print + AllocGlobal>(rt: &R) -> io::Result<()> {
+pub fn run_cases<R: Processes + Files + Net + Clock + Print + AllocGlobal + Clone + Drop>(
+    rt: &R,
+) -> io::Result<()> {
     query(rt)?;
     reload_between_queries(rt)?;
-    reload_between_pages(rt)
+    reload_between_pages(rt)?;
+    found_and_dropped(rt)?;
+    large_page(rt)?;
+    three_connections(rt)?;
+    addresses(rt)?;
+    reload_of_no_file(rt)
 }

@@ -4,6 +4,8 @@
 
 mod answers;
 mod cases;
+mod edge;
+mod files;
 mod programs;
 
 use cases::run_cases;

@@ -44,7 +44,7 @@ pub struct Server<P: OpenProcess> {
 }
 
 /// A port of the loopback that no program has just now.
-fn free_port<R: Net>(rt: &R) -> io::Result<u16> {
+pub fn free_port<R: Net>(rt: &R) -> io::Result<u16> {
     let listener = TcpListener::bind(rt, (Ipv4Addr::LOCALHOST, 0u16))?;
     let address = listener.local_addr()?;
     Ok(address.port())

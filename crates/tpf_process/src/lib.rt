@@ -21,6 +21,7 @@ use std::rt::Files;
 use std::sync::Wait;
 use std::time::Clock;
 use std::{env, io};
+use tpf_base::write_all;
 use tpf_cli::{Inside, run};
 use wire_real::{DiskShelf, NetWire, StreamSink, Streams};
 
@@ -36,21 +37,25 @@ pub fn words_of<R: Env + AllocGlobal>(rt: &R) -> io::Result<Vec<String>> {
 /// Runs the program with the words of the process over the files, the standard output and error, and
 /// the sockets of the system.
 ///
-/// The status is that of the top call; 8 where memory ran out over the words, and 2 where one of them is no
-/// UTF-8 text. In these two cases nothing is said.
+/// The status is that of the top call. Words of which one is no UTF-8 text are no command: they are answered
+/// as no words at all are, by the usage line and status 2. Where memory ran out over the words the status is
+/// 8, with the line `memory`.
 pub fn run_process<R: Env + Files + Streams + Net + Clock + Wait + AllocGlobal>(
     rt: &R,
 ) -> ExitCode {
+    let alloc: Global = rt.alloc();
+    let mut err = StreamSink::errors(rt);
     let words = match words_of(rt) {
         Ok(words) => words,
-        Err(error) if error.kind() == io::ErrorKind::OutOfMemory => return ExitCode::from(8),
-        Err(_) => return ExitCode::from(2),
+        Err(error) if error.kind() == io::ErrorKind::OutOfMemory => {
+            let _ = write_all(&mut err, b"memory\n");
+            return ExitCode::from(8);
+        }
+        Err(_) => Vec::new(alloc),
     };
-    let alloc: Global = rt.alloc();
     let mut shelf = DiskShelf::new(rt);
     let mut wire = NetWire::new(rt);
     let mut out = StreamSink::output(rt);
-    let mut err = StreamSink::errors(rt);
     let mut inside = Inside::Unused;
     let status = run(
         rt,

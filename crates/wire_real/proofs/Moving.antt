@@ -37,7 +37,6 @@ only_on k counts faults idle door old new later others = record {
   dials = refl;
   waits = refl;
   door = refl;
-  door_stalls = refl;
   nature = refl;
 }
 
@@ -53,7 +52,6 @@ same_wire k counts door old new same others = record {
   waits = refl;
   idle = refl;
   door = refl;
-  door_stalls = refl;
   nature = refl;
 }
   where
@@ -75,6 +73,14 @@ wire_after_is answers.OutOfMemory counts door held = refl
 -- the faults rose, by one
 fault_rose : (answer : Moved) (counts : Counts) → answer ≡ answers.Failed → Rose counts.faults (counts_after answer counts).faults
 fault_rose answer counts e = subst (λ (a : Moved). Rose counts.faults (counts_after a counts).faults) (sym e) (le_refl (counted counts.faults))
+
+-- no other answer leaves a fault
+no_fault : (answer : Moved) (counts : Counts) → answer ≢ answers.Failed → (counts_after answer counts).faults ≡ counts.faults
+no_fault (answers.Moved n) counts other = refl
+no_fault answers.End counts other = refl
+no_fault answers.NotYet counts other = refl
+no_fault answers.Failed counts other = absurd (other refl)
+no_fault answers.OutOfMemory counts other = refl
 
 -- ---- the link
 
@@ -166,6 +172,7 @@ sends k piece counts door old new answer account is_given had moves within no_en
       failed = λ e. (0, omega arith, link.untold_sent (take 0 piece), (λ none. link.owed), ap (λ (a : Moved). (counts_after a counts).idle) e, fault_rose answer counts e);
       memory = same_after directions.Sending k answer counts door old new account had moves;
       no_end = no_end;
+      unfailed = λ other. no_fault answer counts other;
       not_due = λ steady. cc;
       woken = λ steady. cc;
     })
@@ -192,6 +199,7 @@ receives k to counts door old new answer account is_given had moves within later
       not_yet = λ e. (link.received, link.ended, link.stall_rose e, ap (λ (a : Moved). (counts_after a counts).idle) e);
       failed = λ e. (link.received, link.ended, ap (λ (a : Moved). (counts_after a counts).idle) e, fault_rose answer counts e);
       memory = same_after directions.Receiving k answer counts door old new account had moves;
+      unfailed = λ other whole. no_fault answer counts other;
       not_due = λ steady. cc;
       woken = λ steady. cc;
     })

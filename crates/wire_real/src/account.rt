@@ -1,6 +1,6 @@
 // What a wire counts, and what it counts of each open link.
 ghost use Rattle.std.specs.Prelude.{◌≡◌, ◌≤◌, Some, None, false};
-ghost use Rattle.wire_real.specs.Accounts.{no_account, no_counts, account_after, counts_after, Fails};
+ghost use Rattle.wire_real.specs.Accounts.{no_account, no_counts, account_after, counts_after, FailsAtDoor, FailsToDial};
 
 use std::io::ErrorKind;
 use tpf_base::{Fault, Moved};
@@ -79,6 +79,10 @@ pub struct Counts {
     pub idle: u64,
     /// How often no connection waited at the door.
     pub door_stalls: u64,
+    /// How often a listen, an accept or a wait failed.
+    pub door_faults: u64,
+    /// How often a listen was called.
+    pub listens: u64,
 }
 
 impl Counts {
@@ -93,6 +97,8 @@ impl Counts {
             waits: 0,
             idle: 0,
             door_stalls: 0,
+            door_faults: 0,
+            listens: 0,
         }
     }
 
@@ -113,14 +119,25 @@ impl Counts {
         }
     }
 
-    /// What a call answers where the system failed so, and the count of it.
+    /// What a dial answers where the system failed so, and the count of it.
     pub fn fail(&mut self, kind: ErrorKind) -> Fault
-        ensures { Fails result self.old self.new }
+        ensures { FailsToDial result self.old self.new }
     {
         if kind == ErrorKind::OutOfMemory {
             return Fault::OutOfMemory;
         }
         self.faults = self.faults.saturating_add(1);
         Fault::Failed
+    }
+
+    /// What a call at the door, or a wait, answers where the system failed so, and the counts of it.
+    pub fn fail_at_door(&mut self, kind: ErrorKind) -> Fault
+        ensures { FailsAtDoor result self.old self.new }
+    {
+        let fault = self.fail(kind);
+        if fault == Fault::Failed {
+            self.door_faults = self.door_faults.saturating_add(1);
+        }
+        fault
     }
 }

@@ -21,20 +21,71 @@ pub struct Door {
     // Whether a connection may wait there. Where this does not hold none does, until an event says
     // more.
     may_come: bool,
+    // Whether the system told of it since a wait answered it.
+    is_told: bool,
+    // Whether the last accept found no file, buffer or memory for a connection.
+    is_short: bool,
 }
 
-/// Whether an accept that failed so lost one connection, and the next one may be accepted.
-fn is_of_one_connection(kind: ErrorKind) -> bool {
-    matches!(
-        kind,
-        ErrorKind::ConnectionAborted
+/// How many connections an accept passes over at most that were lost before it.
+const LOST: u32 = 256;
+
+// Errors of Linux for which there is no kind.
+const ENFILE: i32 = 23;
+
+const EMFILE: i32 = 24;
+
+const ENONET: i32 = 64;
+
+const EPROTO: i32 = 71;
+
+const ENOPROTOOPT: i32 = 92;
+
+const EAFNOSUPPORT: i32 = 97;
+
+const ENOBUFS: i32 = 105;
+
+const EHOSTDOWN: i32 = 112;
+
+/// Why an accept gave no connection.
+#[derive(Clone, Copy, Debug, PartialEq, Eq)]
+enum Refusal {
+    /// None waits.
+    NoneWaits,
+    /// One was lost before it was accepted. The next one may be there.
+    OneWasLost,
+    /// Files, buffers or memory are short. Whoever waits goes on waiting.
+    Short,
+    /// The listener failed.
+    Failed,
+}
+
+/// What an accept says that failed so. Accept passes on errors of the network that are of the new
+/// connection alone (Linux's accept(2), "Error handling").
+fn refusal_of(error: io::Error) -> Refusal {
+    match error.raw_os_error() {
+        Some(EMFILE | ENFILE | ENOBUFS) => Refusal::Short,
+        Some(ENONET | EPROTO | ENOPROTOOPT | EHOSTDOWN) => Refusal::OneWasLost,
+        _ => match error.kind() {
+            ErrorKind::WouldBlock => Refusal::NoneWaits,
+            ErrorKind::OutOfMemory => Refusal::Short,
+            ErrorKind::ConnectionAborted
             | ErrorKind::ConnectionReset
             | ErrorKind::Interrupted
             | ErrorKind::HostUnreachable
             | ErrorKind::NetworkUnreachable
             | ErrorKind::NetworkDown
+            | ErrorKind::PermissionDenied
             | ErrorKind::TimedOut
-    )
+            | ErrorKind::Unsupported => Refusal::OneWasLost,
+            _ => Refusal::Failed,
+        },
+    }
+}
+
+/// Whether an address at which the system would not listen so is none of this machine's.
+fn is_elsewhere(error: io::Error) -> bool {
+    error.kind() == ErrorKind::AddrNotAvailable || error.raw_os_error() == Some(EAFNOSUPPORT)
 }
 
 fn bind<R: Net>(
@@ -48,29 +99,46 @@ fn bind<R: Net>(
     Ok(listener)
 }
 
-/// Listens at the first of the addresses of one kind at which the system lets it.
+/// Listens at the first of the addresses of one kind that is this machine's, if there is one.
 fn bind_first<R: Net>(
     rt: &R,
     registry: &Registry,
     token: Token,
     addresses: &[SocketAddr],
     is_v4: bool,
-) -> Result<TcpListener, ErrorKind> {
-    let mut kind = ErrorKind::NotFound;
+) -> io::Result<Option<TcpListener>> {
     for address in addresses {
         if address.is_ipv4() == is_v4 {
             match bind(rt, registry, token, *address) {
-                Ok(listener) => return Ok(listener),
-                Err(error) => kind = error.kind(),
+                Ok(listener) => return Ok(Some(listener)),
+                Err(error) if is_elsewhere(error) => {}
+                Err(error) => return Err(error),
             }
         }
     }
-    Err(kind)
+    Ok(None)
+}
+
+/// Listens at the first address that is this machine's, those of version 4 before all others.
+fn bind_any<R: Net>(
+    rt: &R,
+    registry: &Registry,
+    token: Token,
+    addresses: &[SocketAddr],
+) -> io::Result<TcpListener> {
+    if let Some(listener) = bind_first(rt, registry, token, addresses, true)? {
+        return Ok(listener);
+    }
+    match bind_first(rt, registry, token, addresses, false)? {
+        Some(listener) => Ok(listener),
+        None => Err(io::Error::from(ErrorKind::AddrNotAvailable)),
+    }
 }
 
 impl Door {
-    /// Listens at a host and a port: at the first of its addresses at which the system lets it, those
-    /// of version 4 before all others, since every client tries those.
+    /// Listens at a host and a port: at the first of its addresses that is this machine's, those of
+    /// version 4 before all others, since every client tries those. Where that address is taken or may
+    /// not be had it fails, whatever other addresses the host has: clients would come to another program.
     pub fn open<R: Net>(
         rt: &R,
         alloc: Global,
@@ -85,23 +153,16 @@ impl Door {
             return Err(ErrorKind::OutOfMemory);
         };
         let addresses = addresses_of(rt, alloc, host, port)?;
-        let listener = match bind_first(rt, registry, token, &addresses, true) {
-            Ok(listener) => listener,
-            Err(_) => bind_first(rt, registry, token, &addresses, false)?,
-        };
-        Ok(Door {
-            listener,
-            host: asked,
-            port,
-            may_come: false,
-        })
-    }
-
-    /// The port at which it listens: the one that the system chose, where it was asked for port 0.
-    pub fn port(&self) -> Option<u16> {
-        match self.listener.local_addr() {
-            Ok(address) => Some(address.port()),
-            Err(_) => None,
+        match bind_any(rt, registry, token, &addresses) {
+            Ok(listener) => Ok(Door {
+                listener,
+                host: asked,
+                port,
+                may_come: false,
+                is_told: false,
+                is_short: false,
+            }),
+            Err(error) => Err(error.kind()),
         }
     }
 
@@ -110,35 +171,55 @@ impl Door {
         ensures { door_at (Some self.new) ≡ door_at (Some self.old) }
     {
         self.may_come = true;
+        self.is_told = true;
     }
 
-    /// Whether a connection may wait there.
-    pub fn may_come(&self) -> bool {
-        self.may_come
+    /// Whether the last accept found no file, buffer or memory, so that a connection may wait of which no
+    /// event will tell.
+    pub fn is_short(&self) -> bool {
+        self.is_short
     }
 
-    /// The stream of the next connection, if one waits.
+    /// Takes in that a connection was dropped, since there was no file, buffer or memory to keep it.
+    pub fn fall_short(&mut self)
+        ensures { door_at (Some self.new) ≡ door_at (Some self.old) }
+    {
+        self.is_short = true;
+    }
+
+    /// Takes in that a wait answers the door, where it was told and a connection may wait there.
+    pub fn wake(&mut self) -> bool
+        ensures { door_at (Some self.new) ≡ door_at (Some self.old) }
+    {
+        let is_told = self.is_told && self.may_come;
+        self.is_told = false;
+        is_told
+    }
+
+    /// The stream of the next connection, if one waits and there are files, buffers and memory for it.
+    /// One that was lost before it was accepted is passed over.
     pub fn accept(&mut self) -> Result<Option<TcpStream>, ErrorKind>
         ensures { door_at (Some self.new) ≡ door_at (Some self.old) }
     {
+        self.is_short = false;
         if !self.may_come {
             return Ok(None);
         }
-        'connections: for _ in 0..u64::MAX {
+        for _ in 0..LOST {
             match self.listener.accept() {
                 Ok((stream, _)) => return Ok(Some(stream)),
-                Err(error) => {
-                    let kind = error.kind();
-                    if kind == ErrorKind::WouldBlock {
+                Err(error) => match refusal_of(error) {
+                    Refusal::OneWasLost => {}
+                    Refusal::NoneWaits => {
                         self.may_come = false;
                         return Ok(None);
                     }
-                    if !is_of_one_connection(kind) {
-                        return Err(kind);
-                    }
-                }
+                    Refusal::Short => break,
+                    Refusal::Failed => return Err(error.kind()),
+                },
             }
         }
-        Err(ErrorKind::Interrupted)
+        self.is_short = true;
+        Ok(None)
     }
 }

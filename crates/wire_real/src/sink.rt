@@ -91,13 +91,9 @@ impl<'a, R: Streams> StreamSink<'a, R> {
 }
 
 impl<'a, R: Streams> Sink for StreamSink<'a, R> {
-    ghost use Rattle.std.specs.Prelude.{None, false};
+    ghost use Rattle.wire_real.specs.Accounts.{sink_of};
 
-    ghost taken = { λ _. None };
-
-    ghost faults = { λ s. s.faults };
-
-    ghost faultless = { λ _. false };
+    ghost state = { λ s. sink_of s.faults };
 
     fn write(&mut self, piece: &[u8]) -> Result<usize, Fault> {
         match self.write_some(piece) {

@@ -5,13 +5,20 @@ ghost use Rattle.wire_real.specs.Accounts.{account_after, no_account, MovesWithi
 
 use crate::account::{Account, Direction};
 use crate::reading::read_some;
+use libc::net::{SO_KEEPALIVE, SOL_SOCKET, setsockopt};
 use mio::event::Event;
 use mio::net::TcpStream;
 use mio::{Interest, Registry, Token};
 use std::io;
 use std::io::{ErrorKind, Write};
-use std::net::{Net, SocketAddr};
+use std::net::{Net, Shutdown, SocketAddr};
+use std::os::fd::AsRawFd;
 use tpf_base::Moved;
+
+/// How many bytes are read and dropped at a time before a socket is closed, and how often at most.
+const PIECE: usize = 8192;
+
+const PIECES: u32 = 32;
 
 /// What the system said of one direction of a socket.
 #[derive(Clone, Copy, Debug)]
@@ -69,6 +76,10 @@ pub struct Socket {
     connection: Connection,
     sending: Readiness,
     receiving: Readiness,
+    // Whether an end was received, so that nothing more comes.
+    is_over: bool,
+    // Whether the system told of it since a wait answered it.
+    is_told: bool,
     pub account: Account,
 }
 
@@ -103,6 +114,16 @@ pub fn register(registry: &Registry, stream: &mut TcpStream, token: Token) -> io
     // Without it the bytes arrive later, and no less surely.
     let _ = stream.set_nodelay(true);
     Ok(())
+}
+
+/// Has the system ask a peer that is silent for long whether it is still there (`SO_KEEPALIVE`), so that
+/// the link of one that went without a word fails at last. When, its settings say: on Linux after two
+/// hours.
+pub fn keep_alive(stream: &TcpStream) {
+    let mut on = [0u8; 16];
+    on[..4].copy_from_slice(&1i32.to_ne_bytes());
+    // Without it the link is held until it is closed here.
+    let _ = unsafe { setsockopt(stream.as_raw_fd(), SOL_SOCKET, SO_KEEPALIVE, &on, 4) };
 }
 
 fn connect<R: Net>(
@@ -172,6 +193,8 @@ impl Socket {
             connection: Connection::Trying(others),
             sending: Readiness::new(false),
             receiving: Readiness::new(false),
+            is_over: false,
+            is_told: false,
             account: Account::new(),
         }
     }
@@ -185,6 +208,8 @@ impl Socket {
             connection: Connection::Standing,
             sending: Readiness::new(true),
             receiving: Readiness::new(true),
+            is_over: false,
+            is_told: false,
             account: Account::new(),
         }
     }
@@ -260,7 +285,10 @@ impl Socket {
         let room = to.len();
         let mut stream = &self.stream;
         match read_some(&mut stream, to) {
-            Ok(0) => Moved::End,
+            Ok(0) => {
+                self.is_over = true;
+                Moved::End
+            }
             Ok(n) => {
                 self.receiving.after_move(n == room);
                 Moved::Moved(n)
@@ -271,6 +299,23 @@ impl Socket {
                     self.receiving.after_stall();
                 }
                 answer_to(kind)
+            }
+        }
+    }
+
+    /// Says to the other end that no more bytes come, and drops what it has sent, at most 262144 bytes,
+    /// without waiting for more. The system resets a connection that is closed over bytes that nobody
+    /// read, and the other end may then lose what was sent to it last.
+    pub fn finish(self) {
+        if self.is_over || self.stream.shutdown(Shutdown::Write).is_err() {
+            return;
+        }
+        let mut dropped = [0u8; PIECE];
+        for _ in 0..PIECES {
+            let mut stream = &self.stream;
+            match read_some(&mut stream, &mut dropped) {
+                Ok(PIECE) => {}
+                _ => return,
             }
         }
     }
@@ -297,12 +342,27 @@ impl Socket {
         }
     }
 
+    /// Takes in that the system told of it. Whether a wait answered it since it did so before.
+    pub fn note(&mut self) -> bool
+        ensures { self.new.account ≡ self.old.account }
+    {
+        let is_first = !self.is_told;
+        self.is_told = true;
+        is_first
+    }
+
+    /// Whether the system told of it since a wait answered it.
+    pub fn is_told(&self) -> bool {
+        self.is_told
+    }
+
     /// Marks the link as answered by a wait, where it is ready.
     pub fn wake(&mut self) -> bool
         ensures woken { result ≡ true → self.new.account ≡ record self.old.account { woken = true } }
         ensures still { result ≡ false → self.new.account ≡ self.old.account }
     {
         let ready = self.is_ready();
+        self.is_told = false;
         if ready {
             self.account.woken = true;
         }

@@ -25,23 +25,26 @@ pub const DOOR: Token = Token(usize::MAX);
 pub struct Watch {
     poll: Poll,
     events: Events,
-    // It is empty when events are taken, so it has room for all of them.
-    told: VecDeque<Ready>,
+    // The open links of which the system told since a wait answered them, each once.
+    told: VecDeque<u64>,
 }
 
-/// Takes in what the system says of a link.
+/// Takes in what the system says of a link. Whether it is open, and no wait answered it since the system told
+/// of it before.
 fn tell_link<R: Net>(
     rt: &R,
     registry: &Registry,
     sockets: &mut HashMap<u64, Socket>,
     link: u64,
     event: &Event,
-)
+) -> bool
     ensures { SameAccounts (accounts sockets.old) (accounts sockets.new) }
 {
-    if let Some(socket) = sockets.get_mut(&link) {
-        socket.tell(rt, registry, event.token(), event);
-    }
+    let Some(socket) = sockets.get_mut(&link) else {
+        return false;
+    };
+    socket.tell(rt, registry, event.token(), event);
+    socket.note()
 }
 
 /// Takes in what the system says of the door.
@@ -67,24 +70,41 @@ fn wake_link(sockets: &mut HashMap<u64, Socket>, link: u64, given: u64) -> bool
     }
 }
 
-/// Whether a connection may wait at the door.
-fn is_door_ready(door: &Option<Door>) -> bool
-    ensures { result ≡ true → is_some (door_at door.now) ≡ true }
+/// Takes in that a wait answers the door, where one is open, was told, and a connection may wait there.
+fn wake_door(door: &mut Option<Door>) -> bool
+    ensures open { result ≡ true → is_some (door_at door.old) ≡ true }
+    ensures door { door_at door.new ≡ door_at door.old }
 {
     if let Some(door) = door {
-        return door.may_come();
+        return door.wake();
     }
     false
 }
 
-/// Wakes a link, where it is open and ready, or the door.
-fn wake(ready: Ready, sockets: &mut HashMap<u64, Socket>, door: &Option<Door>, given: u64) -> bool
-    ensures woken { result ≡ true → Woken ready given (is_some (door_at door.now)) (accounts sockets.old) (accounts sockets.new) }
-    ensures still { result ≡ false → SameAccounts (accounts sockets.old) (accounts sockets.new) }
+/// Takes in what the system says of a link or the door. The link's number where it is to be kept as told.
+fn tell<R: Net>(
+    rt: &R,
+    registry: &Registry,
+    event: &Event,
+    sockets: &mut HashMap<u64, Socket>,
+    door: &mut Option<Door>,
+) -> Option<u64>
+    ensures same { SameAccounts (accounts sockets.old) (accounts sockets.new) }
+    ensures door { door_at door.new ≡ door_at door.old }
 {
-    match ready {
-        Ready::Link(link) => wake_link(sockets, link, given),
-        Ready::Door => is_door_ready(door),
+    match event.token() {
+        Token(usize::MAX) => {
+            tell_door(door);
+            None
+        }
+        Token(place) => {
+            let link = place as u64;
+            if tell_link(rt, registry, sockets, link, event) {
+                Some(link)
+            } else {
+                None
+            }
+        }
     }
 }
 
@@ -108,34 +128,43 @@ impl Watch {
         self.poll.registry()
     }
 
-    /// Wakes the first link that was told and is ready now, or the door. What was told and is not
-    /// ready any more is passed over.
+    /// Forgets that the system told of a link.
+    pub fn forget(&mut self, link: u64) {
+        self.told.retain(|told| *told != link);
+    }
+
+    /// Wakes the door, or the first link that was told and is ready now. What was told and is not ready
+    /// any more is passed over.
     pub fn next_ready(
         &mut self,
         sockets: &mut HashMap<u64, Socket>,
-        door: &Option<Door>,
+        door: &mut Option<Door>,
         given: u64,
     ) -> Option<Ready>
-        ensures woken { IfSome result (λ ready. Woken ready given (is_some (door_at door.now)) (accounts sockets.old) (accounts sockets.new)) }
+        ensures woken { IfSome result (λ ready. Woken ready given (is_some (door_at door.old)) (accounts sockets.old) (accounts sockets.new)) }
         ensures none { IfNone result (SameAccounts (accounts sockets.old) (accounts sockets.new)) }
+        ensures door { door_at door.new ≡ door_at door.old }
     {
-        while let Some(ready) = self.told.pop_front() {
-            if wake(ready, sockets, door, given) {
-                return Some(ready);
+        if wake_door(door) {
+            return Some(Ready::Door);
+        }
+        while let Some(link) = self.told.pop_front() {
+            if wake_link(sockets, link, given) {
+                return Some(Ready::Link(link));
             }
         }
         None
     }
 
-    /// Waits for the system to tell of links or the door, at most so long, and takes in what it
-    /// tells. It may tell nothing.
-    pub fn wait<R: Net>(
+    /// Waits for the system to tell of links or the door, at most so long, by one call of it, and takes in
+    /// what it tells. Whether it told of any.
+    pub fn ask<R: Net>(
         &mut self,
         rt: &R,
         limit: Option<Duration>,
         sockets: &mut HashMap<u64, Socket>,
         door: &mut Option<Door>,
-    ) -> Result<(), ErrorKind>
+    ) -> Result<bool, ErrorKind>
         ensures same { SameAccounts (accounts sockets.old) (accounts sockets.new) }
         ensures door { door_at door.new ≡ door_at door.old }
     {
@@ -143,21 +172,15 @@ impl Watch {
             return Err(error.kind());
         }
         let registry = self.poll.registry();
+        let mut some = false;
         for event in self.events.iter() {
-            let ready = match event.token() {
-                Token(usize::MAX) => {
-                    tell_door(door);
-                    Ready::Door
+            some = true;
+            if let Some(link) = tell(rt, registry, event, sockets, door) {
+                if self.told.push_back(link).is_err() {
+                    return Err(ErrorKind::OutOfMemory);
                 }
-                Token(place) => {
-                    tell_link(rt, registry, sockets, place as u64, event);
-                    Ready::Link(place as u64)
-                }
-            };
-            if self.told.push_back(ready).is_err() {
-                return Err(ErrorKind::OutOfMemory);
             }
         }
-        Ok(())
+        Ok(some)
     }
 }

@@ -1,0 +1,73 @@
+// Files of the system that are found and not read to their ends.
+
+use std::rt::Files;
+use std::{fs, io};
+use tpf_base::{Fault, Shelf};
+use wire_real::DiskShelf;
+
+/// How often the file is found: more often than a process may hold files open by the limits of most systems.
+const FINDS: usize = 2000;
+
+/// How many files this process holds open.
+fn open_files<R: Files + AllocGlobal + Clone + Drop>(rt: &R) -> io::Result<usize> {
+    let mut count: usize = 0;
+    for entry in fs::read_dir(rt, "/proc/self/fd")? {
+        let _ = entry?;
+        count = count.saturating_add(1);
+    }
+    Ok(count)
+}
+
+/// Finds the file often, reads the first byte each time, and goes on to the next find. How often that came
+/// out.
+fn find_often<R: Files + AllocGlobal>(shelf: &mut DiskShelf<R>) -> usize {
+    let mut found: usize = 0;
+    for _ in 0..FINDS {
+        let mut byte = [0u8; 1];
+        if let Ok(file) = shelf.find("people.nq") {
+            if shelf.read(file, &mut byte) == Ok(1) {
+                found = found.saturating_add(1);
+            }
+        }
+    }
+    found
+}
+
+fn said(answer: Result<usize, Fault>) -> &'static str {
+    match answer {
+        Ok(0) => "the end",
+        Ok(_) => "some bytes",
+        Err(Fault::Failed) => "failed",
+        Err(Fault::OutOfMemory) => "out of memory",
+    }
+}
+
+/// Reads of a file that was let go of, and of one that was read to its end.
+fn read_after<R: Files + Print + AllocGlobal>(rt: &R) -> io::Result<()> {
+    let mut shelf = DiskShelf::new(rt);
+    let mut bytes = [0u8; 65536];
+    let Ok(first) = shelf.find("people.nq") else {
+        return Err(io::Error::other("a file was not found"));
+    };
+    let Ok(second) = shelf.find("all.rq") else {
+        return Err(io::Error::other("a file was not found"));
+    };
+    let let_go = shelf.read(first, &mut bytes);
+    let some = shelf.read(second, &mut bytes);
+    let end = shelf.read(second, &mut bytes);
+    let again = shelf.read(second, &mut bytes);
+    println!(rt; "let go of by the next find: {}", said(let_go))?;
+    println!(rt; "the one found last: {}", said(some))?;
+    println!(rt; "behind its bytes: {}", said(end))?;
+    println!(rt; "and again: {}", said(again))
+}
+
+/// Finds and drops files, and prints how many of them were held open at most.
+pub fn found_and_dropped<R: Files + Print + AllocGlobal + Clone + Drop>(rt: &R) -> io::Result<()> {
+    println!(rt; "files that are found and dropped")?;
+    let before = open_files(rt)?;
+    let mut shelf = DiskShelf::new(rt);
+    println!(rt; "found: {}", find_often(&mut shelf))?;
+    println!(rt; "held open: {}", open_files(rt)?.saturating_sub(before))?;
+    read_after(rt)
+}
