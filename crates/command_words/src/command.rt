@@ -6,7 +6,7 @@ use triple_table::Choice;
 /// The options with which a client asks.
 #[derive(Clone, Copy, Debug, PartialEq, Eq)]
 pub struct ClientWords {
-    /// `--window`: how many asks are under way at once, 1 to 10000; 16 where it is not given.
+    /// `--window`: how many rows are extended at once, 1 to 10000; 16 where it is not given.
     pub window: u32,
     /// `--links`: how many connections are open at once, 1 to 256; 8 where it is not given.
     pub links: u32,

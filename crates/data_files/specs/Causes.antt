@@ -1,6 +1,7 @@
 -- Why a file is not read or not served, and what answers an outcome.
-use Rattle.std.specs.Prelude.{ℕ, ◌≡◌, List, Option, Result, Ok, Err}
+use Rattle.std.specs.Prelude.{ℕ, ◌≡◌, List, Result, Ok, Err}
 use Rattle.tpf_base.specs.Causes.{Rose}
+use Rattle.tpf_base.specs.Outside.{ShelfState}
 use Rattle.tpf_base.specs.declared.shelf.FileFault.{FileFault}
 use Rattle.tpf_base.specs.declared.shelf.FileFault.TheVariants as unreadable
 use Rattle.rdf_terms.specs.declared.term.Quad.{Quad}
@@ -14,8 +15,8 @@ use Rattle.data_files.specs.declared.fault.DataFault.{DataFault}
 use Rattle.data_files.specs.declared.fault.DataFault.TheVariants as faults
 use Rattle.data_files.specs.declared.fault.QueryFileFault.{QueryFileFault}
 use Rattle.data_files.specs.declared.fault.QueryFileFault.TheVariants as query_faults
-use Rattle.data_files.specs.Data.{Files, IfTold, IsTooLong, HasDataFault, HasClash, HasTooMany, Outcome, served, too_long, bad, clash, too_many}
-use Rattle.data_files.specs.Queries.{HasQueryFault, QueryOutcome, reads, refused}
+use Rattle.data_files.specs.Data.{IfTold, IsTooLong, HasDataFault, HasClash, HasTooMany, Outcome, IsOutcome, served, too_long, bad, clash, too_many}
+use Rattle.data_files.specs.Queries.{HasQueryFault, QueryOutcome, IsQueryOutcome, reads, refused}
 
 -- a file that was not read
 abbrev pub unread : FileFault → DataFault
@@ -28,14 +29,15 @@ unread_query unreadable.Failed = query_faults.File
 unread_query unreadable.TooLong = query_faults.Bad 262144 queries.TooLong
 unread_query unreadable.OutOfMemory = query_faults.OutOfMemory
 
--- what a fault of the data rests on; the counts are the shelf's faults before and after
-abbrev pub DataCause : Option Files → List ℕ → Choice → List ℕ → ℕ → ℕ → DataFault → Type 0
-DataCause told name choice authority shelf shelf' faults.TooLong = IfTold told (λ files. IsTooLong files name 1073741824)
-DataCause told name choice authority shelf shelf' (faults.Bad line why) = IfTold told (λ files. HasDataFault files name line why)
-DataCause told name choice authority shelf shelf' (faults.GenidClash label) = IfTold told (λ files. HasClash files name choice authority label)
-DataCause told name choice authority shelf shelf' faults.TooMany = IfTold told (λ files. HasTooMany files name choice authority)
-DataCause told name choice authority shelf shelf' faults.File = Rose shelf shelf'
-DataCause told name choice authority shelf shelf' faults.OutOfMemory = Unit {0}
+-- what a fault of the data of a file rests on, by the shelf before and after it was read
+abbrev pub DataCause : ShelfState → ShelfState → List ℕ → Choice → List ℕ → DataFault → Type 0
+DataCause old new name choice authority faults.TooLong = IfTold old.told (λ files. IsTooLong files name 1073741824)
+DataCause old new name choice authority (faults.Bad line why) = IfTold old.told (λ files. HasDataFault files name line why)
+DataCause old new name choice authority (faults.GenidClash label) =
+    IfTold old.told (λ files. HasClash files name choice authority label)
+DataCause old new name choice authority faults.TooMany = IfTold old.told (λ files. HasTooMany files name choice authority)
+DataCause old new name choice authority faults.File = Rose old.faults new.faults
+DataCause old new name choice authority faults.OutOfMemory = Unit {0}
 
 -- the same of quads that were read
 abbrev pub ServeCause : List Quad → Choice → List ℕ → DataFault → Type 0
@@ -46,11 +48,11 @@ ServeCause quads choice authority faults.TooMany = PassesMost 16777215 authority
 ServeCause quads choice authority faults.File = ⊥
 ServeCause quads choice authority faults.OutOfMemory = Unit {0}
 
--- what a fault of the query rests on
-abbrev pub QueryCause : Option Files → List ℕ → ℕ → ℕ → QueryFileFault → Type 0
-QueryCause told name shelf shelf' (query_faults.Bad at why) = IfTold told (λ files. HasQueryFault files name at why)
-QueryCause told name shelf shelf' query_faults.File = Rose shelf shelf'
-QueryCause told name shelf shelf' query_faults.OutOfMemory = Unit {0}
+-- what a fault of the query of a file rests on
+abbrev pub QueryCause : ShelfState → ShelfState → List ℕ → QueryFileFault → Type 0
+QueryCause old new name (query_faults.Bad at why) = IfTold old.told (λ files. HasQueryFault files name at why)
+QueryCause old new name query_faults.File = Rose old.faults new.faults
+QueryCause old new name query_faults.OutOfMemory = Unit {0}
 
 -- an outcome is answered by itself, or by want of memory
 abbrev pub Gives : Outcome → Result Stored DataFault → Type 0
@@ -67,3 +69,13 @@ GivesQuery outcome (Ok q) = outcome ≡ reads q
 GivesQuery outcome (Err (query_faults.Bad at why)) = outcome ≡ refused at why
 GivesQuery outcome (Err query_faults.File) = ⊥
 GivesQuery outcome (Err query_faults.OutOfMemory) = Unit {0}
+
+-- where the shelf did not fail, each outcome of the file of data is answered so
+abbrev pub DataDecides : ShelfState → ShelfState → List ℕ → Choice → List ℕ → (Outcome → Type 0) → Type 0
+DataDecides old new name choice authority Answered = ¬ (Rose old.faults new.faults)
+    → IfTold old.told (λ files. (outcome : Outcome) → IsOutcome files name choice authority outcome → Answered outcome)
+
+-- the same of the file of a query
+abbrev pub QueryDecides : ShelfState → ShelfState → List ℕ → (QueryOutcome → Type 0) → Type 0
+QueryDecides old new name Answered = ¬ (Rose old.faults new.faults)
+    → IfTold old.told (λ files. (outcome : QueryOutcome) → IsQueryOutcome files name outcome → Answered outcome)

@@ -47,6 +47,10 @@ AreFew triples = (terms : List Term) × IsRanking triples terms × (length tripl
 abbrev pub Serves : Files → List ℕ → Choice → List ℕ → List Triple → Type 0
 Serves files name choice authority triples = (quads : List Quad) × HoldsData files name quads × ((label : List ℕ) → ¬ (Clashes authority (chosen choice quads) label)) × IsServed authority (chosen choice quads) triples × AreFew triples
 
+-- the data set is the one that is served of the file, where the shelf tells it
+abbrev pub IsOfFile : Option Files → List ℕ → Choice → List ℕ → List Triple → Type 0
+IsOfFile told name choice authority triples = IfTold told (λ files. Serves files name choice authority triples)
+
 -- what becomes of a file of data: its triples are served, or why they are not
 pub data Outcome : Type 0 where
   served : List Triple → Outcome

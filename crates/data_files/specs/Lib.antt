@@ -1,3 +1,5 @@
 pub mod Data
 pub mod Queries
+pub mod Kept
+pub mod KeptLaws
 pub mod Causes

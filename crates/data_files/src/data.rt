@@ -1,14 +1,13 @@
 // The data of a file.
-ghost use Rattle.std.specs.Prelude.{ℕ, ◌≡◌, ◌≢◌, ◌^◌, ◌<◌, ◌≤◌, List, All, Err, IfOk, IfErr, OnOk, true};
+ghost use Rattle.std.specs.Prelude.{ℕ, ◌≡◌, ◌≢◌, List, All, Err, IfOk, IfErr, OnOk};
 ghost use Rattle.tpf_base.specs.Addresses.{IsAuthority};
-ghost use Rattle.tpf_base.specs.Causes.{Rose};
-ghost use Rattle.tpf_base.specs.Outside.{HoldsName, LeavesOpened};
 ghost use Rattle.rdf_terms.specs.Triples.{IsRdfQuad};
 ghost use Rattle.triple_table.specs.Chosen.{chosen};
 ghost use Rattle.triple_table.specs.Served.{Clashes, IsServed};
 ghost use Rattle.triple_table.specs.Stored.{triples_in};
-ghost use Rattle.data_files.specs.Data.{IfTold, HoldsData, AreFew, Serves, Outcome, IsOutcome, OneOutcome};
-ghost use Rattle.data_files.specs.Causes.{DataCause, ServeCause, Gives, unread};
+ghost use Rattle.data_files.specs.Data.{IfTold, HoldsData, AreFew, IsOfFile, OneOutcome};
+ghost use Rattle.data_files.specs.Kept.{ReadsNamed};
+ghost use Rattle.data_files.specs.Causes.{DataCause, ServeCause, DataDecides, Gives, unread};
 
 use crate::DataFault;
 use nquads_text::{TextFault, read_all};
@@ -38,15 +37,11 @@ fn unread(fault: FileFault) -> DataFault
 
 /// The quads of a file.
 fn read_quads<F: Shelf>(alloc: Global, shelf: &mut F, name: &str) -> Result<Vec<Quad>, DataFault>
-    ensures ok { IfOk result (λ v. IfTold (F.told shelf.old) (λ files. HoldsData files name.now v.items)) }
+    ensures ok { IfOk result (λ v. IfTold (F.state shelf.old).told (λ files. HoldsData files name.now v.items)) }
     ensures classes { IfOk result (λ v. All IsRdfQuad v.items) }
-    ensures err { (choice : Choice) (authority : List ℕ) → IfErr result (DataCause (F.told shelf.old) name.now choice authority (F.faults shelf.old) (F.faults shelf.new)) }
-    ensures told { F.told shelf.new ≡ F.told shelf.old }
-    ensures later { F.faults shelf.old ≤ F.faults shelf.new }
-    ensures opened { LeavesOpened (F.given shelf.old) (F.given shelf.new) (F.rest shelf.old) (F.rest shelf.new) }
-    ensures faultless { F.faultless shelf.new ≡ F.faultless shelf.old }
-    ensures holds { F.faultless shelf.old ≡ true → HoldsName (F.told shelf.old) name.now → F.given shelf.old < 2 ^ 32 →
-        (F.faults shelf.new ≡ F.faults shelf.old) × (result ≢ Err DataFault.File) }
+    ensures err { (choice : Choice) (authority : List ℕ) →
+        IfErr result (DataCause (F.state shelf.old) (F.state shelf.new) name.now choice authority) }
+    ensures reads { ReadsNamed name.now (F.state shelf.old) (F.state shelf.new) (result ≡ Err DataFault.File) }
 {
     let bytes = match read_file(alloc, shelf, name, MOST_DATA) {
         Ok(bytes) => bytes,
@@ -82,30 +77,6 @@ fn serve_quads(
     }
 }
 
-fn read_and_serve<F: Shelf>(
-    alloc: Global,
-    shelf: &mut F,
-    name: &str,
-    choice: &Choice,
-    authority: &str,
-) -> Result<Table, DataFault>
-    requires { IsAuthority authority.now }
-    ensures ok { IfOk result (λ table. IfTold (F.told shelf.old) (λ files. Serves files name.now choice.now authority.now (triples_in table))) }
-    ensures err { IfErr result (DataCause (F.told shelf.old) name.now choice.now authority.now (F.faults shelf.old) (F.faults shelf.new)) }
-    ensures told { F.told shelf.new ≡ F.told shelf.old }
-    ensures later { F.faults shelf.old ≤ F.faults shelf.new }
-    ensures opened { LeavesOpened (F.given shelf.old) (F.given shelf.new) (F.rest shelf.old) (F.rest shelf.new) }
-    ensures faultless { F.faultless shelf.new ≡ F.faultless shelf.old }
-    ensures holds { F.faultless shelf.old ≡ true → HoldsName (F.told shelf.old) name.now → F.given shelf.old < 2 ^ 32 →
-        (F.faults shelf.new ≡ F.faults shelf.old) × (result ≢ Err DataFault.File) }
-{
-    let quads = match read_quads(alloc, shelf, name) {
-        Ok(quads) => quads,
-        Err(fault) => return Err(fault),
-    };
-    serve_quads(alloc, &quads, choice, authority)
-}
-
 /// Reads the data of a file and gives the table of the triples that are served of them: those of the
 /// chosen graphs, where the blank node with label L is the Skolem IRI
 /// `http://AUTHORITY/.well-known/genid/L` (RDF 1.1 Concepts, 3.5). The authority is that of a web
@@ -123,17 +94,18 @@ pub fn read_table<F: Shelf>(
     authority: &str,
 ) -> Result<Table, DataFault>
     requires { IsAuthority authority.now }
-    ensures ok { IfOk result (λ table. IfTold (F.told shelf.old) (λ files. Serves files name.now choice.now authority.now (triples_in table))) }
-    ensures err { IfErr result (DataCause (F.told shelf.old) name.now choice.now authority.now (F.faults shelf.old) (F.faults shelf.new)) }
-    ensures exact { ¬ (Rose (F.faults shelf.old) (F.faults shelf.new)) → IfTold (F.told shelf.old) (λ files. (outcome : Outcome) → IsOutcome files name.now choice.now authority.now outcome → Gives outcome result) }
-    ensures told { F.told shelf.new ≡ F.told shelf.old }
-    ensures later { F.faults shelf.old ≤ F.faults shelf.new }
-    ensures opened { LeavesOpened (F.given shelf.old) (F.given shelf.new) (F.rest shelf.old) (F.rest shelf.new) }
-    ensures faultless { F.faultless shelf.new ≡ F.faultless shelf.old }
-    ensures holds { F.faultless shelf.old ≡ true → HoldsName (F.told shelf.old) name.now → F.given shelf.old < 2 ^ 32 →
-        (F.faults shelf.new ≡ F.faults shelf.old) × (result ≢ Err DataFault.File) }
+    ensures ok { IfOk result (λ table.
+        IsOfFile (F.state shelf.old).told name.now choice.now authority.now (triples_in table)) }
+    ensures err { IfErr result (DataCause (F.state shelf.old) (F.state shelf.new) name.now choice.now authority.now) }
+    ensures exact { DataDecides (F.state shelf.old) (F.state shelf.new) name.now choice.now authority.now
+        (λ outcome. Gives outcome result) }
+    ensures reads { ReadsNamed name.now (F.state shelf.old) (F.state shelf.new) (result ≡ Err DataFault.File) }
 {
-    read_and_serve(alloc, shelf, name, choice, authority)
+    let quads = match read_quads(alloc, shelf, name) {
+        Ok(quads) => quads,
+        Err(fault) => return Err(fault),
+    };
+    serve_quads(alloc, &quads, choice, authority)
 }
 
 /// The data of a file have one outcome at most: they are served, as one data set, or have one fault.

@@ -2,22 +2,24 @@
 use Rattle.std.proofs.Common.{ℕ, ◌≡◌, ◌<◌, inl, inr, List, Option, Result, Err, ◌↔◌, refl, sym, subst, arith}
 use Rattle.rdf_terms.specs.declared.term.Triple.{Triple}
 use Rattle.tpf_base.specs.Addresses.{Address, authority_of}
+use Rattle.tpf_base.specs.Outside.{ShelfState}
 use Rattle.tpf_base.specs.declared.fault.Fault.{Fault}
 use Rattle.tpf_base.specs.declared.fault.Fault.TheVariants as supply
 use Rattle.triple_table.specs.declared.choice.Choice.{Choice}
 use Rattle.data_files.specs.declared.fault.DataFault.{DataFault}
 use Rattle.data_files.specs.declared.fault.DataFault.TheVariants as faults
-use Rattle.data_files.specs.Data.{Files, too_long, bad, clash, too_many}
+use Rattle.data_files.specs.Data.{Files, IsOfFile, too_long, bad, clash, too_many}
 use Rattle.data_files.specs.Causes.{DataCause}
-use Rattle.file_server.specs.Supplies.{IsOfFile, FailedReading, supply_fault}
+use Rattle.file_server.specs.Supplies.{FailedReading, supply_fault}
 
-pub refused : (told : Option Files) (name : List ℕ) (choice : Choice) (authority : List ℕ) (shelf shelf' : ℕ) (fault : DataFault) → DataCause told name choice authority shelf shelf' fault → supply_fault fault ≡ supply.Failed → FailedReading told name choice authority shelf shelf'
-refused told name choice authority shelf shelf' faults.TooLong c e = inr (λ files is. (too_long, c files is, tt))
-refused told name choice authority shelf shelf' (faults.Bad line why) c e = inr (λ files is. (bad line why, c files is, tt))
-refused told name choice authority shelf shelf' (faults.GenidClash label) c e = inr (λ files is. (clash label, c files is, tt))
-refused told name choice authority shelf shelf' faults.TooMany c e = inr (λ files is. (too_many, c files is, tt))
-refused told name choice authority shelf shelf' faults.File c e = inl c
-refused told name choice authority shelf shelf' faults.OutOfMemory c e = cc
+pub refused : (old new : ShelfState) (name : List ℕ) (choice : Choice) (authority : List ℕ) (fault : DataFault) → DataCause old new name choice authority fault → supply_fault fault ≡ supply.Failed
+    → FailedReading old new name choice authority
+refused old new name choice authority faults.TooLong c e = inr (λ files is. (too_long, c files is, tt))
+refused old new name choice authority (faults.Bad line why) c e = inr (λ files is. (bad line why, c files is, tt))
+refused old new name choice authority (faults.GenidClash label) c e = inr (λ files is. (clash label, c files is, tt))
+refused old new name choice authority faults.TooMany c e = inr (λ files is. (too_many, c files is, tt))
+refused old new name choice authority faults.File c e = inl c
+refused old new name choice authority faults.OutOfMemory c e = cc
 
 pub err_same : {T : Type 0} (a b : Fault) → ◌≡◌ {A = Result T Fault} (Err a) (Err b) → a ≡ b
 err_same a b e = cc
@@ -32,7 +34,7 @@ same_file told told' name name' choice choice' base base' t n c b = λ triples.
     )
 
 -- a fault of a read is counted, unless it is want of memory
-pub failed_by : (told : Option Files) (name : List ℕ) (choice : Choice) (authority : List ℕ) (shelf shelf' own own' : ℕ) (fault : DataFault) (is : Fault) → is ≡ supply_fault fault → (is ≡ supply.OutOfMemory → own' ≡ own)
-    → DataCause told name choice authority shelf shelf' fault → own < own' → FailedReading told name choice authority shelf shelf'
-failed_by told name choice authority shelf shelf' own own' fault supply.Failed e memory cause more = refused told name choice authority shelf shelf' fault cause (sym e)
-failed_by told name choice authority shelf shelf' own own' fault supply.OutOfMemory e memory cause more = absurd (omega (arith, memory refl, more))
+pub failed_by : (old new : ShelfState) (name : List ℕ) (choice : Choice) (authority : List ℕ) (own own' : ℕ) (fault : DataFault) (is : Fault) → is ≡ supply_fault fault → (is ≡ supply.OutOfMemory → own' ≡ own)
+    → DataCause old new name choice authority fault → own < own' → FailedReading old new name choice authority
+failed_by old new name choice authority own own' fault supply.Failed e memory cause more = refused old new name choice authority fault cause (sym e)
+failed_by old new name choice authority own own' fault supply.OutOfMemory e memory cause more = absurd (omega (arith, memory refl, more))

@@ -8,7 +8,7 @@ use Rattle.connections.specs.Versions.{Serving}
 use Rattle.fragment_server.specs.declared.server.FragmentServer.{FragmentServer}
 use Rattle.fragment_server.specs.Fragments.{serving_of}
 use Rattle.data_files.specs.declared.fault.DataFault.{DataFault}
-use Rattle.data_files.specs.Data.{Files, IfTold, Serves, Outcome, served}
+use Rattle.data_files.specs.Data.{Files, IsOfFile, Outcome, served}
 use Rattle.data_files.specs.Causes.{Gives}
 
 -- what a server serves
@@ -19,7 +19,7 @@ serving server = serving_of server.server
 pub record Starts (told : Option Files) (name : List ℕ) (choice : Choice) (config : Config) (server : Serving (List Triple) Config) : Type 0 where
   pub config_is : server.config ≡ config
   pub version : server.version ≡ 1
-  pub data_set : IfTold told (λ files. Serves files name choice (authority_of config.base) server.data_set)
+  pub data_set : IsOfFile told name choice (authority_of config.base) server.data_set
 
 -- an outcome is answered by itself, or by want of memory
 abbrev pub GivesServer : Outcome → Result FragmentServer DataFault → Type 0

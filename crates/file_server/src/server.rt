@@ -1,11 +1,10 @@
 // The server of a file.
-ghost use Rattle.std.specs.Prelude.{ℕ, ◌≡◌, ◌≢◌, ◌^◌, ◌<◌, ◌≤◌, Err, IfOk, IfErr, true};
+ghost use Rattle.std.specs.Prelude.{◌≡◌, Err, IfOk, IfErr};
 ghost use Rattle.tpf_base.specs.Addresses.{authority_of};
-ghost use Rattle.tpf_base.specs.Causes.{Rose};
-ghost use Rattle.tpf_base.specs.Outside.{HoldsName, LeavesOpened};
 ghost use Rattle.triple_table.specs.Stored.{triples_in};
-ghost use Rattle.data_files.specs.Data.{IfTold, Serves, Outcome, IsOutcome};
-ghost use Rattle.data_files.specs.Causes.{DataCause, Gives};
+ghost use Rattle.data_files.specs.Data.{IsOfFile};
+ghost use Rattle.data_files.specs.Kept.{ReadsNamed};
+ghost use Rattle.data_files.specs.Causes.{DataCause, DataDecides, Gives};
 ghost use Rattle.file_server.specs.Servers.{Starts, GivesServer, serving};
 
 use data_files::{DataFault, read_table};
@@ -24,15 +23,13 @@ fn table_of<F: Shelf>(
     choice: &Choice,
     config: &Config,
 ) -> Result<Table, DataFault>
-    ensures ok { IfOk result (λ table. IfTold (F.told shelf.old) (λ files. Serves files name.now choice.now (authority_of config.now.base) (triples_in table))) }
-    ensures err { IfErr result (DataCause (F.told shelf.old) name.now choice.now (authority_of config.now.base) (F.faults shelf.old) (F.faults shelf.new)) }
-    ensures exact { ¬ (Rose (F.faults shelf.old) (F.faults shelf.new)) → IfTold (F.told shelf.old) (λ files. (outcome : Outcome) → IsOutcome files name.now choice.now (authority_of config.now.base) outcome → Gives outcome result) }
-    ensures told { F.told shelf.new ≡ F.told shelf.old }
-    ensures later { F.faults shelf.old ≤ F.faults shelf.new }
-    ensures opened { LeavesOpened (F.given shelf.old) (F.given shelf.new) (F.rest shelf.old) (F.rest shelf.new) }
-    ensures faultless { F.faultless shelf.new ≡ F.faultless shelf.old }
-    ensures holds { F.faultless shelf.old ≡ true → HoldsName (F.told shelf.old) name.now → F.given shelf.old < 2 ^ 32 →
-        (F.faults shelf.new ≡ F.faults shelf.old) × (result ≢ Err DataFault.File) }
+    ensures ok { IfOk result (λ table.
+        IsOfFile (F.state shelf.old).told name.now choice.now (authority_of config.now.base) (triples_in table)) }
+    ensures err { IfErr result
+        (DataCause (F.state shelf.old) (F.state shelf.new) name.now choice.now (authority_of config.now.base)) }
+    ensures exact { DataDecides (F.state shelf.old) (F.state shelf.new)
+        name.now choice.now (authority_of config.now.base) (λ outcome. Gives outcome result) }
+    ensures reads { ReadsNamed name.now (F.state shelf.old) (F.state shelf.new) (result ≡ Err DataFault.File) }
 {
     config.is_valid();
     read_table(alloc, shelf, name, choice, config.base().authority())
@@ -53,15 +50,13 @@ pub fn server_of_file<F: Shelf>(
     choice: &Choice,
     config: Config,
 ) -> Result<FragmentServer, DataFault>
-    ensures starts { IfOk result (λ server. Starts (F.told shelf.old) name.now choice.now config (serving server)) }
-    ensures err { IfErr result (DataCause (F.told shelf.old) name.now choice.now (authority_of config.base) (F.faults shelf.old) (F.faults shelf.new)) }
-    ensures exact { ¬ (Rose (F.faults shelf.old) (F.faults shelf.new)) → IfTold (F.told shelf.old) (λ files. (outcome : Outcome) → IsOutcome files name.now choice.now (authority_of config.base) outcome → GivesServer outcome result) }
-    ensures told { F.told shelf.new ≡ F.told shelf.old }
-    ensures later { F.faults shelf.old ≤ F.faults shelf.new }
-    ensures opened { LeavesOpened (F.given shelf.old) (F.given shelf.new) (F.rest shelf.old) (F.rest shelf.new) }
-    ensures faultless { F.faultless shelf.new ≡ F.faultless shelf.old }
-    ensures holds { F.faultless shelf.old ≡ true → HoldsName (F.told shelf.old) name.now → F.given shelf.old < 2 ^ 32 →
-        (F.faults shelf.new ≡ F.faults shelf.old) × (result ≢ Err DataFault.File) }
+    ensures starts { IfOk result (λ server.
+        Starts (F.state shelf.old).told name.now choice.now config (serving server)) }
+    ensures err { IfErr result
+        (DataCause (F.state shelf.old) (F.state shelf.new) name.now choice.now (authority_of config.base)) }
+    ensures exact { DataDecides (F.state shelf.old) (F.state shelf.new)
+        name.now choice.now (authority_of config.base) (λ outcome. GivesServer outcome result) }
+    ensures reads { ReadsNamed name.now (F.state shelf.old) (F.state shelf.new) (result ≡ Err DataFault.File) }
 {
     let table = match table_of(alloc, shelf, name, choice, &config) {
         Ok(table) => table,

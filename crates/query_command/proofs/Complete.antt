@@ -1,8 +1,10 @@
 -- Where none of the causes is there, a command succeeds, or memory is wanting.
-use Rattle.std.proofs.Common.{ℕ, ◌≡◌, ◌≤◌, [], ◌∷◌, List, length, Option, Result, Ok, Err, IfErr, codes, refl, sym, subst, ◌∙◌}
+use Rattle.std.proofs.Common.{ℕ, ◌≡◌, ◌≤◌, [], ◌∷◌, List, length, Option, None, Result, Ok, Err, IfOk, IfErr, codes, refl, sym, subst, ◌∙◌}
 use Rattle.std.specs.List.{AllByRecursion}
 use Rattle.tpf_base.specs.Addresses.{Address, address_text}
 use Rattle.tpf_base.specs.Links.{WireState}
+use Rattle.tpf_base.specs.Outside.{ShelfState}
+use Rattle.tpf_base.specs.Wrote.{SinkState}
 use Rattle.template_fill.specs.Metadata.{Config}
 use Rattle.template_fill.specs.Answered.{AnsweredGivePages}
 use Rattle.bgp_core.specs.Queries.{IsValidPattern, QueryData}
@@ -22,16 +24,21 @@ use Rattle.data_files.specs.declared.fault.DataFault.{DataFault}
 use Rattle.data_files.specs.declared.fault.DataFault.TheVariants as data_faults
 use Rattle.data_files.specs.declared.fault.QueryFileFault.{QueryFileFault}
 use Rattle.data_files.specs.declared.fault.QueryFileFault.TheVariants as query_faults
-use Rattle.data_files.specs.Data.{Files, IfTold, Outcome, IsOutcome, served}
-use Rattle.data_files.specs.Queries.{QueryOutcome, IsQueryOutcome, reads}
-use Rattle.data_files.specs.Causes.{Gives, GivesQuery}
+use Rattle.data_files.specs.Data.{Files, served}
+use Rattle.data_files.specs.Queries.{reads}
+use Rattle.data_files.specs.Kept.{ReadsNamed}
+use Rattle.data_files.specs.Causes.{Gives, GivesQuery, DataDecides, QueryDecides}
 use Rattle.query_command.specs.declared.fault.AnswerFault.{AnswerFault}
 use Rattle.query_command.specs.declared.fault.AnswerFault.TheVariants as faults
 use Rattle.query_command.specs.declared.generated_query.Counts.{Counts}
-use Rattle.query_command.specs.Answers.{GivesAnswer, AskCause, AnswersSome, FitsOver, OfQuery, IsWanting, IsClientWanting}
-use Rattle.query_command.specs.Generated.{usual_options, GeneratedCause}
-use Rattle.query_command.specs.Loops.{LocalView, LocalCause, GivesData, local_config}
-use Rattle.query_command.specs.Plans.{EndsCounted, EndsByPlan, SucceedsByPlan, OfGenerated, PlanIsWithin}
+use Rattle.query_command.specs.Files.{FailsByFile, ReadsLocally, KeepsOutput}
+use Rattle.query_command.specs.Answers.{Answers, GivesAnswer, AskCause, AnswersSome, FitsOver, OfQuery, IsWanting, IsClientWanting, SucceedsOver, AsksServer}
+use Rattle.query_command.specs.Generated.{usual_options, GeneratedAnswers, GeneratedCause}
+use Rattle.query_command.specs.Loops.{LocalView, LocalAnswers, LocalCause, GivesData, local_config}
+use Rattle.query_command.specs.Plans.{SendsInside, RequestsInside, MayFail, RepliesGenerated, EndsCounted, SendsLocally, RequestsLocally, RepliesLocally, EndsByPlan, SucceedsByPlan, OfGenerated, PlanIsWithin}
+use Rattle.query_command.specs.Commands.{AsksFile, AsksGenerated}
+use Rattle.query_command.proofs.Reading.{gives_answer, gives_data, gives_query_of}
+use Rattle.query_command.proofs.Counting.{gives_counts}
 use Rattle.query_command.proofs.Fitting.{one_version, plan_fits}
 use Rattle.query_command.proofs.Planned.{is_memory}
 
@@ -50,22 +57,21 @@ query_memory q (query_faults.Bad at why) h = absurd cc
 query_memory q query_faults.File h = absurd h
 query_memory q query_faults.OutOfMemory h = refl
 
-module _ (told : Option Files) (view : LocalView) (inside : Option (Looped FragmentServer)) (shelf shelf' out out' : ℕ) (taken taken' : Option (List ℕ)) where
-  pub local_complete : (result : Result Report AnswerFault) → IfErr result (LocalCause told view inside shelf shelf' out out' taken taken')
-      → (¬ (Rose shelf shelf') → IfTold told (λ files. (outcome : Outcome) → IsOutcome files view.name view.choice (codes "localhost") outcome → GivesData outcome result))
-      → (¬ (Rose shelf shelf') → IfTold told (λ files. (outcome : QueryOutcome) → IsQueryOutcome files view.query outcome → GivesAnswer outcome result))
-      → EndsByPlan told view result → ¬ (Rose shelf shelf') → ¬ (Rose out out') → SucceedsByPlan told view result
+module _ (shelf shelf' : ShelfState) (view : LocalView) (inside : Option (Looped FragmentServer)) (out out' : SinkState) where
+  pub local_complete : (result : Result Report AnswerFault) → IfErr result (LocalCause shelf shelf' view inside out out')
+      → DataDecides shelf shelf' view.name view.choice (codes "localhost") (λ outcome. GivesData outcome result) → QueryDecides shelf shelf' view.query (λ outcome. GivesAnswer outcome result)
+      → EndsByPlan shelf.told view result → ¬ (Rose shelf.faults shelf'.faults) → ¬ (Rose out.faults out'.faults) → SucceedsByPlan shelf.told view result
   local_complete (Ok report) cause data_exact query_exact ends quiet fine = λ small files is triples q serves holds within. tt
   local_complete (Err (faults.Data fault)) cause data_exact query_exact ends quiet fine = λ small files is triples q serves holds within. data_memory triples fault (data_exact quiet files is (served triples) serves)
   local_complete (Err (faults.Query fault)) cause data_exact query_exact ends quiet fine = λ small files is triples q serves holds within. query_memory q fault (query_exact quiet files is (reads q) holds)
   local_complete (Err (faults.Client fault)) cause data_exact query_exact ends quiet fine = λ small files is triples q serves holds within.
       is_memory view.fail_every view.options triples (local_config view.page_size) q fault within (λ e. fine (cause.1.loops.says.writes.sink e)) (ends small files is triples q serves holds)
 
-module _ (told : Option Files) (persons : ℕ) (name : List ℕ) (inside : Option (Looped FragmentServer)) (shelf shelf' : ℕ) where
-  pub generated_complete : (result : Result Counts AnswerFault) → IfErr result (GeneratedCause told persons name inside shelf shelf')
-      → (¬ (Rose shelf shelf') → IfTold told (λ files. (outcome : QueryOutcome) → IsQueryOutcome files name outcome → GivesAnswer outcome result))
-      → OfGenerated told persons name (λ triples q. EndsCounted usual_options triples (local_config 100) q result)
-      → ¬ (Rose shelf shelf') → OfGenerated told persons name (λ triples q. PlanIsWithin 0 usual_options triples (local_config 100) q → IfErr result IsWanting)
+module _ (shelf shelf' : ShelfState) (persons : ℕ) (name : List ℕ) (inside : Option (Looped FragmentServer)) where
+  pub generated_complete : (result : Result Counts AnswerFault) → IfErr result (GeneratedCause shelf shelf' persons name inside)
+      → QueryDecides shelf shelf' name (λ outcome. GivesAnswer outcome result)
+      → OfGenerated shelf.told persons name (λ triples q. EndsCounted usual_options triples (local_config 100) q result)
+      → ¬ (Rose shelf.faults shelf'.faults) → OfGenerated shelf.told persons name (λ triples q. PlanIsWithin 0 usual_options triples (local_config 100) q → IfErr result IsWanting)
   generated_complete (Ok counts) cause exact ends quiet = λ files is triples q serves holds within. tt
   generated_complete (Err (faults.Data fault)) cause exact ends quiet = λ files is triples q serves holds within. cause.0
   generated_complete (Err (faults.Query fault)) cause exact ends quiet = λ files is triples q serves holds within. query_memory q fault (exact quiet files is (reads q) holds)
@@ -100,11 +106,89 @@ module _ (told : Option Files) (name : List ℕ) (allows : List ℕ → ℕ → 
       let own : FitsOver allows a.q start options triples config old new = subst (λ (x : QueryData). FitsOver allows x start options triples config old new) same fits in
       still_memory triples fault (a.writes.complete (triples ∷ []) config own.honest own.lively own.rise own.rises (plan_fits plans starts gives allows a.q start options triples config old new (askable files name a.q (a.is_read files is) valid) short own) fine)
 
-  pub query_complete : (shelf shelf' : ℕ) (result : Result Report AnswerFault) → IfErr result (AskCause told name allows start options shelf shelf' old new out out' taken taken')
-      → (¬ (Rose shelf shelf') → IfTold told (λ files. (outcome : QueryOutcome) → IsQueryOutcome files name outcome → GivesAnswer outcome result))
-      → (length (address_text start) ≤ 65536 → ¬ (Rose out out') → OfQuery told name (λ q. (triples : List Triple) (config : Config) → FitsOver allows q start options triples config old new → IfErr result IsClientWanting))
-      → length (address_text start) ≤ 65536 → ¬ (Rose shelf shelf') → ¬ (Rose out out') → OfQuery told name (λ q. (triples : List Triple) (config : Config) → FitsOver allows q start options triples config old new → IfErr result IsWanting)
-  query_complete shelf shelf' (Ok report) cause exact asked short quiet fine = λ files is q holds triples config fits. tt
-  query_complete shelf shelf' (Err (faults.Data fault)) cause exact asked short quiet fine = λ files is q holds triples config fits. absurd cause
-  query_complete shelf shelf' (Err (faults.Query fault)) cause exact asked short quiet fine = λ files is q holds triples config fits. query_memory q fault (exact quiet files is (reads q) holds)
-  query_complete shelf shelf' (Err (faults.Client fault)) cause exact asked short quiet fine = λ files is q holds triples config fits. asked short fine files is q holds triples config fits
+module _ (shelf shelf' : ShelfState) (name : List ℕ) (allows : List ℕ → ℕ → List ℕ → List ℕ → Type 0) (start : Address) (options : Options) (wire wire' : WireState) (out out' : SinkState) where
+  query_complete : (result : Result Report AnswerFault) → IfErr result (AskCause shelf shelf' name allows start options wire wire' out out') → QueryDecides shelf shelf' name (λ outcome. GivesAnswer outcome result)
+      → (length (address_text start) ≤ 65536 → ¬ (Rose out.faults out'.faults) → OfQuery shelf.told name (λ q. (triples : List Triple) (config : Config) → FitsOver allows q start options triples config wire wire' → IfErr result IsClientWanting))
+      → SucceedsOver shelf shelf' name allows start options wire wire' out out' result
+  query_complete (Ok report) cause exact asked short quiet fine = λ files is q holds triples config fits. tt
+  query_complete (Err (faults.Data fault)) cause exact asked short quiet fine = λ files is q holds triples config fits. absurd cause
+  query_complete (Err (faults.Query fault)) cause exact asked short quiet fine = λ files is q holds triples config fits. query_memory q fault (exact quiet files is (reads q) holds)
+  query_complete (Err (faults.Client fault)) cause exact asked short quiet fine = λ files is q holds triples config fits. asked short fine files is q holds triples config fits
+
+  -- the answer or its cause, and that the call over the wire succeeds where nothing stands in the way, say the rest
+  pub asks_server : (result : Result Report AnswerFault) → IfOk result (λ report. Answers shelf.told name allows start options report wire wire' out.taken out'.taken)
+      → IfErr result (AskCause shelf shelf' name allows start options wire wire' out out')
+      → (length (address_text start) ≤ 65536 → ¬ (Rose out.faults out'.faults) → OfQuery shelf.told name (λ q. (triples : List Triple) (config : Config) → FitsOver allows q start options triples config wire wire' → IfErr result IsClientWanting))
+      → ReadsNamed name shelf shelf' (FailsByFile result) → KeepsOutput out out' result → AsksServer shelf shelf' allows wire wire' out out' name start options result
+  asks_server result ok err asked named output =
+      let exact = gives_answer shelf shelf' name allows start options wire wire' out out' result ok err in
+      record { answers = ok; cause = err; exact = exact; complete = query_complete result err exact asked; reads = named; output = output }
+
+  -- the client gave up: its cause says that it would not have, where nothing stands in the way
+  pub asks_failed : PlansAreRead → StartsAreRead → AnsweredGivePages → QueriesAreAskable → (fault : ClientFault)
+      → (a : AnswersSome shelf.told name allows start options fault wire wire' out.faults out'.faults out.taken out'.taken) → AllByRecursion IsValidPattern a.q.patterns
+      → ReadsNamed name shelf shelf' (FailsByFile {A = Report} (Err (faults.Client fault))) → KeepsOutput out out' (Err (faults.Client fault))
+      → AsksServer shelf shelf' allows wire wire' out out' name start options (Err (faults.Client fault))
+  asks_failed plans starts gives askable fault a valid named output =
+      asks_server (Err (faults.Client fault)) tt a
+      (asked_complete shelf.told name allows start options wire wire' out.faults out'.faults out.taken out'.taken plans starts gives askable fault a valid)
+      named output
+
+-- ---- in the same process
+
+module _ (shelf shelf' : ShelfState) (out out' : SinkState) (inside : Option (Looped FragmentServer)) (view : LocalView) where
+  pub asks_file : (result : Result Report AnswerFault) → IfOk result (λ report. LocalAnswers shelf.told view inside report out out') → IfErr result (LocalCause shelf shelf' view inside out out')
+      → SendsLocally shelf.told view inside → RequestsLocally shelf.told view inside → RepliesLocally shelf.told view inside result → EndsByPlan shelf.told view result
+      → ReadsLocally view.name view.query shelf shelf' result → KeepsOutput out out' result → AsksFile shelf shelf' out out' inside view result
+  asks_file result ok err sent requested replied ends named output =
+      let data_exact = gives_data shelf shelf' view inside out out' result ok err in
+      let query_exact = gives_query_of shelf shelf' view inside out out' result ok err in
+      record {
+        answers = ok;
+        cause = err;
+        data_exact = data_exact;
+        query_exact = query_exact;
+        sent = sent;
+        requested = requested;
+        replied = replied;
+        ends = ends;
+        complete = local_complete shelf shelf' view inside out out' result err data_exact query_exact ends;
+        reads = named;
+        output = output;
+      }
+
+  -- no wire was made: the data or the query are refused
+  pub asks_none : (fault : AnswerFault) → inside ≡ None → LocalCause shelf shelf' view inside out out' fault → ((triples : List Triple) (config : Config) (q : QueryData) → MayFail view.fail_every view.options triples config q fault)
+      → ReadsLocally view.name view.query shelf shelf' (Err fault) → KeepsOutput out out' (Err fault) → AsksFile shelf shelf' out out' inside view (Err fault)
+  asks_none fault none err ends named output =
+      asks_file (Err fault) tt err
+      (λ files is triples q serves holds. subst (λ (made : Option (Looped FragmentServer)). SendsInside made triples (local_config view.page_size) q) (sym none) tt)
+      (λ files is triples q serves holds. subst (λ (made : Option (Looped FragmentServer)). RequestsInside view.options made triples (local_config view.page_size) q) (sym none) tt)
+      tt (λ small files is triples q serves holds. ends triples (local_config view.page_size) q) named output
+
+module _ (shelf shelf' : ShelfState) (persons : ℕ) (name : List ℕ) (inside : Option (Looped FragmentServer)) where
+  pub asks_generated : (result : Result Counts AnswerFault) → IfOk result (GeneratedAnswers shelf.told persons name inside) → IfErr result (GeneratedCause shelf shelf' persons name inside)
+      → OfGenerated shelf.told persons name (λ triples q. SendsInside inside triples (local_config 100) q) → OfGenerated shelf.told persons name (λ triples q. RequestsInside usual_options inside triples (local_config 100) q)
+      → RepliesGenerated shelf.told persons name inside result → OfGenerated shelf.told persons name (λ triples q. EndsCounted usual_options triples (local_config 100) q result)
+      → ReadsNamed name shelf shelf' (FailsByFile result) → AsksGenerated shelf shelf' inside persons name result
+  asks_generated result ok err sent requested replied ends named =
+      let exact = gives_counts shelf shelf' persons name inside result ok err in
+      record {
+        answers = ok;
+        cause = err;
+        exact = exact;
+        sent = sent;
+        requested = requested;
+        replied = replied;
+        ends = ends;
+        complete = generated_complete shelf shelf' persons name inside result err exact ends;
+        reads = named;
+      }
+
+  pub counts_none : (fault : AnswerFault) → inside ≡ None → GeneratedCause shelf shelf' persons name inside fault → ((triples : List Triple) (config : Config) (q : QueryData) → MayFail 0 usual_options triples config q fault)
+      → ReadsNamed name shelf shelf' (FailsByFile {A = Counts} (Err fault)) → AsksGenerated shelf shelf' inside persons name (Err fault)
+  counts_none fault none err ends named =
+      asks_generated (Err fault) tt err
+      (λ files is triples q serves holds. subst (λ (made : Option (Looped FragmentServer)). SendsInside made triples (local_config 100) q) (sym none) tt)
+      (λ files is triples q serves holds. subst (λ (made : Option (Looped FragmentServer)). RequestsInside usual_options made triples (local_config 100) q) (sym none) tt)
+      tt (λ files is triples q serves holds. ends triples (local_config 100) q) named

@@ -1,5 +1,5 @@
 -- What a call over the wire to the server of generated data says.
-use Rattle.std.proofs.Common.{ℕ, ◌≡◌, ◌≤◌, ◌<◌, ◌^◌, [], ◌∷◌, List, length, codes, Option, None, Some, Result, Ok, Err, IfOk, IfErr, refl, sym, ap, subst, ◌∙◌, arith}
+use Rattle.std.proofs.Common.{ℕ, ◌≡◌, ◌≢◌, ◌≤◌, ◌<◌, ◌^◌, [], ◌∷◌, List, length, codes, Option, None, Some, Result, Ok, Err, IfOk, IfErr, refl, sym, ap, subst, ◌∙◌, arith}
 use Rattle.std.specs.List.{AllByRecursion}
 use Rattle.rdf_terms.specs.declared.term.Triple.{Triple}
 use Rattle.template_fill.specs.Metadata.{Config}
@@ -10,6 +10,7 @@ use Rattle.generated_data.specs.Generated.{generated}
 use Rattle.plan_laws.specs.Fitting.{AreServable, IsAskable}
 use Rattle.std.proofs.lemmas.List.Sorted.{length_permutation}
 use Rattle.tpf_base.specs.Causes.{Rose, counted_by}
+use Rattle.tpf_base.specs.Outside.{ShelfState}
 use Rattle.bgp_core.specs.Queries.{QueryData, IsValidPattern}
 use Rattle.loop_wire.specs.Looped.{Looped}
 use Rattle.fragment_server.specs.declared.server.FragmentServer.{FragmentServer}
@@ -17,10 +18,12 @@ use Rattle.generated_server.specs.Starts.{StartsGenerated}
 use Rattle.tpf_client.specs.declared.options.Options.{Options}
 use Rattle.tpf_client.specs.declared.options.Report.{Report}
 use Rattle.tpf_client.specs.declared.fault.ClientFault.{ClientFault}
+use Rattle.tpf_client.specs.declared.fault.ClientFault.TheVariants as clients
 use Rattle.tpf_client.specs.Calls.{solutions_of}
 use Rattle.data_files.specs.Data.{Files, IfTold}
 use Rattle.data_files.specs.Queries.{HoldsQuery, QueryOutcome, IsQueryOutcome, reads}
 use Rattle.data_files.proofs.Outcomes.{one_query}
+use Rattle.data_files.specs.Causes.{QueryDecides}
 use Rattle.data_files.proofs.Causes.{gives_query}
 use Rattle.file_server.specs.Servers.{serving}
 use Rattle.tpf_server.specs.Serving as core
@@ -29,7 +32,7 @@ use Rattle.query_command.specs.declared.fault.AnswerFault.{AnswerFault}
 use Rattle.query_command.specs.declared.fault.AnswerFault.TheVariants as faults
 use Rattle.query_command.specs.declared.generated_query.Counts.{Counts}
 use Rattle.query_command.specs.Answers.{WritesOver, FailsOver, IsReading, GivesAnswer}
-use Rattle.query_command.specs.Generated.{usual_options, CountsQuery, LoopsGenerated, AsksOver, FailsOn, GeneratedAnswers, GeneratedCause}
+use Rattle.query_command.specs.Generated.{usual_options, CountsQuery, LoopsGenerated, AsksOver, FailsOn, FailsFileOver, GeneratedAnswers, GeneratedCause}
 use Rattle.query_command.specs.Limits.{GeneratedAreServable, QueriesAreAskable}
 use Rattle.tpf_client.specs.Requested.{AnswersPlan}
 use Rattle.query_command.specs.Plans.{SendsPlan, SendsInside, BoundsRequests, RequestsInside, RepliesRows, RepliedGenerated, MayEnd, OfGenerated}
@@ -111,8 +114,8 @@ module _ (told : Option Files) (persons : ℕ) (name : List ℕ) (inside : Optio
       record { server = l.server; starts = l.starts; loops = record { after = l.loops.after; is_inside = l.loops.is_inside; says = (l.loops.says.0, l.loops.says.1, record { q = q; is_read = is_read; writes = l.loops.says.2 }) } },
     )
 
-    pub generated_fault : (shelf shelf' : ℕ) (fault : ClientFault) → LoopsGenerated persons inside (FailsOn q fault) → GeneratedCause told persons name inside shelf shelf' (faults.Client fault)
-    generated_fault shelf shelf' fault l = (
+    pub generated_fault : (fault : ClientFault) → LoopsGenerated persons inside (FailsOn q fault) → (fault ≢ clients.Sink) × LoopsGenerated persons inside (FailsFileOver told name fault)
+    generated_fault fault l = (
       λ e. never_rose (l.loops.says.sink e),
       record { server = l.server; starts = l.starts; loops = record { after = l.loops.after; is_inside = l.loops.is_inside; says = record { q = q; is_read = is_read; writes = l.loops.says } } },
     )
@@ -155,16 +158,16 @@ module _ (told : Option Files) (persons : ℕ) (name : List ℕ) (inside : Optio
         (ends (data_law persons (serving server).data_set most starts.data_set) (query_law files name q (is_read files is) valid))
 
   -- what the file holds is the query that was read
-  pub answers_read : (counts : Counts) → GeneratedAnswers told persons name inside counts → IfTold told (λ files. (outcome : QueryOutcome) → IsQueryOutcome files name outcome → IsReading outcome)
+  answers_read : (counts : Counts) → GeneratedAnswers told persons name inside counts → IfTold told (λ files. (outcome : QueryOutcome) → IsQueryOutcome files name outcome → IsReading outcome)
   answers_read counts a = λ files is outcome o. (a.0.q, one_query files name outcome (reads a.0.q) o (a.0.is_read files is))
 
-  pub causes_read : (X : Type 0) (shelf shelf' : ℕ) (fault : AnswerFault) → GeneratedCause told persons name inside shelf shelf' fault → ¬ (Rose shelf shelf')
-      → IfTold told (λ files. (outcome : QueryOutcome) → IsQueryOutcome files name outcome → GivesAnswer {X = X} outcome (Err fault))
-  causes_read X shelf shelf' (faults.Data fault) e quiet = λ files is outcome o. tt
-  causes_read X shelf shelf' (faults.Query fault) e quiet = gives_query told name shelf shelf' (Err fault) tt e.0 quiet
-  causes_read X shelf shelf' (faults.Client fault) e quiet = λ files is outcome o. (e.1.loops.says.q, one_query files name outcome (reads e.1.loops.says.q) o (e.1.loops.says.is_read files is))
+module _ (shelf shelf' : ShelfState) (persons : ℕ) (name : List ℕ) (inside : Option (Looped FragmentServer)) where
+  causes_read : (X : Type 0) (fault : AnswerFault) → GeneratedCause shelf shelf' persons name inside fault → QueryDecides shelf shelf' name (λ outcome. GivesAnswer {X = X} outcome (Err fault))
+  causes_read X (faults.Data fault) e quiet = λ files is outcome o. tt
+  causes_read X (faults.Query fault) e quiet = gives_query shelf shelf' name (Err fault) tt e.0 quiet
+  causes_read X (faults.Client fault) e quiet = λ files is outcome o. (e.1.loops.says.q, one_query files name outcome (reads e.1.loops.says.q) o (e.1.loops.says.is_read files is))
 
-  pub gives_counts : (shelf shelf' : ℕ) (result : Result Counts AnswerFault) → IfOk result (GeneratedAnswers told persons name inside) → IfErr result (GeneratedCause told persons name inside shelf shelf') → ¬ (Rose shelf shelf')
-      → IfTold told (λ files. (outcome : QueryOutcome) → IsQueryOutcome files name outcome → GivesAnswer outcome result)
-  gives_counts shelf shelf' (Ok counts) a e quiet = answers_read counts a
-  gives_counts shelf shelf' (Err fault) a e quiet = causes_read Counts shelf shelf' fault e quiet
+  pub gives_counts : (result : Result Counts AnswerFault) → IfOk result (GeneratedAnswers shelf.told persons name inside) → IfErr result (GeneratedCause shelf shelf' persons name inside)
+      → QueryDecides shelf shelf' name (λ outcome. GivesAnswer outcome result)
+  gives_counts (Ok counts) a e quiet = answers_read shelf.told persons name inside counts a
+  gives_counts (Err fault) a e quiet = causes_read Counts fault e quiet

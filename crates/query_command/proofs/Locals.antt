@@ -3,6 +3,8 @@ use Rattle.std.proofs.Common.{ℕ, ◌≡◌, ◌≤◌, ◌<◌, ◌^◌, [], �
 use Rattle.std.specs.List.{AllByRecursion}
 use Rattle.rdf_terms.specs.declared.term.Triple.{Triple}
 use Rattle.template_fill.specs.Metadata.{Config}
+use Rattle.tpf_base.specs.Outside.{ShelfState}
+use Rattle.tpf_base.specs.Wrote.{SinkState}
 use Rattle.tpf_base.specs.Rises.{RoseBy-within}
 use Rattle.loop_wire.specs.Looped.{Looped}
 use Rattle.fragment_server.specs.declared.server.FragmentServer.{FragmentServer}
@@ -18,12 +20,12 @@ use Rattle.data_files.specs.Queries.{HoldsQuery, HasQueryFault, reads}
 use Rattle.data_files.proofs.Outcomes.{one_outcome, one_query}
 use Rattle.data_files.specs.Causes.{QueryCause}
 use Rattle.file_server.specs.Servers.{Starts, serving}
-use Rattle.query_command.specs.declared.fault.AnswerFault.TheVariants as faults
-use Rattle.query_command.specs.Answers.{WritesOver, FailsOver}
+use Rattle.data_files.specs.Kept.{KeepsShelf}
+use Rattle.query_command.specs.Answers.{AnswersSome}
 use Rattle.query_command.specs.Limits.{FilesAreServable, QueriesAreAskable}
 use Rattle.tpf_client.specs.Requested.{AnswersPlan}
 use Rattle.query_command.specs.Plans.{SendsPlan, SendsInside, BoundsRequests, RequestsInside, RepliedInside, EndsAsPlanned, OfFiles}
-use Rattle.query_command.specs.Loops.{LocalView, LoopsServer, WritesAnswer, WritesAnswerFront, LocalAnswers, LocalCause, allows_of, wire_of, begun, local_base, local_config}
+use Rattle.query_command.specs.Loops.{LocalView, LoopsServer, LoopsFile, AnswersFilesFront, WritesLooped, FailsLooped, WritesAnswer, WritesAnswerFront, LocalAnswers, allows_of, wire_of, begun, local_base, local_config}
 
 same_data : (one other : List Triple) → served one ≡ served other → one ≡ other
 same_data one other e = cc
@@ -42,23 +44,23 @@ of_both view own triples config q asked P d c r h =
     subst (λ (x : QueryData). P triples (local_config view.page_size) x) (same_query q asked r)
     (subst (λ (s : Config). P triples s q) c (subst (λ (ts : List Triple). P ts config q) (same_data own triples d) h))
 
-module _ (told told' : Option Files) (same : told' ≡ told) (view : LocalView) (server : FragmentServer) (starts : Starts told view.name view.choice (local_config view.page_size) (serving server)) (inside : Option (Looped FragmentServer)) (taken taken' : Option (List ℕ)) where
+module _ (told told' : Option Files) (same : told' ≡ told) (view : LocalView) (server : FragmentServer) (starts : Starts told view.name view.choice (local_config view.page_size) (serving server)) (inside : Option (Looped FragmentServer)) (out out' : SinkState) where
   module _ (q : QueryData) (is_read : IfTold told' (λ files. HoldsQuery files view.query q)) where
     read : IfTold told (λ files. HoldsQuery files view.query q)
     read = subst (λ (t : Option Files). IfTold t (λ files. HoldsQuery files view.query q)) same is_read
 
     pub local_answers : (report : Report)
-        → LoopsServer server view.seed view.fail_every inside (λ old new. WritesOver (allows_of old) q local_base view.options report (wire_of old) (wire_of new) taken taken')
-        → WritesAnswer (serving server).data_set q report.rows taken taken' → LocalAnswers told view inside report taken taken'
+        → LoopsServer server view.seed view.fail_every inside (WritesLooped q view.options report out out')
+        → WritesAnswer (serving server).data_set q report.rows out.taken out'.taken → LocalAnswers told view inside report out out'
     local_answers report l w = (
       record { triples = (serving server).data_set; is_served = starts.data_set; q = q; is_read = read; writes = w },
       record { server = server; starts = starts; loops = record { after = l.after; is_inside = l.is_inside; says = record { q = q; is_read = read; writes = l.says } } },
     )
 
-    pub local_fault : (shelf shelf' out out' : ℕ) (fault : ClientFault)
-        → LoopsServer server view.seed view.fail_every inside (λ old new. FailsOver (allows_of old) q local_base view.options fault (wire_of old) (wire_of new) out out' taken taken')
-        → WritesAnswerFront (serving server).data_set q taken taken' → LocalCause told view inside shelf shelf' out out' taken taken' (faults.Client fault)
-    local_fault shelf shelf' out out' fault l w = (
+    pub local_fault : (fault : ClientFault) → LoopsServer server view.seed view.fail_every inside (FailsLooped q view.options fault out out') → WritesAnswerFront (serving server).data_set q out.taken out'.taken
+        → AnswersFilesFront told view.name view.query view.choice out.taken out'.taken
+        × LoopsFile told view inside (λ old new. AnswersSome told view.query (allows_of old) local_base view.options fault (wire_of old) (wire_of new) out.faults out'.faults out.taken out'.taken)
+    local_fault fault l w = (
       record { triples = (serving server).data_set; is_served = starts.data_set; q = q; is_read = read; writes = w },
       record { server = server; starts = starts; loops = record { after = l.after; is_inside = l.is_inside; says = record { q = q; is_read = read; writes = l.says } } },
     )
@@ -108,7 +110,7 @@ module _ (told told' : Option Files) (same : told' ≡ told) (view : LocalView) 
         }
 
 -- the fault of the query, from before the data were read
-pub query_from : (told told' : Option Files) → told' ≡ told → (name : List ℕ) (shelf mid shelf' : ℕ) (fault : QueryFileFault) → shelf ≤ mid → QueryCause told' name mid shelf' fault → QueryCause told name shelf shelf' fault
-query_from told told' same name shelf mid shelf' (query_faults.Bad at why) before h = subst (λ (t : Option Files). IfTold t (λ files. HasQueryFault files name at why)) same h
-query_from told told' same name shelf mid shelf' query_faults.File before h = RoseBy-within 1 1 mid shelf' shelf shelf' (omega arith) before (omega arith) h
-query_from told told' same name shelf mid shelf' query_faults.OutOfMemory before h = tt
+pub query_from : (shelf mid shelf' : ShelfState) → KeepsShelf shelf mid → (name : List ℕ) (fault : QueryFileFault) → QueryCause mid shelf' name fault → QueryCause shelf shelf' name fault
+query_from shelf mid shelf' first name (query_faults.Bad at why) h = subst (λ (t : Option Files). IfTold t (λ files. HasQueryFault files name at why)) first.told h
+query_from shelf mid shelf' first name query_faults.File h = RoseBy-within 1 1 mid.faults shelf'.faults shelf.faults shelf'.faults (omega arith) first.later (omega arith) h
+query_from shelf mid shelf' first name query_faults.OutOfMemory h = tt

@@ -1,14 +1,16 @@
 -- What the files hold decides how a query of them ends, where the shelf does not fail.
 use Rattle.std.proofs.Common.{ℕ, List, Option, Result, Ok, Err, IfOk, IfErr, codes}
 use Rattle.tpf_base.specs.Addresses.{Address}
-use Rattle.tpf_base.specs.Causes.{Rose}
+use Rattle.tpf_base.specs.Outside.{ShelfState}
+use Rattle.tpf_base.specs.Wrote.{SinkState}
 use Rattle.tpf_base.specs.Links.{WireState}
 use Rattle.tpf_client.specs.declared.options.Options.{Options}
 use Rattle.tpf_client.specs.declared.options.Report.{Report}
 use Rattle.loop_wire.specs.Looped.{Looped}
 use Rattle.fragment_server.specs.declared.server.FragmentServer.{FragmentServer}
-use Rattle.data_files.specs.Data.{Files, IfTold, Outcome, IsOutcome, served}
-use Rattle.data_files.specs.Queries.{QueryOutcome, IsQueryOutcome, reads}
+use Rattle.data_files.specs.Data.{served}
+use Rattle.data_files.specs.Queries.{reads}
+use Rattle.data_files.specs.Causes.{DataDecides, QueryDecides}
 use Rattle.data_files.proofs.Outcomes.{one_outcome, one_query}
 use Rattle.data_files.proofs.Causes.{gives, gives_query}
 use Rattle.query_command.specs.declared.fault.AnswerFault.{AnswerFault}
@@ -16,26 +18,25 @@ use Rattle.query_command.specs.declared.fault.AnswerFault.TheVariants as faults
 use Rattle.query_command.specs.Answers.{Answers, AskCause, GivesAnswer}
 use Rattle.query_command.specs.Loops.{LocalView, LocalAnswers, LocalCause, GivesData}
 
-module _ (told : Option Files) (name : List ℕ) (allows : List ℕ → ℕ → List ℕ → List ℕ → Type 0) (start : Address) (options : Options) (shelf shelf' : ℕ) (old new : WireState) (out out' : ℕ) (taken taken' : Option (List ℕ)) where
-  pub gives_answer : (result : Result Report AnswerFault) → IfOk result (λ report. Answers told name allows start options report old new taken taken')
-      → IfErr result (AskCause told name allows start options shelf shelf' old new out out' taken taken') → ¬ (Rose shelf shelf')
-      → IfTold told (λ files. (outcome : QueryOutcome) → IsQueryOutcome files name outcome → GivesAnswer outcome result)
+module _ (shelf shelf' : ShelfState) (name : List ℕ) (allows : List ℕ → ℕ → List ℕ → List ℕ → Type 0) (start : Address) (options : Options) (wire wire' : WireState) (out out' : SinkState) where
+  pub gives_answer : (result : Result Report AnswerFault) → IfOk result (λ report. Answers shelf.told name allows start options report wire wire' out.taken out'.taken)
+      → IfErr result (AskCause shelf shelf' name allows start options wire wire' out out') → QueryDecides shelf shelf' name (λ outcome. GivesAnswer outcome result)
   gives_answer (Ok report) a e quiet = λ files is outcome o. (a.q, one_query files name outcome (reads a.q) o (a.is_read files is))
   gives_answer (Err (faults.Data fault)) a e quiet = absurd e
-  gives_answer (Err (faults.Query fault)) a e quiet = gives_query told name shelf shelf' (Err fault) tt e.0 quiet
+  gives_answer (Err (faults.Query fault)) a e quiet = gives_query shelf shelf' name (Err fault) tt e.0 quiet
   gives_answer (Err (faults.Client fault)) a e quiet = λ files is outcome o. (e.q, one_query files name outcome (reads e.q) o (e.is_read files is))
 
-module _ (told : Option Files) (view : LocalView) (inside : Option (Looped FragmentServer)) (shelf shelf' out out' : ℕ) (taken taken' : Option (List ℕ)) where
-  pub gives_data : (result : Result Report AnswerFault) → IfOk result (λ report. LocalAnswers told view inside report taken taken') → IfErr result (LocalCause told view inside shelf shelf' out out' taken taken') → ¬ (Rose shelf shelf')
-      → IfTold told (λ files. (outcome : Outcome) → IsOutcome files view.name view.choice (codes "localhost") outcome → GivesData outcome result)
+module _ (shelf shelf' : ShelfState) (view : LocalView) (inside : Option (Looped FragmentServer)) (out out' : SinkState) where
+  pub gives_data : (result : Result Report AnswerFault) → IfOk result (λ report. LocalAnswers shelf.told view inside report out out') → IfErr result (LocalCause shelf shelf' view inside out out')
+      → DataDecides shelf shelf' view.name view.choice (codes "localhost") (λ outcome. GivesData outcome result)
   gives_data (Ok report) a e quiet = λ files is outcome o. (a.0.triples, one_outcome files view.name view.choice (codes "localhost") outcome (served a.0.triples) o (a.0.is_served files is))
-  gives_data (Err (faults.Data fault)) a e quiet = gives told view.name view.choice (codes "localhost") shelf shelf' (Err fault) tt e.0 quiet
+  gives_data (Err (faults.Data fault)) a e quiet = gives shelf shelf' view.name view.choice (codes "localhost") (Err fault) tt e.0 quiet
   gives_data (Err (faults.Query fault)) a e quiet = λ files is outcome o. (e.1.0, one_outcome files view.name view.choice (codes "localhost") outcome (served e.1.0) o (e.1.1 files is))
   gives_data (Err (faults.Client fault)) a e quiet = λ files is outcome o. (e.0.triples, one_outcome files view.name view.choice (codes "localhost") outcome (served e.0.triples) o (e.0.is_served files is))
 
-  pub gives_query_of : (result : Result Report AnswerFault) → IfOk result (λ report. LocalAnswers told view inside report taken taken') → IfErr result (LocalCause told view inside shelf shelf' out out' taken taken') → ¬ (Rose shelf shelf')
-      → IfTold told (λ files. (outcome : QueryOutcome) → IsQueryOutcome files view.query outcome → GivesAnswer outcome result)
+  pub gives_query_of : (result : Result Report AnswerFault) → IfOk result (λ report. LocalAnswers shelf.told view inside report out out') → IfErr result (LocalCause shelf shelf' view inside out out')
+      → QueryDecides shelf shelf' view.query (λ outcome. GivesAnswer outcome result)
   gives_query_of (Ok report) a e quiet = λ files is outcome o. (a.0.q, one_query files view.query outcome (reads a.0.q) o (a.0.is_read files is))
   gives_query_of (Err (faults.Data fault)) a e quiet = λ files is outcome o. tt
-  gives_query_of (Err (faults.Query fault)) a e quiet = gives_query told view.query shelf shelf' (Err fault) tt e.0 quiet
+  gives_query_of (Err (faults.Query fault)) a e quiet = gives_query shelf shelf' view.query (Err fault) tt e.0 quiet
   gives_query_of (Err (faults.Client fault)) a e quiet = λ files is outcome o. (e.0.q, one_query files view.query outcome (reads e.0.q) o (e.0.is_read files is))

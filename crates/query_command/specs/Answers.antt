@@ -1,10 +1,12 @@
 -- What a query of a file over a wire came to.
-use Rattle.std.specs.Prelude.{ℕ, ◌≡◌, ◌+◌, ◌≤◌, true, [], ◌∷◌, List, length, Option, Result, Ok, Err}
+use Rattle.std.specs.Prelude.{ℕ, ◌≡◌, ◌+◌, ◌≤◌, true, [], ◌∷◌, List, length, Option, Result, Ok, Err, IfOk, IfErr}
 use Rattle.std.specs.List.{AllByRecursion}
-use Rattle.tpf_base.specs.Addresses.{Address, authority_of}
+use Rattle.tpf_base.specs.Addresses.{Address, address_text, authority_of}
 use Rattle.tpf_base.specs.Marks.{Served}
 use Rattle.tpf_base.specs.Causes.{Rose}
 use Rattle.tpf_base.specs.Links.{WireState}
+use Rattle.tpf_base.specs.Outside.{ShelfState}
+use Rattle.tpf_base.specs.Wrote.{SinkState}
 use Rattle.rdf_terms.specs.declared.term.Triple.{Triple}
 use Rattle.template_fill.specs.Metadata.{Config}
 use Rattle.template_fill.specs.Answered.{is_answered}
@@ -25,9 +27,11 @@ use Rattle.data_files.specs.declared.fault.QueryFileFault.TheVariants as query_f
 use Rattle.data_files.specs.declared.fault.DataFault.TheVariants as data_faults
 use Rattle.data_files.specs.Data.{Files, IfTold}
 use Rattle.data_files.specs.Queries.{HoldsQuery, QueryOutcome, reads}
-use Rattle.data_files.specs.Causes.{QueryCause, GivesQuery}
+use Rattle.data_files.specs.Kept.{ReadsNamed}
+use Rattle.data_files.specs.Causes.{QueryCause, QueryDecides, GivesQuery}
 use Rattle.query_command.specs.declared.fault.AnswerFault.{AnswerFault}
 use Rattle.query_command.specs.declared.fault.AnswerFault.TheVariants as faults
+use Rattle.query_command.specs.Files.{FailsByFile, KeepsOutput}
 
 -- What a call over a wire keeps to, however it ends. Each link that was given in it is closed, and was dialled for the host and the port of the start; links before it are as they were. Requests were sent for nothing but what was asked, and the dials and the links are within the budget. Over an honest wire what was asked is of the plan; over one that is lively too, requests are made for this and after failures alone; and over a steady one no fault is provoked.
 pub record KeepsToPlan (allows : List ℕ → ℕ → List ℕ → List ℕ → Type 0) (q : QueryData) (start : Address) (options : Options) (old new : WireState) : Type 0 where
@@ -86,11 +90,12 @@ pub record AnswersSome (told : Option Files) (name : List ℕ) (allows : List �
   pub is_read : IfTold told (λ files. HoldsQuery files name q)
   pub writes : FailsOver allows q start options fault old new out out' taken taken'
 
--- why there is no whole answer over a wire; where the query is refused the wire is as before, nothing was written, and the output did not fail
-abbrev pub AskCause : Option Files → List ℕ → (List ℕ → ℕ → List ℕ → List ℕ → Type 0) → Address → Options → ℕ → ℕ → WireState → WireState → ℕ → ℕ → Option (List ℕ) → Option (List ℕ) → AnswerFault → Type 0
-AskCause told name allows start options shelf shelf' old new out out' taken taken' (faults.Data fault) = ⊥
-AskCause told name allows start options shelf shelf' old new out out' taken taken' (faults.Query fault) = QueryCause told name shelf shelf' fault × (new ≡ old) × (taken' ≡ taken) × (out' ≡ out)
-AskCause told name allows start options shelf shelf' old new out out' taken taken' (faults.Client fault) = AnswersSome told name allows start options fault old new out out' taken taken'
+-- why there is no whole answer over a wire; where the query is refused the wire and the output are as before
+abbrev pub AskCause : ShelfState → ShelfState → List ℕ → (List ℕ → ℕ → List ℕ → List ℕ → Type 0) → Address → Options → WireState → WireState → SinkState → SinkState → AnswerFault → Type 0
+AskCause shelf shelf' name allows start options wire wire' out out' (faults.Data fault) = ⊥
+AskCause shelf shelf' name allows start options wire wire' out out' (faults.Query fault) = QueryCause shelf shelf' name fault × (wire' ≡ wire) × (out' ≡ out)
+AskCause shelf shelf' name allows start options wire wire' out out' (faults.Client fault) =
+    AnswersSome shelf.told name allows start options fault wire wire' out.faults out'.faults out.taken out'.taken
 
 -- the query is read
 abbrev pub IsReading : QueryOutcome → Type 0
@@ -132,3 +137,20 @@ pub record FitsOver (allows : List ℕ → ℕ → List ℕ → List ℕ → Typ
 -- of the query of a file, where the shelf tells it
 abbrev pub OfQuery : Option Files → List ℕ → (QueryData → Type 0) → Type 0
 OfQuery told name holds = IfTold told (λ files. (q : QueryData) → HoldsQuery files name q → holds q)
+
+-- where the text of the start has at most 65536 bytes, nothing stands in the way, and shelf and output did not fail, memory is wanting or the call succeeded
+abbrev pub SucceedsOver : ShelfState → ShelfState → List ℕ → (List ℕ → ℕ → List ℕ → List ℕ → Type 0) → Address → Options → WireState → WireState → SinkState → SinkState → Result Report AnswerFault → Type 0
+SucceedsOver shelf shelf' name allows start options wire wire' out out' result =
+    length (address_text start) ≤ 65536 → ¬ (Rose shelf.faults shelf'.faults) → ¬ (Rose out.faults out'.faults)
+    → OfQuery shelf.told name (λ q. (triples : List Triple) (config : Config) → FitsOver allows q start options triples config wire wire' → IfErr result IsWanting)
+
+-- ---- the command
+
+-- What a query of a file over a wire came to, and what it left of shelf, wire and output.
+pub record AsksServer (shelf shelf' : ShelfState) (allows : List ℕ → ℕ → List ℕ → List ℕ → Type 0) (wire wire' : WireState) (out out' : SinkState) (name : List ℕ) (start : Address) (options : Options) (result : Result Report AnswerFault) : Type 0 where
+  pub answers : IfOk result (λ report. Answers shelf.told name allows start options report wire wire' out.taken out'.taken)
+  pub cause : IfErr result (AskCause shelf shelf' name allows start options wire wire' out out')
+  pub exact : QueryDecides shelf shelf' name (λ outcome. GivesAnswer outcome result)
+  pub complete : SucceedsOver shelf shelf' name allows start options wire wire' out out' result
+  pub reads : ReadsNamed name shelf shelf' (FailsByFile result)
+  pub output : KeepsOutput out out' result

@@ -2,6 +2,7 @@
 use Rattle.std.specs.Prelude.{ℕ, ◌≡◌, ◌≢◌, List, length, codes, Option, None}
 use Rattle.rdf_terms.specs.declared.term.Triple.{Triple}
 use Rattle.tpf_base.specs.Causes.{counted_by}
+use Rattle.tpf_base.specs.Outside.{ShelfState}
 use Rattle.bgp_core.specs.Queries.{QueryData}
 use Rattle.triple_table.specs.declared.choice.Choice.TheVariants.{DefaultGraph}
 use Rattle.triple_table.specs.Chosen.{chosen}
@@ -74,7 +75,8 @@ abbrev pub GeneratedAnswers : Option Files → ℕ → List ℕ → Option (Loop
 GeneratedAnswers told persons query_name inside counts = CountsFile told persons query_name counts × LoopsGenerated persons inside (AsksFileOver told query_name counts.rows)
 
 -- why there are none: the data have no fault, and the result is written nowhere that fails
-abbrev pub GeneratedCause : Option Files → ℕ → List ℕ → Option (Looped FragmentServer) → ℕ → ℕ → AnswerFault → Type 0
-GeneratedCause told persons query_name inside shelf shelf' (faults.Data fault) = (fault ≡ data_faults.OutOfMemory) × (inside ≡ None)
-GeneratedCause told persons query_name inside shelf shelf' (faults.Query fault) = QueryCause told query_name shelf shelf' fault × (inside ≡ None)
-GeneratedCause told persons query_name inside shelf shelf' (faults.Client fault) = (fault ≢ client_faults.Sink) × LoopsGenerated persons inside (FailsFileOver told query_name fault)
+abbrev pub GeneratedCause : ShelfState → ShelfState → ℕ → List ℕ → Option (Looped FragmentServer) → AnswerFault → Type 0
+GeneratedCause shelf shelf' persons query_name inside (faults.Data fault) = (fault ≡ data_faults.OutOfMemory) × (inside ≡ None)
+GeneratedCause shelf shelf' persons query_name inside (faults.Query fault) = QueryCause shelf shelf' query_name fault × (inside ≡ None)
+GeneratedCause shelf shelf' persons query_name inside (faults.Client fault) =
+    (fault ≢ client_faults.Sink) × LoopsGenerated persons inside (FailsFileOver shelf.told query_name fault)

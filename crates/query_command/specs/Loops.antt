@@ -8,7 +8,8 @@ use Rattle.rdf_terms.specs.declared.term.Triple.{Triple}
 use Rattle.tpf_base.specs.Addresses.{Address}
 use Rattle.tpf_base.specs.Causes.{counted_by}
 use Rattle.tpf_base.specs.Links.{WireState}
-use Rattle.tpf_base.specs.Wrote.{AppendsPrefix}
+use Rattle.tpf_base.specs.Outside.{ShelfState}
+use Rattle.tpf_base.specs.Wrote.{SinkState, AppendsPrefix}
 use Rattle.bgp_core.specs.Queries.{QueryData}
 use Rattle.bgp_core.specs.Solutions.{Places}
 use Rattle.result_json.specs.Results.{result_text}
@@ -20,6 +21,7 @@ use Rattle.fragment_server.specs.declared.server.FragmentServer.{FragmentServer}
 use Rattle.fragment_server.specs.Failing.{failing_response}
 use Rattle.tpf_client.specs.declared.options.Options.{Options}
 use Rattle.tpf_client.specs.declared.options.Report.{Report}
+use Rattle.tpf_client.specs.declared.fault.ClientFault.{ClientFault}
 use Rattle.tpf_client.specs.Calls.{solutions_of}
 use Rattle.data_files.specs.Data.{Files, IfTold, Serves, Outcome, served}
 use Rattle.data_files.specs.Queries.{HoldsQuery}
@@ -28,7 +30,7 @@ use Rattle.file_server.specs.Servers.{Starts, serving}
 use Rattle.query_command.specs.declared.fault.AnswerFault.{AnswerFault}
 use Rattle.query_command.specs.declared.fault.AnswerFault.TheVariants as faults
 use Rattle.query_command.specs.declared.local_query.LocalQuery as declared_local
-use Rattle.query_command.specs.Answers.{Answers, AnswersSome}
+use Rattle.query_command.specs.Answers.{WritesOver, FailsOver, Answers, AnswersSome}
 
 -- what is asked of a file in the same process, without where its names lie in memory
 pub record LocalView : Type 0 where
@@ -109,23 +111,33 @@ pub record LoopsFile (told : Option Files) (local : LocalView) (inside : Option 
   pub starts : Starts told local.name local.choice (local_config local.page_size) (serving server)
   pub loops : LoopsServer server local.seed local.fail_every inside Says
 
+-- over a wire that was made, the result of a query was written, or a front of it
+abbrev pub WritesLooped : QueryData → Options → Report → SinkState → SinkState → Looped FragmentServer → Looped FragmentServer → Type 0
+WritesLooped q options report out out' old new = WritesOver (allows_of old) q local_base options report (wire_of old) (wire_of new) out.taken out'.taken
+
+abbrev pub FailsLooped : QueryData → Options → ClientFault → SinkState → SinkState → Looped FragmentServer → Looped FragmentServer → Type 0
+FailsLooped q options fault out out' old new =
+    FailsOver (allows_of old) q local_base options fault (wire_of old) (wire_of new) out.faults out'.faults out.taken out'.taken
+
 -- the query was asked over that wire, and the text of its result written
-abbrev pub LocalAnswers : Option Files → LocalView → Option (Looped FragmentServer) → Report → Option (List ℕ) → Option (List ℕ) → Type 0
-LocalAnswers told local inside report taken taken' =
-    AnswersFiles told local.name local.query local.choice report.rows taken taken'
-    × LoopsFile told local inside (λ old new. Answers told local.query (allows_of old) local_base local.options report (wire_of old) (wire_of new) taken taken')
+abbrev pub LocalAnswers : Option Files → LocalView → Option (Looped FragmentServer) → Report → SinkState → SinkState → Type 0
+LocalAnswers told local inside report out out' =
+    AnswersFiles told local.name local.query local.choice report.rows out.taken out'.taken
+    × LoopsFile told local inside (λ old new. Answers told local.query (allows_of old) local_base local.options report (wire_of old) (wire_of new) out.taken out'.taken)
 
 -- the data are served
 abbrev pub IsDataRead : Option Files → List ℕ → Choice → Type 0
 IsDataRead told name choice = (triples : List Triple) × IfTold told (λ files. Serves files name choice (codes "localhost") triples)
 
--- why there is no whole answer; where a file is refused nothing was written, the output did not fail, and no wire was made
-abbrev pub LocalCause : Option Files → LocalView → Option (Looped FragmentServer) → ℕ → ℕ → ℕ → ℕ → Option (List ℕ) → Option (List ℕ) → AnswerFault → Type 0
-LocalCause told local inside shelf shelf' out out' taken taken' (faults.Data fault) = DataCause told local.name local.choice (codes "localhost") shelf shelf' fault × (taken' ≡ taken) × (out' ≡ out) × (inside ≡ None)
-LocalCause told local inside shelf shelf' out out' taken taken' (faults.Query fault) = QueryCause told local.query shelf shelf' fault × IsDataRead told local.name local.choice × (taken' ≡ taken) × (out' ≡ out) × (inside ≡ None)
-LocalCause told local inside shelf shelf' out out' taken taken' (faults.Client fault) =
-    AnswersFilesFront told local.name local.query local.choice taken taken'
-    × LoopsFile told local inside (λ old new. AnswersSome told local.query (allows_of old) local_base local.options fault (wire_of old) (wire_of new) out out' taken taken')
+-- why there is no whole answer; where a file is refused the output is as before, and no wire was made
+abbrev pub LocalCause : ShelfState → ShelfState → LocalView → Option (Looped FragmentServer) → SinkState → SinkState → AnswerFault → Type 0
+LocalCause shelf shelf' local inside out out' (faults.Data fault) =
+    DataCause shelf shelf' local.name local.choice (codes "localhost") fault × (out' ≡ out) × (inside ≡ None)
+LocalCause shelf shelf' local inside out out' (faults.Query fault) =
+    QueryCause shelf shelf' local.query fault × IsDataRead shelf.told local.name local.choice × (out' ≡ out) × (inside ≡ None)
+LocalCause shelf shelf' local inside out out' (faults.Client fault) =
+    AnswersFilesFront shelf.told local.name local.query local.choice out.taken out'.taken
+    × LoopsFile shelf.told local inside (λ old new. AnswersSome shelf.told local.query (allows_of old) local_base local.options fault (wire_of old) (wire_of new) out.faults out'.faults out.taken out'.taken)
 
 -- the data are served
 abbrev pub IsServing : Outcome → Type 0

@@ -1,22 +1,17 @@
 // The query of generated data through a server in the same process.
-ghost use Rattle.std.specs.Prelude.{◌≡◌, ◌<◌, ◌≤◌, ◌^◌, true, None, IfOk, IfErr};
-ghost use Rattle.tpf_base.specs.Causes.{Rose};
-ghost use Rattle.tpf_base.specs.Outside.{HoldsName, LeavesOpened};
-ghost use Rattle.data_files.specs.Data.{IfTold};
-ghost use Rattle.data_files.specs.Queries.{QueryOutcome, IsQueryOutcome};
+ghost use Rattle.std.specs.Prelude.{◌≡◌, ◌≤◌, None, IfOk, IfErr};
+ghost use Rattle.std.specs.List.{AllByRecursion};
 ghost use Rattle.file_server.specs.Servers.{serving};
 ghost use Rattle.generated_server.specs.Starts.{StartsGenerated};
-ghost use Rattle.query_command.specs.Files.{IsNoFileFault};
-ghost use Rattle.query_command.specs.Answers.{GivesAnswer, IsWanting};
-ghost use Rattle.query_command.specs.Generated.{usual_options, CountsQuery, LoopsGenerated, AsksOver, FailsOn, GeneratedAnswers, GeneratedCause};
-ghost use Rattle.query_command.specs.Loops.{LoopsServer, local_base, local_config, wire_of};
-ghost use Rattle.query_command.specs.Plans.{SendsPlan, SendsInside, BoundsRequests, RequestsInside, RepliesRows, RepliesGenerated, MayEnd, EndsCounted, OfGenerated, PlanIsWithin};
 ghost use Rattle.plan_laws.specs.Fitting.{AreServable, IsAskable};
-ghost use Rattle.std.specs.List.{AllByRecursion};
+ghost use Rattle.query_command.specs.Generated.{usual_options, CountsQuery, LoopsGenerated, AsksOver, FailsOn};
+ghost use Rattle.query_command.specs.Loops.{LoopsServer, local_base, local_config, wire_of};
+ghost use Rattle.query_command.specs.Plans.{SendsPlan, BoundsRequests, RepliesRows, MayEnd};
+ghost use Rattle.query_command.specs.Commands.{AsksGenerated};
 
 use crate::AnswerFault;
 use crate::limits::commands_keep_limits;
-use crate::local_query::ask_server;
+use crate::local_query::{Asked, ask_server};
 use crate::start::{local_config, local_start};
 use bgp_core::Query;
 use data_files::{DataFault, read_query};
@@ -79,17 +74,24 @@ fn ask_generated<R: Wait>(
     ensures counts { IfOk result (CountsQuery persons query.now) }
     ensures answers { IfOk result (λ counts. LoopsGenerated persons inside.new (AsksOver query.now counts.rows)) }
     ensures cause { IfErr result (λ fault. LoopsGenerated persons inside.new (FailsOn query.now fault)) }
-    ensures sent { LoopsServer server 0 0 inside.new (λ old new. SendsPlan (serving server).data_set (serving server).config query.now (wire_of new)) }
-    ensures requested { LoopsServer server 0 0 inside.new (λ old new. BoundsRequests usual_options (serving server).data_set (serving server).config query.now (wire_of new)) }
-    ensures replied { IfOk result (λ counts. LoopsServer server 0 0 inside.new (RepliesRows (serving server).data_set (serving server).config query.now counts.rows)) }
-    ensures ends { AreServable (serving server).data_set → AllByRecursion IsAskable query.now.patterns → IfErr result (MayEnd 0 usual_options (serving server).data_set (serving server).config query.now) }
+    ensures sent { LoopsServer server 0 0 inside.new (λ old new.
+        SendsPlan (serving server).data_set (serving server).config query.now (wire_of new)) }
+    ensures requested { LoopsServer server 0 0 inside.new (λ old new.
+        BoundsRequests usual_options (serving server).data_set (serving server).config query.now (wire_of new)) }
+    ensures replied { IfOk result (λ counts. LoopsServer server 0 0 inside.new
+        (RepliesRows (serving server).data_set (serving server).config query.now counts.rows)) }
+    ensures ends { AreServable (serving server).data_set → AllByRecursion IsAskable query.now.patterns
+        → IfErr result (MayEnd 0 usual_options (serving server).data_set (serving server).config query.now) }
 {
     let triples = server.server().table().len() as u64;
-    let options = usual_options();
+    let asked = Asked {
+        start,
+        options: usual_options(),
+        seed: 0,
+        fail_every: 0,
+    };
     let mut drain = Drain::new();
-    match ask_server(
-        rt, alloc, &options, 0, 0, start, server, query, &mut drain, inside,
-    ) {
+    match ask_server(rt, alloc, &asked, server, query, &mut drain, inside) {
         Ok(report) => Ok(Counts {
             triples,
             rows: report.rows,
@@ -98,8 +100,24 @@ fn ask_generated<R: Wait>(
     }
 }
 
-/// Reads the query, makes the server, and asks it.
-fn read_and_count<R: Wait, F: Shelf>(
+/// Serves the generated data of so many persons, at most 1000000, to a client in the same process, as a
+/// file is served where no option is given, and counts the triples, and the rows of the answer to the
+/// query of a file. The answer itself is written nowhere.
+///
+/// The query is read first. Then the text of the data is made and read, and a wire is made for the
+/// server and left in `inside`; all its connections are closed.
+///
+/// `Query` where the query is not read, and `Data` only where memory ran out: no wire is left then. `Client`
+/// where the call over the wire ended before the result was whole, which is never by `Sink`. The file is
+/// asked for once and no other is, and files found before are left as they were. Over a faultless shelf that
+/// holds the name the shelf does not fail, as long as numbers are left (`reads`).
+///
+/// As with `local`, requests are sent for addresses of the plan alone (`sent`), of any of them at most three
+/// times as many as the plan has (`requested`), at an answer each of these was answered, as often as the plan
+/// has it or more (`replied`), a fault over the wire comes only where a body is longer than the limit, the
+/// plan has more addresses than the budget, or memory ran out (`ends`), and the call succeeds where none of
+/// these is so and the shelf does not fail (`complete`).
+pub fn query_generated<R: Wait, F: Shelf>(
     rt: &R,
     alloc: Global,
     persons: u32,
@@ -109,18 +127,7 @@ fn read_and_count<R: Wait, F: Shelf>(
 ) -> Result<Counts, AnswerFault>
     requires none { inside.old ≡ None }
     requires most { persons ≤ 1000000 }
-    ensures answers { IfOk result (GeneratedAnswers (F.told shelf.old) persons query.now inside.new) }
-    ensures cause { IfErr result (GeneratedCause (F.told shelf.old) persons query.now inside.new (F.faults shelf.old) (F.faults shelf.new)) }
-    ensures sent { OfGenerated (F.told shelf.old) persons query.now (λ triples q. SendsInside inside.new triples (local_config 100) q) }
-    ensures requested { OfGenerated (F.told shelf.old) persons query.now (λ triples q. RequestsInside usual_options inside.new triples (local_config 100) q) }
-    ensures replied { RepliesGenerated (F.told shelf.old) persons query.now inside.new result }
-    ensures ends { OfGenerated (F.told shelf.old) persons query.now (λ triples q. EndsCounted usual_options triples (local_config 100) q result) }
-    ensures told { F.told shelf.new ≡ F.told shelf.old }
-    ensures shelf_later { F.faults shelf.old ≤ F.faults shelf.new }
-    ensures opened { LeavesOpened (F.given shelf.old) (F.given shelf.new) (F.rest shelf.old) (F.rest shelf.new) }
-    ensures faultless { F.faultless shelf.new ≡ F.faultless shelf.old }
-    ensures holds { F.faultless shelf.old ≡ true → HoldsName (F.told shelf.old) query.now → F.given shelf.old < 2 ^ 32 →
-        (F.faults shelf.new ≡ F.faults shelf.old) × IfErr result IsNoFileFault }
+    ensures { AsksGenerated (F.state shelf.old) (F.state shelf.new) inside.new persons query.now result }
 {
     commands_keep_limits();
     served_is_one();
@@ -139,49 +146,4 @@ fn read_and_count<R: Wait, F: Shelf>(
         Ok(counts) => Ok(counts),
         Err(fault) => Err(AnswerFault::Client(fault)),
     }
-}
-
-/// Serves the generated data of so many persons, at most 1000000, to a client in the same process, as a
-/// file is served where no option is given, and counts the triples, and the rows of the answer to the
-/// query of a file. The answer itself is written nowhere.
-///
-/// The query is read first. Then the text of the data is made and read, and a wire is made for the
-/// server and left in `inside`; all its connections are closed.
-///
-/// `Query` where the query is not read, and `Data` only where memory ran out: no wire is left then. `Client`
-/// where the call over the wire ended before the result was whole, which is never by `Sink`. The file is
-/// found once, and files found before are left as they were (`opened`). Over a faultless shelf that holds the
-/// name the shelf does not fail, as long as numbers are left (`holds`).
-///
-/// As with `local`, requests are sent for addresses of the plan alone (`sent`), of any of them at most three
-/// times as many as the plan has (`requested`), at an answer each of these was answered, as often as the plan
-/// has it or more (`replied`), a fault over the wire comes only where a body is longer than the limit, the
-/// plan has more addresses than the budget, or memory ran out (`ends`), and the call succeeds where none of
-/// these is so and the shelf does not fail (`complete`).
-pub fn query_generated<R: Wait, F: Shelf>(
-    rt: &R,
-    alloc: Global,
-    persons: u32,
-    query: &str,
-    shelf: &mut F,
-    inside: &mut Option<LoopWire<FragmentConnection>>,
-) -> Result<Counts, AnswerFault>
-    requires none { inside.old ≡ None }
-    requires most { persons ≤ 1000000 }
-    ensures answers { IfOk result (GeneratedAnswers (F.told shelf.old) persons query.now inside.new) }
-    ensures cause { IfErr result (GeneratedCause (F.told shelf.old) persons query.now inside.new (F.faults shelf.old) (F.faults shelf.new)) }
-    ensures exact { ¬ (Rose (F.faults shelf.old) (F.faults shelf.new)) → IfTold (F.told shelf.old) (λ files. (outcome : QueryOutcome) → IsQueryOutcome files query.now outcome → GivesAnswer outcome result) }
-    ensures sent { OfGenerated (F.told shelf.old) persons query.now (λ triples q. SendsInside inside.new triples (local_config 100) q) }
-    ensures requested { OfGenerated (F.told shelf.old) persons query.now (λ triples q. RequestsInside usual_options inside.new triples (local_config 100) q) }
-    ensures replied { RepliesGenerated (F.told shelf.old) persons query.now inside.new result }
-    ensures ends { OfGenerated (F.told shelf.old) persons query.now (λ triples q. EndsCounted usual_options triples (local_config 100) q result) }
-    ensures complete { ¬ (Rose (F.faults shelf.old) (F.faults shelf.new)) → OfGenerated (F.told shelf.old) persons query.now (λ triples q. PlanIsWithin 0 usual_options triples (local_config 100) q → IfErr result IsWanting) }
-    ensures told { F.told shelf.new ≡ F.told shelf.old }
-    ensures shelf_later { F.faults shelf.old ≤ F.faults shelf.new }
-    ensures opened { LeavesOpened (F.given shelf.old) (F.given shelf.new) (F.rest shelf.old) (F.rest shelf.new) }
-    ensures faultless { F.faultless shelf.new ≡ F.faultless shelf.old }
-    ensures holds { F.faultless shelf.old ≡ true → HoldsName (F.told shelf.old) query.now → F.given shelf.old < 2 ^ 32 →
-        (F.faults shelf.new ≡ F.faults shelf.old) × IfErr result IsNoFileFault }
-{
-    read_and_count(rt, alloc, persons, query, shelf, inside)
 }

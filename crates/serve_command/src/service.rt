@@ -1,17 +1,14 @@
 // The service of a file over a wire.
-ghost use Rattle.std.specs.Prelude.{◌≡◌, ◌+◌, ◌-◌, ◌≤◌, ◌⊎◌, codes, true, false, is_some, None, IfOk, IfErr, IfSome, OnOk};
-ghost use Rattle.std.specs.Io.KnownBytes.{Appends};
+ghost use Rattle.std.specs.Prelude.{◌≡◌, true, false, is_some, IfOk, IfErr};
 ghost use Rattle.tpf_base.specs.Addresses.{authority_of};
 ghost use Rattle.tpf_base.specs.Causes.{Rose};
 ghost use Rattle.tpf_base.specs.Links.{listens};
-ghost use Rattle.tpf_base.specs.Outside.{LeavesOpened};
-ghost use Rattle.tpf_base.specs.Wrote.{AppendsPrefix};
 ghost use Rattle.template_fill.specs.Configurations.{IsConfig};
-ghost use Rattle.serve_loop.specs.Sentence.{AllClosed};
+ghost use Rattle.data_files.specs.Data.{IsOfFile};
+ghost use Rattle.data_files.specs.Kept.{KeepsShelf, AsksOnly, KeepsSink};
 ghost use Rattle.file_server.specs.Servers.{serving};
-ghost use Rattle.file_server.specs.Supplies.{IsOfFile, FailedReading};
-ghost use Rattle.data_files.specs.Data.{IfTold, Outcome, IsOutcome};
-ghost use Rattle.serve_command.specs.Services.{config_of, door_of, MayFollow, FailedReload, Services, ServesLinks, OpensAndTurns, SpeaksOfFile, SaysPrefixes, SaysWhole, DoorCause, ServiceCause, IsUntouched, IsOfData, GivesServed, answer_of};
+ghost use Rattle.file_server.specs.Supplies.{FailedReading};
+ghost use Rattle.serve_command.specs.Services.{config_of, door_of, MayFollow, FailedReload, ServesLinks, ServesServer, ServesFile, IsOfData, answer_of};
 
 use crate::ServiceFault;
 use crate::config::config_of;
@@ -44,6 +41,16 @@ pub struct Service<'a> {
     pub stop_after: Option<u64>,
 }
 
+/// The file of a service, which may be read again, and when the service ends.
+#[derive(Drop)]
+struct Source<'a> {
+    name: &'a str,
+    choice: &'a Choice,
+    base: &'a WebAddress,
+    reloads: bool,
+    stop_after: Option<u64>,
+}
+
 /// What a service of connections answers: out of memory where a connection was closed for that.
 fn answer_of(served: Result<Served, ServeFault>) -> Result<u64, ServiceFault>
     ensures { result ≡ answer_of served }
@@ -72,7 +79,8 @@ fn serve_links<R: Wait, S: Supply<FragmentServer>, W: Accept>(
 ) -> Result<u64, ServiceFault>
     requires listens { listens (W.state wire.old) ≡ true }
     requires first { (serving server.old).version ≡ 1 }
-    ensures serves { ServesLinks (S.may supply.old) (Rose (S.faults supply.old) (S.faults supply.new)) (serving server.old) stop_after (W.state wire.old) (W.state wire.new) result }
+    ensures serves { ServesLinks (S.may supply.old) (Rose (S.state supply.old).faults (S.state supply.new).faults)
+        (serving server.old) stop_after (W.state wire.old) (W.state wire.new) result }
     ensures keeps { S.Keeps supply.old supply.new }
 {
     answer_of(serve_connections::<R, FragmentConnection, S, W>(
@@ -90,7 +98,8 @@ fn serve_once<R: Wait, W: Accept>(
 ) -> Result<u64, ServiceFault>
     requires listens { listens (W.state wire.old) ≡ true }
     requires first { (serving server.old).version ≡ 1 }
-    ensures serves { ServesLinks (λ triples. ⊥) (Unit {0}) (serving server.old) stop_after (W.state wire.old) (W.state wire.new) result }
+    ensures serves { ServesLinks (λ triples. ⊥) (Unit {0})
+        (serving server.old) stop_after (W.state wire.old) (W.state wire.new) result }
 {
     let mut supply = NoSupply::new();
     serve_links(rt, alloc, server, &mut supply, wire, stop_after)
@@ -107,98 +116,80 @@ fn copied_base(alloc: Global, server: &FragmentServer) -> Result<WebAddress, Out
 fn serve_again<R: Wait, F: Shelf, W: Accept>(
     rt: &R,
     alloc: Global,
-    name: &str,
-    choice: &Choice,
-    base: &WebAddress,
+    source: &Source<'_>,
     server: &mut FragmentServer,
     shelf: &mut F,
     wire: &mut W,
-    stop_after: Option<u64>,
 ) -> Result<u64, ServiceFault>
     requires listens { listens (W.state wire.old) ≡ true }
     requires first { (serving server.old).version ≡ 1 }
-    requires base { base.now ≡ (serving server.old).config.base }
-    ensures serves { ServesLinks (IsOfFile (F.told shelf.old) name.now choice.now (authority_of (serving server.old).config.base)) (FailedReading (F.told shelf.old) name.now choice.now (authority_of (serving server.old).config.base) (F.faults shelf.old) (F.faults shelf.new)) (serving server.old) stop_after (W.state wire.old) (W.state wire.new) result }
-    ensures told { F.told shelf.new ≡ F.told shelf.old }
-    ensures shelf_later { F.faults shelf.old ≤ F.faults shelf.new }
+    requires base { source.now.base.now ≡ (serving server.old).config.base }
+    ensures serves { ServesLinks
+        (IsOfFile (F.state shelf.old).told
+        source.now.name.now source.now.choice.now (authority_of (serving server.old).config.base))
+        (FailedReading (F.state shelf.old) (F.state shelf.new)
+        source.now.name.now source.now.choice.now (authority_of (serving server.old).config.base))
+        (serving server.old) source.now.stop_after (W.state wire.old) (W.state wire.new) result }
+    ensures keeps { KeepsShelf (F.state shelf.old) (F.state shelf.new) }
+    ensures asks { AsksOnly source.now.name.now (F.state shelf.old) (F.state shelf.new) }
 {
-    let mut supply = FileSupply::new(alloc, shelf, name, choice, base);
-    serve_links(rt, alloc, server, &mut supply, wire, stop_after)
+    let mut supply = FileSupply::new(alloc, shelf, source.name, source.choice, source.base);
+    serve_links(rt, alloc, server, &mut supply, wire, source.stop_after)
 }
 
 /// Serves the links that come to the door: of a file that is read again where there is a path for it.
-fn serve_file<R: Wait, F: Shelf, W: Accept>(
+fn serve_source<R: Wait, F: Shelf, W: Accept>(
     rt: &R,
     alloc: Global,
-    name: &str,
-    choice: &Choice,
-    base: &WebAddress,
-    reloads: bool,
+    source: &Source<'_>,
     server: &mut FragmentServer,
     shelf: &mut F,
     wire: &mut W,
-    stop_after: Option<u64>,
 ) -> Result<u64, ServiceFault>
-    requires door { (W.state wire.old).door ≡ door_of base.now }
+    requires door { (W.state wire.old).door.place ≡ door_of source.now.base.now }
     requires first { (serving server.old).version ≡ 1 }
-    requires base { base.now ≡ (serving server.old).config.base }
-    requires reloads { reloads ≡ is_some (serving server.old).config.reload }
-    ensures serves { ServesLinks (MayFollow (F.told shelf.old) name.now choice.now (serving server.old).config) (FailedReload (F.told shelf.old) name.now choice.now (serving server.old).config (F.faults shelf.old) (F.faults shelf.new)) (serving server.old) stop_after (W.state wire.old) (W.state wire.new) result }
-    ensures opened { (W.state wire.new).door ≡ door_of base.now }
-    ensures told { F.told shelf.new ≡ F.told shelf.old }
-    ensures shelf_later { F.faults shelf.old ≤ F.faults shelf.new }
-    ensures unread { reloads ≡ false → shelf.new ≡ shelf.old }
+    requires base { source.now.base.now ≡ (serving server.old).config.base }
+    requires reloads { source.now.reloads ≡ is_some (serving server.old).config.reload }
+    ensures serves { ServesLinks
+        (MayFollow (F.state shelf.old).told source.now.name.now source.now.choice.now (serving server.old).config)
+        (FailedReload (F.state shelf.old) (F.state shelf.new)
+        source.now.name.now source.now.choice.now (serving server.old).config)
+        (serving server.old) source.now.stop_after (W.state wire.old) (W.state wire.new) result }
+    ensures keeps { KeepsShelf (F.state shelf.old) (F.state shelf.new) }
+    ensures asks { AsksOnly source.now.name.now (F.state shelf.old) (F.state shelf.new) }
+    ensures unread { source.now.reloads ≡ false → shelf.new ≡ shelf.old }
 {
-    if reloads {
-        return serve_again(
-            rt, alloc, name, choice, base, server, shelf, wire, stop_after,
-        );
+    if source.reloads {
+        return serve_again(rt, alloc, source, server, shelf, wire);
     }
-    serve_once(rt, alloc, server, wire, stop_after)
+    serve_once(rt, alloc, server, wire, source.stop_after)
 }
 
 /// Opens the door of a server, says so, and serves the links that come to it.
 fn serve_server<R: Wait, F: Shelf, W: Accept, K: Sink>(
     rt: &R,
     alloc: Global,
-    name: &str,
-    choice: &Choice,
-    base: &WebAddress,
-    reloads: bool,
+    source: &Source<'_>,
     server: &mut FragmentServer,
     shelf: &mut F,
     wire: &mut W,
     out: &mut K,
-    stop_after: Option<u64>,
 ) -> Result<u64, ServiceFault>
     requires first { (serving server.old).version ≡ 1 }
-    requires base { base.now ≡ (serving server.old).config.base }
-    requires reloads { reloads ≡ is_some (serving server.old).config.reload }
-    ensures prefixes { ((W.state wire.new).given ≡ (W.state wire.old).given) ⊎ Services (serving server.old) (W.state wire.old) (W.state wire.new) (FailedReload (F.told shelf.old) name.now choice.now (serving server.old).config (F.faults shelf.old) (F.faults shelf.new)) (SaysPrefixes (MayFollow (F.told shelf.old) name.now choice.now (serving server.old).config)) }
-    ensures whole { IfOk result (λ connections. Services (serving server.old) (W.state wire.old) (W.state wire.new) (FailedReload (F.told shelf.old) name.now choice.now (serving server.old).config (F.faults shelf.old) (F.faults shelf.new)) (SaysWhole (W.state wire.old).faults connections (MayFollow (F.told shelf.old) name.now choice.now (serving server.old).config))) }
-    ensures closed { AllClosed (W.state wire.old) (W.state wire.new) }
-    ensures stops { IfOk result (λ connections. IfSome stop_after (λ most. most ≤ connections)) }
-    ensures soon { IfOk result (λ connections. IfSome stop_after (λ most. connections ≤ (most - 1) + 256)) }
-    ensures never { OnOk result (stop_after ≡ None → ⊥) }
-    ensures links { IfOk result (λ connections. (W.state wire.old).given + connections ≤ (W.state wire.new).given) }
-    ensures ready { OnOk result (Appends (K.taken out.old) (K.taken out.new) (codes "ready\n")) }
-    ensures opened { OnOk result ((W.state wire.new).door ≡ door_of (serving server.old).config.base) }
-    ensures front { AppendsPrefix (K.taken out.old) (K.taken out.new) (codes "ready\n") }
-    ensures door { (K.taken out.new ≡ K.taken out.old) ⊎ ((W.state wire.new).door ≡ door_of (serving server.old).config.base) }
-    ensures after { ((W.state wire.new).given ≡ (W.state wire.old).given) ⊎ Appends (K.taken out.old) (K.taken out.new) (codes "ready\n") }
-    ensures err { IfErr result (DoorCause (W.state wire.old).faults (W.state wire.new).faults (K.faults out.old) (K.faults out.new)) }
-    ensures turns { OpensAndTurns stop_after (W.state wire.old) (W.state wire.new) result }
-    ensures told { F.told shelf.new ≡ F.told shelf.old }
-    ensures shelf_later { F.faults shelf.old ≤ F.faults shelf.new }
-    ensures unread { reloads ≡ false → shelf.new ≡ shelf.old }
-    ensures out_later { K.faults out.old ≤ K.faults out.new }
+    requires base { source.now.base.now ≡ (serving server.old).config.base }
+    requires reloads { source.now.reloads ≡ is_some (serving server.old).config.reload }
+    ensures serves { ServesServer (F.state shelf.old) (F.state shelf.new) (W.state wire.old) (W.state wire.new)
+        (K.state out.old) (K.state out.new) source.now.name.now source.now.choice.now
+        (serving server.old) source.now.stop_after result }
+    ensures keeps { KeepsShelf (F.state shelf.old) (F.state shelf.new) }
+    ensures asks { AsksOnly source.now.name.now (F.state shelf.old) (F.state shelf.new) }
+    ensures unread { source.now.reloads ≡ false → shelf.new ≡ shelf.old }
+    ensures output { KeepsSink (K.state out.old) (K.state out.new) }
 {
     if let Err(fault) = begin(server, wire, out) {
         return Err(fault);
     }
-    serve_file(
-        rt, alloc, name, choice, base, reloads, server, shelf, wire, stop_after,
-    )
+    serve_source(rt, alloc, source, server, shelf, wire)
 }
 
 /// Serves the data of a file at the host and the port of a base: reads the file, opens the door (the
@@ -222,28 +213,11 @@ pub fn serve<R: Wait, F: Shelf, W: Accept, K: Sink>(
     out: &mut K,
 ) -> Result<u64, ServiceFault>
     requires { IsConfig (config_of service) }
-    ensures prefixes { ((W.state wire.new).given ≡ (W.state wire.old).given) ⊎ SpeaksOfFile (F.told shelf.old) service.entry.name.now service.entry.choice.now (config_of service.entry) (F.faults shelf.old) (F.faults shelf.new) (W.state wire.old) (W.state wire.new) SaysPrefixes }
-    ensures whole { IfOk result (λ connections. SpeaksOfFile (F.told shelf.old) service.entry.name.now service.entry.choice.now (config_of service.entry) (F.faults shelf.old) (F.faults shelf.new) (W.state wire.old) (W.state wire.new) (SaysWhole (W.state wire.old).faults connections)) }
-    ensures closed { AllClosed (W.state wire.old) (W.state wire.new) }
-    ensures stops { IfOk result (λ connections. IfSome service.entry.stop_after (λ most. most ≤ connections)) }
-    ensures soon { IfOk result (λ connections. IfSome service.entry.stop_after (λ most. connections ≤ (most - 1) + 256)) }
-    ensures never { OnOk result (service.entry.stop_after ≡ None → ⊥) }
-    ensures links { IfOk result (λ connections. (W.state wire.old).given + connections ≤ (W.state wire.new).given) }
-    ensures turns { OpensAndTurns service.entry.stop_after (W.state wire.old) (W.state wire.new) result }
-    ensures ready { OnOk result (Appends (K.taken out.old) (K.taken out.new) (codes "ready\n")) }
-    ensures opened { OnOk result ((W.state wire.new).door ≡ door_of service.entry.base) }
-    ensures front { AppendsPrefix (K.taken out.old) (K.taken out.new) (codes "ready\n") }
-    ensures door { (K.taken out.new ≡ K.taken out.old) ⊎ ((W.state wire.new).door ≡ door_of service.entry.base) }
-    ensures after { ((W.state wire.new).given ≡ (W.state wire.old).given) ⊎ Appends (K.taken out.old) (K.taken out.new) (codes "ready\n") }
-    ensures untouched { IfErr result (IsUntouched (W.state wire.old) (W.state wire.new) (K.faults out.old) (K.faults out.new) (K.taken out.old) (K.taken out.new)) }
+    ensures serves { ServesFile (F.state shelf.old) (F.state shelf.new) (W.state wire.old) (W.state wire.new)
+        (K.state out.old) (K.state out.new) service.entry.name.now service.entry.choice.now
+        (config_of service.entry) service.entry.stop_after result }
     ensures wire_unused { IfErr result (λ fault. IsOfData fault → wire.new ≡ wire.old) }
     ensures out_unused { IfErr result (λ fault. IsOfData fault → out.new ≡ out.old) }
-    ensures cause { IfErr result (ServiceCause (F.told shelf.old) service.entry.name.now service.entry.choice.now (authority_of service.entry.base) (F.faults shelf.old) (F.faults shelf.new) (W.state wire.old).faults (W.state wire.new).faults (K.faults out.old) (K.faults out.new)) }
-    ensures exact { ¬ (Rose (F.faults shelf.old) (F.faults shelf.new)) → IfTold (F.told shelf.old) (λ files. (outcome : Outcome) → IsOutcome files service.entry.name.now service.entry.choice.now (authority_of service.entry.base) outcome → GivesServed outcome result) }
-    ensures told { F.told shelf.new ≡ F.told shelf.old }
-    ensures shelf_later { F.faults shelf.old ≤ F.faults shelf.new }
-    ensures once { service.entry.reload ≡ None → LeavesOpened (F.given shelf.old) (F.given shelf.new) (F.rest shelf.old) (F.rest shelf.new) }
-    ensures out_later { K.faults out.old ≤ K.faults out.new }
 {
     let Service {
         name,
@@ -262,17 +236,12 @@ pub fn serve<R: Wait, F: Shelf, W: Accept, K: Sink>(
     let Ok(base) = copied_base(alloc, &server) else {
         return Err(ServiceFault::OutOfMemory);
     };
-    serve_server(
-        rt,
-        alloc,
+    let source = Source {
         name,
         choice,
-        &base,
+        base: &base,
         reloads,
-        &mut server,
-        shelf,
-        wire,
-        out,
         stop_after,
-    )
+    };
+    serve_server(rt, alloc, &source, &mut server, shelf, wire, out)
 }

@@ -1,113 +1,78 @@
--- What a query or a service came to is what its command did.
-use Rattle.std.proofs.Common.{ℕ, ◌≡◌, inl, inr, List, Option, Result, Ok, Err, IfOk, IfErr, OnOk, ◌≤◌, refl, sym, subst}
+-- What a query of generated data came to is what its command did.
+use Rattle.std.proofs.Common.{ℕ, ◌≡◌, ◌≤◌, List, Option, None, Result, Ok, Err, OnOk, OnErr, IsErrOf, refl, sym, subst}
 use Rattle.std.specs.Io.KnownBytes.{Appends}
-use Rattle.rdf_terms.specs.declared.term.Triple.{Triple}
-use Rattle.bgp_core.specs.Queries.{QueryData}
+use Rattle.std.specs.Option.{option_map}
+use Rattle.rdf_terms.specs.Canon.{canon}
+use Rattle.generated_data.specs.Generated.{generated}
 use Rattle.tpf_base.specs.Causes.{Rose}
+use Rattle.tpf_base.specs.Outside.{ShelfState}
+use Rattle.tpf_base.specs.Wrote.{SinkState, AppendsPrefix}
 use Rattle.tpf_base.specs.declared.fault.Fault.{Fault}
 use Rattle.tpf_base.specs.declared.fault.Fault.TheVariants as sinks
-use Rattle.tpf_base.specs.Addresses.{Address}
 use Rattle.loop_wire.specs.Looped.{Looped}
 use Rattle.fragment_server.specs.declared.server.FragmentServer.{FragmentServer}
 use Rattle.tpf_client.specs.declared.options.Options.{Options}
-use Rattle.tpf_client.specs.declared.options.Report.{Report}
+use Rattle.data_files.specs.Causes.{QueryDecides}
+use Rattle.data_files.specs.Kept.{KeepsSink}
 use Rattle.query_command.specs.declared.fault.AnswerFault.{AnswerFault}
-use Rattle.query_command.specs.Answers.{Answers, AskCause, IsWanting}
-use Rattle.query_command.specs.Loops.{LocalView, LocalAnswers, LocalCause, local_config}
-use Rattle.query_command.specs.Plans.{SendsInside, MayFail, OfGenerated, PlanIsWithin, SendsLocally, RepliesLocally, EndsByPlan, SucceedsByPlan}
+use Rattle.query_command.specs.declared.fault.AnswerFault.TheVariants as faults
+use Rattle.query_command.specs.Answers.{IsReading, GivesAnswer}
 use Rattle.query_command.specs.declared.generated_query.Counts.{Counts}
-use Rattle.query_command.specs.Generated.{GeneratedAnswers, GeneratedCause, usual_options}
+use Rattle.query_command.specs.Commands.{AsksGenerated}
 use Rattle.command_words.specs.declared.command.ClientWords.{ClientWords}
-use Rattle.tpf_cli.specs.declared.top.Inside.TheVariants.{Unused}
 use Rattle.tpf_cli.specs.Ranges.{IsClient}
-use Rattle.tpf_cli.specs.Lines.{sizes_text}
-use Rattle.tpf_cli.specs.Runs.{Around, wire_inside, AsksFile, AsksServer, SucceedsOver, AsksGenerated, CutsLine, options_of, unwritten}
+use Rattle.tpf_cli.specs.declared.top.Inside.{Inside}
+use Rattle.tpf_cli.specs.Endings.{EndOfRun}
+use Rattle.tpf_cli.specs.Runs.{Makes, Writes, WritesNumbers, CutsLine, CountsFile, options_of, unwritten}
 
 -- the bounds of a client are those of its words
 pub options_in : (client : ClientWords) (options : Options) → options ≡ options_of client → IsClient client → (1 ≤ options.window) × (1 ≤ options.links) × (options.links ≤ 256)
 options_in client options is h = subst (λ (o : Options). (1 ≤ o.window) × (1 ≤ o.links) × (o.links ≤ 256)) (sym is) (h.window, h.some, h.few)
 
-module _ (a : Around) where
-  sent_inside : (made : Option (Looped FragmentServer)) (view : LocalView) → wire_inside a.inside' ≡ made → SendsLocally a.told view made → SendsLocally a.told view (wire_inside a.inside')
-  sent_inside made view is sent = subst (λ (m : Option (Looped FragmentServer)). SendsLocally a.told view m) (sym is) sent
+-- a line that was not written is no fault of the query
+module _ (shelf shelf' : ShelfState) (name : List ℕ) where
+  unwritten_gives : (cause : Fault) → QueryDecides shelf shelf' name IsReading → QueryDecides shelf shelf' name (λ outcome. GivesAnswer {X = Unit {0}} outcome (Err (unwritten cause)))
+  unwritten_gives sinks.Failed h = h
+  unwritten_gives sinks.OutOfMemory h = h
 
-  replied_inside : (made : Option (Looped FragmentServer)) (view : LocalView) (answer : Result Report AnswerFault) → wire_inside a.inside' ≡ made → RepliesLocally a.told view made answer → RepliesLocally a.told view (wire_inside a.inside') answer
-  replied_inside made view answer is replied = subst (λ (m : Option (Looped FragmentServer)). RepliesLocally a.told view m answer) (sym is) replied
+  fault_gives : (cause : AnswerFault) → QueryDecides shelf shelf' name (λ outcome. GivesAnswer {X = Counts} outcome (Err cause)) → QueryDecides shelf shelf' name (λ outcome. GivesAnswer {X = Unit {0}} outcome (Err cause))
+  fault_gives (faults.Data fault) h = h
+  fault_gives (faults.Query fault) h = h
+  fault_gives (faults.Client fault) h = h
 
-  pub asks_file : (made : Option (Looped FragmentServer)) (view : LocalView) (answer : Result Report AnswerFault) → wire_inside a.inside' ≡ made → a.wire' ≡ a.wire
-      → IfOk answer (λ report. LocalAnswers a.told view made report a.taken a.taken') → IfErr answer (LocalCause a.told view made a.shelf a.shelf' a.out a.out' a.taken a.taken')
-      → SendsLocally a.told view made → RepliesLocally a.told view made answer → EndsByPlan a.told view answer → (¬ (Rose a.shelf a.shelf') → ¬ (Rose a.out a.out') → SucceedsByPlan a.told view answer)
-      → AsksFile a view answer
-  asks_file made view (Ok report) is same ok err sent replied ends complete = (
-    subst (λ (m : Option (Looped FragmentServer)). LocalAnswers a.told view m report a.taken a.taken') (sym is) ok,
-    same,
-    record { sent = sent_inside made view is sent; replied = replied_inside made view (Ok report) is replied; ends = ends; complete = complete },
-  )
-  asks_file made view (Err fault) is same ok err sent replied ends complete = (
-    subst (λ (m : Option (Looped FragmentServer)). LocalCause a.told view m a.shelf a.shelf' a.out a.out' a.taken a.taken' fault) (sym is) err,
-    same,
-    record { sent = sent_inside made view is sent; replied = tt; ends = ends; complete = complete },
-  )
+  line_gives : (out out' : SinkState) (came : Result Counts AnswerFault) (result : Result (Unit {0}) AnswerFault) → WritesNumbers out out' came result
+      → QueryDecides shelf shelf' name (λ outcome. GivesAnswer outcome came) → QueryDecides shelf shelf' name (λ outcome. GivesAnswer outcome result)
+  line_gives out out' (Ok counts) (Ok nothing) line h = h
+  line_gives out out' (Ok counts) (Err fault) line h = subst (λ (f : AnswerFault). QueryDecides shelf shelf' name (λ outcome. GivesAnswer {X = Unit {0}} outcome (Err f))) (sym line.is) (unwritten_gives line.cause h)
+  line_gives out out' (Err cause) (Ok nothing) line h = absurd line
+  line_gives out out' (Err cause) (Err fault) line h = subst (λ (f : AnswerFault). QueryDecides shelf shelf' name (λ outcome. GivesAnswer {X = Unit {0}} outcome (Err f))) line.0 (fault_gives cause h)
 
-  pub asks_server : (name : List ℕ) (start : Address) (given options : Options) (answer : Result Report AnswerFault) → given ≡ options → a.inside' ≡ Unused
-      → IfOk answer (λ report. Answers a.told name a.allows start given report a.wire a.wire' a.taken a.taken') → IfErr answer (AskCause a.told name a.allows start given a.shelf a.shelf' a.wire a.wire' a.out a.out' a.taken a.taken')
-      → SucceedsOver a name start given answer → AsksServer a name start options answer
-  asks_server name start given options (Ok report) is unused ok err complete = (
-    subst (λ (o : Options). Answers a.told name a.allows start o report a.wire a.wire' a.taken a.taken') is ok,
-    unused,
-    subst (λ (o : Options). SucceedsOver a name start o (Ok report)) is complete,
-  )
-  asks_server name start given options (Err fault) is unused ok err complete = (
-    subst (λ (o : Options). AskCause a.told name a.allows start o a.shelf a.shelf' a.wire a.wire' a.out a.out' a.taken a.taken' fault) is err,
-    unused,
-    subst (λ (o : Options). SucceedsOver a name start o (Err fault)) is complete,
-  )
+  pub counts_file : (out out' : SinkState) (inside made : Option (Looped FragmentServer)) → inside ≡ made → (persons : ℕ) (came : Result Counts AnswerFault) (result : Result (Unit {0}) AnswerFault)
+      → AsksGenerated shelf shelf' made persons name came → WritesNumbers out out' came result → KeepsSink out out' → CountsFile shelf shelf' out out' inside persons name result
+  counts_file out out' inside made same persons came result asks line output = record {
+    came = came;
+    asks = subst (λ (i : Option (Looped FragmentServer)). AsksGenerated shelf shelf' i persons name came) (sym same) asks;
+    line = line;
+    exact = line_gives out out' came result line asks.exact;
+    output = output;
+  }
 
-  generated_inside : (persons : ℕ) (name : List ℕ) (made : Option (Looped FragmentServer)) → wire_inside a.inside' ≡ made → OfGenerated a.told persons name (λ triples q. SendsInside made triples (local_config 100) q)
-      → OfGenerated a.told persons name (λ triples q. SendsInside (wire_inside a.inside') triples (local_config 100) q)
-  generated_inside persons name made is sent = λ files told triples q serves holds. subst (λ (m : Option (Looped FragmentServer)). SendsInside m triples (local_config 100) q) (sym is) (sent files told triples q serves holds)
+-- the numbers of a query that failed are not written
+pub no_numbers : (out : SinkState) (came : Result Counts AnswerFault) (fault : AnswerFault) → came ≡ Err fault → WritesNumbers out out came (Err fault)
+no_numbers out came fault is = subst (λ (r : Result Counts AnswerFault). WritesNumbers out out r (Err fault)) (sym is) (refl, refl)
 
-  -- a line that was not written is a fault of the output, or want of memory
-  cut_may_fail : (line : List ℕ) (fault : AnswerFault) (triples : List Triple) (q : QueryData) → CutsLine a.out a.out' a.taken a.taken' line fault → MayFail 0 usual_options triples (local_config 100) q fault
-  cut_may_fail line fault triples q w = subst (λ (f : AnswerFault). MayFail 0 usual_options triples (local_config 100) q f) (sym w.is) (by w.cause)
-    where
-      by : (cause : Fault) → MayFail 0 usual_options triples (local_config 100) q (unwritten cause)
-      by sinks.Failed = tt
-      by sinks.OutOfMemory = tt
+pub all_numbers : (out out' : SinkState) (came : Result Counts AnswerFault) (counts : Counts) (result : Result (Unit {0}) AnswerFault) → came ≡ Ok counts → WritesNumbers out out' (Ok counts) result → WritesNumbers out out' came result
+all_numbers out out' came counts result is h = subst (λ (r : Result Counts AnswerFault). WritesNumbers out out' r result) (sym is) h
 
-  cut_is_wanting : (line : List ℕ) (fault : AnswerFault) → ¬ (Rose a.out a.out') → CutsLine a.out a.out' a.taken a.taken' line fault → IsWanting fault
-  cut_is_wanting line fault fine w = subst IsWanting (sym w.is) (by w.cause refl)
-    where
-      by : (cause : Fault) → w.cause ≡ cause → IsWanting (unwritten cause)
-      by sinks.Failed e = absurd (fine (w.failed e))
-      by sinks.OutOfMemory e = refl
+-- the data of so many persons were written, or a front of them
+pub writes_data : (out out' : SinkState) (count : ℕ) (result : Result (Unit {0}) Fault) → OnOk result (Appends out.taken out'.taken (canon (generated count))) → OnErr result (AppendsPrefix out.taken out'.taken (canon (generated count)))
+    → (IsErrOf result sinks.Failed → Rose out.faults out'.faults) → Writes out out' count result
+writes_data out out' count (Ok nothing) ok err failed = ok
+writes_data out out' count (Err sinks.Failed) ok err failed = (err, failed refl)
+writes_data out out' count (Err sinks.OutOfMemory) ok err failed = err
 
-  pub asks_generated : (persons : ℕ) (name : List ℕ) (made : Option (Looped FragmentServer)) (counts : Counts) (result : Result (Unit {0}) AnswerFault) → wire_inside a.inside' ≡ made → a.wire' ≡ a.wire
-      → GeneratedAnswers a.told persons name made counts → OnOk result (Appends a.taken a.taken' (sizes_text counts)) → IfErr result (CutsLine a.out a.out' a.taken a.taken' (sizes_text counts))
-      → OfGenerated a.told persons name (λ triples q. SendsInside made triples (local_config 100) q) → AsksGenerated a persons name result
-  asks_generated persons name made counts (Ok nothing) is same h ok err sent = (
-    record { counts = counts; answers = subst (λ (m : Option (Looped FragmentServer)). GeneratedAnswers a.told persons name m counts) (sym is) h; line = ok },
-    same,
-    record { sent = generated_inside persons name made is sent; ends = λ files told triples q serves holds. tt; complete = λ quiet fine files told triples q serves holds within. tt },
-  )
-  asks_generated persons name made counts (Err fault) is same h ok err sent = (
-    inr (record { counts = counts; answers = subst (λ (m : Option (Looped FragmentServer)). GeneratedAnswers a.told persons name m counts) (sym is) h; line = err }),
-    same,
-    record {
-      sent = generated_inside persons name made is sent;
-      ends = λ files told triples q serves holds. cut_may_fail (sizes_text counts) fault triples q err;
-      complete = λ quiet fine files told triples q serves holds within. cut_is_wanting (sizes_text counts) fault fine err;
-    },
-  )
-
-  pub asks_none : (persons : ℕ) (name : List ℕ) (made : Option (Looped FragmentServer)) (fault : AnswerFault) → wire_inside a.inside' ≡ made → a.wire' ≡ a.wire → a.taken' ≡ a.taken → a.out' ≡ a.out
-      → GeneratedCause a.told persons name made a.shelf a.shelf' fault
-      → OfGenerated a.told persons name (λ triples q. SendsInside made triples (local_config 100) q)
-      → OfGenerated a.told persons name (λ triples q. MayFail 0 usual_options triples (local_config 100) q fault)
-      → (¬ (Rose a.shelf a.shelf') → OfGenerated a.told persons name (λ triples q. PlanIsWithin 0 usual_options triples (local_config 100) q → IsWanting fault))
-      → AsksGenerated a persons name (Err fault)
-  asks_none persons name made fault is same quiet fine h sent ends complete = (
-    inl (subst (λ (m : Option (Looped FragmentServer)). GeneratedCause a.told persons name m a.shelf a.shelf' fault) (sym is) h, quiet, fine),
-    same,
-    record { sent = generated_inside persons name made is sent; ends = ends; complete = λ still calm. complete still },
-  )
+-- `make` without a query did this, where no name of one was given
+pub makes_none : {A : Type 0} (shelf shelf' : ShelfState) (out out' : SinkState) (inside' : Inside) (count : ℕ) (name : Option A) (bytes : A → List ℕ) (end : EndOfRun) → name ≡ None
+    → Makes shelf shelf' out out' inside' count None end → Makes shelf shelf' out out' inside' count (option_map bytes name) end
+makes_none {A} shelf shelf' out out' inside' count name bytes end none makes =
+    subst (λ (given : Option A). Makes shelf shelf' out out' inside' count (option_map bytes given) end) (sym none) makes

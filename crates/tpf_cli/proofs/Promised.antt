@@ -1,8 +1,9 @@
 -- Which status may come of a run, and when a run succeeds.
-use Rattle.std.proofs.Common.{ℕ, ◌≡◌, ◌⊎◌, ◌<◌, ◌≤◌, ◌^◌, inl, inr, List, length, Option, Some, None, Result, Ok, Err, refl, sym, subst, arith}
+use Rattle.std.proofs.Common.{ℕ, ◌≡◌, ◌⊎◌, ◌<◌, ◌≤◌, ◌^◌, inl, inr, List, length, Option, Some, None, Result, Ok, Err, IfErr, refl, sym, subst, arith}
 use Rattle.rdf_terms.specs.declared.term.Triple.{Triple}
 use Rattle.tpf_base.specs.Addresses.{Address, authority_of}
 use Rattle.tpf_base.specs.Causes.{Rose}
+use Rattle.tpf_base.specs.Wrote.{SinkState}
 use Rattle.tpf_base.specs.declared.fault.Fault.{Fault}
 use Rattle.tpf_base.specs.declared.fault.Fault.TheVariants as sinks
 use Rattle.template_fill.specs.Metadata.{Config}
@@ -17,22 +18,29 @@ use Rattle.data_files.specs.declared.fault.DataFault.TheVariants as data_faults
 use Rattle.data_files.specs.declared.fault.QueryFileFault.{QueryFileFault}
 use Rattle.data_files.specs.declared.fault.QueryFileFault.TheVariants as query_faults
 use Rattle.data_files.specs.Data.{IfTold, Serves, served}
+use Rattle.data_files.specs.Kept.{KeepsShelf, KeepsSink}
+use Rattle.data_files.specs.KeptLaws.{shelf_same, reads_keep, sink_same}
 use Rattle.query_command.specs.declared.fault.AnswerFault.{AnswerFault}
 use Rattle.query_command.specs.declared.fault.AnswerFault.TheVariants as answers
-use Rattle.query_command.specs.Answers.{FitsOver, OfQuery, IsWanting}
+use Rattle.query_command.specs.Files.{FailsByFile}
+use Rattle.query_command.specs.Answers.{FitsOver, OfQuery, IsWanting, AsksServer}
+use Rattle.query_command.specs.Commands.{AsksFile}
+use Rattle.query_command.specs.declared.generated_query.Counts.{Counts}
 use Rattle.query_command.specs.Generated.{usual_options}
 use Rattle.query_command.specs.Loops.{LocalView, local_config}
-use Rattle.query_command.specs.Plans.{plan_of, MayEnd, MayFail, OfFiles, OfGenerated, PlanIsWithin}
+use Rattle.query_command.specs.Plans.{plan_of, EndsCounted, MayEnd, MayFail, OfFiles, OfGenerated, PlanIsWithin}
 use Rattle.query_command.proofs.Complete.{data_memory}
 use Rattle.serve_command.specs.declared.fault.ServiceFault.{ServiceFault}
 use Rattle.serve_command.specs.declared.fault.ServiceFault.TheVariants as services
+use Rattle.serve_command.specs.Services.{ServesFile}
 use Rattle.command_words.specs.declared.command.ClientWords.{ClientWords}
 use Rattle.command_words.specs.Commands.{Command, local, query, serve, make}
 use Rattle.tpf_cli.specs.Endings as ends
 use Rattle.tpf_cli.specs.Endings.{EndOfRun, usage, no_words, answered, made, counted, data_status, query_status, client_status, fault_status, answer_status, service_status, made_status, counted_status, status_of, Says}
-use Rattle.tpf_cli.specs.Ranges.{IsInRange}
-use Rattle.tpf_cli.specs.Runs.{Around, AsksFile, AsksServer, ServesFile, Writes, AsksGenerated, Does, DoesOf, options_of, view_of, config_by}
-use Rattle.tpf_cli.specs.Promises.{KeepsTable, KeepsTableOf, TellsRequests, TellsRequestsOf, IsDone, SucceedsOf}
+use Rattle.tpf_cli.specs.Lines.{sizes_text}
+use Rattle.tpf_cli.specs.Ranges.{IsInRange, IsTyped}
+use Rattle.tpf_cli.specs.Runs.{Around, Writes, WritesNumbers, CutsLine, CountsFile, Does, DoesOf, unwritten, wire_inside, options_of, view_of, config_by}
+use Rattle.tpf_cli.specs.Promises.{Keeps, KeepsTable, KeepsTableOf, TellsRequests, TellsRequestsOf, IsDone, SucceedsOf}
 
 -- ---- the table
 
@@ -133,44 +141,68 @@ wanting_done (answers.Client fault) h = subst (λ (f : ClientFault). IsDone (cli
 module _ (a : Around) where
   -- ---- a query in one process
 
-  file_table : (view : LocalView) (answer : Result Report AnswerFault) → view.options.budget < 2 ^ 63 → AsksFile a view answer → OfFiles a.told view (λ triples q. KeepsTable view.fail_every view.options triples (local_config view.page_size) q (answer_status answer))
+  file_table : (view : LocalView) (answer : Result Report AnswerFault) → view.options.budget < 2 ^ 63 → AsksFile a.shelf a.shelf' a.out a.out' (wire_inside a.inside') view answer → OfFiles a.shelf.told view (λ triples q. KeepsTable view.fail_every view.options triples (local_config view.page_size) q (answer_status answer))
   file_table view (Ok report) small h = λ files is triples q serves holds. done_table view.fail_every view.options triples (local_config view.page_size) q
-  file_table view (Err fault) small h = λ files is triples q serves holds. fault_table view.fail_every view.options triples (local_config view.page_size) q fault (h.2.ends small files is triples q serves holds)
+  file_table view (Err fault) small h = λ files is triples q serves holds. fault_table view.fail_every view.options triples (local_config view.page_size) q fault (h.ends small files is triples q serves holds)
 
-  file_succeeds : (view : LocalView) (answer : Result Report AnswerFault) → view.options.budget < 2 ^ 63 → AsksFile a view answer → ¬ (Rose a.shelf a.shelf') → ¬ (Rose a.out a.out')
-      → OfFiles a.told view (λ triples q. PlanIsWithin view.fail_every view.options triples (local_config view.page_size) q → IsDone (answer_status answer))
+  file_succeeds : (view : LocalView) (answer : Result Report AnswerFault) → view.options.budget < 2 ^ 63 → AsksFile a.shelf a.shelf' a.out a.out' (wire_inside a.inside') view answer → ¬ (Rose a.shelf.faults a.shelf'.faults) → ¬ (Rose a.out.faults a.out'.faults)
+      → OfFiles a.shelf.told view (λ triples q. PlanIsWithin view.fail_every view.options triples (local_config view.page_size) q → IsDone (answer_status answer))
   file_succeeds view (Ok report) small h quiet fine = λ files is triples q serves holds within. inl refl
-  file_succeeds view (Err fault) small h quiet fine = λ files is triples q serves holds within. wanting_done fault (h.2.complete quiet fine small files is triples q serves holds within)
+  file_succeeds view (Err fault) small h quiet fine = λ files is triples q serves holds within. wanting_done fault (h.complete quiet fine small files is triples q serves holds within)
 
-  generated_table : (persons : ℕ) (name : List ℕ) (result : Result (Unit {0}) AnswerFault) → AsksGenerated a persons name result → OfGenerated a.told persons name (λ triples q. KeepsTable 0 usual_options triples (local_config 100) q (counted_status result))
-  generated_table persons name (Ok nothing) h = λ files is triples q serves holds. done_table 0 usual_options triples (local_config 100) q
-  generated_table persons name (Err fault) h = λ files is triples q serves holds. fault_table 0 usual_options triples (local_config 100) q fault (h.2.ends files is triples q serves holds)
+  -- a line that was not written is a fault of the output, or want of memory
+  cut_table : (triples : List Triple) (q : QueryData) (cause : Fault) → KeepsTable 0 usual_options triples (local_config 100) q (fault_status (unwritten cause))
+  cut_table triples q sinks.Failed = other_status 0 usual_options triples (local_config 100) q 9 (inr (omega arith, omega arith))
+  cut_table triples q sinks.OutOfMemory = memory_table 0 usual_options triples (local_config 100) q
 
-  generated_succeeds : (persons : ℕ) (name : List ℕ) (result : Result (Unit {0}) AnswerFault) → AsksGenerated a persons name result → ¬ (Rose a.shelf a.shelf') → ¬ (Rose a.out a.out')
-      → OfGenerated a.told persons name (λ triples q. PlanIsWithin 0 usual_options triples (local_config 100) q → IsDone (counted_status result))
-  generated_succeeds persons name (Ok nothing) h quiet fine = λ files is triples q serves holds within. inl refl
-  generated_succeeds persons name (Err fault) h quiet fine = λ files is triples q serves holds within. wanting_done fault (h.2.complete quiet fine files is triples q serves holds within)
+  numbers_table : (persons : ℕ) (name : List ℕ) (came : Result Counts AnswerFault) (result : Result (Unit {0}) AnswerFault) → WritesNumbers a.out a.out' came result
+      → OfGenerated a.shelf.told persons name (λ triples q. EndsCounted usual_options triples (local_config 100) q came) → OfGenerated a.shelf.told persons name (λ triples q. KeepsTable 0 usual_options triples (local_config 100) q (counted_status result))
+  numbers_table persons name came (Ok nothing) line ends = λ files is triples q serves holds. done_table 0 usual_options triples (local_config 100) q
+  numbers_table persons name (Ok counts) (Err fault) line ends = λ files is triples q serves holds. subst (λ (f : AnswerFault). KeepsTable 0 usual_options triples (local_config 100) q (fault_status f)) (sym line.is) (cut_table triples q line.cause)
+  numbers_table persons name (Err cause) (Err fault) line ends = λ files is triples q serves holds.
+      subst (λ (f : AnswerFault). KeepsTable 0 usual_options triples (local_config 100) q (fault_status f)) line.0 (fault_table 0 usual_options triples (local_config 100) q cause (ends files is triples q serves holds))
+
+  generated_table : (persons : ℕ) (name : List ℕ) (result : Result (Unit {0}) AnswerFault) → CountsFile a.shelf a.shelf' a.out a.out' (wire_inside a.inside') persons name result
+      → OfGenerated a.shelf.told persons name (λ triples q. KeepsTable 0 usual_options triples (local_config 100) q (counted_status result))
+  generated_table persons name result h = numbers_table persons name h.came result h.line h.asks.ends
+
+  cut_done : (line : List ℕ) (fault : AnswerFault) → ¬ (Rose a.out.faults a.out'.faults) → CutsLine a.out a.out' line fault → IsDone (fault_status fault)
+  cut_done line fault fine w = subst (λ (f : AnswerFault). IsDone (fault_status f)) (sym w.is) (by w.cause refl)
+    where
+      by : (cause : Fault) → w.cause ≡ cause → IsDone (fault_status (unwritten cause))
+      by sinks.Failed e = absurd (fine (w.failed e))
+      by sinks.OutOfMemory e = inr refl
+
+  numbers_done : (came : Result Counts AnswerFault) (result : Result (Unit {0}) AnswerFault) → ¬ (Rose a.out.faults a.out'.faults) → WritesNumbers a.out a.out' came result → IfErr came IsWanting → IsDone (counted_status result)
+  numbers_done came (Ok nothing) fine line wanting = inl refl
+  numbers_done (Ok counts) (Err fault) fine line wanting = cut_done (sizes_text counts) fault fine line
+  numbers_done (Err cause) (Err fault) fine line wanting = subst (λ (f : AnswerFault). IsDone (fault_status f)) line.0 (wanting_done cause wanting)
+
+  generated_succeeds : (persons : ℕ) (name : List ℕ) (result : Result (Unit {0}) AnswerFault) → CountsFile a.shelf a.shelf' a.out a.out' (wire_inside a.inside') persons name result
+      → ¬ (Rose a.shelf.faults a.shelf'.faults) → ¬ (Rose a.out.faults a.out'.faults)
+      → OfGenerated a.shelf.told persons name (λ triples q. PlanIsWithin 0 usual_options triples (local_config 100) q → IsDone (counted_status result))
+  generated_succeeds persons name result h quiet fine = λ files is triples q serves holds within. numbers_done h.came result fine h.line (h.asks.complete quiet files is triples q serves holds within)
 
   -- ---- the other commands
 
-  server_succeeds : (name : List ℕ) (client : ClientWords) (answer : Result Report AnswerFault) (url : Address) → AsksServer a name url (options_of client) answer → ¬ (Rose a.shelf a.shelf') → ¬ (Rose a.out a.out')
-      → OfQuery a.told name (λ q. (triples : List Triple) (config : Config) → FitsOver a.allows q url (options_of client) triples config a.wire a.wire' → IsDone (answer_status answer))
-  server_succeeds name client (Ok report) url h quiet fine = λ files is q holds triples config fits. inl refl
-  server_succeeds name client (Err fault) url h quiet fine = λ files is q holds triples config fits. wanting_done fault (h.2 quiet fine files is q holds triples config fits)
+  server_succeeds : (name : List ℕ) (client : ClientWords) (answer : Result Report AnswerFault) (url : Address) → IsTyped url → AsksServer a.shelf a.shelf' a.allows a.wire a.wire' a.out a.out' name url (options_of client) answer → ¬ (Rose a.shelf.faults a.shelf'.faults) → ¬ (Rose a.out.faults a.out'.faults)
+      → OfQuery a.shelf.told name (λ q. (triples : List Triple) (config : Config) → FitsOver a.allows q url (options_of client) triples config a.wire a.wire' → IsDone (answer_status answer))
+  server_succeeds name client (Ok report) url typed h quiet fine = λ files is q holds triples config fits. inl refl
+  server_succeeds name client (Err fault) url typed h quiet fine = λ files is q holds triples config fits. wanting_done fault (h.complete typed quiet fine files is q holds triples config fits)
 
-  service_succeeds : (name : List ℕ) (choice : Choice) (config : Config) (stop_after : Option ℕ) (result : Result ℕ ServiceFault) → ServesFile a name choice config stop_after result
-      → ¬ (Rose a.shelf a.shelf') → ¬ (Rose a.out a.out') → ¬ (Rose a.wire.faults a.wire'.faults)
-      → IfTold a.told (λ files. (triples : List Triple) → Serves files name choice (authority_of config.base) triples → IsDone (service_status result))
+  service_succeeds : (name : List ℕ) (choice : Choice) (config : Config) (stop_after : Option ℕ) (result : Result ℕ ServiceFault) → ServesFile a.shelf a.shelf' a.wire a.wire' a.out a.out' name choice config stop_after result
+      → ¬ (Rose a.shelf.faults a.shelf'.faults) → ¬ (Rose a.out.faults a.out'.faults) → ¬ (Rose a.wire.door.faults a.wire'.door.faults)
+      → IfTold a.shelf.told (λ files. (triples : List Triple) → Serves files name choice (authority_of config.base) triples → IsDone (service_status result))
   service_succeeds name choice config stop_after (Ok connections) s quiet fine calm = λ files is triples serves. inl refl
   service_succeeds name choice config stop_after (Err (services.Data fault)) s quiet fine calm = λ files is triples serves.
       subst (λ (f : DataFault). IsDone (data_status f)) (sym (data_memory triples fault (s.exact quiet files is (served triples) serves))) (inr refl)
-  service_succeeds name choice config stop_after (Err services.Wire) s quiet fine calm = λ files is triples serves. absurd (calm s.cause)
-  service_succeeds name choice config stop_after (Err services.Sink) s quiet fine calm = λ files is triples serves. absurd (fine s.cause)
+  service_succeeds name choice config stop_after (Err services.Wire) s quiet fine calm = λ files is triples serves. absurd (calm s.cause.0.door)
+  service_succeeds name choice config stop_after (Err services.Sink) s quiet fine calm = λ files is triples serves. absurd (fine s.cause.0)
   service_succeeds name choice config stop_after (Err services.OutOfMemory) s quiet fine calm = λ files is triples serves. inr refl
 
-  made_succeeds : (count : ℕ) (result : Result (Unit {0}) Fault) → Writes a count result → ¬ (Rose a.out a.out') → IsDone (made_status result)
+  made_succeeds : (count : ℕ) (result : Result (Unit {0}) Fault) → Writes a.out a.out' count result → ¬ (Rose a.out.faults a.out'.faults) → IsDone (made_status result)
   made_succeeds count (Ok nothing) h fine = inl refl
-  made_succeeds count (Err sinks.Failed) h fine = absurd (fine h.4)
+  made_succeeds count (Err sinks.Failed) h fine = absurd (fine h.1)
   made_succeeds count (Err sinks.OutOfMemory) h fine = inr refl
 
   -- ---- commands
@@ -179,7 +211,7 @@ module _ (a : Around) where
   budget_small n h = omega (arith, h)
 
   table_command : (command : Command) → IsInRange command → (end : EndOfRun) → Does a command end → KeepsTableOf a (Some command) (status_of end)
-  table_command (local name query_name choice page client seed fail_every) r (answered data_name asked answer) h = file_table (view_of name query_name choice page client seed fail_every) answer (budget_small client.budget r.2.budget) h.2
+  table_command (local name query_name choice page client seed fail_every) r (answered data_name asked answer) h = file_table (view_of name query_name choice page client seed fail_every) answer (budget_small client.budget r.2.budget) h.3
   table_command (local name query_name choice page client seed fail_every) r usage h = absurd h
   table_command (local name query_name choice page client seed fail_every) r no_words h = absurd h
   table_command (local name query_name choice page client seed fail_every) r (ends.served file service) h = absurd h
@@ -193,44 +225,44 @@ module _ (a : Around) where
   table_command (query url query_name client) r (counted asked result) h = absurd h
   table_command (serve name base choice page stop_after reload) r end h = tt
   table_command (make count None) r end h = tt
-  table_command (make count (Some name)) r (counted asked result) h = generated_table count name result h.1
-  table_command (make count (Some name)) r usage h = absurd h
-  table_command (make count (Some name)) r no_words h = absurd h
-  table_command (make count (Some name)) r (answered data_name asked answer) h = absurd h
-  table_command (make count (Some name)) r (ends.served file service) h = absurd h
-  table_command (make count (Some name)) r (made written) h = absurd h
+  table_command (make count (Some name)) r (counted asked result) h = generated_table count name result h.1.1
+  table_command (make count (Some name)) r usage h = absurd h.1
+  table_command (make count (Some name)) r no_words h = absurd h.1
+  table_command (make count (Some name)) r (answered data_name asked answer) h = absurd h.1
+  table_command (make count (Some name)) r (ends.served file service) h = absurd h.1
+  table_command (make count (Some name)) r (made written) h = absurd h.1
 
   succeeds_command : (command : Command) → IsInRange command → (end : EndOfRun) → Does a command end → SucceedsOf a (Some command) (status_of end)
-  succeeds_command (local name query_name choice page client seed fail_every) r (answered data_name asked answer) h = file_succeeds (view_of name query_name choice page client seed fail_every) answer (budget_small client.budget r.2.budget) h.2
+  succeeds_command (local name query_name choice page client seed fail_every) r (answered data_name asked answer) h = file_succeeds (view_of name query_name choice page client seed fail_every) answer (budget_small client.budget r.2.budget) h.3
   succeeds_command (local name query_name choice page client seed fail_every) r usage h = absurd h
   succeeds_command (local name query_name choice page client seed fail_every) r no_words h = absurd h
   succeeds_command (local name query_name choice page client seed fail_every) r (ends.served file service) h = absurd h
   succeeds_command (local name query_name choice page client seed fail_every) r (made written) h = absurd h
   succeeds_command (local name query_name choice page client seed fail_every) r (counted asked result) h = absurd h
-  succeeds_command (query url query_name client) r (answered data_name asked answer) h = server_succeeds query_name client answer url h.1
+  succeeds_command (query url query_name client) r (answered data_name asked answer) h = server_succeeds query_name client answer url r.0 h.2
   succeeds_command (query url query_name client) r usage h = absurd h
   succeeds_command (query url query_name client) r no_words h = absurd h
   succeeds_command (query url query_name client) r (ends.served file service) h = absurd h
   succeeds_command (query url query_name client) r (made written) h = absurd h
   succeeds_command (query url query_name client) r (counted asked result) h = absurd h
-  succeeds_command (serve name base choice page stop_after reload) r (ends.served file service) h = service_succeeds name choice (config_by base page reload) stop_after service h.1
+  succeeds_command (serve name base choice page stop_after reload) r (ends.served file service) h = service_succeeds name choice (config_by base page reload) stop_after service h.2
   succeeds_command (serve name base choice page stop_after reload) r usage h = absurd h
   succeeds_command (serve name base choice page stop_after reload) r no_words h = absurd h
   succeeds_command (serve name base choice page stop_after reload) r (answered data_name asked answer) h = absurd h
   succeeds_command (serve name base choice page stop_after reload) r (made written) h = absurd h
   succeeds_command (serve name base choice page stop_after reload) r (counted asked result) h = absurd h
-  succeeds_command (make count None) r (made written) h = made_succeeds count written h
-  succeeds_command (make count None) r usage h = absurd h
-  succeeds_command (make count None) r no_words h = absurd h
-  succeeds_command (make count None) r (answered data_name asked answer) h = absurd h
-  succeeds_command (make count None) r (ends.served file service) h = absurd h
-  succeeds_command (make count None) r (counted asked result) h = absurd h
-  succeeds_command (make count (Some name)) r (counted asked result) h = generated_succeeds count name result h.1
-  succeeds_command (make count (Some name)) r usage h = absurd h
-  succeeds_command (make count (Some name)) r no_words h = absurd h
-  succeeds_command (make count (Some name)) r (answered data_name asked answer) h = absurd h
-  succeeds_command (make count (Some name)) r (ends.served file service) h = absurd h
-  succeeds_command (make count (Some name)) r (made written) h = absurd h
+  succeeds_command (make count None) r (made written) h = made_succeeds count written h.1.3
+  succeeds_command (make count None) r usage h = absurd h.1
+  succeeds_command (make count None) r no_words h = absurd h.1
+  succeeds_command (make count None) r (answered data_name asked answer) h = absurd h.1
+  succeeds_command (make count None) r (ends.served file service) h = absurd h.1
+  succeeds_command (make count None) r (counted asked result) h = absurd h.1
+  succeeds_command (make count (Some name)) r (counted asked result) h = generated_succeeds count name result h.1.1
+  succeeds_command (make count (Some name)) r usage h = absurd h.1
+  succeeds_command (make count (Some name)) r no_words h = absurd h.1
+  succeeds_command (make count (Some name)) r (answered data_name asked answer) h = absurd h.1
+  succeeds_command (make count (Some name)) r (ends.served file service) h = absurd h.1
+  succeeds_command (make count (Some name)) r (made written) h = absurd h.1
 
   -- ---- want of memory
 
@@ -263,47 +295,134 @@ module _ (a : Around) where
   succeeds_of (Some command) ranged end (inr h) = subst (λ (e : EndOfRun). SucceedsOf a (Some command) (status_of e)) (sym h.0) (memory_succeeds (Some command))
 
   -- the status is that of the ending, or 8
-  pub run_table : (command : Option Command) → ((c : Command) → command ≡ Some c → IsInRange c) → (end : EndOfRun) (result faults faults' : ℕ) (old new : Option (List ℕ)) → DoesOf a command end → Says result end faults faults' old new → KeepsTableOf a command result
-  run_table command ranged end result faults faults' old new h (inl s) = subst (KeepsTableOf a command) (sym s.0) (table_of command ranged end h)
-  run_table command ranged end result faults faults' old new h (inr s) = subst (KeepsTableOf a command) (sym s.0) (memory_keeps command)
+  run_table : (command : Option Command) → ((c : Command) → command ≡ Some c → IsInRange c) → (end : EndOfRun) (result : ℕ) (err err' : SinkState) → DoesOf a command end → Says result end err err' → KeepsTableOf a command result
+  run_table command ranged end result err err' h (inl s) = subst (KeepsTableOf a command) (sym s.0) (table_of command ranged end h)
+  run_table command ranged end result err err' h (inr s) = subst (KeepsTableOf a command) (sym s.0) (memory_keeps command)
 
-  pub run_succeeds : (command : Option Command) → ((c : Command) → command ≡ Some c → IsInRange c) → (end : EndOfRun) (result faults faults' : ℕ) (old new : Option (List ℕ)) → DoesOf a command end → Says result end faults faults' old new → SucceedsOf a command result
-  run_succeeds command ranged end result faults faults' old new h (inl s) = subst (SucceedsOf a command) (sym s.0) (succeeds_of command ranged end h)
-  run_succeeds command ranged end result faults faults' old new h (inr s) = subst (SucceedsOf a command) (sym s.0) (memory_succeeds command)
+  run_succeeds : (command : Option Command) → ((c : Command) → command ≡ Some c → IsInRange c) → (end : EndOfRun) (result : ℕ) (err err' : SinkState) → DoesOf a command end → Says result end err err' → SucceedsOf a command result
+  run_succeeds command ranged end result err err' h (inl s) = subst (SucceedsOf a command) (sym s.0) (succeeds_of command ranged end h)
+  run_succeeds command ranged end result err err' h (inr s) = subst (SucceedsOf a command) (sym s.0) (memory_succeeds command)
 
   -- ---- the requests that are told
 
-  told_requests : (view : LocalView) (answer : Result Report AnswerFault) → view.options.budget < 2 ^ 63 → AsksFile a view answer → (data_name asked : List ℕ) (result faults faults' : ℕ) (old new : Option (List ℕ)) → Says result (answered data_name asked answer) faults faults' old new
-      → result ≡ 0 → OfFiles a.told view (λ triples q. TellsRequests view.fail_every view.options.retries (length (plan_of triples (local_config view.page_size) q)) faults faults' old new)
-  told_requests view (Ok report) small h data_name asked result faults faults' old new (inl s) zero_status = λ files is triples q serves holds.
-      record { requests = report.requests; rows = report.rows; counts = h.2.ends small files is triples q serves holds; told = s.1 }
-  told_requests view (Ok report) small h data_name asked result faults faults' old new (inr s) zero_status = let eight = s.0 in absurd (omega (arith, eight, zero_status))
-  told_requests view (Err fault) small h data_name asked result faults faults' old new (inl s) zero_status = let known = known_fault fault in let is = s.0 in absurd (omega (arith, known.0, is, zero_status))
-  told_requests view (Err fault) small h data_name asked result faults faults' old new (inr s) zero_status = let eight = s.0 in absurd (omega (arith, eight, zero_status))
+  told_requests : (view : LocalView) (answer : Result Report AnswerFault) → view.options.budget < 2 ^ 63 → AsksFile a.shelf a.shelf' a.out a.out' (wire_inside a.inside') view answer → (data_name asked : List ℕ) (result : ℕ) (err err' : SinkState) → Says result (answered data_name asked answer) err err'
+      → result ≡ 0 → OfFiles a.shelf.told view (λ triples q. TellsRequests view.fail_every view.options.retries (length (plan_of triples (local_config view.page_size) q)) err err')
+  told_requests view (Ok report) small h data_name asked result err err' (inl s) zero_status = λ files is triples q serves holds.
+      record { requests = report.requests; rows = report.rows; counts = h.ends small files is triples q serves holds; told = s.1 }
+  told_requests view (Ok report) small h data_name asked result err err' (inr s) zero_status = let eight = s.0 in absurd (omega (arith, eight, zero_status))
+  told_requests view (Err fault) small h data_name asked result err err' (inl s) zero_status = let known = known_fault fault in let is = s.0 in absurd (omega (arith, known.0, is, zero_status))
+  told_requests view (Err fault) small h data_name asked result err err' (inr s) zero_status = let eight = s.0 in absurd (omega (arith, eight, zero_status))
 
-  requests_command : (command : Command) → IsInRange command → (end : EndOfRun) (result faults faults' : ℕ) (old new : Option (List ℕ)) → Does a command end → Says result end faults faults' old new → TellsRequestsOf a (Some command) result faults faults' old new
-  requests_command (local name query_name choice page client seed fail_every) r (answered data_name asked answer) result faults faults' old new h s = told_requests (view_of name query_name choice page client seed fail_every) answer (budget_small client.budget r.2.budget) h.2 data_name asked result faults faults' old new s
-  requests_command (local name query_name choice page client seed fail_every) r usage result faults faults' old new h s = absurd h
-  requests_command (local name query_name choice page client seed fail_every) r no_words result faults faults' old new h s = absurd h
-  requests_command (local name query_name choice page client seed fail_every) r (ends.served file service) result faults faults' old new h s = absurd h
-  requests_command (local name query_name choice page client seed fail_every) r (made written) result faults faults' old new h s = absurd h
-  requests_command (local name query_name choice page client seed fail_every) r (counted asked given) result faults faults' old new h s = absurd h
-  requests_command (query url query_name client) r end result faults faults' old new h s = tt
-  requests_command (serve name base choice page stop_after reload) r end result faults faults' old new h s = tt
-  requests_command (make count asked) r end result faults faults' old new h s = tt
+  requests_command : (command : Command) → IsInRange command → (end : EndOfRun) (result : ℕ) (err err' : SinkState) → Does a command end → Says result end err err' → TellsRequestsOf a (Some command) result err err'
+  requests_command (local name query_name choice page client seed fail_every) r (answered data_name asked answer) result err err' h s = told_requests (view_of name query_name choice page client seed fail_every) answer (budget_small client.budget r.2.budget) h.3 data_name asked result err err' s
+  requests_command (local name query_name choice page client seed fail_every) r usage result err err' h s = absurd h
+  requests_command (local name query_name choice page client seed fail_every) r no_words result err err' h s = absurd h
+  requests_command (local name query_name choice page client seed fail_every) r (ends.served file service) result err err' h s = absurd h
+  requests_command (local name query_name choice page client seed fail_every) r (made written) result err err' h s = absurd h
+  requests_command (local name query_name choice page client seed fail_every) r (counted asked given) result err err' h s = absurd h
+  requests_command (query url query_name client) r end result err err' h s = tt
+  requests_command (serve name base choice page stop_after reload) r end result err err' h s = tt
+  requests_command (make count asked) r end result err err' h s = tt
 
   -- memory ran out over the words
-  no_requests : (command : Command) (end : EndOfRun) (result faults faults' : ℕ) (old new : Option (List ℕ)) → end ≡ no_words → Says result end faults faults' old new → TellsRequestsOf a (Some command) result faults faults' old new
-  no_requests (local name query_name choice page client seed fail_every) end result faults faults' old new e s = λ zero_status. absurd (eight (subst (λ (x : EndOfRun). Says result x faults faults' old new) e s) zero_status)
+  no_requests : (command : Command) (end : EndOfRun) (result : ℕ) (err err' : SinkState) → end ≡ no_words → Says result end err err' → TellsRequestsOf a (Some command) result err err'
+  no_requests (local name query_name choice page client seed fail_every) end result err err' e s = λ zero_status. absurd (eight (subst (λ (x : EndOfRun). Says result x err err') e s) zero_status)
     where
-      eight : Says result no_words faults faults' old new → result ≡ 0 → ⊥
+      eight : Says result no_words err err' → result ≡ 0 → ⊥
       eight (inl t) z = let is = t.0 in omega (arith, is, z)
       eight (inr t) z = let is = t.0 in omega (arith, is, z)
-  no_requests (query url query_name client) end result faults faults' old new e s = tt
-  no_requests (serve name base choice page stop_after reload) end result faults faults' old new e s = tt
-  no_requests (make count asked) end result faults faults' old new e s = tt
+  no_requests (query url query_name client) end result err err' e s = tt
+  no_requests (serve name base choice page stop_after reload) end result err err' e s = tt
+  no_requests (make count asked) end result err err' e s = tt
 
-  pub run_requests : (command : Option Command) → ((c : Command) → command ≡ Some c → IsInRange c) → (end : EndOfRun) (result faults faults' : ℕ) (old new : Option (List ℕ)) → DoesOf a command end → Says result end faults faults' old new → TellsRequestsOf a command result faults faults' old new
-  run_requests None ranged end result faults faults' old new h s = tt
-  run_requests (Some command) ranged end result faults faults' old new (inl h) s = requests_command command (ranged command refl) end result faults faults' old new h s
-  run_requests (Some command) ranged end result faults faults' old new (inr h) s = no_requests command end result faults faults' old new h.0 s
+  run_requests : (command : Option Command) → ((c : Command) → command ≡ Some c → IsInRange c) → (end : EndOfRun) (result : ℕ) (err err' : SinkState) → DoesOf a command end → Says result end err err' → TellsRequestsOf a command result err err'
+  run_requests None ranged end result err err' h s = tt
+  run_requests (Some command) ranged end result err err' (inl h) s = requests_command command (ranged command refl) end result err err' h s
+  run_requests (Some command) ranged end result err err' (inr h) s = no_requests command end result err err' h.0 s
+
+  -- ---- what is left of shelf and output
+
+  shelf_command : (command : Command) (end : EndOfRun) → Does a command end → KeepsShelf a.shelf a.shelf'
+  shelf_command (local name query_name choice page client seed fail_every) (answered data_name asked answer) h = h.3.reads.keeps
+  shelf_command (local name query_name choice page client seed fail_every) usage h = absurd h
+  shelf_command (local name query_name choice page client seed fail_every) no_words h = absurd h
+  shelf_command (local name query_name choice page client seed fail_every) (ends.served file service) h = absurd h
+  shelf_command (local name query_name choice page client seed fail_every) (made written) h = absurd h
+  shelf_command (local name query_name choice page client seed fail_every) (counted asked result) h = absurd h
+  shelf_command (query url query_name client) (answered data_name asked answer) h = reads_keep query_name a.shelf a.shelf' (FailsByFile answer) h.2.reads
+  shelf_command (query url query_name client) usage h = absurd h
+  shelf_command (query url query_name client) no_words h = absurd h
+  shelf_command (query url query_name client) (ends.served file service) h = absurd h
+  shelf_command (query url query_name client) (made written) h = absurd h
+  shelf_command (query url query_name client) (counted asked result) h = absurd h
+  shelf_command (serve name base choice page stop_after reload) (ends.served file service) h = h.2.keeps
+  shelf_command (serve name base choice page stop_after reload) usage h = absurd h
+  shelf_command (serve name base choice page stop_after reload) no_words h = absurd h
+  shelf_command (serve name base choice page stop_after reload) (answered data_name asked answer) h = absurd h
+  shelf_command (serve name base choice page stop_after reload) (made written) h = absurd h
+  shelf_command (serve name base choice page stop_after reload) (counted asked result) h = absurd h
+  shelf_command (make count None) (made written) h = shelf_same a.shelf a.shelf' h.1.1
+  shelf_command (make count None) usage h = absurd h.1
+  shelf_command (make count None) no_words h = absurd h.1
+  shelf_command (make count None) (answered data_name asked answer) h = absurd h.1
+  shelf_command (make count None) (ends.served file service) h = absurd h.1
+  shelf_command (make count None) (counted asked result) h = absurd h.1
+  shelf_command (make count (Some name)) (counted asked result) h = reads_keep name a.shelf a.shelf' (FailsByFile h.1.1.came) h.1.1.asks.reads
+  shelf_command (make count (Some name)) usage h = absurd h.1
+  shelf_command (make count (Some name)) no_words h = absurd h.1
+  shelf_command (make count (Some name)) (answered data_name asked answer) h = absurd h.1
+  shelf_command (make count (Some name)) (ends.served file service) h = absurd h.1
+  shelf_command (make count (Some name)) (made written) h = absurd h.1
+
+  output_command : (command : Command) (end : EndOfRun) → Does a command end → KeepsSink a.out a.out'
+  output_command (local name query_name choice page client seed fail_every) (answered data_name asked answer) h = h.3.output.keeps
+  output_command (local name query_name choice page client seed fail_every) usage h = absurd h
+  output_command (local name query_name choice page client seed fail_every) no_words h = absurd h
+  output_command (local name query_name choice page client seed fail_every) (ends.served file service) h = absurd h
+  output_command (local name query_name choice page client seed fail_every) (made written) h = absurd h
+  output_command (local name query_name choice page client seed fail_every) (counted asked result) h = absurd h
+  output_command (query url query_name client) (answered data_name asked answer) h = h.2.output.keeps
+  output_command (query url query_name client) usage h = absurd h
+  output_command (query url query_name client) no_words h = absurd h
+  output_command (query url query_name client) (ends.served file service) h = absurd h
+  output_command (query url query_name client) (made written) h = absurd h
+  output_command (query url query_name client) (counted asked result) h = absurd h
+  output_command (serve name base choice page stop_after reload) (ends.served file service) h = h.2.output
+  output_command (serve name base choice page stop_after reload) usage h = absurd h
+  output_command (serve name base choice page stop_after reload) no_words h = absurd h
+  output_command (serve name base choice page stop_after reload) (answered data_name asked answer) h = absurd h
+  output_command (serve name base choice page stop_after reload) (made written) h = absurd h
+  output_command (serve name base choice page stop_after reload) (counted asked result) h = absurd h
+  output_command (make count None) (made written) h = h.1.2
+  output_command (make count None) usage h = absurd h.1
+  output_command (make count None) no_words h = absurd h.1
+  output_command (make count None) (answered data_name asked answer) h = absurd h.1
+  output_command (make count None) (ends.served file service) h = absurd h.1
+  output_command (make count None) (counted asked result) h = absurd h.1
+  output_command (make count (Some name)) (counted asked result) h = h.1.1.output
+  output_command (make count (Some name)) usage h = absurd h.1
+  output_command (make count (Some name)) no_words h = absurd h.1
+  output_command (make count (Some name)) (answered data_name asked answer) h = absurd h.1
+  output_command (make count (Some name)) (ends.served file service) h = absurd h.1
+  output_command (make count (Some name)) (made written) h = absurd h.1
+
+  run_shelf : (command : Option Command) (end : EndOfRun) → DoesOf a command end → KeepsShelf a.shelf a.shelf'
+  run_shelf None end h = shelf_same a.shelf a.shelf' h.1.3
+  run_shelf (Some command) end (inl h) = shelf_command command end h
+  run_shelf (Some command) end (inr h) = shelf_same a.shelf a.shelf' h.1.3
+
+  run_output : (command : Option Command) (end : EndOfRun) → DoesOf a command end → KeepsSink a.out a.out'
+  run_output None end h = sink_same a.out a.out' h.1.0
+  run_output (Some command) end (inl h) = output_command command end h
+  run_output (Some command) end (inr h) = sink_same a.out a.out' h.1.0
+
+  pub run_keeps : (command : Option Command) → ((c : Command) → command ≡ Some c → IsInRange c) → (end : EndOfRun) (result : ℕ) (err err' : SinkState) → DoesOf a command end → Says result end err err' → KeepsSink err err' → Keeps a command result err err'
+  run_keeps command ranged end result err err' does says error = record {
+    ending = (end, does, says);
+    table = run_table command ranged end result err err' does says;
+    requests = run_requests command ranged end result err err' does says;
+    complete = run_succeeds command ranged end result err err' does says;
+    shelf = run_shelf command end does;
+    output = run_output command end does;
+    error = error;
+  }

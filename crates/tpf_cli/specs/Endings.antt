@@ -1,5 +1,6 @@
 -- How a run ends: its exit status, and the line on the standard error.
-use Rattle.std.specs.Prelude.{ℕ, List, [], ◌++◌, Option, Result, Ok, Err, codes, decimal}
+use Rattle.std.specs.Prelude.{ℕ, List, [], ◌++◌, Result, Ok, Err, codes, decimal}
+use Rattle.tpf_base.specs.Wrote.{SinkState}
 use Rattle.tpf_base.specs.declared.fault.Fault.{Fault}
 use Rattle.tpf_base.specs.declared.fault.Fault.TheVariants as sinks
 use Rattle.http_wire.specs.declared.message.ReplyFault.{ReplyFault}
@@ -16,7 +17,7 @@ use Rattle.query_command.specs.declared.fault.AnswerFault.TheVariants as answers
 use Rattle.serve_command.specs.declared.fault.ServiceFault.{ServiceFault}
 use Rattle.serve_command.specs.declared.fault.ServiceFault.TheVariants as services
 use Rattle.tpf_cli.specs.Names.{why_text, query_why_text, page_text}
-use Rattle.tpf_cli.specs.Lines.{SaysLine, version_text}
+use Rattle.tpf_cli.specs.Lines.{SaysLine, counts_text, versions_text}
 
 -- how a run ends: the words are no command; memory ran out over them; what came of a query, with the names of the files of data and of the query; of a service, with that of its file; of generated data; and of a query of generated data, with the name of its file
 pub data EndOfRun : Type 0 where
@@ -82,7 +83,7 @@ client_line clients.Stalled = codes "exchange: stalled\n"
 client_line (clients.Cut received) = codes "exchange: cut\n"
 client_line (clients.Reply fault received) = reply_line fault
 client_line (clients.Page fault body) = codes "reply: " ++ page_text fault ++ codes "\n"
-client_line (clients.Changed first other) = codes "changed: " ++ version_text first ++ codes " " ++ version_text other ++ codes "\n"
+client_line (clients.Changed first other) = versions_text first other
 client_line (clients.Budget n) = codes "budget: " ++ decimal n ++ codes "\n"
 client_line clients.Sink = codes "sink\n"
 client_line clients.OutOfMemory = codes "memory\n"
@@ -104,7 +105,7 @@ answer_status (Ok report) = 0
 answer_status (Err fault) = fault_status fault
 
 abbrev pub answer_line : List ℕ → List ℕ → Result Report AnswerFault → List ℕ
-answer_line data_name query_name (Ok report) = codes "requests " ++ decimal report.requests ++ codes " rows " ++ decimal report.rows ++ codes "\n"
+answer_line data_name query_name (Ok report) = counts_text report.requests report.rows
 answer_line data_name query_name (Err fault) = fault_line data_name query_name fault
 
 abbrev pub service_status : Result ℕ ServiceFault → ℕ
@@ -161,5 +162,5 @@ line_of (served name service) = service_line name service
 line_of (made written) = made_line written
 line_of (counted query_name result) = counted_line query_name result
 
-abbrev pub Says : ℕ → EndOfRun → ℕ → ℕ → Option (List ℕ) → Option (List ℕ) → Type 0
-Says result end faults faults' old new = SaysLine result (status_of end) (line_of end) faults faults' old new
+abbrev pub Says : ℕ → EndOfRun → SinkState → SinkState → Type 0
+Says result end old new = SaysLine result (status_of end) (line_of end) old new

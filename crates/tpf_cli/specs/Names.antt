@@ -4,8 +4,8 @@ use Rattle.nquads_text.specs.declared.fault.Why.{Why}
 use Rattle.nquads_text.specs.declared.fault.Why.TheVariants.{Utf8, Statement, Escape, RelativeIri, LangString, TermTooLong}
 use Rattle.pattern_parser.specs.declared.fault.QueryWhy.{QueryWhy}
 use Rattle.pattern_parser.specs.declared.fault.QueryWhy.TheVariants as queries
-use Rattle.control_reader.specs.declared.page.PageFault.{PageFault}
-use Rattle.control_reader.specs.declared.page.PageFault.TheVariants as pages
+use Rattle.fragment_page.specs.declared.page.PageFault.{PageFault}
+use Rattle.fragment_page.specs.declared.page.PageFault.TheVariants as pages
 
 -- of data
 abbrev pub why_text : Why → List ℕ

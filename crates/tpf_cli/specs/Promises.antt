@@ -4,18 +4,21 @@ use Rattle.std.specs.Io.KnownBytes.{Appends}
 use Rattle.rdf_terms.specs.declared.term.Triple.{Triple}
 use Rattle.tpf_base.specs.Addresses.{authority_of}
 use Rattle.tpf_base.specs.Causes.{Rose}
-use Rattle.tpf_base.specs.Wrote.{AppendsPrefix}
+use Rattle.tpf_base.specs.Wrote.{SinkState, AppendsPrefix}
 use Rattle.template_fill.specs.Metadata.{Config}
 use Rattle.bgp_core.specs.Queries.{QueryData}
 use Rattle.tpf_client.specs.declared.options.Options.{Options}
 use Rattle.tpf_client.specs.Plans.{HasLongPage}
 use Rattle.data_files.specs.Data.{IfTold, Serves}
+use Rattle.data_files.specs.Kept.{KeepsShelf, KeepsSink}
 use Rattle.query_command.specs.Answers.{FitsOver, OfQuery}
 use Rattle.query_command.specs.Generated.{usual_options}
 use Rattle.query_command.specs.Loops.{local_config}
 use Rattle.query_command.specs.Plans.{plan_of, CountsRequests, FailsOften, PassesBudget, OfFiles, OfGenerated, PlanIsWithin}
 use Rattle.command_words.specs.Commands.{Command, local, query, serve, make}
-use Rattle.tpf_cli.specs.Runs.{Around, options_of, view_of}
+use Rattle.tpf_cli.specs.Endings.{EndOfRun, Says}
+use Rattle.tpf_cli.specs.Lines.{counts_text}
+use Rattle.tpf_cli.specs.Runs.{Around, DoesOf, options_of, view_of}
 
 -- ---- the table of a query in one process, where each n-th dial fails
 
@@ -31,33 +34,29 @@ pub record KeepsTable (n : ℕ) (options : Options) (triples : List Triple) (con
 abbrev pub KeepsTableOf : Around → Option Command → ℕ → Type 0
 KeepsTableOf a None status = Unit {0}
 KeepsTableOf a (Some (local name query_name choice page client seed fail_every)) status =
-    OfFiles a.told (view_of name query_name choice page client seed fail_every) (λ triples q. KeepsTable fail_every (options_of client) triples (local_config page) q status)
+    OfFiles a.shelf.told (view_of name query_name choice page client seed fail_every) (λ triples q. KeepsTable fail_every (options_of client) triples (local_config page) q status)
 KeepsTableOf a (Some (query url query_name client)) status = status ≡ 12 → ⊥
 KeepsTableOf a (Some (serve name base choice page stop_after reload)) status = Unit {0}
 KeepsTableOf a (Some (make count None)) status = Unit {0}
-KeepsTableOf a (Some (make count (Some asked_name))) status = OfGenerated a.told count asked_name (λ triples q. KeepsTable 0 usual_options triples (local_config 100) q status)
+KeepsTableOf a (Some (make count (Some asked_name))) status = OfGenerated a.shelf.told count asked_name (λ triples q. KeepsTable 0 usual_options triples (local_config 100) q status)
 
 -- ---- the number of requests that is told
 
--- the line of an answer
-abbrev pub counts_text : ℕ → ℕ → List ℕ
-counts_text requests rows = codes "requests " ++ decimal requests ++ codes " rows " ++ decimal rows ++ codes "\n"
-
 -- so many requests are told as a plan of so many addresses takes, where each n-th dial fails: as many where none does. The standard error took the line, or a part of its front where it failed.
-pub record TellsRequests (n retries addresses faults faults' : ℕ) (old new : Option (List ℕ)) : Type 0 where
+pub record TellsRequests (n retries addresses : ℕ) (err err' : SinkState) : Type 0 where
   pub requests : ℕ
   pub rows : ℕ
   pub counts : CountsRequests n retries addresses requests
-  pub told : Appends old new (counts_text requests rows) ⊎ (Rose faults faults' × AppendsPrefix old new (counts_text requests rows))
+  pub told : Appends err.taken err'.taken (counts_text requests rows) ⊎ (Rose err.faults err'.faults × AppendsPrefix err.taken err'.taken (counts_text requests rows))
 
 -- of a query of a file that ended with status 0
-abbrev pub TellsRequestsOf : Around → Option Command → ℕ → ℕ → ℕ → Option (List ℕ) → Option (List ℕ) → Type 0
-TellsRequestsOf a None status faults faults' old new = Unit {0}
-TellsRequestsOf a (Some (local name query_name choice page client seed fail_every)) status faults faults' old new =
-    status ≡ 0 → OfFiles a.told (view_of name query_name choice page client seed fail_every) (λ triples q. TellsRequests fail_every client.retries (length (plan_of triples (local_config page) q)) faults faults' old new)
-TellsRequestsOf a (Some (query url query_name client)) status faults faults' old new = Unit {0}
-TellsRequestsOf a (Some (serve name base choice page stop_after reload)) status faults faults' old new = Unit {0}
-TellsRequestsOf a (Some (make count asked)) status faults faults' old new = Unit {0}
+abbrev pub TellsRequestsOf : Around → Option Command → ℕ → SinkState → SinkState → Type 0
+TellsRequestsOf a None status err err' = Unit {0}
+TellsRequestsOf a (Some (local name query_name choice page client seed fail_every)) status err err' =
+    status ≡ 0 → OfFiles a.shelf.told (view_of name query_name choice page client seed fail_every) (λ triples q. TellsRequests fail_every client.retries (length (plan_of triples (local_config page) q)) err err')
+TellsRequestsOf a (Some (query url query_name client)) status err err' = Unit {0}
+TellsRequestsOf a (Some (serve name base choice page stop_after reload)) status err err' = Unit {0}
+TellsRequestsOf a (Some (make count asked)) status err err' = Unit {0}
 
 -- ---- completeness
 
@@ -65,18 +64,30 @@ TellsRequestsOf a (Some (make count asked)) status faults faults' old new = Unit
 abbrev pub IsDone : ℕ → Type 0
 IsDone status = (status ≡ 0) ⊎ (status ≡ 8)
 
--- Where the files are read, no count rose of shelf and output, and of the handed-in wire where that is used, a command is done or memory is wanting: of a query in one process, where none of the causes of the table is there, with nothing assumed of a wire; of a query over the handed-in wire, where that is as a server of some data makes it, and the plan fits; of a service, and of data that are written.
+-- Where the files are read, no count rose of shelf and output, and of the door of the handed-in wire where that is served, a command is done or memory is wanting: of a query in one process, where none of the causes of the table is there, with nothing assumed of a wire; of a query over the handed-in wire, where that is as a server of some data makes it, and the plan fits; of a service, and of data that are written.
 abbrev pub SucceedsOf : Around → Option Command → ℕ → Type 0
 SucceedsOf a None status = Unit {0}
 SucceedsOf a (Some (local name query_name choice page client seed fail_every)) status =
-    ¬ (Rose a.shelf a.shelf') → ¬ (Rose a.out a.out')
-    → OfFiles a.told (view_of name query_name choice page client seed fail_every) (λ triples q. PlanIsWithin fail_every (options_of client) triples (local_config page) q → IsDone status)
+    ¬ (Rose a.shelf.faults a.shelf'.faults) → ¬ (Rose a.out.faults a.out'.faults)
+    → OfFiles a.shelf.told (view_of name query_name choice page client seed fail_every) (λ triples q. PlanIsWithin fail_every (options_of client) triples (local_config page) q → IsDone status)
 SucceedsOf a (Some (query url query_name client)) status =
-    ¬ (Rose a.shelf a.shelf') → ¬ (Rose a.out a.out')
-    → OfQuery a.told query_name (λ q. (triples : List Triple) (config : Config) → FitsOver a.allows q url (options_of client) triples config a.wire a.wire' → IsDone status)
+    ¬ (Rose a.shelf.faults a.shelf'.faults) → ¬ (Rose a.out.faults a.out'.faults)
+    → OfQuery a.shelf.told query_name (λ q. (triples : List Triple) (config : Config) → FitsOver a.allows q url (options_of client) triples config a.wire a.wire' → IsDone status)
 SucceedsOf a (Some (serve name base choice page stop_after reload)) status =
-    ¬ (Rose a.shelf a.shelf') → ¬ (Rose a.out a.out') → ¬ (Rose a.wire.faults a.wire'.faults)
-    → IfTold a.told (λ files. (triples : List Triple) → Serves files name choice (authority_of base) triples → IsDone status)
-SucceedsOf a (Some (make count None)) status = ¬ (Rose a.out a.out') → IsDone status
+    ¬ (Rose a.shelf.faults a.shelf'.faults) → ¬ (Rose a.out.faults a.out'.faults) → ¬ (Rose a.wire.door.faults a.wire'.door.faults)
+    → IfTold a.shelf.told (λ files. (triples : List Triple) → Serves files name choice (authority_of base) triples → IsDone status)
+SucceedsOf a (Some (make count None)) status = ¬ (Rose a.out.faults a.out'.faults) → IsDone status
 SucceedsOf a (Some (make count (Some asked_name))) status =
-    ¬ (Rose a.shelf a.shelf') → ¬ (Rose a.out a.out') → OfGenerated a.told count asked_name (λ triples q. PlanIsWithin 0 usual_options triples (local_config 100) q → IsDone status)
+    ¬ (Rose a.shelf.faults a.shelf'.faults) → ¬ (Rose a.out.faults a.out'.faults) → OfGenerated a.shelf.told count asked_name (λ triples q. PlanIsWithin 0 usual_options triples (local_config 100) q → IsDone status)
+
+-- ---- the run
+
+-- What a run keeps to that ended with this status: it did what its words command and said so, by the table of statuses; it told the requests of its plan; and it succeeded where nothing stood in the way. The shelf tells what it told, and no count of shelf, output and standard error fell.
+pub record Keeps (a : Around) (command : Option Command) (status : ℕ) (err err' : SinkState) : Type 0 where
+  pub ending : (end : EndOfRun) × DoesOf a command end × Says status end err err'
+  pub table : KeepsTableOf a command status
+  pub requests : TellsRequestsOf a command status err err'
+  pub complete : SucceedsOf a command status
+  pub shelf : KeepsShelf a.shelf a.shelf'
+  pub output : KeepsSink a.out a.out'
+  pub error : KeepsSink err err'

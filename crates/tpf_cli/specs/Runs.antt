@@ -1,34 +1,30 @@
 -- What a run did, by its command and how it ended.
-use Rattle.std.specs.Prelude.{ℕ, ◌≡◌, ◌⊎◌, ◌+◌, ◌-◌, ◌≤◌, List, Option, Some, None, Result, Ok, Err, IfOk, IfErr, IfSome, OnOk, codes}
+use Rattle.std.specs.Prelude.{ℕ, ◌≡◌, ◌⊎◌, List, Option, Some, None, Result, Ok, Err}
 use Rattle.std.specs.Io.KnownBytes.{Appends}
 use Rattle.rdf_terms.specs.Canon.{canon}
-use Rattle.rdf_terms.specs.declared.term.Triple.{Triple}
 use Rattle.generated_data.specs.Generated.{generated}
-use Rattle.tpf_base.specs.Addresses.{Address, authority_of}
+use Rattle.tpf_base.specs.Addresses.{Address}
 use Rattle.tpf_base.specs.Causes.{Rose}
 use Rattle.tpf_base.specs.Links.{WireState}
-use Rattle.tpf_base.specs.Wrote.{AppendsPrefix}
+use Rattle.tpf_base.specs.Outside.{ShelfState}
+use Rattle.tpf_base.specs.Wrote.{SinkState, AppendsPrefix}
 use Rattle.tpf_base.specs.declared.fault.Fault.{Fault}
 use Rattle.tpf_base.specs.declared.fault.Fault.TheVariants as sinks
 use Rattle.template_fill.specs.Metadata.{Config}
 use Rattle.triple_table.specs.declared.choice.Choice.{Choice}
 use Rattle.loop_wire.specs.Looped.{Looped}
 use Rattle.fragment_server.specs.declared.server.FragmentServer.{FragmentServer}
-use Rattle.serve_loop.specs.Sentence.{AllClosed}
 use Rattle.tpf_client.specs.declared.options.Options.{Options}
-use Rattle.tpf_client.specs.declared.options.Report.{Report}
-use Rattle.data_files.specs.Data.{Files, IfTold, Outcome, IsOutcome}
-use Rattle.data_files.specs.Queries.{QueryOutcome, IsQueryOutcome}
-use Rattle.query_command.specs.declared.fault.AnswerFault.{AnswerFault}
-use Rattle.query_command.specs.Answers.{Answers, AskCause, GivesAnswer, FitsOver, OfQuery, IsWanting}
-use Rattle.query_command.specs.declared.fault.AnswerFault.TheVariants as answer_faults
-use Rattle.query_command.specs.Loops.{LocalView, LocalAnswers, LocalCause, GivesData, local_config}
-use Rattle.query_command.specs.Plans.{SendsInside, MayFail, OfGenerated, PlanIsWithin, SendsLocally, RepliesLocally, EndsByPlan, SucceedsByPlan}
-use Rattle.query_command.specs.declared.generated_query.Counts.{Counts}
-use Rattle.query_command.specs.Generated.{GeneratedAnswers, GeneratedCause, usual_options}
 use Rattle.tpf_client.specs.declared.fault.ClientFault.TheVariants as clients
-use Rattle.serve_command.specs.declared.fault.ServiceFault.{ServiceFault}
-use Rattle.serve_command.specs.Services.{door_of, OpensAndTurns, SpeaksOfFile, SaysPrefixes, SaysWhole, ServiceCause, IsUntouched, GivesServed}
+use Rattle.data_files.specs.Causes.{QueryDecides}
+use Rattle.data_files.specs.Kept.{KeepsSink}
+use Rattle.query_command.specs.declared.fault.AnswerFault.{AnswerFault}
+use Rattle.query_command.specs.declared.fault.AnswerFault.TheVariants as answer_faults
+use Rattle.query_command.specs.Answers.{GivesAnswer, AsksServer}
+use Rattle.query_command.specs.Loops.{LocalView}
+use Rattle.query_command.specs.Commands.{AsksFile, AsksGenerated}
+use Rattle.query_command.specs.declared.generated_query.Counts.{Counts}
+use Rattle.serve_command.specs.Services.{ServesFile}
 use Rattle.command_words.specs.declared.command.ClientWords.{ClientWords}
 use Rattle.command_words.specs.Commands.{Command, local, query, serve, make}
 use Rattle.tpf_cli.specs.declared.top.Inside.{Inside}
@@ -36,19 +32,20 @@ use Rattle.tpf_cli.specs.declared.top.Inside.TheVariants.{Unused, Loop}
 use Rattle.tpf_cli.specs.Endings.{EndOfRun, usage, no_words, answered, served, made, counted}
 use Rattle.tpf_cli.specs.Lines.{sizes_text}
 
--- What stands around a run, before it and after it: what the shelf tells, its faults, what the wire allows and holds, the faults of the output and what it took, and the wire that was made inside.
+-- What stands around a run, before it and after it: the shelf, the wire that is handed in with what it allows, the output, and the wire that was made inside.
 pub record Around : Type 1 where
-  pub told : Option Files
-  pub shelf : ℕ
-  pub shelf' : ℕ
+  pub shelf : ShelfState
+  pub shelf' : ShelfState
   pub allows : List ℕ → ℕ → List ℕ → List ℕ → Type 0
   pub wire : WireState
   pub wire' : WireState
-  pub out : ℕ
-  pub out' : ℕ
-  pub taken : Option (List ℕ)
-  pub taken' : Option (List ℕ)
+  pub out : SinkState
+  pub out' : SinkState
   pub inside' : Inside
+
+abbrev pub around : ShelfState → ShelfState → (List ℕ → ℕ → List ℕ → List ℕ → Type 0) → WireState → WireState → SinkState → SinkState → Inside → Around
+around shelf shelf' allows wire wire' out out' inside' =
+    record { shelf = shelf; shelf' = shelf'; allows = allows; wire = wire; wire' = wire'; out = out; out' = out'; inside' = inside' }
 
 -- the wire that a run made inside
 abbrev pub wire_inside : Inside → Option (Looped FragmentServer)
@@ -61,63 +58,15 @@ options_of client = record { window = client.window; links = client.links; retri
 
 -- ---- commands
 
--- nothing was written, sent or made, and neither shelf nor output failed
+-- nothing was looked for, written, sent or made
 abbrev pub IsIdle : Around → Type 0
-IsIdle a = (a.taken' ≡ a.taken) × (a.wire' ≡ a.wire) × (a.inside' ≡ Unused) × (a.shelf' ≡ a.shelf) × (a.out' ≡ a.out)
+IsIdle a = (a.out' ≡ a.out) × (a.wire' ≡ a.wire) × (a.inside' ≡ Unused) × (a.shelf' ≡ a.shelf)
 
--- Of a file that was asked in the process: requests were sent for addresses of the plan alone, and at an answer each was answered; so many were made, or the call ended for one of these causes; and where none of these is there, and shelf and output did not fail, memory is wanting or it succeeded.
-pub record KeepsFile (a : Around) (view : LocalView) (answer : Result Report AnswerFault) : Type 0 where
-  pub sent : SendsLocally a.told view (wire_inside a.inside')
-  pub replied : RepliesLocally a.told view (wire_inside a.inside') answer
-  pub ends : EndsByPlan a.told view answer
-  pub complete : ¬ (Rose a.shelf a.shelf') → ¬ (Rose a.out a.out') → SucceedsByPlan a.told view answer
-
--- a file was asked in the process; the handed-in wire is not used
-abbrev pub AsksFile : Around → LocalView → Result Report AnswerFault → Type 0
-AsksFile a view (Ok report) = LocalAnswers a.told view (wire_inside a.inside') report a.taken a.taken' × (a.wire' ≡ a.wire) × KeepsFile a view (Ok report)
-AsksFile a view (Err fault) = LocalCause a.told view (wire_inside a.inside') a.shelf a.shelf' a.out a.out' a.taken a.taken' fault × (a.wire' ≡ a.wire) × KeepsFile a view (Err fault)
-
--- over a wire whose other ends answer as a server of some data does, where the plan fits and shelf and output did not fail, memory is wanting or the call succeeded
-abbrev pub SucceedsOver : Around → List ℕ → Address → Options → Result Report AnswerFault → Type 0
-SucceedsOver a name start options answer = ¬ (Rose a.shelf a.shelf') → ¬ (Rose a.out a.out') → OfQuery a.told name (λ q. (triples : List Triple) (config : Config)
-    → FitsOver a.allows q start options triples config a.wire a.wire' → IfErr answer IsWanting)
-
--- a server was asked over the handed-in wire; none is made inside
-abbrev pub AsksServer : Around → List ℕ → Address → Options → Result Report AnswerFault → Type 0
-AsksServer a name start options (Ok report) = Answers a.told name a.allows start options report a.wire a.wire' a.taken a.taken' × (a.inside' ≡ Unused) × SucceedsOver a name start options (Ok report)
-AsksServer a name start options (Err fault) = AskCause a.told name a.allows start options a.shelf a.shelf' a.wire a.wire' a.out a.out' a.taken a.taken' fault × (a.inside' ≡ Unused) × SucceedsOver a name start options (Err fault)
-
--- a file was served over the handed-in wire
-pub record ServesFile (a : Around) (name : List ℕ) (choice : Choice) (config : Config) (stop_after : Option ℕ) (result : Result ℕ ServiceFault) : Type 0 where
-  pub prefixes : (a.wire'.given ≡ a.wire.given) ⊎ SpeaksOfFile a.told name choice config a.shelf a.shelf' a.wire a.wire' SaysPrefixes
-  pub whole : IfOk result (λ connections. SpeaksOfFile a.told name choice config a.shelf a.shelf' a.wire a.wire' (SaysWhole a.wire.faults connections))
-  pub closed : AllClosed a.wire a.wire'
-  pub stops : IfOk result (λ connections. IfSome stop_after (λ most. most ≤ connections))
-  pub soon : IfOk result (λ connections. IfSome stop_after (λ most. connections ≤ (most - 1) + 256))
-  pub never : OnOk result (stop_after ≡ None → ⊥)
-  pub links : IfOk result (λ connections. a.wire.given + connections ≤ a.wire'.given)
-  pub turns : OpensAndTurns stop_after a.wire a.wire' result
-  pub ready : OnOk result (Appends a.taken a.taken' (codes "ready\n"))
-  pub front : AppendsPrefix a.taken a.taken' (codes "ready\n")
-  pub opened : OnOk result (a.wire'.door ≡ door_of config.base)
-  pub door : (a.taken' ≡ a.taken) ⊎ (a.wire'.door ≡ door_of config.base)
-  pub after : (a.wire'.given ≡ a.wire.given) ⊎ Appends a.taken a.taken' (codes "ready\n")
-  pub untouched : IfErr result (IsUntouched a.wire a.wire' a.out a.out' a.taken a.taken')
-  pub cause : IfErr result (ServiceCause a.told name choice (authority_of config.base) a.shelf a.shelf' a.wire.faults a.wire'.faults a.out a.out')
-  pub exact : ¬ (Rose a.shelf a.shelf') → IfTold a.told (λ files. (outcome : Outcome) → IsOutcome files name choice (authority_of config.base) outcome → GivesServed outcome result)
-  pub inside : a.inside' ≡ Unused
-
--- the data of so many persons were written, as canonical text; the shelf did not fail
-abbrev pub Writes : Around → ℕ → Result (Unit {0}) Fault → Type 0
-Writes a count (Ok nothing) = Appends a.taken a.taken' (canon (generated count)) × (a.wire' ≡ a.wire) × (a.inside' ≡ Unused) × (a.shelf' ≡ a.shelf)
-Writes a count (Err sinks.Failed) = AppendsPrefix a.taken a.taken' (canon (generated count)) × (a.wire' ≡ a.wire) × (a.inside' ≡ Unused) × (a.shelf' ≡ a.shelf) × Rose a.out a.out'
-Writes a count (Err sinks.OutOfMemory) = AppendsPrefix a.taken a.taken' (canon (generated count)) × (a.wire' ≡ a.wire) × (a.inside' ≡ Unused) × (a.shelf' ≡ a.shelf)
-
--- a query was asked of the data of so many persons in the process, and the output took this of the line of its numbers
-pub record CountsGenerated (a : Around) (persons : ℕ) (name : List ℕ) (Takes : List ℕ → Type 0) : Type 0 where
-  pub counts : Counts
-  pub answers : GeneratedAnswers a.told persons name (wire_inside a.inside') counts
-  pub line : Takes (sizes_text counts)
+-- the data of so many persons were written, as canonical text, or a front of it
+abbrev pub Writes : SinkState → SinkState → ℕ → Result (Unit {0}) Fault → Type 0
+Writes out out' count (Ok nothing) = Appends out.taken out'.taken (canon (generated count))
+Writes out out' count (Err sinks.Failed) = AppendsPrefix out.taken out'.taken (canon (generated count)) × Rose out.faults out'.faults
+Writes out out' count (Err sinks.OutOfMemory) = AppendsPrefix out.taken out'.taken (canon (generated count))
 
 -- the answer to a line that was not written whole
 abbrev pub unwritten : Fault → AnswerFault
@@ -125,22 +74,43 @@ unwritten sinks.Failed = answer_faults.Client clients.Sink
 unwritten sinks.OutOfMemory = answer_faults.Client clients.OutOfMemory
 
 -- a front of a line was written: the output failed, or memory ran out
-pub record CutsLine (out out' : ℕ) (taken taken' : Option (List ℕ)) (line : List ℕ) (fault : AnswerFault) : Type 0 where
+pub record CutsLine (out out' : SinkState) (line : List ℕ) (fault : AnswerFault) : Type 0 where
   pub cause : Fault
   pub is : fault ≡ unwritten cause
-  pub failed : cause ≡ sinks.Failed → Rose out out'
-  pub front : AppendsPrefix taken taken' line
+  pub failed : cause ≡ sinks.Failed → Rose out.faults out'.faults
+  pub front : AppendsPrefix out.taken out'.taken line
 
--- the same as of a file, of generated data
-pub record KeepsGenerated (a : Around) (persons : ℕ) (name : List ℕ) (result : Result (Unit {0}) AnswerFault) : Type 0 where
-  pub sent : OfGenerated a.told persons name (λ triples q. SendsInside (wire_inside a.inside') triples (local_config 100) q)
-  pub ends : OfGenerated a.told persons name (λ triples q. IfErr result (MayFail 0 usual_options triples (local_config 100) q))
-  pub complete : ¬ (Rose a.shelf a.shelf') → ¬ (Rose a.out a.out') → OfGenerated a.told persons name (λ triples q. PlanIsWithin 0 usual_options triples (local_config 100) q → IfErr result IsWanting)
+-- what became of numbers: the line of them was written, or a front of it; without numbers nothing was written
+abbrev pub WritesNumbers : SinkState → SinkState → Result Counts AnswerFault → Result (Unit {0}) AnswerFault → Type 0
+WritesNumbers out out' (Ok counts) (Ok nothing) = Appends out.taken out'.taken (sizes_text counts)
+WritesNumbers out out' (Ok counts) (Err fault) = CutsLine out out' (sizes_text counts) fault
+WritesNumbers out out' (Err cause) (Ok nothing) = ⊥
+WritesNumbers out out' (Err cause) (Err fault) = (cause ≡ fault) × (out' ≡ out)
 
--- a query was asked of generated data in the process, and the line of its numbers written, and nothing else; where there are no numbers nothing was written, and the output did not fail; the handed-in wire is not used
-abbrev pub AsksGenerated : Around → ℕ → List ℕ → Result (Unit {0}) AnswerFault → Type 0
-AsksGenerated a persons name (Ok nothing) = CountsGenerated a persons name (Appends a.taken a.taken') × (a.wire' ≡ a.wire) × KeepsGenerated a persons name (Ok nothing)
-AsksGenerated a persons name (Err fault) = ((GeneratedCause a.told persons name (wire_inside a.inside') a.shelf a.shelf' fault × (a.taken' ≡ a.taken) × (a.out' ≡ a.out)) ⊎ CountsGenerated a persons name (λ line. CutsLine a.out a.out' a.taken a.taken' line fault)) × (a.wire' ≡ a.wire) × KeepsGenerated a persons name (Err fault)
+-- A query was asked of the data of so many persons in the process, and the line of its numbers written, and nothing else.
+pub record CountsFile (shelf shelf' : ShelfState) (out out' : SinkState) (inside : Option (Looped FragmentServer)) (persons : ℕ) (name : List ℕ) (result : Result (Unit {0}) AnswerFault) : Type 0 where
+  pub came : Result Counts AnswerFault
+  pub asks : AsksGenerated shelf shelf' inside persons name came
+  pub line : WritesNumbers out out' came result
+  pub exact : QueryDecides shelf shelf' name (λ outcome. GivesAnswer outcome result)
+  pub output : KeepsSink out out'
+
+-- what `make` did that ended so
+abbrev pub Makes : ShelfState → ShelfState → SinkState → SinkState → Inside → ℕ → Option (List ℕ) → EndOfRun → Type 0
+Makes shelf shelf' out out' inside' count None (made written) =
+    (inside' ≡ Unused) × (shelf' ≡ shelf) × KeepsSink out out' × Writes out out' count written
+Makes shelf shelf' out out' inside' count None usage = ⊥
+Makes shelf shelf' out out' inside' count None no_words = ⊥
+Makes shelf shelf' out out' inside' count None (answered data_name asked answer) = ⊥
+Makes shelf shelf' out out' inside' count None (served file service) = ⊥
+Makes shelf shelf' out out' inside' count None (counted asked result) = ⊥
+Makes shelf shelf' out out' inside' count (Some asked_name) (counted asked result) =
+    (asked ≡ asked_name) × CountsFile shelf shelf' out out' (wire_inside inside') count asked_name result
+Makes shelf shelf' out out' inside' count (Some asked_name) usage = ⊥
+Makes shelf shelf' out out' inside' count (Some asked_name) no_words = ⊥
+Makes shelf shelf' out out' inside' count (Some asked_name) (answered data_name asked answer) = ⊥
+Makes shelf shelf' out out' inside' count (Some asked_name) (served file service) = ⊥
+Makes shelf shelf' out out' inside' count (Some asked_name) (made written) = ⊥
 
 -- ---- runs
 
@@ -152,75 +122,36 @@ config_by base page reload = record { base = base; page_size = page; reload = re
 
 -- what a command did that ended so
 abbrev pub Does : Around → Command → EndOfRun → Type 0
-Does a (local name query_name choice page client seed fail_every) (answered data_name asked answer) = (data_name ≡ name) × (asked ≡ query_name) × AsksFile a (view_of name query_name choice page client seed fail_every) answer
+Does a (local name query_name choice page client seed fail_every) (answered data_name asked answer) =
+    (data_name ≡ name) × (asked ≡ query_name) × (a.wire' ≡ a.wire)
+    × AsksFile a.shelf a.shelf' a.out a.out' (wire_inside a.inside') (view_of name query_name choice page client seed fail_every) answer
 Does a (local name query_name choice page client seed fail_every) usage = ⊥
 Does a (local name query_name choice page client seed fail_every) no_words = ⊥
 Does a (local name query_name choice page client seed fail_every) (served file service) = ⊥
 Does a (local name query_name choice page client seed fail_every) (made written) = ⊥
 Does a (local name query_name choice page client seed fail_every) (counted asked result) = ⊥
-Does a (query url query_name client) (answered data_name asked answer) = (asked ≡ query_name) × AsksServer a query_name url (options_of client) answer
+Does a (query url query_name client) (answered data_name asked answer) =
+    (asked ≡ query_name) × (a.inside' ≡ Unused)
+    × AsksServer a.shelf a.shelf' a.allows a.wire a.wire' a.out a.out' query_name url (options_of client) answer
 Does a (query url query_name client) usage = ⊥
 Does a (query url query_name client) no_words = ⊥
 Does a (query url query_name client) (served file service) = ⊥
 Does a (query url query_name client) (made written) = ⊥
 Does a (query url query_name client) (counted asked result) = ⊥
-Does a (serve name base choice page stop_after reload) (served file service) = (file ≡ name) × ServesFile a name choice (config_by base page reload) stop_after service
+Does a (serve name base choice page stop_after reload) (served file service) =
+    (file ≡ name) × (a.inside' ≡ Unused)
+    × ServesFile a.shelf a.shelf' a.wire a.wire' a.out a.out' name choice (config_by base page reload) stop_after service
 Does a (serve name base choice page stop_after reload) usage = ⊥
 Does a (serve name base choice page stop_after reload) no_words = ⊥
 Does a (serve name base choice page stop_after reload) (answered data_name asked answer) = ⊥
 Does a (serve name base choice page stop_after reload) (made written) = ⊥
 Does a (serve name base choice page stop_after reload) (counted asked result) = ⊥
-Does a (make count None) (made written) = Writes a count written
-Does a (make count None) usage = ⊥
-Does a (make count None) no_words = ⊥
-Does a (make count None) (answered data_name asked answer) = ⊥
-Does a (make count None) (served file service) = ⊥
-Does a (make count None) (counted asked result) = ⊥
-Does a (make count (Some asked_name)) (counted asked result) = (asked ≡ asked_name) × AsksGenerated a count asked_name result
-Does a (make count (Some asked_name)) usage = ⊥
-Does a (make count (Some asked_name)) no_words = ⊥
-Does a (make count (Some asked_name)) (answered data_name asked answer) = ⊥
-Does a (make count (Some asked_name)) (served file service) = ⊥
-Does a (make count (Some asked_name)) (made written) = ⊥
-
--- Where the shelf did not fail, what the files hold decides how a command ends, want of memory aside: by the outcome of each file that was read.
-abbrev pub MustEnd : Around → Command → EndOfRun → Type 0
-MustEnd a (local name query_name choice page client seed fail_every) (answered data_name asked answer) = ¬ (Rose a.shelf a.shelf') → IfTold a.told (λ files.
-    ((outcome : Outcome) → IsOutcome files name choice (codes "localhost") outcome → GivesData outcome answer)
-    × ((outcome : QueryOutcome) → IsQueryOutcome files query_name outcome → GivesAnswer outcome answer))
-MustEnd a (local name query_name choice page client seed fail_every) usage = Unit {0}
-MustEnd a (local name query_name choice page client seed fail_every) no_words = Unit {0}
-MustEnd a (local name query_name choice page client seed fail_every) (served file service) = Unit {0}
-MustEnd a (local name query_name choice page client seed fail_every) (made written) = Unit {0}
-MustEnd a (local name query_name choice page client seed fail_every) (counted asked result) = Unit {0}
-MustEnd a (query url query_name client) (answered data_name asked answer) = ¬ (Rose a.shelf a.shelf') → IfTold a.told (λ files. (outcome : QueryOutcome) → IsQueryOutcome files query_name outcome → GivesAnswer outcome answer)
-MustEnd a (query url query_name client) usage = Unit {0}
-MustEnd a (query url query_name client) no_words = Unit {0}
-MustEnd a (query url query_name client) (served file service) = Unit {0}
-MustEnd a (query url query_name client) (made written) = Unit {0}
-MustEnd a (query url query_name client) (counted asked result) = Unit {0}
-MustEnd a (serve name base choice page stop_after reload) (served file service) = ¬ (Rose a.shelf a.shelf') → IfTold a.told (λ files. (outcome : Outcome) → IsOutcome files name choice (authority_of base) outcome → GivesServed outcome service)
-MustEnd a (serve name base choice page stop_after reload) usage = Unit {0}
-MustEnd a (serve name base choice page stop_after reload) no_words = Unit {0}
-MustEnd a (serve name base choice page stop_after reload) (answered data_name asked answer) = Unit {0}
-MustEnd a (serve name base choice page stop_after reload) (made written) = Unit {0}
-MustEnd a (serve name base choice page stop_after reload) (counted asked result) = Unit {0}
-MustEnd a (make count None) end = Unit {0}
-MustEnd a (make count (Some asked_name)) (counted asked result) = ¬ (Rose a.shelf a.shelf') → IfTold a.told (λ files. (outcome : QueryOutcome) → IsQueryOutcome files asked_name outcome → GivesAnswer outcome result)
-MustEnd a (make count (Some asked_name)) usage = Unit {0}
-MustEnd a (make count (Some asked_name)) no_words = Unit {0}
-MustEnd a (make count (Some asked_name)) (answered data_name asked answer) = Unit {0}
-MustEnd a (make count (Some asked_name)) (served file service) = Unit {0}
-MustEnd a (make count (Some asked_name)) (made written) = Unit {0}
+Does a (make count asked_name) end = (a.wire' ≡ a.wire) × Makes a.shelf a.shelf' a.out a.out' a.inside' count asked_name end
 
 -- the same of a run, where its words are a command or none
 abbrev pub DoesOf : Around → Option Command → EndOfRun → Type 0
 DoesOf a (Some command) end = (Does a command end) ⊎ ((end ≡ no_words) × IsIdle a)
 DoesOf a None end = ((end ≡ usage) ⊎ (end ≡ no_words)) × IsIdle a
-
-abbrev pub MustEndOf : Around → Option Command → EndOfRun → Type 0
-MustEndOf a (Some command) end = MustEnd a command end
-MustEndOf a None end = Unit {0}
 
 -- the shelf is not used by these words
 abbrev pub IsWithoutShelf : Option Command → Type 0

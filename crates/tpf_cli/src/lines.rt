@@ -1,9 +1,8 @@
 // Lines on the standard error, and the one on the output.
-ghost use Rattle.std.specs.Prelude.{◌≡◌, ◌≤◌, ◌++◌, codes, decimal, IfOk, OnOk, OnErr, IsErrOf};
-ghost use Rattle.std.specs.Io.KnownBytes.{Appends};
-ghost use Rattle.tpf_base.specs.Causes.{Rose};
-ghost use Rattle.tpf_base.specs.Wrote.{AppendsPrefix};
-ghost use Rattle.tpf_cli.specs.Lines.{SaysLine, version_text, sizes_text};
+ghost use Rattle.std.specs.Prelude.{◌≡◌, ◌++◌, codes, decimal, IfOk, OnOk};
+ghost use Rattle.tpf_base.specs.Wrote.{WritesWhole};
+ghost use Rattle.data_files.specs.Kept.{KeepsSink};
+ghost use Rattle.tpf_cli.specs.Lines.{SaysLine, version_text, counts_text, versions_text, sizes_text};
 
 use itoa::Buffer;
 use query_command::Counts;
@@ -13,8 +12,8 @@ use tpf_base::{Fault, OutOfMemory, Sink, write_all};
 /// Writes a line, and gives the status where that did not run out of memory, and else 8. A failure is
 /// passed over.
 pub fn write_line<E: Sink>(err: &mut E, line: &[u8], status: u8) -> u8
-    ensures says { SaysLine result status line.now (E.faults err.old) (E.faults err.new) (E.taken err.old) (E.taken err.new) }
-    ensures later { E.faults err.old ≤ E.faults err.new }
+    ensures says { SaysLine result status line.now (E.state err.old) (E.state err.new) }
+    ensures keeps { KeepsSink (E.state err.old) (E.state err.new) }
 {
     match write_all(err, line) {
         Ok(()) | Err(Fault::Failed) => status,
@@ -58,7 +57,7 @@ fn number_line(alloc: Global, front: &[u8], n: u64) -> Result<Vec<u8>, OutOfMemo
 
 /// The counts of requests and of rows.
 fn counts_line(alloc: Global, requests: u64, rows: u64) -> Result<Vec<u8>, OutOfMemory>
-    ensures { IfOk result (λ v. v.items ≡ codes "requests " ++ decimal requests ++ codes " rows " ++ decimal rows ++ codes "\n") }
+    ensures { IfOk result (λ v. v.items ≡ counts_text requests rows) }
 {
     let mut buffer = Buffer::new();
     let mut text = Vec::from_slice(alloc, b"requests ")?;
@@ -100,7 +99,7 @@ fn versions_line(
     first: Option<u64>,
     other: Option<u64>,
 ) -> Result<Vec<u8>, OutOfMemory>
-    ensures { IfOk result (λ v. v.items ≡ codes "changed: " ++ version_text first ++ codes " " ++ version_text other ++ codes "\n") }
+    ensures { IfOk result (λ v. v.items ≡ versions_text first other) }
 {
     let mut text = Vec::from_slice(alloc, b"changed: ")?;
     push_version(&mut text, first)?;
@@ -119,8 +118,9 @@ pub fn write_fault<E: Sink>(
     why: &[u8],
     status: u8,
 ) -> u8
-    ensures says { SaysLine result status (front.now ++ decimal n ++ codes ": " ++ why.now ++ codes "\n") (E.faults err.old) (E.faults err.new) (E.taken err.old) (E.taken err.new) }
-    ensures later { E.faults err.old ≤ E.faults err.new }
+    ensures says { SaysLine result status (front.now ++ decimal n ++ codes ": " ++ why.now ++ codes "\n")
+        (E.state err.old) (E.state err.new) }
+    ensures keeps { KeepsSink (E.state err.old) (E.state err.new) }
 {
     match fault_line(alloc, front, n, why) {
         Ok(text) => write_line(err, &text, status),
@@ -130,8 +130,8 @@ pub fn write_fault<E: Sink>(
 
 /// Writes a line that is a front, a name and LF.
 pub fn write_named<E: Sink>(alloc: Global, err: &mut E, front: &[u8], name: &[u8], status: u8) -> u8
-    ensures says { SaysLine result status (front.now ++ name.now ++ codes "\n") (E.faults err.old) (E.faults err.new) (E.taken err.old) (E.taken err.new) }
-    ensures later { E.faults err.old ≤ E.faults err.new }
+    ensures says { SaysLine result status (front.now ++ name.now ++ codes "\n") (E.state err.old) (E.state err.new) }
+    ensures keeps { KeepsSink (E.state err.old) (E.state err.new) }
 {
     match named_line(alloc, front, name) {
         Ok(text) => write_line(err, &text, status),
@@ -141,8 +141,8 @@ pub fn write_named<E: Sink>(alloc: Global, err: &mut E, front: &[u8], name: &[u8
 
 /// Writes a line that is a front, a number and LF.
 pub fn write_number<E: Sink>(alloc: Global, err: &mut E, front: &[u8], n: u64, status: u8) -> u8
-    ensures says { SaysLine result status (front.now ++ decimal n ++ codes "\n") (E.faults err.old) (E.faults err.new) (E.taken err.old) (E.taken err.new) }
-    ensures later { E.faults err.old ≤ E.faults err.new }
+    ensures says { SaysLine result status (front.now ++ decimal n ++ codes "\n") (E.state err.old) (E.state err.new) }
+    ensures keeps { KeepsSink (E.state err.old) (E.state err.new) }
 {
     match number_line(alloc, front, n) {
         Ok(text) => write_line(err, &text, status),
@@ -152,8 +152,8 @@ pub fn write_number<E: Sink>(alloc: Global, err: &mut E, front: &[u8], n: u64, s
 
 /// Writes the counts of requests and of rows, with status 0.
 pub fn write_counts<E: Sink>(alloc: Global, err: &mut E, requests: u64, rows: u64) -> u8
-    ensures says { SaysLine result 0 (codes "requests " ++ decimal requests ++ codes " rows " ++ decimal rows ++ codes "\n") (E.faults err.old) (E.faults err.new) (E.taken err.old) (E.taken err.new) }
-    ensures later { E.faults err.old ≤ E.faults err.new }
+    ensures says { SaysLine result 0 (counts_text requests rows) (E.state err.old) (E.state err.new) }
+    ensures keeps { KeepsSink (E.state err.old) (E.state err.new) }
 {
     match counts_line(alloc, requests, rows) {
         Ok(text) => write_line(err, &text, 0),
@@ -164,10 +164,7 @@ pub fn write_counts<E: Sink>(alloc: Global, err: &mut E, requests: u64, rows: u6
 /// Writes the numbers of the triples and of the rows to the output. `Failed` only where its count of faults
 /// rose; a front of the line may have been written then.
 pub fn write_sizes<K: Sink>(alloc: Global, out: &mut K, counts: Counts) -> Result<(), Fault>
-    ensures ok { OnOk result (Appends (K.taken out.old) (K.taken out.new) (sizes_text counts)) }
-    ensures err { OnErr result (AppendsPrefix (K.taken out.old) (K.taken out.new) (sizes_text counts)) }
-    ensures failed { IsErrOf result Fault.Failed → Rose (K.faults out.old) (K.faults out.new) }
-    ensures later { K.faults out.old ≤ K.faults out.new }
+    ensures { WritesWhole (sizes_text counts) (K.state out.old) (K.state out.new) result }
 {
     match sizes_line(alloc, counts) {
         Ok(text) => write_all(out, &text),
@@ -182,8 +179,8 @@ pub fn write_versions<E: Sink>(
     first: Option<u64>,
     other: Option<u64>,
 ) -> u8
-    ensures says { SaysLine result 11 (codes "changed: " ++ version_text first ++ codes " " ++ version_text other ++ codes "\n") (E.faults err.old) (E.faults err.new) (E.taken err.old) (E.taken err.new) }
-    ensures later { E.faults err.old ≤ E.faults err.new }
+    ensures says { SaysLine result 11 (versions_text first other) (E.state err.old) (E.state err.new) }
+    ensures keeps { KeepsSink (E.state err.old) (E.state err.new) }
 {
     match versions_line(alloc, first, other) {
         Ok(text) => write_line(err, &text, 11),

@@ -1,5 +1,5 @@
 // What is said at the end of a run.
-ghost use Rattle.std.specs.Prelude.{◌≤◌};
+ghost use Rattle.data_files.specs.Kept.{KeepsSink};
 ghost use Rattle.tpf_cli.specs.Lines.{SaysLine};
 ghost use Rattle.tpf_cli.specs.Endings.{Says, data_status, data_line, query_status, query_line, client_status, client_line, reply_line, made_status, made_line, fault_status, fault_line, counted_status, counted_line, answer_status, answer_line, service_status, service_line};
 ghost use Rattle.tpf_cli.specs.EndingViews.{ending_view};
@@ -19,8 +19,9 @@ use tpf_client::{ClientFault, Report};
 
 /// Says why the data of a file are not served.
 fn say_data<E: Sink>(alloc: Global, err: &mut E, name: &str, fault: &DataFault) -> u8
-    ensures says { SaysLine result (data_status fault.now) (data_line name.now fault.now) (E.faults err.old) (E.faults err.new) (E.taken err.old) (E.taken err.new) }
-    ensures later { E.faults err.old ≤ E.faults err.new }
+    ensures says { SaysLine result (data_status fault.now) (data_line name.now fault.now)
+        (E.state err.old) (E.state err.new) }
+    ensures keeps { KeepsSink (E.state err.old) (E.state err.new) }
 {
     match fault {
         DataFault::TooLong => write_line(err, b"data: too long\n", 3),
@@ -38,8 +39,9 @@ fn say_data<E: Sink>(alloc: Global, err: &mut E, name: &str, fault: &DataFault) 
 
 /// Says why the query of a file is not read.
 fn say_query<E: Sink>(alloc: Global, err: &mut E, name: &str, fault: QueryFileFault) -> u8
-    ensures says { SaysLine result (query_status fault) (query_line name.now fault) (E.faults err.old) (E.faults err.new) (E.taken err.old) (E.taken err.new) }
-    ensures later { E.faults err.old ≤ E.faults err.new }
+    ensures says { SaysLine result (query_status fault) (query_line name.now fault)
+        (E.state err.old) (E.state err.new) }
+    ensures keeps { KeepsSink (E.state err.old) (E.state err.new) }
 {
     match fault {
         QueryFileFault::Bad { at, why } => {
@@ -59,8 +61,8 @@ fn say_query<E: Sink>(alloc: Global, err: &mut E, name: &str, fault: QueryFileFa
 
 /// Says why a reply is refused.
 fn say_reply<E: Sink>(alloc: Global, err: &mut E, fault: ReplyFault) -> u8
-    ensures says { SaysLine result 6 (reply_line fault) (E.faults err.old) (E.faults err.new) (E.taken err.old) (E.taken err.new) }
-    ensures later { E.faults err.old ≤ E.faults err.new }
+    ensures says { SaysLine result 6 (reply_line fault) (E.state err.old) (E.state err.new) }
+    ensures keeps { KeepsSink (E.state err.old) (E.state err.new) }
 {
     match fault {
         ReplyFault::Head => write_line(err, b"reply: head\n", 6),
@@ -76,8 +78,9 @@ fn say_reply<E: Sink>(alloc: Global, err: &mut E, fault: ReplyFault) -> u8
 
 /// Says why a call over a wire ended.
 fn say_client<E: Sink>(alloc: Global, err: &mut E, fault: &ClientFault) -> u8
-    ensures says { SaysLine result (client_status fault.now) (client_line fault.now) (E.faults err.old) (E.faults err.new) (E.taken err.old) (E.taken err.new) }
-    ensures later { E.faults err.old ≤ E.faults err.new }
+    ensures says { SaysLine result (client_status fault.now) (client_line fault.now)
+        (E.state err.old) (E.state err.new) }
+    ensures keeps { KeepsSink (E.state err.old) (E.state err.new) }
 {
     match fault {
         ClientFault::Exchange => write_line(err, b"exchange: failed\n", 5),
@@ -98,15 +101,16 @@ fn say_client<E: Sink>(alloc: Global, err: &mut E, fault: &ClientFault) -> u8
 fn say_fault<E: Sink>(
     alloc: Global,
     err: &mut E,
-    data: &str,
+    name: &str,
     query: &str,
     fault: &AnswerFault,
 ) -> u8
-    ensures says { SaysLine result (fault_status fault.now) (fault_line data.now query.now fault.now) (E.faults err.old) (E.faults err.new) (E.taken err.old) (E.taken err.new) }
-    ensures later { E.faults err.old ≤ E.faults err.new }
+    ensures says { SaysLine result (fault_status fault.now) (fault_line name.now query.now fault.now)
+        (E.state err.old) (E.state err.new) }
+    ensures keeps { KeepsSink (E.state err.old) (E.state err.new) }
 {
     match fault {
-        AnswerFault::Data(fault) => say_data(alloc, err, data, fault),
+        AnswerFault::Data(fault) => say_data(alloc, err, name, fault),
         AnswerFault::Query(fault) => say_query(alloc, err, query, *fault),
         AnswerFault::Client(fault) => say_client(alloc, err, fault),
     }
@@ -116,16 +120,17 @@ fn say_fault<E: Sink>(
 fn say_answer<E: Sink>(
     alloc: Global,
     err: &mut E,
-    data: &str,
+    name: &str,
     query: &str,
     answer: &Result<Report, AnswerFault>,
 ) -> u8
-    ensures says { SaysLine result (answer_status answer.now) (answer_line data.now query.now answer.now) (E.faults err.old) (E.faults err.new) (E.taken err.old) (E.taken err.new) }
-    ensures later { E.faults err.old ≤ E.faults err.new }
+    ensures says { SaysLine result (answer_status answer.now) (answer_line name.now query.now answer.now)
+        (E.state err.old) (E.state err.new) }
+    ensures keeps { KeepsSink (E.state err.old) (E.state err.new) }
 {
     match answer {
         Ok(report) => write_counts(alloc, err, report.requests, report.rows),
-        Err(fault) => say_fault(alloc, err, data, query, fault),
+        Err(fault) => say_fault(alloc, err, name, query, fault),
     }
 }
 
@@ -133,15 +138,16 @@ fn say_answer<E: Sink>(
 fn say_service<E: Sink>(
     alloc: Global,
     err: &mut E,
-    data: &str,
+    name: &str,
     served: &Result<u64, ServiceFault>,
 ) -> u8
-    ensures says { SaysLine result (service_status served.now) (service_line data.now served.now) (E.faults err.old) (E.faults err.new) (E.taken err.old) (E.taken err.new) }
-    ensures later { E.faults err.old ≤ E.faults err.new }
+    ensures says { SaysLine result (service_status served.now) (service_line name.now served.now)
+        (E.state err.old) (E.state err.new) }
+    ensures keeps { KeepsSink (E.state err.old) (E.state err.new) }
 {
     match served {
         Ok(connections) => write_number(alloc, err, b"served ", *connections, 0),
-        Err(ServiceFault::Data(fault)) => say_data(alloc, err, data, fault),
+        Err(ServiceFault::Data(fault)) => say_data(alloc, err, name, fault),
         Err(ServiceFault::Wire) => write_line(err, b"wire\n", 12),
         Err(ServiceFault::Sink) => write_line(err, b"sink\n", 9),
         Err(ServiceFault::OutOfMemory) => write_line(err, b"memory\n", 8),
@@ -150,8 +156,8 @@ fn say_service<E: Sink>(
 
 /// Says what came of generated data: nothing where they were written.
 fn say_made<E: Sink>(err: &mut E, made: &Result<(), Fault>) -> u8
-    ensures says { SaysLine result (made_status made.now) (made_line made.now) (E.faults err.old) (E.faults err.new) (E.taken err.old) (E.taken err.new) }
-    ensures later { E.faults err.old ≤ E.faults err.new }
+    ensures says { SaysLine result (made_status made.now) (made_line made.now) (E.state err.old) (E.state err.new) }
+    ensures keeps { KeepsSink (E.state err.old) (E.state err.new) }
 {
     match made {
         Ok(()) => 0,
@@ -167,8 +173,9 @@ fn say_counted<E: Sink>(
     query: &str,
     counted: &Result<(), AnswerFault>,
 ) -> u8
-    ensures says { SaysLine result (counted_status counted.now) (counted_line query.now counted.now) (E.faults err.old) (E.faults err.new) (E.taken err.old) (E.taken err.new) }
-    ensures later { E.faults err.old ≤ E.faults err.new }
+    ensures says { SaysLine result (counted_status counted.now) (counted_line query.now counted.now)
+        (E.state err.old) (E.state err.new) }
+    ensures keeps { KeepsSink (E.state err.old) (E.state err.new) }
 {
     match counted {
         Ok(()) => 0,
@@ -178,8 +185,8 @@ fn say_counted<E: Sink>(
 
 /// Says how a run ended, and gives the exit status.
 pub fn say<E: Sink>(alloc: Global, err: &mut E, ending: &Ending<'_>) -> u8
-    ensures says { Says result (ending_view ending.now) (E.faults err.old) (E.faults err.new) (E.taken err.old) (E.taken err.new) }
-    ensures later { E.faults err.old ≤ E.faults err.new }
+    ensures says { Says result (ending_view ending.now) (E.state err.old) (E.state err.new) }
+    ensures keeps { KeepsSink (E.state err.old) (E.state err.new) }
 {
     match ending {
         Ending::Usage => write_line(

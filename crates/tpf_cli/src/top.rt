@@ -1,19 +1,17 @@
 // The top call.
-ghost use Rattle.std.specs.Prelude.{◌≡◌, ◌≤◌, None, Some, map, string_bytes, option_map};
-ghost use Rattle.template_fill.specs.Configurations.{HasReloadPath};
+ghost use Rattle.std.specs.Prelude.{◌≡◌, ◌≤◌, Some, map, string_bytes, option_map};
 ghost use Rattle.command_words.specs.Commands as commands;
 ghost use Rattle.command_words.specs.Commands.{command_of};
 ghost use Rattle.command_words.specs.CommandViews.{command_view};
-ghost use Rattle.tpf_cli.specs.Endings.{EndOfRun, Says};
 ghost use Rattle.tpf_cli.specs.EndingViews.{ending_view};
-ghost use Rattle.tpf_cli.specs.Ranges.{IsClient, IsInRange, IsTyped};
-ghost use Rattle.tpf_cli.specs.Runs.{Does, DoesOf, MustEndOf, IsWithoutShelf, IsWithoutOutput, IsWithoutWire};
-ghost use Rattle.tpf_cli.specs.Promises.{KeepsTableOf, TellsRequestsOf, SucceedsOf};
+ghost use Rattle.tpf_cli.specs.Ranges.{IsInRange};
+ghost use Rattle.tpf_cli.specs.Runs.{Does, DoesOf, Makes, IsWithoutShelf, IsWithoutOutput, IsWithoutWire, around};
+ghost use Rattle.tpf_cli.specs.Promises.{Keeps};
 
-use crate::commands::{ask_file, ask_generated, ask_server, options_of, serve_file};
+use crate::commands::{ServerQuery, ask_file, ask_generated, ask_server, options_of, serve_file};
 use crate::ending::Ending;
 use crate::say::say;
-use command_words::{ClientWords, Command, command_of};
+use command_words::{Command, command_of};
 use fragment_server::FragmentConnection;
 use generated_data::write_generated;
 use loop_wire::LoopWire;
@@ -21,9 +19,7 @@ use query_command::LocalQuery;
 use serve_command::Service;
 use std::alloc::Global;
 use std::sync::Wait;
-use template_fill::WebAddress;
-use tpf_base::{Accept, Dial, Shelf, Sink, Text};
-use triple_table::Choice;
+use tpf_base::{Accept, Dial, Shelf, Sink};
 
 /// The wire that a run made inside itself, where its contracts and tests can see it.
 #[derive(Drop)]
@@ -34,90 +30,27 @@ pub enum Inside {
     Loop(LoopWire<FragmentConnection>),
 }
 
-/// Does `query`.
-fn obey_query<'a, R: Wait, F: Shelf, W: Dial, K: Sink>(
-    rt: &R,
-    alloc: Global,
-    url: WebAddress,
-    query: &'a str,
-    client: ClientWords,
-    shelf: &mut F,
-    wire: &mut W,
-    out: &mut K,
-) -> Ending<'a>
-    requires typed { IsTyped url }
-    requires client { IsClient client }
-    ensures does { Does (record { told = F.told shelf.old; shelf = F.faults shelf.old; shelf' = F.faults shelf.new; allows = W.allows wire.old; wire = W.state wire.old; wire' = W.state wire.new; out = K.faults out.old; out' = K.faults out.new; taken = K.taken out.old; taken' = K.taken out.new; inside' = Inside.Unused }) (commands.query url query.entry.now client) (ending_view result) }
-    ensures told { F.told shelf.new ≡ F.told shelf.old }
-    ensures shelf_later { F.faults shelf.old ≤ F.faults shelf.new }
-    ensures out_later { K.faults out.old ≤ K.faults out.new }
-{
-    let answer = ask_server(rt, alloc, &url, query, client, shelf, wire, out);
-    Ending::Answered {
-        data: "",
-        query,
-        answer,
-    }
-}
-
-/// Does `serve`.
-fn obey_serve<'a, R: Wait, F: Shelf, W: Accept, K: Sink>(
-    rt: &R,
-    alloc: Global,
-    name: &'a str,
-    base: WebAddress,
-    choice: Choice,
-    page: u64,
-    stop_after: Option<u64>,
-    reload: Option<Text>,
-    shelf: &mut F,
-    wire: &mut W,
-    out: &mut K,
-) -> Ending<'a>
-    requires low { 1 ≤ page }
-    requires high { page ≤ 1000 }
-    requires no_query { base.query ≡ None }
-    requires reload { HasReloadPath base reload }
-    ensures does { Does (record { told = F.told shelf.old; shelf = F.faults shelf.old; shelf' = F.faults shelf.new; allows = W.allows wire.old; wire = W.state wire.old; wire' = W.state wire.new; out = K.faults out.old; out' = K.faults out.new; taken = K.taken out.old; taken' = K.taken out.new; inside' = Inside.Unused }) (commands.serve name.entry.now base choice page stop_after reload) (ending_view result) }
-    ensures told { F.told shelf.new ≡ F.told shelf.old }
-    ensures shelf_later { F.faults shelf.old ≤ F.faults shelf.new }
-    ensures out_later { K.faults out.old ≤ K.faults out.new }
-{
-    let service = Service {
-        name,
-        choice: &choice,
-        base,
-        page_size: page,
-        reload,
-        stop_after,
-    };
-    let served = serve_file(rt, alloc, service, shelf, wire, out);
-    Ending::Served { data: name, served }
-}
-
 /// Does `make`.
-fn obey_make<'a, R: Wait, F: Shelf, W: Dial, K: Sink>(
+fn obey_make<'a, R: Wait, F: Shelf, K: Sink>(
     rt: &R,
     alloc: Global,
     count: u32,
     run: Option<&'a str>,
     shelf: &mut F,
-    wire: &W,
     out: &mut K,
     inside: &mut Inside,
 ) -> Ending<'a>
     requires most { count ≤ 1000000 }
     requires unused { inside.old ≡ Inside.Unused }
-    ensures does { Does (record { told = F.told shelf.old; shelf = F.faults shelf.old; shelf' = F.faults shelf.new; allows = W.allows wire.now; wire = W.state wire.now; wire' = W.state wire.now; out = K.faults out.old; out' = K.faults out.new; taken = K.taken out.old; taken' = K.taken out.new; inside' = inside.new }) (commands.make count (option_map (λ r. r.now) run.entry)) (ending_view result) }
-    ensures shelf { IsWithoutShelf (Some (commands.make count (option_map (λ r. r.now) run.entry))) → shelf.new ≡ shelf.old }
-    ensures told { F.told shelf.new ≡ F.told shelf.old }
-    ensures shelf_later { F.faults shelf.old ≤ F.faults shelf.new }
-    ensures out_later { K.faults out.old ≤ K.faults out.new }
+    ensures does { Makes (F.state shelf.old) (F.state shelf.new) (K.state out.old) (K.state out.new) inside.new
+        count (option_map (λ r. r.now) run.entry) (ending_view result) }
+    ensures shelf { IsWithoutShelf (Some (commands.make count (option_map (λ r. r.now) run.entry)))
+        → shelf.new ≡ shelf.old }
 {
     match run {
         None => Ending::Made(write_generated(alloc, count, out)),
         Some(query) => {
-            let counted = ask_generated(rt, alloc, count, query, shelf, wire, out, inside);
+            let counted = ask_generated(rt, alloc, count, query, shelf, out, inside);
             Ending::Counted { query, counted }
         }
     }
@@ -135,12 +68,11 @@ fn obey<'a, R: Wait, F: Shelf, W: Dial + Accept, K: Sink>(
 ) -> Ending<'a>
     requires range { IsInRange (command_view command) }
     requires unused { inside.old ≡ Inside.Unused }
-    ensures does { Does (record { told = F.told shelf.old; shelf = F.faults shelf.old; shelf' = F.faults shelf.new; allows = W.allows wire.old; wire = W.state wire.old; wire' = W.state wire.new; out = K.faults out.old; out' = K.faults out.new; taken = K.taken out.old; taken' = K.taken out.new; inside' = inside.new }) (command_view command.entry) (ending_view result) }
+    ensures does { Does (around (F.state shelf.old) (F.state shelf.new)
+        (W.allows wire.old) (W.state wire.old) (W.state wire.new) (K.state out.old) (K.state out.new) inside.new)
+        (command_view command.entry) (ending_view result) }
     ensures wire { IsWithoutWire (Some (command_view command.entry)) → wire.new ≡ wire.old }
     ensures shelf { IsWithoutShelf (Some (command_view command.entry)) → shelf.new ≡ shelf.old }
-    ensures told { F.told shelf.new ≡ F.told shelf.old }
-    ensures shelf_later { F.faults shelf.old ≤ F.faults shelf.new }
-    ensures out_later { K.faults out.old ≤ K.faults out.new }
 {
     match command {
         Command::Local {
@@ -161,7 +93,7 @@ fn obey<'a, R: Wait, F: Shelf, W: Dial + Accept, K: Sink>(
                 seed,
                 fail_every,
             };
-            let answer = ask_file(rt, alloc, &asked, shelf, &*wire, out, inside);
+            let answer = ask_file(rt, alloc, &asked, shelf, out, inside);
             Ending::Answered {
                 data: name,
                 query,
@@ -169,7 +101,13 @@ fn obey<'a, R: Wait, F: Shelf, W: Dial + Accept, K: Sink>(
             }
         }
         Command::Query { url, query, client } => {
-            obey_query(rt, alloc, url, query, client, shelf, wire, out)
+            let asked = ServerQuery { url, query, client };
+            let answer = ask_server(rt, alloc, &asked, shelf, wire, out);
+            Ending::Answered {
+                data: "",
+                query,
+                answer,
+            }
         }
         Command::Serve {
             name,
@@ -178,12 +116,19 @@ fn obey<'a, R: Wait, F: Shelf, W: Dial + Accept, K: Sink>(
             page,
             stop_after,
             reload,
-        } => obey_serve(
-            rt, alloc, name, base, choice, page, stop_after, reload, shelf, wire, out,
-        ),
-        Command::Make { count, run } => {
-            obey_make(rt, alloc, count, run, shelf, &*wire, out, inside)
+        } => {
+            let service = Service {
+                name,
+                choice: &choice,
+                base,
+                page_size: page,
+                reload,
+                stop_after,
+            };
+            let served = serve_file(rt, alloc, service, shelf, wire, out);
+            Ending::Served { data: name, served }
         }
+        Command::Make { count, run } => obey_make(rt, alloc, count, run, shelf, out, inside),
     }
 }
 
@@ -198,42 +143,18 @@ fn ending_of<'a, R: Wait, F: Shelf, W: Dial + Accept, K: Sink>(
     inside: &mut Inside,
 ) -> Ending<'a>
     requires unused { inside.old ≡ Inside.Unused }
-    ensures does { DoesOf (record { told = F.told shelf.old; shelf = F.faults shelf.old; shelf' = F.faults shelf.new; allows = W.allows wire.old; wire = W.state wire.old; wire' = W.state wire.new; out = K.faults out.old; out' = K.faults out.new; taken = K.taken out.old; taken' = K.taken out.new; inside' = inside.new }) (command_of (map string_bytes words.entry.now)) (ending_view result) }
+    ensures does { DoesOf (around (F.state shelf.old) (F.state shelf.new)
+        (W.allows wire.old) (W.state wire.old) (W.state wire.new) (K.state out.old) (K.state out.new) inside.new)
+        (command_of (map string_bytes words.entry.now)) (ending_view result) }
     ensures wire { IsWithoutWire (command_of (map string_bytes words.entry.now)) → wire.new ≡ wire.old }
     ensures shelf { IsWithoutShelf (command_of (map string_bytes words.entry.now)) → shelf.new ≡ shelf.old }
     ensures out { IsWithoutOutput (command_of (map string_bytes words.entry.now)) → out.new ≡ out.old }
-    ensures told { F.told shelf.new ≡ F.told shelf.old }
-    ensures shelf_later { F.faults shelf.old ≤ F.faults shelf.new }
-    ensures out_later { K.faults out.old ≤ K.faults out.new }
 {
     match command_of(alloc, words) {
         Err(_) => Ending::NoWords,
         Ok(None) => Ending::Usage,
         Ok(Some(command)) => obey(rt, alloc, command, shelf, wire, out, inside),
     }
-}
-
-/// The same, and how it had to end by what its files hold.
-fn end_of<'a, R: Wait, F: Shelf, W: Dial + Accept, K: Sink>(
-    rt: &R,
-    alloc: Global,
-    words: &'a [String],
-    shelf: &mut F,
-    wire: &mut W,
-    out: &mut K,
-    inside: &mut Inside,
-) -> Ending<'a>
-    requires unused { inside.old ≡ Inside.Unused }
-    ensures does { DoesOf (record { told = F.told shelf.old; shelf = F.faults shelf.old; shelf' = F.faults shelf.new; allows = W.allows wire.old; wire = W.state wire.old; wire' = W.state wire.new; out = K.faults out.old; out' = K.faults out.new; taken = K.taken out.old; taken' = K.taken out.new; inside' = inside.new }) (command_of (map string_bytes words.entry.now)) (ending_view result) }
-    ensures must { MustEndOf (record { told = F.told shelf.old; shelf = F.faults shelf.old; shelf' = F.faults shelf.new; allows = W.allows wire.old; wire = W.state wire.old; wire' = W.state wire.new; out = K.faults out.old; out' = K.faults out.new; taken = K.taken out.old; taken' = K.taken out.new; inside' = inside.new }) (command_of (map string_bytes words.entry.now)) (ending_view result) }
-    ensures wire { IsWithoutWire (command_of (map string_bytes words.entry.now)) → wire.new ≡ wire.old }
-    ensures shelf { IsWithoutShelf (command_of (map string_bytes words.entry.now)) → shelf.new ≡ shelf.old }
-    ensures out { IsWithoutOutput (command_of (map string_bytes words.entry.now)) → out.new ≡ out.old }
-    ensures told { F.told shelf.new ≡ F.told shelf.old }
-    ensures shelf_later { F.faults shelf.old ≤ F.faults shelf.new }
-    ensures out_later { K.faults out.old ≤ K.faults out.new }
-{
-    ending_of(rt, alloc, words, shelf, wire, out, inside)
 }
 
 /// Does the command that the words (command-line arguments) are, and answers the exit status. `words`
@@ -283,21 +204,13 @@ pub fn run<R: Wait, F: Shelf, W: Dial + Accept, K: Sink, E: Sink>(
     inside: &mut Inside,
 ) -> u8
     requires { inside.old ≡ Inside.Unused }
-    ensures ending { (end : EndOfRun)
-        × DoesOf (record { told = F.told shelf.old; shelf = F.faults shelf.old; shelf' = F.faults shelf.new; allows = W.allows wire.old; wire = W.state wire.old; wire' = W.state wire.new; out = K.faults out.old; out' = K.faults out.new; taken = K.taken out.old; taken' = K.taken out.new; inside' = inside.new }) (command_of (map string_bytes words.now)) end
-        × MustEndOf (record { told = F.told shelf.old; shelf = F.faults shelf.old; shelf' = F.faults shelf.new; allows = W.allows wire.old; wire = W.state wire.old; wire' = W.state wire.new; out = K.faults out.old; out' = K.faults out.new; taken = K.taken out.old; taken' = K.taken out.new; inside' = inside.new }) (command_of (map string_bytes words.now)) end
-        × Says result end (E.faults err.old) (E.faults err.new) (E.taken err.old) (E.taken err.new) }
-    ensures table { KeepsTableOf (record { told = F.told shelf.old; shelf = F.faults shelf.old; shelf' = F.faults shelf.new; allows = W.allows wire.old; wire = W.state wire.old; wire' = W.state wire.new; out = K.faults out.old; out' = K.faults out.new; taken = K.taken out.old; taken' = K.taken out.new; inside' = inside.new }) (command_of (map string_bytes words.now)) result }
-    ensures requests { TellsRequestsOf (record { told = F.told shelf.old; shelf = F.faults shelf.old; shelf' = F.faults shelf.new; allows = W.allows wire.old; wire = W.state wire.old; wire' = W.state wire.new; out = K.faults out.old; out' = K.faults out.new; taken = K.taken out.old; taken' = K.taken out.new; inside' = inside.new }) (command_of (map string_bytes words.now)) result (E.faults err.old) (E.faults err.new) (E.taken err.old) (E.taken err.new) }
-    ensures complete { SucceedsOf (record { told = F.told shelf.old; shelf = F.faults shelf.old; shelf' = F.faults shelf.new; allows = W.allows wire.old; wire = W.state wire.old; wire' = W.state wire.new; out = K.faults out.old; out' = K.faults out.new; taken = K.taken out.old; taken' = K.taken out.new; inside' = inside.new }) (command_of (map string_bytes words.now)) result }
+    ensures keeps { Keeps (around (F.state shelf.old) (F.state shelf.new)
+        (W.allows wire.old) (W.state wire.old) (W.state wire.new) (K.state out.old) (K.state out.new) inside.new)
+        (command_of (map string_bytes words.now)) result (E.state err.old) (E.state err.new) }
     ensures wire { IsWithoutWire (command_of (map string_bytes words.now)) → wire.new ≡ wire.old }
     ensures shelf { IsWithoutShelf (command_of (map string_bytes words.now)) → shelf.new ≡ shelf.old }
     ensures out { IsWithoutOutput (command_of (map string_bytes words.now)) → out.new ≡ out.old }
-    ensures told { F.told shelf.new ≡ F.told shelf.old }
-    ensures shelf_later { F.faults shelf.old ≤ F.faults shelf.new }
-    ensures out_later { K.faults out.old ≤ K.faults out.new }
-    ensures err_later { E.faults err.old ≤ E.faults err.new }
 {
-    let ending = end_of(rt, alloc, words, shelf, wire, out, inside);
+    let ending = ending_of(rt, alloc, words, shelf, wire, out, inside);
     say(alloc, err, &ending)
 }

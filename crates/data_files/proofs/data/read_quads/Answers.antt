@@ -1,5 +1,10 @@
-use Rattle.data_files.proofs.Causes.{no_file}
+use Rattle.data_files.proofs.Causes.{no_file, file_failed}
 use Rattle.data_files.proofs.data.read_quads.Goals as goal
 
-pub returns-in-Err-clause-holds : goal.returns-in-Err-clause-holds
-returns-in-Err-clause-holds g c = λ fine there room. let h = c.in-Err.ensures.holds fine there room in (h.0, no_file c.in-Err.fault _ c.unread.ensures h.1)
+pub returns-in-Err-clause-reads : goal.returns-in-Err-clause-reads
+returns-in-Err-clause-reads g c = record {
+  asks = c.in-Err.ensures.asks;
+  later = c.in-Err.ensures.cause.later;
+  calm = λ fine. c.in-Err.ensures.cause.unfailed (file_failed c.in-Err.fault _ c.unread.ensures fine);
+  spared = λ fine there room. no_file c.in-Err.fault _ c.unread.ensures (c.in-Err.ensures.holds fine there room);
+}

@@ -1,5 +1,27 @@
-use Rattle.data_files.proofs.Causes.{gives_query}
+use Rattle.std.proofs.Common.{Ok, Err, rules}
+use Rattle.data_files.specs.declared.fault.QueryFileFault.TheVariants as query_faults
+use Rattle.data_files.proofs.Causes.{gives_query, no_query_file, query_file_failed}
 use Rattle.data_files.proofs.query.read_query.Goals as goal
 
-pub returns-clause-exact : goal.returns-clause-exact
-returns-clause-exact g c = gives_query _ _ _ _ c.read_text.result c.read_text.ensures.ok c.read_text.ensures.err
+pub returns-in-Err-clause-reads : goal.returns-in-Err-clause-reads
+returns-in-Err-clause-reads g c = record {
+  asks = c.in-Err.ensures.asks;
+  later = c.in-Err.ensures.cause.later;
+  calm = λ fine. c.in-Err.ensures.cause.unfailed (query_file_failed c.in-Err.fault _ c.unread.ensures fine);
+  spared = λ fine there room. no_query_file c.in-Err.fault _ c.unread.ensures (c.in-Err.ensures.holds fine there room);
+}
+
+pub returns-in-Ok-parse-clause-ok : goal.returns-in-Ok-parse-clause-ok
+returns-in-Ok-parse-clause-ok g c = search rules
+
+pub returns-in-Ok-parse-clause-exact : goal.returns-in-Ok-parse-clause-exact
+returns-in-Ok-parse-clause-exact g c =
+    gives_query (g.F.Shelf.state c.args.shelf.now) (g.F.Shelf.state c.read_file.new.shelf) c.args.name.now (Ok c.in-Ok-parse.query) (returns-in-Ok-parse-clause-ok g c) tt
+
+pub returns-in-Err-Bad-clause-err : goal.returns-in-Err-Bad-clause-err
+returns-in-Err-Bad-clause-err g c = search rules
+
+pub returns-in-Err-Bad-clause-exact : goal.returns-in-Err-Bad-clause-exact
+returns-in-Err-Bad-clause-exact g c =
+    gives_query (g.F.Shelf.state c.args.shelf.now) (g.F.Shelf.state c.read_file.new.shelf) c.args.name.now (Err (query_faults.Bad c.in-Err-Bad.at c.in-Err-Bad.why)) tt
+    (returns-in-Err-Bad-clause-err g c)

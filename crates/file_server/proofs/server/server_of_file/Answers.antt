@@ -1,4 +1,5 @@
+use Rattle.data_files.specs.KeptLaws.{reads_as}
 use Rattle.file_server.proofs.server.server_of_file.Goals as goal
 
-pub returns-in-Err-clause-holds : goal.returns-in-Err-clause-holds
-returns-in-Err-clause-holds g c = λ fine there room. let h = c.in-Err.ensures.holds fine there room in (h.0, λ e. h.1 (cc))
+pub returns-in-Err-clause-reads : goal.returns-in-Err-clause-reads
+returns-in-Err-clause-reads g c = reads_as _ _ _ _ _ (λ e. cc) (λ e. cc) c.in-Err.ensures.reads

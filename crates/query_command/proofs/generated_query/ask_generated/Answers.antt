@@ -5,13 +5,13 @@ use Rattle.query_command.proofs.Counting.{in_bounds, served_len, counts_of, asks
 use Rattle.query_command.proofs.generated_query.ask_generated.Goals as goal
 
 pub ask_server-requires-clause-window : goal.ask_server-requires-clause-window
-ask_server-requires-clause-window g c = (in_bounds c.usual_options-options.result c.usual_options-options.ensures).0
+ask_server-requires-clause-window g c = (in_bounds c.usual_options.result c.usual_options.ensures).0
 
 pub ask_server-requires-clause-some : goal.ask_server-requires-clause-some
-ask_server-requires-clause-some g c = (in_bounds c.usual_options-options.result c.usual_options-options.ensures).1
+ask_server-requires-clause-some g c = (in_bounds c.usual_options.result c.usual_options.ensures).1
 
 pub ask_server-requires-clause-few : goal.ask_server-requires-clause-few
-ask_server-requires-clause-few g c = (in_bounds c.usual_options-options.result c.usual_options-options.ensures).2
+ask_server-requires-clause-few g c = (in_bounds c.usual_options.result c.usual_options.ensures).2
 
 pub returns-in-Ok-clause-counts : goal.returns-in-Ok-clause-counts
 returns-in-Ok-clause-counts g c =
@@ -19,27 +19,27 @@ returns-in-Ok-clause-counts g c =
 
 pub returns-in-Ok-clause-answers : goal.returns-in-Ok-clause-answers
 returns-in-Ok-clause-answers g c =
-    asks_over c.args.server c.args.persons c.requires.starts c.args.query.now c.usual_options-options.result c.usual_options-options.ensures _ c.in-Ok.report c.in-Ok.ensures.answers
+    asks_over c.args.server c.args.persons c.requires.starts c.args.query.now c.usual_options.result c.usual_options.ensures _ c.in-Ok.report c.in-Ok.ensures.answers
 
 pub returns-in-Err-clause-cause : goal.returns-in-Err-clause-cause
 returns-in-Err-clause-cause g c =
-    fails_on c.args.server c.args.persons c.requires.starts c.args.query.now c.usual_options-options.result c.usual_options-options.ensures _ c.in-Err.fault c.in-Err.ensures.cause
+    fails_on c.args.server c.args.persons c.requires.starts c.args.query.now c.usual_options.result c.usual_options.ensures _ c.in-Err.fault c.in-Err.ensures.cause
 
 pub returns-in-Ok-clause-replied : goal.returns-in-Ok-clause-replied
 returns-in-Ok-clause-replied g c =
-    replies_rows c.args.server c.args.persons c.requires.starts c.args.query.now c.usual_options-options.result c.usual_options-options.ensures _ c.in-Ok.report c.in-Ok.ensures.replied
+    replies_rows c.args.server c.args.persons c.requires.starts c.args.query.now c.usual_options.result c.usual_options.ensures _ c.in-Ok.report c.in-Ok.ensures.replied
 
 pub returns-in-Ok-clause-requested : goal.returns-in-Ok-clause-requested
 returns-in-Ok-clause-requested g c =
-    bounds_usual c.args.server c.args.persons c.requires.starts c.args.query.now c.usual_options-options.result c.usual_options-options.ensures _ c.ask_server.ensures.requested
+    bounds_usual c.args.server c.args.persons c.requires.starts c.args.query.now c.usual_options.result c.usual_options.ensures _ c.ask_server.ensures.requested
 
 pub returns-in-Err-clause-requested : goal.returns-in-Err-clause-requested
 returns-in-Err-clause-requested g c =
-    bounds_usual c.args.server c.args.persons c.requires.starts c.args.query.now c.usual_options-options.result c.usual_options-options.ensures _ c.ask_server.ensures.requested
+    bounds_usual c.args.server c.args.persons c.requires.starts c.args.query.now c.usual_options.result c.usual_options.ensures _ c.ask_server.ensures.requested
 
 pub ask_server-requires-clause-base : goal.ask_server-requires-clause-base
 ask_server-requires-clause-base g c = ap (λ (s : Config). s.base) c.requires.starts.config_is
 
 pub returns-in-Err-clause-ends : goal.returns-in-Err-clause-ends
 returns-in-Err-clause-ends g c =
-    may_fail c.args.server c.args.persons c.requires.starts c.args.query.now c.usual_options-options.result c.usual_options-options.ensures None c.in-Err.fault c.in-Err.ensures.ends
+    may_fail c.args.server c.args.persons c.requires.starts c.args.query.now c.usual_options.result c.usual_options.ensures None c.in-Err.fault c.in-Err.ensures.ends

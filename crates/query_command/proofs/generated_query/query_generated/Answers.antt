@@ -1,9 +1,56 @@
-use Rattle.query_command.proofs.Counting.{gives_counts}
-use Rattle.query_command.proofs.Complete.{generated_complete}
+-- What is said of the query is said of the file that holds it.
+use Rattle.std.proofs.Common.{Ok, Err, refl}
+use Rattle.data_files.specs.declared.fault.DataFault.TheVariants as data_faults
+use Rattle.data_files.specs.KeptLaws.{reads_as}
+use Rattle.query_command.specs.declared.fault.AnswerFault.TheVariants as faults
+use Rattle.query_command.proofs.Counting.{generated_answers, generated_fault, generated_sent, generated_requested, generated_replied, generated_ends}
+use Rattle.query_command.proofs.Complete.{asks_generated, counts_none}
+use Rattle.query_command.proofs.Locals.{valid_read}
 use Rattle.query_command.proofs.generated_query.query_generated.Goals as goal
 
-pub returns-clause-exact : goal.returns-clause-exact
-returns-clause-exact g c = gives_counts _ _ _ _ _ _ c.read_and_count.result c.read_and_count.ensures.answers c.read_and_count.ensures.cause
+pub returns-in-Err : goal.returns-in-Err
+returns-in-Err g c =
+    counts_none _ _ c.args.persons c.args.query.now _ (faults.Query c.in-Err.fault) c.requires.none (c.in-Err.ensures.err, c.requires.none) (λ triples config q. tt)
+    (reads_as _ _ _ _ _ (λ e. cc) (λ e. cc) c.in-Err.ensures.reads)
 
-pub returns-clause-complete : goal.returns-clause-complete
-returns-clause-complete g c = generated_complete _ c.args.persons _ _ _ _ c.read_and_count.result c.read_and_count.ensures.cause (returns-clause-exact g c) c.read_and_count.ensures.ends
+pub returns-in_default : goal.returns-in_default
+returns-in_default g c =
+    counts_none _ _ c.args.persons c.args.query.now _ (faults.Data data_faults.OutOfMemory) c.requires.none (refl, c.requires.none) (λ triples config q. tt)
+    (reads_as _ _ _ _ _ (λ e. cc) (λ e. cc) c.in-Ok.ensures.reads)
+
+pub returns-in_default-generated_server : goal.returns-in_default-generated_server
+returns-in_default-generated_server g c =
+    counts_none _ _ c.args.persons c.args.query.now _ (faults.Data data_faults.OutOfMemory) c.requires.none (refl, c.requires.none) (λ triples config q. tt)
+    (reads_as _ _ _ _ _ (λ e. cc) (λ e. cc) c.in-Ok.ensures.reads)
+
+pub returns-in-Ok-ask_generated : goal.returns-in-Ok-ask_generated
+returns-in-Ok-ask_generated g c =
+    let server = c.in-Ok-generated_server.server in
+    let starts = c.in-Ok-generated_server.ensures in
+    let q = c.in-Ok.query in
+    let read = c.in-Ok.ensures.ok in
+    let one = c.served_is_one.ensures in
+    asks_generated _ _ c.args.persons c.args.query.now _ (Ok c.in-Ok-ask_generated.counts)
+    (generated_answers _ c.args.persons _ _ q read c.in-Ok-ask_generated.counts c.in-Ok-ask_generated.ensures.counts c.in-Ok-ask_generated.ensures.answers)
+    tt
+    (generated_sent _ c.args.persons _ _ server starts q read one c.ask_generated.ensures.sent)
+    (generated_requested _ c.args.persons _ _ server starts q read one c.ask_generated.ensures.requested)
+    (generated_replied _ c.args.persons _ _ server starts q read one c.in-Ok-ask_generated.counts c.in-Ok-ask_generated.ensures.replied)
+    (λ files is triples q serves holds. tt)
+    (reads_as _ _ _ _ _ (λ e. cc) (λ e. absurd e) c.in-Ok.ensures.reads)
+
+pub returns : goal.returns
+returns g c =
+    let server = c.in-Ok-generated_server.server in
+    let starts = c.in-Ok-generated_server.ensures in
+    let q = c.in-Ok.query in
+    let read = c.in-Ok.ensures.ok in
+    let one = c.served_is_one.ensures in
+    let fault = c.in-Err-ask_generated.fault in
+    asks_generated _ _ c.args.persons c.args.query.now _ (Err (faults.Client fault)) tt
+    (generated_fault _ c.args.persons _ _ q read fault c.in-Err-ask_generated.ensures.cause)
+    (generated_sent _ c.args.persons _ _ server starts q read one c.ask_generated.ensures.sent)
+    (generated_requested _ c.args.persons _ _ server starts q read one c.ask_generated.ensures.requested)
+    tt
+    (generated_ends _ c.args.persons _ c.ask_generated.new.inside server starts q read one c.commands_keep_limits.ensures.generated c.commands_keep_limits.ensures.queries c.requires.most (valid_read q _ c.patterns-patterns.ensures.value c.patterns-patterns.ensures.valid) fault c.in-Err-ask_generated.ensures.ends)
+    (reads_as _ _ _ _ _ (λ e. cc) (λ e. absurd e) c.in-Ok.ensures.reads)

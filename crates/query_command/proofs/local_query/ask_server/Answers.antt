@@ -9,50 +9,56 @@ use Rattle.query_command.proofs.local_query.ask_server.Goals as goal
 
 pub returns-clause-answers : goal.returns-clause-answers
 returns-clause-answers g c =
-    loops_ok c.args.server c.args.seed c.args.fail_every c.new-wire.result c.query-answer.new.wire c.new-wire.ensures c.args.query.now c.args.start.now local_base c.requires.start c.args.options.now (g.K.Sink.faults c.args.out.now) (g.K.Sink.faults c.query-answer.new.out) (g.K.Sink.taken c.args.out.now) (g.K.Sink.taken c.query-answer.new.out) c.query-answer.result c.query-answer.ensures.whole c.query-answer.ensures.ok c.query-answer.ensures.headline
-    (record { closed = c.query-answer.ensures.closed; peers = c.query-answer.ensures.peers; others = c.query-answer.ensures.others; sent = c.query-answer.ensures.sent; dials = c.query-answer.ensures.dials; given = c.query-answer.ensures.given; asked = c.query-answer.ensures.asked; tries = c.query-answer.ensures.planned; counted = c.query-answer.ensures.counted; unprovoked = c.query-answer.ensures.unprovoked; requested = c.query-answer.ensures.requested })
-    c.query-answer.ensures.answered c.query-answer.ensures.requests c.query-answer.ensures.paced c.query-answer.ensures.replied c.query-answer.ensures.within c.query-answer.ensures.dialled c.query-answer.ensures.linked
+    loops_ok c.args.server c.args.asked.now.seed c.args.asked.now.fail_every c.new-wire.result c.query-answer.new.wire c.new-wire.ensures c.args.query.now c.args.asked.now.start.now local_base c.requires.start c.args.asked.now.options ((g.K.Sink.state c.args.out.now).faults) ((g.K.Sink.state c.query-answer.new.out).faults) ((g.K.Sink.state c.args.out.now).taken) ((g.K.Sink.state c.query-answer.new.out).taken) c.query-answer.result c.query-answer.ensures.whole c.query-answer.ensures.ok c.query-answer.ensures.headline
+    (record { closed = c.query-answer.ensures.acts.closed; peers = c.query-answer.ensures.acts.peers; others = c.query-answer.ensures.acts.others; sent = c.query-answer.ensures.acts.sent; dials = c.query-answer.ensures.acts.dials; given = c.query-answer.ensures.acts.given; asked = c.query-answer.ensures.acts.asked; tries = c.query-answer.ensures.acts.planned; counted = c.query-answer.ensures.acts.counted; unprovoked = c.query-answer.ensures.acts.unprovoked; requested = c.query-answer.ensures.acts.requested })
+    c.query-answer.ensures.acts.answered c.query-answer.ensures.acts.requests c.query-answer.ensures.acts.paced c.query-answer.ensures.acts.replied c.query-answer.ensures.acts.within c.query-answer.ensures.acts.dialled c.query-answer.ensures.acts.linked
 
 pub returns-clause-cause : goal.returns-clause-cause
 returns-clause-cause g c =
-    loops_err c.args.server c.args.seed c.args.fail_every c.new-wire.result c.query-answer.new.wire c.new-wire.ensures c.args.query.now c.args.start.now local_base c.requires.start c.args.options.now (g.K.Sink.faults c.args.out.now) (g.K.Sink.faults c.query-answer.new.out) (g.K.Sink.taken c.args.out.now) (g.K.Sink.taken c.query-answer.new.out) c.query-answer.result c.query-answer.ensures.front c.query-answer.ensures.err c.query-answer.ensures.shown c.query-answer.ensures.prefix c.query-answer.ensures.cause c.query-answer.ensures.sink
-    (record { closed = c.query-answer.ensures.closed; peers = c.query-answer.ensures.peers; others = c.query-answer.ensures.others; sent = c.query-answer.ensures.sent; dials = c.query-answer.ensures.dials; given = c.query-answer.ensures.given; asked = c.query-answer.ensures.asked; tries = c.query-answer.ensures.planned; counted = c.query-answer.ensures.counted; unprovoked = c.query-answer.ensures.unprovoked; requested = c.query-answer.ensures.requested })
-    c.query-answer.ensures.honest_cause c.query-answer.ensures.lively_cause c.query-answer.ensures.complete
-    c.query-answer.ensures.failed_often c.query-answer.ensures.spent_requests c.query-answer.ensures.spent_tries c.query-answer.ensures.spent_plan
+    loops_err c.args.server c.args.asked.now.seed c.args.asked.now.fail_every c.new-wire.result c.query-answer.new.wire c.new-wire.ensures c.args.query.now c.args.asked.now.start.now local_base c.requires.start c.args.asked.now.options ((g.K.Sink.state c.args.out.now).faults) ((g.K.Sink.state c.query-answer.new.out).faults) ((g.K.Sink.state c.args.out.now).taken) ((g.K.Sink.state c.query-answer.new.out).taken) c.query-answer.result c.query-answer.ensures.front c.query-answer.ensures.err c.query-answer.ensures.shown c.query-answer.ensures.prefix c.query-answer.ensures.acts.cause c.query-answer.ensures.sink.sink
+    (record { closed = c.query-answer.ensures.acts.closed; peers = c.query-answer.ensures.acts.peers; others = c.query-answer.ensures.acts.others; sent = c.query-answer.ensures.acts.sent; dials = c.query-answer.ensures.acts.dials; given = c.query-answer.ensures.acts.given; asked = c.query-answer.ensures.acts.asked; tries = c.query-answer.ensures.acts.planned; counted = c.query-answer.ensures.acts.counted; unprovoked = c.query-answer.ensures.acts.unprovoked; requested = c.query-answer.ensures.acts.requested })
+    c.query-answer.ensures.acts.honest_cause c.query-answer.ensures.acts.lively_cause c.query-answer.ensures.complete
+    c.query-answer.ensures.acts.failed_often c.query-answer.ensures.acts.spent_requests c.query-answer.ensures.acts.spent_tries c.query-answer.ensures.acts.spent_plan
 
 pub returns-clause-answer : goal.returns-clause-answer
 returns-clause-answer g c =
-    solves c.args.server c.args.seed c.args.fail_every c.new-wire.result c.query-answer.new.wire c.new-wire.ensures c.args.query.now c.args.start.now local_base c.requires.start c.args.options.now (g.K.Sink.faults c.args.out.now) (g.K.Sink.faults c.query-answer.new.out) (g.K.Sink.taken c.args.out.now) (g.K.Sink.taken c.query-answer.new.out) c.query-answer.result c.requires.first (valid_served c.args.server c.server.result.now c.server.ensures c.is_valid.ensures.data_set) (config_served c.args.server c.server.result.now c.server.ensures c.is_valid.ensures.config) c.is_few.ensures c.query-answer.ensures.headline
+    solves c.args.server c.args.asked.now.seed c.args.asked.now.fail_every c.new-wire.result c.query-answer.new.wire c.new-wire.ensures c.args.query.now c.args.asked.now.start.now local_base c.requires.start c.args.asked.now.options ((g.K.Sink.state c.args.out.now).faults) ((g.K.Sink.state c.query-answer.new.out).faults) ((g.K.Sink.state c.args.out.now).taken) ((g.K.Sink.state c.query-answer.new.out).taken) c.query-answer.result c.requires.first (valid_served c.args.server c.server.result.now c.server.ensures c.is_valid.ensures.data_set) (config_served c.args.server c.server.result.now c.server.ensures c.is_valid.ensures.config) c.is_few.ensures c.query-answer.ensures.headline
 
 pub returns-clause-front : goal.returns-clause-front
 returns-clause-front g c =
-    solves_front c.args.server c.args.seed c.args.fail_every c.new-wire.result c.query-answer.new.wire c.new-wire.ensures c.args.query.now c.args.start.now local_base c.requires.start c.args.options.now (g.K.Sink.faults c.args.out.now) (g.K.Sink.faults c.query-answer.new.out) (g.K.Sink.taken c.args.out.now) (g.K.Sink.taken c.query-answer.new.out) c.query-answer.result c.requires.first (valid_served c.args.server c.server.result.now c.server.ensures c.is_valid.ensures.data_set) (config_served c.args.server c.server.result.now c.server.ensures c.is_valid.ensures.config) c.is_few.ensures c.query-answer.ensures.prefix
+    solves_front c.args.server c.args.asked.now.seed c.args.asked.now.fail_every c.new-wire.result c.query-answer.new.wire c.new-wire.ensures c.args.query.now c.args.asked.now.start.now local_base c.requires.start c.args.asked.now.options ((g.K.Sink.state c.args.out.now).faults) ((g.K.Sink.state c.query-answer.new.out).faults) ((g.K.Sink.state c.args.out.now).taken) ((g.K.Sink.state c.query-answer.new.out).taken) c.query-answer.result c.requires.first (valid_served c.args.server c.server.result.now c.server.ensures c.is_valid.ensures.data_set) (config_served c.args.server c.server.result.now c.server.ensures c.is_valid.ensures.config) c.is_few.ensures c.query-answer.ensures.prefix
 
 pub returns-clause-sent : goal.returns-clause-sent
 returns-clause-sent g c =
-    sends_from c.args.server c.args.seed c.args.fail_every c.query-answer.new.wire c.args.query.now c.args.options.now
-    (keeps c.args.server c.args.seed c.args.fail_every c.new-wire.result c.query-answer.new.wire c.new-wire.ensures c.args.query.now c.args.start.now local_base c.requires.start c.args.options.now (g.K.Sink.faults c.args.out.now) (g.K.Sink.faults c.query-answer.new.out) (g.K.Sink.taken c.args.out.now) (g.K.Sink.taken c.query-answer.new.out)
-    (record { closed = c.query-answer.ensures.closed; peers = c.query-answer.ensures.peers; others = c.query-answer.ensures.others; sent = c.query-answer.ensures.sent; dials = c.query-answer.ensures.dials; given = c.query-answer.ensures.given; asked = c.query-answer.ensures.asked; tries = c.query-answer.ensures.planned; counted = c.query-answer.ensures.counted; unprovoked = c.query-answer.ensures.unprovoked; requested = c.query-answer.ensures.requested }))
-    (honest_wire c.args.server c.args.seed c.args.fail_every c.requires.first (valid_served c.args.server c.server.result.now c.server.ensures c.is_valid.ensures.data_set) (config_served c.args.server c.server.result.now c.server.ensures c.is_valid.ensures.config) c.is_few.ensures)
+    sends_from c.args.server c.args.asked.now.seed c.args.asked.now.fail_every c.query-answer.new.wire c.args.query.now c.args.asked.now.options
+    (keeps c.args.server c.args.asked.now.seed c.args.asked.now.fail_every c.new-wire.result c.query-answer.new.wire c.new-wire.ensures c.args.query.now c.args.asked.now.start.now local_base c.requires.start c.args.asked.now.options ((g.K.Sink.state c.args.out.now).faults) ((g.K.Sink.state c.query-answer.new.out).faults) ((g.K.Sink.state c.args.out.now).taken) ((g.K.Sink.state c.query-answer.new.out).taken)
+    (record { closed = c.query-answer.ensures.acts.closed; peers = c.query-answer.ensures.acts.peers; others = c.query-answer.ensures.acts.others; sent = c.query-answer.ensures.acts.sent; dials = c.query-answer.ensures.acts.dials; given = c.query-answer.ensures.acts.given; asked = c.query-answer.ensures.acts.asked; tries = c.query-answer.ensures.acts.planned; counted = c.query-answer.ensures.acts.counted; unprovoked = c.query-answer.ensures.acts.unprovoked; requested = c.query-answer.ensures.acts.requested }))
+    (honest_wire c.args.server c.args.asked.now.seed c.args.asked.now.fail_every c.requires.first (valid_served c.args.server c.server.result.now c.server.ensures c.is_valid.ensures.data_set) (config_served c.args.server c.server.result.now c.server.ensures c.is_valid.ensures.config) c.is_few.ensures)
 
 pub returns-clause-requested : goal.returns-clause-requested
 returns-clause-requested g c =
-    requests_from c.args.server c.args.seed c.args.fail_every c.query-answer.new.wire c.args.query.now c.args.options.now
-    (keeps c.args.server c.args.seed c.args.fail_every c.new-wire.result c.query-answer.new.wire c.new-wire.ensures c.args.query.now c.args.start.now local_base c.requires.start c.args.options.now (g.K.Sink.faults c.args.out.now) (g.K.Sink.faults c.query-answer.new.out) (g.K.Sink.taken c.args.out.now) (g.K.Sink.taken c.query-answer.new.out)
-    (record { closed = c.query-answer.ensures.closed; peers = c.query-answer.ensures.peers; others = c.query-answer.ensures.others; sent = c.query-answer.ensures.sent; dials = c.query-answer.ensures.dials; given = c.query-answer.ensures.given; asked = c.query-answer.ensures.asked; tries = c.query-answer.ensures.planned; counted = c.query-answer.ensures.counted; unprovoked = c.query-answer.ensures.unprovoked; requested = c.query-answer.ensures.requested }))
-    (honest_wire c.args.server c.args.seed c.args.fail_every c.requires.first (valid_served c.args.server c.server.result.now c.server.ensures c.is_valid.ensures.data_set) (config_served c.args.server c.server.result.now c.server.ensures c.is_valid.ensures.config) c.is_few.ensures)
+    requests_from c.args.server c.args.asked.now.seed c.args.asked.now.fail_every c.query-answer.new.wire c.args.query.now c.args.asked.now.options
+    (keeps c.args.server c.args.asked.now.seed c.args.asked.now.fail_every c.new-wire.result c.query-answer.new.wire c.new-wire.ensures c.args.query.now c.args.asked.now.start.now local_base c.requires.start c.args.asked.now.options ((g.K.Sink.state c.args.out.now).faults) ((g.K.Sink.state c.query-answer.new.out).faults) ((g.K.Sink.state c.args.out.now).taken) ((g.K.Sink.state c.query-answer.new.out).taken)
+    (record { closed = c.query-answer.ensures.acts.closed; peers = c.query-answer.ensures.acts.peers; others = c.query-answer.ensures.acts.others; sent = c.query-answer.ensures.acts.sent; dials = c.query-answer.ensures.acts.dials; given = c.query-answer.ensures.acts.given; asked = c.query-answer.ensures.acts.asked; tries = c.query-answer.ensures.acts.planned; counted = c.query-answer.ensures.acts.counted; unprovoked = c.query-answer.ensures.acts.unprovoked; requested = c.query-answer.ensures.acts.requested }))
+    (honest_wire c.args.server c.args.asked.now.seed c.args.asked.now.fail_every c.requires.first (valid_served c.args.server c.server.result.now c.server.ensures c.is_valid.ensures.data_set) (config_served c.args.server c.server.result.now c.server.ensures c.is_valid.ensures.config) c.is_few.ensures)
 
 pub returns-clause-ends : goal.returns-clause-ends
 returns-clause-ends g c = λ servable askable small.
     let valid = valid_served c.args.server c.server.result.now c.server.ensures c.is_valid.ensures.data_set in
     let config = config_served c.args.server c.server.result.now c.server.ensures c.is_valid.ensures.config in
-    ends_from c.args.server c.args.seed c.args.fail_every c.query-answer.new.wire c.args.query.now c.args.options.now (g.K.Sink.faults c.args.out.now) (g.K.Sink.faults c.query-answer.new.out) (g.K.Sink.taken c.args.out.now) (g.K.Sink.taken c.query-answer.new.out) c.query-answer.result
-    (honest_wire c.args.server c.args.seed c.args.fail_every c.requires.first valid config c.is_few.ensures)
+    ends_from c.args.server c.args.asked.now.seed c.args.asked.now.fail_every c.query-answer.new.wire c.args.query.now c.args.asked.now.options ((g.K.Sink.state c.args.out.now).faults) ((g.K.Sink.state c.query-answer.new.out).faults) ((g.K.Sink.state c.args.out.now).taken) ((g.K.Sink.state c.query-answer.new.out).taken) c.query-answer.result
+    (honest_wire c.args.server c.args.asked.now.seed c.args.asked.now.fail_every c.requires.first valid config c.is_few.ensures)
     (plan_is_read c.plans_are_read.ensures.plan c.plans_are_read.ensures.base (serving c.args.server).data_set (serving c.args.server).config c.args.query.now c.requires.base valid config servable askable)
     c.fails_as_due.ensures small (returns-clause-answers g c) (returns-clause-cause g c)
 
 pub returns-clause-replied : goal.returns-clause-replied
 returns-clause-replied g c =
-    answers_from c.args.server c.args.seed c.args.fail_every c.query-answer.new.wire c.args.query.now c.args.options.now (g.K.Sink.taken c.args.out.now) (g.K.Sink.taken c.query-answer.new.out) c.query-answer.result
-    (honest_wire c.args.server c.args.seed c.args.fail_every c.requires.first (valid_served c.args.server c.server.result.now c.server.ensures c.is_valid.ensures.data_set) (config_served c.args.server c.server.result.now c.server.ensures c.is_valid.ensures.config) c.is_few.ensures)
+    answers_from c.args.server c.args.asked.now.seed c.args.asked.now.fail_every c.query-answer.new.wire c.args.query.now c.args.asked.now.options ((g.K.Sink.state c.args.out.now).taken) ((g.K.Sink.state c.query-answer.new.out).taken) c.query-answer.result
+    (honest_wire c.args.server c.args.asked.now.seed c.args.asked.now.fail_every c.requires.first (valid_served c.args.server c.server.result.now c.server.ensures c.is_valid.ensures.data_set) (config_served c.args.server c.server.result.now c.server.ensures c.is_valid.ensures.config) c.is_few.ensures)
     (returns-clause-answers g c)
+
+pub returns-clause-output : goal.returns-clause-output
+returns-clause-output g c = record { later = c.query-answer.ensures.sink.later; faultless = c.query-answer.ensures.sink.faultless; spared = λ fine. (c.query-answer.ensures.sink.spared fine).0 }
+
+pub returns-clause-spared : goal.returns-clause-spared
+returns-clause-spared g c = λ fine. (c.query-answer.ensures.sink.spared fine).1

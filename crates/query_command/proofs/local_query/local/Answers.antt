@@ -1,14 +1,97 @@
+-- What is said of the server is said of the file that it serves.
+use Rattle.std.proofs.Common.{Ok, Err, refl, sym, ap, subst, codes}
+use Rattle.template_fill.specs.Metadata.{Config}
+use Rattle.tpf_base.specs.Addresses.{authority_of}
+use Rattle.data_files.specs.declared.fault.DataFault.TheVariants as data_faults
+use Rattle.data_files.specs.Causes.{DataCause}
+use Rattle.data_files.specs.KeptLaws.{reads_keep, sink_none}
+use Rattle.file_server.specs.Servers.{Starts, serving}
+use Rattle.query_command.specs.declared.fault.AnswerFault.TheVariants as faults
 use Rattle.query_command.specs.Loops.{local_view}
-use Rattle.query_command.proofs.Reading.{gives_data, gives_query_of}
-use Rattle.query_command.proofs.Complete.{local_complete}
+use Rattle.query_command.proofs.Complete.{asks_file, asks_none}
+use Rattle.query_command.proofs.Locals.{local_answers, local_fault, local_ends, local_sent, local_requested, local_replied, valid_read, query_from}
+use Rattle.query_command.proofs.Opening.{opens_two, asked_two, reads_none, reads_one, reads_both, reads_refused}
 use Rattle.query_command.proofs.local_query.local.Goals as goal
 
-pub returns-clause-data_exact : goal.returns-clause-data_exact
-returns-clause-data_exact g c = gives_data _ (local_view c.args.asked.now) _ _ _ _ _ _ _ c.serve_and_ask.result c.serve_and_ask.ensures.answers c.serve_and_ask.ensures.cause
+pub returns-in_default : goal.returns-in_default
+returns-in_default g c =
+    asks_none _ _ _ _ _ (local_view c.args.asked.now) (faults.Data data_faults.OutOfMemory) c.requires.none (tt, refl, c.requires.none) (λ triples config q. tt) (reads_none _ _ _)
+    (record { keeps = sink_none _; spared = λ fine. tt })
 
-pub returns-clause-query_exact : goal.returns-clause-query_exact
-returns-clause-query_exact g c = gives_query_of _ (local_view c.args.asked.now) _ _ _ _ _ _ _ c.serve_and_ask.result c.serve_and_ask.ensures.answers c.serve_and_ask.ensures.cause
+pub returns-in_default-local_config : goal.returns-in_default-local_config
+returns-in_default-local_config g c =
+    asks_none _ _ _ _ _ (local_view c.args.asked.now) (faults.Data data_faults.OutOfMemory) c.requires.none (tt, refl, c.requires.none) (λ triples config q. tt) (reads_none _ _ _)
+    (record { keeps = sink_none _; spared = λ fine. tt })
 
-pub returns-clause-complete : goal.returns-clause-complete
-returns-clause-complete g c =
-    local_complete _ (local_view c.args.asked.now) _ _ _ _ _ _ _ c.serve_and_ask.result c.serve_and_ask.ensures.cause (returns-clause-data_exact g c) (returns-clause-query_exact g c) c.serve_and_ask.ensures.ends
+pub returns-in-Err : goal.returns-in-Err
+returns-in-Err g c =
+    asks_none _ _ _ _ _ (local_view c.args.asked.now) (faults.Data c.in-Err.fault) c.requires.none
+    (subst (λ (config : Config). DataCause (g.F.Shelf.state c.args.shelf.now) (g.F.Shelf.state c.server_of_file.new.shelf) c.args.asked.now.name.now c.args.asked.now.choice.now (authority_of config.base) c.in-Err.fault) c.in-Ok-local_config.ensures c.in-Err.ensures.err, refl, c.requires.none)
+    (λ triples config q. tt)
+    (reads_one _ _ _ _ c.in-Err.fault _ (λ e. cc) (λ e. cc) c.in-Err.ensures.reads)
+    (record { keeps = sink_none _; spared = λ fine. tt })
+
+pub returns-in-Err-read_query : goal.returns-in-Err-read_query
+returns-in-Err-read_query g c =
+    let first = c.in-Ok-server_of_file.ensures.reads in
+    asks_none _ _ _ _ _ (local_view c.args.asked.now) (faults.Query c.in-Err-read_query.fault) c.requires.none (
+      query_from (g.F.Shelf.state c.args.shelf.now) (g.F.Shelf.state c.server_of_file.new.shelf) (g.F.Shelf.state c.read_query.new.shelf) (reads_keep _ _ _ _ first) c.args.asked.now.query.now c.in-Err-read_query.fault c.in-Err-read_query.ensures.err,
+      (
+        (serving c.in-Ok-server_of_file.server).data_set,
+        (subst (λ (config : Config). Starts (g.F.Shelf.state c.args.shelf.now).told c.args.asked.now.name.now c.args.asked.now.choice.now config (serving c.in-Ok-server_of_file.server)) c.in-Ok-local_config.ensures c.in-Ok-server_of_file.ensures.starts).data_set,
+      ),
+      refl,
+      c.requires.none,
+    )
+    (λ triples config q. tt)
+    (reads_refused _ _ _ _ _ _ first (λ e. cc) c.in-Err-read_query.fault _ (λ e. cc) (λ e. cc) c.in-Err-read_query.ensures.reads)
+    (record { keeps = sink_none _; spared = λ fine. tt })
+
+pub returns-in-Ok-ask_server : goal.returns-in-Ok-ask_server
+returns-in-Ok-ask_server g c =
+    let view = local_view c.args.asked.now in
+    let first = c.in-Ok-server_of_file.ensures.reads in
+    let second = c.in-Ok-read_query.ensures.reads in
+    let told = first.asks.told in
+    let server = c.in-Ok-server_of_file.server in
+    let starts = subst (λ (config : Config). Starts (g.F.Shelf.state c.args.shelf.now).told view.name view.choice config (serving server)) c.in-Ok-local_config.ensures c.in-Ok-server_of_file.ensures.starts in
+    let out = (g.K.Sink.state c.args.out.now) in
+    let out' = (g.K.Sink.state c.ask_server.new.out) in
+    let q = c.in-Ok-read_query.query in
+    let read = c.in-Ok-read_query.ensures.ok in
+    let e = c.ask_server.ensures in
+    asks_file _ _ out out' _ view (Ok c.in-Ok-ask_server.report)
+    (local_answers _ _ told view server starts _ out out' q read c.in-Ok-ask_server.report c.in-Ok-ask_server.ensures.answers c.in-Ok-ask_server.ensures.answer)
+    tt
+    (local_sent _ _ told view server starts _ out out' q read e.sent)
+    (local_requested _ _ told view server starts _ out out' q read e.requested)
+    (local_replied _ _ told view server starts _ out out' q read c.in-Ok-ask_server.report c.in-Ok-ask_server.ensures.replied)
+    (local_ends _ _ told view server starts c.ask_server.new.inside out out' q read c.commands_keep_limits.ensures.files c.commands_keep_limits.ensures.queries (valid_read q _ c.patterns-patterns.ensures.value c.patterns-patterns.ensures.valid) (Ok c.in-Ok-ask_server.report) c.in-Ok-ask_server.ensures.ends)
+    (reads_both _ _ _ _ _ _ first (λ e. cc) (Ok c.in-Ok-ask_server.report) (asked_two _ _ _ _ _ _ first (λ e. cc) second.asks) (opens_two _ _ _ first.asks.opened second.asks.opened) (λ e. absurd e) _ (λ e. cc) second)
+    (record { keeps = e.output; spared = λ fine. tt })
+
+pub returns : goal.returns
+returns g c =
+    let view = local_view c.args.asked.now in
+    let first = c.in-Ok-server_of_file.ensures.reads in
+    let second = c.in-Ok-read_query.ensures.reads in
+    let told = first.asks.told in
+    let server = c.in-Ok-server_of_file.server in
+    let starts = subst (λ (config : Config). Starts (g.F.Shelf.state c.args.shelf.now).told view.name view.choice config (serving server)) c.in-Ok-local_config.ensures c.in-Ok-server_of_file.ensures.starts in
+    let out = (g.K.Sink.state c.args.out.now) in
+    let out' = (g.K.Sink.state c.ask_server.new.out) in
+    let q = c.in-Ok-read_query.query in
+    let read = c.in-Ok-read_query.ensures.ok in
+    let fault = c.in-Err-ask_server.fault in
+    let e = c.in-Err-ask_server.ensures in
+    asks_file _ _ out out' _ view (Err (faults.Client fault)) tt
+    (local_fault _ _ told view server starts _ out out' q read fault e.cause e.front)
+    (local_sent _ _ told view server starts _ out out' q read c.ask_server.ensures.sent)
+    (local_requested _ _ told view server starts _ out out' q read c.ask_server.ensures.requested)
+    tt
+    (local_ends _ _ told view server starts c.ask_server.new.inside out out' q read c.commands_keep_limits.ensures.files c.commands_keep_limits.ensures.queries (valid_read q _ c.patterns-patterns.ensures.value c.patterns-patterns.ensures.valid) (Err fault) e.ends)
+    (reads_both _ _ _ _ _ _ first (λ e. cc) (Err (faults.Client fault)) (asked_two _ _ _ _ _ _ first (λ e. cc) second.asks) (opens_two _ _ _ first.asks.opened second.asks.opened) (λ e. absurd e) _ (λ e. cc) second)
+    (record { keeps = c.ask_server.ensures.output; spared = λ fine is. c.ask_server.ensures.spared fine (cc) })
+
+pub ask_server-requires-clause-base : goal.ask_server-requires-clause-base
+ask_server-requires-clause-base g c = ap (λ (s : Config). s.base) (subst (λ (config : Config). Starts (g.F.Shelf.state c.args.shelf.now).told c.args.asked.now.name.now c.args.asked.now.choice.now config (serving c.in-Ok-server_of_file.server)) c.in-Ok-local_config.ensures c.in-Ok-server_of_file.ensures.starts).config_is

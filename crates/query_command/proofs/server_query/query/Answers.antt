@@ -1,10 +1,69 @@
-use Rattle.query_command.proofs.Reading.{gives_answer}
-use Rattle.query_command.proofs.Complete.{query_complete}
+-- What a call over the wire wrote is said of the file of its query.
+use Rattle.std.proofs.Common.{Ok, Err, refl}
+use Rattle.data_files.specs.KeptLaws.{reads_as, sink_none}
+use Rattle.query_command.specs.declared.fault.AnswerFault.TheVariants as faults
+use Rattle.query_command.specs.Answers.{AnswersSome}
+use Rattle.query_command.proofs.Complete.{asked_complete, asks_server, asks_failed}
+use Rattle.query_command.proofs.Locals.{valid_read}
 use Rattle.query_command.proofs.server_query.query.Goals as goal
 
-pub returns-clause-exact : goal.returns-clause-exact
-returns-clause-exact g c = gives_answer _ _ _ _ _ _ _ _ _ _ _ _ _ c.read_and_ask.result c.read_and_ask.ensures.answers c.read_and_ask.ensures.cause
+pub returns-in-Err-clause-asks : goal.returns-in-Err-clause-asks
+returns-in-Err-clause-asks g c =
+    asks_server _ _ c.args.name.now _ c.args.start.now c.args.options.now _ _ _ _ (Err (faults.Query c.in-Err.fault)) tt (c.in-Err.ensures.err, refl, refl)
+    (λ short fine files is q holds triples config fits. tt)
+    (reads_as _ _ _ _ _ (λ e. cc) (λ e. cc) c.in-Err.ensures.reads)
+    (record { keeps = sink_none _; spared = λ fine. tt })
 
-pub returns-clause-complete : goal.returns-clause-complete
-returns-clause-complete g c =
-    query_complete _ c.args.name.now _ c.args.start.now c.args.options.now _ _ _ _ _ _ _ _ c.read_and_ask.result c.read_and_ask.ensures.cause (returns-clause-exact g c) c.read_and_ask.ensures.fits
+pub returns-in-Ok-query_server-clause-asks : goal.returns-in-Ok-query_server-clause-asks
+returns-in-Ok-query_server-clause-asks g c =
+    let e = c.in-Ok-query_server.ensures in
+    asks_server _ _ c.args.name.now _ c.args.start.now c.args.options.now _ _ _ _ (Ok c.in-Ok-query_server.report)
+    (record {
+      q = c.in-Ok.query;
+      is_read = c.in-Ok.ensures.ok;
+      writes = record {
+        whole = e.whole;
+        writes = e.ok;
+        headline = e.headline;
+        plan = record { closed = e.acts.closed; peers = e.acts.peers; others = e.acts.others; sent = e.acts.sent; dials = e.acts.dials; given = e.acts.given; asked = e.acts.asked; tries = e.acts.planned; counted = e.acts.counted; unprovoked = e.acts.unprovoked; requested = e.acts.requested };
+        answered = e.acts.answered;
+        tries = e.acts.requests;
+        paced = e.acts.paced;
+        replied = e.acts.replied;
+        within = e.acts.within;
+        dialled = e.acts.dialled;
+        linked = e.acts.linked;
+      };
+    })
+    tt
+    (λ short fine files is q holds triples config fits. tt)
+    (reads_as _ _ _ _ _ (λ e. cc) (λ e. absurd e) c.in-Ok.ensures.reads)
+    (record { keeps = record { later = e.sink.later; faultless = e.sink.faultless; spared = λ fine. (e.sink.spared fine).0 }; spared = λ fine. tt })
+
+pub returns-clause-asks : goal.returns-clause-asks
+returns-clause-asks g c =
+    let e = c.in-Err-query_server.ensures in
+    asks_failed _ _ c.args.name.now _ c.args.start.now c.args.options.now _ _ _ _ c.plans_are_read.ensures.plan c.plans_are_read.ensures.start c.pages_are_answered.ensures.answered c.commands_keep_limits.ensures.queries c.in-Err-query_server.fault
+    (record {
+      q = c.in-Ok.query;
+      is_read = c.in-Ok.ensures.ok;
+      writes = record {
+        front = e.front;
+        writes = e.err;
+        shown = e.shown;
+        headline = e.prefix;
+        cause = e.acts.cause;
+        sink = λ is. e.sink.sink (cc);
+        plan = record { closed = e.acts.closed; peers = e.acts.peers; others = e.acts.others; sent = e.acts.sent; dials = e.acts.dials; given = e.acts.given; asked = e.acts.asked; tries = e.acts.planned; counted = e.acts.counted; unprovoked = e.acts.unprovoked; requested = e.acts.requested };
+        honest_cause = e.acts.honest_cause;
+        lively_cause = e.acts.lively_cause;
+        complete = e.complete;
+        failed_often = e.acts.failed_often;
+        spent_requests = e.acts.spent_requests;
+        spent_tries = e.acts.spent_tries;
+        spent_plan = e.acts.spent_plan;
+      };
+    })
+    (valid_read c.in-Ok.query _ c.patterns-patterns.ensures.value c.patterns-patterns.ensures.valid)
+    (reads_as _ _ _ _ _ (λ e. cc) (λ e. absurd e) c.in-Ok.ensures.reads)
+    (record { keeps = record { later = e.sink.later; faultless = e.sink.faultless; spared = λ fine. (e.sink.spared fine).0 }; spared = λ fine is. (e.sink.spared fine).1 (cc) })

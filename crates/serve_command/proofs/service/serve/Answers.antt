@@ -1,62 +1,33 @@
 -- What is said of the server is said of its file.
-use Rattle.std.proofs.Common.{inl, refl, sym, ap, subst, is_some, ◌∙◌}
+use Rattle.std.proofs.Common.{refl, sym, ap, subst, is_some, ◌∙◌, Result, Err, ℕ}
 use Rattle.template_fill.specs.Metadata.{Config}
 use Rattle.tpf_base.specs.Addresses.{authority_of}
-use Rattle.tpf_base.specs.Outside.{LeavesOpened}
-use Rattle.data_files.specs.Data.{IsOutcome}
+use Rattle.tpf_base.specs.Outside.{AsksOnce}
+use Rattle.data_files.specs.KeptLaws.{reads_keep, only_once}
+use Rattle.data_files.specs.Causes.{DataCause, DataDecides}
 use Rattle.file_server.specs.Servers.{Starts, serving}
-use Rattle.serve_command.specs.Services.{door_of}
-use Rattle.serve_command.proofs.Sentences.{prefixes_of_file, whole_of_file, decided, none_given, listens_none, door_at, door_told, service_cause, untouched}
+use Rattle.serve_command.specs.Services.{GivesServed}
+use Rattle.serve_command.specs.declared.fault.ServiceFault.TheVariants as faults
+use Rattle.serve_command.proofs.Sentences.{serves_file, serves_none, serves_starved}
 use Rattle.serve_command.proofs.service.serve.Goals as goal
 
-pub returns-in-Err-clause-closed : goal.returns-in-Err-clause-closed
-returns-in-Err-clause-closed g c = none_given _ _ refl
+pub returns-in-Err-clause-serves : goal.returns-in-Err-clause-serves
+returns-in-Err-clause-serves g c =
+    let name = c.args.service.name.now in
+    let choice = c.args.service.choice.now in
+    let is = c.config_of-config.ensures in
+    serves_none _ _ _ _ name choice _ _ c.in-Err.fault _ (λ e. ap Err e)
+    (subst (λ (config : Config). DataCause (g.F.Shelf.state c.args.shelf.now) (g.F.Shelf.state c.server_of_file.new.shelf) name choice (authority_of config.base) c.in-Err.fault) is c.in-Err.ensures.err)
+    (subst (λ (config : Config). DataDecides (g.F.Shelf.state c.args.shelf.now) (g.F.Shelf.state c.server_of_file.new.shelf) name choice (authority_of config.base) (λ outcome. GivesServed {A = ℕ} outcome (Err (faults.Data c.in-Err.fault)))) is c.in-Err.ensures.exact)
+    c.in-Err.ensures.reads
 
-pub returns-in_default-clause-closed : goal.returns-in_default-clause-closed
-returns-in_default-clause-closed g c = none_given _ _ refl
+pub returns-in_default-clause-serves : goal.returns-in_default-clause-serves
+returns-in_default-clause-serves g c = serves_starved _ _ _ _ _ _ _ _ _ c.server_of_file.ensures.reads
 
-pub returns-in-Err-clause-turns : goal.returns-in-Err-clause-turns
-returns-in-Err-clause-turns g c = inl (listens_none _)
-
-pub returns-in_default-clause-turns : goal.returns-in_default-clause-turns
-returns-in_default-clause-turns g c = inl (listens_none _)
-
-pub returns-in-Err-clause-exact : goal.returns-in-Err-clause-exact
-returns-in-Err-clause-exact g c = λ quiet files is outcome o.
-    c.in-Err.ensures.exact quiet files is outcome (subst (λ (config : Config). IsOutcome files c.args.service.name.now c.args.service.choice.now (authority_of config.base) outcome) (sym c.config_of-config.ensures) o)
-
-pub returns-clause-prefixes : goal.returns-clause-prefixes
-returns-clause-prefixes g c =
-    let starts = subst (λ (config : Config). Starts (g.F.Shelf.told c.args.shelf.now) c.args.service.name.now c.args.service.choice.now config (serving c.in-Ok.server)) c.config_of-config.ensures c.in-Ok.ensures.starts in
-    prefixes_of_file _ _ c.server_of_file.ensures.told _ _ _ _ starts _ _ _ c.server_of_file.ensures.later _ _ c.serve_server.ensures.prefixes
-
-pub returns-clause-whole : goal.returns-clause-whole
-returns-clause-whole g c =
-    let starts = subst (λ (config : Config). Starts (g.F.Shelf.told c.args.shelf.now) c.args.service.name.now c.args.service.choice.now config (serving c.in-Ok.server)) c.config_of-config.ensures c.in-Ok.ensures.starts in
-    whole_of_file _ _ c.server_of_file.ensures.told _ _ _ _ starts _ _ _ c.server_of_file.ensures.later _ _ _ c.serve_server.result c.serve_server.ensures.whole
-
-pub returns-clause-untouched : goal.returns-clause-untouched
-returns-clause-untouched g c = untouched _ _ _ _ _ _ _ _ c.serve_server.result c.serve_server.ensures.err
-
-pub returns-clause-cause : goal.returns-clause-cause
-returns-clause-cause g c = service_cause _ _ _ _ _ _ _ _ _ _ c.serve_server.result c.serve_server.ensures.err
-
-pub returns-clause-exact : goal.returns-clause-exact
-returns-clause-exact g c = λ quiet.
-    let starts = subst (λ (config : Config). Starts (g.F.Shelf.told c.args.shelf.now) c.args.service.name.now c.args.service.choice.now config (serving c.in-Ok.server)) c.config_of-config.ensures c.in-Ok.ensures.starts in
-    decided _ _ _ _ _ starts _ _ _ _ c.serve_server.result c.serve_server.ensures.err
-
-pub returns-clause-opened : goal.returns-clause-opened
-returns-clause-opened g c =
-    let starts = subst (λ (config : Config). Starts (g.F.Shelf.told c.args.shelf.now) c.args.service.name.now c.args.service.choice.now config (serving c.in-Ok.server)) c.config_of-config.ensures c.in-Ok.ensures.starts in
-    door_at _ _ _ (ap (λ (config : Config). door_of config.base) starts.config_is) c.serve_server.result c.serve_server.ensures.opened
-
-pub returns-clause-door : goal.returns-clause-door
-returns-clause-door g c =
-    let starts = subst (λ (config : Config). Starts (g.F.Shelf.told c.args.shelf.now) c.args.service.name.now c.args.service.choice.now config (serving c.in-Ok.server)) c.config_of-config.ensures c.in-Ok.ensures.starts in
-    door_told _ _ _ (ap (λ (config : Config). door_of config.base) starts.config_is) c.serve_server.ensures.door
-
-pub returns-clause-once : goal.returns-clause-once
-returns-clause-once g c = λ none.
-    subst (λ shelf. LeavesOpened (g.F.Shelf.given c.args.shelf.now) (g.F.Shelf.given shelf) (g.F.Shelf.rest c.args.shelf.now) (g.F.Shelf.rest shelf))
-    (sym (c.serve_server.ensures.unread (c.is_some-reloads.ensures ∙ ap (λ path. is_some path) none))) c.server_of_file.ensures.opened
+pub returns-clause-serves : goal.returns-clause-serves
+returns-clause-serves g c =
+    let starts = subst (λ (config : Config). Starts (g.F.Shelf.state c.args.shelf.now).told c.args.service.name.now c.args.service.choice.now config (serving c.in-Ok.server)) c.config_of-config.ensures c.in-Ok.ensures.starts in
+    serves_file _ _ _ _ _ _ _ _ _ _ _ c.serve_server.result _ starts (reads_keep _ _ _ _ c.server_of_file.ensures.reads) c.serve_server.ensures.keeps (only_once _ _ _ c.server_of_file.ensures.reads.asks) c.serve_server.ensures.asks c.serve_server.ensures.output
+    (λ none. subst (λ shelf. AsksOnce c.args.service.name.now (g.F.Shelf.state c.args.shelf.now) (g.F.Shelf.state shelf))
+    (sym (c.serve_server.ensures.unread (c.is_some-reloads.ensures ∙ ap (λ path. is_some path) none))) c.server_of_file.ensures.reads.asks)
+    c.serve_server.ensures.serves

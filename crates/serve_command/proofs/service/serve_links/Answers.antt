@@ -8,14 +8,18 @@ returns-clause-serves g c =
     let is = c.answer_of.ensures in
     let loop = c.serve.ensures in
     record {
-      door = loop.door;
+      alone = loop.alone;
       prefixes = services _ _ _ refl (loop.prefixes _ (first_history _ c.requires.first));
       whole = answered_by _ _ c.serve.result c.answer_of.result is (λ s zero p. services _ _ _ refl (spoken _ _ _ _ _ _ _ zero (p _ (first_history _ c.requires.first)))) loop.whole;
-      closed = loop.closed;
-      stops = answered_by _ _ c.serve.result c.answer_of.result is (λ s zero p. p) loop.stops;
-      soon = answered_by _ _ c.serve.result c.answer_of.result is (λ s zero p. p) loop.first;
-      never = answered_at_all_by _ c.serve.result c.answer_of.result is loop.never;
-      links = answered_by _ _ c.serve.result c.answer_of.result is (λ s zero p. p) loop.links;
-      turns = turns_by _ _ _ c.serve.result c.answer_of.result is loop.turns loop.fails;
+      ends = record {
+        closed = loop.closed;
+        older = loop.older;
+        stops = answered_by _ _ c.serve.result c.answer_of.result is (λ s zero p. p) loop.stops;
+        soon = answered_by _ _ c.serve.result c.answer_of.result is (λ s zero p. p) loop.first;
+        never = answered_at_all_by _ c.serve.result c.answer_of.result is loop.never;
+        links = answered_by _ _ c.serve.result c.answer_of.result is (λ s zero p. p) loop.links;
+        calm = answered_at_all_by _ c.serve.result c.answer_of.result is loop.calm;
+      };
+      turns = turns_by _ _ _ _ c.serve.result c.answer_of.result is loop.turns loop.fails;
       err = caused_by c.serve.result c.answer_of.result _ _ is loop.wire;
     }

@@ -1,47 +1,39 @@
 -- What is said from the open door on is said from before it.
-use Rattle.std.proofs.Common.{inl, inr, ap, ◌∙◌}
-use Rattle.serve_command.specs.Services.{door_of}
-use Rattle.serve_command.proofs.Sentences.{if_ok_map, prefixes_from, whole_from, closed_from, none_given, links_from, door_cause, opens_and_turns, on_ok_so}
+use Rattle.std.proofs.Common.{inl, inr, ◌∙◌}
+use Rattle.data_files.specs.KeptLaws.{shelf_none, only_none}
+use Rattle.file_server.specs.Servers.{serving}
+use Rattle.serve_command.proofs.Sentences.{if_ok_map, prefixes_from, whole_from, none_given, door_cause, opens_and_turns, ends_from, says_from, older_none, on_ok_so}
 use Rattle.serve_command.proofs.service.serve_server.Goals as goal
 
-pub returns-in-Err-clause-prefixes : goal.returns-in-Err-clause-prefixes
-returns-in-Err-clause-prefixes g c = inl c.begin.ensures.only.none_given.given
+pub returns-in-Err-clause-serves : goal.returns-in-Err-clause-serves
+returns-in-Err-clause-serves g c =
+    let begun = c.begin.ensures in
+    record {
+      prefixes = inl begun.only.none_given.given;
+      whole = tt;
+      ends = record { closed = none_given _ _ begun.only.none_given.given; older = λ k below. older_none (g.W.Wire.state c.args.wire.now) (g.W.Wire.state c.begin.new.wire) k (begun.only.none_given.links k); stops = tt; soon = tt; never = tt; links = tt; calm = tt };
+      turns = inr (inl begun.only);
+      listens = begun.only.count;
+      says = record { ready = tt; front = begun.says.front; opened = tt; door = begun.says.door; after = begun.says.after };
+      err = c.in-Err.ensures.err;
+    }
 
-pub returns-in-Err-clause-closed : goal.returns-in-Err-clause-closed
-returns-in-Err-clause-closed g c = none_given _ _ c.begin.ensures.only.none_given.given
+pub returns-in-Err-clause-keeps : goal.returns-in-Err-clause-keeps
+returns-in-Err-clause-keeps g c = shelf_none (g.F.Shelf.state c.args.shelf.now)
 
-pub returns-in-Err-clause-turns : goal.returns-in-Err-clause-turns
-returns-in-Err-clause-turns g c = inl c.begin.ensures.only
+pub returns-in-Err-clause-asks : goal.returns-in-Err-clause-asks
+returns-in-Err-clause-asks g c = only_none _ (g.F.Shelf.state c.args.shelf.now)
 
-pub returns-clause-prefixes : goal.returns-clause-prefixes
-returns-clause-prefixes g c = inr (prefixes_from _ _ (λ triples h. h) _ _ (λ h. h) _ _ _ _ c.begin.ensures.only.none_given.given c.serve_file.ensures.serves.prefixes)
-
-pub returns-clause-whole : goal.returns-clause-whole
-returns-clause-whole g c = if_ok_map _ _ c.serve_file.result (λ n s. whole_from _ _ (λ triples h. h) _ _ (λ h. h) _ _ _ _ c.begin.ensures.only.none_given.given _ _ n c.begin.ensures.only.later s) c.serve_file.ensures.serves.whole
-
-pub returns-clause-closed : goal.returns-clause-closed
-returns-clause-closed g c = closed_from _ _ _ c.begin.ensures.only.none_given.given c.serve_file.ensures.serves.closed
-
-pub returns-clause-stops : goal.returns-clause-stops
-returns-clause-stops g c = c.serve_file.ensures.serves.stops
-
-pub returns-clause-soon : goal.returns-clause-soon
-returns-clause-soon g c = c.serve_file.ensures.serves.soon
-
-pub returns-clause-never : goal.returns-clause-never
-returns-clause-never g c = c.serve_file.ensures.serves.never
-
-pub returns-clause-links : goal.returns-clause-links
-returns-clause-links g c = links_from _ _ _ c.serve_file.result c.begin.ensures.only.none_given.given c.serve_file.ensures.serves.links
-
-pub returns-clause-turns : goal.returns-clause-turns
-returns-clause-turns g c = opens_and_turns _ _ _ _ c.serve_file.result c.begin.ensures.only c.serve_file.ensures.serves.turns
-
-pub returns-clause-err : goal.returns-clause-err
-returns-clause-err g c = door_cause _ _ _ _ 0 _ c.serve_file.result c.begin.ensures.only.later c.serve_file.ensures.serves.err
-
-pub returns-clause-opened : goal.returns-clause-opened
-returns-clause-opened g c = on_ok_so _ c.serve_file.result (c.serve_file.ensures.opened ∙ ap door_of c.requires.base)
-
-pub returns-clause-door : goal.returns-clause-door
-returns-clause-door g c = inr (c.serve_file.ensures.opened ∙ ap door_of c.requires.base)
+pub returns-clause-serves : goal.returns-clause-serves
+returns-clause-serves g c =
+    let begun = c.begin.ensures in
+    let s = c.serve_source.ensures.serves in
+    record {
+      prefixes = inr (prefixes_from _ _ (λ triples h. h) _ _ (λ h. h) _ _ _ _ begun.only.none_given.given s.prefixes);
+      whole = if_ok_map _ _ c.serve_source.result (λ n w. whole_from _ _ (λ triples h. h) _ _ (λ h. h) _ _ _ _ begun.only.none_given.given _ _ n begun.only.later w) s.whole;
+      ends = ends_from _ _ _ _ c.serve_source.result begun.only.none_given (on_ok_so _ c.serve_source.result c.in_default.ensures.calm) s.ends;
+      listens = s.alone.calls ∙ begun.only.count;
+      turns = opens_and_turns (serving c.args.server.now).config c.args.source.now.stop_after (g.W.Wire.state c.args.wire.now) (g.W.Wire.state c.begin.new.wire) (g.W.Wire.state c.serve_source.new.wire) c.serve_source.result begun.only s.turns;
+      says = says_from _ _ (g.W.Wire.state c.begin.new.wire) _ _ _ c.serve_source.result begun.only.none_given.given (s.alone.place ∙ c.in_default.ensures.says.opened) c.in_default.ensures.says.ready begun.says.front;
+      err = door_cause (g.W.Wire.state c.args.wire.now) (g.W.Wire.state c.begin.new.wire) (g.W.Wire.state c.serve_source.new.wire) _ _ c.serve_source.result begun.only.later begun.door s.err;
+    }

@@ -1,19 +1,19 @@
-use Rattle.std.proofs.Common.{refl}
-use Rattle.tpf_cli.specs.declared.top.Inside.TheVariants.{Unused}
-use Rattle.tpf_cli.specs.Runs.{Around, options_of}
-use Rattle.tpf_cli.proofs.Asked.{asks_server, options_in}
+use Rattle.std.proofs.Common.{subst}
+use Rattle.tpf_client.specs.declared.options.Options.{Options}
+use Rattle.query_command.specs.Answers.{AsksServer}
+use Rattle.tpf_cli.proofs.Asked.{options_in}
 use Rattle.tpf_cli.proofs.commands.ask_server.Goals as goal
 
 pub query-requires-clause-window : goal.query-requires-clause-window
-query-requires-clause-window g c = (options_in _ _ c.options_of.ensures c.requires.client).0
+query-requires-clause-window g c = (options_in _ _ c.options_of-options.ensures c.requires.client).0
 
 pub query-requires-clause-some : goal.query-requires-clause-some
-query-requires-clause-some g c = (options_in _ _ c.options_of.ensures c.requires.client).1
+query-requires-clause-some g c = (options_in _ _ c.options_of-options.ensures c.requires.client).1
 
 pub query-requires-clause-few : goal.query-requires-clause-few
-query-requires-clause-few g c = (options_in _ _ c.options_of.ensures c.requires.client).2
+query-requires-clause-few g c = (options_in _ _ c.options_of-options.ensures c.requires.client).2
 
-pub returns-clause-asks : goal.returns-clause-asks
-returns-clause-asks g c =
-    let a : Around = record { told = g.F.Shelf.told c.args.shelf.now; shelf = g.F.Shelf.faults c.args.shelf.now; shelf' = g.F.Shelf.faults c.query.new.shelf; allows = g.W.Wire.allows c.args.wire.now; wire = g.W.Wire.state c.args.wire.now; wire' = g.W.Wire.state c.query.new.wire; out = g.K.Sink.faults c.args.out.now; out' = g.K.Sink.faults c.query.new.out; taken = g.K.Sink.taken c.args.out.now; taken' = g.K.Sink.taken c.query.new.out; inside' = Unused } in
-    asks_server a c.args.name.now c.args.url.now c.options_of.result (options_of c.args.client) c.query.result c.options_of.ensures refl c.query.ensures.answers c.query.ensures.cause (c.query.ensures.complete c.requires.typed)
+pub returns : goal.returns
+returns g c =
+    subst (λ (o : Options). AsksServer (g.F.Shelf.state c.args.shelf.now) (g.F.Shelf.state c.query.new.shelf) (g.W.Wire.allows c.args.wire.now) (g.W.Wire.state c.args.wire.now) (g.W.Wire.state c.query.new.wire) (g.K.Sink.state c.args.out.now) (g.K.Sink.state c.query.new.out) c.args.asked.now.query.now c.args.asked.now.url o c.query.result)
+    c.options_of-options.ensures c.query.ensures.asks
