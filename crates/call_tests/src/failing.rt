@@ -1,22 +1,13 @@
 // A server in one process, over a wire one of whose calls fails.
-ghost use Rattle.std.specs.Prelude.{◌≡◌, ◌<◌, All, IfOk};
-ghost use Rattle.rdf_terms.specs.Triples.{IsRdfQuad};
-ghost use Rattle.tpf_base.specs.Addresses.{IsAuthority};
-
 use crate::asked::{Came, OPTIONS, ask};
+use crate::servers::server_of;
 use fragment_server::{FragmentConnection, FragmentServer};
-use hydra_controls::Config;
 use loop_wire::LoopWire;
-use nquads_text::read_all;
-use rdf_terms::Quad;
 use std::alloc::Global;
 use std::sync::Wait;
 use std::test::Fail;
-use template_fill::WebAddress;
 use tpf_base::Failing;
 use tpf_client::Options;
-use tpf_server::Server;
-use triple_table::{Choice, Table};
 
 const DATA: &str = "<http://e/a> <http://e/k> <http://e/b> .
 <http://e/a> <http://e/k> <http://e/c> .
@@ -36,33 +27,19 @@ const FROM_B: &str =
 
 const END: &str = "]}}\n";
 
-fn host() -> &'static str
-    ensures { IsAuthority result.now }
-{
-    "localhost"
-}
-
-fn quads(alloc: Global) -> Result<Vec<Quad>, Fail>
-    ensures { IfOk result (λ v. All IsRdfQuad v.items) }
-{
-    match read_all(alloc, DATA.as_bytes(), 1000) {
-        Ok(quads) => Ok(quads),
-        Err(_) => Err(Fail::new("no data")),
-    }
-}
-
 fn server(alloc: Global) -> Result<FragmentServer, Fail> {
-    let quads = quads(alloc)?;
-    let table = Table::build(alloc, quads.as_slice(), &Choice::Union, host(), 100000)?;
-    let base = WebAddress::read(alloc, "http://localhost/data")?;
-    match Config::new(base, 100) {
-        Some(config) => Ok(FragmentServer::new(Server::new(alloc, table, config)?)),
-        None => Err(Fail::new("no configuration")),
-    }
+    server_of(alloc, DATA, 100)
 }
 
-/// What comes of the query over a wire of this seed whose call with this number fails.
-fn came<R: Wait>(rt: &R, alloc: Global, seed: u64, call: u64, retries: u32) -> Result<Came, Fail> {
+/// What comes of a query over a wire of this seed whose call with this number fails.
+fn came_of<R: Wait>(
+    rt: &R,
+    alloc: Global,
+    query: &str,
+    seed: u64,
+    call: u64,
+    retries: u32,
+) -> Result<Came, Fail> {
     let mut calls = Vec::new(alloc);
     calls.push(call)?;
     let server = server(alloc)?;
@@ -73,7 +50,12 @@ fn came<R: Wait>(rt: &R, alloc: Global, seed: u64, call: u64, retries: u32) -> R
         Failing::At(calls),
     );
     let options = Options { retries, ..OPTIONS };
-    ask(rt, alloc, QUERY, &options, &mut wire, Failing::Never)
+    ask(rt, alloc, query, &options, &mut wire, Failing::Never)
+}
+
+/// The same of the query of two patterns.
+fn came<R: Wait>(rt: &R, alloc: Global, seed: u64, call: u64, retries: u32) -> Result<Came, Fail> {
+    came_of(rt, alloc, QUERY, seed, call, retries)
 }
 
 /// Whether a text is the whole result, in either order of its rows.
@@ -134,5 +116,16 @@ fn without_a_retry_a_call_that_fails_ends_the_query(rt: HostRuntime) -> Result<(
         }
     }
     assert!(rt; failed > 20 && failed < 99);
+    Ok(())
+}
+
+// The dial is the first call, and the request for the start page is sent by the second.
+#[test]
+fn a_second_call_that_fails_costs_one_request(rt: HostRuntime) -> Result<(), Fail> {
+    let query = "SELECT * WHERE { ?x <http://e/n> ?y }";
+    let whole = came_of(&rt, rt.alloc(), query, 1, 0, 2)?;
+    assert_eq!(rt; whole.told.as_str(), "2 requests, 1 rows, version 1");
+    let again = came_of(&rt, rt.alloc(), query, 1, 2, 2)?;
+    assert_eq!(rt; again.told.as_str(), "3 requests, 1 rows, version 1");
     Ok(())
 }

@@ -9,3 +9,7 @@ mod failing;
 mod hostile;
 #[cfg(test)]
 mod replies;
+#[cfg(test)]
+mod servers;
+#[cfg(test)]
+mod windows;

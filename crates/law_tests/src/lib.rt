@@ -2,11 +2,15 @@
 //! called.
 #![tactic(auto)]
 
-ghost use Rattle.exchange_laws.specs.Honest.{RefusedAsTooLongAlone};
+ghost use Rattle.hydra_controls.specs.Laws.{MetadataIsRdf};
+ghost use Rattle.pool_laws.specs.Honest.{RefusedAsTooLongAlone};
+ghost use Rattle.template_fill.specs.Explicit.{ReadsBack};
 ghost use Rattle.template_fill.specs.Responses.{LongerHistoriesAgree, ResponseBegins};
 
-use exchange_laws::an_honest_reply_is_refused_as_too_long_alone;
-use response_laws::{marks_go_on, response_goes_on};
+use http_ends::{marks_go_on, response_goes_on};
+use hydra_controls::metadata_is_rdf;
+use pool_laws::an_honest_reply_is_refused_as_too_long_alone;
+use template_fill::explicit_forms_read_back;
 
 /// What was sent of a response stays its prefix where more bytes come on the connection (`more`), and
 /// where the data are read again (`reloaded`).
@@ -23,4 +27,14 @@ pub fn one_fault_is_left()
     ensures { RefusedAsTooLongAlone }
 {
     an_honest_reply_is_refused_as_too_long_alone();
+}
+
+/// What a server writes is read: the explicit form of a term, which stands in an address, and the metadata of a page,
+/// which are RDF.
+pub fn what_is_written_is_read()
+    ensures forms { ReadsBack }
+    ensures metadata { MetadataIsRdf }
+{
+    explicit_forms_read_back();
+    metadata_is_rdf();
 }

@@ -1,0 +1,107 @@
+// Files of rows.
+ghost use Rattle.std.specs.Prelude.{◌≡◌, length, IfOk};
+
+use crate::rows::{Row, rows_of};
+use crate::tally::{counted, line_of};
+use crate::told::told_of;
+use crate::{Case, CaseFault};
+use serde_json::Value;
+use std::alloc::{AllocError, Global};
+use std::process::ExitCode;
+use std::rt::Files;
+use std::{fs, io};
+
+/// What answers rows.
+pub trait Answers {
+    /// The answer to a row that calls this, as a text.
+    fn answer(&self, alloc: Global, call: &str, case: &mut Case<'_>) -> Result<String, CaseFault>;
+}
+
+/// What is told of the rows, one for each: what is wrong with it, if anything is.
+fn told_of_rows<A: Answers>(
+    alloc: Global,
+    answers: &A,
+    names: &Value,
+    rows: &[Row],
+) -> Result<Vec<Option<String>>, AllocError>
+    ensures { IfOk result (λ told. length told.items ≡ length rows.now) }
+{
+    let mut told = Vec::new(alloc);
+    for row in rows {
+        told.push(told_of(alloc, answers, names, row.text.as_str())?)?;
+    }
+    Ok(told)
+}
+
+/// The rows of a text.
+fn rows_in(alloc: Global, text: &str) -> Result<Vec<Row>, AllocError> {
+    let lines: Vec<&str> = text.lines().collect(alloc)?;
+    rows_of(alloc, lines.as_slice())
+}
+
+/// Prints what is told of rows, each with its line.
+fn print_told<R: Print>(
+    rt: &R,
+    file: &str,
+    rows: &[Row],
+    told: &[Option<String>],
+) -> io::Result<()> {
+    for (row, told) in rows.iter().zip(told) {
+        if let Some(what) = told {
+            println!(rt; "{file}:{}: {what}", row.line)?;
+        }
+    }
+    Ok(())
+}
+
+/// Answers the rows of a file, and prints those that differ and how many there were.
+fn run_file<R: Files + Print + AllocGlobal, A: Answers>(
+    rt: &R,
+    answers: &A,
+    names: &Value,
+    file: &str,
+) -> io::Result<usize> {
+    let text = fs::read_to_string(rt, file)?;
+    let rows = rows_in(rt.alloc(), text.as_str())?;
+    let told = told_of_rows(rt.alloc(), answers, names, rows.as_slice())?;
+    print_told(rt, file, rows.as_slice(), told.as_slice())?;
+    let tally = counted(told.as_slice());
+    println!(rt; "{}", line_of(rt.alloc(), file, &tally)?)?;
+    Ok(tally.wrong)
+}
+
+/// Answers the rows of the files, and says whether none was wrong.
+fn run_files<R: Files + Print + AllocGlobal, A: Answers>(
+    rt: &R,
+    answers: &A,
+    names: &str,
+    files: &[&str],
+) -> io::Result<bool> {
+    let text = fs::read_to_string(rt, names)?;
+    let Ok(names) = Value::from_str(rt.alloc(), text.as_str()) else {
+        return Err(io::Error::other("the names are no JSON"));
+    };
+    let mut all_right = true;
+    for file in files {
+        all_right = run_file(rt, answers, &names, file)? == 0 && all_right;
+    }
+    Ok(all_right)
+}
+
+/// Answers the rows of the files, where `names` has the texts with names. Prints each row that differs, with its
+/// file and line, and for each file how many rows it has and how many of them are wrong. Succeeds where none is.
+pub fn run<R: Files + Print + AllocGlobal, A: Answers>(
+    rt: &R,
+    answers: &A,
+    names: &str,
+    files: &[&str],
+) -> ExitCode {
+    match run_files(rt, answers, names, files) {
+        Ok(true) => ExitCode::SUCCESS,
+        Ok(false) => ExitCode::FAILURE,
+        Err(error) => {
+            let _ = println!(rt; "{error}");
+            ExitCode::FAILURE
+        }
+    }
+}

@@ -1,0 +1,30 @@
+//! Cases as rows of data: a program's files of rows are read, each row is answered, and what differs from the
+//! wanted answer is printed.
+//!
+//! A row is a JSON object on a line. A line that begins with a blank belongs to the row above it, and an empty line
+//! to none:
+//!
+//! ```text
+//! {"call": "address", "text": "http://e", "wanted": "http://e/ e 80 /"}
+//! ```
+//!
+//! `call` names what is called, `wanted` is the answer as a text, and `or`, where it stands, another answer that is
+//! as good. The other members are what it is called with; each of them is asked for, or the row is a fault. Texts are
+//! written as [`Case::bytes`] says. A program of cases has one type that answers the calls, and hands it to [`run`]:
+//!
+//! ```rust
+//! run(&rt, &Texts, "names.json", &["terms.jsonl", "nquads.jsonl"])
+//! ```
+#![tactic(auto)]
+
+mod case;
+mod fault;
+mod files;
+mod rows;
+mod tally;
+mod text;
+mod told;
+
+pub use case::Case;
+pub use fault::CaseFault;
+pub use files::{Answers, run};

@@ -1,0 +1,139 @@
+// The texts of a row.
+use crate::CaseFault;
+use serde_json::Value;
+use std::alloc::Global;
+use std::str;
+
+/// How deep lists and repeats stand in one another at most.
+pub const DEPTH: usize = 8;
+
+/// Appends the text with a name.
+fn push_named(names: &Value, name: &str, out: &mut Vec<u8>) -> Result<(), CaseFault> {
+    match names.get(name).and_then(Value::as_str) {
+        Some(text) => Ok(out.extend_from_slice(text.as_bytes())?),
+        None => Err(CaseFault::Row),
+    }
+}
+
+/// Appends the texts whose names are the letters.
+fn push_letters(
+    alloc: Global,
+    names: &Value,
+    letters: &str,
+    out: &mut Vec<u8>,
+) -> Result<(), CaseFault> {
+    for letter in letters.chars() {
+        let mut name = String::new(alloc);
+        name.push(letter)?;
+        push_named(names, name.as_str(), out)?;
+    }
+    Ok(())
+}
+
+/// The number that a digit of a hexadecimal number stands for.
+fn digit(byte: u8) -> Result<u8, CaseFault> {
+    match byte {
+        b'0'..=b'9' => Ok(byte - b'0'),
+        b'a'..=b'f' => Ok(byte - b'a' + 10),
+        _ => Err(CaseFault::Row),
+    }
+}
+
+/// Appends the bytes whose two digits each stand one behind the other.
+fn push_hex(digits: &[u8], out: &mut Vec<u8>) -> Result<(), CaseFault> {
+    for pair in digits.chunks(2) {
+        let [high, low] = pair else {
+            return Err(CaseFault::Row);
+        };
+        out.push(digit(*high)? << 4 | digit(*low)?)?;
+    }
+    Ok(())
+}
+
+/// Appends bytes so many times.
+fn push_times(once: &[u8], times: u64, out: &mut Vec<u8>) -> Result<(), CaseFault> {
+    for _ in 0..times {
+        out.extend_from_slice(once)?;
+    }
+    Ok(())
+}
+
+/// Appends a text with a number where it has `{n}`.
+fn push_numbered(text: &str, number: &str, out: &mut Vec<u8>) -> Result<(), CaseFault> {
+    let mut is_first = true;
+    for part in text.split("{n}") {
+        if !is_first {
+            out.extend_from_slice(number.as_bytes())?;
+        }
+        out.extend_from_slice(part.as_bytes())?;
+        is_first = false;
+    }
+    Ok(())
+}
+
+/// Appends a text for each of so many numbers.
+fn push_numbers(
+    alloc: Global,
+    once: &[u8],
+    from: u64,
+    count: u64,
+    out: &mut Vec<u8>,
+) -> Result<(), CaseFault> {
+    let Ok(text) = str::from_utf8(once) else {
+        return Err(CaseFault::Row);
+    };
+    for number in from..from.saturating_add(count) {
+        push_numbered(text, number.to_string(alloc)?.as_str(), out)?;
+    }
+    Ok(())
+}
+
+/// The member of a part that is a number.
+fn number_of(part: &Value, member: &str) -> Option<u64> {
+    part.get(member).and_then(Value::as_u64)
+}
+
+/// Appends what a part makes of a text.
+fn push_made(alloc: Global, part: &Value, once: &[u8], out: &mut Vec<u8>) -> Result<(), CaseFault> {
+    if let Some(times) = number_of(part, "times") {
+        return push_times(once, times, out);
+    }
+    let count = number_of(part, "numbers").ok_or(CaseFault::Row)?;
+    let from = number_of(part, "from").unwrap_or(0);
+    push_numbers(alloc, once, from, count, out)
+}
+
+/// Appends the bytes that a value of a row stands for.
+pub fn push_text(
+    alloc: Global,
+    names: &Value,
+    value: &Value,
+    depth: usize,
+    out: &mut Vec<u8>,
+) -> Result<(), CaseFault> {
+    if depth == 0 {
+        return Err(CaseFault::Row);
+    }
+    if let Some(text) = value.as_str() {
+        return Ok(out.extend_from_slice(text.as_bytes())?);
+    }
+    if let Some(parts) = value.as_array() {
+        for part in parts {
+            push_text(alloc, names, part, depth - 1, out)?;
+        }
+        return Ok(());
+    }
+    if let Some(name) = value.get("name").and_then(Value::as_str) {
+        return push_named(names, name, out);
+    }
+    if let Some(letters) = value.get("letters").and_then(Value::as_str) {
+        return push_letters(alloc, names, letters, out);
+    }
+    if let Some(digits) = value.get("hex").and_then(Value::as_str) {
+        return push_hex(digits.as_bytes(), out);
+    }
+    let of = value.get("of").ok_or(CaseFault::Row)?;
+    let mut once = Vec::new(alloc);
+    push_text(alloc, names, of, depth - 1, &mut once)?;
+    push_made(alloc, value, once.as_slice(), out)
+}

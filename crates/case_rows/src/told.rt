@@ -1,0 +1,73 @@
+// What is told of a row.
+ghost use Rattle.std.specs.Prelude.{◌≡◌, ◌↔◌, IsTrue, IfOk, None, option_map};
+ghost use Rattle.std.specs.String.{string_bytes};
+ghost use Rattle.case_rows.specs.Rows.{IsWanted};
+
+use crate::files::Answers;
+use crate::{Case, CaseFault};
+use serde_json::Value;
+use std::alloc::{AllocError, Global};
+
+/// The answers that a row wants: one, and maybe another that is as good.
+#[derive(Drop)]
+struct Wanted {
+    first: String,
+    other: Option<String>,
+}
+
+/// Whether an answer is one that is wanted.
+fn is_wanted(wanted: &Wanted, got: &str) -> bool
+    ensures { IsTrue result ↔ IsWanted (string_bytes wanted.now.first) (option_map string_bytes wanted.now.other) got.now }
+{
+    if wanted.first.as_str() == got {
+        return true;
+    }
+    match &wanted.other {
+        Some(other) => other.as_str() == got,
+        None => false,
+    }
+}
+
+/// What is told of an answer: nothing, where it is wanted.
+fn judged(alloc: Global, wanted: &Wanted, got: &str) -> Result<Option<String>, AllocError>
+    ensures { IfOk result (λ told. told ≡ None ↔ IsWanted (string_bytes wanted.now.first) (option_map string_bytes wanted.now.other) got.now) }
+{
+    if is_wanted(wanted, got) {
+        return Ok(None);
+    }
+    Ok(Some(format!(in alloc; "wanted {:?}, got {got:?}", wanted.first)?))
+}
+
+/// Answers a row, and tells what is wrong with the answer, if anything is.
+fn answered<A: Answers>(
+    alloc: Global,
+    answers: &A,
+    case: &mut Case<'_>,
+) -> Result<Option<String>, CaseFault> {
+    let call = case.text(alloc, "call")?;
+    let wanted = Wanted {
+        first: case.text(alloc, "wanted")?,
+        other: case.text_if(alloc, "or")?,
+    };
+    let got = answers.answer(alloc, call.as_str(), case)?;
+    case.end()?;
+    Ok(judged(alloc, &wanted, got.as_str())?)
+}
+
+/// What is wrong with a row, if anything is: it is no JSON, lacks a member or has one that its call does not ask for,
+/// or its answer differs.
+pub fn told_of<A: Answers>(
+    alloc: Global,
+    answers: &A,
+    names: &Value,
+    row: &str,
+) -> Result<Option<String>, AllocError> {
+    let Ok(members) = Value::from_str(alloc, row) else {
+        return Ok(Some(String::from_str(alloc, "no JSON")?));
+    };
+    let mut case = Case::new(members, names);
+    match answered(alloc, answers, &mut case) {
+        Ok(told) => Ok(told),
+        Err(fault) => Ok(Some(format!(in alloc; "{fault:?}")?)),
+    }
+}

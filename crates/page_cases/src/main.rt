@@ -1,0 +1,53 @@
+//! Cases of `template_fill`, `hydra_controls` and `control_reader`: addresses, templates, explicit forms, and the
+//! metadata of pages as text and read back. The rows stand in `data/`.
+#![tactic(auto)]
+
+mod addresses;
+mod controls;
+mod pages;
+mod slots;
+mod templates;
+
+use case_rows::{Answers, Case, CaseFault, run};
+use std::alloc::Global;
+use std::process::ExitCode;
+
+/// The calls that rows name.
+struct Web;
+
+/// The calls of `template_fill`, and those of `hydra_controls`.
+fn answer_below(alloc: Global, call: &str, case: &mut Case<'_>) -> Result<String, CaseFault> {
+    match call {
+        "address" => addresses::address(alloc, case),
+        "same_authority" => addresses::same_authority(alloc, case),
+        "page_address" => addresses::page(alloc, case),
+        "expand" => templates::expand(alloc, case),
+        "names" => templates::names(alloc, case),
+        "form" => templates::form(alloc, case),
+        "explicit" => slots::explicit_form(alloc, case),
+        "config" => controls::config(alloc, case),
+        "reload" => controls::reload(alloc, case),
+        "fragment_address" => controls::fragment_address(alloc, case),
+        _ => Err(CaseFault::Row),
+    }
+}
+
+impl Answers for Web {
+    fn answer(&self, alloc: Global, call: &str, case: &mut Case<'_>) -> Result<String, CaseFault> {
+        match call {
+            "metadata" => controls::metadata_lines(alloc, case),
+            "read_back" => pages::read_back(alloc, case),
+            "page" => pages::page(alloc, case),
+            _ => answer_below(alloc, call, case),
+        }
+    }
+}
+
+fn main(rt: HostRuntime) -> ExitCode {
+    run(
+        &rt,
+        &Web,
+        "names.json",
+        &["addresses.jsonl", "controls.jsonl", "pages.jsonl"],
+    )
+}

@@ -1,0 +1,35 @@
+//! Cases of queries: their tokens, words, grammar and patterns. The rows stand in `data/`.
+#![tactic(auto)]
+
+mod queries;
+mod words;
+
+use case_rows::{Answers, Case, CaseFault, run};
+use std::alloc::Global;
+use std::process::ExitCode;
+
+/// The calls that rows name.
+struct Readers;
+
+impl Answers for Readers {
+    fn answer(&self, alloc: Global, call: &str, case: &mut Case<'_>) -> Result<String, CaseFault> {
+        match call {
+            "query" => queries::query(alloc, case),
+            "tokens" => queries::token_places(alloc, case),
+            "pieces" => words::piece_places(alloc, case),
+            "words" => words::words(alloc, case),
+            "grammar" => words::grammar(alloc, case),
+            "word_text" => words::word_text(alloc, case),
+            _ => Err(CaseFault::Row),
+        }
+    }
+}
+
+fn main(rt: HostRuntime) -> ExitCode {
+    run(
+        &rt,
+        &Readers,
+        "names.json",
+        &["words.jsonl", "queries.jsonl"],
+    )
+}

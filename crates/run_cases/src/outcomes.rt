@@ -1,0 +1,125 @@
+// How runs end, and what is shown of that.
+use case_rows::{Case, CaseFault};
+use std::alloc::Global;
+use std::str;
+use tpf_base::MemSink;
+
+/// How a run ended, and what it wrote.
+#[derive(Drop)]
+pub struct Outcome {
+    pub status: u8,
+    pub out: MemSink,
+    pub err: MemSink,
+    /// Whether a wire was left inside.
+    pub has_wire: bool,
+}
+
+impl Outcome {
+    /// Whether the run ended with this status, and said this on the standard error.
+    pub fn says(&self, status: u8, line: &str) -> bool {
+        self.status == status && self.err.taken() == line.as_bytes()
+    }
+}
+
+/// What is to be shown of runs.
+#[derive(Drop)]
+pub struct Show {
+    is_sorted: bool,
+    count: Option<String>,
+    said: Vec<String>,
+    has_wire: Option<String>,
+}
+
+/// `sorted`, `count`, `said`, `wire`: what is to be shown of a run.
+pub fn show_of(alloc: Global, case: &mut Case<'_>) -> Result<Show, CaseFault> {
+    Ok(Show {
+        is_sorted: case.flag("sorted")?,
+        count: case.text_if(alloc, "count")?,
+        said: case.texts(alloc, "said")?,
+        has_wire: case.text_if(alloc, "wire")?,
+    })
+}
+
+/// The text that was taken.
+fn text_of(taken: &[u8]) -> Result<&str, CaseFault> {
+    match str::from_utf8(taken) {
+        Ok(text) => Ok(text),
+        Err(_) => Err(CaseFault::Row),
+    }
+}
+
+/// The rows of a result's text, which has at least one, without the first brace and the last.
+fn rows_in(text: &str) -> Option<(&str, &str)> {
+    let Some((front, rest)) = text.split_once("\"bindings\":[{") else {
+        return None;
+    };
+    match rest.strip_suffix("}]}}\n") {
+        Some(rows) => Some((front, rows)),
+        None => None,
+    }
+}
+
+/// The text of a result with its rows in the order of their bytes.
+fn sorted(alloc: Global, text: &str) -> Result<String, CaseFault> {
+    let Some((front, rows)) = rows_in(text) else {
+        return Ok(String::from_str(alloc, text)?);
+    };
+    let mut parts = Vec::new(alloc);
+    for row in rows.split("},{") {
+        parts.push(String::from_str(alloc, row)?)?;
+    }
+    parts.sort()?;
+    let mut out = String::from_str(alloc, front)?;
+    for (i, row) in parts.iter().enumerate() {
+        out.push_str(if i == 0 { "\"bindings\":[{" } else { "},{" })?;
+        out.push_str(row.as_str())?;
+    }
+    out.push_str("}]}}\n")?;
+    Ok(out)
+}
+
+/// How often a text stands in another.
+fn times(text: &str, part: &str) -> usize {
+    text.split(part).count().saturating_sub(1)
+}
+
+impl Show {
+    /// What is shown of the output.
+    fn output(&self, alloc: Global, text: &str) -> Result<String, CaseFault> {
+        if let Some(part) = &self.count {
+            return Ok(format!(in alloc; "{}", times(text, part.as_str()))?);
+        }
+        if self.is_sorted {
+            return sorted(alloc, text);
+        }
+        Ok(String::from_str(alloc, text)?)
+    }
+
+    /// What is shown of the standard error.
+    fn error(&self, alloc: Global, text: &str) -> Result<String, CaseFault> {
+        if let [front, end] = self.said.as_slice() {
+            if text.starts_with(front.as_str()) && text.ends_with(end.as_str()) {
+                return Ok(String::from_str(alloc, "as said")?);
+            }
+        }
+        Ok(String::from_str(alloc, text)?)
+    }
+
+    /// Whether a wire was left inside, or not, as the row says.
+    fn agrees(&self, has_wire: bool) -> bool {
+        match &self.has_wire {
+            Some(word) => word.as_str() == if has_wire { "left" } else { "none" },
+            None => true,
+        }
+    }
+
+    /// What is shown of a run: the status, the output and the line on the standard error.
+    pub fn outcome(&self, alloc: Global, outcome: &Outcome) -> Result<String, CaseFault> {
+        if !self.agrees(outcome.has_wire) {
+            return Err(CaseFault::Differs);
+        }
+        let out = self.output(alloc, text_of(outcome.out.taken())?)?;
+        let err = self.error(alloc, text_of(outcome.err.taken())?)?;
+        Ok(format!(in alloc; "{} {out}| {err}", outcome.status)?)
+    }
+}

@@ -1,0 +1,38 @@
+//! Cases of the table of triples, of fragments and their pages, and of generated data. The rows stand in `data/`.
+#![tactic(auto)]
+
+mod fragments;
+mod generated;
+mod tables;
+
+use case_rows::{Answers, Case, CaseFault, run};
+use std::alloc::Global;
+use std::process::ExitCode;
+
+/// The calls that rows name.
+struct Data;
+
+impl Answers for Data {
+    fn answer(&self, alloc: Global, call: &str, case: &mut Case<'_>) -> Result<String, CaseFault> {
+        match call {
+            "served" => tables::triples(alloc, case),
+            "table" => tables::size(alloc, case),
+            "id" => tables::id(alloc, case),
+            "count" => tables::count(alloc, case),
+            "page" => fragments::page_sizes(alloc, case),
+            "generated" => generated::generated(alloc, case),
+            "generated_cut" => generated::cut(alloc, case),
+            "generated_calls" => generated::calls(alloc, case),
+            _ => Err(CaseFault::Row),
+        }
+    }
+}
+
+fn main(rt: HostRuntime) -> ExitCode {
+    run(
+        &rt,
+        &Data,
+        "names.json",
+        &["tables.jsonl", "fragments.jsonl", "generated.jsonl"],
+    )
+}

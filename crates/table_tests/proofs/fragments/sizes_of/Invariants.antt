@@ -1,4 +1,0 @@
-use Rattle.table_tests.proofs.fragments.sizes_of.Given as goal
-
-abbrev pub ghosts-sizes : goal.ghosts-sizes
-ghosts-sizes a = record { name = a.blank.name; parts = a.blank.parts }

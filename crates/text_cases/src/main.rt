@@ -1,0 +1,35 @@
+//! Cases of `rdf_terms` and `nquads_text`: terms, their order, and N-Quads text. The rows stand in `data/`.
+#![tactic(auto)]
+
+mod orders;
+mod quads;
+mod terms;
+
+use case_rows::{Answers, Case, CaseFault, run};
+use std::alloc::Global;
+use std::process::ExitCode;
+
+/// The calls that rows name.
+struct Texts;
+
+impl Answers for Texts {
+    fn answer(&self, alloc: Global, call: &str, case: &mut Case<'_>) -> Result<String, CaseFault> {
+        match call {
+            "nquads" => quads::nquads(alloc, case),
+            "feed" => quads::feed(alloc, case),
+            "term" => terms::term(alloc, case),
+            "is" => terms::is(alloc, case),
+            "lowered" => terms::lower_case(alloc, case),
+            "compare" => orders::compare(alloc, case),
+            "ascending" => orders::ascending(alloc, case),
+            "triples" => orders::triples(alloc, case),
+            "matches" => orders::matches(alloc, case),
+            "book" => orders::book(alloc, case),
+            _ => Err(CaseFault::Row),
+        }
+    }
+}
+
+fn main(rt: HostRuntime) -> ExitCode {
+    run(&rt, &Texts, "names.json", &["terms.jsonl", "nquads.jsonl"])
+}
