@@ -6,3 +6,5 @@ pub mod Extends
 pub mod Fits
 pub mod Seen
 pub mod Laws
+pub mod Merging
+pub mod Pairs

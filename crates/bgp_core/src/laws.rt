@@ -9,6 +9,7 @@ ghost use Rattle.bgp_core.specs.Queries.{HasPlacesFor};
 ghost use Rattle.bgp_core.specs.Extends.{Extends};
 ghost use Rattle.rdf_terms.specs.Triples.{IsDataSet};
 ghost use Rattle.bgp_core.specs.Laws.{ExtensionsMatch, FragmentsSuffice};
+ghost use Rattle.bgp_core.specs.Merging.{MergingIsUnion};
 ghost use Rattle.bgp_core.specs.Solutions.{extension, extended, rows_from, solutions, distinct};
 
 /// The order of the triples changes the order of the solutions alone.
@@ -46,4 +47,10 @@ pub fn data_sets_are_distinct()
 pub fn fragments_suffice()
     ensures matching { ExtensionsMatch }
     ensures rows { FragmentsSuffice }
+{}
+
+/// Two rows are compatible exactly where no name has two different terms in them, and what they merge to has for each name
+/// what either binds: SPARQL's compatible mappings and their union.
+pub fn merging_is_union()
+    ensures { MergingIsUnion }
 {}
