@@ -345,10 +345,10 @@ last_read f names ws rest (inr m) s = subst (λ (l : List Word). ReadsLast f nam
 last_stops : (ws rest : List Word) → Is (maybe (a kinds.Dot)) ws → Stops rest → Stops (ws ++ rest)
 last_stops ws rest m s = (last_read (λ q. None) [] ws rest m s).2
 
-abbrev ReadsBlock : (List ℕ → Option (List ℕ)) → List (List ℕ) → List Word → List Word → Type 0
+abbrev pub ReadsBlock : (List ℕ → Option (List ℕ)) → List (List ℕ) → List Word → List Word → Type 0
 ReadsBlock f names ws rest = (is : List Item) × (ts : List Placed) × (new : List (List ℕ)) × Block is ts × (It f names (ws ++ rest) ≡ is ++ It f new rest)
 
-block_read : (f : List ℕ → Option (List ℕ)) (names : List (List ℕ)) (ws rest : List Word) → Is block ws → Stops rest → ReadsBlock f names ws rest
+pub block_read : (f : List ℕ → Option (List ℕ)) (names : List (List ℕ)) (ws rest : List Word) → Is block ws → Stops rest → ReadsBlock f names ws rest
 block_read f names ws rest m s =
     let d = seq_split (same · many (a kinds.Dot · same)) (maybe (a kinds.Dot)) ws m in
     let e = seq_split same (many (a kinds.Dot · same)) d.0 d.2 in

@@ -141,7 +141,7 @@ part_fits names (Some n) t h = number_below names n
 part_fits names None (Some t) h = h
 part_fits names None None h = tt
 
-part_grows : (m n : ℕ) (p : Part) → m ≤ n → IsPartOf m p → IsPartOf n p
+pub part_grows : (m n : ℕ) (p : Part) → m ≤ n → IsPartOf m p → IsPartOf n p
 part_grows m n (parts.Fixed t) h f = f
 part_grows m n (parts.Name k) h f = omega arith
 

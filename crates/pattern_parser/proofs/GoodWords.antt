@@ -30,16 +30,19 @@ AllGood (w ∷ ws) = Good w.value × AllGood ws
 
 good_word : (cs : List ℕ) → Good (word_value cs)
 unfolding word_value
-good_word cs = pick (same_word (codes "prefix") cs) (same_word (codes "select") cs) (same_word (codes "where") cs) (same_word (codes "true") cs) (same_word (codes "false") cs) (bytes_eq cs (codes "a"))
+good_word cs = pick (same_word (codes "prefix") cs) (same_word (codes "select") cs) (same_word (codes "where") cs) (same_word (codes "true") cs) (same_word (codes "false") cs) (bytes_eq cs (codes "a")) (same_word (codes "distinct") cs) (same_word (codes "optional") cs) (same_word (codes "union") cs)
   where
-    pick : (p s w t f a : Bool) → Good (if p then values.PrefixWord else (if s then values.SelectWord else (if w then values.WhereWord else (if t then values.True else (if f then values.False else (if a then values.TypeWord else values.OtherWord))))))
-    pick true s w t f a = tt
-    pick false true w t f a = tt
-    pick false false true t f a = tt
-    pick false false false true f a = tt
-    pick false false false false true a = tt
-    pick false false false false false true = tt
-    pick false false false false false false = tt
+    pick : (p s w t f a d o u : Bool) → Good (if p then values.PrefixWord else (if s then values.SelectWord else (if w then values.WhereWord else (if t then values.True else (if f then values.False else (if a then values.TypeWord else (if d then values.DistinctWord else (if o then values.OptionalWord else (if u then values.UnionWord else values.OtherWord)))))))))
+    pick true s w t f a d o u = tt
+    pick false true w t f a d o u = tt
+    pick false false true t f a d o u = tt
+    pick false false false true f a d o u = tt
+    pick false false false false true a d o u = tt
+    pick false false false false false true d o u = tt
+    pick false false false false false false true o u = tt
+    pick false false false false false false false true u = tt
+    pick false false false false false false false false true = tt
+    pick false false false false false false false false false = tt
 
 good_value : (k : PieceKind) (cs : List ℕ) → IsToken k cs → Good (value_of k cs)
 unfolding value_of

@@ -11,6 +11,7 @@ pub mod Nexts
 pub mod OneQuery
 pub mod Outline
 pub mod Places
+pub mod Plains
 pub mod Produced
 pub mod Searches
 pub mod Shorts

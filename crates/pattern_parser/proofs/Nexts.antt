@@ -80,10 +80,12 @@ keeps_subject =
     (either_keeps (a kinds.Variable ∣ iri ∣ literal) (a kinds.Blank) (either_keeps (a kinds.Variable ∣ iri) literal (plain (a kinds.Variable ∣ iri) refl) keeps_literal) (plain (a kinds.Blank) refl))
     (plain (a kinds.Anonymous) refl)
 
+pub keeps_block : Keeps Nexts (maybe block)
+keeps_block = block_keeps Nexts tt nexts_both keeps_subject (plain verb refl) (plain (a kinds.Comma) refl) (plain (a kinds.Semicolon) refl) (plain (a kinds.Dot) refl)
+
 pub keeps_query : Keeps Nexts query
 unfolding query
 keeps_query =
     seq_keeps Nexts tt nexts_both (selection · a kinds.OpenBrace · maybe block) (a kinds.CloseBrace)
-    (seq_keeps Nexts tt nexts_both (selection · a kinds.OpenBrace) (maybe block) (plain (selection · a kinds.OpenBrace) refl)
-    (block_keeps Nexts tt nexts_both keeps_subject (plain verb refl) (plain (a kinds.Comma) refl) (plain (a kinds.Semicolon) refl) (plain (a kinds.Dot) refl)))
+    (seq_keeps Nexts tt nexts_both (selection · a kinds.OpenBrace) (maybe block) (plain (selection · a kinds.OpenBrace) refl) keeps_block)
     (plain (a kinds.CloseBrace) refl)

@@ -24,7 +24,7 @@ one_query text q r a b =
 
 -- ---- a text that the grammar reads has no earlier fault
 
-token_apart : (text : List ℕ) (ts : List Piece) (n : ℕ) → AreTokens (chars text) ts → IsTokenAt text n → ⊥
+pub token_apart : (text : List ℕ) (ts : List Piece) (n : ℕ) → AreTokens (chars text) ts → IsTokenAt text n → ⊥
 token_apart text ts n t f = apart (chars text) ts f.place t f.fault
 
 grammar_apart : (text : List ℕ) (ws : List Word) (n : ℕ) → Reads text ws → IsGrammarAt text n → ⊥

@@ -20,29 +20,29 @@ use Rattle.pattern_parser.proofs.Splits.{Is, seq_split, one, only, only_all}
 abbrev pub prefix_part : Regular
 prefix_part = many (a kinds.PrefixWord · a kinds.Prefix · a kinds.Iri)
 
-abbrev chosen : Regular
+abbrev pub chosen : Regular
 chosen = a kinds.Star ∣ a kinds.Variable · many (a kinds.Variable)
 
-abbrev where_word : Regular
+abbrev pub where_word : Regular
 where_word = maybe (a kinds.WhereWord)
 
 abbrev pub selection : Regular
 selection = prefix_part · a kinds.SelectWord · chosen · where_word
 
 -- none of the words passes the test
-abbrev NonePass : (Value → Bool) → List Word → Type 0
+abbrev pub NonePass : (Value → Bool) → List Word → Type 0
 NonePass test [] = Unit {0}
 NonePass test (w ∷ ws) = (test w.value ≡ false) × NonePass test ws
 
 -- the letter is another than that of this kind
-abbrev is_other : Kind → ℕ → Bool
+abbrev pub is_other : Kind → ℕ → Bool
 is_other k j = not (j == code k)
 
-select_kind : (v : Value) → is_other kinds.SelectWord (code (kind_of v)) ≡ true → is_select v ≡ false
+pub select_kind : (v : Value) → is_other kinds.SelectWord (code (kind_of v)) ≡ true → is_select v ≡ false
 select_kind values.SelectWord h = cc
 select_kind _ h = refl
 
-brace_kind : (v : Value) → is_other kinds.OpenBrace (code (kind_of v)) ≡ true → is_brace v ≡ false
+pub brace_kind : (v : Value) → is_other kinds.OpenBrace (code (kind_of v)) ≡ true → is_brace v ≡ false
 brace_kind values.OpenBrace h = cc
 brace_kind _ h = refl
 
@@ -53,10 +53,10 @@ none_pass test k f (w ∷ ws) h =
     (f w.value p.0, none_pass test k f ws p.1)
 
 -- none of the words passes, where their expression has no letter of the kind
-none_of : (test : Value → Bool) (k : Kind) → ((v : Value) → is_other k (code (kind_of v)) ≡ true → test v ≡ false) → (r : Regular) → only (is_other k) r ≡ true → (ws : List Word) → Is r ws → NonePass test ws
+pub none_of : (test : Value → Bool) (k : Kind) → ((v : Value) → is_other k (code (kind_of v)) ≡ true → test v ≡ false) → (r : Regular) → only (is_other k) r ≡ true → (ws : List Word) → Is r ws → NonePass test ws
 none_of test k f r o ws m = none_pass test k f ws (only_all (is_other k) r o (codes (kinds_of ws)) m)
 
-both_none : (test : Value → Bool) (xs ys : List Word) → NonePass test xs → NonePass test ys → NonePass test (xs ++ ys)
+pub both_none : (test : Value → Bool) (xs ys : List Word) → NonePass test xs → NonePass test ys → NonePass test (xs ++ ys)
 both_none test [] ys a b = b
 both_none test (x ∷ xs) ys a b = (a.0, both_none test xs ys a.1 b)
 
@@ -77,16 +77,16 @@ pub record Outline (ws : List Word) : Type 0 where
   pub close_is : kind_of close.value ≡ kinds.CloseBrace
   pub whole : ws ≡ front ++ select ∷ (names ++ brace ∷ (inner ++ close ∷ []))
 
-is_select-kind : (v : Value) → kind_of v ≡ kinds.SelectWord → is_select v ≡ true
+pub is_select-kind : (v : Value) → kind_of v ≡ kinds.SelectWord → is_select v ≡ true
 is_select-kind values.SelectWord e = refl
 is_select-kind _ e = cc
 
-is_brace-kind : (v : Value) → kind_of v ≡ kinds.OpenBrace → is_brace v ≡ true
+pub is_brace-kind : (v : Value) → kind_of v ≡ kinds.OpenBrace → is_brace v ≡ true
 is_brace-kind values.OpenBrace e = refl
 is_brace-kind _ e = cc
 
 -- the words from the first that passes on
-back : (test : Value → Bool) (xs : List Word) (w : Word) (ys : List Word) → NonePass test xs → test w.value ≡ true → drop (before test (xs ++ w ∷ ys)) (xs ++ w ∷ ys) ≡ w ∷ ys
+pub back : (test : Value → Bool) (xs : List Word) (w : Word) (ys : List Word) → NonePass test xs → test w.value ≡ true → drop (before test (xs ++ w ∷ ys)) (xs ++ w ∷ ys) ≡ w ∷ ys
 back test [] w ys h e = ap (λ (b : Bool). drop (if b then 0 else suc (before test ys)) (w ∷ ys)) e
 back test (x ∷ xs) w ys h e =
     ap (λ (b : Bool). drop (if b then 0 else suc (before test (xs ++ w ∷ ys))) (x ∷ (xs ++ w ∷ ys))) h.0 ∙ back test xs w ys h.1 e
@@ -135,7 +135,7 @@ body_is ws l =
     let tail = l.names ++ l.brace ∷ (l.inner ++ l.close ∷ []) in
     ap body l.whole ∙ back is_select l.front l.select tail l.front_select (is_select-kind l.select.value l.select_is)
 
-select_no_brace : (v : Value) → kind_of v ≡ kinds.SelectWord → is_brace v ≡ false
+pub select_no_brace : (v : Value) → kind_of v ≡ kinds.SelectWord → is_brace v ≡ false
 select_no_brace values.OpenBrace e = cc
 select_no_brace _ e = refl
 

@@ -150,16 +150,19 @@ total (w ∷ ws) = weight w.value + total ws
 
 word_short : (cs : List ℕ) → weight (word_value cs) ≡ 0
 unfolding word_value
-word_short cs = pick (same_word (codes "prefix") cs) (same_word (codes "select") cs) (same_word (codes "where") cs) (same_word (codes "true") cs) (same_word (codes "false") cs) (bytes_eq cs (codes "a"))
+word_short cs = pick (same_word (codes "prefix") cs) (same_word (codes "select") cs) (same_word (codes "where") cs) (same_word (codes "true") cs) (same_word (codes "false") cs) (bytes_eq cs (codes "a")) (same_word (codes "distinct") cs) (same_word (codes "optional") cs) (same_word (codes "union") cs)
   where
-    pick : (p s w t f a : Bool) → weight (if p then values.PrefixWord else (if s then values.SelectWord else (if w then values.WhereWord else (if t then values.True else (if f then values.False else (if a then values.TypeWord else values.OtherWord)))))) ≡ 0
-    pick true s w t f a = refl
-    pick false true w t f a = refl
-    pick false false true t f a = refl
-    pick false false false true f a = refl
-    pick false false false false true a = refl
-    pick false false false false false true = refl
-    pick false false false false false false = refl
+    pick : (p s w t f a d o u : Bool) → weight (if p then values.PrefixWord else (if s then values.SelectWord else (if w then values.WhereWord else (if t then values.True else (if f then values.False else (if a then values.TypeWord else (if d then values.DistinctWord else (if o then values.OptionalWord else (if u then values.UnionWord else values.OtherWord))))))))) ≡ 0
+    pick true s w t f a d o u = refl
+    pick false true w t f a d o u = refl
+    pick false false true t f a d o u = refl
+    pick false false false true f a d o u = refl
+    pick false false false false true a d o u = refl
+    pick false false false false false true d o u = refl
+    pick false false false false false false true o u = refl
+    pick false false false false false false false true u = refl
+    pick false false false false false false false false true = refl
+    pick false false false false false false false false false = refl
 
 value_short : (k : PieceKind) (cs : List ℕ) → weight (value_of k cs) ≤ bytes cs
 unfolding value_of

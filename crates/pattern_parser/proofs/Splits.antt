@@ -72,7 +72,7 @@ many_split r ws m = each ws m.0 m.1 m.2
 
 -- the kind of a letter
 kind_at : ℕ → Kind
-kind_at n = if n == 0 then kinds.Iri else (if n == 1 then kinds.Prefix else (if n == 2 then kinds.Prefixed else (if n == 3 then kinds.Variable else (if n == 4 then kinds.Blank else (if n == 5 then kinds.Anonymous else (if n == 6 then kinds.Str else (if n == 7 then kinds.Tag else (if n == 8 then kinds.Number else (if n == 9 then kinds.PrefixWord else (if n == 10 then kinds.SelectWord else (if n == 11 then kinds.WhereWord else (if n == 12 then kinds.TrueWord else (if n == 13 then kinds.FalseWord else (if n == 14 then kinds.TypeWord else (if n == 15 then kinds.OtherWord else (if n == 16 then kinds.OpenBrace else (if n == 17 then kinds.CloseBrace else (if n == 18 then kinds.Dot else (if n == 19 then kinds.Semicolon else (if n == 20 then kinds.Comma else (if n == 21 then kinds.Star else kinds.Carets)))))))))))))))))))))
+kind_at n = if n == 0 then kinds.Iri else (if n == 1 then kinds.Prefix else (if n == 2 then kinds.Prefixed else (if n == 3 then kinds.Variable else (if n == 4 then kinds.Blank else (if n == 5 then kinds.Anonymous else (if n == 6 then kinds.Str else (if n == 7 then kinds.Tag else (if n == 8 then kinds.Number else (if n == 9 then kinds.PrefixWord else (if n == 10 then kinds.SelectWord else (if n == 11 then kinds.WhereWord else (if n == 12 then kinds.TrueWord else (if n == 13 then kinds.FalseWord else (if n == 14 then kinds.TypeWord else (if n == 15 then kinds.OtherWord else (if n == 16 then kinds.OpenBrace else (if n == 17 then kinds.CloseBrace else (if n == 18 then kinds.Dot else (if n == 19 then kinds.Semicolon else (if n == 20 then kinds.Comma else (if n == 21 then kinds.Star else (if n == 22 then kinds.Carets else (if n == 23 then kinds.DistinctWord else (if n == 24 then kinds.OptionalWord else kinds.UnionWord))))))))))))))))))))))))
 
 kind_back : (k : Kind) → kind_at (code k) ≡ k
 unfolding kind_at
@@ -99,6 +99,9 @@ kind_back kinds.Semicolon = refl
 kind_back kinds.Comma = refl
 kind_back kinds.Star = refl
 kind_back kinds.Carets = refl
+kind_back kinds.DistinctWord = refl
+kind_back kinds.OptionalWord = refl
+kind_back kinds.UnionWord = refl
 
 same_kind : (j k : Kind) → code j ≡ code k → j ≡ k
 same_kind j k e = sym (kind_back j) ∙ ap kind_at e ∙ kind_back k

@@ -2,6 +2,7 @@ pub mod Items
 pub mod Limits
 pub mod Names
 pub mod Numbers
+pub mod Plains
 pub mod Prefixes
 pub mod Queries
 pub mod Tokens

@@ -1,5 +1,5 @@
 -- Where a block has one triple pattern too many, by its tokens alone. It serves the reader and the proofs alone.
-use Rattle.std.specs.Prelude.{ℕ, ◌-◌, ◌==◌, Bool, true, false, ◌&&◌, List, [], ◌∷◌, Option, Some, None, if◌then◌else◌, zero, suc}
+use Rattle.std.specs.Prelude.{ℕ, ◌≡◌, ◌+◌, ◌-◌, ◌==◌, length, slice_get, option_map, Bool, true, false, ◌&&◌, List, [], ◌∷◌, Some, if◌then◌else◌, zero, suc}
 use Rattle.query_words.specs.declared.word.Value.{Value}
 use Rattle.query_words.specs.declared.word.Value.TheVariants as values
 use Rattle.query_words.specs.declared.word.Word.{Word}
@@ -7,6 +7,9 @@ use Rattle.pattern_parser.specs.declared.limit.Next.{Next}
 use Rattle.pattern_parser.specs.declared.limit.Next.TheVariants.{Subject, Verb, Object}
 use Rattle.pattern_parser.specs.declared.limit.Role.{Role}
 use Rattle.pattern_parser.specs.declared.limit.Role.TheVariants.{Part, Dot, Semicolon, Other}
+use Rattle.pattern_parser.specs.declared.limit.PatternCount.{PatternCount}
+use Rattle.pattern_parser.specs.declared.limit.PatternCount.TheVariants.{Over, Left}
+use Rattle.pattern_parser.specs.declared.triple.Placed.{Placed}
 use Rattle.pattern_parser.specs.Items.{more}
 
 -- what a token is in a block
@@ -42,8 +45,13 @@ abbrev pub is_object : Next → Role → Bool
 is_object Object Part = true
 is_object n r = false
 
--- the place of the object that completes one pattern too many, where so many more may come, and so many tokens belong to one before
-abbrev pub excess_after : Next → ℕ → ℕ → List Word → Option ℕ
-excess_after next left skip [] = None
-excess_after next left (suc n) (w ∷ ws) = excess_after next left n ws
-excess_after next left zero (w ∷ ws) = if is_object next (role_of w.value) && (left == 0) then Some w.at else excess_after (next_after next (role_of w.value)) (if is_object next (role_of w.value) then left - 1 else left) (more w.value ws) ws
+-- what a walk over a block counts, where so many more patterns may come, and so many tokens belong to one before
+abbrev pub count_after : Next → ℕ → ℕ → List Word → PatternCount
+count_after next left skip [] = Left left
+count_after next left (suc n) (w ∷ ws) = count_after next left n ws
+count_after next left zero (w ∷ ws) = if is_object next (role_of w.value) && (left == 0) then Over w.at else count_after (next_after next (role_of w.value)) (if is_object next (role_of w.value) then left - 1 else left) (more w.value ws) ws
+
+-- Of these patterns, of which there may be so many, the one too many has its object at this place, or so many more may come.
+abbrev pub Counts : ℕ → List Placed → PatternCount → Type 0
+Counts most ts (Over at) = option_map (λ p. p.at) (slice_get ts most) ≡ Some at
+Counts most ts (Left more) = length ts + more ≡ most

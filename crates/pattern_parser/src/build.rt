@@ -50,7 +50,7 @@ pub fn check_terms(prefixes: &Prefixes, words: &[Word], body: &[Word]) -> Result
 }
 
 /// The numbers of the variables in some tokens, whose names join those given.
-fn listed(alloc: Global, names: &mut Names, words: &[Word]) -> Result<Vec<u32>, OutOfMemory>
+pub fn listed(alloc: Global, names: &mut Names, words: &[Word]) -> Result<Vec<u32>, OutOfMemory>
     requires numbered { AreNumbered names.old }
     requires few { length names.old.texts.items + length words.now < 2 ^ 32 - 1 }
     ensures numbers { IfOk result (λ v. v.items ≡ variable_numbers 0 names.new.texts.items) }
@@ -73,6 +73,7 @@ fn triples_in(
     requires few { length names.old.texts.items + length words.now < 2 ^ 32 - 1 }
     ensures triples { IfOk result (λ v. v.items ≡ triples_after None None (items_after (λ q. get_by_text prefixes.now q) names.old.texts.items 0 words.now)) }
     ensures names { OnOk result (names.new.texts.items ≡ names_after names.old.texts.items 0 words.now) }
+    ensures numbered { OnOk result (AreNumbered names.new) }
     ensures few { OnOk result (length names.new.texts.items ≤ length names.old.texts.items + length words.now) }
 {
     let items = items_of(alloc, prefixes, names, words)?;
@@ -90,8 +91,27 @@ fn patterns(alloc: Global, triples: Vec<Placed>) -> Result<Vec<Pattern>, OutOfMe
     Ok(patterns)
 }
 
+/// The patterns of a block of tokens, whose names join those given. `OutOfMemory` comes only where memory
+/// runs out.
+pub fn block_patterns(
+    alloc: Global,
+    prefixes: &Prefixes,
+    names: &mut Names,
+    words: &[Word],
+) -> Result<Vec<Pattern>, OutOfMemory>
+    requires numbered { AreNumbered names.old }
+    requires few { length names.old.texts.items + length words.now < 2 ^ 32 - 1 }
+    ensures patterns { IfOk result (λ v. v.items ≡ map (λ p. p.pattern) (triples_after None None (items_after (λ q. get_by_text prefixes.now q) names.old.texts.items 0 words.now))) }
+    ensures names { OnOk result (names.new.texts.items ≡ names_after names.old.texts.items 0 words.now) }
+    ensures numbered { OnOk result (AreNumbered names.new) }
+    ensures few { OnOk result (length names.new.texts.items ≤ length names.old.texts.items + length words.now) }
+{
+    let triples = triples_in(alloc, prefixes, names, words)?;
+    patterns(alloc, triples)
+}
+
 /// The selected numbers: those of all names where `*` stands, or else those listed.
-fn chosen(
+pub fn chosen(
     alloc: Global,
     star: bool,
     listed: Vec<u32>,

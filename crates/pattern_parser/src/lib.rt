@@ -23,7 +23,15 @@ mod select;
 mod token;
 mod triple;
 
+pub use build::{block_patterns, check_terms, chosen, listed};
 pub use fault::{QueryFault, QueryWhy};
-pub use reading::{one_query, parse, read_as_produced, terms_are_short, terms_as_written};
+pub use limit::{PatternCount, count_patterns};
+pub use names::Names;
+pub use prefixes::{Prefixes, prefixes_of};
+pub use reading::{
+    one_query, parse, place_or, query_of_words, read_as_produced, terms_are_short,
+    terms_as_written, token_words,
+};
+pub use select::{before_brace, before_select, has_star, is_plain};
 pub use token::{Token, TokenKind, tokens};
 pub use triple::as_produced;

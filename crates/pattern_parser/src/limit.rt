@@ -3,7 +3,7 @@
 // would take memory that grows with the square of the text.
 ghost use Rattle.std.specs.Prelude.{◌≡◌, ◌∷◌, ℕ, List, Option, None, IsTrue, IsFalse, Some};
 ghost use Rattle.pattern_parser.specs.Items.{items_after};
-ghost use Rattle.pattern_parser.specs.Limits.{role_of, next_after, is_object, excess_after};
+ghost use Rattle.pattern_parser.specs.Limits.{role_of, next_after, is_object, count_after, Counts};
 ghost use Rattle.pattern_parser.specs.Queries.{excess};
 ghost use Rattle.pattern_parser.specs.Triples.{triples_after};
 
@@ -84,8 +84,8 @@ impl Walk {
     /// Takes one more token with those after it, and says whether it is the object that completes
     /// one pattern too many.
     fn take(&mut self, word: &Word, rest: &[Word]) -> bool
-        ensures over { IsTrue result → excess_after self.old.next self.old.left self.old.skip (word.now ∷ rest.now) ≡ Some word.now.at }
-        ensures within { IsFalse result → excess_after self.new.next self.new.left self.new.skip rest.now ≡ excess_after self.old.next self.old.left self.old.skip (word.now ∷ rest.now) }
+        ensures over { IsTrue result → count_after self.old.next self.old.left self.old.skip (word.now ∷ rest.now) ≡ PatternCount.Over word.now.at }
+        ensures within { IsFalse result → count_after self.new.next self.new.left self.new.skip rest.now ≡ count_after self.old.next self.old.left self.old.skip (word.now ∷ rest.now) }
     {
         if self.skip > 0 {
             self.skip -= 1;
@@ -104,21 +104,36 @@ impl Walk {
     }
 }
 
-/// The place at which a walk over a block's tokens ends, if it ends before them.
-fn walked(words: &[Word]) -> Option<usize>
-    ensures { result ≡ excess_after Next.Subject 64 0 words.now }
+/// What a block leaves of a number of patterns: the place of the object that completes one too many, or
+/// how many more there may be.
+#[derive(Clone, Copy, Debug, PartialEq, Eq)]
+pub enum PatternCount {
+    Over(usize),
+    Left(usize),
+}
+
+fn walked(left: usize, words: &[Word]) -> PatternCount
+    ensures { result ≡ count_after Next.Subject left 0 words.now }
 {
     let mut walk = Walk {
         next: Next::Subject,
-        left: 64,
+        left,
         skip: 0,
     };
     for (i, word) in words.iter().enumerate() {
         if walk.take(word, &words[i + 1..]) {
-            return Some(word.at);
+            return PatternCount::Over(word.at);
         }
     }
-    None
+    PatternCount::Left(walk.left)
+}
+
+/// Counts the patterns of a block of tokens, of which there may be so many, whatever its prefixes stand
+/// for.
+pub fn count_patterns(left: usize, words: &[Word]) -> PatternCount
+    ensures { (iri : List ℕ → Option (List ℕ)) (names : List (List ℕ)) → Counts left (triples_after None None (items_after iri names 0 words.now)) result }
+{
+    walked(left, words)
 }
 
 /// The place of the object that completes the 65th pattern of a block, if there is one, whatever
@@ -126,5 +141,8 @@ fn walked(words: &[Word]) -> Option<usize>
 pub fn excess_in(words: &[Word]) -> Option<usize>
     ensures { (iri : List ℕ → Option (List ℕ)) (names : List (List ℕ)) → result ≡ excess (triples_after None None (items_after iri names 0 words.now)) }
 {
-    walked(words)
+    match count_patterns(64, words) {
+        PatternCount::Over(at) => Some(at),
+        PatternCount::Left(_) => None,
+    }
 }

@@ -21,7 +21,7 @@ use query_words::word::{Word, kinds_of, words_of};
 use std::alloc::Global;
 
 /// What the tokens of a text say.
-fn token_words(alloc: Global, text: &[u8]) -> Result<Vec<Word>, QueryFault>
+pub fn token_words(alloc: Global, text: &[u8]) -> Result<Vec<Word>, QueryFault>
     ensures words { IfOk result (λ v. ReadsTokens text.now v.items) }
     ensures few { IfOk result (λ v. length v.items ≤ 262144) }
     ensures bad { (w : QueryWhy) (at : ℕ) → IsErrOf result (QueryFault.Bad at w) → IsTokenFaultAt text.now w at }
@@ -32,7 +32,7 @@ fn token_words(alloc: Global, text: &[u8]) -> Result<Vec<Word>, QueryFault>
 }
 
 /// The place of the token with this number, or the end.
-fn place_or(words: &[Word], number: usize, end: usize) -> usize
+pub fn place_or(words: &[Word], number: usize, end: usize) -> usize
     ensures { result ≡ place_or words.now number end }
 {
     match words.get(number) {
@@ -74,7 +74,7 @@ fn query_with(
 }
 
 /// The query of tokens that the grammar reads, or the first fault of what they say.
-fn query_of(alloc: Global, words: &[Word]) -> Result<Query, QueryFault>
+pub fn query_of_words(alloc: Global, words: &[Word]) -> Result<Query, QueryFault>
     requires { length words.now ≤ 262144 }
     ensures fine { OnOk result (later_fault words.now ≡ None) }
     ensures query { IfOk result (λ q. q ≡ query_of (prefixes words.now) (body words.now)) }
@@ -94,7 +94,7 @@ pub fn parse(alloc: Global, text: &[u8]) -> Result<Query, QueryFault>
 {
     let words = token_words(alloc, text)?;
     check_grammar(alloc, words.as_slice(), text.len())?;
-    query_of(alloc, words.as_slice())
+    query_of_words(alloc, words.as_slice())
 }
 
 /// A text is exactly one of the two: one query, or a text with one first fault, which has a kind

@@ -1,6 +1,9 @@
 // Where the parts of a query begin, and which names are selected.
-ghost use Rattle.std.specs.Prelude.{◌≡◌, ◌<◌, ◌≤◌, ◌^◌, ℕ, length, IfOk};
+ghost use Rattle.std.specs.Prelude.{◌≡◌, ◌<◌, ◌≤◌, ◌^◌, ℕ, length, IfOk, IsTrue, IsFalse};
+ghost use Rattle.query_grammar.specs.Groups.{ArePlain};
+ghost use Rattle.query_words.specs.Words.{kinds_of};
 ghost use Rattle.pattern_parser.specs.Names.{is_blank_name, variable_numbers};
+ghost use Rattle.pattern_parser.specs.Plains.{braces_after, plain_from};
 ghost use Rattle.pattern_parser.specs.Prefixes.{before};
 ghost use Rattle.pattern_parser.specs.Queries.{is_select, is_brace, is_star, has_star};
 
@@ -76,4 +79,37 @@ pub fn variable_numbers(alloc: Global, names: &[Text]) -> Result<Vec<u32>, OutOf
         }
     }
     Ok(numbers)
+}
+
+/// How many more opening braces there may be behind a token; nothing where it may not stand.
+fn braces_after(most: usize, value: &Value) -> Option<usize>
+    ensures { result ≡ braces_after most value.now }
+{
+    match value {
+        Value::DistinctWord | Value::OptionalWord | Value::UnionWord => None,
+        Value::OpenBrace => { if most > 0 { Some(most - 1) } else { None } }
+        _ => Some(most),
+    }
+}
+
+fn plain_from(most: usize, words: &[Word]) -> bool
+    ensures { result ≡ plain_from most words.now }
+{
+    let mut left = most;
+    for word in words {
+        match braces_after(left, &word.value) {
+            Some(more) => left = more,
+            None => return false,
+        }
+    }
+    true
+}
+
+/// Whether tokens hold none of DISTINCT, OPTIONAL and UNION and at most one opening brace, as those of a
+/// query without groups do.
+pub fn is_plain(words: &[Word]) -> bool
+    ensures yes { IsTrue result → ArePlain 1 (kinds_of words.now) }
+    ensures no { IsFalse result → ArePlain 1 (kinds_of words.now) → ⊥ }
+{
+    plain_from(1, words)
 }

@@ -3,7 +3,7 @@ use Rattle.std.specs.Prelude.{[], ◌∷◌, ℕ, ◌≡◌, ◌⊎◌, ◌+◌,
 use Rattle.regular_expressions.specs.Regular.{Regular, one_of, many, Matches, Begins}
 use Rattle.regular_expressions.specs.Combinators.{◌·◌, ◌∣◌, maybe}
 use Rattle.query_grammar.specs.declared.kind.Kind.{Kind}
-use Rattle.query_grammar.specs.declared.kind.Kind.TheVariants.{Iri, Prefix, Prefixed, Variable, Blank, Anonymous, Str, Tag, Number, PrefixWord, SelectWord, WhereWord, TrueWord, FalseWord, TypeWord, OtherWord, OpenBrace, CloseBrace, Dot, Semicolon, Comma, Star, Carets}
+use Rattle.query_grammar.specs.declared.kind.Kind.TheVariants.{Iri, Prefix, Prefixed, Variable, Blank, Anonymous, Str, Tag, Number, PrefixWord, SelectWord, WhereWord, TrueWord, FalseWord, TypeWord, DistinctWord, OptionalWord, UnionWord, OtherWord, OpenBrace, CloseBrace, Dot, Semicolon, Comma, Star, Carets}
 
 -- the letter of a kind
 abbrev pub code : Kind → ℕ
@@ -30,6 +30,9 @@ code Semicolon = 19
 code Comma = 20
 code Star = 21
 code Carets = 22
+code DistinctWord = 23
+code OptionalWord = 24
+code UnionWord = 25
 
 -- one token of a kind
 abbrev pub a : Kind → Regular

@@ -1,2 +1,4 @@
 pub mod Grammar
 pub mod Steps
+pub mod Groups
+pub mod GroupSteps

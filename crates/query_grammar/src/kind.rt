@@ -33,6 +33,12 @@ pub enum Kind {
     FalseWord,
     /// `a`, in lower case.
     TypeWord,
+    /// `DISTINCT`, in any case. It stands in no query without groups.
+    DistinctWord,
+    /// `OPTIONAL`, in any case, likewise.
+    OptionalWord,
+    /// `UNION`, in any case, likewise.
+    UnionWord,
     /// Any other word, which stands in no query here.
     OtherWord,
     /// `{`

@@ -16,5 +16,7 @@
 #![tactic(auto)]
 
 pub mod grammar;
+mod group_machine;
+pub mod groups;
 pub mod kind;
 mod machine;

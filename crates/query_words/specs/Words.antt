@@ -11,9 +11,9 @@ use Rattle.query_words.specs.declared.word.Value.TheVariants as values
 use Rattle.query_words.specs.declared.word.Word.{Word}
 use Rattle.query_words.specs.Texts.{same_word, resolved_text, prefix_text, local_text}
 
--- PREFIX, SELECT, WHERE, true and false in any case, and `a` in lower case alone
+-- PREFIX, SELECT, WHERE, true, false, DISTINCT, OPTIONAL and UNION in any case, and `a` in lower case alone
 unfoldable pub word_value : List ℕ → Value
-word_value cs = if same_word (codes "prefix") cs then values.PrefixWord else (if same_word (codes "select") cs then values.SelectWord else (if same_word (codes "where") cs then values.WhereWord else (if same_word (codes "true") cs then values.True else (if same_word (codes "false") cs then values.False else (if bytes_eq cs (codes "a") then values.TypeWord else values.OtherWord)))))
+word_value cs = if same_word (codes "prefix") cs then values.PrefixWord else (if same_word (codes "select") cs then values.SelectWord else (if same_word (codes "where") cs then values.WhereWord else (if same_word (codes "true") cs then values.True else (if same_word (codes "false") cs then values.False else (if bytes_eq cs (codes "a") then values.TypeWord else (if same_word (codes "distinct") cs then values.DistinctWord else (if same_word (codes "optional") cs then values.OptionalWord else (if same_word (codes "union") cs then values.UnionWord else values.OtherWord))))))))
 
 -- what a token of a kind says, by its characters
 unfoldable pub value_of : PieceKind → List ℕ → Value
@@ -66,6 +66,9 @@ kind_of values.WhereWord = kinds.WhereWord
 kind_of values.True = kinds.TrueWord
 kind_of values.False = kinds.FalseWord
 kind_of values.TypeWord = kinds.TypeWord
+kind_of values.DistinctWord = kinds.DistinctWord
+kind_of values.OptionalWord = kinds.OptionalWord
+kind_of values.UnionWord = kinds.UnionWord
 kind_of values.OtherWord = kinds.OtherWord
 kind_of values.OpenBrace = kinds.OpenBrace
 kind_of values.CloseBrace = kinds.CloseBrace

@@ -50,6 +50,12 @@ pub enum Value {
     False,
     /// The word `a`, in lower case.
     TypeWord,
+    /// `DISTINCT`, in any case.
+    DistinctWord,
+    /// `OPTIONAL`, in any case.
+    OptionalWord,
+    /// `UNION`, in any case.
+    UnionWord,
     /// Any other word.
     OtherWord,
     OpenBrace,
@@ -84,6 +90,12 @@ fn word_value(chars: &[char]) -> Value
         Value::False
     } else if is_a(chars) {
         Value::TypeWord
+    } else if same_word(b"distinct".as_slice(), chars) {
+        Value::DistinctWord
+    } else if same_word(b"optional".as_slice(), chars) {
+        Value::OptionalWord
+    } else if same_word(b"union".as_slice(), chars) {
+        Value::UnionWord
     } else {
         Value::OtherWord
     }
@@ -167,6 +179,9 @@ fn kind_of(value: &Value) -> Kind
         Value::True => Kind::TrueWord,
         Value::False => Kind::FalseWord,
         Value::TypeWord => Kind::TypeWord,
+        Value::DistinctWord => Kind::DistinctWord,
+        Value::OptionalWord => Kind::OptionalWord,
+        Value::UnionWord => Kind::UnionWord,
         Value::OtherWord => Kind::OtherWord,
         Value::OpenBrace => Kind::OpenBrace,
         Value::CloseBrace => Kind::CloseBrace,
