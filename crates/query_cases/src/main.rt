@@ -1,6 +1,7 @@
-//! Cases of queries: their tokens, words, grammar and patterns. The rows stand in `data/`.
+//! Cases of queries: their tokens, words, grammar, patterns and groups. The rows stand in `data/`.
 #![tactic(auto)]
 
+mod groups;
 mod queries;
 mod words;
 
@@ -19,6 +20,9 @@ impl Answers for Readers {
             "pieces" => words::piece_places(alloc, case),
             "words" => words::words(alloc, case),
             "grammar" => words::grammar(alloc, case),
+            "group_grammar" => words::group_grammar(alloc, case),
+            "group" => groups::group(alloc, case),
+            "asked" => groups::asked(alloc, case),
             "word_text" => words::word_text(alloc, case),
             _ => Err(CaseFault::Row),
         }
@@ -30,6 +34,6 @@ fn main(rt: HostRuntime) -> ExitCode {
         &rt,
         &Readers,
         "names.json",
-        &["words.jsonl", "queries.jsonl"],
+        &["words.jsonl", "queries.jsonl", "groups.jsonl"],
     )
 }

@@ -41,7 +41,8 @@ fn push_part(alloc: Global, part: &Part, out: &mut Vec<u8>) -> Result<(), CaseFa
     Ok(())
 }
 
-fn push_pattern(alloc: Global, pattern: &Pattern, out: &mut Vec<u8>) -> Result<(), CaseFault> {
+/// Appends a pattern, with a semicolon behind it.
+pub fn push_pattern(alloc: Global, pattern: &Pattern, out: &mut Vec<u8>) -> Result<(), CaseFault> {
     push_part(alloc, &pattern.subject, out)?;
     out.push(b' ')?;
     push_part(alloc, &pattern.predicate, out)?;
@@ -50,20 +51,25 @@ fn push_pattern(alloc: Global, pattern: &Pattern, out: &mut Vec<u8>) -> Result<(
     Ok(out.push(b';')?)
 }
 
+/// The text of some bytes.
+pub fn text_from(bytes: Vec<u8>) -> Result<String, CaseFault> {
+    match String::from_utf8(bytes) {
+        Ok(text) => Ok(text),
+        Err(_) => Err(CaseFault::Row),
+    }
+}
+
 /// The patterns of a query, with a semicolon behind each.
 fn patterns_text(alloc: Global, query: &Query) -> Result<String, CaseFault> {
     let mut out = Vec::new(alloc);
     for pattern in query.patterns() {
         push_pattern(alloc, pattern, &mut out)?;
     }
-    match String::from_utf8(out) {
-        Ok(text) => Ok(text),
-        Err(_) => Err(CaseFault::Row),
-    }
+    text_from(out)
 }
 
 /// The numbers of the names that a query selects.
-fn selected_text(alloc: Global, query: &Query) -> Result<String, CaseFault> {
+pub fn selected_text(alloc: Global, query: &Query) -> Result<String, CaseFault> {
     let mut out = String::new(alloc);
     for number in query.selected() {
         out.push_str(number.to_string(alloc)?.as_str())?;

@@ -1,6 +1,7 @@
 // Tokens, what they say, and the grammar over their kinds.
 ghost use Rattle.std.specs.Prelude.{◌≤◌, length, IfOk};
 
+use crate::groups::grammar_text;
 use case_rows::{Case, CaseFault};
 use query_grammar::grammar::grammar_fault;
 use query_grammar::kind::Kind;
@@ -157,4 +158,10 @@ pub fn word_text(alloc: Global, case: &mut Case<'_>) -> Result<String, CaseFault
         "a" => Ok(format!(in alloc; "{}", is_a(chars))?),
         _ => Err(CaseFault::Row),
     }
+}
+
+/// `text`: the number of the first word with which the words of a text begin no query with groups, or `none`.
+pub fn group_grammar(alloc: Global, case: &mut Case<'_>) -> Result<String, CaseFault> {
+    let (_, kinds) = words_and_kinds(alloc, case)?;
+    grammar_text(alloc, kinds.as_slice())
 }

@@ -1,0 +1,17 @@
+//! The first fault of the text of a query with groups.
+//!
+//! `group_words` reads the tokens of a text that the grammar of groups reads, and `check_groups` finds the
+//! first fault of what they say. A text may nest groups as deep as it likes: neither recurses.
+#![tactic(auto)]
+
+mod checks;
+mod fault;
+mod limits;
+mod shared;
+mod sign;
+mod tokens;
+
+pub use checks::check_groups;
+pub use fault::{GroupFault, GroupWhy, as_group_fault};
+pub use sign::{Sign, is_other, sign_of};
+pub use tokens::group_words;

@@ -1,0 +1,10 @@
+pub mod States
+pub mod Walked
+pub mod Made
+pub mod Outline
+pub mod Fits
+pub mod Texts
+pub mod Plain
+pub mod Tokens
+pub mod Building
+pub mod Asking

@@ -1,0 +1,5 @@
+use Rattle.group_query.proofs.Trees.{tree_back, is_postfix}
+use Rattle.group_query.proofs.step.steps_are_trees.Goals as goal
+
+pub returns : goal.returns
+returns c = record { tree = tree_back; postfix = is_postfix }

@@ -1,0 +1,11 @@
+//! Queries with groups: blocks of triple patterns, UNION, OPTIONAL and DISTINCT.
+//!
+//! A group is a tree of blocks (SPARQL 1.1, sections 5.2 and 18.2). It is held as the list of its steps in
+//! postfix order, so that it is dropped and evaluated by loops, however deep it is; contracts see the tree.
+#![tactic(auto)]
+
+mod query;
+mod step;
+
+pub use query::GroupQuery;
+pub use step::{Patterns, Step, steps_are_trees};
