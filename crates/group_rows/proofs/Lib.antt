@@ -1,0 +1,5 @@
+pub mod Widths
+pub mod Steps
+pub mod Sufficing
+pub mod Selections
+pub mod Groups

@@ -1,0 +1,10 @@
+use Rattle.std.proofs.Common.{◌≡◌, [], sym, ◌∙◌}
+use Rattle.std.proofs.lemmas.List.{nil_from_length}
+use Rattle.std.specs.Vec.Iter.{into_iter_items}
+use Rattle.row_algebra.proofs.Onces.{flagged_all}
+use Rattle.row_algebra.proofs.distinct.flagged.Goals as goal
+
+pub returns : goal.returns
+returns c =
+    let none : into_iter_items c.loop-row.row-iterator ≡ [] = nil_from_length (into_iter_items c.loop-row.row-iterator) (sym c.loop-row.row-iterator.rest.ok.0 ∙ c.in-None.ensures.steps.0) in
+    flagged_all _ _ _ _ c.loop-row.invariant none

@@ -1,0 +1,2 @@
+pub mod Algebra
+pub mod Finding
