@@ -19,6 +19,8 @@ pub mod Took
 pub mod Starts
 pub mod Keeping
 pub mod Small
+pub mod Sets
+pub mod Rounded
 pub mod Evaluating
 pub mod Bindings
 pub mod Choices

@@ -11,8 +11,8 @@ use Rattle.bgp_core.specs.declared.pattern.Pattern.{Pattern}
 use Rattle.bgp_core.specs.Solutions.{Places, extension, rows_from, solutions}
 use Rattle.bgp_core.specs.Instances.{instance}
 use Rattle.bgp_core.proofs.Patterns.{same, flat_map-same, flat_map-both}
-use Rattle.join_core.specs.Worlds.{World, IsWorld}
-use Rattle.join_core.specs.Nodes.{rows_over, future, left, Plans, plans_over, plan, plan_for, asking_plan, chosen_plan, least, counts, all_askable, fresh, rows_out, nodes_in, put_out, opened, pages_after, first_addresses}
+use Rattle.join_core.specs.Worlds.{World, IsWorld, items_after}
+use Rattle.join_core.specs.Nodes.{rows_over, future, left, Plans, plans_over, round_plan, plan_for, asking_plan, chosen_plan, least, counts, all_askable, fresh, rows_out, nodes_in, put_out, opened, rounds_after, first_rounds}
 use Rattle.join_core.proofs.Unaskable.{unaskable-owed, unaskable-left}
 
 pub flat_map-flat_map : {X Y A : Type 0} (f : X → List Y) (g : Y → List A) (xs : List X) → flat_map g (flat_map f xs) ≡ flat_map (λ x. flat_map g (f x)) xs
@@ -47,7 +47,7 @@ least-below n (m ∷ ns) = below_if (list_all (λ k. nat_le n k) (m ∷ ns)) (le
   below_if false i j h = omega arith
 
 pub least-counts : (w : World) (row : Places) (p : Pattern) (ps : List Pattern) → least (counts w row (p ∷ ps)) < suc (length ps)
-least-counts w row p ps = rw (← length-map ps (λ q. length (w.fragment (instance q row)))) (least-below (length (w.fragment (instance p row))) (counts w row ps))
+least-counts w row p ps = rw (← length-map ps (λ q. w.count (instance q row))) (least-below (w.count (instance p row)) (counts w row ps))
 
 plans-same : (a b : Plans) (p : Pattern) (others : List Pattern) (row : Places) (ts : List Triple) → ((r : Places) → a others r ≡ b others r) → plans_over a p others row ts ≡ plans_over b p others row ts
 plans-same a b p others row ts h = flat_map-same (λ t. rows_from (extension p row t) (a others)) (λ t. rows_from (extension p row t) (b others)) ts (λ t. each (extension p row t)) where
@@ -59,33 +59,33 @@ length-after : {X : Type 0} (x : X) (xs : List X) (i : ℕ) → i < suc (length 
 length-after x xs i h = omega (arith, length-remove (x ∷ xs) i h)
 
 chosen-same : (w : World) (a b : Plans) (i : ℕ) (p : Pattern) (ps : List Pattern) (row : Places) → ((r : Places) → a (remove ps i) r ≡ b (remove ps i) r) → chosen_plan w a i p ps row ≡ chosen_plan w b i p ps row
-chosen-same w a b i p ps row h = ap (λ l. pages_after w (instance (get_or ps i p) row) 1 ++ l) (plans-same a b (get_or ps i p) (remove ps i) row (w.fragment (instance (get_or ps i p) row)) h)
+chosen-same w a b i p ps row h = ap (λ l. rounds_after w (instance (get_or ps i p) row) 1 ++ l) (plans-same a b (get_or ps i p) (remove ps i) row (items_after w (instance (get_or ps i p) row) 0) h)
 
 if-same : {X : Type 0} (b : Bool) (x y z : X) → x ≡ y → (if b then x else z) ≡ (if b then y else z)
 if-same true x y z e = e
 if-same false x y z e = refl
 
-pub plan-unfolds : (w : World) (n : ℕ) (p : Pattern) (ps : List Pattern) (row : Places) → asking_plan w (plan_for w (length ps)) n (p ∷ ps) row ≡ asking_plan w (plan w) n (p ∷ ps) row
+pub plan-unfolds : (w : World) (n : ℕ) (p : Pattern) (ps : List Pattern) (row : Places) → asking_plan w (plan_for w (length ps)) n (p ∷ ps) row ≡ asking_plan w (round_plan w) n (p ∷ ps) row
 plan-unfolds w n p ps row =
     let i = least (counts w row (p ∷ ps)) in
     let e : length (remove (p ∷ ps) i) ≡ length ps = length-after p ps i (least-counts w row p ps) in
-    if-same (all_askable row (p ∷ ps)) _ _ _ (ap (λ l. first_addresses w row (drop n (p ∷ ps)) ++ l) (chosen-same w (plan_for w (length ps)) (plan w) i p (p ∷ ps) row (λ r. ap (λ k. plan_for w k (remove (p ∷ ps) i) r) (sym e))))
+    if-same (all_askable row (p ∷ ps)) _ _ _ (ap (λ l. first_rounds w row (drop n (p ∷ ps)) ++ l) (chosen-same w (plan_for w (length ps)) (round_plan w) i p (p ∷ ps) row (λ r. ap (λ k. plan_for w k (remove (p ∷ ps) i) r) (sym e))))
 
-one_plan_node : (w : World) (q : Pattern) (qs : List Pattern) (r : Places) (b : Bool) → all_askable r (q ∷ qs) ≡ b → plan w (q ∷ qs) r ≡ flat_map (left w) (if b then fresh (q ∷ qs) r ∷ [] else [])
-one_plan_node w q qs r true e = plan-unfolds w 0 q qs r ∙ sym (append-nil (asking_plan w (plan w) 0 (q ∷ qs) r))
+one_plan_node : (w : World) (q : Pattern) (qs : List Pattern) (r : Places) (b : Bool) → all_askable r (q ∷ qs) ≡ b → round_plan w (q ∷ qs) r ≡ flat_map (left w) (if b then fresh (q ∷ qs) r ∷ [] else [])
+one_plan_node w q qs r true e = plan-unfolds w 0 q qs r ∙ sym (append-nil (asking_plan w (round_plan w) 0 (q ∷ qs) r))
 one_plan_node w q qs r false e = plan-unfolds w 0 q qs r ∙ unaskable-left w r (q ∷ qs) [] e
 
-one_plan : (w : World) (others : List Pattern) (o : Option Places) → rows_from o (plan w others) ≡ flat_map (left w) (rows_from o (nodes_in others))
+one_plan : (w : World) (others : List Pattern) (o : Option Places) → rows_from o (round_plan w others) ≡ flat_map (left w) (rows_from o (nodes_in others))
 one_plan w others None = refl
 one_plan w [] (Some r) = refl
 one_plan w (q ∷ qs) (Some r) = one_plan_node w q qs r (all_askable r (q ∷ qs)) refl
 
-pub nodes-left : (w : World) (others : List Pattern) (row : Places) → plan w others row ≡ flat_map (left w) (nodes_in others row)
+pub nodes-left : (w : World) (others : List Pattern) (row : Places) → round_plan w others row ≡ flat_map (left w) (nodes_in others row)
 nodes-left w others row = one_plan w others (Some row)
 
 pub nodes-owed : (w : World) → IsWorld w → (others : List Pattern) (row : Places) → solutions w.triples others row ≡ rows_out others row ++ flat_map (future w) (nodes_in others row)
 nodes-owed w is others row = one_row w is others (Some row)
 
-pub plans-split : (w : World) (p : Pattern) (others : List Pattern) (row : Places) (ts : List Triple) → plans_over (plan w) p others row ts ≡ flat_map (left w) (opened p others row ts)
+pub plans-split : (w : World) (p : Pattern) (others : List Pattern) (row : Places) (ts : List Triple) → plans_over (round_plan w) p others row ts ≡ flat_map (left w) (opened p others row ts)
 plans-split w p others row ts =
-    flat_map-same (λ t. rows_from (extension p row t) (plan w others)) (λ t. flat_map (left w) (rows_from (extension p row t) (nodes_in others))) ts (λ t. one_plan w others (extension p row t)) ∙ sym (flat_map-flat_map (λ t. rows_from (extension p row t) (nodes_in others)) (left w) ts)
+    flat_map-same (λ t. rows_from (extension p row t) (round_plan w others)) (λ t. flat_map (left w) (rows_from (extension p row t) (nodes_in others))) ts (λ t. one_plan w others (extension p row t)) ∙ sym (flat_map-flat_map (λ t. rows_from (extension p row t) (nodes_in others)) (left w) ts)

@@ -94,6 +94,11 @@ pub record Terms : Type 0 where
   pub homes : List Address
   pub width : ℕ
 
+-- how many patterns a query has, and how many rows are extended at a time
+pub record Sizes : Type 0 where
+  pub patterns : ℕ
+  pub window : ℕ
+
 -- the address has the authority of one of these
 abbrev pub HasHome : List Address → Address → Type 0
 HasHome homes address = (home : Address) × Contains homes home × ShareAuthority home address

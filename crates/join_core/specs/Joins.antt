@@ -2,22 +2,22 @@
 use Rattle.std.specs.Prelude.{ℕ, suc, ◌≡◌, ◌+◌, ◌<◌, ◌≤◌, ◌*◌, Bool, false, List, [], ◌∷◌, ◌++◌, length, Option, Some, None, slice_index_or, slice_set, nat_lt, if◌then◌else◌, take, true, ◌⊎◌}
 use Rattle.std.specs.List.{flat_map, All, count_by, remove, Contains}
 use Rattle.std.specs.List.Sorted.{IsPermutation}
-use Rattle.tpf_base.specs.Addresses.{Address}
+use Rattle.join_core.specs.Rounds.{RoundData}
 use Rattle.bgp_core.specs.declared.pattern.Pattern.{Pattern}
 use Rattle.bgp_core.specs.Solutions.{Places, solutions}
 use Rattle.bgp_core.specs.Instances.{instance}
 use Rattle.template_fill.specs.declared.form.Form.{Form}
-use Rattle.fragment_page.specs.declared.page.Page.{Page}
+use Rattle.join_core.specs.declared.joint_page.JointPage.{JointPage}
 use Rattle.join_core.specs.declared.first.First.{First}
 use Rattle.join_core.specs.declared.first.First.TheVariants.{Out, Got}
 use Rattle.join_core.specs.declared.node.Waits.TheVariants.{First as ForFirst, Next as ForNext}
-use Rattle.join_core.specs.Worlds.{World, IsWorld, HasForm, IsPageAt}
-use Rattle.join_core.specs.Nodes.{Stage, NodeData, future, left, plan, Holds, nodes_in, rows_out}
+use Rattle.join_core.specs.Worlds.{World, IsWorld, HasForms, IsRoundPageAt}
+use Rattle.join_core.specs.Nodes.{Stage, NodeData, future, left, round_plan, Holds, nodes_in, rows_out}
 use Rattle.join_core.specs.Nodes.Stage.{Asking, Walking}
-use Rattle.join_core.specs.Events.{works, is_idle, has_ask, is_full, CanAsk, asked, IsNextAddress, waits_for, with_first_at, opened_by, out_by, after_by, IsChosen}
+use Rattle.join_core.specs.Events.{works, is_idle, has_ask, is_full, CanAsk, asked, IsNextRound, waits_for, with_first_at, opened_by, out_by, after_by, IsChosen}
 
 pub record JoinData : Type 0 where
-  pub form : Form
+  pub forms : List Form
   pub window : ℕ
   pub tickets : ℕ
   pub longest : ℕ
@@ -31,33 +31,33 @@ nodes levels = flat_map (λ l. l) levels
 abbrev pub owed : World → JoinData → List Places
 owed w j = j.waiting ++ flat_map (future w) (nodes j.levels)
 
--- the addresses still to be handed out
-abbrev pub left_over : World → JoinData → List Address
+-- the rounds still to be handed out
+abbrev pub left_over : World → JoinData → List RoundData
 left_over w j = flat_map (left w) (nodes j.levels)
 
--- the first pages that are out, each by its ticket and the address of its pattern's first page
-abbrev pub first_outs : World → Places → List Pattern → List First → List (ℕ × Address)
+-- the first pages that are out, each by its ticket and the round of its pattern's first page
+abbrev pub first_outs : World → Places → List Pattern → List First → List (ℕ × RoundData)
 first_outs w row [] fs = []
 first_outs w row (p ∷ ps) [] = []
-first_outs w row (p ∷ ps) (Out ticket ∷ fs) = (ticket, w.address (instance p row) 1) ∷ first_outs w row ps fs
+first_outs w row (p ∷ ps) (Out ticket ∷ fs) = (ticket, w.round (instance p row) 1) ∷ first_outs w row ps fs
 first_outs w row (p ∷ ps) (Got page ∷ fs) = first_outs w row ps fs
 
-abbrev pub next_outs : Address → Option ℕ → List (ℕ × Address)
+abbrev pub next_outs : RoundData → Option ℕ → List (ℕ × RoundData)
 next_outs next None = []
 next_outs next (Some ticket) = (ticket, next) ∷ []
 
-abbrev pub outs_of : World → Places → List Pattern → Stage → List (ℕ × Address)
+abbrev pub outs_of : World → Places → List Pattern → Stage → List (ℕ × RoundData)
 outs_of w row rest (Asking fs) = first_outs w row rest fs
 outs_of w row rest (Walking p k next out) = next_outs next out
 
-abbrev pub outs : World → NodeData → List (ℕ × Address)
+abbrev pub outs : World → NodeData → List (ℕ × RoundData)
 outs w n = outs_of w n.row n.rest n.stage
 
--- the tickets that are out, each with its address
-abbrev pub out : World → JoinData → List (ℕ × Address)
+-- the tickets that are out, each with its round
+abbrev pub out : World → JoinData → List (ℕ × RoundData)
 out w j = flat_map (outs w) (nodes j.levels)
 
--- ---- the same tickets without their addresses
+-- ---- the same tickets without their rounds
 
 abbrev pub first_tickets : List First → List ℕ
 first_tickets [] = []
@@ -80,10 +80,10 @@ tickets_out j = flat_map tickets_of (nodes j.levels)
 
 -- ---- the promises
 
--- the pages that the join holds are true for a world that has its form
+-- the pages that the join holds are true for a world that has its forms
 pub record Suits (w : World) (j : JoinData) : Type 0 where
   pub world : IsWorld w
-  pub form : HasForm w j.form
+  pub forms : HasForms w j.forms
   pub holds : All (Holds w) (nodes j.levels)
 
 -- what is owed and what is left to ask stay
@@ -92,24 +92,24 @@ pub record Keeps (w : World) (old new : JoinData) : Type 0 where
   pub owed : IsPermutation (owed w old) (owed w new)
   pub left : IsPermutation (left_over w old) (left_over w new)
 
--- an address was handed out
-pub record HandsOut (w : World) (old new : JoinData) (ticket : ℕ) (address : Address) : Type 0 where
+-- a round was handed out
+pub record HandsOut (w : World) (old new : JoinData) (ticket : ℕ) (round : RoundData) : Type 0 where
   pub suits : Suits w new
   pub owed : IsPermutation (owed w old) (owed w new)
-  pub left : IsPermutation (left_over w old) (address ∷ left_over w new)
-  pub out : IsPermutation (out w new) ((ticket, address) ∷ out w old)
+  pub left : IsPermutation (left_over w old) (round ∷ left_over w new)
+  pub out : IsPermutation (out w new) ((ticket, round) ∷ out w old)
 
--- the page is true for each address with which the ticket is out
-abbrev pub IsTrueFor : World → JoinData → ℕ → Page → Type 0
-IsTrueFor w j ticket page = (address : Address) → Contains (out w j) (ticket, address) → IsPageAt w address page
+-- the page is true for each round with which the ticket is out
+abbrev pub IsTrueFor : World → JoinData → ℕ → JointPage → Type 0
+IsTrueFor w j ticket page = (round : RoundData) → Contains (out w j) (ticket, round) → IsRoundPageAt w round page
 
 -- a page was taken
 pub record TakesPage (w : World) (old new : JoinData) (ticket : ℕ) : Type 0 where
   pub suits : Suits w new
   pub owed : IsPermutation (owed w old) (owed w new)
   pub left : IsPermutation (left_over w old) (left_over w new)
-  pub address : Address
-  pub out : IsPermutation (out w old) ((ticket, address) ∷ out w new)
+  pub round : RoundData
+  pub out : IsPermutation (out w old) ((ticket, round) ∷ out w new)
 
 -- a row was taken
 pub record GivesRow (w : World) (old new : JoinData) (row : Places) : Type 0 where
@@ -122,7 +122,7 @@ pub record GivesRow (w : World) (old new : JoinData) (row : Places) : Type 0 whe
 pub record Begins (w : World) (patterns : List Pattern) (row : Places) (j : JoinData) : Type 0 where
   pub suits : Suits w j
   pub owed : IsPermutation (solutions w.triples patterns row) (owed w j)
-  pub left : IsPermutation (plan w patterns row) (left_over w j)
+  pub left : IsPermutation (round_plan w patterns row) (left_over w j)
   pub out : out w j ≡ []
 
 -- the nodes and rows of a join before its first event: the row with all patterns is a node, or waits where there is no
@@ -139,10 +139,10 @@ pub record Replaces (old new : List (List NodeData)) (node : NodeData) (made : L
   pub before : IsPermutation (nodes old) (node ∷ others)
   pub after : IsPermutation (nodes new) (made ++ others)
 
--- a node becomes others, with rows put out, addresses handed out and tickets that end or begin
-pub record Turn (w : World) (node : NodeData) (rows : List Places) (addresses : List Address) (made : List NodeData) : Type 0 where
+-- a node becomes others, with rows put out, rounds handed out and tickets that end or begin
+pub record Turn (w : World) (node : NodeData) (rows : List Places) (rounds : List RoundData) (made : List NodeData) : Type 0 where
   pub owed : IsPermutation (future w node) (rows ++ flat_map (future w) made)
-  pub left : IsPermutation (left w node) (addresses ++ flat_map (left w) made)
+  pub left : IsPermutation (left w node) (rounds ++ flat_map (left w) made)
   pub holds : All (Holds w) made
 
 -- there is a node at this place
@@ -163,14 +163,14 @@ abbrev pub levels_after : List (List NodeData) → ℕ → List NodeData → Lis
 levels_after levels depth made = if nat_lt depth (length levels) then slice_set levels depth (slice_index_or levels depth [] ++ made) else levels ++ made ∷ []
 
 abbrev pub with_levels : JoinData → List (List NodeData) → JoinData
-with_levels j levels = record { form = j.form; window = j.window; tickets = j.tickets; longest = j.longest; levels = levels; waiting = j.waiting }
+with_levels j levels = record { forms = j.forms; window = j.window; tickets = j.tickets; longest = j.longest; levels = levels; waiting = j.waiting }
 
 -- the same join with another longest page
 abbrev pub with_longest : JoinData → ℕ → JoinData
-with_longest j longest = record { form = j.form; window = j.window; tickets = j.tickets; longest = longest; levels = j.levels; waiting = j.waiting }
+with_longest j longest = record { forms = j.forms; window = j.window; tickets = j.tickets; longest = longest; levels = j.levels; waiting = j.waiting }
 
 abbrev pub with_made : JoinData → List (List NodeData) → List Places → JoinData
-with_made j levels rows = record { form = j.form; window = j.window; tickets = j.tickets; longest = j.longest; levels = levels; waiting = j.waiting ++ rows }
+with_made j levels rows = record { forms = j.forms; window = j.window; tickets = j.tickets; longest = j.longest; levels = levels; waiting = j.waiting ++ rows }
 
 -- the join after a page made nodes and rows of the node at a place
 abbrev pub taken_at : JoinData → ℕ → ℕ → List NodeData → List Places → Option NodeData → JoinData
@@ -204,7 +204,7 @@ with_node j depth index n = with_levels j (slice_set j.levels depth (slice_set (
 -- the join after the node at a place asked
 abbrev pub asked_at : JoinData → ℕ → ℕ → NodeData → JoinData
 asked_at j depth index n = record {
-  form = j.form;
+  forms = j.forms;
   window = j.window;
   tickets = j.tickets + 1;
   longest = j.longest;
@@ -218,12 +218,12 @@ pub record StartsAt (j : JoinData) (depth index : ℕ) : Type 0 where
   pub deeper : (e : ℕ) → depth < e → All (λ n. is_idle n ≡ false) (level_at j.levels e)
   pub earlier : All (λ n. is_idle n ≡ false) (take index (level_at j.levels depth))
 
--- the node asks next: it was started and has an address to hand out, or no other has one and it is started
+-- the node asks next: it was started and has a round to hand out, or no other has one and it is started
 abbrev pub MayAsk : JoinData → ℕ → ℕ → NodeData → Type 0
 MayAsk j depth index n = (has_ask n ≡ true) ⊎ ((is_idle n ≡ true) × NoneIn has_ask j.levels × StartsAt j depth index)
 
--- the node at a place asked for an address, its next one
-pub record AsksAt (old new : JoinData) (address : Address) : Type 0 where
+-- the node at a place asked for a round, its next one
+pub record AsksAt (old new : JoinData) (round : RoundData) : Type 0 where
   pub depth : ℕ
   pub index : ℕ
   pub asker : NodeData
@@ -231,11 +231,11 @@ pub record AsksAt (old new : JoinData) (address : Address) : Type 0 where
   pub at : IsAt old.levels depth index asker
   pub can : CanAsk asker
   pub may : MayAsk old depth index asker
-  pub next : IsNextAddress old.form asker address
+  pub next : IsNextRound old.forms asker round
   pub done : new ≡ asked_at old depth index asker
 
 -- the next page of the node at a place was taken
-abbrev pub walked_at : JoinData → ℕ → ℕ → NodeData → Page → JoinData
+abbrev pub walked_at : JoinData → ℕ → ℕ → NodeData → JointPage → JoinData
 walked_at j depth index n page = taken_at j depth index (opened_by n page.triples) (out_by n page.triples) (after_by n page.next)
 
 -- the first page with the least count was taken, of this node at a place
@@ -251,7 +251,7 @@ abbrev pub TakesFirstAt : JoinData → JoinData → ℕ → ℕ → NodeData →
 TakesFirstAt old new depth index n = ((is_full n ≡ false) × (new ≡ with_node old depth index n)) ⊎ ((is_full n ≡ true) × ChoosesAt old new depth index n)
 
 -- a first page came under a ticket for the node at a place, which waited for it
-pub record TakesFirst (old new : JoinData) (ticket : ℕ) (page : Page) : Type 0 where
+pub record TakesFirst (old new : JoinData) (ticket : ℕ) (page : JointPage) : Type 0 where
   pub depth : ℕ
   pub index : ℕ
   pub taker : NodeData
@@ -262,7 +262,7 @@ pub record TakesFirst (old new : JoinData) (ticket : ℕ) (page : Page) : Type 0
   pub turns : TakesFirstAt old new depth index (with_first_at first (Got page) taker)
 
 -- the next page of a walk came under a ticket for the node at a place, which waited for it
-pub record TakesNext (old new : JoinData) (ticket : ℕ) (page : Page) : Type 0 where
+pub record TakesNext (old new : JoinData) (ticket : ℕ) (page : JointPage) : Type 0 where
   pub depth : ℕ
   pub index : ℕ
   pub taker : NodeData

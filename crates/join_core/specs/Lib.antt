@@ -1,3 +1,5 @@
+pub mod Rounds
+pub mod JointPages
 pub mod Worlds
 pub mod Nodes
 pub mod NextPages
@@ -9,5 +11,6 @@ pub mod Outcomes
 pub mod Runs
 pub mod Evaluations
 pub mod Sound
+pub mod Ones
 pub mod JoinAccounts
 pub mod JoinLaws

@@ -1,31 +1,37 @@
 -- What a join keeps, whatever pages came.
-use Rattle.std.specs.Prelude.{ℕ, suc, ◌≡◌, ◌+◌, ◌<◌, ◌≤◌, List, length}
+use Rattle.std.specs.Prelude.{ℕ, suc, ◌≡◌, ◌+◌, ◌<◌, ◌≤◌, List, length, Option, Some, None}
 use Rattle.std.specs.List.{All}
 use Rattle.tpf_base.specs.Addresses.{Address}
 use Rattle.bgp_core.specs.declared.pattern.Pattern.{Pattern}
 use Rattle.template_fill.specs.declared.form.Form.{Form}
-use Rattle.template_fill.specs.Authorities.{ShareAuthority}
+use Rattle.join_core.specs.declared.round.RoundAsk.{RoundAsk}
 use Rattle.join_core.specs.declared.first.First.{First}
 use Rattle.join_core.specs.declared.first.First.TheVariants.{Out, Got}
 use Rattle.join_core.specs.Nodes.{Stage, NodeData, AsksRightly}
 use Rattle.join_core.specs.Nodes.Stage.{Asking, Walking}
 use Rattle.join_core.specs.Events.{is_full}
 use Rattle.join_core.specs.Joins.{JoinData, nodes, tickets_out, NoneIn, open_at, level_at, IsBounded}
-use Rattle.join_core.specs.Evaluations.{Terms, HasHome, NextAtHome}
+use Rattle.join_core.specs.Evaluations.{Terms, Sizes}
+use Rattle.join_core.specs.Rounds.{RoundData, ShareForms, RoundAtHome, NextRoundAtHome, FormsAtHome}
 
--- the next page of a page that is held has one of the authorities
+-- the next round of a page that is held has the authorities
 abbrev pub FirstAtHome : List Address → First → Type 0
 FirstAtHome homes (Out ticket) = Unit {0}
-FirstAtHome homes (Got page) = NextAtHome homes page.next
+FirstAtHome homes (Got page) = NextRoundAtHome homes page.next
 
 abbrev pub StageAtHome : List Address → Stage → Type 0
 StageAtHome homes (Asking firsts) = All (FirstAtHome homes) firsts
-StageAtHome homes (Walking p k next out) = HasHome homes next
+StageAtHome homes (Walking p k next out) = RoundAtHome homes next
 
--- the address of an ask comes of the form, or is that of the next page
-abbrev pub IsAskedBy : Form → Stage → Address → Type 0
-IsAskedBy form (Asking firsts) address = ShareAuthority form.template.start address
-IsAskedBy form (Walking p k next out) address = address ≡ next
+-- the addresses of a round come of the forms, or the round is the next of the walk
+abbrev pub IsAskedBy : List Form → Stage → RoundData → Type 0
+IsAskedBy forms (Asking firsts) round = ShareForms forms round.addresses
+IsAskedBy forms (Walking p k next out) round = round ≡ next
+
+-- a round that there may be to ask for has the authorities
+abbrev pub AsksRoundAtHome : List Address → Option RoundAsk → Type 0
+AsksRoundAtHome homes None = Unit {0}
+AsksRoundAtHome homes (Some ask) = RoundAtHome homes ask.round
 
 pub record KeepsNode (terms : Terms) (n : NodeData) : Type 0 where
   pub width : length n.row ≡ terms.width
@@ -36,7 +42,7 @@ pub record KeepsNode (terms : Terms) (n : NodeData) : Type 0 where
 -- below the next one
 pub record KeepsTo (terms : Terms) (j : JoinData) : Type 0 where
   pub window : 1 ≤ j.window
-  pub form : HasHome terms.homes j.form.template.start
+  pub forms : FormsAtHome terms.homes j.forms
   pub nodes : All (KeepsNode terms) (nodes j.levels)
   pub not_full : NoneIn is_full j.levels
   pub rows : All (λ row. length row ≡ terms.width) j.waiting
@@ -70,3 +76,8 @@ pub record IsKeptSmall (n m : ℕ) (j : JoinData) : Type 0 where
   pub held : All (λ x. StageAtMost m x.stage) (nodes j.levels)
   pub root : open_at j.levels 0 ≤ 1
   pub depths : (d : ℕ) → All (IsOfDepth n d) (level_at j.levels d)
+
+-- of so many patterns, with pages of no more triples than the longest had, and the window
+pub record KeepsSizes (sizes : Sizes) (j : JoinData) : Type 0 where
+  pub small : IsKeptSmall sizes.patterns j.longest j
+  pub window : j.window ≡ sizes.window

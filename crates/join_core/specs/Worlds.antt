@@ -1,52 +1,73 @@
--- What one server has: its triples, the fragment of each slots, the addresses of their pages, and the page size.
-use Rattle.std.specs.Prelude.{ℕ, suc, ◌≡◌, ◌*◌, ◌^◌, ◌<◌, true, false, if◌then◌else◌, nat_lt, List, [], length, take, drop, Some, None}
-use Rattle.std.specs.List.{filter, All}
+-- What the other ends have: triples, and for each slots the pages of their fragment, each asked for in one round.
+use Rattle.std.specs.Prelude.{ℕ, zero, suc, ◌≡◌, ◌-◌, ◌^◌, ◌<◌, true, false, if◌then◌else◌, nat_lt, List, [], ◌∷◌, Some, None}
+use Rattle.std.specs.List.{filter, flat_map, All}
 use Rattle.std.specs.List.Sorted.{IsPermutation}
-use Rattle.tpf_base.specs.Addresses.{Address, IsAddress}
 use Rattle.rdf_terms.specs.declared.term.Triple.{Triple}
 use Rattle.rdf_terms.specs.declared.slots.Slots.{Slots}
 use Rattle.rdf_terms.specs.Slots.{matches}
 use Rattle.rdf_terms.specs.Askable.{askable}
 use Rattle.rdf_terms.specs.Valid.{IsValidTriple}
 use Rattle.rdf_terms.specs.Kept.{AreValid}
-use Rattle.rdf_terms.specs.Fragments.{last_page_of}
 use Rattle.template_fill.specs.declared.form.Form.{Form}
-use Rattle.template_fill.specs.Forms.{form_text}
+use Rattle.tpf_base.specs.Addresses.{Address}
 use Rattle.fragment_page.specs.declared.page.Page.{Page}
+use Rattle.join_core.specs.declared.joint_page.JointPage.{JointPage}
+use Rattle.join_core.specs.JointPages.{joint_page}
+use Rattle.join_core.specs.Rounds.{RoundData, round_of_one, IsFirstRound}
 
+-- The triples; and for each slots the number of triples that the pages tell of their fragment, the number of the last page, what
+-- stands on the page after the first k pages, and the round in which page k is asked for.
 pub record World : Type 0 where
   pub triples : List Triple
-  pub fragment : Slots → List Triple
-  pub address : Slots → ℕ → Address
-  pub size : ℕ
+  pub count : Slots → ℕ
+  pub last : Slots → ℕ
+  pub items : Slots → ℕ → List Triple
+  pub round : Slots → ℕ → RoundData
 
--- a fragment is the matching triples in some order, pages are not empty, what cannot be asked for matches nothing, the
--- terms are valid, and the triples can be counted
+abbrev pub numbers : ℕ → ℕ → List ℕ
+numbers n zero = []
+numbers n (suc k) = n ∷ numbers (suc n) k
+
+-- what stands on the pages after the first k pages
+abbrev pub items_after : World → Slots → ℕ → List Triple
+items_after w s k = flat_map (w.items s) (numbers k (w.last s - k))
+
+-- the pages hold the matching triples, each once, in some order; there is a page, and they can be counted; where 0 triples are told
+-- of there is one page, and nothing on it; what cannot be asked for matches nothing; and the terms are valid
 pub record IsWorld (w : World) : Type 0 where
-  pub fragments : (s : Slots) → IsPermutation (filter (matches s) w.triples) (w.fragment s)
-  pub sized : 0 < w.size
-  pub unasked : (s : Slots) → askable s ≡ false → w.fragment s ≡ []
+  pub fragments : (s : Slots) → IsPermutation (filter (matches s) w.triples) (items_after w s 0)
+  pub some : (s : Slots) → 0 < w.last s
+  pub few : (s : Slots) → w.last s < 2 ^ 64
+  pub alone : (s : Slots) → w.count s ≡ 0 → w.last s ≡ 1
+  pub none : (s : Slots) → w.count s ≡ 0 → w.items s 0 ≡ []
+  pub unasked : (s : Slots) → askable s ≡ false → items_after w s 0 ≡ []
   pub valid : All IsValidTriple w.triples
-  pub few : (s : Slots) → length (w.fragment s) < 2 ^ 64
 
--- the form gives the addresses of the first pages
+-- the forms give the addresses of the first pages
+pub record HasForms (w : World) (forms : List Form) : Type 0 where
+  pub first : (s : Slots) → askable s ≡ true → IsFirstRound forms s (w.round s 1)
+
+-- the page after the first k pages; the first tells of all triples
+pub record IsPageAfter (w : World) (s : Slots) (k : ℕ) (page : JointPage) : Type 0 where
+  pub triples : page.triples ≡ w.items s k
+  pub count : k ≡ 0 → page.count ≡ w.count s
+  pub next : page.next ≡ (if nat_lt (suc k) (w.last s) then Some (w.round s (suc (suc k))) else None)
+
+-- the page is what is asked for in the round: for slots that can be asked for, and a page that there is
+pub record IsRoundPageAt (w : World) (round : RoundData) (page : JointPage) : Type 0 where
+  pub stands : (s : Slots) (k : ℕ) → AreValid s → askable s ≡ true → round ≡ w.round s (suc k) → k < w.last s → IsPageAfter w s k page
+
+-- ---- one server
+
+-- each page is asked for at one address
+abbrev pub IsOneServer : World → Type 0
+IsOneServer w = (s : Slots) (k : ℕ) → (address : Address) × (w.round s k ≡ round_of_one address)
+
+-- the world is that of one server, and the form gives the addresses of the first pages
 pub record HasForm (w : World) (form : Form) : Type 0 where
-  pub first : (s : Slots) → askable s ≡ true → IsAddress (form_text form s) (w.address s 1)
+  pub one : IsOneServer w
+  pub forms : HasForms w (form ∷ [])
 
--- the number of the last page
-abbrev pub last : World → Slots → ℕ
-last w s = last_page_of (length (w.fragment s)) w.size
-
--- what stands on the page after the first k pages
-abbrev pub items : World → Slots → ℕ → List Triple
-items w s k = take w.size (drop (k * w.size) (w.fragment s))
-
--- the page after the first k pages
-pub record IsPageAfter (w : World) (s : Slots) (k : ℕ) (page : Page) : Type 0 where
-  pub triples : page.triples ≡ items w s k
-  pub count : page.count ≡ length (w.fragment s)
-  pub next : page.next ≡ (if nat_lt (suc k) (last w s) then Some (w.address s (suc (suc k))) else None)
-
--- the page is what stands at the address: for slots that can be asked for, and a page that there is
-pub record IsPageAt (w : World) (address : Address) (page : Page) : Type 0 where
-  pub stands : (s : Slots) (k : ℕ) → AreValid s → askable s ≡ true → address ≡ w.address s (suc k) → k < last w s → IsPageAfter w s k page
+-- the page of the one server is what stands at the address
+abbrev pub IsPageAt : World → Address → Page → Type 0
+IsPageAt w address page = IsRoundPageAt w (round_of_one address) (joint_page page)

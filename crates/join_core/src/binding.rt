@@ -2,7 +2,7 @@
 ghost use Rattle.std.specs.Prelude.{◌≡◌, length, IfOk, IfSome, Some, true};
 ghost use Rattle.bgp_core.specs.Queries.{HasPlaceFor, HasPlacesFor};
 ghost use Rattle.bgp_core.specs.Solutions.{bind, extension};
-ghost use Rattle.bgp_core.specs.Fits.{allows};
+ghost use Rattle.bgp_core.specs.Fits.{allows, fits};
 
 use bgp_core::{Part, Pattern, Row, fits};
 use rdf_terms::{Term, Triple};
@@ -25,6 +25,25 @@ fn bind(alloc: Global, part: &Part, term: Term, mut row: Row) -> Result<Row, Out
     Ok(row)
 }
 
+/// The row with the names of a pattern bound to the terms of a triple, which is taken apart. Condition: the row lets the
+/// pattern become the triple.
+fn bind_all(alloc: Global, pattern: &Pattern, triple: Triple, row: Row) -> Result<Row, OutOfMemory>
+    requires places { HasPlacesFor (length row) pattern.now }
+    requires allowed { fits pattern.now row triple ≡ true }
+    ensures value { IfOk result (λ r. extension pattern.now row triple ≡ Some r) }
+    ensures length { IfOk result (λ r. length r ≡ length row) }
+{
+    let Triple {
+        subject,
+        predicate,
+        object,
+    } = triple;
+    let begun = bind(alloc, &pattern.subject, subject, row)?;
+    let grown = bind(alloc, &pattern.predicate, predicate, begun)?;
+    let whole = bind(alloc, &pattern.object, object, grown)?;
+    Ok(whole)
+}
+
 /// The row extended by the names of the pattern so that the pattern becomes the triple: `None` exactly where there is no
 /// such row. The row is copied only where there is one, and shares what was bound with it; the terms of the names that are
 /// bound anew are moved out of the triple, each once, and the others are dropped. Condition: the row has a place for every
@@ -42,13 +61,6 @@ pub(crate) fn extension(
     if !fits(pattern, row, &triple) {
         return Ok(None);
     }
-    let Triple {
-        subject,
-        predicate,
-        object,
-    } = triple;
-    let begun = bind(alloc, &pattern.subject, subject, row.copy(alloc)?)?;
-    let grown = bind(alloc, &pattern.predicate, predicate, begun)?;
-    let whole = bind(alloc, &pattern.object, object, grown)?;
-    Ok(Some(whole))
+    let copy = row.copy(alloc)?;
+    Ok(Some(bind_all(alloc, pattern, triple, copy)?))
 }

@@ -1,9 +1,9 @@
 // A join is an evaluation.
 ghost use Rattle.join_core.specs.Worlds.{World, IsPageAt};
-ghost use Rattle.join_core.specs.Joins.{Suits};
-ghost use Rattle.join_core.specs.Sound.{KeepsTo};
+ghost use Rattle.join_core.specs.Ones.{SuitsOne};
+ghost use Rattle.join_core.specs.Sound.{KeepsTo, KeepsSizes};
 ghost use Rattle.join_core.specs.JoinAccounts.{account_of, standing_of};
-ghost use Rattle.join_core.specs.JoinLaws.{done-owes-nothing, done-is-quiet, tickets-are-below};
+ghost use Rattle.join_core.specs.JoinLaws.{done-owes-nothing, done-is-quiet, tickets-are-below, out-is-small};
 
 use crate::evaluation::{Answered, Ask, Evaluates};
 use crate::join::Join;
@@ -17,13 +17,15 @@ impl Evaluates for Join {
 
     ghost is_true = { IsPageAt };
 
-    ghost suits = { Suits };
+    ghost suits = { SuitsOne };
 
     ghost account = { account_of };
 
     ghost standing = { standing_of };
 
     ghost keeps_to = { KeepsTo };
+
+    ghost keeps_small = { KeepsSizes };
 
     fn next_ask(&mut self, alloc: Global) -> Result<Option<Ask>, OutOfMemory> {
         Join::next_ask(self, alloc)
@@ -46,4 +48,6 @@ impl Evaluates for Join {
     ghost done_is_quiet = { done-is-quiet };
 
     ghost tickets_are_below = { tickets-are-below };
+
+    ghost out_is_small = { out-is-small };
 }

@@ -1,9 +1,9 @@
 // Evaluations of a query.
-ghost use Rattle.std.specs.Prelude.{◌≡◌, ◌<◌, ◌^◌, ◌-◌, ⊤, true, [], length, Ok, None, IfOk, OnErr, MatchOption};
+ghost use Rattle.std.specs.Prelude.{◌≡◌, ◌<◌, ◌≤◌, ◌^◌, ◌-◌, ◌*◌, ⊤, true, [], length, Ok, None, IfOk, OnOk, MatchOption};
 ghost use Rattle.std.specs.List.{All, Contains};
 ghost use Rattle.tpf_base.specs.Addresses.{Address};
 ghost use Rattle.fragment_page.specs.declared.page.Page.{Page};
-ghost use Rattle.join_core.specs.Evaluations.{Account, nothing, GivesOwed, OwesAfterAsk, OwesAfterAnswer, Standing, TakesOne, StandsAfterAsk, StandsAfterAnswer, EndsInQuiet, Terms, AsksAtHome, NextAtHome};
+ghost use Rattle.join_core.specs.Evaluations.{Account, nothing, GivesOwed, OwesAfterAsk, OwesAfterAnswer, Standing, TakesOne, StandsAfterAsk, StandsAfterAnswer, EndsInQuiet, Terms, AsksAtHome, NextAtHome, Sizes};
 
 use bgp_core::Row;
 use fragment_page::Page;
@@ -31,7 +31,7 @@ pub enum Answered {
 /// Where all pages are true for one source, the rows given and those still owed are together what was
 /// owed at first, and the same holds of the addresses handed out and those that are left. Whatever
 /// pages come, tickets are new numbers, every ask has one of the authorities that were agreed, a row
-/// has a place for every name, and with no ticket out and no row waiting the evaluation is done.
+/// has a place for every name, no more tickets are out than were agreed, and with no ticket out and no row waiting the evaluation is done.
 pub trait Evaluates {
     /// What the other ends have, such as the data of a server and the addresses of its pages.
     ghost Source: { Type 0 };
@@ -51,27 +51,29 @@ pub trait Evaluates {
     /// It keeps to the authorities and the places.
     ghost keeps_to: { Terms → Self → Type 0 };
 
+    /// It is of a query with so many patterns, and extends no more rows at a time.
+    ghost keeps_small: { Sizes → Self → Type 0 };
+
     /// The next page to ask for, if there is one now, under a ticket with a new number. Condition: fewer
-    /// than 2^64 - 1 tickets were given. The only error is out of memory, and then nothing changed.
+    /// than 2^64 - 1 tickets were given. The only error is out of memory, and then nothing is promised of what is left.
     fn next_ask(&mut self, alloc: Global) -> Result<Option<Ask>, OutOfMemory>
         requires { (standing self.old).given < 2 ^ 64 - 1 }
-        ensures suits { (source : Self.Source) → suits source self.old → suits source self.new }
+        ensures suits { (source : Self.Source) → suits source self.old → OnOk result (suits source self.new) }
         ensures owes { (source : Self.Source) → suits source self.old → IfOk result (OwesAfterAsk (account source self.old) (account source self.new)) }
         ensures stands { IfOk result (StandsAfterAsk (standing self.old) (standing self.new)) }
-        ensures keeps { (terms : Terms) → keeps_to terms self.old → keeps_to terms self.new }
+        ensures keeps { (terms : Terms) → keeps_to terms self.old → OnOk result (keeps_to terms self.new) }
+        ensures small { (sizes : Sizes) → keeps_small sizes self.old → OnOk result (keeps_small sizes self.new) }
         ensures at_home { (terms : Terms) → keeps_to terms self.old → IfOk result (AsksAtHome terms.homes) }
-        ensures quiet { (terms : Terms) → keeps_to terms self.old → (result ≡ Ok None) → EndsInQuiet (standing self.old) }
-        ensures failed { OnErr result (self.new ≡ self.old) };
+        ensures quiet { (terms : Terms) → keeps_to terms self.old → (result ≡ Ok None) → EndsInQuiet (standing self.old) };
 
     /// Takes the page that was asked for under a ticket. `Stranger` exactly where the ticket is not out;
-    /// then nothing changes. The only error is out of memory, and then nothing changed but that the page
-    /// is gone.
+    /// then nothing changes. The only error is out of memory, and then nothing is promised of what is left.
     fn answer(&mut self, alloc: Global, ticket: u64, page: Page) -> Result<Answered, OutOfMemory>
-        ensures suits { (source : Self.Source) → suits source self.old → ((address : Address) → Contains (account source self.old).out (ticket, address) → is_true source address page) → suits source self.new }
+        ensures suits { (source : Self.Source) → suits source self.old → ((address : Address) → Contains (account source self.old).out (ticket, address) → is_true source address page) → OnOk result (suits source self.new) }
         ensures owes { (source : Self.Source) → suits source self.old → ((address : Address) → Contains (account source self.old).out (ticket, address) → is_true source address page) → IfOk result (OwesAfterAnswer (account source self.old) (account source self.new) ticket) }
         ensures stands { IfOk result (StandsAfterAnswer (standing self.old) (standing self.new) ticket) }
-        ensures keeps { (terms : Terms) → keeps_to terms self.old → NextAtHome terms.homes page.next → keeps_to terms self.new }
-        ensures failed { OnErr result (self.new ≡ self.old) };
+        ensures keeps { (terms : Terms) → keeps_to terms self.old → NextAtHome terms.homes page.next → OnOk result (keeps_to terms self.new) }
+        ensures small { (sizes : Sizes) → keeps_small sizes self.old → OnOk result (keeps_small sizes self.new) };
 
     /// Takes a row that waits; `None` exactly where none does, and then nothing changes. It takes no
     /// memory.
@@ -81,6 +83,7 @@ pub trait Evaluates {
         ensures suits { (source : Self.Source) → suits source self.old → suits source self.new }
         ensures owes { (source : Self.Source) → suits source self.old → MatchOption result ⊤ (GivesOwed (account source self.old) (account source self.new)) }
         ensures keeps { (terms : Terms) → keeps_to terms self.old → keeps_to terms self.new }
+        ensures small { (sizes : Sizes) → keeps_small sizes self.old → keeps_small sizes self.new }
         ensures width { (terms : Terms) → keeps_to terms self.old → MatchOption result ⊤ (λ row. length row ≡ terms.width) };
 
     /// Whether nothing is left to ask, no ticket is out and no row waits. It takes no memory.
@@ -95,4 +98,7 @@ pub trait Evaluates {
 
     /// Each ticket that is out has a number below that of the next.
     ghost tickets_are_below: { (terms : Terms) (evaluation : Self) → keeps_to terms evaluation → All (λ ticket. ticket < (standing evaluation).given) (standing evaluation).out };
+
+    /// For each row that is extended at a time no more tickets are out than there are patterns.
+    ghost out_is_small: { (terms : Terms) (sizes : Sizes) (evaluation : Self) → keeps_to terms evaluation → keeps_small sizes evaluation → length (standing evaluation).out ≤ sizes.patterns * sizes.window };
 }

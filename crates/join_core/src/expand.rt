@@ -2,6 +2,7 @@
 ghost use Rattle.std.specs.Prelude.{◌≡◌, ◌++◌, length, map, OnOk, drop};
 ghost use Rattle.std.specs.List.{AllByRecursion};
 ghost use Rattle.bgp_core.specs.Queries.{HasPlacesFor};
+ghost use Rattle.bgp_core.specs.Solutions.{extension, rows_from};
 ghost use Rattle.join_core.specs.Nodes.{put_out, opened, rows_out, nodes_in, all_askable};
 ghost use Rattle.join_core.specs.Levels.{seed_node};
 
@@ -51,6 +52,27 @@ pub(crate) fn add_match(
     Ok(())
 }
 
+/// Adds what a triple makes of a row. It is moved into the row, or dropped.
+fn add_triple(
+    alloc: Global,
+    chosen: &Pattern,
+    others: &Rc<PatternList>,
+    row: &Row,
+    triple: Triple,
+    nodes: &mut Vec<Opening>,
+    rows: &mut Vec<Row>,
+) -> Result<(), OutOfMemory>
+    requires chosen { HasPlacesFor (length row.now) chosen.now }
+    requires others { AllByRecursion (HasPlacesFor (length row.now)) others.now.value }
+    ensures nodes { OnOk result (map seed_node nodes.new.items ≡ map seed_node nodes.old.items ++ rows_from (extension chosen.now row.now triple) (nodes_in others.now.value)) }
+    ensures rows { OnOk result (rows.new.items ≡ rows.old.items ++ rows_from (extension chosen.now row.now triple) (rows_out others.now.value)) }
+{
+    match extension(alloc, chosen, row, triple)? {
+        None => Ok(()),
+        Some(next) => add_match(alloc, others, next, nodes, rows),
+    }
+}
+
 /// Adds what the triples of a page make of a row. Each is moved into a row or dropped as it is walked.
 pub(crate) fn expand(
     alloc: Global,
@@ -67,9 +89,7 @@ pub(crate) fn expand(
     ensures rows { OnOk result (rows.new.items ≡ rows.old.items ++ put_out chosen.now others.now.value row.now triples.items) }
 {
     for triple in triples {
-        if let Some(next) = extension(alloc, chosen, row, triple)? {
-            add_match(alloc, others, next, nodes, rows)?;
-        }
+        add_triple(alloc, chosen, others, row, triple, nodes, rows)?;
     }
     Ok(())
 }

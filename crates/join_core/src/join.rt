@@ -1,73 +1,44 @@
-// The join.
-ghost use Rattle.std.specs.Prelude.{ℕ, ◌≡◌, ◌+◌, ◌<◌, ◌≤◌, ◌↔◌, ◌^◌, List, [], ◌++◌, length, IfOk, OnOk, OnErr, None, MatchOption, max, min, IsTrue, replicate, Ok, ◌*◌, ◌-◌, ⊤};
-ghost use Rattle.std.specs.List.{All, AllByRecursion, count_by};
-ghost use Rattle.bgp_core.specs.Queries.{IsValidPattern};
-ghost use Rattle.join_core.specs.Worlds.{World, IsWorld, HasForm};
-ghost use Rattle.join_core.specs.Nodes.{nodes_in, rows_out};
-ghost use Rattle.join_core.specs.Events.{works};
-ghost use Rattle.join_core.specs.Levels.{nodes_of};
+// The join over the pages of one server.
+ghost use Rattle.std.specs.Prelude.{ℕ, ◌≡◌, ◌+◌, ◌-◌, ◌*◌, ◌<◌, ◌≤◌, ◌^◌, ◌↔◌, ◌∷◌, List, [], length, replicate, min, None, Ok, IfOk, OnErr, MatchOption, IsTrue, ⊤};
+ghost use Rattle.std.specs.List.{All, count_by};
 ghost use Rattle.tpf_base.specs.Addresses.{Address};
+ghost use Rattle.join_core.specs.Worlds.{World, IsWorld, HasForm};
+ghost use Rattle.join_core.specs.Events.{works};
 ghost use Rattle.join_core.specs.Evaluations.{Terms, HasHome, AsksAtHome, NextAtHome};
 ghost use Rattle.join_core.specs.Sound.{KeepsTo, IsKeptSmall};
 ghost use Rattle.join_core.specs.Joins.{nodes, Suits, Begins, Opens, IsTrueFor, GivesRow, tickets_out, with_longest};
-ghost use Rattle.join_core.specs.Outcomes.{AskDone, AskNumbered, NothingToAsk, AnswerDone, AnswerNumbered, AnswerTakes, AskStarts, GivesWaiting, WaitsMore, LongestAfter};
+ghost use Rattle.join_core.specs.Outcomes.{AskDone, AskNumbered, NothingToAsk, AnswerDone, AnswerNumbered, AnswerTakes, GivesWaiting, WaitsMore, LongestAfter};
+ghost use Rattle.join_core.specs.JointPages.{joint_page};
+ghost use Rattle.join_core.specs.Ones.{SuitsOne, round_ask, AskStartsOne};
 ghost use Rattle.join_core.specs.Runs.{IsDone};
 ghost use Rattle.join_core.specs.JoinAccounts.{is_over};
 
 use crate::evaluation::{Answered, Ask};
-use crate::expand::add_match;
-use crate::level::Level;
-use crate::levels::{ask_at, find, open_nodes, place_to_ask, take_first, take_next, working_nodes};
-use crate::node::Waits;
-use crate::pattern_list::PatternList;
+use crate::{FormList, JointPage, RoundJoin};
 use bgp_core::{Query, Row};
 use fragment_page::Page;
 use std::alloc::Global;
 use std::marker::Model;
-use std::rc::Rc;
-use template_fill::{Form, an_address_is_one};
+use template_fill::Form;
 use tpf_base::OutOfMemory;
 
-/// The join of a query's patterns over the pages of their fragments. A node is a row with the patterns that are still to
-/// be matched; its depth is the number of patterns that were. The deepest node is started first, and at most a window of
-/// nodes work at a time.
+/// The join of a query's patterns over the pages of their fragments, where one server has them. A node is a row with the
+/// patterns that are still to be matched; its depth is the number of patterns that were. The deepest node is started first, and
+/// at most a window of nodes work at a time. It is the join in rounds (`RoundJoin`), of which each has one address.
 #[derive(Debug, Drop)]
 pub struct Join {
-    form: Form,
-    window: u32,
-    tickets: u64,
-    longest: usize,
-    levels: Vec<Level>,
-    waiting: Vec<Row>,
+    join: RoundJoin,
 }
 
 impl Model for Join {
-    ghost use Rattle.std.specs.Prelude.{◌<◌};
-    ghost use Rattle.std.specs.List.{All, flat_map};
-    ghost use Rattle.join_core.specs.Joins.{JoinData, nodes, tickets_of};
-    ghost use Rattle.join_core.specs.Levels.{plain};
+    ghost use Rattle.join_core.specs.Joins.{JoinData};
 
     ghost Value = { JoinData };
 
-    ghost view = { λ j. record { form = j.form; window = j.window; tickets = j.tickets; longest = j.longest; levels = plain j.levels.items; waiting = j.waiting.items } };
-
-    ghost invariant = { λ j. All (λ t. t < j.tickets) (flat_map tickets_of (nodes (plain j.levels.items))) };
+    ghost view = { λ j. j.join };
 }
 
 impl Join {
-    /// The first node of a query, or its one row where it has no pattern.
-    fn first_level(alloc: Global, query: &Query, rows: &mut Vec<Row>) -> Result<Level, OutOfMemory>
-        ensures nodes { IfOk result (λ l. nodes_of l ≡ nodes_in query.now.patterns (replicate (length query.now.names) None)) }
-        ensures rows { OnOk result (rows.new.items ≡ rows.old.items ++ rows_out query.now.patterns (replicate (length query.now.names) None)) }
-        ensures valid { OnOk result (AllByRecursion IsValidPattern query.now.patterns) }
-    {
-        let rest = Rc::new(alloc, PatternList::from_slice(alloc, query.patterns())?)?;
-        let row = Row::empty(alloc, query.names().len());
-        let mut opened = Vec::new(alloc);
-        add_match(alloc, &rest, row, &mut opened, rows)?;
-        Ok(Level::from_openings(alloc, opened))
-    }
-
     /// The join of a query's patterns, whose first pages have the addresses of a form, with at most `window` nodes at work.
     /// One node is open, the empty row with all patterns; for a query without patterns the empty row waits at once.
     /// Condition: the window is at least 1. The only error is out of memory.
@@ -75,25 +46,16 @@ impl Join {
         requires { 1 ≤ window }
         ensures begins { (w : World) → IsWorld w → HasForm w form → IfOk result (Begins w query.now.patterns (replicate (length query.now.names) None)) }
         ensures opens { IfOk result (Opens query.now.patterns (replicate (length query.now.names) None)) }
-        ensures form { IfOk result (λ j. j.form ≡ form) }
+        ensures form { IfOk result (λ j. j.forms ≡ form ∷ []) }
         ensures window { IfOk result (λ j. j.window ≡ window) }
         ensures longest { IfOk result (λ j. j.longest ≡ 1) }
         ensures keeps { (homes : List Address) → HasHome homes form.template.start → IfOk result (KeepsTo (record { homes = homes; width = length query.now.names })) }
         ensures small { IfOk result (IsKeptSmall (length query.now.patterns) 1) }
         ensures tickets { IfOk result (λ j. (j.tickets ≡ 0) × (tickets_out j ≡ [])) }
     {
-        let mut waiting = Vec::new(alloc);
-        let first = Join::first_level(alloc, query, &mut waiting)?;
-        let mut levels = Vec::new(alloc);
-        levels.push(first)?;
-        Ok(Join {
-            form,
-            window,
-            tickets: 0,
-            longest: 1,
-            levels,
-            waiting,
-        })
+        let forms = FormList::one(alloc, form);
+        let join = RoundJoin::new(alloc, query, forms, window)?;
+        Ok(Join { join })
     }
 
     /// How many nodes work: those that were started and wait for a page, or have a first page to hand out. The count stands
@@ -101,7 +63,7 @@ impl Join {
     pub fn working(&self) -> usize
         ensures { result ≡ min (count_by works (nodes self.now.levels)) (2 ^ 64 - 1) }
     {
-        working_nodes(self.levels.as_slice())
+        self.join.working()
     }
 
     /// The next page to ask for, if there is one, under a ticket with a new number. A node that was started asks for the
@@ -111,60 +73,23 @@ impl Join {
     /// error is out of memory, and then nothing changed.
     pub fn next_ask(&mut self, alloc: Global) -> Result<Option<Ask>, OutOfMemory>
         requires { self.old.tickets < 2 ^ 64 - 1 }
-        ensures asks { (w : World) → Suits w self.old → IfOk result (AskDone w self.old self.new) }
-        ensures numbered { IfOk result (AskNumbered self.old self.new) }
-        ensures starts { IfOk result (AskStarts self.old self.new) }
+        ensures asks { (w : World) → SuitsOne w self.old → IfOk result (λ ask. AskDone w self.old self.new (round_ask ask)) }
+        ensures numbered { IfOk result (λ ask. AskNumbered self.old self.new (round_ask ask)) }
+        ensures starts { IfOk result (AskStartsOne self.old self.new) }
         ensures nothing { (result ≡ Ok None) → NothingToAsk self.old }
         ensures keeps { (terms : Terms) → KeepsTo terms self.old → KeepsTo terms self.new }
         ensures at_home { (terms : Terms) → KeepsTo terms self.old → IfOk result (AsksAtHome terms.homes) }
         ensures small { (n m : ℕ) → IsKeptSmall n m self.old → IsKeptSmall n m self.new }
         ensures failed { OnErr result (self.new ≡ self.old) }
     {
-        an_address_is_one();
-        let asker = place_to_ask(&mut self.levels, alloc, self.window)?;
-        let Some(place) = asker else {
-            return Ok(None);
-        };
-        let ticket = self.tickets;
-        let address = ask_at(&mut self.levels, alloc, place, &self.form, ticket)?;
-        self.tickets += 1;
-        Ok(Some(Ask { ticket, address }))
-    }
-
-    /// Keeps the count of the longest page.
-    fn note_page(&mut self, count: usize)
-        ensures { self.new ≡ with_longest self.old (max self.old.longest count) }
-    {
-        self.longest = self.longest.max(count);
-    }
-
-    /// `answer` without the count of the longest page.
-    fn take_page(&mut self, alloc: Global, ticket: u64, page: Page) -> Result<Answered, OutOfMemory>
-        ensures taken { (w : World) → Suits w self.old → IsTrueFor w self.old ticket page → IfOk result (AnswerDone w self.old self.new ticket) }
-        ensures numbered { IfOk result (AnswerNumbered self.old self.new ticket) }
-        ensures takes { IfOk result (AnswerTakes self.old self.new ticket page) }
-        ensures stranger { (result ≡ Ok Answered.Stranger) → All (λ t. (t ≡ ticket) → ⊥) (tickets_out self.old) }
-        ensures keeps { (terms : Terms) → KeepsTo terms self.old → NextAtHome terms.homes page.next → KeepsTo terms self.new }
-        ensures small { (n m : ℕ) → IsKeptSmall n m self.old → length page.triples ≤ m → IsKeptSmall n m self.new }
-        ensures grows { WaitsMore self.old self.new }
-        ensures kept { (self.new.tickets ≡ self.old.tickets) × (self.new.longest ≡ self.old.longest) }
-        ensures failed { OnErr result (self.new ≡ self.old) }
-    {
-        let Some(found) = find(self.levels.as_slice(), ticket) else {
-            return Ok(Answered::Stranger);
-        };
-        match found.waits {
-            Waits::First(index) => {
-                let levels = &mut self.levels;
-                let waiting = &mut self.waiting;
-                take_first(levels, waiting, alloc, found.place, index, ticket, page)?;
-                Ok(Answered::Taken)
-            }
-            Waits::Next => {
-                let levels = &mut self.levels;
-                let waiting = &mut self.waiting;
-                take_next(levels, waiting, alloc, found.place, ticket, page)?;
-                Ok(Answered::Taken)
+        match self.join.next_round(alloc)? {
+            None => Ok(None),
+            Some(ask) => {
+                let (address, _others, _taken) = ask.round.into_parts();
+                Ok(Some(Ask {
+                    ticket: ask.ticket,
+                    address,
+                }))
             }
         }
     }
@@ -179,11 +104,11 @@ impl Join {
         ticket: u64,
         page: Page,
     ) -> Result<Answered, OutOfMemory>
-        ensures taken { (w : World) → Suits w self.old → IsTrueFor w self.old ticket page → IfOk result (AnswerDone w self.old self.new ticket) }
+        ensures taken { (w : World) → Suits w self.old → IsTrueFor w self.old ticket (joint_page page) → IfOk result (AnswerDone w self.old self.new ticket) }
         ensures numbered { IfOk result (AnswerNumbered self.old self.new ticket) }
 
         // But for the length of the longest page, of which `longest` speaks.
-        ensures takes { IfOk result (AnswerTakes self.old (with_longest self.new self.old.longest) ticket page) }
+        ensures takes { IfOk result (AnswerTakes self.old (with_longest self.new self.old.longest) ticket (joint_page page)) }
         ensures stranger { (result ≡ Ok Answered.Stranger) → All (λ t. (t ≡ ticket) → ⊥) (tickets_out self.old) }
         ensures keeps { (terms : Terms) → KeepsTo terms self.old → NextAtHome terms.homes page.next → KeepsTo terms self.new }
         ensures small { (n : ℕ) → IsKeptSmall n self.old.longest self.old → IsKeptSmall n self.new.longest self.new }
@@ -192,14 +117,7 @@ impl Join {
         ensures kept { self.new.tickets ≡ self.old.tickets }
         ensures failed { OnErr result (self.new ≡ self.old) }
     {
-        let count = page.triples.as_slice().len();
-        match self.take_page(alloc, ticket, page)? {
-            Answered::Stranger => Ok(Answered::Stranger),
-            Answered::Taken => {
-                self.note_page(count);
-                Ok(Answered::Taken)
-            }
-        }
+        self.join.answer(alloc, ticket, JointPage::one(alloc, page))
     }
 
     /// Takes a row that waits; `None` exactly where none does, and then nothing changes. It takes no memory.
@@ -215,7 +133,7 @@ impl Join {
         ensures small { (n m : ℕ) → IsKeptSmall n m self.old → IsKeptSmall n m self.new }
         ensures kept { (self.new.tickets ≡ self.old.tickets) × (self.new.longest ≡ self.old.longest) }
     {
-        self.waiting.pop()
+        self.join.take_row()
     }
 
     /// How many nodes are open; the count stands still at 2^64 - 1. With n patterns and pages of at most m triples they are at
@@ -224,7 +142,7 @@ impl Join {
         ensures value { result ≡ min (length (nodes self.now.levels)) (2 ^ 64 - 1) }
         ensures small { (n m : ℕ) → IsKeptSmall n m self.now → result ≤ 1 + (n - 1) * (m * self.now.window) }
     {
-        open_nodes(self.levels.as_slice())
+        self.join.open_rows()
     }
 
     /// Whether no node is open, no ticket is out and no row waits. It takes no memory.
@@ -232,13 +150,13 @@ impl Join {
         ensures done { IsTrue result ↔ IsDone self.now }
         ensures value { result ≡ is_over self.now }
     {
-        self.waiting.is_empty() && self.open_rows() == 0
+        self.join.is_done()
     }
 
     /// The most triples of a page that was taken, and at least 1. It takes no memory.
     pub fn longest_page(&self) -> usize
         ensures { result ≡ self.now.longest }
     {
-        self.longest
+        self.join.longest_page()
     }
 }

@@ -5,12 +5,11 @@ ghost use Rattle.bgp_core.specs.declared.pattern.Pattern.{Pattern};
 ghost use Rattle.bgp_core.specs.Queries.{HasPlacesFor};
 ghost use Rattle.bgp_core.specs.Instances.{instance};
 ghost use Rattle.rdf_terms.specs.Askable.{askable};
-ghost use Rattle.tpf_base.specs.Addresses.{IsAddress};
-ghost use Rattle.template_fill.specs.Forms.{form_text};
-ghost use Rattle.template_fill.specs.Authorities.{ShareAuthority};
+ghost use Rattle.join_core.specs.Rounds.{IsFirstRound, ShareForms};
 ghost use Rattle.join_core.specs.Sound.{IsAskedBy};
-ghost use Rattle.join_core.specs.Nodes.{all_askable, fresh, opened, put_out, is_got};
-ghost use Rattle.join_core.specs.Events.{CanAsk, asked, IsNextAddress, waits_for, first_waiting, with_first_at, is_full, next_walk, chosen_page, IsFirstOf, first_at, least_in, opened_by, out_by, after_by, MadeOf, IsChosen, has_ask, is_idle};
+ghost use Rattle.join_core.specs.Nodes.{all_askable, fresh, node, opened, put_out, is_got};
+ghost use Rattle.join_core.specs.Nodes.Stage.{Walking};
+ghost use Rattle.join_core.specs.Events.{CanAsk, asked, IsNextRound, waits_for, first_waiting, with_first_at, is_full, next_walk, chosen_page, IsFirstOf, first_at, least_in, opened_by, out_by, after_by, MadeOf, IsChosen, has_ask, is_idle};
 ghost use Rattle.join_core.specs.Levels.{seed_node};
 
 use crate::choice::least_count;
@@ -19,13 +18,13 @@ use crate::first::First;
 use crate::next_page::NextPage;
 use crate::opening::Opening;
 use crate::pattern_list::PatternList;
+use crate::{FormList, JointPage, Round};
 use bgp_core::{Pattern, Row, instance};
-use fragment_page::Page;
+use fragment_page::TripleList;
 use std::alloc::Global;
 use std::marker::Model;
 use std::mem;
 use std::rc::Rc;
-use template_fill::{Form, WebAddress};
 use tpf_base::OutOfMemory;
 
 /// A walk over the pages of the chosen pattern.
@@ -80,19 +79,19 @@ impl Model for Node {
     ghost invariant = { λ n. AllByRecursion (HasPlacesFor (length n.row)) n.rest.value × IsMadeStage n.row n.rest.value (stage_of n.progress) };
 }
 
-/// The address of the first page of a pattern under a row.
-fn first_address(
+/// The round of the first pages of a pattern under a row.
+fn first_round(
     alloc: Global,
-    form: &Form,
+    forms: &FormList,
     pattern: &Pattern,
     row: &Row,
-) -> Result<WebAddress, OutOfMemory>
+) -> Result<Round, OutOfMemory>
     requires { askable (instance pattern.now row.now) ≡ true }
-    ensures address { IfOk result (λ a. IsAddress (form_text form.now (instance pattern.now row.now)) a) }
-    ensures authority { IfOk result (λ a. ShareAuthority form.now.template.start a) }
+    ensures first { IfOk result (λ r. IsFirstRound forms.now (instance pattern.now row.now) r) }
+    ensures shared { IfOk result (λ r. ShareForms forms.now r.addresses) }
 {
     let slots = instance(alloc, pattern, row)?;
-    form.address(alloc, &slots)
+    forms.first_round(alloc, &slots)
 }
 
 /// The place of the first page that is out under a ticket.
@@ -135,25 +134,25 @@ impl Node {
         }
     }
 
-    /// Hands out the next address that the node has to ask, under a ticket.
+    /// Hands out the next round that the node has to ask, under a ticket.
     pub(crate) fn ask(
         &mut self,
         alloc: Global,
-        form: &Form,
+        forms: &FormList,
         ticket: u64,
-    ) -> Result<WebAddress, OutOfMemory>
+    ) -> Result<Round, OutOfMemory>
         requires { CanAsk self.old }
         ensures done { OnOk result (self.new ≡ asked ticket self.old) }
-        ensures address { IfOk result (λ a. IsNextAddress form.now self.old a) }
-        ensures asked_by { IfOk result (λ a. IsAskedBy form.now self.old.stage a) }
+        ensures round { IfOk result (λ r. IsNextRound forms.now self.old r) }
+        ensures asked_by { IfOk result (λ a. IsAskedBy forms.now self.old.stage a) }
         ensures failed { OnErr result (self.new ≡ self.old) }
     {
         match &mut self.progress {
             Progress::Asks(firsts) => {
                 let pattern = self.rest.at(firsts.len());
-                let address = first_address(alloc, form, pattern, &self.row)?;
+                let round = first_round(alloc, forms, pattern, &self.row)?;
                 firsts.push(First::Out(ticket))?;
-                Ok(address)
+                Ok(round)
             }
             Progress::Walks(walk) => Ok(walk.next.hand_out(ticket)),
         }
@@ -180,10 +179,7 @@ impl Node {
         requires { IsFirstOf index self.old }
         ensures { self.new ≡ with_first_at index first self.old }
     {
-        match &mut self.progress {
-            Progress::Asks(firsts) => firsts[index] = first,
-            Progress::Walks(_) => {}
-        }
+        let _before = self.swap_first(index, first);
     }
 
     /// Writes over what is held of a first page, and gives back what was there.
@@ -231,55 +227,72 @@ impl Node {
     }
 }
 
-/// The node that walks on after some pages, if there is a further one, whose address it takes.
-fn walk_on(
+/// The node that walks over the pages of the chosen pattern, from a round on.
+fn walking(
     alloc: Global,
     row: &Row,
-    rest: Rc<PatternList>,
+    rest: &Rc<PatternList>,
     chosen: &Rc<Pattern>,
     pages: u64,
-    next: Option<WebAddress>,
-) -> Result<Option<Node>, OutOfMemory>
-    requires places { AllByRecursion (HasPlacesFor (length row.now)) rest.value }
+    round: Round,
+) -> Result<Node, OutOfMemory>
+    requires places { AllByRecursion (HasPlacesFor (length row.now)) rest.now.value }
     requires chosen { HasPlacesFor (length row.now) chosen.now.value }
-    ensures { IfOk result (λ o. o ≡ next_walk chosen.now.value rest.value row.now pages next) }
+    ensures { IfOk result (λ n. n ≡ node row.now rest.now.value (Walking chosen.now.value pages round None)) }
 {
-    let Some(address) = next else {
-        return Ok(None);
-    };
     let walk = Walk {
         chosen: chosen.clone()?,
         pages,
-        next: NextPage::Held(address),
+        next: NextPage::Held(round),
     };
-    Ok(Some(Node {
+    Ok(Node {
         row: row.copy(alloc)?,
-        rest,
+        rest: rest.clone()?,
         progress: Progress::Walks(walk),
-    }))
+    })
+}
+
+/// The node that walks on after some pages, if there is a further one, whose round it takes.
+fn walk_on(
+    alloc: Global,
+    row: &Row,
+    rest: &Rc<PatternList>,
+    chosen: &Rc<Pattern>,
+    pages: u64,
+    next: Option<Round>,
+) -> Result<Option<Node>, OutOfMemory>
+    requires places { AllByRecursion (HasPlacesFor (length row.now)) rest.now.value }
+    requires chosen { HasPlacesFor (length row.now) chosen.now.value }
+    ensures { IfOk result (λ o. o ≡ next_walk chosen.now.value rest.now.value row.now pages next) }
+{
+    match next {
+        None => Ok(None),
+        Some(round) => Ok(Some(walking(alloc, row, rest, chosen, pages, round)?)),
+    }
 }
 
 /// What a page of a pattern makes of a row. Its triples are moved or dropped one by one.
 fn made_of(
     alloc: Global,
     row: &Row,
-    rest: Rc<PatternList>,
+    rest: &Rc<PatternList>,
     chosen: &Rc<Pattern>,
     pages: u64,
-    page: Page,
+    page: JointPage,
 ) -> Result<Made, OutOfMemory>
-    requires places { AllByRecursion (HasPlacesFor (length row.now)) rest.value }
+    requires places { AllByRecursion (HasPlacesFor (length row.now)) rest.now.value }
     requires chosen { HasPlacesFor (length row.now) chosen.now.value }
-    ensures opened { IfOk result (λ m. map seed_node m.opened.items ≡ opened chosen.now.value rest.value row.now page.triples) }
-    ensures rows { IfOk result (λ m. m.rows.items ≡ put_out chosen.now.value rest.value row.now page.triples) }
-    ensures after { IfOk result (λ m. m.after ≡ next_walk chosen.now.value rest.value row.now pages page.next) }
+    ensures opened { IfOk result (λ m. map seed_node m.opened.items ≡ opened chosen.now.value rest.now.value row.now page.triples) }
+    ensures rows { IfOk result (λ m. m.rows.items ≡ put_out chosen.now.value rest.now.value row.now page.triples) }
+    ensures after { IfOk result (λ m. m.after ≡ next_walk chosen.now.value rest.now.value row.now pages page.next) }
     ensures idle { IfOk result (λ m. All (λ n. is_idle n ≡ true) (map seed_node m.opened.items ++ option_to_list m.after)) }
 {
+    let JointPage { triples, next, .. } = page;
+    let after = walk_on(alloc, row, rest, chosen, pages, next)?;
     let mut opened = Vec::new(alloc);
     let mut rows = Vec::new(alloc);
-    let triples = page.triples.into_vec();
-    expand(alloc, chosen, &rest, row, triples, &mut opened, &mut rows)?;
-    let after = walk_on(alloc, row, rest, chosen, pages, page.next)?;
+    let triples = triples.into_vec();
+    expand(alloc, chosen, rest, row, triples, &mut opened, &mut rows)?;
     Ok(Made {
         opened,
         rows,
@@ -287,12 +300,12 @@ fn made_of(
     })
 }
 
-/// The address of a next page again, if there is one.
-fn copy_next(alloc: Global, next: &Option<WebAddress>) -> Result<Option<WebAddress>, OutOfMemory>
+/// The round of a next page again, if there is one.
+fn copy_next(alloc: Global, next: &Option<Round>) -> Result<Option<Round>, OutOfMemory>
     ensures { IfOk result (λ o. o ≡ next.now) }
 {
     match next {
-        Some(address) => Ok(Some(address.copy(alloc)?)),
+        Some(round) => Ok(Some(round.copy(alloc)?)),
         None => Ok(None),
     }
 }
@@ -301,24 +314,24 @@ fn copy_next(alloc: Global, next: &Option<WebAddress>) -> Result<Option<WebAddre
 fn made_of_held(
     alloc: Global,
     row: &Row,
-    rest: Rc<PatternList>,
+    rest: &Rc<PatternList>,
     chosen: &Rc<Pattern>,
     pages: u64,
-    page: &Page,
+    page: &JointPage,
 ) -> Result<Made, OutOfMemory>
-    requires places { AllByRecursion (HasPlacesFor (length row.now)) rest.value }
+    requires places { AllByRecursion (HasPlacesFor (length row.now)) rest.now.value }
     requires chosen { HasPlacesFor (length row.now) chosen.now.value }
-    ensures opened { IfOk result (λ m. map seed_node m.opened.items ≡ opened chosen.now.value rest.value row.now page.now.triples) }
-    ensures rows { IfOk result (λ m. m.rows.items ≡ put_out chosen.now.value rest.value row.now page.now.triples) }
-    ensures after { IfOk result (λ m. m.after ≡ next_walk chosen.now.value rest.value row.now pages page.now.next) }
+    ensures opened { IfOk result (λ m. map seed_node m.opened.items ≡ opened chosen.now.value rest.now.value row.now page.now.triples) }
+    ensures rows { IfOk result (λ m. m.rows.items ≡ put_out chosen.now.value rest.now.value row.now page.now.triples) }
+    ensures after { IfOk result (λ m. m.after ≡ next_walk chosen.now.value rest.now.value row.now pages page.now.next) }
     ensures idle { IfOk result (λ m. All (λ n. is_idle n ≡ true) (map seed_node m.opened.items ++ option_to_list m.after)) }
 {
+    let further = copy_next(alloc, &page.next)?;
+    let after = walk_on(alloc, row, rest, chosen, pages, further)?;
     let mut opened = Vec::new(alloc);
     let mut rows = Vec::new(alloc);
     let triples = page.triples.as_slice();
-    expand_held(alloc, chosen, &rest, row, triples, &mut opened, &mut rows)?;
-    let next = copy_next(alloc, &page.next)?;
-    let after = walk_on(alloc, row, rest, chosen, pages, next)?;
+    expand_held(alloc, chosen, rest, row, triples, &mut opened, &mut rows)?;
     Ok(Made {
         opened,
         rows,
@@ -341,46 +354,40 @@ fn nothing(alloc: Global) -> Made
 }
 
 /// Whether a page says that its fragment has no triple.
-fn counts_none(page: &Page) -> bool
+fn counts_none(page: &JointPage) -> bool
     ensures { result ≡ (page.now.count == 0) }
 {
     page.count == 0
 }
 
-/// What the first page of the chosen pattern makes of a row: nothing where its count is 0.
-fn made_first(
-    alloc: Global,
-    row: &Row,
-    rest: Rc<PatternList>,
-    chosen: &Rc<Pattern>,
-    page: Page,
-) -> Result<Made, OutOfMemory>
-    requires places { AllByRecursion (HasPlacesFor (length row.now)) rest.value }
-    requires chosen { HasPlacesFor (length row.now) chosen.now.value }
-    ensures opened { IfOk result (λ m. map seed_node m.opened.items ≡ opened chosen.now.value rest.value row.now (chosen_page page).triples) }
-    ensures rows { IfOk result (λ m. m.rows.items ≡ put_out chosen.now.value rest.value row.now (chosen_page page).triples) }
-    ensures after { IfOk result (λ m. m.after ≡ next_walk chosen.now.value rest.value row.now 1 (chosen_page page).next) }
-    ensures idle { IfOk result (λ m. All (λ n. is_idle n ≡ true) (map seed_node m.opened.items ++ option_to_list m.after)) }
+/// What a node takes of the page that it chose: nothing where its count is 0.
+fn chosen_part(alloc: Global, page: JointPage) -> JointPage
+    ensures { result ≡ chosen_page page }
 {
     if counts_none(&page) {
-        return Ok(nothing(alloc));
+        return JointPage {
+            triples: TripleList::from_vec(Vec::new(alloc)),
+            count: page.count,
+            next: None,
+        };
     }
-    made_of(alloc, row, rest, chosen, 1, page)
+    page
 }
 
-/// What the first page of the chosen pattern makes of a row where it stays held, as `made_first`.
+/// What the first page of the chosen pattern makes of a row where it stays held: nothing where
+/// its count is 0.
 fn made_first_held(
     alloc: Global,
     row: &Row,
-    rest: Rc<PatternList>,
+    rest: &Rc<PatternList>,
     chosen: &Rc<Pattern>,
-    page: &Page,
+    page: &JointPage,
 ) -> Result<Made, OutOfMemory>
-    requires places { AllByRecursion (HasPlacesFor (length row.now)) rest.value }
+    requires places { AllByRecursion (HasPlacesFor (length row.now)) rest.now.value }
     requires chosen { HasPlacesFor (length row.now) chosen.now.value }
-    ensures opened { IfOk result (λ m. map seed_node m.opened.items ≡ opened chosen.now.value rest.value row.now (chosen_page page.now).triples) }
-    ensures rows { IfOk result (λ m. m.rows.items ≡ put_out chosen.now.value rest.value row.now (chosen_page page.now).triples) }
-    ensures after { IfOk result (λ m. m.after ≡ next_walk chosen.now.value rest.value row.now 1 (chosen_page page.now).next) }
+    ensures opened { IfOk result (λ m. map seed_node m.opened.items ≡ opened chosen.now.value rest.now.value row.now (chosen_page page.now).triples) }
+    ensures rows { IfOk result (λ m. m.rows.items ≡ put_out chosen.now.value rest.now.value row.now (chosen_page page.now).triples) }
+    ensures after { IfOk result (λ m. m.after ≡ next_walk chosen.now.value rest.now.value row.now 1 (chosen_page page.now).next) }
     ensures idle { IfOk result (λ m. All (λ n. is_idle n ≡ true) (map seed_node m.opened.items ++ option_to_list m.after)) }
 {
     if counts_none(page) {
@@ -391,7 +398,7 @@ fn made_first_held(
 
 impl Node {
     /// What the next page of a walk makes of the node.
-    pub(crate) fn next_page(&self, alloc: Global, page: Page) -> Result<Made, OutOfMemory>
+    pub(crate) fn next_page(&self, alloc: Global, page: JointPage) -> Result<Made, OutOfMemory>
         ensures opened { IfOk result (λ m. map seed_node m.opened.items ≡ opened_by self.now page.triples) }
         ensures rows { IfOk result (λ m. m.rows.items ≡ out_by self.now page.triples) }
         ensures after { IfOk result (λ m. m.after ≡ after_by self.now page.next) }
@@ -401,24 +408,29 @@ impl Node {
             return Ok(nothing(alloc));
         };
         let pages = walk.pages.saturating_add(1);
-        made_of(
-            alloc,
-            &self.row,
-            self.rest.clone()?,
-            &walk.chosen,
-            pages,
-            page,
-        )
+        made_of(alloc, &self.row, &self.rest, &walk.chosen, pages, page)
+    }
+
+    /// The patterns but the one at a place.
+    fn others(&self, alloc: Global, index: usize) -> Result<Rc<PatternList>, OutOfMemory>
+        requires { index < length self.now.rest }
+        ensures patterns { IfOk result (λ rest. rest.value ≡ remove self.now.rest index) }
+        ensures places { IfOk result (λ rest. AllByRecursion (HasPlacesFor (length self.now.row)) rest.value) }
+    {
+        let patterns = self.rest.without(alloc, index)?;
+        let rest = Rc::new(alloc, patterns)?;
+        Ok(rest)
     }
 
     /// What the first page of the pattern at a place makes of the node: nothing where the count is 0.
-    fn go_on(&self, alloc: Global, index: usize, page: Page) -> Result<Made, OutOfMemory>
+    fn go_on(&self, alloc: Global, index: usize, page: JointPage) -> Result<Made, OutOfMemory>
         requires { index < length self.now.rest }
         ensures made { IfOk result (λ m. (p : Pattern) → p ≡ slice_index_or self.now.rest index p → MadeOf p (remove self.now.rest index) self.now.row (1) (chosen_page page) (map seed_node m.opened.items) m.rows.items m.after) }
         ensures idle { IfOk result (λ m. All (λ n. is_idle n ≡ true) (map seed_node m.opened.items ++ option_to_list m.after)) }
     {
-        let rest = Rc::new(alloc, self.rest.without(alloc, index)?)?;
-        made_first(alloc, &self.row, rest, self.rest.at(index), page)
+        let rest = self.others(alloc, index)?;
+        let page = chosen_part(alloc, page);
+        made_of(alloc, &self.row, &rest, self.rest.at(index), 1, page)
     }
 
     /// The place of the least count of the first pages, the first on a tie.
@@ -447,8 +459,8 @@ impl Node {
         let First::Got(page) = &firsts[index] else {
             return Ok(nothing(alloc));
         };
-        let rest = Rc::new(alloc, self.rest.without(alloc, index)?)?;
-        made_first_held(alloc, &self.row, rest, self.rest.at(index), page)
+        let rest = self.others(alloc, index)?;
+        made_first_held(alloc, &self.row, &rest, self.rest.at(index), page)
     }
 
     /// Puts a ticket back in the place of the page that came last and has the least count, and goes on with the page.
@@ -492,7 +504,7 @@ impl Node {
         alloc: Global,
         index: usize,
         ticket: u64,
-        page: Page,
+        page: JointPage,
     ) -> Result<Option<Made>, OutOfMemory>
         requires { waits_for ticket self.old ≡ Some (Waits.First index) }
         ensures held { IfOk result (λ o. IfNone o ((is_full (with_first_at index (First.Got page) self.old) ≡ false) × (self.new ≡ with_first_at index (First.Got page) self.old))) }

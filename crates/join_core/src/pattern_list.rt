@@ -1,5 +1,5 @@
 // Lists of patterns that nodes share.
-ghost use Rattle.std.specs.Prelude.{◌≡◌, ◌<◌, length, map, IfOk, slice_index_or};
+ghost use Rattle.std.specs.Prelude.{◌≡◌, ◌<◌, ◌++◌, ◌∷◌, [], length, map, IfOk, OnOk, slice_index_or};
 ghost use Rattle.std.specs.List.{remove};
 ghost use Rattle.bgp_core.specs.declared.pattern.Pattern.{Pattern};
 ghost use Rattle.std.specs.Rc.{rc_value};
@@ -26,13 +26,21 @@ impl Model for PatternList {
     ghost view = { λ l. map rc_value l.patterns.items };
 }
 
+/// Adds a pattern, which both lists share then.
+fn share(list: &mut Vec<Rc<Pattern>>, pattern: &Rc<Pattern>) -> Result<(), OutOfMemory>
+    ensures { OnOk result (map rc_value list.new.items ≡ map rc_value list.old.items ++ pattern.now.value ∷ []) }
+{
+    list.push(pattern.clone()?)?;
+    Ok(())
+}
+
 fn share_all(alloc: Global, patterns: &[Rc<Pattern>]) -> Result<Vec<Rc<Pattern>>, OutOfMemory>
     ensures patterns { IfOk result (λ v. map rc_value v.items ≡ map rc_value patterns.now) }
     ensures count { IfOk result (λ v. length v.items ≡ length patterns.now) }
 {
     let mut copy = Vec::with_capacity(alloc, patterns.len())?;
     for pattern in patterns {
-        copy.push(pattern.clone()?)?;
+        share(&mut copy, pattern)?;
     }
     Ok(copy)
 }

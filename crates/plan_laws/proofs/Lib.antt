@@ -5,3 +5,4 @@ pub mod Asked
 pub mod Plans
 pub mod Reading
 pub mod Servers
+pub mod JointWorlds

@@ -1,6 +1,6 @@
 -- Each address of a plan is that of a page that there is, of slots whose terms are those of the patterns and of the data.
-use Rattle.std.proofs.Common.{ℕ, zero, suc, ◌≡◌, ◌+◌, ◌-◌, ◌/◌, ◌≤◌, max, Bool, true, false, ◌&&◌, List, [], ◌∷◌, ◌++◌, map, length, Option, Some, None, slice_index_or, if◌then◌else◌, refl, arith}
-use Rattle.std.specs.List.{AllByRecursion, Contains, remove}
+use Rattle.std.proofs.Common.{ℕ, zero, suc, ◌≡◌, ◌+◌, ◌-◌, ◌*◌, ◌/◌, ◌≤◌, max, take, drop, Bool, true, false, ◌&&◌, List, [], ◌∷◌, ◌++◌, map, length, Option, Some, None, slice_index_or, if◌then◌else◌, refl, arith}
+use Rattle.std.specs.List.{AllByRecursion, Contains, remove, flat_map}
 use Rattle.std.proofs.lemmas.List.Elements.{All-from_recursion, recursion_from_All, All-contains, All-contains_itself, All-weaker}
 use Rattle.tpf_base.specs.Addresses.{Address}
 use Rattle.rdf_terms.specs.declared.term.Term.{Term}
@@ -14,9 +14,10 @@ use Rattle.template_fill.specs.Authorities.{address_of_page}
 use Rattle.bgp_core.specs.declared.pattern.Pattern.{Pattern}
 use Rattle.bgp_core.specs.Solutions.{Places, extension, rows_from}
 use Rattle.bgp_core.specs.Instances.{instance}
-use Rattle.join_core.specs.Worlds.{World}
+use Rattle.join_core.specs.Rounds.{RoundData, round_of_one, addresses_in}
+use Rattle.join_core.specs.Worlds.{World, numbers, items_after}
 use Rattle.plan_laws.specs.Servers.{server_world}
-use Rattle.join_core.specs.Nodes.{Plans, numbers, pages_after, first_addresses, all_askable, least, counts, plans_over, chosen_plan, asking_plan, plan_for}
+use Rattle.join_core.specs.Nodes.{Plans, rounds_after, first_rounds, all_askable, least, counts, plans_over, chosen_plan, asking_plan, plan_for}
 use Rattle.join_core.proofs.Valid.{every-remove}
 use Rattle.plan_laws.proofs.Slots.{Binds, HasTerms, HasParts, HasSlots, instance_slots, extended_binds}
 
@@ -53,6 +54,18 @@ numbers_all : {X : Type 0} (f : ℕ → X) (Q : X → Type 0) (top : ℕ) → ((
 numbers_all f Q top each n zero low high = tt
 numbers_all f Q top each n (suc k) low high = (each n low (omega (arith, high)), numbers_all f Q top each (suc n) k (omega arith) (omega (arith, high)))
 
+all_taken : {X : Type 0} (Q : X → Type 0) (n : ℕ) (xs : List X) → AllByRecursion Q xs → AllByRecursion Q (take n xs)
+all_taken Q zero [] a = tt
+all_taken Q zero (x ∷ xs) a = tt
+all_taken Q (suc n) [] a = tt
+all_taken Q (suc n) (x ∷ xs) a = (a.0, all_taken Q n xs a.1)
+
+all_dropped : {X : Type 0} (Q : X → Type 0) (n : ℕ) (xs : List X) → AllByRecursion Q xs → AllByRecursion Q (drop n xs)
+all_dropped Q zero [] a = tt
+all_dropped Q zero (x ∷ xs) a = a
+all_dropped Q (suc n) [] a = tt
+all_dropped Q (suc n) (x ∷ xs) a = all_dropped Q n xs a.1
+
 -- ---- the chosen pattern
 
 index_in : {X : Type 0} (Q : X → Type 0) (xs : List X) (i : ℕ) (d : X) → Q d → AllByRecursion Q xs → Q (slice_index_or xs i d)
@@ -64,8 +77,13 @@ module _ (P : Term → Type 0) (triples : List Triple) (config : Config) where
   abbrev w : World
   w = server_world triples config
 
-  abbrev Planned : Address → Type 0
-  Planned = IsPlanned P triples config
+  -- each address of the round is so
+  abbrev Planned : RoundData → Type 0
+  Planned round = AllByRecursion (IsPlanned P triples config) round.addresses
+
+  each_address : (rounds : List RoundData) → AllByRecursion Planned rounds → AllByRecursion (IsPlanned P triples config) (addresses_in rounds)
+  each_address [] h = tt
+  each_address (round ∷ rounds) h = both_all (IsPlanned P triples config) round.addresses (addresses_in rounds) h.0 (each_address rounds h.1)
 
   -- what holds of the terms of the data holds of those of a fragment
   pub fragment_all : (Q : Triple → Type 0) (slots : Slots) → AllByRecursion Q triples → AllByRecursion Q (fragment triples slots)
@@ -74,19 +92,25 @@ module _ (P : Term → Type 0) (triples : List Triple) (config : Config) where
       recursion_from_All Q (fragment triples slots)
       (All-weaker (Contains (fragment triples slots)) Q (λ t h. All-contains Q triples t own (((fragment_is triples slots).members t).0 h).0) (fragment triples slots) (All-contains_itself (fragment triples slots)))
 
-  page_planned : (slots : Slots) (k : ℕ) → askable slots ≡ true → HasSlots P slots → 1 ≤ k → k ≤ last_page triples slots config.page_size → Planned (address_of_page config.base slots k)
-  page_planned slots k asked terms low high = record { slots = slots; k = k; address_is = refl; asked = asked; terms = terms; low = low; high = high }
+  -- so does what holds of those of all its pages
+  items_all : (Q : Triple → Type 0) (slots : Slots) → AllByRecursion Q (fragment triples slots) → (ns : List ℕ) → AllByRecursion Q (flat_map (w.items slots) ns)
+  items_all Q slots all [] = tt
+  items_all Q slots all (k ∷ ns) =
+      both_all Q (w.items slots k) (flat_map (w.items slots) ns) (all_taken Q config.page_size (drop (k * config.page_size) (fragment triples slots)) (all_dropped Q (k * config.page_size) (fragment triples slots) all)) (items_all Q slots all ns)
 
-  firsts_planned : (row : Places) (ps : List Pattern) → all_askable row ps ≡ true → AllByRecursion (HasParts P) ps → Binds P row → AllByRecursion Planned (first_addresses w row ps)
+  page_planned : (slots : Slots) (k : ℕ) → askable slots ≡ true → HasSlots P slots → 1 ≤ k → k ≤ last_page triples slots config.page_size → Planned (round_of_one (address_of_page config.base slots k))
+  page_planned slots k asked terms low high = (record { slots = slots; k = k; address_is = refl; asked = asked; terms = terms; low = low; high = high }, tt)
+
+  firsts_planned : (row : Places) (ps : List Pattern) → all_askable row ps ≡ true → AllByRecursion (HasParts P) ps → Binds P row → AllByRecursion Planned (first_rounds w row ps)
   firsts_planned row [] a h b = tt
   firsts_planned row (p ∷ ps) a h b =
       let t = both_true (askable (instance p row)) (all_askable row ps) a in
       (page_planned (instance p row) 1 t.0 (instance_slots P p row h.0 b) (omega arith) (low_last (length (fragment triples (instance p row))) config.page_size), firsts_planned row ps t.1 h.1 b)
 
-  pages_planned : (slots : Slots) → askable slots ≡ true → HasSlots P slots → AllByRecursion Planned (pages_after w slots 1)
+  pages_planned : (slots : Slots) → askable slots ≡ true → HasSlots P slots → AllByRecursion Planned (rounds_after w slots 1)
   pages_planned slots asked terms =
       let top = last_page triples slots config.page_size in
-      numbers_all (address_of_page config.base slots) Planned top (λ m low high. page_planned slots m asked terms low high) 2 (top - 1) (omega arith) (second top (low_last (length (fragment triples slots)) config.page_size))
+      numbers_all (λ (m : ℕ). round_of_one (address_of_page config.base slots m)) Planned top (λ m low high. page_planned slots m asked terms low high) 2 (top - 1) (omega arith) (second top (low_last (length (fragment triples slots)) config.page_size))
 
   over_planned : (plans : Plans) (p : Pattern) (others : List Pattern) (row : Places) → Binds P row → ((new : Places) → Binds P new → AllByRecursion Planned (plans others new))
       → (ts : List Triple) → AllByRecursion (HasTerms P) ts → AllByRecursion Planned (plans_over plans p others row ts)
@@ -113,22 +137,25 @@ module _ (P : Term → Type 0) (triples : List Triple) (config : Config) where
   chosen_planned plans more i p ps row data_set first all h b =
       let q = slice_index_or ps i p in
       let c : IsChosen row q = index_in (IsChosen row) ps i p first all in
-      both_all Planned (pages_after w (instance q row) 1) (plans_over plans q (remove ps i) row (fragment triples (instance q row)))
+      both_all Planned (rounds_after w (instance q row) 1) (plans_over plans q (remove ps i) row (items_after w (instance q row) 0))
       (pages_planned (instance q row) c.1 (instance_slots P q row c.0 b))
-      (over_planned plans q (remove ps i) row b (λ new k. more (remove ps i) (every-remove (HasParts P) ps i h) new k) (fragment triples (instance q row)) (fragment_all (HasTerms P) (instance q row) data_set))
+      (over_planned plans q (remove ps i) row b (λ new k. more (remove ps i) (every-remove (HasParts P) ps i h) new k) (items_after w (instance q row) 0) (items_all (HasTerms P) (instance q row) (fragment_all (HasTerms P) (instance q row) data_set) (numbers 0 (w.last (instance q row) - 0))))
 
   asking_planned : (plans : Plans) → Promises plans → (p : Pattern) (ps : List Pattern) (row : Places) → AllByRecursion (HasTerms P) triples → AllByRecursion (HasParts P) (p ∷ ps) → Binds P row
       → AllByRecursion Planned (asking_plan w plans 0 (p ∷ ps) row)
   asking_planned plans more p ps row data_set h b = by (all_askable row (p ∷ ps)) refl
     where
-      by : (t : Bool) → all_askable row (p ∷ ps) ≡ t → AllByRecursion Planned (if t then first_addresses w row (p ∷ ps) ++ chosen_plan w plans (least (counts w row (p ∷ ps))) p (p ∷ ps) row else [])
+      by : (t : Bool) → all_askable row (p ∷ ps) ≡ t → AllByRecursion Planned (if t then first_rounds w row (p ∷ ps) ++ chosen_plan w plans (least (counts w row (p ∷ ps))) p (p ∷ ps) row else [])
       by false e = tt
       by true e =
           let all = all_chosen row (p ∷ ps) e h in
-          both_all Planned (first_addresses w row (p ∷ ps)) (chosen_plan w plans (least (counts w row (p ∷ ps))) p (p ∷ ps) row) (firsts_planned row (p ∷ ps) e h b)
+          both_all Planned (first_rounds w row (p ∷ ps)) (chosen_plan w plans (least (counts w row (p ∷ ps))) p (p ∷ ps) row) (firsts_planned row (p ∷ ps) e h b)
           (chosen_planned plans more (least (counts w row (p ∷ ps))) p (p ∷ ps) row data_set all.0 all h b)
 
-  pub plan_planned : (n : ℕ) (ps : List Pattern) (row : Places) → AllByRecursion (HasTerms P) triples → AllByRecursion (HasParts P) ps → Binds P row → AllByRecursion Planned (plan_for w n ps row)
-  plan_planned zero ps row data_set h b = tt
-  plan_planned (suc n) [] row data_set h b = tt
-  plan_planned (suc n) (p ∷ ps) row data_set h b = asking_planned (plan_for w n) (λ qs k new c. plan_planned n qs new data_set k c) p ps row data_set h b
+  rounds_planned : (n : ℕ) (ps : List Pattern) (row : Places) → AllByRecursion (HasTerms P) triples → AllByRecursion (HasParts P) ps → Binds P row → AllByRecursion Planned (plan_for w n ps row)
+  rounds_planned zero ps row data_set h b = tt
+  rounds_planned (suc n) [] row data_set h b = tt
+  rounds_planned (suc n) (p ∷ ps) row data_set h b = asking_planned (plan_for w n) (λ qs k new c. rounds_planned n qs new data_set k c) p ps row data_set h b
+
+  pub plan_planned : (n : ℕ) (ps : List Pattern) (row : Places) → AllByRecursion (HasTerms P) triples → AllByRecursion (HasParts P) ps → Binds P row → AllByRecursion (IsPlanned P triples config) (addresses_in (plan_for w n ps row))
+  plan_planned n ps row data_set h b = each_address (plan_for w n ps row) (rounds_planned n ps row data_set h b)

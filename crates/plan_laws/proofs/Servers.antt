@@ -1,6 +1,11 @@
 -- A server of fragments is a world.
-use Rattle.std.proofs.Common.{ℕ, suc, ◌≡◌, ◌+◌, ◌-◌, ◌*◌, ◌≤◌, nat_lt, Bool, true, false, if◌then◌else◌, List, [], ◌∷◌, length, drop, take, Option, Some, None, refl, ap, sym, subst, ◌∙◌, arith, codes}
-use Rattle.std.specs.List.{filter, All, AllByRecursion}
+use Rattle.std.proofs.Common.{ℕ, zero, suc, ◌≡◌, ◌+◌, ◌-◌, ◌*◌, ◌/◌, ◌%◌, ◌<◌, ◌≤◌, ◌^◌, ◌⊎◌, inl, inr, max, take-append-drop, drop-drop, nat_lt, Bool, true, false, if◌then◌else◌, List, [], ◌∷◌, ◌++◌, length, drop, take, Option, Some, None, refl, ap, sym, subst, ◌∙◌, arith, codes, append-nil, append_assoc}
+use Rattle.std.proofs.Math.Nat.{suc-mul, zero-mul, mul_comm, div-add-mod, mod-lt, div-eq_of_lt, add-mul}
+use Rattle.std.proofs.Math.Seq.{take-nil, drop-nil}
+use Rattle.std.proofs.lemmas.Nat.{mul-le}
+use Rattle.std.proofs.lemmas.List.{drop_all}
+use Rattle.std.specs.Option.{option_map}
+use Rattle.std.specs.List.{filter, flat_map, All, AllByRecursion}
 use Rattle.std.specs.List.Sorted.{IsPermutation, IsStrictlySortedBy}
 use Rattle.std.specs.declared.cmp.Ordering.{Ordering}
 use Rattle.std.specs.declared.cmp.Ordering.TheVariants.{Less, Equal, Greater}
@@ -13,7 +18,7 @@ use Rattle.rdf_terms.specs.declared.slots.Slots.{Slots}
 use Rattle.rdf_terms.specs.Askable.{UnaskedMatchNothing}
 use Rattle.rdf_terms.specs.Order.{triple_order}
 use Rattle.rdf_terms.specs.Slots.{matches, order_of}
-use Rattle.rdf_terms.specs.Fragments.{fragment, put_by, put, sorted}
+use Rattle.rdf_terms.specs.Fragments.{fragment, put_by, put, sorted, last_page_of}
 use Rattle.rdf_terms.specs.Valid.{IsValidTriple}
 use Rattle.rdf_terms.proofs.FragmentLaws.{order_of_tells}
 use Rattle.template_fill.specs.declared.form.Form.{Form}
@@ -26,13 +31,15 @@ use Rattle.template_fill.specs.Metadata.{Config}
 use Rattle.template_fill.specs.Configurations.{IsValidDataSet, VersionsAreValid}
 use Rattle.template_fill.specs.Bodies.{version_of}
 use Rattle.control_laws.specs.Law.{IsServerForm, IsPageOf, IsNextOf, NothingElseIsRead}
-use Rattle.join_core.specs.Worlds.{World, last}
+use Rattle.join_core.proofs.Pages.{items-first}
+use Rattle.join_core.specs.Rounds.{RoundData, round_of_one}
+use Rattle.join_core.specs.Worlds.{World, numbers, items_after}
 use Rattle.plan_laws.specs.Servers.{server_world, ServersAreWorlds, ServersHaveForms, ServersPagesAreTrue}
 
 -- ---- a fragment holds the matching triples, each as often as they
 
 -- x is none of these
-abbrev Apart : (Triple → Triple → Ordering) → Triple → List Triple → Type 0
+abbrev pub Apart : (Triple → Triple → Ordering) → Triple → List Triple → Type 0
 Apart order x ys = All (λ y. order x y ≡ Equal → ⊥) ys
 
 put-in : (order : Triple → Triple → Ordering) (x y : Triple) (ys more : List Triple) (o : Ordering) → (o ≡ Equal → ⊥) → IsPermutation (x ∷ ys) more → IsPermutation (x ∷ y ∷ ys) (put_by o x y ys more)
@@ -44,11 +51,11 @@ put-turned : (order : Triple → Triple → Ordering) (x : Triple) (ys : List Tr
 put-turned order x [] a = IsPermutation-refl _
 put-turned order x (y ∷ ys) a = put-in order x y ys (put order x ys) (order x y) (All-head (λ z. order x z ≡ Equal → ⊥) y ys a) (put-turned order x ys (All-tail (λ z. order x z ≡ Equal → ⊥) y ys a))
 
-abbrev AllApart : (Triple → Triple → Ordering) → List Triple → Type 0
+abbrev pub AllApart : (Triple → Triple → Ordering) → List Triple → Type 0
 AllApart order [] = Unit {0}
 AllApart order (x ∷ xs) = Apart order x xs × AllApart order xs
 
-sorted-turned : (order : Triple → Triple → Ordering) (xs : List Triple) → AllApart order xs → IsPermutation xs (sorted order xs)
+pub sorted-turned : (order : Triple → Triple → Ordering) (xs : List Triple) → AllApart order xs → IsPermutation xs (sorted order xs)
 sorted-turned order [] a = IsPermutation-refl _
 sorted-turned order (x ∷ xs) a =
     let more = sorted-turned order xs a.1 in
@@ -96,17 +103,96 @@ filter-length : {X : Type 0} (test : X → Bool) (xs : List X) → length (filte
 filter-length test [] = omega arith
 filter-length test (x ∷ xs) = one-longer x (filter test xs) (length xs) (test x) (filter-length test xs)
 
+-- ---- pages
+
+drop-page : {X : Type 0} (xs : List X) (k m : ℕ) → drop (k * m) xs ≡ take m (drop (k * m) xs) ++ drop (suc k * m) xs
+drop-page xs k m =
+    let e : drop m (drop (k * m) xs) ≡ drop (suc k * m) xs = drop-drop m (k * m) xs ∙ ap (λ n. drop n xs) (sym (suc-mul k m)) in
+    sym (take-append-drop m (drop (k * m) xs)) ∙ ap (λ l. take m (drop (k * m) xs) ++ l) e
+
+-- so many pages from one on, and what stands behind them
+pages-from : {X : Type 0} (xs : List X) (m k n : ℕ) → flat_map (λ i. take m (drop (i * m) xs)) (numbers k n) ++ drop ((k + n) * m) xs ≡ drop (k * m) xs
+pages-from xs m k zero = let e : k + 0 ≡ k = omega arith in ap (λ i. drop (i * m) xs) e
+pages-from xs m k (suc n) =
+    let e : k + suc n ≡ suc k + n = omega arith in
+    append_assoc (take m (drop (k * m) xs)) (flat_map (λ i. take m (drop (i * m) xs)) (numbers (suc k) n)) (drop ((k + suc n) * m) xs)
+    ∙ ap (λ i. take m (drop (k * m) xs) ++ (flat_map (λ j. take m (drop (j * m) xs)) (numbers (suc k) n) ++ drop (i * m) xs)) e
+    ∙ ap (λ l. take m (drop (k * m) xs) ++ l) (pages-from xs m (suc k) n)
+    ∙ sym (drop-page xs k m)
+
+all-pages : (n m : ℕ) → 0 < m → n ≤ last_page_of n m * m
+all-pages n m h =
+    let q = (n + (m - 1)) / m in
+    let e : m * q + (n + (m - 1)) % m ≡ n + (m - 1) = div-add-mod (n + (m - 1)) m in
+    let r : (n + (m - 1)) % m < m = mod-lt (n + (m - 1)) h in
+    let c : q * m ≡ m * q = mul_comm q m in
+    let one : n ≤ q * m = omega arith in
+    let two : q * m ≤ max 1 q * m = mul-le q m (max 1 q) m (omega arith) (omega arith) in
+    omega arith
+
+-- the pages of a list are the list
+pages-whole : {X : Type 0} (xs : List X) (m : ℕ) → 0 < m → flat_map (λ i. take m (drop (i * m) xs)) (numbers 0 (last_page_of (length xs) m)) ≡ xs
+pages-whole xs m h =
+    let last = last_page_of (length xs) m in
+    let from : 0 + last ≡ last = omega arith in
+    let none : drop ((0 + last) * m) xs ≡ [] = ap (λ n. drop (n * m) xs) from ∙ drop_all (last * m) xs (all-pages (length xs) m h) in
+    let whole = pages-from xs m 0 last in
+    sym (append-nil (flat_map (λ i. take m (drop (i * m) xs)) (numbers 0 last))) ∙ ap (λ l. flat_map (λ i. take m (drop (i * m) xs)) (numbers 0 last) ++ l) (sym none) ∙ whole ∙ ap (λ n. drop n xs) (zero-mul m)
+
+below-or-not : (q n : ℕ) → (q ≤ n) ⊎ (n + 1 ≤ q)
+below-or-not zero n = inl (omega arith)
+below-or-not (suc q) zero = inr (omega arith)
+below-or-not (suc q) (suc n) = elim (below-or-not q n) [ inl h ↦ inl (omega (arith, h)) | inr h ↦ inr (omega (arith, h)) ]
+
+too-many : (n m q : ℕ) → 0 < m → q * m ≤ n + (m - 1) → n + 1 ≤ q → ⊥
+too-many n m q h e y =
+    let two : (n + 1) * m ≤ q * m = mul-le (n + 1) m q m y (let r : m ≤ m = omega arith in r) in
+    let three : n * 1 ≤ n * m = mul-le n 1 n m (let r : n ≤ n = omega arith in r) h in
+    let four : (n + 1) * m ≡ n * m + 1 * m = add-mul n 1 m in
+    omega arith
+
+-- a fragment has no more pages than triples, and at least one
+last-small : (n m : ℕ) → 0 < m → last_page_of n m ≤ max 1 n
+last-small n m h =
+    let q = (n + (m - 1)) / m in
+    let e : m * q + (n + (m - 1)) % m ≡ n + (m - 1) = div-add-mod (n + (m - 1)) m in
+    let c : q * m ≡ m * q = mul_comm q m in
+    let most : q * m ≤ n + (m - 1) = omega arith in
+    let small : q ≤ n = elim (below-or-not q n) [ inl x ↦ x | inr y ↦ absurd (too-many n m q h most y) ] in
+    omega arith
+
+few-pages : (n m : ℕ) → 0 < m → n < 2 ^ 64 → last_page_of n m < 2 ^ 64
+few-pages n m h few = let small = last-small n m h in omega (arith, small, few)
+
+one-page : (n m : ℕ) → n ≡ 0 → 0 < m → last_page_of n m ≡ 1
+one-page n m h some =
+    let low : n + (m - 1) < m = omega (arith, h, some) in
+    ap (λ (q : ℕ). max 1 q) (div-eq_of_lt low)
+
+none-in : {X : Type 0} (l : List X) (n k : ℕ) → length l ≡ 0 → take n (drop k l) ≡ []
+none-in [] n k h = ap (take n) (drop-nil k) ∙ take-nil n
+none-in (t ∷ l) n k h = absurd (omega (arith, h))
+
+some-page : (q : ℕ) → 0 < max 1 q
+some-page q = omega arith
+
 pub world-of : ((a b : Triple) → a ≡ b → triple_order a b ≡ Equal) → UnaskedMatchNothing → VersionsAreValid → ServersAreWorlds
 world-of same unasked versions history version config h c few =
     let triples = version_of history version in
+    let size = config.page_size in
     let valid : IsValidDataSet triples = versions history version h in
     let turned : (s : Slots) → IsPermutation (filter (matches s) triples) (fragment triples s) = λ s. fragment-turned triples s same valid.data_set.ascending in
+    let sized : 0 < size = omega (arith, c.low) in
+    let whole : (s : Slots) → items_after (server_world triples config) s 0 ≡ fragment triples s = λ s. items-first (server_world triples config) s ∙ pages-whole (fragment triples s) size sized in
+    let counted : (s : Slots) → length (fragment triples s) < 2 ^ 64 = λ s. omega (arith, few, filter-length (matches s) triples, length_permutation _ _ (turned s)) in
     record {
-      fragments = turned;
-      sized = omega (arith, c.low);
-      unasked = λ s e. unasked triples s e valid.data_set.classes;
+      fragments = λ s. subst (λ (l : List Triple). IsPermutation (filter (matches s) triples) l) (sym (whole s)) (turned s);
+      some = λ s. some-page ((length (fragment triples s) + (size - 1)) / size);
+      few = λ s. few-pages (length (fragment triples s)) size sized (counted s);
+      alone = λ s e. one-page (length (fragment triples s)) size e sized;
+      none = λ s e. none-in (fragment triples s) size (0 * size) e;
+      unasked = λ s e. whole s ∙ unasked triples s e valid.data_set.classes;
       valid = all-from IsValidTriple triples valid.terms;
-      few = λ s. omega (arith, few, filter-length (matches s) triples, length_permutation _ _ (turned s));
     }
 
 form-is : (base : Address) (form : Form) (s : Slots) → IsServerForm base form → form_text form s ≡ expansion (server_template base) (filled (codes "subject") (codes "predicate") (codes "object") s)
@@ -118,26 +204,42 @@ form-is base form s f =
 
 pub form-of : PagesAreAddresses → FirstPageIsExpansion → ServersHaveForms
 form-of addresses first triples config form c f = record {
-  first = λ s e. subst (λ (x : List ℕ). IsAddress x (address_of_page config.base s 1)) (first config.base s ∙ sym (form-is config.base form s f)) (addresses config.base s 1 c.base);
+  one = λ s k. (address_of_page config.base s k, refl);
+  forms = record {
+    first = λ s e. record {
+      addresses = (subst (λ (x : List ℕ). IsAddress x (address_of_page config.base s 1)) (first config.base s ∙ sym (form-is config.base form s f)) (addresses config.base s 1 c.base), tt);
+      none = refl;
+    };
+  };
 }
 
-next-is : (w : World) (base : Address) (config : Config) (s : Slots) (k : ℕ) (o : Option Address) (b : Bool) → nat_lt (suc k) (last w s) ≡ b → OneAddress → (IsAddress (page_address config.base s (suc k + 1)) (w.address s (suc (suc k)))) → IsNextOf config s (suc k) (last w s) o → o ≡ (if b then Some (w.address s (suc (suc k))) else None)
-next-is w base config s k None true e one a n = let h : last w s ≤ suc k = n in absurd (grind (arith, nat_tests))
-next-is w base config s k None false e one a n = refl
-next-is w base config s k (Some next) true e one a n = ap (λ (x : Address). let r : Option Address = Some x in r) (one _ _ _ n.1 a)
-next-is w base config s k (Some next) false e one a n = let h = n.0 in absurd (grind (arith, nat_tests))
+next-is : (w : World) (base : Address) (config : Config) (s : Slots) (k last : ℕ) (a : Address) (o : Option Address) (b : Bool) → nat_lt (suc k) last ≡ b → OneAddress → (IsAddress (page_address config.base s (suc k + 1)) a) → IsNextOf config s (suc k) last o
+    → option_map round_of_one o ≡ (if b then Some (round_of_one a) else None)
+next-is w base config s k last a None true e one at n = let h : last ≤ suc k = n in absurd (grind (arith, nat_tests))
+next-is w base config s k last a None false e one at n = refl
+next-is w base config s k last a (Some next) true e one at n = ap (λ (x : Address). let r : Option RoundData = Some (round_of_one x) in r) (one _ _ _ n.1 at)
+next-is w base config s k last a (Some next) false e one at n = let h = n.0 in absurd (grind (arith, nat_tests))
+
+-- the address of a round for one server
+head-of : Address → List Address → Address
+head-of a [] = a
+head-of a (x ∷ xs) = x
+
+one-address : (a b : Address) → round_of_one a ≡ round_of_one b → a ≡ b
+unfolding head-of
+one-address a b e = ap (λ (r : RoundData). head-of a r.addresses) e
 
 pub pages-of : PagesAreAddresses → OneAddress → NothingElseIsRead → ServersPagesAreTrue
 pages-of addresses one only history version config address page h number_is c read = record {
   stands = λ s k valid ask at below.
       let triples = version_of history version in
       let w = server_world triples config in
-      let is : IsPageOf triples version config s (suc k) page = (only history version config s (suc k) address page h number_is c (read s k valid ask at below)).is_page in
+      let is : IsPageOf triples version config s (suc k) page = (only history version config s (suc k) address page h number_is c (read s k valid ask (one-address address (address_of_page config.base s (suc k)) at) below)).is_page in
       let number : suc k + 1 ≡ suc (suc k) = omega arith in
       let there : IsAddress (page_address config.base s (suc k + 1)) (address_of_page config.base s (suc (suc k))) = subst (λ (n : ℕ). IsAddress (page_address config.base s n) (address_of_page config.base s (suc (suc k)))) (sym number) (addresses config.base s (suc (suc k)) c.base) in
       record {
         triples = is.triples_are ∙ ap (λ (n : ℕ). take config.page_size (drop (n * config.page_size) (fragment triples s))) (let one : suc k - 1 ≡ k = omega arith in one);
-        count = is.count;
-        next = next-is w config.base config s k page.next (nat_lt (suc k) (last w s)) refl one there is.next;
+        count = λ e. is.count;
+        next = next-is w config.base config s k (w.last s) (address_of_page config.base s (suc (suc k))) page.next (nat_lt (suc k) (w.last s)) refl one there is.next;
       };
 }

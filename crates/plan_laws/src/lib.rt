@@ -15,6 +15,7 @@
 #![tactic(auto)]
 
 ghost use Rattle.plan_laws.specs.Fitting.{PlansAreRead, BasesAreRead, StartsAreRead};
+ghost use Rattle.plan_laws.specs.JointWorlds.{WorldsAreJoined};
 ghost use Rattle.plan_laws.specs.Servers.{ServersAreWorlds, ServersHaveForms, ServersPagesAreTrue};
 
 use control_laws::controls_read_back;
@@ -59,3 +60,10 @@ pub fn a_server_is_a_world()
     pages_share_authority();
     versions_are_valid();
 }
+
+/// Several servers are a world together: the union of their triples, in which a triple that several of them have stands once,
+/// asked for in rounds of which each has a page of every server that has one of its number. So a join in rounds over them gives
+/// the solutions over the union.
+pub fn worlds_together_are_a_world()
+    ensures { WorldsAreJoined }
+{}

@@ -7,6 +7,6 @@ use Rattle.join_core.proofs.node.made_of.Goals as goal
 
 pub returns-clause-idle : goal.returns-clause-idle
 returns-clause-idle c =
-    let m : map seed_node c.expand.new.nodes.items ≡ opened c.args.chosen.now.value c.args.rest.value c.args.row.now c.args.page.triples = search rules in
-    let a : c.in_ok-after.after ≡ next_walk c.args.chosen.now.value c.args.rest.value c.args.row.now c.args.pages c.args.page.next = search rules in
-    made-idle c.args.chosen.now.value c.args.rest.value c.args.row.now c.args.pages c.args.page.triples c.args.page.next _ _ m a
+    let m : map seed_node c.expand.new.nodes.items ≡ opened c.args.chosen.now.value c.args.rest.now.value c.args.row.now c.args.page.triples = search rules in
+    let a : c.in_ok-after.after ≡ next_walk c.args.chosen.now.value c.args.rest.now.value c.args.row.now c.args.pages c.args.page.next = search rules in
+    made-idle c.args.chosen.now.value c.args.rest.now.value c.args.row.now c.args.pages c.args.page.triples c.args.page.next _ _ m a

@@ -13,7 +13,7 @@ made_first_held-requires-clause-chosen c =
     let made : IsAsking c.self.inside.row c.self.inside.rest.value c.in-Asks.firsts.items = subst (λ (s : Progress). IsMadeStage c.self.inside.row c.self.inside.rest.value (stage_of s)) c.in-Asks.is c.self.invariant.1 in
     let below : c.least_count-index.result < length c.self.inside.rest.value = omega (arith, made.within) in
     found-every (λ p. HasPlacesFor (length c.self.inside.row) p) c.self.inside.rest.value c.least_count-index.result c.at.result.now.value c.self.invariant.0 below
-    (λ p e. c.at.ensures p (e ∙ ap (λ l. get_or l c.least_count-index.result p) (sym c.deref-3.ensures)))
+    (λ p e. c.at.ensures p (e ∙ ap (λ l. get_or l c.least_count-index.result p) (sym c.deref-2.ensures)))
 
 pub returns-then-index-len-clause-chosen : goal.returns-then-index-len-clause-chosen
 returns-then-index-len-clause-chosen c =

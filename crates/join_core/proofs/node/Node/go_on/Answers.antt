@@ -4,8 +4,8 @@ use Rattle.join_core.specs.Nodes.{NodeData}
 use Rattle.join_core.proofs.Valid.{found-every}
 use Rattle.join_core.proofs.node.Node.go_on.Goals as goal
 
-pub made_first-requires-clause-chosen : goal.made_first-requires-clause-chosen
-made_first-requires-clause-chosen c =
+pub made_of-requires-clause-chosen : goal.made_of-requires-clause-chosen
+made_of-requires-clause-chosen c =
     let below : c.args.index < length c.self.inside.rest.value = subst (λ (n : NodeData). c.args.index < length n.rest) (sym c.self.view_is) c.requires in
     found-every (λ p. HasPlacesFor (length c.self.inside.row) p) c.self.inside.rest.value c.args.index c.at.result.now.value c.self.invariant.0 below
-    (λ p e. c.at.ensures p (e ∙ ap (λ l. get_or l c.args.index p) (sym c.deref-2.ensures)))
+    (λ p e. c.at.ensures p (e ∙ ap (λ l. get_or l c.args.index p) (sym c.deref.ensures)))
