@@ -2,6 +2,8 @@
 #![tactic(auto)]
 
 #[cfg(test)]
+mod costs;
+#[cfg(test)]
 mod exchanges;
 pub mod polling;
 #[cfg(test)]

@@ -14,7 +14,7 @@ use Rattle.template_fill.specs.Authorities.{AuthoritiesAreHostsAndPorts}
 use Rattle.tpf_base.specs.Sending.{Holds}
 use Rattle.http_ends.specs.Requests.{request_for}
 use Rattle.http_ends.specs.Cuts.{bytes_of, sent_of, received_of}
-use Rattle.exchange.specs.Exchanges.{request_of, left_link}
+use Rattle.exchange.specs.Exchanges.{IsLinked, request_of, left_link}
 use Rattle.exchange.specs.Polls.{Ends}
 use Rattle.exchange.specs.declared.fault.ExchangeFault.{ExchangeFault}
 use Rattle.exchange.specs.declared.fault.ExchangeFault.TheVariants as exchanges
@@ -26,20 +26,23 @@ use Rattle.request_pool.specs.declared.fault.Stepped.TheVariants.{Came}
 use Rattle.request_pool.specs.Pools.{Pooled, Ask, IsOverBudget, ask_waiting, ask_flying, held, in_flight}
 use Rattle.request_pool.specs.Owned.{SuitsWire, on_link, held_on}
 use Rattle.request_pool.specs.Polls.{Shuts, Polls, FailsTo, FlightTo}
-use Rattle.request_pool.specs.Runs.{Starts, Overruns, Flies, Starves, PollsNext, Last, OfStart, OfPoll, Ended}
-use Rattle.request_pool.specs.Steps.{WaitsTo, Passes, Stalls, Misses, Lacks, EndsInWait, Breaks, AtOnce, InRun, InWait}
-use Rattle.request_pool.proofs.Holding.{held_with, held_out, running_holds}
-use Rattle.request_pool.proofs.Steps.{suits_gathered}
+use Rattle.request_pool.specs.Runs.{Starts, Overruns, Flies, Starves, PollsNext, Last, OfStart, OfPoll}
+use Rattle.request_pool.specs.Steps.{WaitsTo, Passes, Stalls, Misses, Lacks, EndsInWait, EndsInRun, EndsInFault, AtOnce, InRun, InWait}
+use Rattle.request_pool.proofs.Holding.{held_with, held_out, lined_held, running_holds}
+use Rattle.request_pool.proofs.Steps.{suits_lined}
+use Rattle.request_pool.proofs.Owned.{linked_open}
+use Rattle.request_pool.proofs.Suits.{owns_begun, owns_next}
+use Rattle.request_pool.proofs.Risen.{fares_first, running_fares}
 use Rattle.request_pool.proofs.Bounds.{step_bounds}
 use Rattle.pool_laws.specs.Following.{IsReplied, HasPeer, Follows, AnswersSoFar}
 use Rattle.pool_laws.specs.Causes.{HoldsNoneBelow, RepliedOn, RepliesAreRead, IsCauseOf, FaultsHaveCauses}
 use Rattle.pool_laws.proofs.Following.{begun, polled_peer, request_is, holds_is}
-use Rattle.pool_laws.proofs.KeptBySteps.{by_running}
+use Rattle.pool_laws.proofs.KeptBySteps.{by_line, by_running}
 use Rattle.pool_laws.proofs.Running.{answers_are_kept}
 use Rattle.pool_laws.proofs.Faults.{faults_are_kept, same_fault, shut_faults}
-use Rattle.pool_laws.proofs.Fresh.{NoneBelow, Below, below_in, below_is_kept, begun_below, next_below, polled_above}
-use Rattle.pool_laws.proofs.Came.{step_came, begun_holds, gathered_held}
-use Rattle.pool_laws.proofs.Settled.{settles_whole, settles_nature}
+use Rattle.pool_laws.proofs.Fresh.{NoneBelow, Below, below_in, below_is_kept, begun_below, next_below, polled_above, polled_given}
+use Rattle.pool_laws.proofs.Came.{step_came, begun_holds}
+use Rattle.pool_laws.proofs.Settled.{settles_whole, settles_given, settles_nature}
 
 -- ---- a reply
 
@@ -75,6 +78,7 @@ replies_are_read one ticket answer old new before after given suits so_far steps
             (same_request (c.to.links r.k).sent (bytes_of (sent_of c.follows.before)) c.f.exchange.address c.poll.now.address t.address (r.sent_is _ _ c.follows.stands));
         received_is = holds_back (c.to.links r.k).received (after.links r.k).received (received_of c.follows.before ++ r.received) same.received (r.received_is _ _ c.follows.stands);
       };
+      given = omega (arith, c.given r.k r.link, settles_given (left_link c.poll.now) c.poll.now.address c.old c.new c.to after c.settles);
       fresh = λ n h. polled_above n c.f.exchange c.poll.now (held_on c.old) c.from c.to r.k c.poll.touches r.link (c.fresh n h);
       n = r.n;
       at_end = r.at_end;
@@ -90,6 +94,8 @@ record Flown (start : ℕ → Type 0) (fault : PoolFault) (was : List Ask) (q : 
   p : Pooled
   from : WireState
   follows : Follows p.limit from f.exchange
+  given : OpensGiven from
+  linked : IsLinked f.exchange.link from
   to : FlightTo (Err fault) f p q from b
   others : IsPermutation was (held_with f p)
   later : n ≤ from.faults
@@ -107,40 +113,41 @@ shut_idle None a b s = ap (λ (w : WireState). w.idle) s
 shut_idle (Some i) a b c = c.idle
 
 module _ (one : AuthoritiesAreHostsAndPorts) where
-  starts_by : (fault : PoolFault) (p q : Pooled) (n : ℕ) (a b : WireState) → AnswersSoFar p a → n ≤ a.faults → Starts (Err fault) p q a b → FaultBy (λ i. Below i p a) fault (held p) q n b
-  starts_by fault p q n a b h l (Overruns e budget f g) = ByBudget (same_fault fault faults.Budget e) budget
-  starts_by fault p q n a b h l (Flies mid f budget begins to) =
-      ByFlight (record { f = f; p = mid; from = a; follows = (begun one p mid f a h begins).follows; to = to; others = begun_holds p mid f begins; later = l; fresh = λ i y. begun_below i p mid f a y begins })
-  starts_by fault p q n a b h l (Starves e mid f begins is shuts) = ByMemory (same_fault fault faults.OutOfMemory e)
+  starts_by : (fault : PoolFault) (p q : Pooled) (n : ℕ) (a b : WireState) → OpensGiven a → SuitsWire p a → AnswersSoFar p a → n ≤ a.faults → Starts (Err fault) p q a b → FaultBy (λ i. Below i p a) fault (held p) q n b
+  starts_by fault p q n a b g s h l (Overruns e budget f i) = ByBudget (same_fault fault faults.Budget e) budget
+  starts_by fault p q n a b g s h l (Flies mid f budget begins to) =
+      ByFlight (record { f = f; p = mid; from = a; follows = (begun one p mid f a h begins).follows; given = g; linked = linked_open f.exchange.link (held_on mid) a (owns_begun p mid f a s begins).owned; to = to; others = begun_holds p mid f begins; later = l; fresh = λ i y. begun_below i p mid f a y begins })
+  starts_by fault p q n a b g s h l (Starves e mid f begins is shuts) = ByMemory (same_fault fault faults.OutOfMemory e)
 
-  next_by : (fault : PoolFault) (p q : Pooled) (n : ℕ) (a b : WireState) → AnswersSoFar p a → n ≤ a.faults → PollsNext (Err fault) p q a b → FaultBy (λ i. Below i p a) fault (held p) q n b
-  next_by fault p q n a b h l x =
+  next_by : (fault : PoolFault) (p q : Pooled) (n : ℕ) (a b : WireState) → OpensGiven a → SuitsWire p a → AnswersSoFar p a → n ≤ a.faults → PollsNext (Err fault) p q a b → FaultBy (λ i. Below i p a) fault (held p) q n b
+  next_by fault p q n a b g s h l x =
       let d = subst (λ (fs : List Flight). AllByRecursion (λ f. Follows p.limit a f.exchange) fs) x.is_next h.due in
       let same : held p ≡ held_with x.f (record p { due = x.rest }) = ap (λ (fs : List Flight). map ask_waiting p.waiting ++ map ask_flying (p.polled ++ fs)) x.is_next in
-      ByFlight (record { f = x.f; p = record p { due = x.rest }; from = a; follows = d.0; to = x.to; others = subst (λ (asks : List Ask). IsPermutation (held p) asks) same (IsPermutation-refl (held p)); later = l; fresh = λ i y. next_below i p x.f x.rest a y x.is_next })
+      ByFlight (record { f = x.f; p = record p { due = x.rest }; from = a; follows = d.0; given = g; linked = linked_open x.f.exchange.link (held_on (record p { due = x.rest })) a (owns_next p x.f x.rest a s x.is_next).owned; to = x.to; others = subst (λ (asks : List Ask). IsPermutation (held p) asks) same (IsPermutation-refl (held p)); later = l; fresh = λ i y. next_below i p x.f x.rest a y x.is_next })
 
-  last_by : (fault : PoolFault) (p q : Pooled) (n : ℕ) (a b : WireState) → AnswersSoFar p a → n ≤ a.faults → Last (Err fault) p q a b → FaultBy (λ i. Below i p a) fault (held p) q n b
-  last_by fault p q n a b h l (OfStart s) = starts_by fault p q n a b h l s
-  last_by fault p q n a b h l (OfPoll s) = next_by fault p q n a b h l s
+  last_by : (fault : PoolFault) (p q : Pooled) (n : ℕ) (a b : WireState) → OpensGiven a → SuitsWire p a → AnswersSoFar p a → n ≤ a.faults → Last (Err fault) p q a b → FaultBy (λ i. Below i p a) fault (held p) q n b
+  last_by fault p q n a b g s h l (OfStart t) = starts_by fault p q n a b g s h l t
+  last_by fault p q n a b g s h l (OfPoll t) = next_by fault p q n a b g s h l t
 
   first_asks : (first then_ : ℕ → Type 0) (fault : PoolFault) (was now : List Ask) (q : Pooled) (n : ℕ) (b : WireState) → IsPermutation was now → ((i : ℕ) → first i → then_ i) → FaultBy then_ fault now q n b → FaultBy first fault was q n b
   first_asks first then_ fault was now q n b h goes (ByBudget e l) = ByBudget e l
   first_asks first then_ fault was now q n b h goes (ByMemory e) = ByMemory e
   first_asks first then_ fault was now q n b h goes (ByFlight x) =
-      ByFlight (record { f = x.f; p = x.p; from = x.from; follows = x.follows; to = x.to; others = IsPermutation-trans _ _ _ h x.others; later = x.later; fresh = λ i y. x.fresh i (goes i y) })
+      ByFlight (record { f = x.f; p = x.p; from = x.from; follows = x.follows; given = x.given; linked = x.linked; to = x.to; others = IsPermutation-trans _ _ _ h x.others; later = x.later; fresh = λ i y. x.fresh i (goes i y) })
   first_asks first then_ fault was now q n b h goes (ByStall e l) = ByStall e l
   first_asks first then_ fault was now q n b h goes (ByWait e l) = ByWait e l
 
-  in_run : (fault : PoolFault) (p q : Pooled) (a b : WireState) → OpensGiven a → SuitsWire p a → AnswersSoFar p a → Ended (Err fault) (record p { polled = in_flight p; due = [] }) q a b → FaultBy (λ i. HoldsNoneBelow i p a) fault (held p) q a.faults b
+  in_run : (fault : PoolFault) (p q : Pooled) (a b : WireState) → OpensGiven a → SuitsWire p a → AnswersSoFar p a → EndsInRun (Err fault) p q a b → FaultBy (λ i. HoldsNoneBelow i p a) fault (held p) q a.faults b
   in_run fault p q a b g s h e =
-      let r : Pooled = record p { polled = in_flight p; due = [] } in
-      let suits = suits_gathered p (record p { polled = in_flight p; due = [] }) a refl s in
+      let r : Pooled = e.line in
+      let suits = suits_lined p e.line a e.lines s in
       let kept = answers_are_kept one in
-      let mid = by_running AnswersSoFar kept r e.mid a e.between g suits (kept.gathers p a h) e.running in
+      let fares = running_fares false a r e.mid a e.between (fares_first r a suits g) e.running in
+      let mid = by_running AnswersSoFar kept r e.mid a e.between g suits (by_line AnswersSoFar kept p r a e.lines h) e.running in
       let later = by_running (λ x w. a.faults ≤ w.faults) (faults_are_kept a.faults) r e.mid a e.between g suits (omega arith) e.running in
-      first_asks (λ i. HoldsNoneBelow i p a) (λ i. Below i e.mid e.between) fault (held p) (held e.mid) q a.faults b (subst (λ (l : List Ask). IsPermutation l (held e.mid)) (gathered_held p) (running_holds r e.mid a e.between e.running))
-      (λ i x. by_running (Below i) (below_is_kept i) r e.mid a e.between g suits ((below_is_kept i).gathers p a (below_in i p a x)) e.running)
-      (last_by fault e.mid q a.faults e.between b mid later e.last)
+      first_asks (λ i. HoldsNoneBelow i p a) (λ i. Below i e.mid e.between) fault (held p) (held e.mid) q a.faults b (subst (λ (l : List Ask). IsPermutation l (held e.mid)) (lined_held p r e.lines) (running_holds r e.mid a e.between e.running))
+      (λ i x. by_running (Below i) (below_is_kept i) r e.mid a e.between g suits (by_line (Below i) (below_is_kept i) p r a e.lines (below_in i p a x)) e.running)
+      (last_by fault e.mid q a.faults e.between b fares.given fares.suits mid later e.last)
 
   fails_by : (reason fault : PoolFault) (f : Flight) (p q : Pooled) → FailsTo {T = Stepped} reason (Err fault) f p q → (fault ≡ faults.OutOfMemory) ⊎ (fault ≡ reason)
   fails_by reason fault f p q (same, inl e) = inl e
@@ -163,11 +170,11 @@ module _ (one : AuthoritiesAreHostsAndPorts) where
 
   in_wait : (fault : PoolFault) (p q : Pooled) (a b : WireState) → OpensGiven a → SuitsWire p a → EndsInWait (Err fault) p q a b → FaultBy (λ i. HoldsNoneBelow i p a) fault (held p) q a.faults b
   in_wait fault p q a b g s e =
-      let r : Pooled = record p { polled = in_flight p; due = [] } in
-      let suits = suits_gathered p (record p { polled = in_flight p; due = [] }) a refl s in
+      let r : Pooled = e.line in
+      let suits = suits_lined p e.line a e.lines s in
       wait_by (λ i. HoldsNoneBelow i p a) fault (held p) e.mid q a.faults e.between b (by_running (λ x w. a.faults ≤ w.faults) (faults_are_kept a.faults) r e.mid a e.between g suits (omega arith) e.running) e.waits
 
-  break_by : (fault : PoolFault) (p q : Pooled) (a b : WireState) → OpensGiven a → SuitsWire p a → AnswersSoFar p a → Breaks fault p q a b → FaultBy (λ i. HoldsNoneBelow i p a) fault (held p) q a.faults b
+  break_by : (fault : PoolFault) (p q : Pooled) (a b : WireState) → OpensGiven a → SuitsWire p a → AnswersSoFar p a → EndsInFault fault p q a b → FaultBy (λ i. HoldsNoneBelow i p a) fault (held p) q a.faults b
   break_by fault p q a b g s h (AtOnce e f i) = ByMemory e
   break_by fault p q a b g s h (InRun e) = in_run fault p q a b g s h e
   break_by fault p q a b g s h (InWait e) = in_wait fault p q a b g s e
@@ -204,6 +211,7 @@ flown_cause (faults.Reply fault received) old q a b limit x =
         ask = ask_flying x.f;
         others = lost_ask x.f x.p q (held old) x.to.1 x.others;
         on = over_on old.limit x.f x.from b (subst (λ (n : ℕ). Follows n x.from x.f.exchange) same x.follows) (poll.Ready (Err (exchanges.Bad fault received))) x.to.0 received r.ends;
+        given = polled_given x.f.exchange.address x.f.exchange.link x.to.0.now.link x.from b x.to.0.touches.link x.given x.linked r.ends.k r.ends.link;
         fresh = λ n h. polled_above n x.f.exchange x.to.0.now (held_on x.p) x.from b r.ends.k x.to.0.touches r.ends.link (x.fresh n h);
       };
       why = r.why;
@@ -218,6 +226,7 @@ flown_cause (faults.Cut received) old q a b limit x =
         ask = ask_flying x.f;
         others = lost_ask x.f x.p q (held old) x.to.2 x.others;
         on = over_on old.limit x.f x.from b (subst (λ (n : ℕ). Follows n x.from x.f.exchange) same x.follows) (poll.Ready (Err (exchanges.Cut received))) x.to.0 received r.ends;
+        given = polled_given x.f.exchange.address x.f.exchange.link x.to.0.now.link x.from b x.to.0.touches.link x.given x.linked r.ends.k r.ends.link;
         fresh = λ n h. polled_above n x.f.exchange x.to.0.now (held_on x.p) x.from b r.ends.k x.to.0.touches r.ends.link (x.fresh n h);
       };
       ended = r.ended;

@@ -17,7 +17,7 @@ use Rattle.request_pool.specs.declared.fault.Stepped.{Stepped}
 use Rattle.request_pool.specs.Pools.{Pooled, in_flight}
 use Rattle.request_pool.specs.Polls.{Shuts, Settles, NoLink, Kept, Shut, FailsTo, FlightTo}
 use Rattle.request_pool.specs.Runs.{Starts, Overruns, Flies, Starves, PollsNext}
-use Rattle.request_pool.specs.Steps.{Waits, GivesUp}
+use Rattle.request_pool.specs.Steps.{IsWait, GivesUp}
 use Rattle.request_pool.proofs.Bounds.{flight_bounds}
 use Rattle.pool_laws.specs.Counting.{FewDials, EmptyPoolsDial, PutsDial, FaultsDial, StepsDial, ClosingDials}
 use Rattle.pool_laws.proofs.Lists.{all_append}
@@ -33,7 +33,7 @@ dial_for (Some k) = 0
 pub record IsCount (count : WireState → ℕ) : Type 0 where
   pub polls : (address : Address) (o p : Option ℕ) (a b : WireState) → LinkAfter address o p a b → count b ≤ count a + dial_for o
   pub closes : (k : ℕ) (a b : WireState) → Closes k a b → count b ≡ count a
-  pub waits : (answer : Result Ready Fault) (a b : WireState) → Waits answer a b → count b ≡ count a
+  pub waits : (answer : Result Ready Fault) (a b : WireState) → IsWait answer a b → count b ≡ count a
 
 link_dials : (address : Address) (o p : Option ℕ) (a b : WireState) → LinkAfter address o p a b → b.dials ≤ a.dials + dial_for o
 link_dials address (Some j) (Some i) a b l = omega (arith, l.2)
@@ -103,7 +103,7 @@ module _ (count : WireState → ℕ) (is : IsCount count) (before : ℕ) where
   settle_counts : (o : Option ℕ) (address : Address) (p q : Pooled) (a b : WireState) → Settles o address p q a b → C p a → C q b
   settle_counts o address p q a b (NoLink e f g) h = counted_as p q b f (subst (λ (w : WireState). C p w) (sym g) h)
   settle_counts o address p q a b (Kept i e room f g) h = counted_as _ q b f (record { polled = h.polled; due = h.due; few = omega (arith, h.few, ap count g) })
-  settle_counts o address p q a b (Shut i e f c) h = counted_as p q b f (record { polled = h.polled; due = h.due; few = omega (arith, h.few, is.closes i a b c) })
+  settle_counts o address p q a b (Shut i e full f c) h = counted_as p q b f (record { polled = h.polled; due = h.due; few = omega (arith, h.few, is.closes i a b c) })
 
   flight_counts : (result : Result Polled PoolFault) (f : Flight) (p q : Pooled) (a b : WireState) → Flying p (count a + dial_for f.exchange.link) → FlightTo result f p q a b → C q b
   flight_counts (Ok polls.Pending) f p q a b h t =

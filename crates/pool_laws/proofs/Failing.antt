@@ -28,13 +28,13 @@ use Rattle.request_pool.specs.declared.fault.Stepped.TheVariants.{Came, Waited, 
 use Rattle.request_pool.specs.Pools.{Pooled, in_flight}
 use Rattle.request_pool.specs.Owned.{SuitsWire, on_link, flights_on, held_on}
 use Rattle.request_pool.specs.Polls.{Shuts, Settles, NoLink, Kept, Shut, Polls, IsFailure, FailsTo, FlightTo, again}
-use Rattle.request_pool.specs.Runs.{Begins, Starts, Overruns, Flies, Starves, PollsNext, Last, OfStart, OfPoll, Ended}
-use Rattle.request_pool.specs.Steps.{Waits, GivesUp, WaitsTo, Passes, Stalls, Misses, Lacks, EndsInWait, Breaks, AtOnce, InRun, InWait, StepsTo}
+use Rattle.request_pool.specs.Runs.{Begins, Starts, Overruns, Flies, Starves, PollsNext, Last, OfStart, OfPoll}
+use Rattle.request_pool.specs.Steps.{IsWait, GivesUp, WaitsTo, Passes, Stalls, Misses, Lacks, EndsInWait, EndsInRun, EndsInFault, AtOnce, InRun, InWait, StepsTo}
 use Rattle.request_pool.proofs.Owned.{at_or_off, linked_open}
 use Rattle.request_pool.proofs.Risen.{fares_first, running_fares}
-use Rattle.request_pool.proofs.Steps.{suits_gathered}
+use Rattle.request_pool.proofs.Steps.{in_line, suits_lined}
 use Rattle.request_pool.proofs.Suits.{Owns, owns_begun, owns_next}
-use Rattle.request_pool.proofs.Bounds.{runs_bounds}
+use Rattle.request_pool.proofs.Bounds.{runs_bounds, lines_bounds}
 use Rattle.pool_laws.specs.Owning.{IsAsBefore, Same, Woken}
 use Rattle.pool_laws.specs.Requested.{over_links}
 use Rattle.pool_laws.specs.Failing.{is_ended, times_ended, ended_links, FailsBy, ended_free, FailuresEnd, EndsByFailures, EmptyPoolsFail, PutsFail, FaultsFail, StepsFail}
@@ -46,7 +46,7 @@ use Rattle.pool_laws.proofs.HeldLinks as held_links
 use Rattle.pool_laws.proofs.KeptBySteps.{IsKeptByTurns, running_keeps, last_keeps}
 use Rattle.pool_laws.proofs.Faults.{flight_faults, once_more, rose_later, same_fault, shut_faults}
 use Rattle.pool_laws.proofs.Causes.{shut_idle}
-use Rattle.pool_laws.proofs.Rising.{polled_given}
+use Rattle.pool_laws.proofs.Fresh.{polled_given}
 
 -- ---- counts over links
 
@@ -259,7 +259,7 @@ module _ (since : WireState) where
   settle_lists : (o : Option ℕ) (address : Address) (now ended : ℕ) (p q : Pooled) (a b : WireState) → Settles o address p q a b → Lists now ended p → Lists now ended q
   settle_lists o address now ended p q a b (NoLink e f g) h = lists_as now ended p q f h
   settle_lists o address now ended p q a b (Kept i e room f g) h = lists_as now ended _ q f (record { waiting = h.waiting; polled = h.polled; due = h.due })
-  settle_lists o address now ended p q a b (Shut i e f c) h = lists_as now ended p q f h
+  settle_lists o address now ended p q a b (Shut i e full f c) h = lists_as now ended p q f h
 
   -- what is known of a pool between two turns
   record Failing (p : Pooled) (a : WireState) : Type 0 where
@@ -473,10 +473,10 @@ module _ (since : WireState) where
         shown_ends (inr e) = other_ends shown faults.Exchange b e.0 (too_often retries f.failed p b (omega (arith, e.1, same)) x.failed)
 
     -- after a wait the links ended as before
-    waited_free : (answer : Result Ready Fault) (p : Pooled) (a b : WireState) → SuitsWire p a → (h : Failing p a) → Waits answer a b → Free h.ended (held_on p) b
+    waited_free : (answer : Result Ready Fault) (p : Pooled) (a b : WireState) → SuitsWire p a → (h : Failing p a) → IsWait answer a b → Free h.ended (held_on p) b
     waited_free answer p a b s h w = ((owning_is_kept (λ address. Unit {0}) (Free h.ended) (free_kept h.ended)).waits answer p a b s (record { asks = any_asks p; known = h.free }) w).known
 
-    waited_failing : (answer : Result Ready Fault) (p : Pooled) (a b : WireState) → SuitsWire p a → Failing p a → Waits answer a b → Failing p b
+    waited_failing : (answer : Result Ready Fault) (p : Pooled) (a b : WireState) → SuitsWire p a → Failing p a → IsWait answer a b → Failing p b
     waited_failing answer p a b s h w = record {
       ended = h.ended;
       later = omega (arith, h.later, w.only.later);
@@ -485,7 +485,7 @@ module _ (since : WireState) where
     }
 
     -- the oldest exchange is given up where the wait failed
-    misses_after : (result : Result Stepped PoolFault) (p q : Pooled) (a mid b : WireState) → SuitsWire p a → p.retries ≡ retries → Failing p a → Waits (Err wires.Failed) a mid → GivesUp faults.Exchange result p q mid b → After result q b
+    misses_after : (result : Result Stepped PoolFault) (p q : Pooled) (a mid b : WireState) → SuitsWire p a → p.retries ≡ retries → Failing p a → IsWait (Err wires.Failed) a mid → GivesUp faults.Exchange result p q mid b → After result q b
     misses_after result p q a mid b s same h w u =
         let r : Pooled = record p { polled = u.rest; due = [] } in
         let up : mid.faults ≤ b.faults = shut_faults u.f.exchange.link mid b u.shuts in
@@ -513,34 +513,34 @@ module _ (since : WireState) where
 
     in_wait : (result : Result Stepped PoolFault) (p q : Pooled) (a b : WireState) → OpensGiven a → SuitsWire p a → p.retries ≡ retries → Failing p a → b.idle < 1000 → EndsInWait result p q a b → After result q b
     in_wait result p q a b g s same h few e =
-        let r : Pooled = record p { polled = in_flight p; due = [] } in
-        let suits = suits_gathered p (record p { polled = in_flight p; due = [] }) a refl s in
+        let r : Pooled = e.line in
+        let suits = suits_lined p e.line a e.lines s in
         let f = running_fares false a r e.mid a e.between (fares_first r a suits g) e.running in
-        let mid = running_keeps Failing failing_is_kept r e.mid a e.between g suits (gathered_failing p a h) e.running in
-        waits_after result e.mid q e.between b f.suits (ap (λ (x : Pooled). x.retries) (runs_bounds e.running.moments r e.mid a e.between e.running.runs) ∙ same) mid few e.waits
+        let mid = running_keeps Failing failing_is_kept r e.mid a e.between g suits (in_line (λ (x : Pooled). Failing x a) p e.line e.lines (gathered_failing p a h) h) e.running in
+        waits_after result e.mid q e.between b f.suits (ap (λ (x : Pooled). x.retries) (runs_bounds e.running.moments r e.mid a e.between e.running.runs ∙ lines_bounds p e.line e.lines) ∙ same) mid few e.waits
 
-    in_run : (fault : PoolFault) (p q : Pooled) (a b : WireState) → OpensGiven a → SuitsWire p a → p.retries ≡ retries → Failing p a → Ended (Err fault) (record p { polled = in_flight p; due = [] }) q a b → After (Err fault) q b
+    in_run : (fault : PoolFault) (p q : Pooled) (a b : WireState) → OpensGiven a → SuitsWire p a → p.retries ≡ retries → Failing p a → EndsInRun (Err fault) p q a b → After (Err fault) q b
     in_run fault p q a b g s same h e =
-        let r : Pooled = record p { polled = in_flight p; due = [] } in
-        let suits = suits_gathered p (record p { polled = in_flight p; due = [] }) a refl s in
+        let r : Pooled = e.line in
+        let suits = suits_lined p e.line a e.lines s in
         let f = running_fares false a r e.mid a e.between (fares_first r a suits g) e.running in
-        let mid = running_keeps Failing failing_is_kept r e.mid a e.between g suits (gathered_failing p a h) e.running in
+        let mid = running_keeps Failing failing_is_kept r e.mid a e.between g suits (in_line (λ (x : Pooled). Failing x a) p e.line e.lines (gathered_failing p a h) h) e.running in
         record {
           failing = last_keeps Failing failing_is_kept (Err fault) e.mid q e.between b f.given f.suits mid e.last;
-          fault = last_ends fault e.mid q e.between b f.given f.suits (ap (λ (x : Pooled). x.retries) (runs_bounds e.running.moments r e.mid a e.between e.running.runs) ∙ same) mid e.last;
+          fault = last_ends fault e.mid q e.between b f.given f.suits (ap (λ (x : Pooled). x.retries) (runs_bounds e.running.moments r e.mid a e.between e.running.runs ∙ lines_bounds p e.line e.lines) ∙ same) mid e.last;
         }
 
-    breaks_after : (fault : PoolFault) (p q : Pooled) (a b : WireState) → OpensGiven a → SuitsWire p a → p.retries ≡ retries → Failing p a → b.idle < 1000 → Breaks fault p q a b → After (Err fault) q b
+    breaks_after : (fault : PoolFault) (p q : Pooled) (a b : WireState) → OpensGiven a → SuitsWire p a → p.retries ≡ retries → Failing p a → b.idle < 1000 → EndsInFault fault p q a b → After (Err fault) q b
     breaks_after fault p q a b g s same h few (AtOnce e f i) = record { failing = failing_as p q a b f i h; fault = other_ends fault faults.OutOfMemory b e tt }
     breaks_after fault p q a b g s same h few (InRun e) = in_run fault p q a b g s same h e
     breaks_after fault p q a b g s same h few (InWait e) = in_wait (Err fault) p q a b g s same h few e
 
-    in_came : (ticket : ℕ) (answer : Reply) (p q : Pooled) (a b : WireState) → OpensGiven a → SuitsWire p a → Failing p a → Ended (Ok (polls.Came ticket answer)) (record p { polled = in_flight p; due = [] }) q a b → Failing q b
+    in_came : (ticket : ℕ) (answer : Reply) (p q : Pooled) (a b : WireState) → OpensGiven a → SuitsWire p a → Failing p a → EndsInRun (Ok (polls.Came ticket answer)) p q a b → Failing q b
     in_came ticket answer p q a b g s h e =
-        let r : Pooled = record p { polled = in_flight p; due = [] } in
-        let suits = suits_gathered p (record p { polled = in_flight p; due = [] }) a refl s in
+        let r : Pooled = e.line in
+        let suits = suits_lined p e.line a e.lines s in
         let f = running_fares false a r e.mid a e.between (fares_first r a suits g) e.running in
-        let mid = running_keeps Failing failing_is_kept r e.mid a e.between g suits (gathered_failing p a h) e.running in
+        let mid = running_keeps Failing failing_is_kept r e.mid a e.between g suits (in_line (λ (x : Pooled). Failing x a) p e.line e.lines (gathered_failing p a h) h) e.running in
         last_keeps Failing failing_is_kept (Ok (polls.Came ticket answer)) e.mid q e.between b f.given f.suits mid e.last
 
     step_after : (result : Result Stepped PoolFault) (p q : Pooled) (a b : WireState) → OpensGiven a → SuitsWire p a → p.retries ≡ retries → Failing p a → b.idle < 1000 → StepsTo result p q a b → After result q b

@@ -39,7 +39,7 @@ shut_faults (Some i) a b c = omega (arith, c.faults)
 settle_faults : (o : Option ℕ) (address : Address) (p q : Pooled) (a b : WireState) → Settles o address p q a b → a.faults ≤ b.faults
 settle_faults o address p q a b (NoLink e f g) = same_faults a b g
 settle_faults o address p q a b (Kept i e room f g) = same_faults a b g
-settle_faults o address p q a b (Shut i e f c) = omega (arith, c.faults)
+settle_faults o address p q a b (Shut i e full f c) = omega (arith, c.faults)
 
 shut_or : (o : Option ℕ) (a b : WireState) → (b ≡ a) ⊎ Shuts o a b → a.faults ≤ b.faults
 shut_or o a b (inl e) = same_faults a b e

@@ -240,7 +240,7 @@ settles_follows left address p q a b none follows h (Kept k e room f g) =
       due = h.due;
       spare = all_append (λ (s : Spare). Follows p.limit a (starting s.address p.limit (Some s.link))) p.spare ((record { link = k; address = address }) ∷ []) h.spare (follows k e, tt);
     })
-settles_follows left address p q a b none follows h (Shut k e f c) = subst (λ (x : Pooled). AnswersSoFar x b) (sym f) (closed_told k p a b (none k e) c h)
+settles_follows left address p q a b none follows h (Shut k e full f c) = subst (λ (x : Pooled). AnswersSoFar x b) (sym f) (closed_told k p a b (none k e) c h)
 
 -- ---- an exchange that was taken out
 

@@ -1,9 +1,10 @@
 -- A pool that holds no link below a number holds none after a step.
-use Rattle.std.proofs.Common.{ℕ, ◌≡◌, ◌+◌, ◌<◌, ◌≤◌, inl, inr, List, ◌∷◌, Option, Some, None, ap, arith}
+use Rattle.std.proofs.Common.{ℕ, ◌≡◌, ◌+◌, ◌<◌, ◌≤◌, inl, inr, List, ◌∷◌, Option, Some, None, sym, ◌∙◌, ap, arith}
 use Rattle.std.proofs.lemmas.Bool.{cases_lt}
-use Rattle.tpf_base.specs.Links.{WireState}
-use Rattle.exchange.specs.Exchanges.{Exchanging}
-use Rattle.exchange.specs.Polls.{Touches}
+use Rattle.tpf_base.specs.Addresses.{Address}
+use Rattle.tpf_base.specs.Links.{WireState, OpensGiven}
+use Rattle.exchange.specs.Exchanges.{Exchanging, IsLinked}
+use Rattle.exchange.specs.Polls.{Touches, LinkAfter}
 use Rattle.request_pool.specs.declared.asks.Flight.{Flight}
 use Rattle.request_pool.specs.Pools.{Pooled}
 use Rattle.request_pool.specs.Runs.{Begins}
@@ -11,6 +12,7 @@ use Rattle.request_pool.specs.Owned.{on_link, flights_on, held_on}
 use Rattle.request_pool.specs.Polls.{Shuts}
 use Rattle.pool_laws.specs.Causes.{HoldsNoneBelow}
 use Rattle.pool_laws.proofs.Following.{on_some}
+use Rattle.pool_laws.proofs.Requesting.{open_given}
 use Rattle.pool_laws.proofs.Owning.{after_link}
 use Rattle.pool_laws.proofs.HeldLinks.{LinksKept, Owning, owning_is_kept, any_asks, begun}
 use Rattle.pool_laws.proofs.KeptBySteps.{IsKept}
@@ -62,3 +64,11 @@ module _ (n : ℕ) where
 
   pub next_below : (p : Pooled) (f : Flight) (rest : List Flight) (a : WireState) → Below n p a → p.due ≡ f ∷ rest → NoneBelow n (λ k. on_link f.exchange.link k + held_on (record p { due = rest }) k) a
   next_below p f rest a h e = record { given = h.known.given; none = λ k low. omega (arith, h.known.none k low, ap (λ (x : List Flight). flights_on x k) e) }
+
+-- ---- the link of a poll was given
+
+pub polled_given : (address : Address) (o p : Option ℕ) (a b : WireState) → LinkAfter address o p a b → OpensGiven a → IsLinked o a → (k : ℕ) → p ≡ Some k → k < b.given
+polled_given address (Some j) (Some i) a b l g linked k e = let same : i ≡ k = cc in omega (arith, same, l.0, l.1, open_given a j g linked)
+polled_given address (Some j) None a b l g linked k e = absurd l
+polled_given address None None a b l g linked k e = cc
+polled_given address None (Some i) a b l g linked k e = let same : i ≡ k = cc in omega (arith, same, l.0, l.1)

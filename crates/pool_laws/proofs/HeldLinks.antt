@@ -1,6 +1,7 @@
 -- What is known of the links by how often a pool holds each, after each part of a step.
-use Rattle.std.proofs.Common.{ℕ, ◌≡◌, ◌+◌, ◌⊎◌, inl, inr, ◌++◌, List, [], ◌∷◌, Option, Some, None, Bool, true, false, Result, Ok, Err, refl, sym, ◌∙◌, ap, subst, arith, if◌then◌else◌}
-use Rattle.std.specs.List.{AllByRecursion}
+use Rattle.std.proofs.Common.{ℕ, ◌≡◌, ◌+◌, ◌⊎◌, inl, inr, ◌++◌, List, [], ◌∷◌, map, Option, Some, None, Bool, true, false, Result, Ok, Err, refl, sym, ◌∙◌, ap, subst, arith, if◌then◌else◌}
+use Rattle.std.specs.List.{AllByRecursion, Contains}
+use Rattle.std.proofs.lemmas.List.Elements.{All-contains_itself, recursion_from_All}
 use Rattle.futures.specs.declared.task.Poll.TheVariants as poll
 use Rattle.tpf_base.specs.Addresses.{Address}
 use Rattle.tpf_base.specs.declared.fault.Fault.{Fault}
@@ -22,14 +23,14 @@ use Rattle.request_pool.specs.declared.fault.Polled.TheVariants as polls
 use Rattle.request_pool.specs.declared.fault.PoolFault.{PoolFault}
 use Rattle.request_pool.specs.declared.fault.PoolFault.TheVariants as faults
 use Rattle.request_pool.specs.declared.fault.Stepped.{Stepped}
-use Rattle.request_pool.specs.Pools.{Pooled, in_flight}
+use Rattle.request_pool.specs.Pools.{Pooled, Ask, ask_waiting, ask_flying, held, in_flight}
 use Rattle.request_pool.specs.Owned.{on_link, flights_on, spare_on, held_on}
 use Rattle.request_pool.specs.Polls.{Shuts, Settles, NoLink, Kept, Shut, TakesLink, FailsTo, IsFailure, FlightTo}
 use Rattle.request_pool.specs.Runs.{Begins, Starts, Overruns, Flies, Starves, PollsNext}
-use Rattle.request_pool.specs.Steps.{Waits, GivesUp}
+use Rattle.request_pool.specs.Steps.{IsWait, GivesUp}
 use Rattle.request_pool.proofs.Owned.{at_or_off, flights_on-append, spare_on-append}
 use Rattle.pool_laws.specs.Owning.{IsAsBefore, Same, Woken}
-use Rattle.pool_laws.proofs.Lists.{all_append, all_any}
+use Rattle.pool_laws.proofs.Lists.{all_append, all_front, all_behind, all_unmap, all_any}
 use Rattle.pool_laws.proofs.Following.{left_is}
 use Rattle.pool_laws.proofs.KeptBySteps.{IsKept}
 
@@ -54,6 +55,22 @@ pub record Owning (home : Address → Type 0) (links : (ℕ → ℕ) → WireSta
 -- asks for any addresses
 pub any_asks : (p : Pooled) → AsksAt (λ address. Unit {0}) p
 any_asks p = record { waiting = all_any p.waiting; polled = all_any p.polled; due = all_any p.due }
+
+-- the asks that a pool holds
+pub asks_in : (home : Address → Type 0) (p : Pooled) → AllByRecursion (λ ask. home ask.address) (held p) → AsksAt home p
+asks_in home p all =
+    let flying = all_unmap (λ (ask : Ask). home ask.address) ask_flying (in_flight p) (all_behind (λ (ask : Ask). home ask.address) (map ask_waiting p.waiting) (map ask_flying (in_flight p)) all) in
+    record {
+      waiting = all_unmap (λ (ask : Ask). home ask.address) ask_waiting p.waiting (all_front (λ (ask : Ask). home ask.address) (map ask_waiting p.waiting) (map ask_flying (in_flight p)) all);
+      polled = all_front (λ (f : Flight). home f.exchange.address) p.polled p.due flying;
+      due = all_behind (λ (f : Flight). home f.exchange.address) p.polled p.due flying;
+    }
+
+-- each address is one of those of all
+pub all_held : (asks : List Ask) → AllByRecursion (λ ask. Contains (map (λ (a : Ask). a.address) asks) ask.address) asks
+all_held asks =
+    let all : List Address = map (λ (a : Ask). a.address) asks in
+    all_unmap (λ (address : Address). Contains (map (λ (a : Ask). a.address) asks) address) (λ (a : Ask). a.address) asks (recursion_from_All (Contains (map (λ (a : Ask). a.address) asks)) all (All-contains_itself all))
 
 -- ---- the link of an exchange that is over
 
@@ -86,7 +103,7 @@ wakes_only : (answer : Ready) (a b : WireState) → Wakes answer a b → (k : �
 wakes_only ready.Door a b w k = Same (w.1 k)
 wakes_only (ready.Link i) a b w k = elim (at_or_off k i) [ inl e ↦ subst (λ (x : ℕ). IsAsBefore (a.links x) (b.links x)) (sym e) (Woken w.0 w.1) | inr n ↦ Same (w.2 k n) ]
 
-pub waits_only : (answer : Result Ready Fault) (a b : WireState) → Waits answer a b → (k : ℕ) → IsAsBefore (a.links k) (b.links k)
+pub waits_only : (answer : Result Ready Fault) (a b : WireState) → IsWait answer a b → (k : ℕ) → IsAsBefore (a.links k) (b.links k)
 waits_only (Ok answer) a b w k = wakes_only answer a b w.ok k
 waits_only (Err fault) a b w k = Same (w.err.links k)
 
@@ -102,7 +119,7 @@ module _ (home : Address → Type 0) (links : (ℕ → ℕ) → WireState → Ty
       λ k. omega (arith, spare_on-append p.spare ((record { link = i; address = address }) ∷ []) k, ap (λ (x : Option ℕ). on_link x k) (left_is s o i e).1) in
       subst (λ (x : Pooled). links (held_on x) b) (sym f) (subst (λ (x : WireState). links (held_on r) x) (sym g)
       (kept.same (λ k. on_link o k + held_on p k) (held_on r) a same h))
-  settle_held s o address p q a b which closed h (Shut i e f c) =
+  settle_held s o address p q a b which closed h (Shut i e full f c) =
       let same : (k : ℕ) → on_link (Some i) k + held_on p k ≡ on_link o k + held_on p k = λ k. omega (arith, ap (λ (x : Option ℕ). on_link x k) (left_is s o i e).1) in
       subst (λ (x : Pooled). links (held_on x) b) (sym f)
       (kept.shut (Some i) (held_on p) a b c (kept.same (λ k. on_link o k + held_on p k) (λ k. on_link (Some i) k + held_on p k) a same h))
@@ -110,7 +127,7 @@ module _ (home : Address → Type 0) (links : (ℕ → ℕ) → WireState → Ty
   settle_asks : (o : Option ℕ) (address : Address) (p q : Pooled) (a b : WireState) → AsksAt home p → Settles o address p q a b → AsksAt home q
   settle_asks o address p q a b h (NoLink e f g) = subst (AsksAt home) (sym f) h
   settle_asks o address p q a b h (Kept i e room f g) = subst (AsksAt home) (sym f) (record { waiting = h.waiting; polled = h.polled; due = h.due })
-  settle_asks o address p q a b h (Shut i e f c) = subst (AsksAt home) (sym f) h
+  settle_asks o address p q a b h (Shut i e full f c) = subst (AsksAt home) (sym f) h
 
   at_polled : (old new : Exchanging) (a b : WireState) → Touches old new a b → home old.address → home new.address
   at_polled old new a b t is = subst (home) (sym t.address) is
@@ -219,7 +236,7 @@ module _ (home : Address → Type 0) (links : (ℕ → ℕ) → WireState → Ty
     known = kept.same (held_on p) (held_on (record p { polled = in_flight p; due = [] })) a (λ k. omega (arith, flights_on-append p.polled p.due k)) h.known;
   }
 
-  waited_owns : (answer : Result Ready Fault) (p : Pooled) (a b : WireState) → Owning home links p a → Waits answer a b → Owning home links p b
+  waited_owns : (answer : Result Ready Fault) (p : Pooled) (a b : WireState) → Owning home links p a → IsWait answer a b → Owning home links p b
   waited_owns answer p a b h w = record { asks = h.asks; known = kept.woken (held_on p) a b w.only.given w.only.nature (waits_only answer a b w) h.known }
 
   fails_own : {T : Type 0} (fault : PoolFault) (result : Result T PoolFault) (f : Flight) (p q : Pooled) (a : WireState) → FailsTo fault result f p q → home f.exchange.address → Owning home links p a → Owning home links q a

@@ -11,10 +11,10 @@ use Rattle.request_pool.specs.declared.fault.Stepped.TheVariants.{Came, Waited, 
 use Rattle.request_pool.specs.Pools.{Pooled, in_flight}
 use Rattle.request_pool.specs.Owned.{SuitsWire}
 use Rattle.request_pool.specs.Runs.{Starts, PollsNext, Turn, Start, Next, Round, Moment, Runs, Running, Last, OfStart, OfPoll, Ended, RunsTo, GoesOn, Ends, is_end}
-use Rattle.request_pool.specs.Steps.{Waits, GivesUp, WaitsTo, Passes, Stalls, Misses, Lacks, EndsInWait, Breaks, AtOnce, InRun, InWait, StepsTo}
+use Rattle.request_pool.specs.Steps.{IsWait, GivesUp, WaitsTo, Passes, Stalls, Misses, Lacks, Lines, EndsInWait, EndsInRun, EndsInFault, AtOnce, InRun, InWait, StepsTo}
 use Rattle.request_pool.proofs.Suits.{waits_suits}
 use Rattle.request_pool.proofs.Risen.{Fares, fares_first, turn_fares, running_fares}
-use Rattle.request_pool.proofs.Steps.{suits_gathered}
+use Rattle.request_pool.proofs.Steps.{in_line, suits_lined}
 
 -- each part of a step keeps the relation
 pub record IsKept (holds : Pooled → WireState → Type 0) : Type 0 where
@@ -22,7 +22,7 @@ pub record IsKept (holds : Pooled → WireState → Type 0) : Type 0 where
   pub polls : (result : Result Polled PoolFault) (p q : Pooled) (a b : WireState) → OpensGiven a → SuitsWire p a → holds p a → PollsNext result p q a b → holds q b
   pub rounds : (p : Pooled) (a : WireState) → holds p a → holds (record p { polled = []; due = p.polled ++ p.due }) a
   pub gathers : (p : Pooled) (a : WireState) → holds p a → holds (record p { polled = in_flight p; due = [] }) a
-  pub waits : (answer : Result Ready Fault) (p : Pooled) (a b : WireState) → SuitsWire p a → holds p a → Waits answer a b → holds p b
+  pub waits : (answer : Result Ready Fault) (p : Pooled) (a b : WireState) → SuitsWire p a → holds p a → IsWait answer a b → holds p b
   pub gives_up : (fault : PoolFault) (result : Result Stepped PoolFault) (p q : Pooled) (a b : WireState) → SuitsWire p a → holds p a → GivesUp fault result p q a b → holds q b
 
 -- each turn of a run keeps the relation
@@ -92,17 +92,21 @@ module _ (holds : Pooled → WireState → Type 0) (kept : IsKept holds) where
   by_wait result p q a b s h (Misses mid w u) = kept.gives_up faults.Exchange result p q mid b (waits_suits _ p a mid w s) (kept.waits _ p a mid s h w) u
   by_wait result p q a b s h (Lacks w e f) = subst (λ (x : Pooled). holds x b) (sym f) (kept.waits _ p a b s h w)
 
-  in_run : (result : Result Polled PoolFault) (p q : Pooled) (a b : WireState) → OpensGiven a → SuitsWire p a → holds p a → Ended result (record p { polled = in_flight p; due = [] }) q a b → holds q b
-  in_run result p q a b g s h e = by_ended result (record p { polled = in_flight p; due = [] }) q a b g (suits_gathered p (record p { polled = in_flight p; due = [] }) a refl s) (kept.gathers p a h) e
+  pub by_line : (p line : Pooled) (a : WireState) → Lines p line → holds p a → holds line a
+  by_line p line a l h = in_line (λ (x : Pooled). holds x a) p line l (kept.gathers p a h) h
+
+  in_run : (result : Result Polled PoolFault) (p q : Pooled) (a b : WireState) → OpensGiven a → SuitsWire p a → holds p a → EndsInRun result p q a b → holds q b
+  in_run result p q a b g s h e =
+      by_ended result e.line q a b g (suits_lined p e.line a e.lines s) (by_line p e.line a e.lines h) (record { mid = e.mid; between = e.between; running = e.running; last = e.last })
 
   in_wait : (result : Result Stepped PoolFault) (p q : Pooled) (a b : WireState) → OpensGiven a → SuitsWire p a → holds p a → EndsInWait result p q a b → holds q b
   in_wait result p q a b g s h e =
-      let r : Pooled = record p { polled = in_flight p; due = [] } in
-      let suits = suits_gathered p (record p { polled = in_flight p; due = [] }) a refl s in
+      let r : Pooled = e.line in
+      let suits = suits_lined p e.line a e.lines s in
       let f = running_fares false a r e.mid a e.between (fares_first r a suits g) e.running in
-      by_wait result e.mid q e.between b f.suits (by_running r e.mid a e.between g suits (kept.gathers p a h) e.running) e.waits
+      by_wait result e.mid q e.between b f.suits (by_running r e.mid a e.between g suits (by_line p e.line a e.lines h) e.running) e.waits
 
-  by_break : (fault : PoolFault) (p q : Pooled) (a b : WireState) → OpensGiven a → SuitsWire p a → holds p a → Breaks fault p q a b → holds q b
+  by_break : (fault : PoolFault) (p q : Pooled) (a b : WireState) → OpensGiven a → SuitsWire p a → holds p a → EndsInFault fault p q a b → holds q b
   by_break fault p q a b g s h (AtOnce e f i) = same_now holds (while_on holds (turns_of holds kept)) p q a b f i h
   by_break fault p q a b g s h (InRun e) = in_run (Err fault) p q a b g s h e
   by_break fault p q a b g s h (InWait e) = in_wait (Err fault) p q a b g s h e

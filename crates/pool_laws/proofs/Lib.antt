@@ -13,6 +13,7 @@ pub mod Owning
 pub mod HeldLinks
 pub mod Fresh
 pub mod OwningLaws
+pub mod Hosts
 pub mod Dialling
 pub mod Trying
 pub mod Faults

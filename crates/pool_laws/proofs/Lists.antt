@@ -26,6 +26,10 @@ pub all_any : {A : Type 0} (xs : List A) → AllByRecursion (λ x. Unit {0}) xs
 all_any [] = tt
 all_any (x ∷ xs) = (tt, all_any xs)
 
+pub all_so : {A : Type 0} (P Q : A → Type 0) → ((x : A) → P x → Q x) → (xs : List A) → AllByRecursion P xs → AllByRecursion Q xs
+all_so P Q so [] all = tt
+all_so P Q so (x ∷ xs) all = (so x all.0, all_so P Q so xs all.1)
+
 -- ---- options
 
 pub some_is : (i k : ℕ) → Some i ≡ Some k → i ≡ k

@@ -3,14 +3,15 @@ use Rattle.std.proofs.Common.{ℕ, ◌≡◌, ◌≢◌, ◌+◌, ◌<◌, ◌�
 use Rattle.std.specs.Prelude.{List, true, false}
 use Rattle.std.proofs.lemmas.Bool.{cases_lt}
 use Rattle.tpf_base.specs.Addresses.{Address}
-use Rattle.tpf_base.specs.Links.{Link, Nature, WireState, told_by}
+use Rattle.tpf_base.specs.Links.{Link, Nature, Tells, WireState, told_by}
 use Rattle.tpf_base.specs.Calls.{Closes}
 use Rattle.exchange.specs.Exchanges.{Exchanging}
 use Rattle.exchange.specs.Polls.{Touches, LinkAfter, ClosedOn}
 use Rattle.request_pool.specs.Owned.{on_link, open_on, times_open}
 use Rattle.request_pool.specs.Polls.{Shuts}
 use Rattle.request_pool.proofs.Owned.{at_or_off, on_same, on_other, one_at_most, same_open, closed_none}
-use Rattle.pool_laws.specs.Owning.{IsAt, IsAsBefore, Same, Woken, GivesAt}
+use Rattle.pool_laws.specs.Owning.{IsAsBefore, Same, Woken}
+use Rattle.pool_laws.specs.Hosts.{IsAtOneOf, IsDialledFor, GivesAtHosts}
 use Rattle.pool_laws.proofs.Lists.{some_is}
 use Rattle.pool_laws.proofs.Following.{on_some}
 
@@ -63,35 +64,42 @@ after_link address None (Some i) a b l same = record {
         let q : i ≡ k = omega (arith, low, below, e, more) in
         (subst (λ (x : ℕ). (b.links x).peer ≡ told_by a.nature.tells (address.host, address.port)) q peer, on_same i k q)
 
+pub same_dialled : (homes : List Address) (tells : Tells) (was is : Option (List ℕ × ℕ)) → is ≡ was → IsDialledFor homes tells was → IsDialledFor homes tells is
+same_dialled homes tells was is e d = record { home = d.home; is_home = d.is_home; is_peer = e ∙ d.is_peer }
+
 -- ---- what is known of the links since a moment, where each is held so often
 
-pub record Keeps (host : List ℕ) (port : ℕ) (since : WireState) (times : ℕ → ℕ) (a : WireState) : Type 0 where
-  pub gives : GivesAt host port since a
+pub record Keeps (homes : List Address) (since : WireState) (times : ℕ → ℕ) (a : WireState) : Type 0 where
+  pub gives : GivesAtHosts homes since a
   pub owned : (k : ℕ) → since.given ≤ k → k < a.given → open_on a k ≤ times k
   pub none : (k : ℕ) → k < since.given → times k ≡ 0
 
-module _ (host : List ℕ) (port : ℕ) (since : WireState) where
-  pub keeps_as : (was is : ℕ → ℕ) (a : WireState) → ((k : ℕ) → is k ≡ was k) → Keeps host port since was a → Keeps host port since is a
+module _ (homes : List Address) (since : WireState) where
+  pub keeps_as : (was is : ℕ → ℕ) (a : WireState) → ((k : ℕ) → is k ≡ was k) → Keeps homes since was a → Keeps homes since is a
   keeps_as was is a same h = record { gives = h.gives; owned = λ k low below. omega (arith, h.owned k low below, same k); none = λ k low. same k ∙ h.none k low }
 
   before_same : (a b : WireState) (k : ℕ) → b.links k ≡ a.links k → IsAsBefore (since.links k) (a.links k) → IsAsBefore (since.links k) (b.links k)
   before_same a b k e h = subst (λ (x : Link). IsAsBefore (since.links k) x) (sym e) h
 
-  told_at : (address : Address) (a : WireState) → IsAt host port address → a.nature ≡ since.nature → told_by {A = List ℕ × ℕ} a.nature.tells (address.host, address.port) ≡ told_by {A = List ℕ × ℕ} since.nature.tells (host, port)
-  told_at address a is n = ap (λ (x : Nature). told_by {A = List ℕ × ℕ} x.tells (address.host, address.port)) n ∙ ap₂ (λ (h : List ℕ) (p : ℕ). told_by {A = List ℕ × ℕ} since.nature.tells (h, p)) is.same_host is.same_port
+  dialled_at : (address : Address) (a : WireState) (peer : Option (List ℕ × ℕ)) → IsAtOneOf homes address → a.nature ≡ since.nature → peer ≡ told_by a.nature.tells (address.host, address.port) → IsDialledFor homes since.nature.tells peer
+  dialled_at address a peer is n told = record {
+    home = is.home;
+    is_home = is.is_home;
+    is_peer = told ∙ ap (λ (x : Nature). told_by {A = List ℕ × ℕ} x.tells (address.host, address.port)) n ∙ ap₂ (λ (h : List ℕ) (p : ℕ). told_by {A = List ℕ × ℕ} since.nature.tells (h, p)) is.same_host is.same_port;
+  }
 
   below_later : (k n m : ℕ) → k < n → n ≤ m → k < m
   below_later k n m h i = omega (arith, h, i)
 
-  after_gives : (address : Address) (o p : Option ℕ) (rest : ℕ → ℕ) (a b : WireState) → IsAt host port address → b.nature ≡ a.nature → After address o p a b → Keeps host port since (λ k. on_link o k + rest k) a → GivesAt host port since b
+  after_gives : (address : Address) (o p : Option ℕ) (rest : ℕ → ℕ) (a b : WireState) → IsAtOneOf homes address → b.nature ≡ a.nature → After address o p a b → Keeps homes since (λ k. on_link o k + rest k) a → GivesAtHosts homes since b
   after_gives address o p rest a b is n t h = record {
     later = omega (arith, h.gives.later, t.given);
     nature = n ∙ h.gives.nature;
-    peers = λ k low below. elim (cases_lt k a.given) [ inl l ↦ t.peer_old k l ∙ h.gives.peers k low l | inr l ↦ (t.is_new k l below).0 ∙ told_at address a is h.gives.nature ];
+    peers = λ k low below. elim (cases_lt k a.given) [ inl l ↦ same_dialled homes since.nature.tells (a.links k).peer (b.links k).peer (t.peer_old k l) (h.gives.peers k low l) | inr l ↦ dialled_at address a (b.links k).peer is h.gives.nature (t.is_new k l below).0 ];
     before = λ k low. before_same a b k (t.same k (omega (arith, t.same_old k (below_later k since.given a.given low h.gives.later), h.none k low))) (h.gives.before k low);
   }
 
-  after_owned : (address : Address) (o p : Option ℕ) (rest : ℕ → ℕ) (a b : WireState) → After address o p a b → Keeps host port since (λ k. on_link o k + rest k) a → (k : ℕ) → since.given ≤ k → k < b.given → open_on b k ≤ on_link p k + rest k
+  after_owned : (address : Address) (o p : Option ℕ) (rest : ℕ → ℕ) (a b : WireState) → After address o p a b → Keeps homes since (λ k. on_link o k + rest k) a → (k : ℕ) → since.given ≤ k → k < b.given → open_on b k ≤ on_link p k + rest k
   after_owned address o p rest a b t h k low below = elim (cases_lt 0 (on_link p k)) [
     | inl some ↦ omega (arith, one_at_most b k, some)
     | inr none ↦ (
@@ -103,7 +111,7 @@ module _ (host : List ℕ) (port : ℕ) (since : WireState) where
   ]
 
   -- a poll of an exchange for an address there
-  pub poll_keeps : (e f : Exchanging) (rest : ℕ → ℕ) (a b : WireState) → IsAt host port e.address → Touches e f a b → Keeps host port since (λ k. on_link e.link k + rest k) a → Keeps host port since (λ k. on_link f.link k + rest k) b
+  pub poll_keeps : (e f : Exchanging) (rest : ℕ → ℕ) (a b : WireState) → IsAtOneOf homes e.address → Touches e f a b → Keeps homes since (λ k. on_link e.link k + rest k) a → Keeps homes since (λ k. on_link f.link k + rest k) b
   poll_keeps e f rest a b is t h =
       let after = after_link e.address e.link f.link a b t.link t.others in
       record {
@@ -113,7 +121,7 @@ module _ (host : List ℕ) (port : ℕ) (since : WireState) where
       }
 
   -- a closed link need not be held
-  pub drop_keeps : (o : Option ℕ) (rest : ℕ → ℕ) (a : WireState) → ClosedOn o a → Keeps host port since (λ k. on_link o k + rest k) a → Keeps host port since rest a
+  pub drop_keeps : (o : Option ℕ) (rest : ℕ → ℕ) (a : WireState) → ClosedOn o a → Keeps homes since (λ k. on_link o k + rest k) a → Keeps homes since rest a
   drop_keeps None rest a closed h = record { gives = h.gives; owned = λ k low below. omega (arith, h.owned k low below); none = λ k low. omega (arith, h.none k low) }
   drop_keeps (Some i) rest a closed h = record {
     gives = h.gives;
@@ -124,20 +132,20 @@ module _ (host : List ℕ) (port : ℕ) (since : WireState) where
     none = λ k low. omega (arith, h.none k low);
   }
 
-  closed_gives : (i : ℕ) (a b : WireState) → ((k : ℕ) → k < since.given → i ≢ k) → Closes i a b → GivesAt host port since a → GivesAt host port since b
+  closed_gives : (i : ℕ) (a b : WireState) → ((k : ℕ) → k < since.given → i ≢ k) → Closes i a b → GivesAtHosts homes since a → GivesAtHosts homes since b
   closed_gives i a b off c h = record {
     later = omega (arith, h.later, c.only.given);
     nature = c.only.nature ∙ h.nature;
     peers = λ k low below. elim (at_or_off i k) [
-      | inl e ↦ subst (λ (x : ℕ). (b.links x).peer ≡ (a.links x).peer) e c.peer ∙ h.peers k low (omega (arith, below, c.only.given))
-      | inr n ↦ same_peer a b k (c.only.others k (λ e. n (sym e))) ∙ h.peers k low (omega (arith, below, c.only.given))
+      | inl e ↦ same_dialled homes since.nature.tells (a.links k).peer (b.links k).peer (subst (λ (x : ℕ). (b.links x).peer ≡ (a.links x).peer) e c.peer) (h.peers k low (omega (arith, below, c.only.given)))
+      | inr n ↦ same_dialled homes since.nature.tells (a.links k).peer (b.links k).peer (same_peer a b k (c.only.others k (λ e. n (sym e)))) (h.peers k low (omega (arith, below, c.only.given)))
     ];
     before = λ k low. before_same a b k (c.only.others k (λ e. off k low (sym e))) (h.before k low);
   }
 
   -- a link is closed that was held
-  pub shut_keeps : (o : Option ℕ) (rest : ℕ → ℕ) (a b : WireState) → Shuts o a b → Keeps host port since (λ k. on_link o k + rest k) a → Keeps host port since rest b
-  shut_keeps None rest a b s h = subst (λ (x : WireState). Keeps host port since rest x) (sym s) (drop_keeps None rest a tt h)
+  pub shut_keeps : (o : Option ℕ) (rest : ℕ → ℕ) (a b : WireState) → Shuts o a b → Keeps homes since (λ k. on_link o k + rest k) a → Keeps homes since rest b
+  shut_keeps None rest a b s h = subst (λ (x : WireState). Keeps homes since rest x) (sym s) (drop_keeps None rest a tt h)
   shut_keeps (Some i) rest a b c h =
       let off : (k : ℕ) → k < since.given → i ≢ k = λ k low e. absurd (omega (arith, h.none k low, on_same i k e)) in
       record {
@@ -166,14 +174,14 @@ module _ (host : List ℕ) (port : ℕ) (since : WireState) where
   before_peer a b (Woken o e) = ap (λ (x : Link). x.peer) e
 
   -- a wait answered a link
-  pub woken_keeps : (times : ℕ → ℕ) (a b : WireState) → b.given ≡ a.given → b.nature ≡ a.nature → ((k : ℕ) → IsAsBefore (a.links k) (b.links k)) → Keeps host port since times a → Keeps host port since times b
+  pub woken_keeps : (times : ℕ → ℕ) (a b : WireState) → b.given ≡ a.given → b.nature ≡ a.nature → ((k : ℕ) → IsAsBefore (a.links k) (b.links k)) → Keeps homes since times a → Keeps homes since times b
   woken_keeps times a b given nature same h =
       let open_same : (k : ℕ) → open_on b k ≡ open_on a k = λ k. ap times_open (open_after (a.links k) (b.links k) (same k)) in
       record {
         gives = record {
           later = omega (arith, h.gives.later, given);
           nature = nature ∙ h.gives.nature;
-          peers = λ k low below. before_peer (a.links k) (b.links k) (same k) ∙ h.gives.peers k low (omega (arith, below, given));
+          peers = λ k low below. same_dialled homes since.nature.tells (a.links k).peer (b.links k).peer (before_peer (a.links k) (b.links k) (same k)) (h.gives.peers k low (omega (arith, below, given)));
           before = λ k low. before_then (since.links k) (a.links k) (b.links k) (h.gives.before k low) (same k);
         };
         owned = λ k low below. omega (arith, open_same k, h.owned k low (omega (arith, below, given)));

@@ -4,7 +4,7 @@ use Rattle.std.specs.Prelude.{◌^◌, min, IfOk}
 use Rattle.std.specs.List.{AllByRecursion, Contains}
 use Rattle.std.proofs.lemmas.Bool.{cases_lt}
 use Rattle.std.proofs.lemmas.List.{length-map}
-use Rattle.std.proofs.lemmas.List.Elements.{All-contains, All-contains_itself, All-from_recursion, recursion_from_All}
+use Rattle.std.proofs.lemmas.List.Elements.{All-contains, All-from_recursion}
 use Rattle.std.proofs.lemmas.List.Sorted.{length_permutation}
 use Rattle.futures.specs.declared.task.Poll.{Poll}
 use Rattle.futures.specs.declared.task.Poll.TheVariants as poll
@@ -36,27 +36,27 @@ use Rattle.request_pool.specs.declared.fault.Stepped.TheVariants.{Came, Waited, 
 use Rattle.request_pool.specs.Pools.{Pooled, Ask, ask_waiting, ask_flying, held, in_flight}
 use Rattle.request_pool.specs.Owned.{SuitsWire, on_link, flights_on, spare_on, held_on, open_on, times_open}
 use Rattle.request_pool.specs.Polls.{Shuts, Settles, NoLink, Kept, Shut, TakesLink, Polls, FlightTo}
-use Rattle.request_pool.specs.Runs.{Begins, Starts, Overruns, Flies, Starves, Last, OfStart, OfPoll, Ended, is_end, Running}
-use Rattle.request_pool.specs.Steps.{Waits, GivesUp, WaitsTo, Passes, Stalls, Misses, Lacks, EndsInWait, Breaks, AtOnce, InRun, InWait, StepsTo, MayWait, AsleepOn}
+use Rattle.request_pool.specs.Runs.{Begins, Starts, Overruns, Flies, Starves, Last, OfStart, OfPoll, is_end, Running}
+use Rattle.request_pool.specs.Steps.{IsWait, GivesUp, WaitsTo, Passes, Stalls, Misses, Lacks, Lines, EndsInWait, EndsInRun, EndsInFault, AtOnce, InRun, InWait, StepsTo, MayWait, AsleepOn}
 use Rattle.request_pool.proofs.Owned.{at_or_off, on_same, on_other, one_at_most, open_one, closed_none, same_open, flights_on-append}
 use Rattle.request_pool.proofs.Suits.{Owns, owns_begun, owns_next, own_none, waits_suits}
 use Rattle.pool_laws.specs.Following.{Follows, AnswersSoFar, HasPeer}
 use Rattle.pool_laws.specs.Owning.{IsAsBefore, Same, Woken}
-use Rattle.pool_laws.specs.Rising.{IsServed}
-use Rattle.pool_laws.specs.Provoking.{IsStalled, IsAwake, OneIsAwake, MovesFirst, Moved, Awake, Again, HoldsNone, WaitsReady, HasHung, SparesWire, StepSpares, EmptyPoolsReady, PutsReady, StepsSpare, NoneHang}
-use Rattle.pool_laws.proofs.Lists.{all_append, all_front, all_behind, all_unmap, same_link}
+use Rattle.pool_laws.specs.Rising.{IsServed, IsServedBySome}
+use Rattle.pool_laws.specs.Provoking.{IsStalled, IsAwake, OneIsAwake, MovesFirst, Moved, Awake, Again, HoldsNone, WaitsReady, HasHung, SparesWire, StepSpares, EmptyPoolsReady, PutsReady, StepsSpare, NoneHang, NoneHangBySome}
+use Rattle.pool_laws.proofs.Lists.{all_append, all_front, all_behind, all_so, same_link}
+use Rattle.pool_laws.proofs.Rising.{by_some}
 use Rattle.pool_laws.proofs.Following.{on_some, off, own_link, left_is, request_is}
 use Rattle.pool_laws.proofs.Owning.{after_link}
 use Rattle.request_pool.proofs.Risen.{Fares, fares_first, running_fares}
-use Rattle.request_pool.proofs.Steps.{suits_gathered}
-use Rattle.request_pool.proofs.Holding.{running_holds}
-use Rattle.request_pool.proofs.Bounds.{runs_bounds}
-use Rattle.pool_laws.proofs.HeldLinks.{LinksKept, AsksAt, Owning, owning_is_kept, any_asks, waits_only}
-use Rattle.pool_laws.proofs.KeptBySteps.{IsKept, IsKeptWhileOn, running_goes, by_running, by_step}
+use Rattle.request_pool.proofs.Steps.{in_line, suits_lined}
+use Rattle.request_pool.proofs.Holding.{lined_held, running_holds}
+use Rattle.request_pool.proofs.Bounds.{runs_bounds, lines_bounds}
+use Rattle.pool_laws.proofs.HeldLinks.{LinksKept, Owning, owning_is_kept, any_asks, asks_in, all_held, waits_only}
+use Rattle.pool_laws.proofs.KeptBySteps.{IsKept, IsKeptWhileOn, running_goes, by_line, by_running, by_step}
 use Rattle.pool_laws.proofs.Running.{answers_are_kept, given_up_owned}
 use Rattle.pool_laws.proofs.Settled.{SameWhole, shut_whole}
 use Rattle.pool_laws.proofs.Staying.{whole_then, woken_whole}
-use Rattle.pool_laws.proofs.Came.{gathered_held}
 use Rattle.pool_laws.proofs.Answers.{EndsAreTrue, cut_short, owed_on}
 
 -- ---- no link is open but those that are held
@@ -279,7 +279,7 @@ module _ (since : WireState) (steady : since.nature.steady ≡ true) where
   settle_spares : (o : Option ℕ) (address : Address) (p q : Pooled) (a b : WireState) → Settles o address p q a b → Spares a → Spares b
   settle_spares o address p q a b (NoLink e f g) h = same_spares a b g h
   settle_spares o address p q a b (Kept i e room f g) h = same_spares a b g h
-  settle_spares o address p q a b (Shut i e f c) h = closed_spares i a b c h
+  settle_spares o address p q a b (Shut i e full f c) h = closed_spares i a b c h
 
   flight_spares : (result : Result Polled PoolFault) (f : Flight) (p q : Pooled) (a b : WireState) → a.nature ≡ since.nature → Spares a → FlightTo result f p q a b → Spares b
   flight_spares (Ok polls.Pending) f p q a b n h t = poll_spares f.exchange t.0.now a b n t.0.touches h
@@ -584,7 +584,7 @@ module _ (since : WireState) (steady : since.nature.steady ≡ true) where
   oldest_of p [] e h = absurd (omega (arith, h))
   oldest_of p (x ∷ xs) e h = record { f = x; rest = xs; is = e }
 
-  waited_spares : (answer : Result Ready Fault) (a b : WireState) (k : ℕ) → a.nature ≡ since.nature → Waits answer a b → IsRipe (a.links k) → a.idle ≡ 0 → Spares a → Spares b
+  waited_spares : (answer : Result Ready Fault) (a b : WireState) (k : ℕ) → a.nature ≡ since.nature → IsWait answer a b → IsRipe (a.links k) → a.idle ≡ 0 → Spares a → Spares b
   waited_spares answer a b k n w ripe idle h few =
       let s = h (below a.given b.given (2 ^ 63) (omega (arith, w.only.given)) few) in
       let none = (w.steady (is_steady a n)).unprovoked k ripe idle in
@@ -610,7 +610,7 @@ module _ (since : WireState) (steady : since.nature.steady ≡ true) where
   prepared_as : (p q : Pooled) (a : WireState) → q ≡ p → Prepared p a → Prepared q a
   prepared_as p q a e h = subst (λ (x : Pooled). Prepared x a) (sym e) h
 
-  woken_moves : (answer : Ready) (p : Pooled) (a b : WireState) → a.nature ≡ since.nature → ((k : ℕ) → open_on a k ≤ held_on p k) → Lists p a → Waits (Ok answer) a b → MovesFirst p b
+  woken_moves : (answer : Ready) (p : Pooled) (a b : WireState) → a.nature ≡ since.nature → ((k : ℕ) → open_on a k ≤ held_on p k) → Lists p a → IsWait (Ok answer) a b → MovesFirst p b
   woken_moves kinds.Door p a b n open_held l w = absurd ((w.steady (is_steady a n)).ripe kinds.Door refl)
   woken_moves (kinds.Link k) p a b n open_held l w =
       let ripe : IsRipe (a.links k) = (w.steady (is_steady a n)).ripe (kinds.Link k) refl in
@@ -640,7 +640,7 @@ module _ (since : WireState) (steady : since.nature.steady ≡ true) where
   ok_as : (result other : Result Stepped PoolFault) (q : Pooled) (b : WireState) → result ≡ other → IfOk other (λ stepped. Prepared q b) → IfOk result (λ stepped. Prepared q b)
   ok_as result other q b e h = subst (λ (x : Result Stepped PoolFault). IfOk x (λ stepped. Prepared q b)) (sym e) h
 
-  waited_lists : (answer : Result Ready Fault) (p : Pooled) (a b : WireState) → Waits answer a b → Lists p a → Lists p b
+  waited_lists : (answer : Result Ready Fault) (p : Pooled) (a b : WireState) → IsWait answer a b → Lists p a → Lists p b
   waited_lists answer p a b w l = lists_before p a b (waits_only answer a b w) l
 
   wait_prepared : (result : Result Stepped PoolFault) (p q : Pooled) (a b : WireState) → SuitsWire p a → ((k : ℕ) → open_on a k ≤ held_on p k) → Going p a → WaitsTo result p q a b → IfOk result (λ stepped. Prepared q b)
@@ -660,12 +660,12 @@ module _ (since : WireState) (steady : since.nature.steady ≡ true) where
         due = l.due;
         spare = all_append (λ (s : Spare). (a.links s.link).stalled ≡ None) p.spare ((record { link = k; address = address }) ∷ []) l.spare (quiet k e, tt);
       }))
-  settle_lists o address p q a b none quiet (Shut k e f c) l = lists_as p q b f (lists_same p a b (shut_same (Some k) p a b (λ i x. none i (e ∙ x)) c) l)
+  settle_lists o address p q a b none quiet (Shut k e full f c) l = lists_as p q b f (lists_same p a b (shut_same (Some k) p a b (λ i x. none i (e ∙ x)) c) l)
 
   settle_flying : (o : Option ℕ) (address : Address) (p q : Pooled) (a b : WireState) → Settles o address p q a b → (in_flight q ≡ in_flight p) × (q.links ≡ p.links) × (b.idle ≡ a.idle)
   settle_flying o address p q a b (NoLink e f g) = (ap in_flight f, ap (λ (x : Pooled). x.links) f, ap (λ (x : WireState). x.idle) g)
   settle_flying o address p q a b (Kept k e room f g) = (ap in_flight f, ap (λ (x : Pooled). x.links) f, ap (λ (x : WireState). x.idle) g)
-  settle_flying o address p q a b (Shut k e f c) = (ap in_flight f, ap (λ (x : Pooled). x.links) f, c.idle)
+  settle_flying o address p q a b (Shut k e full f c) = (ap in_flight f, ap (λ (x : Pooled). x.links) f, c.idle)
 
   came_prepared : (ticket : ℕ) (answer : Reply) (f : Flight) (p q : Pooled) (a b : WireState) → OpensGiven a → Out f p a → FlightTo (Ok (polls.Came ticket answer)) f p q a b → Prepared q b
   came_prepared ticket answer f p q a b g o t =
@@ -740,40 +740,22 @@ asks_kept home = record {
   woken = λ times a b given nature same h. tt;
 }
 
-pub asks_in : (home : Address → Type 0) (p : Pooled) → AllByRecursion (λ ask. home ask.address) (held p) → AsksAt home p
-asks_in home p all =
-    let flying = all_unmap (λ (ask : Ask). home ask.address) ask_flying (in_flight p) (all_behind (λ (ask : Ask). home ask.address) (map ask_waiting p.waiting) (map ask_flying (in_flight p)) all) in
-    record {
-      waiting = all_unmap (λ (ask : Ask). home ask.address) ask_waiting p.waiting (all_front (λ (ask : Ask). home ask.address) (map ask_waiting p.waiting) (map ask_flying (in_flight p)) all);
-      polled = all_front (λ (f : Flight). home f.exchange.address) p.polled p.due flying;
-      due = all_behind (λ (f : Flight). home f.exchange.address) p.polled p.due flying;
-    }
-
--- each address is one of those of all
-all_held : (asks : List Ask) → AllByRecursion (λ ask. Contains (map (λ (a : Ask). a.address) asks) ask.address) asks
-all_held asks =
-    let all : List Address = map (λ (a : Ask). a.address) asks in
-    all_unmap (λ (address : Address). Contains (map (λ (a : Ask). a.address) asks) address) (λ (a : Ask). a.address) asks (recursion_from_All (Contains (map (λ (a : Ask). a.address) asks)) all (All-contains_itself all))
-
 module _ (one : AuthoritiesAreHostsAndPorts) (old : Pooled) (wire : WireState) (given : OpensGiven wire) (suits : SuitsWire old wire) (follows : AnswersSoFar old wire) (prepared : WaitsReady old wire)
     (steady : wire.nature.steady ≡ true) (some_links : 0 < old.links) where
   abbrev addresses : List Address
   addresses = map (λ (ask : Ask). ask.address) (held old)
 
-  abbrev line : Pooled
-  line = record old { polled = in_flight old; due = [] }
-
-  suits_line : SuitsWire line wire
-  suits_line = suits_gathered old (record old { polled = in_flight old; due = [] }) wire refl suits
-
-  first : Going wire steady line wire
-  first = gathered_goes wire steady old wire (record {
+  before : Going wire steady old wire
+  before = record {
     is_nature = refl;
     spares = λ few. record { provoked = refl; faults = λ never. refl };
     lists = record { polled = prepared.polled; due = prepared.due; spare = prepared.spare };
     room = prepared.room;
     moves = prepared.moves;
-  })
+  }
+
+  first : (line : Pooled) → Lines old line → Going wire steady line wire
+  first line l = in_line (λ (x : Pooled). Going wire steady x wire) old line l (gathered_goes wire steady old wire before) before
 
   -- a moment of the run
   record Then (mid : Pooled) (between : WireState) : Type 0 where
@@ -786,16 +768,17 @@ module _ (one : AuthoritiesAreHostsAndPorts) (old : Pooled) (wire : WireState) (
     same_links : mid.links ≡ old.links
     same_count : length (held mid) ≡ length (held old)
 
-  then_at : (mid : Pooled) (between : WireState) → Running line mid wire between → Then mid between
-  then_at mid between r = record {
-    fares = running_fares false wire line mid wire between (fares_first line wire suits_line given) r;
-    goes = running_goes (Going wire steady) (going_on wire steady) line mid wire between given suits_line first r;
-    so_far = by_running AnswersSoFar (answers_are_kept one) line mid wire between given suits_line ((answers_are_kept one).gathers old wire follows) r;
-    opens = by_running (Owning (λ address. Unit {0}) OpenHeld) opens_kept line mid wire between given suits_line (opens_kept.gathers old wire (open_in old wire prepared.open_held)) r;
-    are_asked = by_running (Owning (Contains addresses) (λ times a. Unit {0})) asks_are line mid wire between given suits_line (asks_are.gathers old wire (record { asks = asks_in (Contains addresses) old (all_held (held old)); known = tt })) r;
-    same_limit = ap (λ (x : Pooled). x.limit) (runs_bounds r.moments line mid wire between r.runs);
-    same_links = ap (λ (x : Pooled). x.links) (runs_bounds r.moments line mid wire between r.runs);
-    same_count = length_permutation (held line) (held mid) (running_holds line mid wire between r) ∙ ap (λ (l : List Ask). length l) (gathered_held old);
+  then_at : (line : Pooled) → Lines old line → (mid : Pooled) (between : WireState) → Running line mid wire between → Then mid between
+  then_at line l mid between r = record {
+    fares = running_fares false wire line mid wire between (fares_first line wire (suits_lined old line wire l suits) given) r;
+    goes = running_goes (Going wire steady) (going_on wire steady) line mid wire between given (suits_lined old line wire l suits) (first line l) r;
+    so_far = by_running AnswersSoFar (answers_are_kept one) line mid wire between given (suits_lined old line wire l suits) (by_line AnswersSoFar (answers_are_kept one) old line wire l follows) r;
+    opens = by_running (Owning (λ address. Unit {0}) OpenHeld) opens_kept line mid wire between given (suits_lined old line wire l suits) (by_line (Owning (λ address. Unit {0}) OpenHeld) opens_kept old line wire l (open_in old wire prepared.open_held)) r;
+    are_asked = by_running (Owning (Contains addresses) (λ times a. Unit {0})) asks_are line mid wire between given (suits_lined old line wire l suits)
+        (by_line (Owning (Contains addresses) (λ times a. Unit {0})) asks_are old line wire l (record { asks = asks_in (Contains addresses) old (all_held (held old)); known = tt })) r;
+    same_limit = ap (λ (x : Pooled). x.limit) (runs_bounds r.moments line mid wire between r.runs ∙ lines_bounds old line l);
+    same_links = ap (λ (x : Pooled). x.links) (runs_bounds r.moments line mid wire between r.runs ∙ lines_bounds old line l);
+    same_count = length_permutation (held line) (held mid) (running_holds line mid wire between r) ∙ ap (λ (asks : List Ask). length asks) (lined_held old line l);
   }
     where
       opens_kept : IsKept (Owning (λ address. Unit {0}) OpenHeld)
@@ -831,26 +814,26 @@ module _ (one : AuthoritiesAreHostsAndPorts) (old : Pooled) (wire : WireState) (
 
   in_wait : (result : Result Stepped PoolFault) (new : Pooled) (wire' : WireState) → wire'.given < 2 ^ 63 → 0 < length (held old) → ((k : ℕ) → open_on wire' k ≤ held_on new k) → EndsInWait result old new wire wire' → StepSpares result old new wire wire'
   in_wait result new wire' few some opens e =
-      let t = then_at e.mid e.between e.running in
+      let t = then_at e.line e.lines e.mid e.between e.running in
       record {
         ready = all_ready result new wire' opens (wait_prepared wire steady result e.mid new e.between wire' t.fares.suits t.opens.known.at t.goes e.waits);
         spares = spared_or_hung result e.mid new e.between wire' few e.may_wait some t e.waits;
       }
 
-  in_run : (result : Result Polled PoolFault) (new : Pooled) (wire' : WireState) → wire'.given < 2 ^ 63 → Ended result line new wire wire' → SparesWire wire wire'
+  in_run : (result : Result Polled PoolFault) (new : Pooled) (wire' : WireState) → wire'.given < 2 ^ 63 → EndsInRun result old new wire wire' → SparesWire wire wire'
   in_run result new wire' few e =
-      let t = then_at e.mid e.between e.running in
+      let t = then_at e.line e.lines e.mid e.between e.running in
       last_spares wire steady result e.mid new e.between wire' t.goes.is_nature t.goes.spares e.last few
 
-  in_came : (ticket : ℕ) (answer : Reply) (new : Pooled) (wire' : WireState) → ((k : ℕ) → open_on wire' k ≤ held_on new k) → Ended (Ok (polls.Came ticket answer)) line new wire wire' → WaitsReady new wire'
+  in_came : (ticket : ℕ) (answer : Reply) (new : Pooled) (wire' : WireState) → ((k : ℕ) → open_on wire' k ≤ held_on new k) → EndsInRun (Ok (polls.Came ticket answer)) old new wire wire' → WaitsReady new wire'
   in_came ticket answer new wire' opens e =
-      let t = then_at e.mid e.between e.running in
+      let t = then_at e.line e.lines e.mid e.between e.running in
       ready_of new wire' opens (last_prepared wire steady ticket answer e.mid new e.between wire' t.fares.given t.fares.suits t.goes e.last)
 
   same_spared : (wire' : WireState) → wire' ≡ wire → SparesWire wire wire'
   same_spared wire' e = record { provoked = ap (λ (x : WireState). x.provoked) e; faults = λ never. ap (λ (x : WireState). x.faults) e }
 
-  breaks_spare : (fault : PoolFault) (new : Pooled) (wire' : WireState) → wire'.given < 2 ^ 63 → 0 < length (held old) → Breaks fault old new wire wire' → StepSpares (Err fault) old new wire wire'
+  breaks_spare : (fault : PoolFault) (new : Pooled) (wire' : WireState) → wire'.given < 2 ^ 63 → 0 < length (held old) → EndsInFault fault old new wire wire' → StepSpares (Err fault) old new wire wire'
   breaks_spare fault new wire' few some (AtOnce e f i) = record { ready = tt; spares = inl (same_spared wire' i) }
   breaks_spare fault new wire' few some (InRun e) = record { ready = tt; spares = inl (in_run (Err fault) new wire' few e) }
   breaks_spare fault new wire' few some (InWait e) = in_wait (Err fault) new wire' few some (opens_after (Err fault) new wire' (InWait e)) e
@@ -901,9 +884,13 @@ put_ready ticket address pool wire h = record { open_held = h.open_held; polled 
     put_moves (Again w rest e more less) = Again w (rest ++ (record { ticket = ticket; address = address; failed = 0 }) ∷ []) (ap (λ (l : List Waiting). l ++ (record { ticket = ticket; address = address; failed = 0 }) ∷ []) e) more less
     put_moves (HoldsNone e s) = HoldsNone e s
 
+pub none_hang_by_some : EndsAreTrue → (allows : List ℕ → ℕ → List ℕ → List ℕ → Type 0) (wire : WireState) → NoneHangBySome allows wire
+none_hang_by_some laws allows wire limit asked small tells served h =
+    let is = All-contains (IsServedBySome allows) asked h.address (All-from_recursion (IsServedBySome allows) asked served) h.is_asked in
+    let short : is_short (wire.links h.on.k) ≡ true =
+    cut_short laws is.history is.config limit h.address h.received h.on.is_address false small h.on.before _ _ h.on.replied (owed_on allows is.history is.config limit h.address h.received wire h.on tells is.honest) h.more in
+    let e : true ≡ false = sym short ∙ h.none_left in cc
+
 pub none_hang : EndsAreTrue → (allows : List ℕ → ℕ → List ℕ → List ℕ → Type 0) (wire : WireState) → NoneHang allows wire
 none_hang laws allows wire history config limit asked small tells served h =
-    let is = All-contains (IsServed allows history config) asked h.address (All-from_recursion (IsServed allows history config) asked served) h.is_asked in
-    let short : is_short (wire.links h.on.k) ≡ true =
-    cut_short laws history config limit h.address h.received h.on.is_address false small h.on.before _ _ h.on.replied (owed_on allows history config limit h.address h.received wire h.on tells is.honest) h.more in
-    let e : true ≡ false = sym short ∙ h.none_left in cc
+    none_hang_by_some laws allows wire limit asked small tells (all_so (IsServed allows history config) (IsServedBySome allows) (by_some allows history config) asked served) h

@@ -16,17 +16,16 @@ use Rattle.request_pool.specs.declared.fault.Stepped.TheVariants.{Came, Waited, 
 use Rattle.request_pool.specs.Pools.{Pooled, Ask, ask_waiting, ask_flying, held, in_flight}
 use Rattle.request_pool.specs.Owned.{SuitsWire, held_on}
 use Rattle.request_pool.specs.Closing.{ClosesSome}
-use Rattle.request_pool.specs.Runs.{Overruns, Flies, Starves, Last, OfStart, OfPoll, Ended}
-use Rattle.request_pool.specs.Steps.{WaitsTo, Passes, Stalls, Misses, Lacks, Breaks, AtOnce, InRun, InWait, StepsTo}
-use Rattle.request_pool.proofs.Holding.{running_holds, step_holds}
+use Rattle.request_pool.specs.Runs.{Overruns, Flies, Starves, Last, OfStart, OfPoll}
+use Rattle.request_pool.specs.Steps.{WaitsTo, Passes, Stalls, Misses, Lacks, EndsInRun, EndsInFault, AtOnce, InRun, InWait, StepsTo}
+use Rattle.request_pool.proofs.Holding.{lined_held, running_holds, step_holds}
 use Rattle.request_pool.proofs.Risen.{fares_first, running_fares}
-use Rattle.request_pool.proofs.Steps.{suits_gathered}
+use Rattle.request_pool.proofs.Steps.{suits_lined}
 use Rattle.pool_laws.specs.Following.{IsWebAddress}
 use Rattle.pool_laws.specs.Requested.{NoneWhole, over_links, count_sent, count_answered, any, whole_requests, whole_answers, left_waiting, left_flying, unsent, RequestedSince, AnsweredSince, RequestsAreFew, RequestsAreStarted, RequestsAreRises, AsksAreAnswered, EmptyPoolsRequested, EmptyPoolsAnswered, PutsRequested, PutsAnswered, FaultsRequested, StepsRequested, StepsAnswered, ClosingRequested, ClosingAnswered}
 use Rattle.pool_laws.specs.Spending.{AnsweredMost, BudgetsAnswered, ClosingAnsweredMost}
 use Rattle.pool_laws.proofs.Lists.{all_append}
-use Rattle.pool_laws.proofs.KeptBySteps.{by_running, by_step}
-use Rattle.pool_laws.proofs.Came.{gathered_held}
+use Rattle.pool_laws.proofs.KeptBySteps.{by_line, by_running, by_step}
 use Rattle.pool_laws.proofs.Trying.{few_in, few_own, put_few}
 use Rattle.pool_laws.proofs.Counts.{count-append, count-one, all_count, left-append, unsent-append, waiting-append, regroup, group_again, one_more}
 use Rattle.pool_laws.proofs.Requesting.{StillTold, still_same, tells_told}
@@ -109,18 +108,18 @@ module _ (asked : List Address) (since : WireState) (least : (Address → Bool) 
     stepped : Stepping asked since (λ test. least test + cond (test address) 1 0) q b
     held : (test : Address → Bool) → count_by test (held_addresses p) ≡ cond (test address) 1 0 + count_by test (held_addresses q)
 
-  by_came : (ticket : ℕ) (answer : Reply) → Ended (Ok (polls.Came ticket answer)) (record p { polled = in_flight p; due = [] }) q a b → CameBy
+  by_came : (ticket : ℕ) (answer : Reply) → EndsInRun (Ok (polls.Came ticket answer)) p q a b → CameBy
   by_came ticket answer e =
-      let gathered : Pooled = record p { polled = in_flight p; due = [] } in
+      let gathered : Pooled = e.line in
       let kept = requests_are_kept p.limit since p.retries (λ test. (p.retries + 1) * count_by test asked) least in
-      let own = suits_gathered p (record p { polled = in_flight p; due = [] }) a refl suits in
+      let own = suits_lined p e.line a e.lines suits in
       let f = running_fares false a gathered e.mid a e.between (fares_first gathered a own given) e.running in
-      let mid = by_running (Known p.limit since p.retries (λ test. (p.retries + 1) * count_by test asked) least) kept gathered e.mid a e.between given own (kept.gathers p a (known_in asked since least p a h few)) e.running in
+      let mid = by_running (Known p.limit since p.retries (λ test. (p.retries + 1) * count_by test asked) least) kept gathered e.mid a e.between given own (by_line (Known p.limit since p.retries (λ test. (p.retries + 1) * count_by test asked) least) kept p gathered a e.lines (known_in asked since least p a h few)) e.running in
       let c = last_came p.limit since p.retries (λ test. (p.retries + 1) * count_by test asked) least ticket answer e.mid q e.between b f.given f.suits mid e.last in
       record {
         address = c.address;
         stepped = stepping asked since (λ test. least test + cond (test c.address) 1 0) p q b c.known;
-        held = λ test. sym (ap (λ (l : List Ask). count_by test (map (λ (ask : Ask). ask.address) l)) (gathered_held p)) ∙ sym (permuted_count test (held gathered) (held e.mid) (running_holds gathered e.mid a e.between e.running)) ∙ c.held test;
+        held = λ test. sym (ap (λ (l : List Ask). count_by test (map (λ (ask : Ask). ask.address) l)) (lined_held p e.line e.lines)) ∙ sym (permuted_count test (held gathered) (held e.mid) (running_holds gathered e.mid a e.between e.running)) ∙ c.held test;
       }
 
 -- ---- what follows
@@ -338,11 +337,11 @@ budget_waits p q a b (Stalls ready mid w i u) = not_stalled _ u.to.1
 budget_waits p q a b (Misses mid w u) = not_failed _ u.to.1
 budget_waits p q a b (Lacks w e f) = let x : ◌≡◌ {A = Result Stepped PoolFault} (Err faults.Budget) (Err faults.OutOfMemory) = e in cc
 
-budget_holds : (p q : Pooled) (a b : WireState) → Breaks faults.Budget p q a b → IsPermutation (held p) (held q)
+budget_holds : (p q : Pooled) (a b : WireState) → EndsInFault faults.Budget p q a b → IsPermutation (held p) (held q)
 budget_holds p q a b (AtOnce e f i) = absurd (let x : faults.Budget ≡ faults.OutOfMemory = e in cc)
 budget_holds p q a b (InRun e) =
     subst (λ (l : List Ask). IsPermutation (held p) l) (sym (budget_last e.mid q e.between b e.last))
-    (subst (λ (l : List Ask). IsPermutation l (held e.mid)) (gathered_held p) (running_holds (record p { polled = in_flight p; due = [] }) e.mid a e.between e.running))
+    (subst (λ (l : List Ask). IsPermutation l (held e.mid)) (lined_held p e.line e.lines) (running_holds e.line e.mid a e.between e.running))
 budget_holds p q a b (InWait e) = absurd (budget_waits e.mid q e.between b e.waits)
 
 pub budget_answered : BudgetsAnswered

@@ -275,7 +275,7 @@ module _ (limit : ℕ) (since : WireState) (r : ℕ) (cap least : (Address → B
         starts = h.starts;
         answers = h.answers;
       }))
-  settles_known o address p q a b h own (Shut k e f c) = known_as p q b f (shut_known (Some k) p a b c h)
+  settles_known o address p q a b h own (Shut k e full f c) = known_as p q b f (shut_known (Some k) p a b c h)
 
 -- its reply came: as many answers more
 abbrev pub answered : (limit : ℕ) (since : WireState) (r : ℕ) (cap least : (Address → Bool) → ℕ) (f : Flight) (address : Address) (link : Option ℕ) (x : LinkRequests) (own : ℕ) (gain : (Address → Bool) → ℕ) (p : Pooled) (b : WireState)

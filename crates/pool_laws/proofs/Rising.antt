@@ -3,7 +3,6 @@ use Rattle.std.proofs.Common.{ℕ, ◌≡◌, ◌+◌, ◌<◌, ◌≤◌, ◌�
 use Rattle.std.specs.Prelude.{◌^◌, IfErr}
 use Rattle.std.specs.List.{AllByRecursion}
 use Rattle.futures.specs.declared.task.Poll.TheVariants as poll
-use Rattle.rdf_terms.specs.declared.term.Triple.{Triple}
 use Rattle.tpf_base.specs.Addresses.{Address}
 use Rattle.tpf_base.specs.Causes.{Rose, RoseBy}
 use Rattle.tpf_base.specs.HttpReply as reply
@@ -11,10 +10,10 @@ use Rattle.tpf_base.specs.HttpReply.{reply_of}
 use Rattle.tpf_base.specs.Links.{Nature, WireState, OpensGiven, told_by, is_short, some_left}
 use Rattle.tpf_base.specs.declared.fault.Fault.TheVariants as wires
 use Rattle.http_wire.specs.declared.message.Reply.{Reply}
-use Rattle.template_fill.specs.Authorities.{AuthoritiesAreHostsAndPorts}
+use Rattle.rdf_terms.specs.declared.term.Triple.{Triple}
 use Rattle.template_fill.specs.Metadata.{Config}
-use Rattle.exchange.specs.Exchanges.{IsLinked, left_link}
-use Rattle.exchange.specs.Polls.{LinkAfter}
+use Rattle.template_fill.specs.Authorities.{AuthoritiesAreHostsAndPorts}
+use Rattle.exchange.specs.Exchanges.{left_link}
 use Rattle.exchange.specs.declared.fault.ExchangeFault.{ExchangeFault}
 use Rattle.exchange.specs.declared.fault.ExchangeFault.TheVariants as exchanges
 use Rattle.request_pool.specs.declared.asks.Waiting.{Waiting}
@@ -28,25 +27,25 @@ use Rattle.request_pool.specs.declared.fault.Stepped.TheVariants.{Came, Waited, 
 use Rattle.request_pool.specs.Pools.{Pooled, Ask, ask_waiting, ask_flying, held, in_flight}
 use Rattle.request_pool.specs.Owned.{SuitsWire, held_on}
 use Rattle.request_pool.specs.Polls.{Settles, NoLink, Kept, Shut, Polls, IsFailure, FailsTo, FlightTo}
-use Rattle.request_pool.specs.Runs.{Begins, Starts, Overruns, Flies, Starves, Last, OfStart, OfPoll, Ended}
-use Rattle.request_pool.specs.Steps.{GivesUp, WaitsTo, Passes, Stalls, Misses, Lacks, EndsInWait, Breaks, AtOnce, InRun, InWait, StepsTo}
+use Rattle.request_pool.specs.Runs.{Begins, Starts, Overruns, Flies, Starves, Last, OfStart, OfPoll}
+use Rattle.request_pool.specs.Steps.{GivesUp, WaitsTo, Passes, Stalls, Misses, Lacks, EndsInWait, EndsInRun, EndsInFault, AtOnce, InRun, InWait, StepsTo}
 use Rattle.request_pool.proofs.Owned.{linked_open}
 use Rattle.request_pool.proofs.Suits.{Owns, owns_begun, owns_next, waits_suits}
 use Rattle.request_pool.proofs.Risen.{fares_first, running_fares}
-use Rattle.request_pool.proofs.Steps.{suits_gathered}
+use Rattle.request_pool.proofs.Steps.{in_line, suits_lined}
 use Rattle.request_pool.proofs.Bounds.{flight_bounds, starts_bounds}
 use Rattle.pool_laws.specs.Following.{Follows, AnswersSoFar}
 use Rattle.pool_laws.specs.Causes.{RepliedOn}
 use Rattle.pool_laws.specs.Answers.{TellsAll}
-use Rattle.pool_laws.specs.Rising.{IsServed, FailuresRose, EndsByRises, EmptyPoolsRose, PutsRose, FaultsRose, StepsRose}
-use Rattle.pool_laws.proofs.Lists.{all_append, all_front, all_behind, all_unmap}
+use Rattle.pool_laws.specs.Rising.{IsServed, IsServedBySome, FailuresRose, EndsByRises, EmptyPoolsRose, PutsRose, FaultsRose, StepsRose, StepsRoseBySome}
+use Rattle.pool_laws.proofs.Lists.{all_append, all_front, all_behind, all_unmap, all_so}
 use Rattle.pool_laws.proofs.Following.{begun, own_link}
-use Rattle.pool_laws.proofs.Requesting.{open_given}
 use Rattle.pool_laws.proofs.KeptBySteps.{IsKept, IsKeptByTurns, running_keeps, last_keeps}
 use Rattle.pool_laws.proofs.HeldLinks.{LinksKept, AsksAt, Owning, owning_is_kept}
 use Rattle.pool_laws.proofs.HeldLinks as held_links
 use Rattle.pool_laws.proofs.Running.{answers_are_kept}
 use Rattle.pool_laws.proofs.Faults.{flight_faults, once_more, rose_later, same_fault, shut_faults}
+use Rattle.pool_laws.proofs.Fresh.{polled_given}
 use Rattle.pool_laws.proofs.Causes.{over_on, shut_idle}
 use Rattle.pool_laws.proofs.Answers.{EndsAreTrue, cut_short, owed_on}
 use Rattle.pool_laws.proofs.Staying.{Stays, starts_stay, polls_stay, round_stays, gathers_stay, waits_stay, gives_up_stays}
@@ -175,7 +174,7 @@ oldest_rises n k m p f rest h e =
 settle_rises : (o : Option ℕ) (address : Address) (n k m : ℕ) (p q : Pooled) (a b : WireState) → Settles o address p q a b → Rises n k m p → Rises n k m q
 settle_rises o address n k m p q a b (NoLink e f g) h = rises_as n k m p q f h
 settle_rises o address n k m p q a b (Kept i e room f g) h = rises_as n k m _ q f (record { later = h.later; waiting = h.waiting; polled = h.polled; due = h.due; failures = h.failures; all = h.all; few = h.few })
-settle_rises o address n k m p q a b (Shut i e f c) h = rises_as n k m p q f h
+settle_rises o address n k m p q a b (Shut i e full f c) h = rises_as n k m p q f h
 
 -- an ask that failed once more waits before all others
 failed_again : (n k m l : ℕ) (w : Waiting) (p : Pooled) (failed : ℕ) → w.failed ≡ failed + 1 → m ≤ l → Rose m l → Apart n k m failed p → Rises n k l (record p { waiting = w ∷ p.waiting })
@@ -191,19 +190,11 @@ failed_again n k m l w p failed e up rose h =
       few = omega (arith, h.others.few);
     }
 
--- ---- the link of a poll was given
-
-pub polled_given : (address : Address) (o p : Option ℕ) (a b : WireState) → LinkAfter address o p a b → OpensGiven a → IsLinked o a → (k : ℕ) → p ≡ Some k → k < b.given
-polled_given address (Some j) (Some i) a b l g linked k e = let same : i ≡ k = cc in omega (arith, same, l.0, l.1, open_given a j g linked)
-polled_given address (Some j) None a b l g linked k e = absurd l
-polled_given address None None a b l g linked k e = cc
-polled_given address None (Some i) a b l g linked k e = let same : i ≡ k = cc in omega (arith, same, l.0, l.1)
-
 -- ---- links that were cut
 
-module _ (allows : List ℕ → ℕ → List ℕ → List ℕ → Type 0) (history : List (List Triple)) (config : Config) (limit before asked : ℕ) where
+module _ (allows : List ℕ → ℕ → List ℕ → List ℕ → Type 0) (limit before asked : ℕ) where
   abbrev Served : Address → Type 0
-  Served address = IsServed allows history config address
+  Served address = IsServedBySome allows address
 
   -- a link that is not held, on which what was received at last is no whole reply
   record IsCutOff (times : ℕ → ℕ) (a : WireState) : Type 0 where
@@ -475,33 +466,33 @@ module _ (allows : List ℕ → ℕ → List ℕ → List ℕ → Type 0) (histo
 
     in_wait : (result : Result Stepped PoolFault) (p q : Pooled) (a b : WireState) → OpensGiven a → SuitsWire p a → Rising p a → AreShort (held_on q) b → b.idle < 1000 → EndsInWait result p q a b → After result q b
     in_wait result p q a b g s h short few e =
-        let r : Pooled = record p { polled = in_flight p; due = [] } in
-        let suits = suits_gathered p (record p { polled = in_flight p; due = [] }) a refl s in
+        let r : Pooled = e.line in
+        let suits = suits_lined p e.line a e.lines s in
         let f = running_fares false a r e.mid a e.between (fares_first r a suits g) e.running in
-        waits_rise result e.mid q e.between b f.suits (running_keeps Rising rising_kept r e.mid a e.between g suits (gathered_rising p a h) e.running) short few e.waits
+        waits_rise result e.mid q e.between b f.suits (running_keeps Rising rising_kept r e.mid a e.between g suits (in_line (λ (x : Pooled). Rising x a) p e.line e.lines (gathered_rising p a h) h) e.running) short few e.waits
 
     in_came : (ticket : ℕ) (answer : Reply) (p q : Pooled) (a b : WireState) → OpensGiven a → SuitsWire p a → Rising p a → AreShort (held_on q) b
-        → Ended (Ok (polls.Came ticket answer)) (record p { polled = in_flight p; due = [] }) q a b → After (Ok (Came ticket answer)) q b
+        → EndsInRun (Ok (polls.Came ticket answer)) p q a b → After (Ok (Came ticket answer)) q b
     in_came ticket answer p q a b g s h short e =
-        let r : Pooled = record p { polled = in_flight p; due = [] } in
-        let suits = suits_gathered p (record p { polled = in_flight p; due = [] }) a refl s in
+        let r : Pooled = e.line in
+        let suits = suits_lined p e.line a e.lines s in
         let f = running_fares false a r e.mid a e.between (fares_first r a suits g) e.running in
-        let mid = running_keeps Rising rising_kept r e.mid a e.between g suits (gathered_rising p a h) e.running in
+        let mid = running_keeps Rising rising_kept r e.mid a e.between g suits (in_line (λ (x : Pooled). Rising x a) p e.line e.lines (gathered_rising p a h) h) e.running in
         record { rises = (last_keeps Rising rising_kept (Ok (polls.Came ticket answer)) e.mid q e.between b f.given f.suits mid e.last).rises short; fault = tt }
 
     in_run : (fault : PoolFault) (p q : Pooled) (a b : WireState) → OpensGiven a → SuitsWire p a → Rising p a → AreShort (held_on q) b
-        → Ended (Err fault) (record p { polled = in_flight p; due = [] }) q a b → After (Err fault) q b
+        → EndsInRun (Err fault) p q a b → After (Err fault) q b
     in_run fault p q a b g s h short e =
-        let r : Pooled = record p { polled = in_flight p; due = [] } in
-        let suits = suits_gathered p (record p { polled = in_flight p; due = [] }) a refl s in
+        let r : Pooled = e.line in
+        let suits = suits_lined p e.line a e.lines s in
         let f = running_fares false a r e.mid a e.between (fares_first r a suits g) e.running in
-        let mid = running_keeps Rising rising_kept r e.mid a e.between g suits (gathered_rising p a h) e.running in
+        let mid = running_keeps Rising rising_kept r e.mid a e.between g suits (in_line (λ (x : Pooled). Rising x a) p e.line e.lines (gathered_rising p a h) h) e.running in
         record {
           rises = (last_keeps Rising rising_kept (Err fault) e.mid q e.between b f.given f.suits mid e.last).rises short;
           fault = last_ends fault e.mid q e.between b f.given f.suits mid short e.last;
         }
 
-    breaks_rise : (fault : PoolFault) (p q : Pooled) (a b : WireState) → OpensGiven a → SuitsWire p a → Rising p a → AreShort (held_on q) b → b.idle < 1000 → Breaks fault p q a b → After (Err fault) q b
+    breaks_rise : (fault : PoolFault) (p q : Pooled) (a b : WireState) → OpensGiven a → SuitsWire p a → Rising p a → AreShort (held_on q) b → b.idle < 1000 → EndsInFault fault p q a b → After (Err fault) q b
     breaks_rise fault p q a b g s h short few (AtOnce e f i) = record {
       rises = rises_as before asked b.faults p q f (subst (λ (x : WireState). Rises before asked x.faults p) (sym i) (h.rises (short_as p q a f (subst (λ (x : WireState). AreShort (held_on q) x) i short))));
       fault = other_ends fault faults.OutOfMemory b e tt;
@@ -529,8 +520,8 @@ module _ (allows : List ℕ → ℕ → List ℕ → List ℕ → Type 0) (histo
 
   all_short : EndsAreTrue → (times : ℕ → ℕ) (after : WireState) → limit < 2 ^ 64 → TellsAll allows after → AreShort times after
   all_short laws times after small tells c =
-      cut_short laws history config limit c.address c.received c.on.is_address true small c.on.before _ _ c.on.replied
-      (owed_on allows history config limit c.address c.received after c.on tells c.served.honest) c.more
+      cut_short laws c.served.history c.served.config limit c.address c.received c.on.is_address true small c.on.before _ _ c.on.replied
+      (owed_on allows c.served.history c.served.config limit c.address c.received after c.on tells c.served.honest) c.more
 
 -- ---- the laws
 
@@ -550,14 +541,23 @@ put_rose before asked ticket address pool wire h = record {
 pub fault_rose : FaultsRose
 fault_rose before asked pool wire h = record { later = h.later; waiting = h.waiting; flying = h.flying; failures = h.failures; all = h.all; few = h.few }
 
-pub steps_rose : EndsAreTrue → AuthoritiesAreHostsAndPorts → (allows : List ℕ → ℕ → List ℕ → List ℕ → Type 0) (after : WireState) → StepsRose allows after
-steps_rose laws one allows after history config before asked result old new wire given suits so_far small tells few served h to =
-    let start : Rising allows history config old.limit before asked one old.retries old wire = record {
+pub steps_rose_by_some : EndsAreTrue → AuthoritiesAreHostsAndPorts → (allows : List ℕ → ℕ → List ℕ → List ℕ → Type 0) (after : WireState) → StepsRoseBySome allows after
+steps_rose_by_some laws one allows after before asked result old new wire given suits so_far small tells few served h to =
+    let start : Rising allows old.limit before asked one old.retries old wire = record {
       is_limit = refl;
       is_retries = refl;
       follows = so_far;
-      served = record { asks = served_in allows history config old.limit before asked old served; known = tt };
+      served = record { asks = served_in allows old.limit before asked old served; known = tt };
       rises = λ short. rises_in before asked old wire h;
     } in
-    let a = step_after allows history config old.limit before asked one old.retries result old new wire after given suits start (all_short allows history config old.limit before asked laws (held_on new) after small tells) few to in
+    let a = step_after allows old.limit before asked one old.retries result old new wire after given suits start (all_short allows old.limit before asked laws (held_on new) after small tells) few to in
     record { failures = rises_out before asked new after a.rises; fault = a.fault }
+
+-- one server is some server
+pub by_some : (allows : List ℕ → ℕ → List ℕ → List ℕ → Type 0) (history : List (List Triple)) (config : Config) (address : Address) → IsServed allows history config address → IsServedBySome allows address
+by_some allows history config address h = record { history = history; config = config; honest = h.honest }
+
+pub steps_rose : EndsAreTrue → AuthoritiesAreHostsAndPorts → (allows : List ℕ → ℕ → List ℕ → List ℕ → Type 0) (after : WireState) → StepsRose allows after
+steps_rose laws one allows after history config before asked result old new wire given suits so_far small tells few served h to =
+    steps_rose_by_some laws one allows after before asked result old new wire given suits so_far small tells few
+    (all_so (λ (ask : Ask). IsServed allows history config ask.address) (λ (ask : Ask). IsServedBySome allows ask.address) (λ ask. by_some allows history config ask.address) (held old) served) h to

@@ -13,7 +13,7 @@ use Rattle.request_pool.specs.declared.fault.Stepped.{Stepped}
 use Rattle.request_pool.specs.Pools.{Pooled, in_flight}
 use Rattle.request_pool.specs.Owned.{on_link, flights_on, held_on, open_on, SuitsWire}
 use Rattle.request_pool.specs.Polls.{FailsTo}
-use Rattle.request_pool.specs.Steps.{Waits, GivesUp}
+use Rattle.request_pool.specs.Steps.{IsWait, GivesUp}
 use Rattle.request_pool.proofs.Owned.{at_or_off, flights_on-append}
 use Rattle.request_pool.proofs.Suits.{own_none, owns_begun, owns_next}
 use Rattle.pool_laws.specs.Following.{IsWebAddress, Follows, AnswersSoFar}
@@ -39,11 +39,11 @@ woken_told (ready.Link i) a b w k = elim (at_or_off k i) [
   | inr n ↦ told_same (a.links k) (b.links k) (w.2 k n)
 ]
 
-pub waits_told : (answer : Result Ready Fault) (a b : WireState) → Waits answer a b → (k : ℕ) → SameTold (a.links k) (b.links k)
+pub waits_told : (answer : Result Ready Fault) (a b : WireState) → IsWait answer a b → (k : ℕ) → SameTold (a.links k) (b.links k)
 waits_told (Ok answer) a b w k = woken_told answer a b w.ok k
 waits_told (Err fault) a b w k = told_same (a.links k) (b.links k) (w.err.links k)
 
-waited_follows : (answer : Result Ready Fault) (p : Pooled) (a b : WireState) → SuitsWire p a → AnswersSoFar p a → Waits answer a b → AnswersSoFar p b
+waited_follows : (answer : Result Ready Fault) (p : Pooled) (a b : WireState) → SuitsWire p a → AnswersSoFar p a → IsWait answer a b → AnswersSoFar p b
 waited_follows answer p a b s h w = pool_told p a b w.only.nature (λ k l. waits_told answer a b w k) h
 
 -- ---- an exchange that is given up

@@ -29,7 +29,7 @@ use Rattle.request_pool.specs.Owned.{SuitsWire, on_link, flights_on, spare_on, h
 use Rattle.request_pool.specs.Closing.{ClosesSome}
 use Rattle.request_pool.specs.Polls.{Shuts, Settles, NoLink, Kept, Shut, TakesLink, FailsTo, Polls, FlightTo}
 use Rattle.request_pool.specs.Runs.{Begins, Starts, Overruns, Flies, Starves, PollsNext}
-use Rattle.request_pool.specs.Steps.{Waits, GivesUp}
+use Rattle.request_pool.specs.Steps.{IsWait, GivesUp}
 use Rattle.request_pool.proofs.Owned.{at_or_off}
 use Rattle.request_pool.proofs.Suits.{Owns, owns_begun, owns_next}
 use Rattle.pool_laws.specs.Sending.{Nothing, FrontOf, requests_for, SendsFor, SendsOwn, SentSince, EmptyPoolsSent, PutsSent, FaultsSent, StepsSent, ClosingSent}
@@ -223,7 +223,7 @@ module _ (asked : Address → Type 0) where
           due = h.due;
           spare = all_append (λ (s : Spare). SendsOwn asked a (starting s.address p.limit (Some s.link))) p.spare ((record { link = k; address = address }) ∷ []) h.spare (own k e, tt);
         })
-    settles_sends left address p q a b own h (Shut k e f c) = subst (λ (x : Pooled). Sends x b) (sym f) (shut_sends (Some k) p a b c h)
+    settles_sends left address p q a b own h (Shut k e full f c) = subst (λ (x : Pooled). Sends x b) (sym f) (shut_sends (Some k) p a b c h)
 
     with_flight : (p : Pooled) (f : Flight) (a : WireState) → SendsOwn asked a f.exchange → Sends p a → Sends (record p { polled = p.polled ++ f ∷ [] }) a
     with_flight p f a s h = record { given = h.given; waiting = h.waiting; polled = all_append (λ (x : Flight). SendsOwn asked a x.exchange) p.polled (f ∷ []) h.polled (s, tt); due = h.due; spare = h.spare }
@@ -303,7 +303,7 @@ module _ (asked : Address → Type 0) where
 
     -- ---- waits
 
-    waited_sends : (answer : Result Ready Fault) (p : Pooled) (a b : WireState) → Waits answer a b → Sends p a → Sends p b
+    waited_sends : (answer : Result Ready Fault) (p : Pooled) (a b : WireState) → IsWait answer a b → Sends p a → Sends p b
     waited_sends answer p a b w h = all_told p a b w.only.given (waits_told answer a b w) h
 
     fails_send : {T : Type 0} (fault : PoolFault) (result : Result T PoolFault) (f : Flight) (p q : Pooled) (a : WireState) → FailsTo fault result f p q → asked f.exchange.address → Sends p a → Sends q a

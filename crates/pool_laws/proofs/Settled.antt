@@ -37,9 +37,14 @@ shut_whole (Some i) a b c k = closed_whole i a b c k
 pub settles_whole : (o : Option ℕ) (address : Address) (p q : Pooled) (a b : WireState) → Settles o address p q a b → (k : ℕ) → SameWhole (a.links k) (b.links k)
 settles_whole o address p q a b (NoLink e f h) k = whole_same (a.links k) (b.links k) (ap (λ (w : WireState). w.links k) h)
 settles_whole o address p q a b (Kept i e room f h) k = whole_same (a.links k) (b.links k) (ap (λ (w : WireState). w.links k) h)
-settles_whole o address p q a b (Shut i e f c) k = closed_whole i a b c k
+settles_whole o address p q a b (Shut i e full f c) k = closed_whole i a b c k
+
+pub settles_given : (o : Option ℕ) (address : Address) (p q : Pooled) (a b : WireState) → Settles o address p q a b → b.given ≡ a.given
+settles_given o address p q a b (NoLink e f h) = ap (λ (w : WireState). w.given) h
+settles_given o address p q a b (Kept i e room f h) = ap (λ (w : WireState). w.given) h
+settles_given o address p q a b (Shut i e full f c) = c.only.given
 
 pub settles_nature : (o : Option ℕ) (address : Address) (p q : Pooled) (a b : WireState) → Settles o address p q a b → b.nature ≡ a.nature
 settles_nature o address p q a b (NoLink e f h) = ap (λ (w : WireState). w.nature) h
 settles_nature o address p q a b (Kept i e room f h) = ap (λ (w : WireState). w.nature) h
-settles_nature o address p q a b (Shut i e f c) = c.only.nature
+settles_nature o address p q a b (Shut i e full f c) = c.only.nature

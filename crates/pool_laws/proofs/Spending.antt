@@ -25,9 +25,9 @@ use Rattle.request_pool.specs.declared.fault.Stepped.TheVariants.{Came, Waited, 
 use Rattle.request_pool.specs.Pools.{Pooled, ask_waiting, ask_flying, held, in_flight}
 use Rattle.request_pool.specs.Owned.{SuitsWire}
 use Rattle.request_pool.specs.Polls.{Shuts, Settles, NoLink, Kept, Shut, TakesLink, Polls, IsFailure, FailsTo, FlightTo, again}
-use Rattle.request_pool.specs.Runs.{Begins, Starts, Overruns, Flies, Starves, PollsNext, Last, OfStart, OfPoll, Ended, is_end}
-use Rattle.request_pool.specs.Steps.{Waits, GivesUp, WaitsTo, Passes, Stalls, Misses, Lacks, EndsInWait, Breaks, AtOnce, InRun, InWait}
-use Rattle.request_pool.proofs.Steps.{suits_gathered}
+use Rattle.request_pool.specs.Runs.{Begins, Starts, Overruns, Flies, Starves, PollsNext, Last, OfStart, OfPoll, is_end}
+use Rattle.request_pool.specs.Steps.{IsWait, GivesUp, WaitsTo, Passes, Stalls, Misses, Lacks, EndsInWait, EndsInRun, EndsInFault, AtOnce, InRun, InWait}
+use Rattle.request_pool.proofs.Steps.{in_line, suits_lined}
 use Rattle.pool_laws.specs.Spending.{SpentSince, EmptyPoolsSpend, PutsSpend, FaultsSpend, StepsSpend}
 use Rattle.pool_laws.proofs.Faults.{once_more, rose_later, same_fault, shut_faults}
 use Rattle.pool_laws.proofs.Dialling.{at_most_one, dial_for}
@@ -148,7 +148,7 @@ module _ (since : WireState) (asked : ℕ) where
       let r : Pooled = record p { spare = p.spare ++ (record { link = i; address = address }) ∷ [] } in
       subst (λ (x : WireState). Spent q x) (sym g) (spent_as (record p { spare = p.spare ++ (record { link = i; address = address }) ∷ [] }) q a f
       (holds_one p (record p { spare = p.spare ++ (record { link = i; address = address }) ∷ [] }) a refl (omega (arith, length-append p.spare (s ∷ []))) h))
-  settle_spent o address p q a b (Shut i e f c) h =
+  settle_spent o address p q a b (Shut i e full f c) h =
       let s = lost p q a f h in
       goes_on q q a b refl (omega arith) c.only.given (omega (arith, c.faults)) s
 
@@ -225,7 +225,7 @@ module _ (since : WireState) (asked : ℕ) where
       let all : length p.polled + length p.due ≡ length u.rest + 1 = omega (arith, length-append p.polled p.due, ap (λ (l : List Flight). length l) u.is_oldest) in
       goes_on p q a b t.0 (omega (arith, t.1, all)) (shut_given u.f.exchange.link a b u.shuts) (shut_faults u.f.exchange.link a b u.shuts) h
 
-  waited_spent : (answer : Result Ready Fault) (p : Pooled) (a b : WireState) → Spent p a → Waits answer a b → Spent p b
+  waited_spent : (answer : Result Ready Fault) (p : Pooled) (a b : WireState) → Spent p a → IsWait answer a b → Spent p b
   waited_spent answer p a b h w = goes_on p p a b refl (omega arith) w.only.given w.only.later h
 
   waits_spent : (result : Result Stepped PoolFault) (p q : Pooled) (a b : WireState) → Spent p a → WaitsTo result p q a b → Spent q b
@@ -236,10 +236,10 @@ module _ (since : WireState) (asked : ℕ) where
 
   -- ---- a step
 
-  ended_spent : (result : Result Polled PoolFault) (p q : Pooled) (a b : WireState) → OpensGiven a → SuitsWire p a → result ≢ Err faults.OutOfMemory → Spent p a → Ended result (record p { polled = in_flight p; due = [] }) q a b → Spent q b
+  ended_spent : (result : Result Polled PoolFault) (p q : Pooled) (a b : WireState) → OpensGiven a → SuitsWire p a → result ≢ Err faults.OutOfMemory → Spent p a → EndsInRun result p q a b → Spent q b
   ended_spent result p q a b g s some h e =
-      let r : Pooled = record p { polled = in_flight p; due = [] } in
-      last_spent result e.mid q e.between b some (running_goes Spent spent_is_kept r e.mid a e.between g (suits_gathered p (record p { polled = in_flight p; due = [] }) a refl s) (gathered_spent p a h) e.running) e.last
+      let r : Pooled = e.line in
+      last_spent result e.mid q e.between b some (running_goes Spent spent_is_kept r e.mid a e.between g (suits_lined p e.line a e.lines s) (in_line (λ (x : Pooled). Spent x a) p e.line e.lines (gathered_spent p a h) h) e.running) e.last
     where
       last_spent : (result : Result Polled PoolFault) (p q : Pooled) (a b : WireState) → result ≢ Err faults.OutOfMemory → Spent p a → Last result p q a b → Spent q b
       last_spent result p q a b some h (OfStart t) = starts_spent result p q a b some h t
@@ -247,10 +247,10 @@ module _ (since : WireState) (asked : ℕ) where
 
   in_wait : (result : Result Stepped PoolFault) (p q : Pooled) (a b : WireState) → OpensGiven a → SuitsWire p a → Spent p a → EndsInWait result p q a b → Spent q b
   in_wait result p q a b g s h e =
-      let r : Pooled = record p { polled = in_flight p; due = [] } in
-      waits_spent result e.mid q e.between b (running_goes Spent spent_is_kept r e.mid a e.between g (suits_gathered p (record p { polled = in_flight p; due = [] }) a refl s) (gathered_spent p a h) e.running) e.waits
+      let r : Pooled = e.line in
+      waits_spent result e.mid q e.between b (running_goes Spent spent_is_kept r e.mid a e.between g (suits_lined p e.line a e.lines s) (in_line (λ (x : Pooled). Spent x a) p e.line e.lines (gathered_spent p a h) h) e.running) e.waits
 
-  breaks_spent : (fault : PoolFault) (p q : Pooled) (a b : WireState) → OpensGiven a → SuitsWire p a → ◌≢◌ {A = Result Stepped PoolFault} (Err fault) (Err faults.OutOfMemory) → Spent p a → Breaks fault p q a b → Spent q b
+  breaks_spent : (fault : PoolFault) (p q : Pooled) (a b : WireState) → OpensGiven a → SuitsWire p a → ◌≢◌ {A = Result Stepped PoolFault} (Err fault) (Err faults.OutOfMemory) → Spent p a → EndsInFault fault p q a b → Spent q b
   breaks_spent fault p q a b g s some h (AtOnce e f i) = spent_as p q b f (subst (λ (x : WireState). Spent p x) (sym i) h)
   breaks_spent fault p q a b g s some h (InRun e) = ended_spent (Err fault) p q a b g s (polled_memory fault some) h e
   breaks_spent fault p q a b g s some h (InWait e) = in_wait (Err fault) p q a b g s h e

@@ -12,7 +12,7 @@ use Rattle.request_pool.specs.Pools.{Pooled}
 use Rattle.request_pool.specs.Owned.{SuitsWire, on_link, held_on}
 use Rattle.request_pool.specs.Polls.{Shuts}
 use Rattle.request_pool.specs.Runs.{Starts, PollsNext}
-use Rattle.request_pool.specs.Steps.{Waits, GivesUp}
+use Rattle.request_pool.specs.Steps.{IsWait, GivesUp}
 use Rattle.request_pool.proofs.Owned.{on_same}
 use Rattle.pool_laws.specs.Owning.{IsAsBefore, Same, Woken}
 use Rattle.pool_laws.proofs.Settled.{SameWhole, whole_same}
@@ -108,7 +108,7 @@ round_stays p a = record { still = λ k given none. ((still_is_kept k (a.links k
 pub gathers_stay : (p : Pooled) (a : WireState) → Stays p (record p { polled = p.polled ++ p.due; due = [] }) a a
 gathers_stay p a = record { still = λ k given none. ((still_is_kept k (a.links k) a.nature).gathers p a (still_now k p a given none)).known }
 
-pub waits_stay : (answer : Result Ready Fault) (p : Pooled) (a b : WireState) → SuitsWire p a → Waits answer a b → Stays p p a b
+pub waits_stay : (answer : Result Ready Fault) (p : Pooled) (a b : WireState) → SuitsWire p a → IsWait answer a b → Stays p p a b
 waits_stay answer p a b s w = record { still = λ k given none. ((still_is_kept k (a.links k) a.nature).waits answer p a b s (still_now k p a given none) w).known }
 
 pub gives_up_stays : (fault : PoolFault) (result : Result Stepped PoolFault) (p q : Pooled) (a b : WireState) → SuitsWire p a → GivesUp fault result p q a b → Stays p q a b

@@ -16,9 +16,9 @@ use Rattle.request_pool.specs.declared.fault.Stepped.TheVariants.{Came, Waited, 
 use Rattle.request_pool.specs.Pools.{Pooled, in_flight}
 use Rattle.request_pool.specs.Owned.{SuitsWire}
 use Rattle.request_pool.specs.Polls.{Settles, NoLink, Kept, Shut, FailsTo, FlightTo}
-use Rattle.request_pool.specs.Runs.{Begins, Starts, Overruns, Flies, Starves, PollsNext, Turn, Start, Next, Round, Moment, Runs, Running, Last, OfStart, OfPoll, Ended, is_end}
-use Rattle.request_pool.specs.Steps.{GivesUp, WaitsTo, Passes, Stalls, Misses, Lacks, Breaks, AtOnce, InRun, InWait}
-use Rattle.request_pool.proofs.Steps.{suits_gathered}
+use Rattle.request_pool.specs.Runs.{Begins, Starts, Overruns, Flies, Starves, PollsNext, Turn, Start, Next, Round, Moment, Runs, Running, Last, OfStart, OfPoll, is_end}
+use Rattle.request_pool.specs.Steps.{GivesUp, WaitsTo, Passes, Stalls, Misses, Lacks, Lines, EndsInRun, EndsInFault, AtOnce, InRun, InWait}
+use Rattle.request_pool.proofs.Steps.{in_line, suits_lined}
 use Rattle.pool_laws.specs.Counting.{tries_waiting, tries_flying, tries, FewFailed, StartsAreTries, StepsCountTries, EmptyPoolsFewFailed, PutsFewFailed, StepsFewFailed}
 use Rattle.pool_laws.proofs.Lists.{all_append, all_front, all_behind}
 use Rattle.pool_laws.proofs.KeptBySteps.{IsKept, by_running, by_step}
@@ -42,7 +42,7 @@ module _ (r : ℕ) where
   settle_few : (o : Option ℕ) (address : Address) (p q : Pooled) (a b : WireState) → Settles o address p q a b → Few r p → Few r q
   settle_few o address p q a b (NoLink e f g) h = few_as p q f h
   settle_few o address p q a b (Kept i e room f g) h = few_as _ q f (record { is = h.is; waiting = h.waiting; polled = h.polled; due = h.due })
-  settle_few o address p q a b (Shut i e f c) h = few_as p q f h
+  settle_few o address p q a b (Shut i e full f c) h = few_as p q f h
 
   once_more : (n m : ℕ) → m ≡ r → n < m → n + 1 ≤ r
   once_more n m e h = omega (arith, e, h)
@@ -141,7 +141,7 @@ same_tries result f p q end e = subst (λ (x : Pooled). FlightTries result f p x
 settle_tries : (o : Option ℕ) (address : Address) (p q : Pooled) (a b : WireState) → Settles o address p q a b → (q.started ≡ p.started) × (tries q ≡ tries p)
 settle_tries o address p q a b (NoLink e f g) = (ap (λ (x : Pooled). x.started) f, ap tries f)
 settle_tries o address p q a b (Kept i e room f g) = (ap (λ (x : Pooled). x.started) f, ap tries f)
-settle_tries o address p q a b (Shut i e f c) = (ap (λ (x : Pooled). x.started) f, ap tries f)
+settle_tries o address p q a b (Shut i e full f c) = (ap (λ (x : Pooled). x.started) f, ap tries f)
 
 pub flight_tries : (result : Result Polled PoolFault) (f : Flight) (p q : Pooled) (a b : WireState) → FlightTo result f p q a b → FlightTries result f p q
 flight_tries (Ok polls.Pending) f p q a b t =
@@ -268,6 +268,9 @@ gathered_few r p h = record { is = h.is; waiting = h.waiting; polled = all_appen
 from_gathered : (n : ℕ) (p q : Pooled) → StartsAreTries n (record p { polled = in_flight p; due = [] }) q → StartsAreTries n p q
 from_gathered n p q h = omega (arith, h, gathered_tries p)
 
+from_line : (n : ℕ) (p line q : Pooled) → Lines p line → StartsAreTries n line q → StartsAreTries n p q
+from_line n p line q l = in_line (λ (x : Pooled). StartsAreTries n x q → StartsAreTries n p q) p line l (from_gathered n p q) (λ h. h)
+
 -- the tries that a step ends
 record StepTries (low high : ℕ) (p q : Pooled) : Type 0 where
   over : ℕ
@@ -275,28 +278,28 @@ record StepTries (low high : ℕ) (p q : Pooled) : Type 0 where
   few : over ≤ high
   balance : StartsAreTries over p q
 
-run_few : (p q : Pooled) (a b : WireState) → OpensGiven a → SuitsWire p a → FewFailed p → Running (record p { polled = in_flight p; due = [] }) q a b → Few p.retries q
-run_few p q a b g s h r =
-    by_running (λ x w. Few p.retries x) (few_is_kept p.retries) (record p { polled = in_flight p; due = [] }) q a b g (suits_gathered p (record p { polled = in_flight p; due = [] }) a refl s) (gathered_few p.retries p (few_in p h)) r
+run_few : (p line q : Pooled) (a b : WireState) → OpensGiven a → SuitsWire p a → FewFailed p → Lines p line → Running line q a b → Few p.retries q
+run_few p line q a b g s h l r =
+    by_running (λ x w. Few p.retries x) (few_is_kept p.retries) line q a b g (suits_lined p line a l s) (in_line (Few p.retries) p line l (gathered_few p.retries p (few_in p h)) (few_in p h)) r
 
-came_tries : (ticket : ℕ) (answer : Reply) (p q : Pooled) (a b : WireState) → OpensGiven a → SuitsWire p a → FewFailed p → Ended (Ok (polls.Came ticket answer)) (record p { polled = in_flight p; due = [] }) q a b → StepTries 1 (p.retries + 1) p q
+came_tries : (ticket : ℕ) (answer : Reply) (p q : Pooled) (a b : WireState) → OpensGiven a → SuitsWire p a → FewFailed p → EndsInRun (Ok (polls.Came ticket answer)) p q a b → StepTries 1 (p.retries + 1) p q
 came_tries ticket answer p q a b g s h e =
     let t = last_tries (Ok (polls.Came ticket answer)) e.mid q e.between b e.last in
     record {
       over = t.over;
       some = t.some ticket answer refl;
-      few = t.few p.retries (run_few p e.mid a e.between g s h e.running);
-      balance = from_gathered t.over p q (balance_then t.over (record p { polled = in_flight p; due = [] }) e.mid q (runs_balance e.running.moments _ e.mid a e.between e.running.runs) t.balance);
+      few = t.few p.retries (run_few p e.line e.mid a e.between g s h e.lines e.running);
+      balance = from_line t.over p e.line q e.lines (balance_then t.over e.line e.mid q (runs_balance e.running.moments _ e.mid a e.between e.running.runs) t.balance);
     }
 
-fault_tries : (fault : PoolFault) (p q : Pooled) (a b : WireState) → OpensGiven a → SuitsWire p a → FewFailed p → Ended (Err fault) (record p { polled = in_flight p; due = [] }) q a b → StepTries 0 (p.retries + 1) p q
+fault_tries : (fault : PoolFault) (p q : Pooled) (a b : WireState) → OpensGiven a → SuitsWire p a → FewFailed p → EndsInRun (Err fault) p q a b → StepTries 0 (p.retries + 1) p q
 fault_tries fault p q a b g s h e =
     let t = last_tries (Err fault) e.mid q e.between b e.last in
     record {
       over = t.over;
       some = omega arith;
-      few = t.few p.retries (run_few p e.mid a e.between g s h e.running);
-      balance = from_gathered t.over p q (balance_then t.over (record p { polled = in_flight p; due = [] }) e.mid q (runs_balance e.running.moments _ e.mid a e.between e.running.runs) t.balance);
+      few = t.few p.retries (run_few p e.line e.mid a e.between g s h e.lines e.running);
+      balance = from_line t.over p e.line q e.lines (balance_then t.over e.line e.mid q (runs_balance e.running.moments _ e.mid a e.between e.running.runs) t.balance);
     }
 
 given_up_tries : (p : Pooled) (f : Flight) (rest : List Flight) → in_flight p ≡ f ∷ rest → tries p ≡ f.failed + 1 + tries (record p { polled = rest; due = [] })
@@ -335,22 +338,22 @@ wait_breaks result fault r p q a b e h (Stalls ready mid w i u) = breaks_up faul
 wait_breaks result fault r p q a b e h (Misses mid w u) = breaks_up faults.Exchange fault r p q mid b h (subst (λ (x : Result Stepped PoolFault). GivesUp faults.Exchange x p q mid b) e u)
 wait_breaks result fault r p q a b e h (Lacks w f same) = none_over_tries r p q same
 
-break_tries : (fault : PoolFault) (p q : Pooled) (a b : WireState) → OpensGiven a → SuitsWire p a → FewFailed p → Breaks fault p q a b → StepTries 0 (p.retries + 1) p q
+break_tries : (fault : PoolFault) (p q : Pooled) (a b : WireState) → OpensGiven a → SuitsWire p a → FewFailed p → EndsInFault fault p q a b → StepTries 0 (p.retries + 1) p q
 break_tries fault p q a b g s h (AtOnce e f i) = none_over_tries p.retries p q f
 break_tries fault p q a b g s h (InRun e) = fault_tries fault p q a b g s h e
 break_tries fault p q a b g s h (InWait e) =
-    let t = wait_breaks (Err fault) fault p.retries e.mid q e.between b refl (run_few p e.mid a e.between g s h e.running) e.waits in
+    let t = wait_breaks (Err fault) fault p.retries e.mid q e.between b refl (run_few p e.line e.mid a e.between g s h e.lines e.running) e.waits in
     record {
       over = t.over;
       some = t.some;
       few = t.few;
-      balance = from_gathered t.over p q (balance_then t.over (record p { polled = in_flight p; due = [] }) e.mid q (runs_balance e.running.moments _ e.mid a e.between e.running.runs) t.balance);
+      balance = from_line t.over p e.line q e.lines (balance_then t.over e.line e.mid q (runs_balance e.running.moments _ e.mid a e.between e.running.runs) t.balance);
     }
 
 pub step_tries : StepsCountTries
 step_tries (Ok Idle) old new wire wire' given suits h to = to.1
 step_tries (Ok (Came ticket reply)) old new wire wire' given suits h to = let t = came_tries ticket reply old new wire wire' given suits h to in (t.over, t.some, t.few, t.balance)
 step_tries (Ok Waited) old new wire wire' given suits h to =
-    from_gathered 0 old new (balance_then 0 (record old { polled = in_flight old; due = [] }) to.mid new (runs_balance to.running.moments _ to.mid wire to.between to.running.runs)
+    from_line 0 old to.line new to.lines (balance_then 0 to.line to.mid new (runs_balance to.running.moments _ to.mid wire to.between to.running.runs)
     (waited_balance (Ok Waited) Waited to.mid new to.between wire' refl to.waits))
 step_tries (Err fault) old new wire wire' given suits h to = let t = break_tries fault old new wire wire' given suits h to in (t.over, t.few, t.balance)

@@ -43,6 +43,7 @@ pub record IsRead (ticket : ℕ) (answer : Reply) (old new : Pooled) (before aft
   pub hands : HandsOut ticket old new
   pub received : List ℕ
   pub on : RepliedOn old.limit hands.ask.address received after
+  pub given : on.k < after.given
   pub fresh : (n : ℕ) → HoldsNoneBelow n old before → n ≤ on.k
   pub n : ℕ
   pub at_end : Bool
@@ -61,6 +62,7 @@ pub record LosesAsk (received : List ℕ) (old new : Pooled) (before after : Wir
   pub ask : Ask
   pub others : IsPermutation (held old) (ask ∷ held new)
   pub on : RepliedOn old.limit ask.address received after
+  pub given : on.k < after.given
   pub fresh : (n : ℕ) → HoldsNoneBelow n old before → n ≤ on.k
 
 -- what was received has this fault

@@ -2,6 +2,7 @@ pub mod Honest
 pub mod Following
 pub mod Answers
 pub mod Owning
+pub mod Hosts
 pub mod Counting
 pub mod Causes
 pub mod Rising

@@ -20,7 +20,7 @@ use Rattle.request_pool.specs.Steps.{StepsTo}
 use Rattle.pool_laws.specs.Following.{AnswersSoFar}
 use Rattle.pool_laws.specs.Causes.{RepliedOn}
 use Rattle.pool_laws.specs.Answers.{TellsAll}
-use Rattle.pool_laws.specs.Rising.{IsServed}
+use Rattle.pool_laws.specs.Rising.{IsServed, IsServedBySome}
 
 -- The exchange waits on its link, which is ripe unless the exchange hangs; and its reply goes on.
 pub record IsStalled (wire : WireState) (e : Exchanging) : Type 0 where
@@ -95,7 +95,13 @@ StepsSpare =
     → wire.nature.steady ≡ true → wire'.given < 2 ^ 63 → 0 < old.links → (held old ≡ [] → result ≡ Ok Idle)
     → StepsTo result old new wire wire' → StepSpares result old new wire wire'
 
--- over other ends that answer as a server does no exchange hangs
+-- over other ends that answer as servers do, each as one of its own, no exchange hangs
+abbrev pub NoneHangBySome : (List ℕ → ℕ → List ℕ → List ℕ → Type 0) → WireState → Type 0
+NoneHangBySome allows wire =
+    (limit : ℕ) (asked : List Address)
+    → limit < 2 ^ 64 → TellsAll allows wire → AllByRecursion (IsServedBySome allows) asked → HasHung asked limit wire → ⊥
+
+-- nor over those that answer as one server does
 abbrev pub NoneHang : (List ℕ → ℕ → List ℕ → List ℕ → Type 0) → WireState → Type 0
 NoneHang allows wire =
     (history : List (List Triple)) (config : Config) (limit : ℕ) (asked : List Address)

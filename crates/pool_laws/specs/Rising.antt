@@ -20,6 +20,12 @@ use Rattle.pool_laws.specs.Answers.{TellsAll}
 pub record IsServed (allows : List ℕ → ℕ → List ℕ → List ℕ → Type 0) (history : List (List Triple)) (config : Config) (address : Address) : Type 0 where
   pub honest : IsHonestAt allows address.host address.port (answering history config)
 
+-- It answers as some server does: of several addresses each may have a server of its own.
+pub record IsServedBySome (allows : List ℕ → ℕ → List ℕ → List ℕ → Type 0) (address : Address) : Type 0 where
+  pub history : List (List Triple)
+  pub config : Config
+  pub honest : IsHonestAt allows address.host address.port (answering history config)
+
 -- Since a moment with so many faults, the wire's faults rose at least as often as each ask that is held failed, and at least as often as all asks failed: beside a failure, no more exchanges were started than so many asks.
 pub record FailuresRose (before asked : ℕ) (pool : Pooled) (wire : WireState) : Type 0 where
   pub later : before ≤ wire.faults
@@ -59,7 +65,15 @@ PutsRose =
 abbrev pub FaultsRose : Type 0
 FaultsRose = (before asked : ℕ) (pool : Pooled) (wire : WireState) → FailuresRose before asked (record pool { fault = None }) wire → FailuresRose before asked pool wire
 
--- Each step, whatever it answers, where every ask that is held is served, and after which fewer than 1000 waits have followed one another.
+-- Each step, whatever it answers, where every ask that is held is served, each by a server of its own, and after which fewer than 1000 waits have followed one another.
+abbrev pub StepsRoseBySome : (List ℕ → ℕ → List ℕ → List ℕ → Type 0) → WireState → Type 0
+StepsRoseBySome allows after =
+    (before asked : ℕ) (result : Result Stepped PoolFault) (old new : Pooled) (wire : WireState)
+    → OpensGiven wire → SuitsWire old wire → AnswersSoFar old wire → old.limit < 2 ^ 64 → TellsAll allows after → after.idle < 1000
+    → AllByRecursion (λ ask. IsServedBySome allows ask.address) (held old)
+    → FailuresRose before asked old wire → StepsTo result old new wire after → StepRose result before asked old new after
+
+-- where one server serves them all
 abbrev pub StepsRose : (List ℕ → ℕ → List ℕ → List ℕ → Type 0) → WireState → Type 0
 StepsRose allows after =
     (history : List (List Triple)) (config : Config) (before asked : ℕ) (result : Result Stepped PoolFault) (old new : Pooled) (wire : WireState)

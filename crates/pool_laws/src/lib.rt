@@ -18,13 +18,14 @@ ghost use Rattle.tpf_base.specs.Links.{All};
 ghost use Rattle.pool_laws.specs.Answers.{CutsAreFaults, RefusalsAreTooLong, RepliesAreAnswers, TellsAll};
 ghost use Rattle.pool_laws.specs.Honest.{RefusedAsTooLongAlone};
 ghost use Rattle.pool_laws.specs.Owning.{ClosingCloses, EmptyPoolsOwn, FaultsOwn, PutsOwn, StepsOwn};
+ghost use Rattle.pool_laws.specs.Hosts.{ClosingAtHosts, EmptyPoolsOwnAtHosts, FaultsOwnAtHosts, PutsOwnAtHosts, StepsDialHeld, StepsOwnAtHosts};
 ghost use Rattle.pool_laws.specs.Causes.{FaultsHaveCauses, RepliesAreRead};
 ghost use Rattle.pool_laws.specs.Counting.{ClosingDials, EmptyPoolsDial, EmptyPoolsFewFailed, FaultsDial, PutsDial, PutsFewFailed, StepsCountTries, StepsDial, StepsFewFailed};
-ghost use Rattle.pool_laws.specs.Rising.{EmptyPoolsRose, FaultsRose, PutsRose, StepsRose};
+ghost use Rattle.pool_laws.specs.Rising.{EmptyPoolsRose, FaultsRose, PutsRose, StepsRose, StepsRoseBySome};
 ghost use Rattle.pool_laws.specs.Requested.{AsksAreAnswered, ClosingAnswered, ClosingRequested, EmptyPoolsAnswered, EmptyPoolsRequested, FaultsRequested, PutsAnswered, PutsRequested, RequestsAreExact, RequestsAreFew, RequestsAreOne, RequestsAreRises, RequestsAreStarted, StepsAnswered, StepsRequested};
 ghost use Rattle.pool_laws.specs.Failing.{EmptyPoolsFail, FaultsFail, PutsFail, StepsFail};
 ghost use Rattle.pool_laws.specs.Spending.{BudgetsAnswered, ClosingAnsweredMost, EmptyPoolsSpend, FaultsSpend, PutsSpend, StepsSpend};
-ghost use Rattle.pool_laws.specs.Provoking.{EmptyPoolsReady, NoneHang, PutsReady, StepsSpare};
+ghost use Rattle.pool_laws.specs.Provoking.{EmptyPoolsReady, NoneHang, NoneHangBySome, PutsReady, StepsSpare};
 ghost use Rattle.pool_laws.specs.Sending.{ClosingSent, EmptyPoolsSent, FaultsSent, PutsSent, StepsSent};
 ghost use Rattle.pool_laws.specs.Following.{ClosedPoolsFollow, EmptyPoolsFollow, FaultsFollow, FlightsFollow, OthersFollow, PollsFollow, PutsFollow, RunningFollows, RunsFollow, StartsFollow, StepsFollow, TurnsFollow};
 
@@ -81,6 +82,20 @@ pub fn links_are_closed()
     ensures close { ClosingCloses }
 {}
 
+/// Each link that is given in a step was dialled for the host and the port of an ask that was held at
+/// its entry (`held`). Where the asks of a pool are for the hosts and ports of some addresses, several
+/// servers say, each link that was given since the pool was empty was dialled for one of these, and is
+/// held or closed, whatever the steps answer; the links before are as they were. So after its close each
+/// link that was given since is closed (`close`).
+pub fn links_are_for_asks()
+    ensures held { StepsDialHeld }
+    ensures empty { EmptyPoolsOwnAtHosts }
+    ensures put { PutsOwnAtHosts }
+    ensures fault { FaultsOwnAtHosts }
+    ensures step { StepsOwnAtHosts }
+    ensures close { ClosingAtHosts }
+{}
+
 /// An exchange is started for each try of an ask, of which there are at most one more than it may be
 /// tried again (`empty`, `put`, `step`, `tries`); and no link is dialled but for an exchange that is
 /// started (`dials_empty`, `dials_put`, `dials_fault`, `dials_step`, `dials_close`).
@@ -111,12 +126,14 @@ pub fn a_step_has_a_cause()
 /// faults, where never 1000 waits follow one another (`step`). So, since the pool was empty, no more
 /// exchanges are started than asks were put and faults rose; and a step after which the wire is this
 /// one ends with `Exchange` or `Cut` only where the faults rose at least once more than an ask may be
-/// tried again, and never with `Stalled`.
+/// tried again, and never with `Stalled`. It is so too where each ask has a server of its own
+/// (`step_by_some`).
 pub fn failures_are_rises<W: Wire>(wire: &W)
     ensures empty { EmptyPoolsRose }
     ensures put { PutsRose }
     ensures fault { FaultsRose }
     ensures step { StepsRose (W.allows wire.now) (W.state wire.now) }
+    ensures step_by_some { StepsRoseBySome (W.allows wire.now) (W.state wire.now) }
 {
     requests_are_cut();
     an_answer_is_read();
@@ -194,12 +211,14 @@ pub fn starts_are_spent()
 
 /// Over a steady wire on which no link is open but those of a pool, below 2^63 links, a step provokes
 /// no fault unless an exchange hangs, and has none where none is due (`step`). Over other ends that
-/// answer as a server does no exchange hangs after a step after which the wire is this one (`hang`).
+/// answer as a server does no exchange hangs after a step after which the wire is this one (`hang`), nor
+/// where each ask has a server of its own (`hang_by_some`).
 pub fn steps_provoke_nothing<W: Wire>(wire: &W)
     ensures empty { EmptyPoolsReady }
     ensures put { PutsReady }
     ensures step { StepsSpare }
     ensures hang { NoneHang (W.allows wire.now) (W.state wire.now) }
+    ensures hang_by_some { NoneHangBySome (W.allows wire.now) (W.state wire.now) }
 {
     requests_are_cut();
     an_answer_is_read();

@@ -10,17 +10,17 @@ use Rattle.request_pool.specs.declared.fault.PoolFault.{PoolFault}
 use Rattle.request_pool.specs.declared.fault.PoolFault.TheVariants as faults
 use Rattle.request_pool.specs.declared.fault.Stepped.{Stepped}
 use Rattle.request_pool.specs.declared.fault.Stepped.TheVariants.{Came, Waited, Idle}
-use Rattle.request_pool.specs.Pools.{Pooled, IsOverBudget, in_flight, bounds_of}
+use Rattle.request_pool.specs.Pools.{Pooled, IsOverBudget, bounds_of}
 use Rattle.request_pool.specs.Polls.{FailsTo, Settles, NoLink, Kept, Shut, FlightTo}
-use Rattle.request_pool.specs.Runs.{Starts, Overruns, Flies, Starves, Turn, Start, Next, Round, Moment, Runs, Last, OfStart, OfPoll, Ended}
-use Rattle.request_pool.specs.Steps.{WaitsTo, Passes, Stalls, Misses, Lacks, EndsInWait, Breaks, AtOnce, InRun, InWait, StepsTo}
+use Rattle.request_pool.specs.Runs.{Starts, Overruns, Flies, Starves, Turn, Start, Next, Round, Moment, Runs, Last, OfStart, OfPoll}
+use Rattle.request_pool.specs.Steps.{WaitsTo, Passes, Stalls, Misses, Lacks, Lines, InLine, AsLeft, EndsInWait, EndsInRun, EndsInFault, AtOnce, InRun, InWait, StepsTo}
 use Rattle.request_pool.specs.Owned.{SuitsWire}
 use Rattle.request_pool.specs.Faults.{keeps_bytes}
 
 settles_bounds : (o : Option ℕ) (address : Address) (p q : Pooled) (a b : WireState) → Settles o address p q a b → bounds_of q ≡ bounds_of p
 settles_bounds o address p q a b (NoLink e f h) = ap bounds_of f
 settles_bounds o address p q a b (Kept k e room f h) = ap bounds_of f
-settles_bounds o address p q a b (Shut k e f c) = ap bounds_of f
+settles_bounds o address p q a b (Shut k e full f c) = ap bounds_of f
 
 pub flight_bounds : (result : Result Polled PoolFault) (f : Flight) (p q : Pooled) (a b : WireState) → FlightTo result f p q a b → bounds_of q ≡ bounds_of p
 flight_bounds (Ok polls.Pending) f p q a b h = ap bounds_of h.1
@@ -51,8 +51,12 @@ last_bounds : (result : Result Polled PoolFault) (p q : Pooled) (a b : WireState
 last_bounds result p q a b (OfStart h) = starts_bounds result p q a b h
 last_bounds result p q a b (OfPoll h) = flight_bounds result h.f (record p { due = h.rest }) q a b h.to
 
-ended_bounds : (result : Result Polled PoolFault) (p q : Pooled) (a b : WireState) → Ended result p q a b → bounds_of q ≡ bounds_of p
-ended_bounds result p q a b h = last_bounds result h.mid q h.between b h.last ∙ runs_bounds h.running.moments p h.mid a h.between h.running.runs
+pub lines_bounds : (p r : Pooled) → Lines p r → bounds_of r ≡ bounds_of p
+lines_bounds p r (InLine e) = ap bounds_of e
+lines_bounds p r (AsLeft e) = ap bounds_of e
+
+ended_bounds : (result : Result Polled PoolFault) (p q : Pooled) (a b : WireState) → EndsInRun result p q a b → bounds_of q ≡ bounds_of p
+ended_bounds result p q a b h = last_bounds result h.mid q h.between b h.last ∙ runs_bounds h.running.moments h.line h.mid a h.between h.running.runs ∙ lines_bounds p h.line h.lines
 
 fails_bounds : {T : Type 0} (fault : PoolFault) (result : Result T PoolFault) (f : Flight) (p q : Pooled) → FailsTo fault result f p q → bounds_of q ≡ bounds_of p
 fails_bounds fault (Ok done) f p q h = ap bounds_of h.1
@@ -65,15 +69,15 @@ waits_bounds result p q a b (Misses mid w h) = fails_bounds faults.Exchange resu
 waits_bounds result p q a b (Lacks w e h) = ap bounds_of h
 
 ends_bounds : (result : Result Stepped PoolFault) (p q : Pooled) (a b : WireState) → EndsInWait result p q a b → bounds_of q ≡ bounds_of p
-ends_bounds result p q a b h = waits_bounds result h.mid q h.between b h.waits ∙ runs_bounds h.running.moments (record p { polled = in_flight p; due = [] }) h.mid a h.between h.running.runs
+ends_bounds result p q a b h = waits_bounds result h.mid q h.between b h.waits ∙ runs_bounds h.running.moments h.line h.mid a h.between h.running.runs ∙ lines_bounds p h.line h.lines
 
-breaks_bounds : (fault : PoolFault) (p q : Pooled) (a b : WireState) → Breaks fault p q a b → bounds_of q ≡ bounds_of p
-breaks_bounds fault p q a b (InRun h) = ended_bounds (Err fault) (record p { polled = in_flight p; due = [] }) q a b h
+breaks_bounds : (fault : PoolFault) (p q : Pooled) (a b : WireState) → EndsInFault fault p q a b → bounds_of q ≡ bounds_of p
+breaks_bounds fault p q a b (InRun h) = ended_bounds (Err fault) p q a b h
 breaks_bounds fault p q a b (InWait h) = ends_bounds (Err fault) p q a b h
 breaks_bounds fault p q a b (AtOnce e f h) = ap bounds_of f
 
 pub step_bounds : (result : Result Stepped PoolFault) (p q : Pooled) (a b : WireState) → StepsTo result p q a b → bounds_of q ≡ bounds_of p
-step_bounds (Ok (Came ticket answer)) p q a b h = ended_bounds (Ok (polls.Came ticket answer)) (record p { polled = in_flight p; due = [] }) q a b h
+step_bounds (Ok (Came ticket answer)) p q a b h = ended_bounds (Ok (polls.Came ticket answer)) p q a b h
 step_bounds (Ok Waited) p q a b h = ends_bounds (Ok Waited) p q a b h
 step_bounds (Ok Idle) p q a b h = ap bounds_of h.1
 step_bounds (Err fault) p q a b h = breaks_bounds fault p q a b h

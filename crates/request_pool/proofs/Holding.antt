@@ -17,10 +17,10 @@ use Rattle.request_pool.specs.declared.fault.PoolFault.{PoolFault}
 use Rattle.request_pool.specs.declared.fault.PoolFault.TheVariants as faults
 use Rattle.request_pool.specs.Pools.{Pooled, Ask, ask_waiting, ask_flying, held, in_flight}
 use Rattle.request_pool.specs.Polls.{Polls, FlightTo, Settles, NoLink, Kept, Shut}
-use Rattle.request_pool.specs.Runs.{Begins, Starts, Overruns, Flies, Starves, PollsNext, Turn, Start, Next, Round, Moment, Runs, Running, Ended, Last, OfStart, OfPoll, is_end}
+use Rattle.request_pool.specs.Runs.{Begins, Starts, Overruns, Flies, Starves, PollsNext, Turn, Start, Next, Round, Moment, Runs, Running, Last, OfStart, OfPoll, is_end}
 use Rattle.request_pool.specs.declared.fault.Stepped.{Stepped}
 use Rattle.request_pool.specs.declared.fault.Stepped.TheVariants.{Came, Waited, Idle}
-use Rattle.request_pool.specs.Steps.{StepsTo, HoldsOn, HandsOut, GivesUp, WaitsTo, Passes, Stalls, Misses, Lacks, EndsInWait}
+use Rattle.request_pool.specs.Steps.{StepsTo, HoldsOn, HandsOut, GivesUp, WaitsTo, Passes, Stalls, Misses, Lacks, Lines, InLine, AsLeft, EndsInWait, EndsInRun}
 
 -- the asks of a pool and of an exchange that was taken out of it
 abbrev pub held_with : Flight → Pooled → List Ask
@@ -94,7 +94,7 @@ running_holds p q a b h = runs_hold h.moments p q a b h.runs
 settles_held : (o : Option ℕ) (address : Address) (p q : Pooled) (a b : WireState) → Settles o address p q a b → held q ≡ held p
 settles_held o address p q a b (NoLink e f h) = ap held f
 settles_held o address p q a b (Kept k e room f h) = ap held f
-settles_held o address p q a b (Shut k e f c) = ap held f
+settles_held o address p q a b (Shut k e full f c) = ap held f
 
 flight_came : (ticket : ℕ) (answer : Reply) (f : Flight) (p q : Pooled) (a b : WireState) → FlightTo (Ok (polls.Came ticket answer)) f p q a b → IsPermutation (held_with f p) (ask_flying f ∷ held q)
 flight_came ticket answer f p q a b h =
@@ -126,14 +126,17 @@ last_came ticket answer p q a b (OfPoll h) = next_came ticket answer p q a b h
 gathered_held : (p : Pooled) → held (record p { polled = in_flight p; due = [] }) ≡ held p
 gathered_held p = ap (λ (l : List Flight). map ask_waiting p.waiting ++ map ask_flying l) (append-nil (in_flight p))
 
-pub step_came : (ticket : ℕ) (answer : Reply) (p q : Pooled) (a b : WireState) → Ended (Ok (polls.Came ticket answer)) (record p { polled = in_flight p; due = [] }) q a b → HandsOut ticket p q
+pub lined_held : (p r : Pooled) → Lines p r → held r ≡ held p
+lined_held p r (InLine e) = ap held e ∙ gathered_held p
+lined_held p r (AsLeft e) = ap held e
+
+pub step_came : (ticket : ℕ) (answer : Reply) (p q : Pooled) (a b : WireState) → EndsInRun (Ok (polls.Came ticket answer)) p q a b → HandsOut ticket p q
 step_came ticket answer p q a b h =
-    let r : Pooled = record p { polled = in_flight p; due = [] } in
     let c = last_came ticket answer h.mid q h.between b h.last in
     record {
       ask = c.ask;
       is_ticket = c.is_ticket;
-      others = subst (λ (l : List Ask). IsPermutation l (c.ask ∷ held q)) (gathered_held p) (IsPermutation-trans _ _ _ (running_holds r h.mid a h.between h.running) c.others);
+      others = subst (λ (l : List Ask). IsPermutation l (c.ask ∷ held q)) (lined_held p h.line h.lines) (IsPermutation-trans _ _ _ (running_holds h.line h.mid a h.between h.running) c.others);
     }
 
 -- the oldest exchange is given up, and its ask waits again
@@ -152,8 +155,7 @@ waits_held result s p q a b e (Lacks w f h) = absurd (let i : ◌≡◌ {A = Res
 
 pub step_waited : (s : Stepped) (p q : Pooled) (a b : WireState) → EndsInWait (Ok s) p q a b → IsPermutation (held p) (held q)
 step_waited s p q a b h =
-    let r : Pooled = record p { polled = in_flight p; due = [] } in
-    subst (λ (l : List Ask). IsPermutation l (held q)) (gathered_held p) (IsPermutation-trans _ _ _ (running_holds r h.mid a h.between h.running) (waits_held (Ok s) s h.mid q h.between b refl h.waits))
+    subst (λ (l : List Ask). IsPermutation l (held q)) (lined_held p h.line h.lines) (IsPermutation-trans _ _ _ (running_holds h.line h.mid a h.between h.running) (waits_held (Ok s) s h.mid q h.between b refl h.waits))
 
 pub step_holds : (s : Stepped) (p q : Pooled) (a b : WireState) → StepsTo (Ok s) p q a b → HoldsOn s p q
 step_holds (Came ticket answer) p q a b h = step_came ticket answer p q a b h

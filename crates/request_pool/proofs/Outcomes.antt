@@ -14,7 +14,8 @@ use Rattle.request_pool.specs.declared.fault.Polled.TheVariants as polls
 use Rattle.request_pool.specs.declared.fault.PoolFault.{PoolFault}
 use Rattle.request_pool.specs.declared.fault.PoolFault.TheVariants as faults
 use Rattle.request_pool.specs.Pools.{Pooled}
-use Rattle.request_pool.specs.Polls.{Shuts, Settles, FailsTo, EndsTo, FlightTo}
+use Rattle.request_pool.specs.Polls.{Shuts, Settles, ClosesLeft, FailsTo, EndsTo, IsShut, FlightTo}
+use Rattle.request_pool.proofs.Suits.{left_is}
 
 shut_closed : (o : Option ℕ) (a b : WireState) → Shuts o a b → ClosedOn o b
 shut_closed None a b s = tt
@@ -28,10 +29,19 @@ on_pending (Ok polled) f e p q a m b t w h i =
 on_pending (Err fault) f e p q a m b t w h i =
     subst (λ (x : PoolFault). FlightTo (Err x) f p q a b) (sym i.0) (poll.Pending, m, record { now = e; touches = t; answers = w }, i.1, (shut_closed e.link m b i.2, inr i.2))
 
-pub on_came : (x : Polled) (answer : Reply) (f : Flight) (e : Exchanging) (p q : Pooled) (a m b : WireState) → Touches f.exchange e a m → Answers f.exchange e a m (poll.Ready (Ok answer))
-    → x ≡ polls.Came f.ticket answer → Settles (left_link e) e.address p q m b → FlightTo (Ok x) f p q a b
-on_came x answer f e p q a m b t w h s =
-    subst (λ (y : Polled). FlightTo (Ok y) f p q a b) (sym h) (m, record { now = e; touches = t; answers = w }, refl, s)
+-- a link that was left is closed out of memory
+left_shut : (e : Exchanging) (a b : WireState) → ClosesLeft (left_link e) a b → IsShut e.link a b
+left_shut e a b c =
+    let same : e.link ≡ Some c.k = (left_is e.standing e.link c.k c.is_left).1 in
+    (subst (λ (x : Option ℕ). ClosedOn x b) (sym same) c.closes.is_open, inr (subst (λ (x : Option ℕ). Shuts x a b) (sym same) c.closes))
+
+pub on_came : (result : Result Polled PoolFault) (answer : Reply) (f : Flight) (e : Exchanging) (p q : Pooled) (a m b : WireState) → Touches f.exchange e a m → Answers f.exchange e a m (poll.Ready (Ok answer))
+    → IfOk result (λ polled. (polled ≡ polls.Came f.ticket answer) × Settles (left_link e) e.address p q m b)
+    → IfErr result (λ fault. (fault ≡ faults.OutOfMemory) × (q ≡ p) × ClosesLeft (left_link e) m b) → FlightTo result f p q a b
+on_came (Ok polled) answer f e p q a m b t w h i =
+    subst (λ (x : Polled). FlightTo (Ok x) f p q a b) (sym h.0) (m, record { now = e; touches = t; answers = w }, refl, h.1)
+on_came (Err fault) answer f e p q a m b t w h i =
+    subst (λ (x : PoolFault). FlightTo (Err x) f p q a b) (sym i.0) (poll.Ready (Ok answer), m, record { now = e; touches = t; answers = w }, i.1, left_shut e m b i.2)
 
 closed_on : (o : Option ℕ) (k : ℕ) (a : WireState) → o ≡ Some k → (a.links k).is_open ≡ false → ClosedOn o a
 closed_on o k a e h = subst (λ (x : Option ℕ). ClosedOn x a) (sym e) h

@@ -91,6 +91,21 @@ pub are_risen : (since a b : WireState) (fs : List Flight) → Later a b → Are
 are_risen since a b [] l h = tt
 are_risen since a b (f ∷ fs) l h = (risen_on since a b f.exchange.link l h.0, are_risen since a b fs l h.1)
 
+-- what rose since a moment rose since each before it
+earlier_on : (a b c : WireState) (o : Option ℕ) → Later a b → RisenOn b c o → RisenOn a c o
+earlier_on a b c None l h = absurd h
+earlier_on a b c (Some k) l h = (
+  h.0,
+  (
+    (λ below. rose_up (a.links k).stalls (b.links k).stalls (c.links k).stalls (c.links k).stalls (h.1.0 (omega (arith, below, l.given))) (l.stalls k below) (omega arith)),
+    (λ above. elim (cases_lt k b.given) [ inl low ↦ rose_up 0 (b.links k).stalls (c.links k).stalls (c.links k).stalls (h.1.0 low) (omega arith) (omega arith) | inr high ↦ h.1.1 high ]),
+  ),
+)
+
+pub all_earlier : (a b c : WireState) (fs : List Flight) → Later a b → AreRisen b c fs → AreRisen a c fs
+all_earlier a b c [] l h = tt
+all_earlier a b c (f ∷ fs) l h = (earlier_on a b c f.exchange.link l h.0, all_earlier a b c fs l h.1)
+
 risen-append : (since a : WireState) (xs ys : List Flight) → AreRisen since a xs → AreRisen since a ys → AreRisen since a (xs ++ ys)
 risen-append since a [] ys h i = i
 risen-append since a (x ∷ xs) ys h i = (h.0, risen-append since a xs ys h.1 i)

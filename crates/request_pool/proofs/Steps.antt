@@ -17,16 +17,16 @@ use Rattle.request_pool.specs.declared.fault.PoolFault.TheVariants as faults
 use Rattle.request_pool.specs.Pools.{Pooled, Ask, IsOverBudget, ask_waiting, ask_flying, held, in_flight}
 use Rattle.request_pool.specs.Owned.{flights_on, spare_on, held_on, SuitsWire}
 use Rattle.request_pool.specs.Polls.{Shuts, TakesLink, Settles, NoLink, Kept, Shut, FlightTo}
-use Rattle.request_pool.specs.Runs.{Begins, Starts, Overruns, Flies, Starves, PollsNext, Turn, Round, Running, Ended, OfStart, RunsTo, GoesOn, Ends, is_end}
-use Rattle.request_pool.specs.Steps.{MayWait, WaitsTo, EndsInWait, InRun, InWait, StepsTo}
+use Rattle.request_pool.specs.Runs.{Begins, Starts, Overruns, Flies, Starves, PollsNext, Turn, Round, Running, OfStart, RunsTo, GoesOn, Ends, is_end}
+use Rattle.request_pool.specs.Steps.{MayWait, WaitsTo, Lines, InLine, AsLeft, EndsInWait, EndsInRun, InRun, InWait, StepsTo}
 use Rattle.request_pool.specs.declared.fault.Stepped.{Stepped}
 use Rattle.request_pool.specs.declared.fault.Stepped.TheVariants.{Came, Waited}
 use Rattle.http_wire.specs.declared.message.Reply.{Reply}
 use Rattle.request_pool.proofs.Owned.{linked_open, flights_on-append}
-use Rattle.request_pool.proofs.Suits.{owns_begun, owns_next, starts_suits, next_suits, underway-append}
+use Rattle.request_pool.proofs.Suits.{owns_begun, owns_next, starts_suits, next_suits, underway-append, suits_as}
 use Rattle.request_pool.proofs.Running.{to_then, runs_more, runs_none, went_on, ended}
-use Rattle.request_pool.proofs.Holding.{running_holds}
-use Rattle.request_pool.proofs.Risen.{Fares, AreRisen, AreAsleep, running_fares, fares_first}
+use Rattle.request_pool.proofs.Holding.{running_holds, lined_held}
+use Rattle.request_pool.proofs.Risen.{Fares, AreRisen, AreAsleep, all_earlier, running_fares, fares_first}
 
 pub linked_as : (o p : Option ℕ) (a : WireState) → o ≡ p → IsLinked p a → IsLinked o a
 linked_as o p a e h = subst (λ (x : Option ℕ). IsLinked x a) (sym e) h
@@ -58,7 +58,7 @@ keeps_same p r e = keeps_as p p r e (record { links = refl; budget = refl; start
 settles_keeps : (o : Option ℕ) (address : Address) (p q : Pooled) (a b : WireState) → Settles o address p q a b → Keeps p q
 settles_keeps o address p q a b (NoLink e f h) = keeps_same p q f
 settles_keeps o address p q a b (Kept k e room f h) = keeps_as p _ q f (record { links = refl; budget = refl; started = refl; due = refl })
-settles_keeps o address p q a b (Shut k e f c) = keeps_same p q f
+settles_keeps o address p q a b (Shut k e full f c) = keeps_same p q f
 
 flight_keeps : (result : Result Polled PoolFault) (f : Flight) (p q : Pooled) (a b : WireState) → FlightTo result f p q a b → Keeps p q
 flight_keeps (Ok polls.Pending) f p q a b h = keeps_as p _ q h.1 (record { links = refl; budget = refl; started = refl; due = refl })
@@ -159,6 +159,12 @@ run_waits first second third p q r s t a b c d suits given e1 h1 is e2 h2 none e
     let f3 = running_fares true a s t c d f2 (pending_runs third s t c d e3 h3) in
     may_wait a t d f3 (due ∙ none) few full
 
+-- where those were polled first that the step before left, nothing is left but to wait
+pub waits_earlier : (first : Result Polled PoolFault) (p q r : Pooled) (a b c : WireState) → SuitsWire p a → OpensGiven a → is_end first ≡ false → RunsTo first p q a b → MayWait b r c → MayWait a r c
+waits_earlier first p q r a b c suits given e h m =
+    let f = running_fares false a p q a b (fares_first p a suits given) (went_on first p q a b e h) in
+    record { none_due = m.none_due; full = m.full; risen = all_earlier a b c r.polled f.later m.risen; asleep = m.asleep }
+
 -- ---- loops
 
 pub runs_suit : (p q : Pooled) (a b : WireState) → SuitsWire p a → OpensGiven a → Running p q a b → SuitsWire q b
@@ -179,35 +185,45 @@ suits_gathered p q a e s = subst (λ (x : Pooled). SuitsWire x a) (sym e) (recor
   owned = λ k. omega (arith, s.owned k, flights_on-append p.polled p.due k);
 })
 
-pub held_gathered : (p q : Pooled) → q ≡ record p { polled = in_flight p; due = [] } → held q ≡ held p
-held_gathered p q e = ap held e ∙ ap (λ (l : List Flight). map ask_waiting p.waiting ++ map ask_flying l) (append-nil (in_flight p))
+-- what is so of those in one line and of those as they were left is so where a step begins
+pub in_line : (X : Pooled → Type 0) (p line : Pooled) → Lines p line → X (record p { polled = in_flight p; due = [] }) → X p → X line
+in_line X p line (InLine e) one left = subst X (sym e) one
+in_line X p line (AsLeft e) one left = subst X (sym e) left
+
+pub suits_lined : (p q : Pooled) (a : WireState) → Lines p q → SuitsWire p a → SuitsWire q a
+suits_lined p q a (InLine e) s = suits_gathered p q a e s
+suits_lined p q a (AsLeft e) s = suits_as p q a a e refl s
 
 pub over_gathered : (p q : Pooled) → q ≡ record p { polled = in_flight p; due = [] } → IsOverBudget p → IsOverBudget q
 over_gathered p q e o = subst IsOverBudget (sym e) (record { waits = o.waits; free = subst (λ (l : List Flight). length l < p.links) (sym (append-nil (in_flight p))) o.free; spent = o.spent })
 
-pub held_after : (p q r : Pooled) (a b : WireState) → q ≡ record p { polled = in_flight p; due = [] } → Running q r a b → held p ≢ [] → held r ≢ []
-held_after p q r a b e h n = still_held (held q) (held r) (running_holds q r a b h) (λ x. n (sym (held_gathered p q e) ∙ x))
+pub over_lined : (p q : Pooled) → Lines p q → IsOverBudget p → IsOverBudget q
+over_lined p q (InLine e) o = over_gathered p q e o
+over_lined p q (AsLeft e) o = subst IsOverBudget (sym e) o
+
+pub held_after : (p q r : Pooled) (a b : WireState) → Lines p q → Running q r a b → held p ≢ [] → held r ≢ []
+held_after p q r a b l h n = still_held (held q) (held r) (running_holds q r a b h) (λ x. n (sym (lined_held p q l) ∙ x))
 
 -- a run that ends with a reply or a fault ends the step
-ended_at : (result : Result Polled PoolFault) (p q r : Pooled) (a b : WireState) → q ≡ record p { polled = in_flight p; due = [] } → is_end result ≡ true → RunsTo result q r a b → Ended result (record p { polled = in_flight p; due = [] }) r a b
-ended_at result p q r a b e end h = subst (λ (x : Pooled). Ended result x r a b) e (ended result q r a b end h)
+ended_at : (result : Result Polled PoolFault) (p q r : Pooled) (a b : WireState) → Lines p q → is_end result ≡ true → RunsTo result q r a b → EndsInRun result p r a b
+ended_at result p q r a b l end h = let e = ended result q r a b end h in record { line = q; lines = l; mid = e.mid; between = e.between; running = e.running; last = e.last }
 
-pub came_steps : (ticket : ℕ) (answer : Reply) (p q r : Pooled) (a b : WireState) → q ≡ record p { polled = in_flight p; due = [] } → RunsTo (Ok (polls.Came ticket answer)) q r a b → StepsTo (Ok (Came ticket answer)) p r a b
+pub came_steps : (ticket : ℕ) (answer : Reply) (p q r : Pooled) (a b : WireState) → Lines p q → RunsTo (Ok (polls.Came ticket answer)) q r a b → StepsTo (Ok (Came ticket answer)) p r a b
 came_steps ticket answer p q r a b e h = ended_at (Ok (polls.Came ticket answer)) p q r a b e refl h
 
-pub fault_steps : (fault : PoolFault) (p q r : Pooled) (a b : WireState) → q ≡ record p { polled = in_flight p; due = [] } → RunsTo (Err fault) q r a b → StepsTo (Err fault) p r a b
+pub fault_steps : (fault : PoolFault) (p q r : Pooled) (a b : WireState) → Lines p q → RunsTo (Err fault) q r a b → StepsTo (Err fault) p r a b
 fault_steps fault p q r a b e h = InRun (ended_at (Err fault) p q r a b e refl h)
 
-pub over_steps : (p q : Pooled) (a : WireState) → q ≡ record p { polled = in_flight p; due = [] } → IsOverBudget q → StepsTo (Err faults.Budget) p q a a
-over_steps p q a e o = InRun (record { mid = q; between = a; running = subst (λ (x : Pooled). Running x q a a) e (runs_none q a); last = OfStart (Overruns refl o refl refl) })
+pub over_steps : (p q : Pooled) (a : WireState) → Lines p q → IsOverBudget q → StepsTo (Err faults.Budget) p q a a
+over_steps p q a l o = InRun (record { line = q; lines = l; mid = q; between = a; running = runs_none q a; last = OfStart (Overruns refl o refl refl) })
 
 stepped : (result : Result Stepped PoolFault) (p q : Pooled) (a b : WireState) → IfOk result (λ s. s ≡ Waited) → EndsInWait result p q a b → StepsTo result p q a b
 stepped (Ok s) p q a b e h = subst (λ (x : Stepped). StepsTo (Ok x) p q a b) (sym e) (subst (λ (x : Stepped). EndsInWait (Ok x) p q a b) e h)
 stepped (Err fault) p q a b e h = InWait h
 
-pub wait_steps : (result : Result Stepped PoolFault) (p q r s : Pooled) (a b c : WireState) → q ≡ record p { polled = in_flight p; due = [] } → RunsTo (Ok polls.Pending) q r a b → MayWait a r b → WaitsTo result r s b c → IfOk result (λ x. x ≡ Waited)
+pub wait_steps : (result : Result Stepped PoolFault) (p q r s : Pooled) (a b c : WireState) → Lines p q → RunsTo (Ok polls.Pending) q r a b → MayWait a r b → WaitsTo result r s b c → IfOk result (λ x. x ≡ Waited)
     → StepsTo result p s a c
-wait_steps result p q r s a b c e h m w i = stepped result p s a c i (record { mid = r; between = b; running = subst (λ (x : Pooled). Running x r a b) e (pending_runs (Ok polls.Pending) q r a b refl h); may_wait = m; waits = w })
+wait_steps result p q r s a b c l h m w i = stepped result p s a c i (record { line = q; lines = l; mid = r; between = b; running = pending_runs (Ok polls.Pending) q r a b refl h; may_wait = m; waits = w })
 
 -- ---- a start
 

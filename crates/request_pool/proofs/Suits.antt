@@ -24,7 +24,7 @@ use Rattle.request_pool.specs.Pools.{Pooled}
 use Rattle.request_pool.specs.Owned.{on_link, flights_on, spare_on, held_on, times_open, open_on, AreUnderway, SuitsWire}
 use Rattle.request_pool.specs.Polls.{Shuts, Settles, NoLink, Kept, Shut, TakesLink, Polls, FlightTo}
 use Rattle.request_pool.specs.Runs.{Begins, Starts, Overruns, Flies, Starves, PollsNext}
-use Rattle.request_pool.specs.Steps.{Waits}
+use Rattle.request_pool.specs.Steps.{IsWait}
 use Rattle.request_pool.proofs.Owned.{at_or_off, on_same, one_at_most, flights_on-append, spare_on-append, rest_none, rest_after, own_after, rest_closed}
 
 pub underway-append : (xs ys : List Flight) → AreUnderway xs → AreUnderway ys → AreUnderway (xs ++ ys)
@@ -55,7 +55,7 @@ none_of answer f p a b g o h = rest_none f.exchange.address f.exchange.link h.no
 rest_of : (answer : Poll (Result Reply ExchangeFault)) (f : Flight) (p : Pooled) (a b : WireState) → OpensGiven a → Owns f p a → (h : Polls answer f a b) → (k : ℕ) → held_on p k ≤ open_on b k
 rest_of answer f p a b g o h = rest_after h.now.link a b h.touches.others f.exchange.link (held_on p) o.owned (none_of answer f p a b g o h)
 
-left_is : (s : Standing) (o : Option ℕ) (k : ℕ) → left_by s o ≡ Some k → (s ≡ Left) × (o ≡ Some k)
+pub left_is : (s : Standing) (o : Option ℕ) (k : ℕ) → left_by s o ≡ Some k → (s ≡ Left) × (o ≡ Some k)
 left_is Left o k e = (refl, e)
 left_is Underway o k e = cc
 left_is Over o k e = cc
@@ -74,7 +74,7 @@ settles_suits s o address p q a b up ud rest none linked (Kept k e room f h) =
       due = ud;
       owned = λ j. omega (arith, own j, spare_on-append p.spare ((record { link = k; address = address }) ∷ []) j);
     })
-settles_suits s o address p q a b up ud rest none linked (Shut k e f c) =
+settles_suits s o address p q a b up ud rest none linked (Shut k e full f c) =
     let l = left_is s o k e in
     subst (λ (x : Pooled). SuitsWire x b) (sym f) (record { polled = up; due = ud; owned = rest_closed k a b c (held_on p) rest (none k l.1) })
 
@@ -158,9 +158,9 @@ woken_open : (answer : Ready) (a b : WireState) → Wakes answer a b → (k : �
 woken_open ready.Door a b h k = ap (λ (x : Link). x.is_open) (h.1 k)
 woken_open (ready.Link i) a b h k = elim (at_or_off k i) [ inl e ↦ subst (λ (x : ℕ). (b.links x).is_open ≡ (a.links x).is_open) (sym e) (ap (λ (x : Link). x.is_open) h.1) | inr n ↦ ap (λ (x : Link). x.is_open) (h.2 k n) ]
 
-waits_open : (answer : Result Ready Fault) (a b : WireState) → Waits answer a b → (k : ℕ) → (b.links k).is_open ≡ (a.links k).is_open
+waits_open : (answer : Result Ready Fault) (a b : WireState) → IsWait answer a b → (k : ℕ) → (b.links k).is_open ≡ (a.links k).is_open
 waits_open (Ok answer) a b h k = woken_open answer a b h.ok k
 waits_open (Err fault) a b h k = ap (λ (x : Link). x.is_open) (h.err.links k)
 
-pub waits_suits : (answer : Result Ready Fault) (p : Pooled) (a b : WireState) → Waits answer a b → SuitsWire p a → SuitsWire p b
+pub waits_suits : (answer : Result Ready Fault) (p : Pooled) (a b : WireState) → IsWait answer a b → SuitsWire p a → SuitsWire p b
 waits_suits answer p a b h s = record { polled = s.polled; due = s.due; owned = λ k. omega (arith, s.owned k, ap times_open (waits_open answer a b h k)) }

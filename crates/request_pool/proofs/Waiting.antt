@@ -11,10 +11,10 @@ use Rattle.request_pool.specs.declared.fault.PoolFault.{PoolFault}
 use Rattle.request_pool.specs.declared.fault.PoolFault.TheVariants as faults
 use Rattle.request_pool.specs.declared.fault.Stepped.{Stepped}
 use Rattle.request_pool.specs.declared.fault.Stepped.TheVariants.{Came, Waited, Idle}
-use Rattle.request_pool.specs.Pools.{Pooled, in_flight}
+use Rattle.request_pool.specs.Pools.{Pooled}
 use Rattle.request_pool.specs.Polls.{Shuts, Settles, NoLink, Kept, Shut, FlightTo}
-use Rattle.request_pool.specs.Runs.{Starts, Overruns, Flies, Starves, Turn, Start, Next, Round, Moment, Runs, Running, Last, OfStart, OfPoll, Ended}
-use Rattle.request_pool.specs.Steps.{WaitsTo, Passes, Stalls, Misses, Lacks, EndsInWait, Breaks, AtOnce, InRun, InWait, StepsTo, WaitsOnce}
+use Rattle.request_pool.specs.Runs.{Starts, Overruns, Flies, Starves, Turn, Start, Next, Round, Moment, Runs, Running, Last, OfStart, OfPoll}
+use Rattle.request_pool.specs.Steps.{WaitsTo, Passes, Stalls, Misses, Lacks, EndsInWait, EndsInRun, EndsInFault, AtOnce, InRun, InWait, StepsTo, WaitsOnce}
 
 shuts_waits : (o : Option ℕ) (a b : WireState) → Shuts o a b → b.waits ≡ a.waits
 shuts_waits None a b s = ap (λ (x : WireState). x.waits) s
@@ -27,7 +27,7 @@ shut_waits o a b (inr s) = shuts_waits o a b s
 settles_waits : (o : Option ℕ) (address : Address) (p q : Pooled) (a b : WireState) → Settles o address p q a b → b.waits ≡ a.waits
 settles_waits o address p q a b (NoLink e f h) = ap (λ (x : WireState). x.waits) h
 settles_waits o address p q a b (Kept k e room f h) = ap (λ (x : WireState). x.waits) h
-settles_waits o address p q a b (Shut k e f c) = c.only.waits
+settles_waits o address p q a b (Shut k e full f c) = c.only.waits
 
 flight_waits : (result : Result Polled PoolFault) (f : Flight) (p q : Pooled) (a b : WireState) → FlightTo result f p q a b → b.waits ≡ a.waits
 flight_waits (Ok polls.Pending) f p q a b h = h.0.touches.waits
@@ -61,8 +61,8 @@ last_waits : (result : Result Polled PoolFault) (p q : Pooled) (a b : WireState)
 last_waits result p q a b (OfStart h) = starts_waits result p q a b h
 last_waits result p q a b (OfPoll h) = flight_waits result h.f (record p { due = h.rest }) q a b h.to
 
-ended_waits : (result : Result Polled PoolFault) (p q : Pooled) (a b : WireState) → Ended result p q a b → b.waits ≡ a.waits
-ended_waits result p q a b h = last_waits result h.mid q h.between b h.last ∙ running_waits p h.mid a h.between h.running
+ended_waits : (result : Result Polled PoolFault) (p q : Pooled) (a b : WireState) → EndsInRun result p q a b → b.waits ≡ a.waits
+ended_waits result p q a b h = last_waits result h.mid q h.between b h.last ∙ running_waits h.line h.mid a h.between h.running
 
 waits_once : (result : Result Stepped PoolFault) (p q : Pooled) (a b : WireState) → WaitsTo result p q a b → b.waits ≡ counted a.waits
 waits_once result p q a b (Passes ready e w i h) = w.only.count
@@ -71,15 +71,15 @@ waits_once result p q a b (Misses mid w h) = shuts_waits h.f.exchange.link mid b
 waits_once result p q a b (Lacks w e h) = w.only.count
 
 ends_waits : (result : Result Stepped PoolFault) (p q : Pooled) (a b : WireState) → EndsInWait result p q a b → b.waits ≡ counted a.waits
-ends_waits result p q a b h = waits_once result h.mid q h.between b h.waits ∙ ap counted (running_waits (record p { polled = in_flight p; due = [] }) h.mid a h.between h.running)
+ends_waits result p q a b h = waits_once result h.mid q h.between b h.waits ∙ ap counted (running_waits h.line h.mid a h.between h.running)
 
-breaks_waits : (fault : PoolFault) (p q : Pooled) (a b : WireState) → Breaks fault p q a b → (b.waits ≡ a.waits) ⊎ (b.waits ≡ counted a.waits)
-breaks_waits fault p q a b (InRun h) = inl (ended_waits (Err fault) (record p { polled = in_flight p; due = [] }) q a b h)
+breaks_waits : (fault : PoolFault) (p q : Pooled) (a b : WireState) → EndsInFault fault p q a b → (b.waits ≡ a.waits) ⊎ (b.waits ≡ counted a.waits)
+breaks_waits fault p q a b (InRun h) = inl (ended_waits (Err fault) p q a b h)
 breaks_waits fault p q a b (InWait h) = inr (ends_waits (Err fault) p q a b h)
 breaks_waits fault p q a b (AtOnce e f h) = inl (ap (λ (x : WireState). x.waits) h)
 
 pub step_waits : (result : Result Stepped PoolFault) (p q : Pooled) (a b : WireState) → StepsTo result p q a b → WaitsOnce result a b
-step_waits (Ok (Came ticket answer)) p q a b h = ended_waits (Ok (polls.Came ticket answer)) (record p { polled = in_flight p; due = [] }) q a b h
+step_waits (Ok (Came ticket answer)) p q a b h = ended_waits (Ok (polls.Came ticket answer)) p q a b h
 step_waits (Ok Waited) p q a b h = ends_waits (Ok Waited) p q a b h
 step_waits (Ok Idle) p q a b h = ap (λ (x : WireState). x.waits) h.2
 step_waits (Err fault) p q a b h = breaks_waits fault p q a b h

@@ -27,11 +27,17 @@ abbrev pub Shuts : Option ℕ → WireState → WireState → Type 0
 Shuts None wire wire' = wire' ≡ wire
 Shuts (Some k) wire wire' = Closes k wire wire'
 
--- A link that an exchange left is kept with the address, where the pool keeps fewer than its bound, or closed.
+-- A link that an exchange left is kept with the address where the pool keeps fewer than its bound, and else closed.
 pub data Settles (left : Option ℕ) (address : Address) (old new : Pooled) (wire wire' : WireState) : Type 0 where
   NoLink : left ≡ None → new ≡ old → wire' ≡ wire → Settles left address old new wire wire'
   Kept : (k : ℕ) → left ≡ Some k → length old.spare < old.links → new ≡ record old { spare = old.spare ++ (record { link = k; address = address }) ∷ [] } → wire' ≡ wire → Settles left address old new wire wire'
-  Shut : (k : ℕ) → left ≡ Some k → new ≡ old → Closes k wire wire' → Settles left address old new wire wire'
+  Shut : (k : ℕ) → left ≡ Some k → old.links ≤ length old.spare → new ≡ old → Closes k wire wire' → Settles left address old new wire wire'
+
+-- a link was left, and is closed
+pub record ClosesLeft (left : Option ℕ) (wire wire' : WireState) : Type 0 where
+  pub k : ℕ
+  pub is_left : left ≡ Some k
+  pub closes : Closes k wire wire'
 
 -- the link was left by an exchange with the same authority
 abbrev pub IsFor : Address → Spare → Type 0

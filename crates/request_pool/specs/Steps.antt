@@ -9,6 +9,7 @@ use Rattle.tpf_base.specs.declared.wire.Ready.{Ready}
 use Rattle.tpf_base.specs.Links.{WireState}
 use Rattle.tpf_base.specs.Calls.{OnlyWaits, Wakes, GivesNone, WaitsSteadily}
 use Rattle.request_pool.specs.declared.asks.Flight.{Flight}
+use Rattle.request_pool.specs.declared.fault.Polled.{Polled}
 use Rattle.request_pool.specs.declared.fault.Polled.TheVariants as polls
 use Rattle.request_pool.specs.declared.fault.PoolFault.{PoolFault}
 use Rattle.request_pool.specs.declared.fault.PoolFault.TheVariants as faults
@@ -16,12 +17,12 @@ use Rattle.request_pool.specs.declared.fault.Stepped.{Stepped}
 use Rattle.request_pool.specs.declared.fault.Stepped.TheVariants.{Came, Waited, Idle}
 use Rattle.request_pool.specs.Pools.{Pooled, Ask, held, in_flight}
 use Rattle.request_pool.specs.Polls.{Shuts, FailsTo}
-use Rattle.request_pool.specs.Runs.{Running, Ended}
+use Rattle.request_pool.specs.Runs.{Running, Last}
 
 -- ---- waiting
 
 -- what the wire says of one wait
-pub record Waits (answer : Result Ready Fault) (wire wire' : WireState) : Type 0 where
+pub record IsWait (answer : Result Ready Fault) (wire wire' : WireState) : Type 0 where
   pub ok : IfOk answer (λ ready. Wakes ready wire wire')
   pub err : OnErr answer (GivesNone wire wire')
   pub only : OnlyWaits wire wire'
@@ -55,33 +56,49 @@ pub record GivesUp (fault : PoolFault) (result : Result Stepped PoolFault) (old 
 
 -- One wait. Where it failed, or 1000 waits followed one another, the oldest exchange is given up.
 pub data WaitsTo (result : Result Stepped PoolFault) (old new : Pooled) (wire wire' : WireState) : Type 0 where
-  Passes : (ready : Ready) → result ≡ Ok Waited → Waits (Ok ready) wire wire' → wire'.idle < 1000 → new ≡ old → WaitsTo result old new wire wire'
-  Stalls : (ready : Ready) (mid : WireState) → Waits (Ok ready) wire mid → 1000 ≤ mid.idle → GivesUp faults.Stalled result old new mid wire' → WaitsTo result old new wire wire'
-  Misses : (mid : WireState) → Waits (Err failures.Failed) wire mid → GivesUp faults.Exchange result old new mid wire' → WaitsTo result old new wire wire'
-  Lacks : Waits (Err failures.OutOfMemory) wire wire' → result ≡ Err faults.OutOfMemory → new ≡ old → WaitsTo result old new wire wire'
+  Passes : (ready : Ready) → result ≡ Ok Waited → IsWait (Ok ready) wire wire' → wire'.idle < 1000 → new ≡ old → WaitsTo result old new wire wire'
+  Stalls : (ready : Ready) (mid : WireState) → IsWait (Ok ready) wire mid → 1000 ≤ mid.idle → GivesUp faults.Stalled result old new mid wire' → WaitsTo result old new wire wire'
+  Misses : (mid : WireState) → IsWait (Err failures.Failed) wire mid → GivesUp faults.Exchange result old new mid wire' → WaitsTo result old new wire wire'
+  Lacks : IsWait (Err failures.OutOfMemory) wire wire' → result ≡ Err faults.OutOfMemory → new ≡ old → WaitsTo result old new wire wire'
 
 -- ---- a step
 
+-- How a step begins: with all in flight in one line, the oldest first; or where the step before stopped, with those that it left to be polled.
+pub data Lines (old line : Pooled) : Type 0 where
+  InLine : line ≡ record old { polled = in_flight old; due = [] } → Lines old line
+  AsLeft : line ≡ old → Lines old line
+
 -- a run that ended with a wait, before which every exchange waited
 pub record EndsInWait (result : Result Stepped PoolFault) (old new : Pooled) (wire wire' : WireState) : Type 0 where
+  pub line : Pooled
+  pub lines : Lines old line
   pub mid : Pooled
   pub between : WireState
-  pub running : Running (record old { polled = in_flight old; due = [] }) mid wire between
+  pub running : Running line mid wire between
   pub may_wait : MayWait wire mid between
   pub waits : WaitsTo result mid new between wire'
 
+-- a run that ended with a reply or a fault
+pub record EndsInRun (result : Result Polled PoolFault) (old new : Pooled) (wire wire' : WireState) : Type 0 where
+  pub line : Pooled
+  pub lines : Lines old line
+  pub mid : Pooled
+  pub between : WireState
+  pub running : Running line mid wire between
+  pub last : Last result mid new between wire'
+
 -- why a step ends with a fault: memory ran out before anything was done; a start or a poll had it; or the wait
-pub data Breaks (fault : PoolFault) (old new : Pooled) (wire wire' : WireState) : Type 0 where
-  AtOnce : fault ≡ faults.OutOfMemory → new ≡ old → wire' ≡ wire → Breaks fault old new wire wire'
-  InRun : Ended (Err fault) (record old { polled = in_flight old; due = [] }) new wire wire' → Breaks fault old new wire wire'
-  InWait : EndsInWait (Err fault) old new wire wire' → Breaks fault old new wire wire'
+pub data EndsInFault (fault : PoolFault) (old new : Pooled) (wire wire' : WireState) : Type 0 where
+  AtOnce : fault ≡ faults.OutOfMemory → new ≡ old → wire' ≡ wire → EndsInFault fault old new wire wire'
+  InRun : EndsInRun (Err fault) old new wire wire' → EndsInFault fault old new wire wire'
+  InWait : EndsInWait (Err fault) old new wire wire' → EndsInFault fault old new wire wire'
 
 -- each result of a step
 abbrev pub StepsTo : Result Stepped PoolFault → Pooled → Pooled → WireState → WireState → Type 0
 StepsTo (Ok Idle) old new wire wire' = (held old ≡ []) × (new ≡ old) × (wire' ≡ wire)
-StepsTo (Ok (Came ticket answer)) old new wire wire' = Ended (Ok (polls.Came ticket answer)) (record old { polled = in_flight old; due = [] }) new wire wire'
+StepsTo (Ok (Came ticket answer)) old new wire wire' = EndsInRun (Ok (polls.Came ticket answer)) old new wire wire'
 StepsTo (Ok Waited) old new wire wire' = EndsInWait (Ok Waited) old new wire wire'
-StepsTo (Err fault) old new wire wire' = Breaks fault old new wire wire'
+StepsTo (Err fault) old new wire wire' = EndsInFault fault old new wire wire'
 
 -- An ask with this ticket was held and is held no longer, and each other ask is held as before.
 pub record HandsOut (ticket : ℕ) (old new : Pooled) : Type 0 where

@@ -6,10 +6,10 @@ ghost use Rattle.exchange.specs.Exchanges.{left_link, IsLinked};
 ghost use Rattle.exchange.specs.declared.exchange.Standing.TheVariants.{Underway};
 ghost use Rattle.request_pool.specs.Pools.{Pooled, IsOverBudget, empty_pool, held, in_flight, bounds_of};
 ghost use Rattle.request_pool.specs.Owned.{SuitsWire, held_on};
-ghost use Rattle.request_pool.specs.Polls.{Shuts, Settles, FailsTo, EndsTo, FlightTo};
+ghost use Rattle.request_pool.specs.Polls.{Shuts, Settles, ClosesLeft, FailsTo, EndsTo, FlightTo};
 ghost use Rattle.request_pool.specs.Runs.{Begins, Starts, PollsNext, RunsTo, is_end};
 ghost use Rattle.request_pool.specs.declared.asks.Flight as flights;
-ghost use Rattle.request_pool.specs.Steps.{StepsTo, HoldsOn, WaitsOnce, GivesUp, WaitsTo, MayWait};
+ghost use Rattle.request_pool.specs.Steps.{StepsTo, HoldsOn, WaitsOnce, GivesUp, WaitsTo, MayWait, Lines};
 ghost use Rattle.request_pool.specs.Closing.{ClosesSome, PopsLink};
 ghost use Rattle.request_pool.specs.Faults.{keeps_bytes};
 
@@ -45,6 +45,8 @@ pub struct Pool {
     polled: VecDeque<Flight>,
     due: VecDeque<Flight>,
     spare: Vec<Spare>,
+    /// How many exchanges were passed once more since a round began.
+    passed: usize,
     started: u64,
     fault: Option<PoolFault>,
     buffer: Option<ReceiveBuffer>,
@@ -93,6 +95,7 @@ impl Pool {
             polled: VecDeque::new(alloc),
             due: VecDeque::new(alloc),
             spare: Vec::new(alloc),
+            passed: 0,
             started: 0,
             fault: None,
             buffer: None,
@@ -137,7 +140,8 @@ impl Pool {
     }
 
     /// Starts the asks that wait, as many as may be in flight, polls each exchange in flight, the
-    /// oldest first, and waits for the wire once where no reply came. Where nothing is held, it answers
+    /// oldest first, and waits for the wire once where no reply came. Behind a step that gave a reply it
+    /// may go on first with the exchanges that this one did not poll. Where nothing is held, it answers
     /// `Idle` and calls nothing.
     ///
     /// It ends at the first reply that comes. Each step has the same wire, and nothing else calls on
@@ -267,14 +271,27 @@ impl Pool {
         }
     }
 
-    /// The buffer into which replies are received, or none out of memory.
+    /// The buffer into which replies are received, and room for as many links as may be kept; or none
+    /// out of memory.
     fn take_buffer(&mut self) -> Option<ReceiveBuffer>
         ensures { self.new ≡ self.old }
     {
+        if !self.has_places() {
+            return None;
+        }
         match self.buffer.take() {
             Some(buffer) => Some(buffer),
             None => ReceiveBuffer::new(self.alloc).ok(),
         }
+    }
+
+    /// Makes room for as many links as may be kept, so that keeping one takes no memory. Out of memory,
+    /// the answer is false.
+    fn has_places(&mut self) -> bool
+        ensures { self.new ≡ self.old }
+    {
+        let places = (self.links as usize).saturating_sub(self.spare.len());
+        self.spare.try_reserve_exact(places).is_ok()
     }
 
     /// A step with the buffer, which is kept for the next one.
@@ -316,13 +333,13 @@ impl Pool {
         ensures over { IsOverBudget self.old → (result ≡ Err PoolFault.Budget) ⊎ (result ≡ Err PoolFault.OutOfMemory) }
         ensures allowed { SameAllowed (W.allows wire.old) (W.allows wire.new) }
     {
-        if !self.gather() {
+        if !self.lines_up() {
             return Err(PoolFault::OutOfMemory);
         }
         if self.is_over_budget() {
             return Err(PoolFault::Budget);
         }
-        match self.run(wire, buffer) {
+        match self.run_on(wire, buffer) {
             Ok(Polled::Came { ticket, reply }) => Ok(Stepped::Came { ticket, reply }),
             Ok(Polled::Pending) => {
                 self.bounds();
@@ -333,12 +350,41 @@ impl Pool {
         }
     }
 
+    /// Puts those in flight in one line, unless the step goes on where the one before stopped. Out of
+    /// memory, all is as it was, and the answer is false.
+    fn lines_up(&mut self) -> bool
+        ensures ok { result ≡ true → Lines self.old self.new }
+        ensures err { result ≡ false → self.new ≡ self.old }
+    {
+        if self.goes_on() {
+            return true;
+        }
+        self.gather()
+    }
+
+    /// Whether the step goes on where the one before stopped. To begin at the oldest again is the better
+    /// order, and costs a receive for each exchange that is passed once more; it is done as long as these
+    /// are together no more than are in flight, so that a reply costs no more where more are in flight.
+    fn goes_on(&self) -> bool {
+        self.passed_again() > self.in_flight()
+    }
+
+    /// How many exchanges are passed once more since a round began, if it begins at the oldest again.
+    fn passed_again(&self) -> usize {
+        if self.due.is_empty() {
+            0
+        } else {
+            self.passed.saturating_add(self.polled.len())
+        }
+    }
+
     /// Puts those in flight in one line, the oldest first. Out of memory, all is as it was, and the
     /// answer is false.
     fn gather(&mut self) -> bool
         ensures ok { result ≡ true → self.new ≡ record self.old { polled = in_flight self.old; due = [] } }
         ensures err { result ≡ false → self.new ≡ self.old }
     {
+        self.passed = self.passed_again();
         self.polled.append(&mut self.due).is_ok()
     }
 
@@ -354,6 +400,25 @@ impl Pool {
         ensures { IsTrue result ↔ IsOverBudget self.now }
     {
         self.can_start() && self.started >= self.budget
+    }
+
+    /// Polls what the step before left to be polled, and then runs.
+    fn run_on<W: Dial>(
+        &mut self,
+        wire: &mut W,
+        buffer: &mut ReceiveBuffer,
+    ) -> Result<Polled, PoolFault>
+        requires suits { SuitsWire self.old (W.state wire.old) }
+        ensures runs { RunsTo result self.old self.new (W.state wire.old) (W.state wire.new) }
+        ensures may_wait { result ≡ Ok Polled.Pending → MayWait (W.state wire.old) self.new (W.state wire.new) }
+        ensures suits { SuitsWire self.new (W.state wire.new) }
+        ensures allowed { SameAllowed (W.allows wire.old) (W.allows wire.new) }
+    {
+        let left = self.poll_all(wire, buffer);
+        if ends(&left) {
+            return left;
+        }
+        self.run(wire, buffer)
     }
 
     /// Starts what may be started, polls all in flight, and starts again what failures made room for.
@@ -542,7 +607,7 @@ impl Pool {
         let mut flight = flight;
         match flight.exchange.poll(wire, buffer) {
             Poll::Pending => self.go_on(wire, flight),
-            Poll::Ready(Ok(reply)) => Ok(self.come(wire, flight, reply)),
+            Poll::Ready(Ok(reply)) => self.come(wire, flight, reply),
             Poll::Ready(Err(fault)) => self.end(flight, fault),
         }
     }
@@ -566,42 +631,68 @@ impl Pool {
     }
 
     /// Hands out a reply; a link that its exchange left is kept or closed.
-    fn come<W: Dial>(&mut self, wire: &mut W, flight: Flight, reply: Reply) -> Polled
+    fn come<W: Dial>(
+        &mut self,
+        wire: &mut W,
+        flight: Flight,
+        reply: Reply,
+    ) -> Result<Polled, PoolFault>
         requires linked { IsLinked (left_link flight.exchange) (W.state wire.old) }
-        ensures came { result ≡ Polled.Came flight.ticket reply }
-        ensures settles { Settles (left_link flight.exchange) flight.exchange.address self.old self.new (W.state wire.old) (W.state wire.new) }
+        ensures ok { IfOk result (λ polled. (polled ≡ Polled.Came flight.ticket reply) × Settles (left_link flight.exchange) flight.exchange.address self.old self.new (W.state wire.old) (W.state wire.new)) }
+        ensures err { IfErr result (λ fault. (fault ≡ PoolFault.OutOfMemory) × (self.new ≡ self.old) × ClosesLeft (left_link flight.exchange) (W.state wire.old) (W.state wire.new)) }
         ensures allowed { SameAllowed (W.allows wire.old) (W.allows wire.new) }
     {
         let ticket = flight.ticket;
         let left = flight.exchange.leave();
-        self.settle(wire, left, flight.exchange.into_address());
-        Polled::Came { ticket, reply }
+        match self.settle(wire, left, flight.exchange.into_address()) {
+            Ok(()) => Ok(Polled::Came { ticket, reply }),
+            Err(_) => Err(PoolFault::OutOfMemory),
+        }
     }
 
-    /// Keeps a link that was left, or closes it where there is no room for it.
-    fn settle<W: Dial>(&mut self, wire: &mut W, left: Option<u64>, address: WebAddress)
+    /// Keeps a link that was left, or closes it where no place is free. Out of memory, it is closed.
+    fn settle<W: Dial>(
+        &mut self,
+        wire: &mut W,
+        left: Option<u64>,
+        address: WebAddress,
+    ) -> Result<(), OutOfMemory>
         requires linked { IsLinked left (W.state wire.old) }
-        ensures settles { Settles left address self.old self.new (W.state wire.old) (W.state wire.new) }
+        ensures ok { OnOk result (Settles left address self.old self.new (W.state wire.old) (W.state wire.new)) }
+        ensures err { OnErr result ((self.new ≡ self.old) × ClosesLeft left (W.state wire.old) (W.state wire.new)) }
         ensures allowed { SameAllowed (W.allows wire.old) (W.allows wire.new) }
     {
         let Some(link) = left else {
-            return;
+            return Ok(());
         };
-        if self.keep(link, address) {
-            return;
+        if self.keeps_most() {
+            wire.close(link);
+            return Ok(());
         }
-        wire.close(link);
+        match self.keep(link, address) {
+            Ok(()) => Ok(()),
+            Err(_) => {
+                wire.close(link);
+                Err(OutOfMemory)
+            }
+        }
     }
 
-    /// Keeps a link that was left, and says whether there is room and memory for it.
-    fn keep(&mut self, link: u64, address: WebAddress) -> bool
-        ensures kept { result ≡ true → (length self.old.spare < self.old.links) × (self.new ≡ record self.old { spare = self.old.spare ++ (record { link = link; address = address }) ∷ [] }) }
-        ensures refused { result ≡ false → self.new ≡ self.old }
+    /// Whether as many links are kept as may be.
+    fn keeps_most(&self) -> bool
+        ensures full { result ≡ true → self.now.links ≤ length self.now.spare }
+        ensures room { result ≡ false → length self.now.spare < self.now.links }
     {
-        if self.spare.len() >= self.links as usize {
-            return false;
-        }
-        self.spare.push(Spare { link, address }).is_ok()
+        self.spare.len() >= self.links as usize
+    }
+
+    /// Keeps a link that was left. Out of memory, all is as it was.
+    fn keep(&mut self, link: u64, address: WebAddress) -> Result<(), OutOfMemory>
+        ensures ok { OnOk result (self.new ≡ record self.old { spare = self.old.spare ++ (record { link = link; address = address }) ∷ [] }) }
+        ensures err { OnErr result (self.new ≡ self.old) }
+    {
+        self.spare.push(Spare { link, address })?;
+        Ok(())
     }
 
     /// What the fault of an exchange that is over comes to.

@@ -1,6 +1,6 @@
 -- One wait, and what follows it.
 use Rattle.std.proofs.Common.{refl, arith, Err}
-use Rattle.request_pool.specs.Steps.{Waits, Passes, Stalls, Misses}
+use Rattle.request_pool.specs.Steps.{IsWait, Passes, Stalls, Misses}
 use Rattle.request_pool.proofs.pool.Pool.wait.Goals as goal
 
 pub returns-then-idle-lt-STALL-clause-waits : goal.returns-then-idle-lt-STALL-clause-waits
@@ -15,5 +15,5 @@ returns-else-idle-lt-STALL-clause-waits g c =
 pub returns-in-Err-Failed-clause-waits : goal.returns-in-Err-Failed-clause-waits
 returns-in-Err-Failed-clause-waits g c =
     let e = c.in-Err-Failed.ensures in
-    let w : Waits (Err c.in-Err-Failed.field-0) (g.W.Wire.state c.args.wire.now) (g.W.Wire.state c.wait.new.self) = record { ok = e.ok; err = e.err; only = e.only; cause = e.cause; steady = e.steady } in
+    let w : IsWait (Err c.in-Err-Failed.field-0) (g.W.Wire.state c.args.wire.now) (g.W.Wire.state c.wait.new.self) = record { ok = e.ok; err = e.err; only = e.only; cause = e.cause; steady = e.steady } in
     Misses (g.W.Wire.state c.wait.new.self) (rw c.in-Err-Failed.field-0-is at w) c.give_up-in-Err-Failed.ensures.gives_up
