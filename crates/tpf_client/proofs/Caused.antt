@@ -1,5 +1,5 @@
 -- The causes of the faults of a call.
-use Rattle.std.proofs.Common.{ℕ, ◌≡◌, ◌≤◌, ◌++◌, Bool, true, false, List, [], ◌∷◌, Option, None, sym, ap, subst, ◌∙◌, arith}
+use Rattle.std.proofs.Common.{ℕ, ◌≡◌, ◌<◌, ◌≤◌, ◌++◌, Bool, true, false, List, [], ◌∷◌, Option, None, refl, sym, ap, subst, ◌∙◌, arith}
 use Rattle.tpf_base.specs.Causes.{Rose}
 use Rattle.tpf_base.specs.Addresses.{Address}
 use Rattle.tpf_base.specs.Links.{WireState}
@@ -7,11 +7,12 @@ use Rattle.tpf_base.specs.HttpReply as replies
 use Rattle.tpf_base.specs.HttpReply.{reply_of}
 use Rattle.std.specs.List.{Contains}
 use Rattle.http_wire.specs.Replies.{shown_fault}
+use Rattle.http_wire.specs.declared.message.Reply.{Reply}
 use Rattle.http_wire.specs.declared.message.ReplyFault.{ReplyFault}
 use Rattle.tpf_base.specs.Sending.{Holds}
 use Rattle.pool_laws.specs.Causes.{RepliedOn, IsRead, IsCut, IsRefused}
 use Rattle.fragment_page.specs.declared.page.PageFault.{PageFault}
-use Rattle.control_reader.specs.Takes.{Faults}
+use Rattle.control_reader.specs.Takes.{Takes, Faults}
 use Rattle.std.proofs.lemmas.List.Sorted.{IsPermutation-sym, Contains-permutation}
 use Rattle.list_laws.proofs.Members.{at_head}
 use Rattle.request_pool.specs.declared.fault.PoolFault.TheVariants as pool
@@ -21,9 +22,9 @@ use Rattle.tpf_client.specs.declared.options.Options.{Options}
 use Rattle.tpf_client.specs.declared.fault.ClientFault.{ClientFault}
 use Rattle.tpf_client.specs.declared.fault.ClientFault.TheVariants as faults
 use Rattle.tpf_client.specs.Traffic.{Event, Came, Broke, Travels, EndsWith, IsLawful, AreDistinct, without_fault, Comes, Breaks}
-use Rattle.tpf_client.specs.Causes.{Explains, IsNoPage}
+use Rattle.tpf_client.specs.Causes.{Explains, IsNoPage, IsChanged}
 use Rattle.tpf_client.specs.Turns.{AsksAt, asked_in}
-use Rattle.tpf_client.specs.Calls.{WritesSome, Before, Behind, AtEnd, RunsPool, IsCause, IsSpent, IsCutShort, IsRefusedReply, IsNoPageOf}
+use Rattle.tpf_client.specs.Calls.{WritesSome, Before, Behind, AtEnd, RunsPool, IsCause, IsSpent, IsCutShort, IsRefusedReply, IsReplyBody, IsNoPageOf, IsOtherVersion}
 use Rattle.tpf_client.specs.Honest.{Laws}
 use Rattle.tpf_client.specs.Requests.{TrafficLaws}
 use Rattle.tpf_client.proofs.Homes.{start-alone}
@@ -36,6 +37,9 @@ use Rattle.tpf_client.proofs.Planned.{RunOf}
 
 rose-up : (x y n m : ℕ) → Rose y n → x ≤ y → n ≤ m → Rose x m
 rose-up x y n m r h i = omega (arith, r, h, i)
+
+still-below : (k n m : ℕ) → k < n → m ≡ n → k < m
+still-below k n m l e = omega (arith, l, e)
 
 distinct-after : (allows : List ℕ → ℕ → List ℕ → List ℕ → Type 0) (events : List Event) (p q : Pooled) (v w : WireState) → (p.fault ≡ None → AreDistinct (held p)) → Travels allows events p q v w → q.fault ≡ None → AreDistinct (held q)
 distinct-after allows [] p q v w d t none = subst (λ (x : Pooled). AreDistinct (held x)) (sym t.0) (d (ap (λ (x : Pooled). x.fault) (sym t.0) ∙ none))
@@ -95,17 +99,17 @@ module _ (laws : Laws) (traffic : TrafficLaws) (allows : List ℕ → ℕ → Li
       let b = same-bounds laws traffic allows options since now lawful start events p a r in
       record { events = events; pool = p; runs = r; spent = omega (arith, spent, b) }
 
-  cut-at : (limit : ℕ) → limit ≡ options.max_body → (events : List Event) (p : Pooled) → RunsPool allows options since now events p → (ask : Ask) → Contains (asked_in events) ask → (received : List ℕ) (on : RepliedOn limit ask.address received now) → since.given ≤ on.k
+  cut-at : (limit : ℕ) → limit ≡ options.max_body → (events : List Event) (p : Pooled) → RunsPool allows options since now events p → (ask : Ask) → Contains (asked_in events) ask → (received : List ℕ) (on : RepliedOn limit ask.address received now) → since.given ≤ on.k → on.k < now.given
       → Holds (now.links on.k).ended true → reply_of received true limit ≡ replies.More → IsCutShort allows options since now received
   cut-at limit e events p r ask asked received =
-      subst (λ (n : ℕ). (on : RepliedOn n ask.address received now) → since.given ≤ on.k → Holds (now.links on.k).ended true → reply_of received true n ≡ replies.More → IsCutShort allows options since now received) (sym e)
-      (λ on fresh ended more. record { is_received = record { events = events; pool = p; runs = r; ask = ask; asked = asked; on = on; fresh = fresh }; ended = ended; more = more })
+      subst (λ (n : ℕ). (on : RepliedOn n ask.address received now) → since.given ≤ on.k → on.k < now.given → Holds (now.links on.k).ended true → reply_of received true n ≡ replies.More → IsCutShort allows options since now received) (sym e)
+      (λ on fresh below ended more. record { is_received = record { events = events; pool = p; runs = r; ask = ask; asked = asked; on = on; fresh = fresh; below = below }; ended = ended; more = more })
 
-  refused-at : (limit : ℕ) → limit ≡ options.max_body → (events : List Event) (p : Pooled) → RunsPool allows options since now events p → (ask : Ask) → Contains (asked_in events) ask → (fault : ReplyFault) (received : List ℕ) (on : RepliedOn limit ask.address received now) → since.given ≤ on.k
+  refused-at : (limit : ℕ) → limit ≡ options.max_body → (events : List Event) (p : Pooled) → RunsPool allows options since now events p → (ask : Ask) → Contains (asked_in events) ask → (fault : ReplyFault) (received : List ℕ) (on : RepliedOn limit ask.address received now) → since.given ≤ on.k → on.k < now.given
       → (why : replies.ReplyFault) → fault ≡ shown_fault why → reply_of received false limit ≡ replies.Bad why → IsRefusedReply allows options since now fault received
   refused-at limit e events p r ask asked fault received =
-      subst (λ (n : ℕ). (on : RepliedOn n ask.address received now) → since.given ≤ on.k → (why : replies.ReplyFault) → fault ≡ shown_fault why → reply_of received false n ≡ replies.Bad why → IsRefusedReply allows options since now fault received) (sym e)
-      (λ on fresh why is bad. record { is_received = record { events = events; pool = p; runs = r; ask = ask; asked = asked; on = on; fresh = fresh }; why = why; is_fault = is; bad = bad })
+      subst (λ (n : ℕ). (on : RepliedOn n ask.address received now) → since.given ≤ on.k → on.k < now.given → (why : replies.ReplyFault) → fault ≡ shown_fault why → reply_of received false n ≡ replies.Bad why → IsRefusedReply allows options since now fault received) (sym e)
+      (λ on fresh below why is bad. record { is_received = record { events = events; pool = p; runs = r; ask = ask; asked = asked; on = on; fresh = fresh; below = below }; why = why; is_fault = is; bad = bad })
 
   cut-of : (received : List ℕ) (events : List Event) (p : Pooled) → EndsWith (Broke (pool.Cut received)) events → RunsPool allows options since now events p → AsksAt start events → IsCutShort allows options since now received
   cut-of received events p e r a =
@@ -115,7 +119,7 @@ module _ (laws : Laws) (traffic : TrafficLaws) (allows : List ℕ → ℕ → Li
       let on = replied-closed x.mid.limit c.loses.ask.address received r.between now x.told r.closes.nature c.loses.on in
       cut-at x.mid.limit x.limit events p r c.loses.ask
       (lost-in laws traffic allows options since now lawful start events (Broke (pool.Cut received)) p r x (without_fault p) c.loses.ask h.had_none c.loses.others) received on
-      (c.loses.fresh since.given (record { given = x.knows.owns.gives.later; none = x.knows.owns.none_before }))
+      (c.loses.fresh since.given (record { given = x.knows.owns.gives.later; none = x.knows.owns.none_before })) (still-below c.loses.on.k r.between.given now.given c.loses.given r.closes.given)
       (subst (λ (o : Option Bool). Holds o true) (sym (x.told c.loses.on.k).ended) c.ended) c.more
 
   refused-of : (fault : ReplyFault) (received : List ℕ) (events : List Event) (p : Pooled) → EndsWith (Broke (pool.Reply fault received)) events → RunsPool allows options since now events p → AsksAt start events → IsRefusedReply allows options since now fault received
@@ -126,39 +130,54 @@ module _ (laws : Laws) (traffic : TrafficLaws) (allows : List ℕ → ℕ → Li
       let on = replied-closed x.mid.limit c.loses.ask.address received r.between now x.told r.closes.nature c.loses.on in
       refused-at x.mid.limit x.limit events p r c.loses.ask
       (lost-in laws traffic allows options since now lawful start events (Broke (pool.Reply fault received)) p r x (without_fault p) c.loses.ask h.had_none c.loses.others) fault received on
-      (c.loses.fresh since.given (record { given = x.knows.owns.gives.later; none = x.knows.owns.none_before })) c.why c.is_fault c.bad
+      (c.loses.fresh since.given (record { given = x.knows.owns.gives.later; none = x.knows.owns.none_before })) (still-below c.loses.on.k r.between.given now.given c.loses.given r.closes.given) c.why c.is_fault c.bad
 
-  page-at : (limit : ℕ) → limit ≡ options.max_body → (events : List Event) (p : Pooled) → RunsPool allows options since now events p → (ask : Ask) → Contains (asked_in events) ask → (fault : PageFault) (body : List ℕ) → Faults body ask.address fault
-      → (received : List ℕ) (at_end : Bool) (n : ℕ) (keeps : Bool) (on : RepliedOn limit ask.address received now) → since.given ≤ on.k → (at_end ≡ true → Holds (now.links on.k).ended true) → reply_of received at_end limit ≡ replies.Whole body n keeps → IsNoPageOf allows options since now fault body
-  page-at limit e events p r ask asked fault body why received at_end n keeps =
-      subst (λ (m : ℕ). (on : RepliedOn m ask.address received now) → since.given ≤ on.k → (at_end ≡ true → Holds (now.links on.k).ended true) → reply_of received at_end m ≡ replies.Whole body n keeps → IsNoPageOf allows options since now fault body) (sym e)
-      (λ on fresh ended whole. record {
-        received = received;
-        is_received = record { events = events; pool = p; runs = r; ask = ask; asked = asked; on = on; fresh = fresh };
-        at_end = at_end;
-        n = n;
-        keeps = keeps;
-        whole = whole;
-        ended = ended;
-        why = why;
-      })
+  -- the body of the reply to an ask
+  abbrev IsBodyTo : Ask → List ℕ → Type 0
+  IsBodyTo ask body = (replied : IsReplyBody allows options since now body) × (replied.is_received.ask ≡ ask)
+
+  body-at : (limit : ℕ) → limit ≡ options.max_body → (events : List Event) (p : Pooled) → RunsPool allows options since now events p → (ask : Ask) → Contains (asked_in events) ask → (body received : List ℕ) (at_end : Bool) (n : ℕ) (keeps : Bool) (on : RepliedOn limit ask.address received now)
+      → since.given ≤ on.k → on.k < now.given → (at_end ≡ true → Holds (now.links on.k).ended true) → reply_of received at_end limit ≡ replies.Whole body n keeps → IsBodyTo ask body
+  body-at limit e events p r ask asked body received at_end n keeps =
+      subst (λ (m : ℕ). (on : RepliedOn m ask.address received now) → since.given ≤ on.k → on.k < now.given → (at_end ≡ true → Holds (now.links on.k).ended true) → reply_of received at_end m ≡ replies.Whole body n keeps → IsBodyTo ask body) (sym e)
+      (λ on fresh below ended whole. (
+        record {
+          received = received;
+          is_received = record { events = events; pool = p; runs = r; ask = ask; asked = asked; on = on; fresh = fresh; below = below };
+          at_end = at_end;
+          n = n;
+          keeps = keeps;
+          whole = whole;
+          ended = ended;
+        },
+        refl,
+      ))
+
+  -- the reply that came last
+  last-body : (ask : Ask) (reply : Reply) (events : List Event) (p : Pooled) → EndsWith (Came ask reply) events → RunsPool allows options since now events p → AsksAt start events → IsBodyTo ask reply.body
+  last-body ask reply events p e r a =
+      let x = ends events (Came ask reply) p e r a in
+      let h : Comes ask reply x.mid p x.between r.between = x.last.happens in
+      let c : IsRead ask.ticket reply x.mid p x.between r.between = traffic.replies ask.ticket reply x.mid p x.between r.between x.given x.suits x.knows.answers h.steps in
+      let theirs : Contains (held x.mid) c.hands.ask = Contains-permutation (c.hands.ask ∷ held p) (held x.mid) c.hands.ask (IsPermutation-sym (held x.mid) (c.hands.ask ∷ held p) c.hands.others) (at_head c.hands.ask (held p)) in
+      let mine : Contains (held x.mid) ask = Contains-permutation (ask ∷ held p) (held x.mid) ask (IsPermutation-sym (held x.mid) (ask ∷ held p) h.others) (at_head ask (held p)) in
+      let distinct = distinct-after allows x.before (begun options) x.mid since x.between (λ z. none-distinct) x.first h.had_none in
+      let same : c.hands.ask ≡ ask = one-ask (held x.mid) c.hands.ask ask distinct theirs mine c.hands.is_ticket in
+      let on = replied-closed x.mid.limit c.hands.ask.address c.received r.between now x.told r.closes.nature c.on in
+      subst (λ (y : Ask). IsBodyTo y reply.body) same
+      (body-at x.mid.limit x.limit events p r c.hands.ask (lost-in laws traffic allows options since now lawful start events (Came ask reply) p r x p c.hands.ask h.had_none c.hands.others) reply.body c.received c.at_end c.n reply.keeps on
+      (c.fresh since.given (record { given = x.knows.owns.gives.later; none = x.knows.owns.none_before })) (still-below c.on.k r.between.given now.given c.given r.closes.given)
+      (λ at. subst (λ (o : Option Bool). Holds o true) (sym (x.told c.on.k).ended) (c.ended at).0) c.whole)
 
   page-of : (fault : PageFault) (body : List ℕ) (events : List Event) (p : Pooled) → IsNoPage fault body events → RunsPool allows options since now events p → AsksAt start events → IsNoPageOf allows options since now fault body
   page-of fault body events p e r a =
-      let x = ends events (Came e.ask e.reply) p e.last r a in
-      let h : Comes e.ask e.reply x.mid p x.between r.between = x.last.happens in
-      let c : IsRead e.ask.ticket e.reply x.mid p x.between r.between = traffic.replies e.ask.ticket e.reply x.mid p x.between r.between x.given x.suits x.knows.answers h.steps in
-      let theirs : Contains (held x.mid) c.hands.ask = Contains-permutation (c.hands.ask ∷ held p) (held x.mid) c.hands.ask (IsPermutation-sym (held x.mid) (c.hands.ask ∷ held p) c.hands.others) (at_head c.hands.ask (held p)) in
-      let mine : Contains (held x.mid) e.ask = Contains-permutation (e.ask ∷ held p) (held x.mid) e.ask (IsPermutation-sym (held x.mid) (e.ask ∷ held p) h.others) (at_head e.ask (held p)) in
-      let distinct = distinct-after allows x.before (begun options) x.mid since x.between (λ z. none-distinct) x.first h.had_none in
-      let same : c.hands.ask ≡ e.ask = one-ask (held x.mid) c.hands.ask e.ask distinct theirs mine c.hands.is_ticket in
-      let on = replied-closed x.mid.limit c.hands.ask.address c.received r.between now x.told r.closes.nature c.on in
-      page-at x.mid.limit x.limit events p r c.hands.ask
-      (lost-in laws traffic allows options since now lawful start events (Came e.ask e.reply) p r x p c.hands.ask h.had_none c.hands.others)
-      fault body (subst (λ (y : Ask). Faults body y.address fault) (sym same) e.why) c.received c.at_end c.n e.reply.keeps on
-      (c.fresh since.given (record { given = x.knows.owns.gives.later; none = x.knows.owns.none_before }))
-      (λ at. subst (λ (o : Option Bool). Holds o true) (sym (x.told c.on.k).ended) (c.ended at).0)
-      (subst (λ (l : List ℕ). reply_of c.received c.at_end x.mid.limit ≡ replies.Whole l c.n e.reply.keeps) e.body_is c.whole)
+      let l : IsBodyTo e.ask body = subst (λ (b : List ℕ). IsBodyTo e.ask b) e.body_is (last-body e.ask e.reply events p e.last r a) in
+      record { replied = l.0; why = subst (λ (y : Ask). Faults body y.address fault) (sym l.1) e.why }
+
+  version-of : (first other : Option ℕ) (events : List Event) (p : Pooled) → IsChanged first other events → RunsPool allows options since now events p → AsksAt start events → IsOtherVersion allows options since now first other
+  version-of first other events p e r a =
+      let l = last-body e.ask e.reply events p e.last r a in
+      record { body = e.reply.body; replied = l.0; page = e.page; taken = subst (λ (y : Ask). Takes e.reply.body y.address e.page) (sym l.1) e.taken; version = e.version; differs = e.differs }
 
   cause-of : (fault : ClientFault) (version : Option ℕ) (events : List Event) (p : Pooled) → Explains version options.budget fault events → RunsPool allows options since now events p → AsksAt start events → IsCause allows options since now fault
   cause-of faults.Exchange version events p e r a = rose-of events p e r a
@@ -166,7 +185,7 @@ module _ (laws : Laws) (traffic : TrafficLaws) (allows : List ℕ → ℕ → Li
   cause-of (faults.Cut received) version events p e r a = cut-of received events p e r a
   cause-of (faults.Reply fault received) version events p e r a = refused-of fault received events p e r a
   cause-of (faults.Page fault body) version events p e r a = page-of fault body events p e r a
-  cause-of (faults.Changed first other) version events p e r a = e.1.differs
+  cause-of (faults.Changed first other) version events p e r a = version-of first other events p e.1 r a
   cause-of (faults.Budget n) version events p e r a = (e.0, spent-of events p e.1 r a)
   cause-of faults.Sink version events p e r a = tt
   cause-of faults.OutOfMemory version events p e r a = tt

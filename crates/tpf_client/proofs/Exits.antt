@@ -1,9 +1,10 @@
 -- What stands at each exit of a call: its links, what was sent on them, and how many requests it made.
-use Rattle.std.proofs.Common.{ℕ, ◌≡◌, ◌≤◌, ◌<◌, ◌+◌, ◌*◌, ◌^◌, List, map, length, Option, refl, sym, subst, arith}
+use Rattle.std.proofs.Common.{ℕ, ◌≡◌, ◌≤◌, ◌<◌, ◌+◌, ◌*◌, ◌^◌, List, map, length, Option, Some, refl, sym, subst, ◌∙◌, arith}
 use Rattle.std.proofs.Math.Nat.{mul-le-mul_left}
-use Rattle.std.specs.Prelude.{Result, IfOk, IfErr}
+use Rattle.std.specs.Prelude.{Result, Ok, Err, IfOk, IfErr}
 use Rattle.rdf_terms.specs.declared.term.Triple.{Triple}
 use Rattle.tpf_base.specs.Addresses.{Address}
+use Rattle.tpf_base.specs.Causes.{RoseBy}
 use Rattle.tpf_base.specs.Links.{WireState}
 use Rattle.template_fill.specs.Metadata.{Config}
 use Rattle.bgp_core.specs.Queries.{QueryData}
@@ -18,21 +19,23 @@ use Rattle.tpf_client.specs.Traffic.{Event, IsLawful}
 use Rattle.tpf_client.specs.Turns.{asked_in, address_of}
 use Rattle.tpf_client.specs.Calls.{Ran, Returns, WritesSome, RunsPool, StartsFew}
 use Rattle.tpf_client.specs.Honest.{Laws, IsHonestWire}
-use Rattle.tpf_client.specs.Requests.{TrafficLaws, AreClosed, AreDialledFor, OthersStay, DialsAtMost, GivesAtMost, addresses_of, tries_of, AnswersAll, RequestsAreTries, DialsAreTries}
+use Rattle.tpf_client.specs.Requests.{TrafficLaws, AreClosed, AreDialledFor, OthersStay, MovesOn, DialsAtMost, GivesAtMost, addresses_of, tries_of, AnswersAll, RequestsAreTries, DialsAreTries}
 use Rattle.tpf_client.specs.Plans.{SendsAsked, AsksPlan, StaysUnprovoked}
+use Rattle.tpf_client.specs.Acts.{WithCause}
 use Rattle.tpf_client.proofs.Answering.{all-answered}
-use Rattle.tpf_client.proofs.Endings.{same-bounds}
+use Rattle.tpf_client.proofs.Endings.{travels-onward, same-bounds}
 use Rattle.tpf_client.proofs.Known.{Exit, exit-of, begun}
 use Rattle.tpf_client.proofs.Planned.{RunOf, least-started, returns-run, some-run, PlannedRun, ExplainedRun, WholeRun, returns-whole, some-explained, few-asked, all-counted}
 use Rattle.tpf_client.proofs.Sent.{sends-asked, sends-so}
 use Rattle.tpf_client.proofs.Sparing.{spares-so}
-use Rattle.tpf_client.proofs.Shutting.{either-way, returns-so, writes-some-so, ran-closed}
+use Rattle.tpf_client.proofs.Shutting.{if-err-from, either-way, returns-so, writes-some-so, ran-closed}
 
 -- what holds at each exit, whatever the call answers
 pub record AnyExit (allows : List ℕ → ℕ → List ℕ → List ℕ → Type 0) (options : Options) (start : Address) (since now : WireState) : Type 0 where
   pub closed : AreClosed since now
   pub peers : AreDialledFor start since now
   pub others : OthersStay since now
+  pub moves : MovesOn since now
   pub dials : DialsAtMost options.budget since now
   pub given : GivesAtMost options.budget since now
   pub started : StartsFew allows options since now
@@ -51,9 +54,27 @@ at-most a b c l m = omega (arith, l, m)
 more-than : (a b c d : ℕ) → a ≤ b + c → c ≤ d → a ≤ b + d
 more-than a b c d l m = omega (arith, l, m)
 
+as-many : (a b c : ℕ) → a ≤ b → c ≡ b → a ≤ c
+as-many a b c l e = omega (arith, l, e)
+
+still-rose : (a b c : ℕ) → RoseBy 0 a b → c ≡ b → RoseBy 0 a c
+still-rose a b c l e = omega (arith, l, e)
+
 module _ (laws : Laws) (traffic : TrafficLaws) (allows : List ℕ → ℕ → List ℕ → List ℕ → Type 0) (options : Options) (since now : WireState) (lawful : IsLawful allows since) (start : Address) where
   exit : (run : RunOf allows options start since now) → Exit start options since now (length (asked_in run.events)) run.pool.started
   exit run = exit-of laws traffic start options allows since lawful now run.events run.pool run.asks run.runs (same-bounds laws traffic allows options since now lawful start run.events run.pool run.asks run.runs)
+
+  -- no count falls while the links are closed either
+  moves-on : RunOf allows options start since now → MovesOn since now
+  moves-on run =
+      let o = travels-onward allows run.events (begun options) run.pool since run.runs.between run.runs.travels in
+      let closes = run.runs.closes in
+      record {
+        nature = closes.nature ∙ o.nature;
+        given = as-many since.given run.runs.between.given now.given o.given closes.given;
+        faults = as-many since.faults run.runs.between.faults now.faults o.faults closes.faults;
+        dials = still-rose since.dials run.runs.between.dials now.dials o.dials closes.dials;
+      }
 
   pub any-exit : RunOf allows options start since now → AnyExit allows options start since now
   any-exit run =
@@ -62,6 +83,7 @@ module _ (laws : Laws) (traffic : TrafficLaws) (allows : List ℕ → ℕ → Li
         closed = x.closed;
         peers = x.peers;
         others = x.others;
+        moves = moves-on run;
         dials = more-than now.dials since.dials run.pool.started options.budget x.dials x.within;
         given = more-than now.given since.given run.pool.started options.budget x.given x.within;
         started = record { events = run.events; pool = run.pool; runs = run.runs; few = x.within };
@@ -107,7 +129,11 @@ module _ (laws : Laws) (traffic : TrafficLaws) (allows : List ℕ → ℕ → Li
       few = more-than now.dials since.dials x.run.pool.started (tries_of options (addresses_of history config q start x.version)) (exit x.run).dials (started-tries x);
     }
 
-    pub asks-plan : PlannedRun allows history config options since now start q → AsksPlan history config q start since now
+    pub dials-version : (x : PlannedRun allows history config options since now start q) → (dials-so x).version ≡ x.version
+    unfolding dials-so
+    dials-version x = refl
+
+    unfoldable pub asks-plan : PlannedRun allows history config options since now start q → AsksPlan history config q start since now
     asks-plan x = record {
       version = x.version;
       is_version = x.of_plan.is_version;
@@ -170,3 +196,22 @@ module _ (allows : List ℕ → ℕ → List ℕ → List ℕ → Type 0) (optio
     at-planned result P t u ok err f =
         either-way result P (λ fault. WritesSome Body q start options.budget fault t u) (PlannedRun allows history config options since now start q) ok err
         (λ x p. let r = f x p in (at-whole r.0 r.1 r.2).planned) (λ fault w. (at-explained fault t u w).planned)
+
+    -- at Ok its version is the one that is reported
+    pub told-planned : {A : Type 0} (result : Result A ClientFault) (P : A → Type 0) (told : A → Report) (t u : Option (List ℕ)) (ok : IfOk result P) (err : IfErr result (λ fault. WritesSome Body q start options.budget fault t u))
+        (f : (x : A) → P x → (rows : List Places) × Returns Body q start (told x) rows) → IfOk result (λ x. (told x).version ≡ Some (at-planned result P t u ok err (λ x p. (told x, (f x p).0, (f x p).1))).version)
+    unfolding at-planned either-way
+    told-planned (Ok x) P told t u ok err f = (at-whole (told x) (f x ok).0 (f x ok).1).is_reported
+    told-planned (Err fault) P told t u ok err f = tt
+
+    -- at a fault the run is the one that explains it
+    pub explained-planned : {A : Type 0} (result : Result A ClientFault) (P : A → Type 0) (t u : Option (List ℕ)) (ok : IfOk result P) (err : IfErr result (λ fault. WritesSome Body q start options.budget fault t u))
+        (f : (x : A) → P x → (report : Report) × (rows : List Places) × Returns Body q start report rows)
+        (cause : ClientFault → Type 0) (because : (fault : ClientFault) → ExplainedRun allows history config options since now start q fault → cause fault) (holds : ℕ → (fault : ClientFault) → cause fault → Type 0)
+        → ((fault : ClientFault) (x : ExplainedRun allows history config options since now start q fault) → holds x.planned.version fault (because fault x))
+        → WithCause result cause (if-err-from result (λ fault. ExplainedRun allows history config options since now start q fault) cause
+        (if-err-from result (λ fault. WritesSome Body q start options.budget fault t u) (λ fault. ExplainedRun allows history config options since now start q fault) err (λ fault w. at-explained fault t u w)) because)
+        (holds (at-planned result P t u ok err f).version)
+    unfolding at-planned either-way if-err-from
+    explained-planned (Ok x) P t u ok err f cause because holds all = tt
+    explained-planned (Err fault) P t u ok err f cause because holds all = all fault (at-explained fault t u err)

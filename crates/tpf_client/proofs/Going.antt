@@ -11,9 +11,9 @@ use Rattle.bgp_core.specs.Solutions.{Places}
 use Rattle.fragment_page.specs.declared.page.Page.{Page}
 use Rattle.request_pool.specs.declared.fault.PoolFault.{PoolFault}
 use Rattle.request_pool.specs.declared.fault.PoolFault.TheVariants as pool
-use Rattle.request_pool.specs.Pools.{Pooled, Ask}
+use Rattle.request_pool.specs.Pools.{Pooled, Ask, held}
 use Rattle.request_pool.specs.Owned.{SuitsWire}
-use Rattle.join_core.specs.Evaluations.{Account, Standing, Terms, HasHome}
+use Rattle.join_core.specs.Evaluations.{Account, Standing, HasHome}
 use Rattle.tpf_client.specs.declared.asks.Arrived.{Arrived}
 use Rattle.tpf_client.specs.declared.fault.ClientFault.{ClientFault}
 use Rattle.tpf_client.specs.declared.fault.ClientFault.TheVariants as faults
@@ -23,8 +23,9 @@ use Rattle.tpf_base.specs.declared.fault.Fault.{Fault}
 use Rattle.tpf_base.specs.declared.fault.Fault.TheVariants as failures
 use Rattle.tpf_client.specs.Rows.{sink_fault}
 use Rattle.tpf_client.specs.Asking.{Arrives, Stops, AreWaits, ask_of}
-use Rattle.tpf_client.specs.Turns.{Meets, Hands, Gives, Readies, TakesReply, Went, Failed, Owes, OwesMore, asked_in, AreTrue, IsTrueReply}
+use Rattle.tpf_client.specs.Turns.{Limits, most_waiting, Meets, Hands, Gives, Readies, TakesReply, Went, Failed, Owes, OwesMore, asked_in, AreTrue, IsTrueReply}
 use Rattle.tpf_client.proofs.Accounting.{owes-none, owes-then, owes-more, more-then, asked-append, asked-asks, asked-waits, true-first, true-second, pages-then, pages-waits, pages-asks}
+use Rattle.tpf_client.proofs.Few.{few-quiet, few-put, few-then}
 use Rattle.tpf_client.proofs.Homes.{puts-homes, homes-then, homes-of}
 use Rattle.tpf_client.proofs.Meeting.{meets-came, meets-home, outs-came, outs-address}
 use Rattle.tpf_client.proofs.Turning.{give-meets, give-outs}
@@ -133,15 +134,16 @@ asked-last before event w e = asked-append before (event ∷ []) ∙ (ap (λ (l 
 true-last : (is_true : Address → Page → Type 0) (version : Option ℕ) (before : List Event) (event : Event) → AreTrue is_true version (before ++ event ∷ []) → IsTrueReply is_true version event
 true-last is_true version before event h = (true-second is_true version before (event ∷ []) h).0
 
-module _ {Source Eval : Type 0} (suits : Source → Eval → Type 0) (account : Source → Eval → Account) (keeps : Terms → Eval → Type 0) (standing : Eval → Standing) (is_true : Source → Address → Page → Type 0) (version : Option ℕ) where
+module _ {Source Eval : Type 0} (suits : Source → Eval → Type 0) (account : Source → Eval → Account) (keeps : Limits → Eval → Type 0) (standing : Eval → Standing) (is_true : Source → Address → Page → Type 0) (version : Option ℕ) where
   pub went-none : (allows : List ℕ → ℕ → List ℕ → List ℕ → Type 0) (e : Eval) (p : Pooled) (w : WireState) → SuitsWire p w → Went suits account keeps standing is_true allows e e version [] [] p p w w
   went-none allows e p w s = record {
     travels = no-events allows p w;
     on_wire = s;
     pages = tt;
-    meets = λ terms m. m;
-    homes = λ terms m. tt;
-    width = λ terms m. All-nil (λ row. length row ≡ terms.width);
+    meets = λ limits m. m;
+    homes = λ limits m. tt;
+    width = λ limits m. All-nil (λ row. length row ≡ limits.terms.width);
+    few = λ limits m. m.few;
     stays = λ source t. record { is_suited = t.is_suited; is_out = t.is_out; owes = owes-none (account source e) };
   }
 
@@ -152,11 +154,12 @@ module _ {Source Eval : Type 0} (suits : Source → Eval → Type 0) (account : 
     travels = puts-travel allows asked p q w h.puts s l;
     on_wire = puts-suit asked p q w h.puts s;
     pages = pages-asks version asked;
-    meets = λ terms m. h.meets terms (give-meets suits account keeps standing a b rows p terms g m);
-    homes = λ terms m.
-        homes-of (λ ask. HasHome terms.homes ask.address) (map Asked asked) asked (asked-asks asked)
-        (puts-homes (λ ask. HasHome terms.homes ask.address) asked p q h.puts (h.meets terms (give-meets suits account keeps standing a b rows p terms g m)).homes);
-    width = λ terms m. g.width terms m.kept;
+    meets = λ limits m. h.meets limits (give-meets suits account keeps standing a b rows p limits g m);
+    homes = λ limits m.
+        homes-of (λ ask. HasHome limits.terms.homes ask.address) (map Asked asked) asked (asked-asks asked)
+        (puts-homes (λ ask. HasHome limits.terms.homes ask.address) asked p q h.puts (h.meets limits (give-meets suits account keeps standing a b rows p limits g m)).homes);
+    width = λ limits m. g.width limits m.kept;
+    few = λ limits m. few-put (most_waiting limits.sizes) asked p q h.puts (h.meets limits (give-meets suits account keeps standing a b rows p limits g m)).few;
     stays = λ source t.
         let mid = g.stays source t.is_suited in
         let given = g.owes source t.is_suited in
@@ -171,8 +174,8 @@ module _ {Source Eval : Type 0} (suits : Source → Eval → Type 0) (account : 
         };
   }
 
-  pub ready-meets : (a c : Eval) (rows : List Places) (asked : List Ask) (p q : Pooled) (terms : Terms) → Readies suits account keeps standing a c rows asked p q → Meets terms (keeps terms a) (standing a) p → Meets terms (keeps terms c) (standing c) q
-  ready-meets a c rows asked p q terms r m = r.hands.meets terms (give-meets suits account keeps standing a r.mid rows p terms r.gives m)
+  pub ready-meets : (a c : Eval) (rows : List Places) (asked : List Ask) (p q : Pooled) (limits : Limits) → Readies suits account keeps standing a c rows asked p q → Meets limits (keeps limits a) (standing a) p → Meets limits (keeps limits c) (standing c) q
+  ready-meets a c rows asked p q limits r m = r.hands.meets limits (give-meets suits account keeps standing a r.mid rows p limits r.gives m)
 
   pub went-ready : (allows : List ℕ → ℕ → List ℕ → List ℕ → Type 0) (a c : Eval) (rows : List Places) (asked : List Ask) (p q : Pooled) (w : WireState) → SuitsWire p w → IsLawful allows w → Readies suits account keeps standing a c rows asked p q
       → Went suits account keeps standing is_true allows a c version (map Asked asked) rows p q w w
@@ -187,10 +190,11 @@ module _ {Source Eval : Type 0} (suits : Source → Eval → Type 0) (account : 
         travels = h.travels;
         on_wire = h.suits;
         pages = pages-then version h.before (Came (ask_of arrived) arrived.reply ∷ []) (pages-waits version h.before h.waits) ((t.page, t.taken, t.is_version), tt);
-        meets = λ terms m. meets-came terms (keeps terms a) (standing a) p (keeps terms b) (standing b) q (ask_of arrived) m h.others t.ends h.no_fault
-            (t.kept terms m.kept (meets-home terms (keeps terms a) (standing a) p q (ask_of arrived) m h.others));
-        homes = λ terms m. homes-of (λ ask. HasHome terms.homes ask.address) (h.before ++ Came (ask_of arrived) arrived.reply ∷ []) [] none tt;
-        width = λ terms m. All-nil (λ row. length row ≡ terms.width);
+        meets = λ limits m. meets-came limits (keeps limits a) (standing a) p (keeps limits b) (standing b) q (ask_of arrived) m h.others t.ends h.no_fault
+            (t.kept limits m.kept (meets-home limits (keeps limits a) (standing a) p q (ask_of arrived) m h.others));
+        homes = λ limits m. homes-of (λ ask. HasHome limits.terms.homes ask.address) (h.before ++ Came (ask_of arrived) arrived.reply ∷ []) [] none tt;
+        width = λ limits m. All-nil (λ row. length row ≡ limits.terms.width);
+        few = λ limits m. few-quiet (most_waiting limits.sizes) (length (held p)) (h.before ++ Came (ask_of arrived) arrived.reply ∷ []) m.few none;
         stays = λ source truth.
             let true_ : is_true source arrived.address t.page = true-last (is_true source) version h.before (Came (ask_of arrived) arrived.reply) truth.pages t.page t.taken t.is_version in
             let for : (address : Address) → Contains (account source a).out (arrived.ticket, address) → is_true source address t.page =
@@ -220,9 +224,10 @@ module _ {Source Eval : Type 0} (suits : Source → Eval → Type 0) (account : 
     travels = travels-then allows first second p q r u v w f.travels (travels-allowed allows later second q r v w same s.travels);
     on_wire = s.on_wire;
     pages = pages-then version first second f.pages s.pages;
-    meets = λ terms m. s.meets terms (f.meets terms m);
-    homes = λ terms m. homes-then (λ ask. HasHome terms.homes ask.address) first second (f.homes terms m) (s.homes terms (f.meets terms m));
-    width = λ terms m. All-append (λ row. length row ≡ terms.width) rows more (f.width terms m) (s.width terms (f.meets terms m));
+    meets = λ limits m. s.meets limits (f.meets limits m);
+    homes = λ limits m. homes-then (λ ask. HasHome limits.terms.homes ask.address) first second (f.homes limits m) (s.homes limits (f.meets limits m));
+    width = λ limits m. All-append (λ row. length row ≡ limits.terms.width) rows more (f.width limits m) (s.width limits (f.meets limits m));
+    few = λ limits m. let mid = f.meets limits m in few-then allows (most_waiting limits.sizes) first second p q u v f.travels mid.no_fault (f.few limits m) (s.few limits mid);
     stays = λ source t.
         let x = f.stays source (record { is_suited = t.is_suited; is_out = t.is_out; pages = true-first (is_true source) version first second t.pages }) in
         let y = s.stays source (record { is_suited = x.is_suited; is_out = x.is_out; pages = true-second (is_true source) version first second t.pages }) in
@@ -243,6 +248,7 @@ module _ {Source Eval : Type 0} (suits : Source → Eval → Type 0) (account : 
     on_wire = g.on_wire;
     explains = e;
     homes = g.homes;
+    few = g.few;
     owes = λ source t. let x = g.stays source t in owes-more (account source a) (account source b) rows (asked_in events) x.owes;
   }
 
@@ -253,7 +259,8 @@ module _ {Source Eval : Type 0} (suits : Source → Eval → Type 0) (account : 
     travels = t;
     on_wire = s;
     explains = e;
-    homes = λ terms m. homes-of (λ ask. HasHome terms.homes ask.address) events [] none tt;
+    homes = λ limits m. homes-of (λ ask. HasHome limits.terms.homes ask.address) events [] none tt;
+    few = λ limits m. few-quiet (most_waiting limits.sizes) (length (held p)) events m.few none;
     owes = λ source truth. subst (λ (l : List Ask). OwesMore (account source a) [] l) (sym none) (owes-more (account source a) (account source a) [] [] (owes-none (account source a)));
   }
 
@@ -288,7 +295,8 @@ module _ {Source Eval : Type 0} (suits : Source → Eval → Type 0) (account : 
     travels = travels-then allows first second p q r u v w f.travels (travels-allowed allows later second q r v w same s.travels);
     on_wire = s.on_wire;
     explains = explains-later version budget fault first second s.explains;
-    homes = λ terms m. homes-then (λ ask. HasHome terms.homes ask.address) first second (f.homes terms m) (s.homes terms (f.meets terms m));
+    homes = λ limits m. homes-then (λ ask. HasHome limits.terms.homes ask.address) first second (f.homes limits m) (s.homes limits (f.meets limits m));
+    few = λ limits m. let mid = f.meets limits m in few-then allows (most_waiting limits.sizes) first second p q u v f.travels mid.no_fault (f.few limits m) (s.few limits mid);
     owes = λ source t.
         let x = f.stays source (record { is_suited = t.is_suited; is_out = t.is_out; pages = true-first (is_true source) version first second t.pages }) in
         let y = s.owes source (record { is_suited = x.is_suited; is_out = x.is_out; pages = true-second (is_true source) version first second t.pages }) in

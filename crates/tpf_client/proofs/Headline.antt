@@ -1,13 +1,18 @@
 -- Over an honest wire the text is that of the solutions over the version of the start page.
 use Rattle.bgp_core.specs.Solutions.{Places}
-use Rattle.std.proofs.Common.{ℕ, ◌≡◌, ◌<◌, ◌^◌, ◌++◌, List, [], ◌∷◌, Option, Some, subst, ◌∙◌, arith}
+use Rattle.std.proofs.Common.{ℕ, ◌≡◌, ◌<◌, ◌^◌, ◌++◌, ◌&&◌, Bool, true, false, List, [], ◌∷◌, Option, Some, refl, sym, ap, subst, ◌∙◌, arith}
+use Rattle.std.specs.Str.{bytes_eq}
+use Rattle.std.proofs.lemmas.Slice.Eq.{bytes_eq-Decides}
 use Rattle.std.specs.List.{AllByRecursion}
 use Rattle.std.proofs.lemmas.List.Sorted.{IsPermutation-refl}
 use Rattle.rdf_terms.specs.declared.term.Triple.{Triple}
-use Rattle.tpf_base.specs.Addresses.{Address}
+use Rattle.tpf_base.specs.Addresses.{Address, authority_text, authority_of}
+use Rattle.tpf_base.specs.Marks.{Served}
 use Rattle.tpf_base.specs.Links.{WireState}
 use Rattle.template_fill.specs.Metadata.{Config}
 use Rattle.template_fill.specs.Bodies.{version_of}
+use Rattle.template_fill.specs.Answered.{is_answered}
+use Rattle.template_fill.specs.Templates.{Template}
 use Rattle.bgp_core.specs.Queries.{QueryData}
 use Rattle.request_pool.specs.Pools.{Pooled, empty_pool}
 use Rattle.pool_laws.specs.Answers.{IsBodyOf}
@@ -18,11 +23,17 @@ use Rattle.tpf_client.specs.declared.fault.ClientFault.{ClientFault}
 use Rattle.tpf_client.specs.Traffic.{Event, Came, EndsWith, IsLawful}
 use Rattle.tpf_client.specs.Starts.{start_ask}
 use Rattle.tpf_client.specs.Calls.{WritesAll, WritesSome, Before, Behind, AtEnd, RunsPool, ReadsStart, IsWorldOf, solutions_of, Returns}
+use Rattle.tpf_client.specs.Requests.{is_served}
 use Rattle.tpf_client.specs.Honest.{Laws, IsHonestWire, IsAnswer, IsVersionOf, WritesSolutions, WritesSolutionsFront, IsSolutions}
 use Rattle.tpf_client.proofs.Distinct.{none-distinct}
 use Rattle.tpf_client.proofs.Honesty.{Keeps, all-answers}
-use Rattle.tpf_client.proofs.Truth.{start-world}
+use Rattle.tpf_client.proofs.Truth.{IsServedStart, start-served, start-world}
 use Rattle.tpf_client.proofs.Texts.{same-written, rows-more}
+
+both-true : (a b : Bool) → a ≡ true → b ≡ true → (a && b) ≡ true
+both-true true true e f = refl
+both-true true false e f = f
+both-true false b e f = e
 
 module _ (history : List (List Triple)) (config : Config) where
   answers-behind : (first later : List Event) → AllByRecursion (IsAnswer history config) (first ++ later) → AllByRecursion (IsAnswer history config) later
@@ -49,6 +60,29 @@ module _ (laws : Laws) (allows : List ℕ → ℕ → List ℕ → List ℕ → 
 
   pub all-of : (events : List Event) (pool : Pooled) → RunsPool allows options since now events pool → AllByRecursion (IsAnswer history config) events
   all-of events pool r = all-answers allows laws.puts laws.steps laws.faults history config honest.is_honest events (empty_pool options.links options.retries options.budget options.max_body) pool since r.between begins-so r.travels
+
+  abbrev StartIsServed : (first : List Event) → ReadsStart start first → ℕ → Type 0
+  StartIsServed first reads version = IsServedStart laws.given laws.answered laws.only laws.worlds laws.forms laws.pages laws.kept laws.addresses history config honest.is_history honest.is_config start reads.page version
+
+  served-of : (first later : List Event) (pool : Pooled) (version : ℕ) → RunsPool allows options since now (first ++ later) pool → (reads : ReadsStart start first) → reads.page.version ≡ Some version → StartIsServed first reads version
+  served-of first later pool version r reads told =
+      let all = all-of (first ++ later) pool r in
+      let b : IsBodyOf history config start reads.reply.body = answer-last history config (Came (start_ask start) reads.reply) first reads.last (answers-front history config first later all) in
+      start-served laws.given laws.answered laws.only laws.worlds laws.forms laws.pages laws.kept laws.addresses history config honest.is_history honest.is_config start reads.reply.body reads.page version b reads.taken told
+
+  same-port : (m n : ℕ) (h g : List ℕ) → h ≡ g → m ≡ n → authority_text h m ≡ authority_text g n
+  same-port m n h g e f = ap (λ (x : List ℕ). authority_text x m) e ∙ ap (λ (k : ℕ). authority_text g k) f
+
+  -- the version of the start page has the whole plan to ask for
+  pub start-is-served : (first later : List Event) (pool : Pooled) (version : ℕ) → RunsPool allows options since now (first ++ later) pool → (reads : ReadsStart start first) → reads.page.version ≡ Some version → is_served history config start version ≡ true
+  unfolding is_served
+  start-is-served first later pool version r reads told =
+      let s = served-of first later pool version r reads told in
+      let base : reads.page.form.template.start ≡ config.base = ap (λ (t : Template). t.start) s.form.template in
+      let host : start.host ≡ config.base.host = sym reads.home.host ∙ ap (λ (a : Address). a.host) base in
+      let port : start.port ≡ config.base.port = sym reads.home.port ∙ ap (λ (a : Address). a.port) base in
+      let same : bytes_eq (authority_of start) (authority_of config.base) ≡ true = (bytes_eq-Decides (authority_of start) (authority_of config.base)).1 (same-port start.port config.base.port start.host config.base.host host port) in
+      both-true (is_answered history (Served version) config start) (bytes_eq (authority_of start) (authority_of config.base)) s.is_given same
 
   -- the world of the start page
   pub world-of : (first later : List Event) (pool : Pooled) → RunsPool allows options since now (first ++ later) pool → (reads : ReadsStart start first)

@@ -1,5 +1,5 @@
 -- Why a call fails over an honest wire.
-use Rattle.std.proofs.Common.{ℕ, ◌≡◌, ◌<◌, ◌^◌, List, length, Option, Some, sym, ap, subst, ◌∙◌}
+use Rattle.std.proofs.Common.{ℕ, ◌≡◌, ◌<◌, ◌^◌, List, length, Option, Some, refl, sym, ap, subst, ◌∙◌}
 use Rattle.rdf_terms.specs.declared.term.Triple.{Triple}
 use Rattle.tpf_base.specs.Addresses.{Address}
 use Rattle.tpf_base.specs.Links.{WireState}
@@ -21,6 +21,7 @@ use Rattle.tpf_client.specs.Honest.{Laws, IsHonestWire}
 use Rattle.tpf_client.specs.Requests.{TrafficLaws, addresses_of}
 use Rattle.tpf_client.specs.Causes.{IsNoPage, IsChanged}
 use Rattle.tpf_client.specs.Plans.{IsAnswered, IsReadByAll, RefusesLong, MissesPage, TellsVersions, IsHonestCause, answer_at}
+use Rattle.tpf_client.specs.Acts.{IsHonestCauseOf}
 use Rattle.tpf_client.proofs.Endings.{ending, lost-in}
 use Rattle.tpf_client.proofs.Headline.{all-of, answer-last}
 use Rattle.tpf_client.proofs.Known.{knows-so}
@@ -118,3 +119,16 @@ module _ (laws : Laws) (traffic : TrafficLaws) (allows : List ℕ → ℕ → Li
   honest-cause (faults.Budget n) x = tt
   honest-cause faults.Sink x = tt
   honest-cause faults.OutOfMemory x = tt
+
+  -- it is said of the version of the run
+  pub honest-cause-of : (fault : ClientFault) (x : Run fault) → IsHonestCauseOf history config options q start x.planned.version fault (honest-cause fault x)
+  unfolding honest-cause refuses misses changes
+  honest-cause-of faults.Exchange x = tt
+  honest-cause-of faults.Stalled x = tt
+  honest-cause-of (faults.Cut received) x = tt
+  honest-cause-of (faults.Reply fault received) x = refl
+  honest-cause-of (faults.Page fault body) x = refl
+  honest-cause-of (faults.Changed first other) x = refl
+  honest-cause-of (faults.Budget n) x = tt
+  honest-cause-of faults.Sink x = tt
+  honest-cause-of faults.OutOfMemory x = tt

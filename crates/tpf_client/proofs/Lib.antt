@@ -13,6 +13,7 @@ pub mod Most
 pub mod Known
 pub mod Fewest
 pub mod Answering
+pub mod Few
 pub mod Onward
 pub mod Honesty
 pub mod Truth

@@ -19,6 +19,7 @@ use Rattle.tpf_client.specs.Turns.{asked_in}
 use Rattle.tpf_client.specs.Honest.{Laws, IsHonestWire}
 use Rattle.tpf_client.specs.Requests.{TrafficLaws, addresses_of}
 use Rattle.tpf_client.specs.Plans.{CountsRises, PacesRequests, OverrunsPlan, IsLivelyCause}
+use Rattle.tpf_client.specs.Acts.{IsLivelyCauseOf}
 use Rattle.tpf_client.proofs.Endings.{ending, same-bounds}
 use Rattle.tpf_client.proofs.Known.{Exit, exit-of}
 use Rattle.tpf_client.proofs.Planned.{PlannedRun, ExplainedRun, WholeRun, least-started, few-asked, all-counted}
@@ -71,6 +72,10 @@ module _ (laws : Laws) (traffic : TrafficLaws) (allows : List ℕ → ℕ → Li
           dials = more-than now.dials since.dials x.run.pool.started (most + i.rose.failures) out.dials few;
           given = more-than now.given since.given x.run.pool.started (most + i.rose.failures) out.given few;
         }
+
+    pub counts-version : (x : PlannedRun allows history config options since now start q) → (counts-so x).version ≡ x.version
+    unfolding counts-so
+    counts-version x = refl
 
     exactly : (n m r : ℕ) → m ≤ n → n ≤ m + r → r ≡ 0 → n ≡ m
     exactly n m r l h z = omega (arith, l, h, z)
@@ -133,3 +138,16 @@ module _ (laws : Laws) (traffic : TrafficLaws) (allows : List ℕ → ℕ → Li
     lively-cause (faults.Budget n) x = overruns n x
     lively-cause faults.Sink x = tt
     lively-cause faults.OutOfMemory x = tt
+
+    -- it is said of the version of the run
+    pub lively-cause-of : (fault : ClientFault) (x : Run fault) → IsLivelyCauseOf history config options q start since now x.planned.version fault (lively-cause fault x)
+    unfolding lively-cause overruns
+    lively-cause-of faults.Exchange x = tt
+    lively-cause-of faults.Stalled x = tt
+    lively-cause-of (faults.Cut received) x = tt
+    lively-cause-of (faults.Reply fault received) x = tt
+    lively-cause-of (faults.Page fault body) x = tt
+    lively-cause-of (faults.Changed first other) x = tt
+    lively-cause-of (faults.Budget n) x = refl
+    lively-cause-of faults.Sink x = tt
+    lively-cause-of faults.OutOfMemory x = tt

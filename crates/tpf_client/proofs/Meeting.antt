@@ -1,19 +1,19 @@
 -- An evaluation and its pool, as asks are put and replies come.
-use Rattle.std.proofs.Common.{ℕ, ◌≡◌, ◌≢◌, ◌+◌, ◌≤◌, ◌<◌, true, false, None, List, [], ◌∷◌, map, refl, sym, ap, subst, ◌∙◌, arith, ⊎_elim}
+use Rattle.std.proofs.Common.{ℕ, suc, ◌≡◌, ◌≢◌, ◌+◌, ◌≤◌, ◌<◌, true, false, None, List, [], ◌∷◌, map, length, refl, sym, ap, subst, ◌∙◌, arith, ⊎_elim}
 use Rattle.std.specs.List.{All, AllByRecursion, Contains, sum_by}
 use Rattle.std.specs.List.Sorted.{IsPermutation}
 use Rattle.std.proofs.lemmas.Bool.{cases_eq}
 use Rattle.std.proofs.lemmas.Bool.Decides.{nat_tests}
 use Rattle.std.proofs.lemmas.List.Elements.{All-cons, All-head, All-tail, recursion_from_All}
 use Rattle.std.proofs.lemmas.List.Sums.{sum_by-cons}
-use Rattle.std.proofs.lemmas.List.Sorted.{sum_by-IsPermutation, IsPermutation-sym, All-permutation, Contains-permutation}
+use Rattle.std.proofs.lemmas.List.Sorted.{sum_by-IsPermutation, length_permutation, IsPermutation-refl, IsPermutation-sym, IsPermutation-trans, IsPermutation-cons, IsPermutation-middle, All-permutation, Contains-permutation}
 use Rattle.list_laws.proofs.Members.{at_head, in_tail, head_or_tail, none_in, Contains-map}
 use Rattle.tpf_base.specs.Addresses.{Address}
 use Rattle.request_pool.specs.Pools.{Pooled, Ask, held}
-use Rattle.join_core.specs.Evaluations.{Account, Standing, Terms, HasHome, NumbersAsk, EndsNumber, HandsOver, EndsTicket, EndsInQuiet}
+use Rattle.join_core.specs.Evaluations.{Account, Standing, HasHome, NumbersAsk, EndsNumber, HandsOver, EndsTicket, EndsInQuiet}
 use Rattle.tpf_client.specs.Traffic.{is_under}
 use Rattle.tpf_client.specs.Asking.{PutsOne}
-use Rattle.tpf_client.specs.Turns.{Meets, IsOut, is_number, is_pair, pair_of}
+use Rattle.tpf_client.specs.Turns.{Limits, most_waiting, Meets, IsOut, is_number, is_pair, pair_of}
 use Rattle.tpf_client.proofs.Distinct.{all-apart, under, fresh-distinct, distinct-permuted, rest-distinct, one-ask, put-held}
 
 -- ---- numbers of tickets
@@ -49,31 +49,66 @@ none-under-all : (asks : List Ask) → ((t : ℕ) → sum_by (is_under t) asks �
 none-under-all [] h = refl
 none-under-all (a ∷ asks) h = absurd (let c = sum_by-cons (is_under a.ticket) a asks in let u = under a.ticket a refl in let z = h a.ticket in omega arith)
 
-module _ (terms : Terms) (K : Type 0) (s : Standing) (pool : Pooled) where
-  pub meets-fresh : (ticket : ℕ) → Meets terms K s pool → All (λ t. t < s.given) s.out → ticket ≡ s.given → AllByRecursion (λ a. a.ticket ≢ ticket) (held pool)
+taken-out : (t : ℕ) (out : List ℕ) → Contains out t → (rest : List ℕ) × IsPermutation out (t ∷ rest)
+taken-out t [] c = absurd (none_in t c)
+taken-out t (u ∷ out) c =
+    ⊎_elim (λ (e : u ≡ t). (out, subst (λ (x : ℕ). IsPermutation (u ∷ out) (x ∷ out)) e (IsPermutation-refl (u ∷ out))))
+    (λ (m : Contains out t). let r = taken-out t out m in (u ∷ r.0, IsPermutation-trans (u ∷ out) (u ∷ t ∷ r.0) (t ∷ u ∷ r.0) (IsPermutation-cons u out (t ∷ r.0) r.1) (IsPermutation-middle (u ∷ []) t r.0))) (head_or_tail u t out c)
+
+same-rest : (x y z u v w : ℕ) → x ≡ y + z → u ≡ v → u ≡ y + w → x ≡ v → z ≡ w
+same-rest x y z u v w e f g h = omega (arith, e, f, g, h)
+
+-- as many asks as tickets
+same-many : (asks : List Ask) (out : List ℕ) → ((t : ℕ) → sum_by (is_under t) asks ≡ sum_by (is_number t) out) → length asks ≡ length out
+same-many [] out h = sym (ap (λ (l : List ℕ). length l) (empty-out out (λ t. sym (h t))))
+same-many (a ∷ asks) out h =
+    let one = under a.ticket a refl in
+    let here = sum_by-cons (is_under a.ticket) a asks in
+    let many = h a.ticket in
+    let r = taken-out a.ticket out (number-in a.ticket out (omega (arith, one, here, many))) in
+    let more = same-many asks r.0 (λ t. same-rest (sum_by (is_under t) (a ∷ asks)) (is_under t a) (sum_by (is_under t) asks) (sum_by (is_number t) (a.ticket ∷ r.0)) (sum_by (is_number t) out) (sum_by (is_number t) r.0)
+    (sum_by-cons (is_under t) a asks) (sum_by-IsPermutation (is_number t) out (a.ticket ∷ r.0) r.1) (sum_by-cons (is_number t) a.ticket r.0) (h t)) in
+    let whole : length (a.ticket ∷ r.0) ≡ length out = length_permutation out (a.ticket ∷ r.0) r.1 in
+    let size : length (a.ticket ∷ r.0) ≡ suc (length r.0) = refl in
+    let first : length (a ∷ asks) ≡ suc (length asks) = refl in
+    omega (arith, more, whole, size, first)
+
+no-more : (n m most : ℕ) → n ≡ m → m ≤ most → n ≤ most
+no-more n m most e l = omega (arith, e, l)
+
+one-less : (n m most : ℕ) → suc n ≡ m → m ≤ most → n ≤ most
+one-less n m most e l = omega (arith, e, l)
+
+module _ (limits : Limits) (K : Type 0) (s : Standing) (pool : Pooled) where
+  pub meets-fresh : (ticket : ℕ) → Meets limits K s pool → All (λ t. t < s.given) s.out → ticket ≡ s.given → AllByRecursion (λ a. a.ticket ≢ ticket) (held pool)
   meets-fresh ticket m below e =
       subst (λ (t : ℕ). AllByRecursion (λ a. a.ticket ≢ t) (held pool)) (sym e)
       (all-apart s.given (held pool) (m.tickets s.given ∙ none-number s.given s.out (recursion_from_All (λ t. t < s.given) s.out below)))
 
-  pub meets-put : (K' : Type 0) (s' : Standing) (pool' : Pooled) (ask : Ask) → Meets terms K s pool → PutsOne ask pool pool' → NumbersAsk s s' ask.ticket → HasHome terms.homes ask.address → K' → Meets terms K' s' pool'
-  meets-put K' s' pool' ask m p n home k = record {
-    kept = k;
-    homes = All-permutation (λ a. HasHome terms.homes a.address) (ask ∷ held pool) (held pool') (IsPermutation-sym _ _ (put-held ask pool pool' p.puts)) (All-cons (λ a. HasHome terms.homes a.address) ask (held pool) home m.homes);
-    tickets = λ t.
-        let a = sum_by-IsPermutation (is_under t) _ _ (put-held ask pool pool' p.puts) in
-        let b = sum_by-cons (is_under t) ask (held pool) in
-        let c = sum_by-IsPermutation (is_number t) _ _ n.out in
-        let d = sum_by-cons (is_number t) ask.ticket s.out in
-        let e = m.tickets t in
-        sym a ∙ b ∙ ap (λ (x : ℕ). is_under t ask + x) e ∙ sym d ∙ c;
-    distinct = p.distinct (p.no_fault ∙ m.no_fault);
-    no_fault = p.no_fault ∙ m.no_fault;
-  }
+  put-tickets : (s' : Standing) (pool' : Pooled) (ask : Ask) → Meets limits K s pool → PutsOne ask pool pool' → NumbersAsk s s' ask.ticket → (t : ℕ) → sum_by (is_under t) (held pool') ≡ sum_by (is_number t) s'.out
+  put-tickets s' pool' ask m p n t =
+      let a = sum_by-IsPermutation (is_under t) _ _ (put-held ask pool pool' p.puts) in
+      let b = sum_by-cons (is_under t) ask (held pool) in
+      let c = sum_by-IsPermutation (is_number t) _ _ n.out in
+      let d = sum_by-cons (is_number t) ask.ticket s.out in
+      let e = m.tickets t in
+      sym a ∙ b ∙ ap (λ (x : ℕ). is_under t ask + x) e ∙ sym d ∙ c
 
-  pub meets-came : (K' : Type 0) (s' : Standing) (pool' : Pooled) (ask : Ask) → Meets terms K s pool → IsPermutation (held pool) (ask ∷ held pool') → EndsNumber s s' ask.ticket → pool'.fault ≡ None → K' → Meets terms K' s' pool'
+  pub meets-put : (K' : Type 0) (s' : Standing) (pool' : Pooled) (ask : Ask) → Meets limits K s pool → PutsOne ask pool pool' → NumbersAsk s s' ask.ticket → HasHome limits.terms.homes ask.address → K' → length s'.out ≤ most_waiting limits.sizes → Meets limits K' s' pool'
+  meets-put K' s' pool' ask m p n home k few =
+      record {
+        kept = k;
+        homes = All-permutation (λ a. HasHome limits.terms.homes a.address) (ask ∷ held pool) (held pool') (IsPermutation-sym _ _ (put-held ask pool pool' p.puts)) (All-cons (λ a. HasHome limits.terms.homes a.address) ask (held pool) home m.homes);
+        tickets = put-tickets s' pool' ask m p n;
+        distinct = p.distinct (p.no_fault ∙ m.no_fault);
+        few = no-more (length (held pool')) (length s'.out) (most_waiting limits.sizes) (same-many (held pool') s'.out (put-tickets s' pool' ask m p n)) few;
+        no_fault = p.no_fault ∙ m.no_fault;
+      }
+
+  pub meets-came : (K' : Type 0) (s' : Standing) (pool' : Pooled) (ask : Ask) → Meets limits K s pool → IsPermutation (held pool) (ask ∷ held pool') → EndsNumber s s' ask.ticket → pool'.fault ≡ None → K' → Meets limits K' s' pool'
   meets-came K' s' pool' ask m others n f k = record {
     kept = k;
-    homes = All-tail (λ a. HasHome terms.homes a.address) ask (held pool') (All-permutation (λ a. HasHome terms.homes a.address) (held pool) (ask ∷ held pool') others m.homes);
+    homes = All-tail (λ a. HasHome limits.terms.homes a.address) ask (held pool') (All-permutation (λ a. HasHome limits.terms.homes a.address) (held pool) (ask ∷ held pool') others m.homes);
     tickets = λ t.
         let a = sum_by-IsPermutation (is_under t) _ _ others in
         let b = sum_by-cons (is_under t) ask (held pool') in
@@ -83,14 +118,15 @@ module _ (terms : Terms) (K : Type 0) (s : Standing) (pool : Pooled) where
         let g : is_under t ask + sum_by (is_under t) (held pool') ≡ is_under t ask + sum_by (is_number t) s'.out = sym b ∙ a ∙ e ∙ sym c ∙ d in
         omega arith;
     distinct = rest-distinct ask (held pool') (distinct-permuted (held pool) (ask ∷ held pool') others m.distinct);
+    few = one-less (length (held pool')) (length (held pool)) (most_waiting limits.sizes) (length_permutation (held pool) (ask ∷ held pool') others) m.few;
     no_fault = f;
   }
 
-  pub meets-home : (pool' : Pooled) (ask : Ask) → Meets terms K s pool → IsPermutation (held pool) (ask ∷ held pool') → HasHome terms.homes ask.address
-  meets-home pool' ask m others = All-head (λ a. HasHome terms.homes a.address) ask (held pool') (All-permutation (λ a. HasHome terms.homes a.address) (held pool) (ask ∷ held pool') others m.homes)
+  pub meets-home : (pool' : Pooled) (ask : Ask) → Meets limits K s pool → IsPermutation (held pool) (ask ∷ held pool') → HasHome limits.terms.homes ask.address
+  meets-home pool' ask m others = All-head (λ a. HasHome limits.terms.homes a.address) ask (held pool') (All-permutation (λ a. HasHome limits.terms.homes a.address) (held pool) (ask ∷ held pool') others m.homes)
 
   -- where the evaluation is quiet and not done, an ask is held
-  pub meets-some : Meets terms K s pool → EndsInQuiet s → s.waiting ≡ 0 → s.done ≡ false → held pool ≢ []
+  pub meets-some : Meets limits K s pool → EndsInQuiet s → s.waiting ≡ 0 → s.done ≡ false → held pool ≢ []
   meets-some m quiet w d e =
       let none : s.out ≡ [] = empty-out s.out (λ t. sym (m.tickets t) ∙ ap (λ (l : List Ask). sum_by (is_under t) l) e) in
       let done : s.done ≡ true = quiet none w in
@@ -98,10 +134,10 @@ module _ (terms : Terms) (K : Type 0) (s : Standing) (pool : Pooled) where
       cc
 
   -- where no ticket is out, no ask is held
-  pub quiet-holds-none : Meets terms K s pool → s.out ≡ [] → held pool ≡ []
+  pub quiet-holds-none : Meets limits K s pool → s.out ≡ [] → held pool ≡ []
   quiet-holds-none m e = none-under-all (held pool) (λ t. m.tickets t ∙ ap (λ (l : List ℕ). sum_by (is_number t) l) e)
 
-  pub meets-out : (pool' : Pooled) (ask : Ask) → Meets terms K s pool → IsPermutation (held pool) (ask ∷ held pool') → Contains s.out ask.ticket
+  pub meets-out : (pool' : Pooled) (ask : Ask) → Meets limits K s pool → IsPermutation (held pool) (ask ∷ held pool') → Contains s.out ask.ticket
   meets-out pool' ask m others =
       let a = sum_by-IsPermutation (is_under ask.ticket) _ _ others in
       let b = sum_by-cons (is_under ask.ticket) ask (held pool') in

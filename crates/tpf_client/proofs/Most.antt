@@ -88,7 +88,7 @@ module _ (k most : ℕ) where
   settle_most : (o : Option ℕ) (address : Address) (p q : Pooled) (a b : WireState) → Settles o address p q a b → Most k most p → Most k most q
   settle_most o address p q a b (NoLink e f g) h = most_as p q f h
   settle_most o address p q a b (Kept i e room f g) h = most_as _ q f (record { is = h.is; waiting = h.waiting; polled = h.polled; due = h.due; few = h.few })
-  settle_most o address p q a b (Shut i e f c) h = most_as p q f h
+  settle_most o address p q a b (Shut i e full f c) h = most_as p q f h
 
   flight_most : (result : Result Polled PoolFault) (f : Flight) (p q : Pooled) (a b : WireState) → Out k most f p → FlightTo result f p q a b → Most k most q
   flight_most (Ok polls.Pending) f p q a b h t =

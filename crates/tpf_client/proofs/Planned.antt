@@ -1,5 +1,5 @@
 -- The run of a call, and what it asked for: the start, and a part of the plan over one of the versions.
-use Rattle.std.proofs.Common.{ℕ, ◌≡◌, ◌≤◌, ◌<◌, ◌^◌, ◌++◌, List, [], ◌∷◌, map, length, Option, Some, None, refl, sym, ap, subst, ◌∙◌, inl, inr, arith, append-nil}
+use Rattle.std.proofs.Common.{ℕ, ◌≡◌, ◌≤◌, ◌<◌, ◌^◌, ◌++◌, Bool, true, if◌then◌else◌, List, [], ◌∷◌, map, length, Option, Some, None, refl, sym, ap, subst, ◌∙◌, inl, inr, arith, append-nil}
 use Rattle.std.specs.Prelude.{◌⊎◌}
 use Rattle.std.specs.List.{AllByRecursion, Contains}
 use Rattle.std.specs.List.Sorted.{IsPermutation}
@@ -27,12 +27,12 @@ use Rattle.tpf_client.specs.Turns.{AsksAt, asked_in, address_of}
 use Rattle.tpf_client.specs.Starts.{start_ask}
 use Rattle.tpf_client.specs.Calls.{Returns, WritesSome, Before, Behind, AtEnd, RunsPool, no_names_bound}
 use Rattle.tpf_client.specs.Honest.{Laws, IsHonestWire, IsVersionOf}
-use Rattle.tpf_client.specs.Requests.{TrafficLaws, addresses_of}
+use Rattle.tpf_client.specs.Requests.{TrafficLaws, is_served, addresses_of}
 use Rattle.tpf_client.proofs.Accounting.{asked-append}
 use Rattle.tpf_client.proofs.Homes.{start-alone}
 use Rattle.tpf_client.proofs.Going.{explains-later}
 use Rattle.tpf_client.proofs.Fewest.{fewest}
-use Rattle.tpf_client.proofs.Headline.{world-of, first-version}
+use Rattle.tpf_client.proofs.Headline.{start-is-served, world-of, first-version}
 use Rattle.tpf_client.proofs.Known.{begun}
 
 -- what holds of all holds of each
@@ -70,8 +70,15 @@ module _ (traffic : TrafficLaws) (allows : List ℕ → ℕ → List ℕ → Lis
 -- ---- over an honest wire
 
 module _ (history : List (List Triple)) (config : Config) (q : QueryData) (start : Address) where
+  abbrev whole-at : ℕ → List Address
+  whole-at version = plan (server_world (version_of history version) config) q.patterns (no_names_bound q)
+
+  -- behind the start, where that is served
   abbrev plan-at : ℕ → List Address
-  plan-at version = plan (server_world (version_of history version) config) q.patterns (no_names_bound q)
+  plan-at version = if is_served history config start version then whole-at version else []
+
+  served-plan : (version : ℕ) → is_served history config start version ≡ true → whole-at version ≡ plan-at version
+  served-plan version e = sym (ap (λ (b : Bool). if b then whole-at version else []) e)
 
   -- the asks are for the start and a part of the plan of this version
   pub record OfPlan (asked : List Ask) (version : ℕ) : Type 0 where
@@ -116,8 +123,9 @@ module _ (history : List (List Triple)) (config : Config) (q : QueryData) (start
   }
 
   -- the start, and these behind it
-  behind-plan : (first later : List Event) (version : ℕ) (rest : List Address) → IsVersionOf history version → asked_in first ≡ start_ask start ∷ [] → IsPermutation (plan-at version) (map address_of (asked_in later) ++ rest) → OfPlan (asked_in (first ++ later)) version
-  behind-plan first later version rest v e p =
+  behind-plan : (first later : List Event) (version : ℕ) (rest : List Address) → IsVersionOf history version → is_served history config start version ≡ true → asked_in first ≡ start_ask start ∷ [] → IsPermutation (whole-at version) (map address_of (asked_in later) ++ rest) → OfPlan (asked_in (first ++ later)) version
+  behind-plan first later version rest v s e whole =
+      let p : IsPermutation (plan-at version) (map address_of (asked_in later) ++ rest) = subst (λ (l : List Address). IsPermutation l (map address_of (asked_in later) ++ rest)) (served-plan version s) whole in
       let asks : asked_in (first ++ later) ≡ start_ask start ∷ asked_in later = asked-append first later ∙ ap (λ (l : List Ask). l ++ asked_in later) e in
       record {
         is_version = v;
@@ -125,9 +133,9 @@ module _ (history : List (List Triple)) (config : Config) (q : QueryData) (start
         plan_is = subst (λ (l : List Ask). IsPermutation (start ∷ plan-at version) (map address_of l ++ rest)) (sym asks) (IsPermutation-cons start (plan-at version) (map address_of (asked_in later) ++ rest) p);
       }
 
-  whole-plan : (first later : List Event) (version : ℕ) → IsVersionOf history version → asked_in first ≡ start_ask start ∷ [] → IsPermutation (plan-at version) (map address_of (asked_in later)) → OfPlan (asked_in (first ++ later)) version
-  whole-plan first later version v e p =
-      behind-plan first later version [] v e (subst (λ (l : List Address). IsPermutation (plan-at version) l) (sym (append-nil (map address_of (asked_in later)))) p)
+  whole-plan : (first later : List Event) (version : ℕ) → IsVersionOf history version → is_served history config start version ≡ true → asked_in first ≡ start_ask start ∷ [] → IsPermutation (whole-at version) (map address_of (asked_in later)) → OfPlan (asked_in (first ++ later)) version
+  whole-plan first later version v s e p =
+      behind-plan first later version [] v s e (subst (λ (l : List Address). IsPermutation (whole-at version) l) (sym (append-nil (map address_of (asked_in later)))) p)
 
 -- ---- runs over an honest wire
 
@@ -158,8 +166,9 @@ module _ (laws : Laws) (allows : List ℕ → ℕ → List ℕ → List ℕ → 
   returns-whole report rows r =
       let v = world-of laws allows history config options since now honest lawful limit start r.first r.later r.pool r.runs r.reads in
       let g = r.gives (server_world (version_of history v.0) config) v.3 in
+      let s = start-is-served laws allows history config options since now honest lawful limit start r.first r.later r.pool v.0 r.runs r.reads v.2 in
       record {
-        planned = record { run = returns-run allows options since now start q report rows r; version = v.0; of_plan = whole-plan history config q start r.first r.later v.0 v.1 r.reads.asked g.plan_is };
+        planned = record { run = returns-run allows options since now start q report rows r; version = v.0; of_plan = whole-plan history config q start r.first r.later v.0 v.1 s r.reads.asked g.plan_is };
         none_left = refl;
         none_held = r.none_held;
         no_fault = r.no_fault;
@@ -182,22 +191,24 @@ module _ (laws : Laws) (allows : List ℕ → ℕ → List ℕ → List ℕ → 
   some-explained fault t u (Behind b) =
       let v = world-of laws allows history config options since now honest lawful limit start b.first b.later b.pool b.runs b.reads in
       let g = b.gives (server_world (version_of history v.0) config) v.3 in
+      let s = start-is-served laws allows history config options since now honest lawful limit start b.first b.later b.pool v.0 b.runs b.reads v.2 in
       record {
         planned = record {
           run = record { events = b.first ++ b.later; pool = b.pool; runs = b.runs; asks = b.asks };
           version = v.0;
-          of_plan = behind-plan history config q start b.first b.later v.0 g.rest v.1 b.reads.asked g.plan_is;
+          of_plan = behind-plan history config q start b.first b.later v.0 g.rest v.1 s b.reads.asked g.plan_is;
         };
         explains = told-by b.reads.page.version v.0 fault b.first b.later v.2 b.explains;
       }
   some-explained fault t u (AtEnd b) =
       let v = world-of laws allows history config options since now honest lawful limit start b.first b.later b.pool b.runs b.reads in
       let g = b.gives (server_world (version_of history v.0) config) v.3 in
+      let s = start-is-served laws allows history config options since now honest lawful limit start b.first b.later b.pool v.0 b.runs b.reads v.2 in
       record {
         planned = record {
           run = record { events = b.first ++ b.later; pool = b.pool; runs = b.runs; asks = b.asks };
           version = v.0;
-          of_plan = whole-plan history config q start b.first b.later v.0 v.1 b.reads.asked g.plan_is;
+          of_plan = whole-plan history config q start b.first b.later v.0 v.1 s b.reads.asked g.plan_is;
         };
         explains = told-by b.reads.page.version v.0 fault b.first b.later v.2 b.explains;
       }

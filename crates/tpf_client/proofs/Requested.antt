@@ -35,7 +35,7 @@ count-cons test x xs = sum_by-cons (λ (y : Address). cond (test y) 1 0) x xs
 count-append : (test : Address → Bool) (xs ys : List Address) → count_by test (xs ++ ys) ≡ count_by test xs + count_by test ys
 count-append test xs ys = sum_by-append (λ (y : Address). cond (test y) 1 0) xs ys
 
-count-any : (xs : List Address) → count_by any xs ≡ length xs
+pub count-any : (xs : List Address) → count_by any xs ≡ length xs
 count-any [] = refl
 count-any (x ∷ xs) = let a = count-cons any x xs in let b = count-any xs in let c : length (x ∷ xs) ≡ suc (length xs) = refl in omega (arith, a, b, c)
 
@@ -145,7 +145,7 @@ module _ (laws : Laws) (traffic : TrafficLaws) (allows : List ℕ → ℕ → Li
       (traffic.empty_requested options.links options.retries options.budget options.max_body since) run.runs.travels in
       traffic.closing_requested (map address_of (asked_in run.events)) since run.pool (shut run.pool) run.runs.between now i refl run.runs.closes
 
-  answered-so : (run : RunOf allows options start since now) → run.pool.fault ≡ None → held run.pool ≡ [] → AnsweredSince (map address_of (asked_in run.events)) since (shut run.pool) now
+  pub answered-so : (run : RunOf allows options start since now) → run.pool.fault ≡ None → held run.pool ≡ [] → AnsweredSince (map address_of (asked_in run.events)) since (shut run.pool) now
   answered-so run none empty =
       let i = with-asks allows (begun options) IsAt WereAnswered answered-kept run.events (begun options) run.pool since run.runs.between (begun-between laws traffic start options allows since lawful IsAt) run.asks
       (λ e. traffic.empty_answered options.links options.retries options.budget options.max_body since) run.runs.travels in
@@ -194,6 +194,10 @@ module _ (laws : Laws) (traffic : TrafficLaws) (allows : List ℕ → ℕ → Li
     requests-plan x =
         let h = requested-so x.run in
         record { version = x.version; is_version = x.of_plan.is_version; requests = call-requests x h; rises = λ alive. by-rises x h alive }
+
+    pub requests-version : (x : PlannedRun allows history config options since now start q) → (requests-plan x).version ≡ x.version
+    unfolding requests-plan
+    requests-version x = refl
 
     at-most : (all most n : ℕ) → all ≤ most + n → n ≡ 0 → all ≤ most
     at-most all most n h z = omega (arith, h, z)

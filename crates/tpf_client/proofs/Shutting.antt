@@ -42,14 +42,19 @@ pub on-ok-two : {A B : Type 0} (r : Result A B) (P Q S : Type 0) → OnOk r P �
 on-ok-two (Ok x) P Q S p q f = f p q
 on-ok-two (Err e) P Q S p q f = tt
 
-pub if-err-from : {A B : Type 0} (r : Result A B) (P Q : B → Type 0) → IfErr r P → ((x : B) → P x → Q x) → IfErr r Q
+unfoldable pub if-err-from : {A B : Type 0} (r : Result A B) (P Q : B → Type 0) → IfErr r P → ((x : B) → P x → Q x) → IfErr r Q
 if-err-from (Ok x) P Q p f = tt
 if-err-from (Err e) P Q p f = f e p
 
 -- what holds whatever the result is
-pub either-way : {A B : Type 0} (r : Result A B) (P : A → Type 0) (Q : B → Type 0) (S : Type 0) → IfOk r P → IfErr r Q → ((x : A) → P x → S) → ((e : B) → Q e → S) → S
+unfoldable pub either-way : {A B : Type 0} (r : Result A B) (P : A → Type 0) (Q : B → Type 0) (S : Type 0) → IfOk r P → IfErr r Q → ((x : A) → P x → S) → ((e : B) → Q e → S) → S
 either-way (Ok x) P Q S p q f g = f x p
 either-way (Err e) P Q S p q f g = g e q
+
+-- the same, where what is answered does not matter
+pub either-on : {A B : Type 0} (r : Result A B) (P : Type 0) (Q : B → Type 0) (S : Type 0) → OnOk r P → IfErr r Q → (P → S) → ((e : B) → Q e → S) → S
+either-on (Ok x) P Q S p q f g = f p
+either-on (Err e) P Q S p q f g = g e q
 
 module _ (ran ran' : List Event → Pooled → Type 0) (goes : (events : List Event) (pool : Pooled) → ran events pool → ran' events pool) where
   pub returns-so : (q : QueryData) (start : Address) (report : Report) (rows : List Places) → Returns ran q start report rows → Returns ran' q start report rows

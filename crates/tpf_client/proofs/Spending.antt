@@ -1,5 +1,5 @@
--- What was spent where a call ended for its budget.
-use Rattle.std.proofs.Common.{ℕ, ◌≡◌, ◌≢◌, ◌≤◌, ◌<◌, ◌+◌, ◌-◌, ◌*◌, List, [], ◌∷◌, map, length, Option, None, refl, ap, subst, arith}
+-- What was spent where a call ended for its budget, and where it gave its rows.
+use Rattle.std.proofs.Common.{ℕ, ◌≡◌, ◌≢◌, ◌≤◌, ◌<◌, ◌+◌, ◌-◌, ◌*◌, List, [], ◌∷◌, map, length, count_by, Option, None, refl, sym, ap, subst, ◌∙◌, arith}
 use Rattle.std.proofs.Math.Nat.{mul-le-mul_left}
 use Rattle.std.specs.Prelude.{Result, Ok, Err}
 use Rattle.std.proofs.lemmas.List.{length-map}
@@ -10,6 +10,7 @@ use Rattle.tpf_base.specs.Links.{WireState}
 use Rattle.template_fill.specs.Authorities.{ShareAuthority}
 use Rattle.template_fill.specs.Metadata.{Config}
 use Rattle.bgp_core.specs.Queries.{QueryData}
+use Rattle.bgp_core.specs.Solutions.{Places}
 use Rattle.request_pool.specs.declared.fault.PoolFault.{PoolFault}
 use Rattle.request_pool.specs.declared.fault.PoolFault.TheVariants as pool
 use Rattle.request_pool.specs.declared.fault.Stepped.{Stepped}
@@ -17,23 +18,24 @@ use Rattle.request_pool.specs.Pools.{Pooled, Ask, IsOverBudget, held}
 use Rattle.pool_laws.specs.Spending.{SpentSince, AnsweredMost}
 use Rattle.pool_laws.specs.Requested.{AnsweredSince, TellsRequests, count_answered, any}
 use Rattle.tpf_client.specs.declared.options.Options.{Options}
+use Rattle.tpf_client.specs.declared.options.Report.{Report}
 use Rattle.tpf_client.specs.declared.fault.ClientFault.{ClientFault}
 use Rattle.tpf_client.specs.declared.fault.ClientFault.TheVariants as faults
 use Rattle.tpf_client.specs.Traffic.{Event, Broke, EndsWith, IsLawful, without_fault, Breaks}
 use Rattle.tpf_client.specs.Causes.{Explains}
 use Rattle.tpf_client.specs.Turns.{AsksAt, asked_in, address_of}
-use Rattle.tpf_client.specs.Calls.{WritesSome, RunsPool}
+use Rattle.tpf_client.specs.Calls.{Returns, WritesSome, RunsPool}
 use Rattle.tpf_client.specs.Honest.{Laws}
 use Rattle.tpf_client.specs.Requests.{TrafficLaws, addresses_of, tries_of}
-use Rattle.tpf_client.specs.Failing.{ForBudget, SpendsRequests, SpendsTries, SpendsPlan}
+use Rattle.tpf_client.specs.Failing.{ForBudget, Spends, SpendsRequests, SpendsTries, SpendsPlan}
 use Rattle.tpf_client.proofs.Caused.{CausedRun, some-caused}
 use Rattle.tpf_client.proofs.Homes.{asks-front}
 use Rattle.tpf_client.proofs.Keeping.{IsKeptBy, not-some, by-events, with-asks}
 use Rattle.tpf_client.proofs.Known.{begun, begun-between, knows-so, exit-of}
 use Rattle.tpf_client.proofs.Most.{most_waits}
 use Rattle.tpf_client.proofs.Endings.{ending, same-pool, same-bounds}
-use Rattle.tpf_client.proofs.Planned.{ExplainedRun, few-asked}
-use Rattle.tpf_client.proofs.Requested.{shut, all-answers, WereAnswered, answered-kept}
+use Rattle.tpf_client.proofs.Planned.{RunOf, ExplainedRun, returns-run, few-asked}
+use Rattle.tpf_client.proofs.Requested.{shut, count-any, all-answers, WereAnswered, answered-kept, answered-so}
 
 not-error : (answer : Stepped) → ◌≡◌ {A = Result Stepped PoolFault} (Ok answer) (Err pool.OutOfMemory) → ⊥
 not-error answer e = cc
@@ -147,6 +149,45 @@ module _ (laws : Laws) (traffic : TrafficLaws) (allows : List ℕ → ℕ → Li
       let over : p.budget ≤ p.started = s.over.spent in
       let within = (exit-of laws traffic start options allows since lawful now events p a r budget).within in
       record { events = events; pool = p; runs = r; asks = a; spent = omega (arith, budget, over, within); tries = few-tries events p e r a }
+
+  -- ---- rows
+
+  paid-by : (s h g r k c x : ℕ) → s + h ≤ g + r + k → c ≡ k → c ≤ x → s ≤ g + x + r
+  paid-by s h g r k c x l e m = omega (arith, l, e, m)
+
+  given-less : (n m s : ℕ) → m ≡ n → m - s ≡ n - s
+  given-less n m s e = ap (λ (x : ℕ). x - s) e
+
+  -- where all that was asked was answered
+  run-paid : (run : RunOf allows options start since now) → run.pool.fault ≡ None → held run.pool ≡ [] → Spends options.max_body run.pool.started since now
+  run-paid run none empty =
+      let asked = asked_in run.events in
+      let answered = answered-so laws traffic allows options since now lawful start run none empty in
+      let spent : SpentSince since (length asked) run.pool run.runs.between =
+      by-events allows (begun options) IsAt WasSpent spent-kept run.events (begun options) run.pool since run.runs.between (begun-between laws traffic start options allows since lawful IsAt) run.asks
+      (λ e. traffic.empty_spend options.links options.retries options.budget options.max_body since) run.runs.travels none in
+      let on = answered.requested.requests in
+      let most = traffic.all_answered (map address_of asked) since (shut run.pool) now answered refl any in
+      let size = count-any (map address_of asked) ∙ length-map asked address_of in
+      let given = given-less run.runs.between.given now.given since.given run.runs.closes.given in
+      let few : run.pool.started + (length run.pool.spare + length (held run.pool)) ≤ (now.given - since.given) + spent.rises + length asked = same-given (run.pool.started + (length run.pool.spare + length (held run.pool))) (run.runs.between.given - since.given) (now.given - since.given) spent.rises (length asked) spent.few given in
+      let enough : run.pool.started ≤ (now.given - since.given) + count_answered any on since now + spent.rises =
+      paid-by run.pool.started (length run.pool.spare + length (held run.pool)) (now.given - since.given) spent.rises (length asked) (count_by any (map address_of asked)) (count_answered any on since now) few size most in
+      let sent = all-answers any on since now in
+      record {
+        on = on;
+        told = λ k low high. subst (λ (n : ℕ). TellsRequests n (now.links k) (on k)) (limit-of run.events run.pool run.runs run.asks) (answered.requested.given k low high);
+        rises = spent.rises;
+        rose = rose-same spent.rises since.faults run.runs.between.faults now.faults run.runs.closes.faults spent.rose;
+        answered = enough;
+        sent = omega (arith, enough, sent);
+      }
+    where
+      same-given : (s g n r k : ℕ) → s ≤ g + r + k → n ≡ g → s ≤ n + r + k
+      same-given s g n r k l e = omega (arith, l, e)
+
+  pub rows-paid : (q : QueryData) (report : Report) (rows : List Places) → Returns (RunsPool allows options since now) q start report rows → Spends options.max_body report.requests since now
+  rows-paid q report rows r = subst (λ (n : ℕ). Spends options.max_body n since now) (sym r.requests) (run-paid (returns-run allows options since now start q report rows r) r.no_fault r.none_held)
 
   -- ---- of a call
 

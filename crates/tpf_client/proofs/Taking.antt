@@ -9,7 +9,7 @@ use Rattle.template_fill.specs.Authorities.{ShareAuthority}
 use Rattle.control_reader.specs.Authorities.{KeepsAuthority}
 use Rattle.fragment_page.specs.declared.page.Page.{Page}
 use Rattle.control_reader.specs.Takes.{Takes}
-use Rattle.join_core.specs.Evaluations.{Account, Standing, Terms, HasHome, NextAtHome, StandsAfterAnswer, OwesAfterAnswer}
+use Rattle.join_core.specs.Evaluations.{Account, Standing, HasHome, NextAtHome, StandsAfterAnswer, OwesAfterAnswer}
 use Rattle.join_core.specs.declared.evaluation.Answered.{Answered}
 use Rattle.join_core.specs.declared.evaluation.Answered.TheVariants as answers
 use Rattle.tpf_client.specs.declared.asks.Arrived.{Arrived}
@@ -17,7 +17,7 @@ use Rattle.tpf_client.specs.declared.fault.ClientFault.{ClientFault}
 use Rattle.tpf_client.specs.declared.fault.ClientFault.TheVariants as faults
 use Rattle.tpf_client.specs.Asking.{IsReadFault}
 use Rattle.tpf_client.specs.Causes.{IsTakeFault}
-use Rattle.tpf_client.specs.Turns.{TakesReply}
+use Rattle.tpf_client.specs.Turns.{Limits, TakesReply}
 
 share-then : (a b c : Address) → ShareAuthority a b → ShareAuthority b c → ShareAuthority a c
 share-then a b c p q = record { host = q.host ∙ p.host; port = q.port ∙ p.port }
@@ -50,10 +50,10 @@ take-fault arrived version faults.OutOfMemory e = tt
 pub changed-fault : (arrived : Arrived) (version : Option ℕ) (page : Page) → Takes arrived.reply.body arrived.address page → version ≢ page.version → IsTakeFault arrived version (faults.Changed version page.version)
 changed-fault arrived version page t n = (refl, n, (page, t, refl))
 
-pub takes-page : {Source Eval : Type 0} (suits : Source → Eval → Type 0) (account : Source → Eval → Account) (keeps : Terms → Eval → Type 0) (standing : Eval → Standing) (is_true : Source → Address → Page → Type 0)
+pub takes-page : {Source Eval : Type 0} (suits : Source → Eval → Type 0) (account : Source → Eval → Account) (keeps : Limits → Eval → Type 0) (standing : Eval → Standing) (is_true : Source → Address → Page → Type 0)
     (old new : Eval) (arrived : Arrived) (version : Option ℕ) (page : Page) (a : Answered) → a ≡ answers.Taken → Takes arrived.reply.body arrived.address page → page.version ≡ version → KeepsAuthority arrived.address page
     → StandsAfterAnswer (standing old) (standing new) arrived.ticket a
-    → ((terms : Terms) → keeps terms old → NextAtHome terms.homes page.next → keeps terms new)
+    → ((limits : Limits) → keeps limits old → NextAtHome limits.terms.homes page.next → keeps limits new)
     → ((source : Source) → suits source old → ((address : Address) → Contains (account source old).out (arrived.ticket, address) → is_true source address page) → suits source new)
     → ((source : Source) → suits source old → ((address : Address) → Contains (account source old).out (arrived.ticket, address) → is_true source address page) → OwesAfterAnswer (account source old) (account source new) arrived.ticket a)
     → TakesReply suits account keeps standing is_true old new arrived version
@@ -62,7 +62,7 @@ takes-page suits account keeps standing is_true old new arrived version page a e
   taken = t;
   is_version = v;
   ends = subst (λ (x : Answered). StandsAfterAnswer (standing old) (standing new) arrived.ticket x) e stands;
-  kept = λ terms kept h. k terms kept (next-home terms.homes arrived.address page.next h home.next);
+  kept = λ limits kept h. k limits kept (next-home limits.terms.homes arrived.address page.next h home.next);
   stays = stays;
   owes = λ source h for. subst (λ (x : Answered). OwesAfterAnswer (account source old) (account source new) arrived.ticket x) e (owes source h for);
 }

@@ -1,17 +1,19 @@
 -- The pages of an honest server are true for the world of one of its versions.
-use Rattle.std.proofs.Common.{ℕ, suc, ◌≡◌, ◌==◌, ◌<◌, ◌^◌, List, [], ◌∷◌, length, Option, Some, sym, ap, subst, ◌∙◌, arith}
+use Rattle.std.proofs.Common.{ℕ, suc, ◌≡◌, ◌==◌, ◌<◌, ◌^◌, true, List, [], ◌∷◌, length, Option, Some, sym, ap, subst, ◌∙◌, arith}
 use Rattle.std.specs.List.{AllByRecursion}
 use Rattle.rdf_terms.specs.declared.term.Triple.{Triple}
 use Rattle.rdf_terms.specs.Askable.{AskableAreKept}
 use Rattle.tpf_base.specs.Addresses.{Address, IsAddress}
-use Rattle.tpf_base.specs.Marks.{version_at}
+use Rattle.tpf_base.specs.Marks.{Served, version_at}
 use Rattle.template_fill.specs.HttpAnswer.{Answer}
 use Rattle.template_fill.specs.Authorities.{PagesAreAddresses}
 use Rattle.template_fill.specs.Pages.{page_address}
 use Rattle.template_fill.specs.Metadata.{Config}
 use Rattle.template_fill.specs.Bodies.{version_of, page_body}
 use Rattle.template_fill.specs.Configurations.{IsConfig, IsHistory}
-use Rattle.template_fill.specs.Answered.{PagesAreGiven, AnsweredGivePages, GivesSomePage, GivesPage}
+use Rattle.template_fill.specs.Answers.{answer_to}
+use Rattle.template_fill.specs.Answered.{is_answered, PagesAreGiven, AnsweredGivePages, GivesSomePage, GivesPage}
+use Rattle.http_ends.specs.Requests.{asks}
 use Rattle.fragment_page.specs.declared.page.Page.{Page}
 use Rattle.control_reader.specs.Takes.{Takes}
 use Rattle.control_laws.specs.Law.{NothingElseIsRead, IsReadFrom, IsServerForm}
@@ -70,6 +72,21 @@ module _ (given : PagesAreGiven) (answered : AnsweredGivePages) (only : NothingE
   true-events : (version : ℕ) (events : List Event) → AllByRecursion (IsAnswer history config) events → AreTrue (IsPageAt (server_world (version_of history version) config)) (Some version) events
   true-events version [] a = tt
   true-events version (event ∷ events) a = (true-event version event a.0, true-events version events a.1)
+
+  -- the start is answered over the version of its page, by a server with this form
+  pub record IsServedStart (address : Address) (page : Page) (version : ℕ) : Type 0 where
+    pub is_given : is_answered history (Served version) config address ≡ true
+    pub form : IsServerForm config.base page.form
+
+  pub start-served : (address : Address) (body : List ℕ) (page : Page) (version : ℕ) → IsBodyOf history config address body → Takes body address page → page.version ≡ Some version → IsServedStart address page version
+  start-served address body page version b t told =
+      let r = reads address body page b t in
+      let same : version_at b.mark ≡ version = some-same (version_at b.mark) version (sym r.told ∙ told) in
+      let status : (answer_to history (Served (version_at b.mark)) config (asks address)).status ≡ 200 = sym (ap (λ (a : Answer). a.status) b.served) ∙ b.status in
+      record {
+        is_given = subst (λ (n : ℕ). is_answered history (Served n) config address ≡ true) same (ap (λ (n : ℕ). n == 200) status);
+        form = r.form;
+      }
 
   -- the world of the start page's version
   pub start-world : (address : Address) (body : List ℕ) (page : Page) (events : List Event) → ((version : ℕ) → length (version_of history version) < 2 ^ 64) → IsBodyOf history config address body → Takes body address page → AllByRecursion (IsAnswer history config) events

@@ -1,5 +1,5 @@
 -- The start page, and then the rest of a call.
-use Rattle.std.proofs.Common.{ℕ, ◌≡◌, ◌++◌, List, [], ◌∷◌, Option, refl, sym, subst}
+use Rattle.std.proofs.Common.{ℕ, ◌≡◌, ◌≤◌, ◌+◌, ◌⊎◌, ◌++◌, ◌*◌, max, List, [], ◌∷◌, length, Option, inl, inr, refl, sym, ap, subst, arith}
 use Rattle.std.specs.Prelude.{Result, Ok, Err, IfOk, IfErr}
 use Rattle.std.proofs.lemmas.List.Sorted.{IsPermutation-refl}
 use Rattle.template_fill.specs.declared.form.Form.{Form}
@@ -10,8 +10,9 @@ use Rattle.bgp_core.specs.Queries.{QueryData}
 use Rattle.bgp_core.specs.Solutions.{Places}
 use Rattle.fragment_page.specs.declared.page.Page.{Page}
 use Rattle.result_json.specs.Pieces.{PiecesMakeTheText, RowsGoOn}
-use Rattle.request_pool.specs.Pools.{Pooled}
+use Rattle.request_pool.specs.Pools.{Pooled, Ask, held}
 use Rattle.request_pool.specs.Owned.{SuitsWire}
+use Rattle.tpf_client.specs.declared.options.Options.{Options}
 use Rattle.tpf_client.specs.declared.options.Report.{Report}
 use Rattle.tpf_client.specs.declared.fault.ClientFault.{ClientFault}
 use Rattle.tpf_client.specs.declared.fault.ClientFault.TheVariants as faults
@@ -19,17 +20,18 @@ use Rattle.tpf_client.specs.Traffic.{Event, Travels}
 use Rattle.template_fill.specs.Authorities.{ShareAuthority}
 use Rattle.tpf_client.specs.Causes.{Explains}
 use Rattle.tpf_client.specs.Shown.{ShowsRest, ShowsGiven}
-use Rattle.tpf_client.specs.Turns.{ArePages, AsksAt}
+use Rattle.tpf_client.specs.Turns.{ArePages, AsksAt, asked_in}
 use Rattle.tpf_client.specs.Starts.{HasStart, HasNoStart, start_ask}
 use Rattle.tpf_client.proofs.Homes.{asks-behind}
 use Rattle.tpf_client.proofs.Accounting.{pages-then}
-use Rattle.tpf_client.specs.Calls.{Ran, Returns, ReadsStart, WritesAll, WritesSome, WritesRest, WritesLess, PartOf, WholeOf, GathersRest, Before, Behind, AtEnd, WritesResult, WritesPrefix, JoinsSome, solutions_of, no_names_bound}
+use Rattle.tpf_client.proofs.Few.{few-more, few-asked, few-then}
+use Rattle.tpf_client.specs.Calls.{Ran, RanFew, most_asked, Returns, ReadsStart, WritesAll, WritesSome, WritesRest, WritesLess, PartOf, WholeOf, GathersRest, Before, Behind, AtEnd, WritesResult, WritesPrefix, JoinsSome, solutions_of, no_names_bound}
 use Rattle.tpf_client.proofs.Traveling.{travels-then, travels-allowed, no-events}
 use Rattle.tpf_client.proofs.Texts.{same-written, nothing-written, rows-more}
 
 module _ (allows between-allows : List ℕ → ℕ → List ℕ → List ℕ → Type 0) (same : SameAllowed allows between-allows) (q : QueryData) (start : Address) (page : Page) (old mid new : Pooled) (wire between wire' : WireState) (s : HasStart allows start (start_ask start ∷ []) page old mid wire between) (home : ShareAuthority start page.form.template.start) where
   abbrev reads-of : ReadsStart start s.events
-  reads-of = record { asked = s.asked_are; reply = s.reply; last = s.last; page = page; taken = s.taken }
+  reads-of = record { asked = s.asked_are; reply = s.reply; last = s.last; page = page; taken = s.taken; home = home }
 
   ran-of : (later : List Event) → Travels between-allows later mid new between wire' → SuitsWire new wire' → Ran allows old new wire wire' (s.events ++ later) new
   ran-of later t w = record {
@@ -115,6 +117,53 @@ module _ (allows between-allows : List ℕ → ℕ → List ℕ → List ℕ →
     width = w.joins.width;
     gives = w.joins.gives;
   }
+
+-- ---- how many asks wait
+
+none-many : (p : Pooled) → held p ≡ [] → length (held p) ≡ 0
+none-many p e = let z : length (held p) ≡ length {A = Ask} [] = ap (λ (l : List Ask). length l) e in let y : length {A = Ask} [] ≡ 0 = refl in omega (arith, z, y)
+
+few-of-none : (n most : ℕ) → n ≡ 0 → n ≤ most
+few-of-none n most e = omega (arith, e)
+
+-- nothing happened
+pub nothing-ran : (allows : List ℕ → ℕ → List ℕ → List ℕ → Type 0) (most : ℕ) (p : Pooled) (w : WireState) → held p ≡ [] → SuitsWire p w → RanFew allows most p p w w
+nothing-ran allows most p w e s = record { events = []; travels = no-events allows p w; on_wire = s; few = few-of-none (length (held p)) most (none-many p e) }
+
+-- one ask at most
+few-one : (most waiting asked : ℕ) → waiting ≡ 0 → asked ≤ 1 → waiting + asked ≤ max 1 most
+few-one most waiting asked e l = omega (arith, e, l)
+
+one-many : (asks : List Ask) (ask : Ask) → asks ≡ ask ∷ [] → length asks ≤ 1
+one-many asks ask e = let z : length asks ≡ length (ask ∷ []) = ap (λ (l : List Ask). length l) e in let y : length (ask ∷ []) ≡ 1 = refl in omega (arith, z, y)
+
+some-many : (asks : List Ask) (ask : Ask) → (asks ≡ ask ∷ []) ⊎ (asks ≡ []) → length asks ≤ 1
+some-many asks ask (inl e) = one-many asks ask e
+some-many asks ask (inr e) = let z : length asks ≡ length {A = Ask} [] = ap (λ (l : List Ask). length l) e in let y : length {A = Ask} [] ≡ 0 = refl in omega (arith, z, y)
+
+window-most : (n : ℕ) → n ≤ max 1 n
+window-most n = omega arith
+
+-- the start page, and then the rest
+pub few-behind : (allows later : List ℕ → ℕ → List ℕ → List ℕ → Type 0) (same : SameAllowed allows later) (options : Options) (q : QueryData) (start : Address) (page : Page) (old mid new : Pooled) (wire between wire' : WireState) → held old ≡ []
+    → HasStart allows start (start_ask start ∷ []) page old mid wire between → RanFew later (length q.patterns * options.window) mid new between wire' → RanFew allows (most_asked options q) old new wire wire'
+few-behind allows later same options q start page old mid new wire between wire' e s f = record {
+  events = s.events ++ f.events;
+  travels = travels-then allows s.events f.events old mid new wire between wire' s.travels (travels-allowed allows later f.events mid new between wire' same f.travels);
+  on_wire = f.on_wire;
+  few = few-then allows (most_asked options q) s.events f.events old mid wire between s.travels s.no_fault
+      (few-asked (most_asked options q) (length (held old)) s.events (few-one (length q.patterns * options.window) (length (held old)) (length (asked_in s.events)) (none-many old e) (one-many (asked_in s.events) (start_ask start) s.asked_are)))
+      (few-more (length q.patterns * options.window) (most_asked options q) (length (held mid)) f.events (window-most (length q.patterns * options.window)) f.few);
+}
+
+pub few-none : (allows : List ℕ → ℕ → List ℕ → List ℕ → Type 0) (options : Options) (q : QueryData) (start : Address) (budget : ℕ) (fault : ClientFault) (old new : Pooled) (wire wire' : WireState) → held old ≡ []
+    → HasNoStart allows start (start_ask start ∷ []) budget fault old new wire wire' → RanFew allows (most_asked options q) old new wire wire'
+few-none allows options q start budget fault old new wire wire' e s = record {
+  events = s.events;
+  travels = s.travels;
+  on_wire = s.suits;
+  few = few-asked (most_asked options q) (length (held old)) s.events (few-one (length q.patterns * options.window) (length (held old)) (length (asked_in s.events)) (none-many old e) (some-many (asked_in s.events) (start_ask start) s.asked_are));
+}
 
 pub less-suits : (allows : List ℕ → ℕ → List ℕ → List ℕ → Type 0) (q : QueryData) (page : Page) (budget : ℕ) (fault : ClientFault) (mid new : Pooled) (between wire' : WireState) (t u : Option (List ℕ)) → WritesLess allows q page.form page.version budget fault mid new between wire' t u → SuitsWire new wire'
 less-suits allows q page budget fault mid new between wire' t u (PartOf events rows j text) = j.on_wire

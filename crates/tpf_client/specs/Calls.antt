@@ -1,5 +1,5 @@
 -- What a call promises.
-use Rattle.std.specs.Prelude.{ℕ, ◌≡◌, ◌≢◌, ◌≤◌, ◌⊎◌, ◌++◌, List, [], ◌∷◌, map, length, replicate, Option, None, Bool, true, false}
+use Rattle.std.specs.Prelude.{ℕ, ◌≡◌, ◌≢◌, ◌<◌, ◌≤◌, ◌⊎◌, ◌++◌, ◌*◌, max, List, [], ◌∷◌, map, length, replicate, Option, None, Bool, true, false}
 use Rattle.std.specs.Io.KnownBytes.{Appends}
 use Rattle.std.specs.List.{All, Contains}
 use Rattle.std.specs.List.Sorted.{IsPermutation}
@@ -9,6 +9,7 @@ use Rattle.tpf_base.specs.Causes.{Rose, counted_by}
 use Rattle.tpf_base.specs.Links.{WireState}
 use Rattle.tpf_base.specs.Wrote.{AppendsPrefix}
 use Rattle.template_fill.specs.declared.form.Form.{Form}
+use Rattle.template_fill.specs.Authorities.{ShareAuthority}
 use Rattle.tpf_base.specs.HttpReply as replies
 use Rattle.tpf_base.specs.HttpReply.{reply_of}
 use Rattle.http_wire.specs.Replies.{shown_fault}
@@ -35,7 +36,7 @@ use Rattle.tpf_client.specs.declared.fault.ClientFault.TheVariants as faults
 use Rattle.tpf_client.specs.Traffic.{Event, Came, Travels, EndsWith}
 use Rattle.tpf_client.specs.Causes.{Explains}
 use Rattle.tpf_client.specs.Starts.{start_ask}
-use Rattle.tpf_client.specs.Turns.{AreTrue, ArePages, AsksAt, asked_in, address_of}
+use Rattle.tpf_client.specs.Turns.{AreTrue, ArePages, AsksAt, WaitFew, asked_in, address_of}
 
 -- ---- the text
 
@@ -105,13 +106,14 @@ pub record RunsPool (allows : List ℕ → ℕ → List ℕ → List ℕ → Typ
   pub on_wire : SuitsWire pool between
   pub closes : ClosesSome (held_on pool) (λ k. 0) between now
 
--- the start page came by the first of these events, and nothing else was asked
+-- the start page came by the first of these events, its form has the authority of the start, and nothing else was asked
 pub record ReadsStart (start : Address) (events : List Event) : Type 0 where
   pub asked : asked_in events ≡ start_ask start ∷ []
   pub reply : Reply
   pub last : EndsWith (Came (start_ask start) reply) events
   pub page : Page
   pub taken : Takes reply.body start page
+  pub home : ShareAuthority start page.form.template.start
 
 -- ---- a call on its wire, and the text; `ran` says which events there were, and which pool stood at their end
 
@@ -184,6 +186,24 @@ pub record Ran (allows : List ℕ → ℕ → List ℕ → List ℕ → Type 0) 
   pub travels : Travels allows events old new wire wire'
   pub on_wire : SuitsWire new wire'
 
+-- the events between a pool and its wire, in which no more asks wait at any moment than the most
+pub record RanFew (allows : List ℕ → ℕ → List ℕ → List ℕ → Type 0) (most : ℕ) (old new : Pooled) (wire wire' : WireState) : Type 0 where
+  pub events : List Event
+  pub travels : Travels allows events old new wire wire'
+  pub on_wire : SuitsWire new wire'
+  pub few : WaitFew most (length (held old)) events
+
+-- how many asks of a query may wait for their replies at once: the start, and then for each row that is extended one for each pattern
+abbrev pub most_asked : Options → QueryData → ℕ
+most_asked options q = max 1 (length q.patterns * options.window)
+
+-- The events of a call, in which no more asks wait at any moment.
+pub record AsksFew (allows : List ℕ → ℕ → List ℕ → List ℕ → Type 0) (options : Options) (q : QueryData) (since now : WireState) : Type 0 where
+  pub events : List Event
+  pub pool : Pooled
+  pub runs : RunsPool allows options since now events pool
+  pub few : WaitFew (most_asked options q) 0 events
+
 -- ---- behind a start page
 
 -- All rows were written.
@@ -226,7 +246,7 @@ pub record IsSpent (allows : List ℕ → ℕ → List ℕ → List ℕ → Type
   pub runs : RunsPool allows options since now events pool
   pub spent : options.budget ≤ pool.started
 
--- These bytes were received in reply to the request for an address that was asked in the call, on a link that was not given before it.
+-- These bytes were received in reply to the request for an address that was asked in the call, on a link that was given in it.
 pub record IsReceived (allows : List ℕ → ℕ → List ℕ → List ℕ → Type 0) (options : Options) (since now : WireState) (received : List ℕ) : Type 0 where
   pub events : List Event
   pub pool : Pooled
@@ -235,6 +255,7 @@ pub record IsReceived (allows : List ℕ → ℕ → List ℕ → List ℕ → T
   pub asked : Contains (asked_in events) ask
   pub on : RepliedOn options.max_body ask.address received now
   pub fresh : since.given ≤ on.k
+  pub below : on.k < now.given
 
 -- The link ended, and what was received is no whole reply at its end.
 pub record IsCutShort (allows : List ℕ → ℕ → List ℕ → List ℕ → Type 0) (options : Options) (since now : WireState) (received : List ℕ) : Type 0 where
@@ -249,8 +270,8 @@ pub record IsRefusedReply (allows : List ℕ → ℕ → List ℕ → List ℕ �
   pub is_fault : fault ≡ shown_fault why
   pub bad : reply_of received false options.max_body ≡ replies.Bad why
 
--- This is the body of a whole reply, which was received, and for this reason no page of the address that was asked. Where the reply is whole at its end alone the link ended.
-pub record IsNoPageOf (allows : List ℕ → ℕ → List ℕ → List ℕ → Type 0) (options : Options) (since now : WireState) (fault : PageFault) (body : List ℕ) : Type 0 where
+-- This is the body of a whole reply, which was received. Where the reply is whole at its end alone the link ended.
+pub record IsReplyBody (allows : List ℕ → ℕ → List ℕ → List ℕ → Type 0) (options : Options) (since now : WireState) (body : List ℕ) : Type 0 where
   pub received : List ℕ
   pub is_received : IsReceived allows options since now received
   pub at_end : Bool
@@ -258,16 +279,29 @@ pub record IsNoPageOf (allows : List ℕ → ℕ → List ℕ → List ℕ → T
   pub keeps : Bool
   pub whole : reply_of received at_end options.max_body ≡ replies.Whole body n keeps
   pub ended : at_end ≡ true → Holds (now.links is_received.on.k).ended true
-  pub why : Faults body is_received.ask.address fault
 
--- What each fault shows of the wire and of what came: the faults rose; so many waits followed one another, which is never so over a lively wire; a link was cut; a reply is refused; a body is no page; two versions differ; the budget is spent.
+-- The body of a whole reply is for this reason no page of the address that was asked.
+pub record IsNoPageOf (allows : List ℕ → ℕ → List ℕ → List ℕ → Type 0) (options : Options) (since now : WireState) (fault : PageFault) (body : List ℕ) : Type 0 where
+  pub replied : IsReplyBody allows options since now body
+  pub why : Faults body replied.is_received.ask.address fault
+
+-- The body of a whole reply is a page of the address that was asked, and tells another version than the first.
+pub record IsOtherVersion (allows : List ℕ → ℕ → List ℕ → List ℕ → Type 0) (options : Options) (since now : WireState) (first other : Option ℕ) : Type 0 where
+  pub body : List ℕ
+  pub replied : IsReplyBody allows options since now body
+  pub page : Page
+  pub taken : Takes body replied.is_received.ask.address page
+  pub version : page.version ≡ other
+  pub differs : first ≢ other
+
+-- What each fault shows of the wire and of what came: the faults rose; so many waits followed one another, which is never so over a lively wire; a link was cut; a reply is refused; a body is no page; a page tells another version; the budget is spent.
 abbrev pub IsCause : (List ℕ → ℕ → List ℕ → List ℕ → Type 0) → Options → WireState → WireState → ClientFault → Type 0
 IsCause allows options since now faults.Exchange = Rose since.faults now.faults
 IsCause allows options since now faults.Stalled = (1000 ≤ now.idle) × (since.nature.lively ≡ true → ⊥)
 IsCause allows options since now (faults.Cut received) = IsCutShort allows options since now received
 IsCause allows options since now (faults.Reply fault received) = IsRefusedReply allows options since now fault received
 IsCause allows options since now (faults.Page fault body) = IsNoPageOf allows options since now fault body
-IsCause allows options since now (faults.Changed first other) = first ≢ other
+IsCause allows options since now (faults.Changed first other) = IsOtherVersion allows options since now first other
 IsCause allows options since now (faults.Budget n) = (n ≡ options.budget) × IsSpent allows options since now
 IsCause allows options since now faults.Sink = Unit {0}
 IsCause allows options since now faults.OutOfMemory = Unit {0}

@@ -1,4 +1,4 @@
--- Why a call failed too often or spent its budget, whatever the other ends of its wire answer.
+-- Why a call failed too often, and what its requests were spent for, whatever the other ends of its wire answer.
 use Rattle.std.specs.Prelude.{ℕ, ◌≡◌, ◌≤◌, ◌<◌, ◌+◌, ◌-◌, ◌*◌, List, length}
 use Rattle.rdf_terms.specs.declared.term.Triple.{Triple}
 use Rattle.tpf_base.specs.Addresses.{Address}
@@ -46,14 +46,18 @@ ForBudget holds (faults.Budget n) = holds
 ForBudget holds faults.Sink = Unit {0}
 ForBudget holds faults.OutOfMemory = Unit {0}
 
--- The requests on the links that were given in the call, where the wire tells them. These links, the whole requests that were answered on them, and the rise of the wire's faults are together at least the budget; and so with the whole requests that were sent.
-pub record SpendsRequests (options : Options) (since now : WireState) : Type 0 where
+-- The requests on the links that were given in the call, where the wire tells them. These links, the whole requests that were answered on them, and the rise of the wire's faults are together at least so many; and so with the whole requests that were sent.
+pub record Spends (limit many : ℕ) (since now : WireState) : Type 0 where
   pub on : ℕ → LinkRequests
-  pub told : (k : ℕ) → since.given ≤ k → k < now.given → TellsRequests options.max_body (now.links k) (on k)
+  pub told : (k : ℕ) → since.given ≤ k → k < now.given → TellsRequests limit (now.links k) (on k)
   pub rises : ℕ
   pub rose : RoseBy rises since.faults now.faults
-  pub answered : options.budget ≤ (now.given - since.given) + count_answered any on since now + rises
-  pub sent : options.budget ≤ (now.given - since.given) + count_sent any on since now + rises
+  pub answered : many ≤ (now.given - since.given) + count_answered any on since now + rises
+  pub sent : many ≤ (now.given - since.given) + count_sent any on since now + rises
+
+-- as many as the budget says
+abbrev pub SpendsRequests : Options → WireState → WireState → Type 0
+SpendsRequests options since now = Spends options.max_body options.budget since now
 
 -- The events of a call, in which each ask was for the authority of the start: just as many requests were started as the budget says, and fewer than the asks may be tried.
 pub record SpendsTries (allows : List ℕ → ℕ → List ℕ → List ℕ → Type 0) (options : Options) (start : Address) (since now : WireState) : Type 0 where

@@ -1,10 +1,13 @@
 -- What a call does on its wire: the links that are given in it, and how many requests it makes.
-use Rattle.std.specs.Prelude.{ℕ, ◌≡◌, ◌≤◌, ◌<◌, ◌+◌, ◌*◌, false, List, ◌∷◌, length, Some}
+use Rattle.std.specs.Prelude.{ℕ, ◌≡◌, ◌≤◌, ◌<◌, ◌+◌, ◌*◌, ◌&&◌, Bool, false, List, [], ◌∷◌, length, Some, bytes_eq, if◌then◌else◌}
 use Rattle.std.specs.List.Sorted.{IsPermutation}
 use Rattle.rdf_terms.specs.declared.term.Triple.{Triple}
-use Rattle.tpf_base.specs.Addresses.{Address}
+use Rattle.tpf_base.specs.Addresses.{Address, authority_of}
+use Rattle.tpf_base.specs.Causes.{RoseBy}
 use Rattle.tpf_base.specs.Links.{WireState, told_by}
+use Rattle.tpf_base.specs.Marks.{Served}
 use Rattle.template_fill.specs.Metadata.{Config}
+use Rattle.template_fill.specs.Answered.{is_answered}
 use Rattle.template_fill.specs.Bodies.{version_of}
 use Rattle.bgp_core.specs.Queries.{QueryData}
 use Rattle.pool_laws.specs.Owning.{IsAsBefore, EmptyPoolsOwn, PutsOwn, FaultsOwn, StepsOwn, ClosingCloses}
@@ -40,6 +43,13 @@ AreDialledFor address since now = (k : ℕ) → since.given ≤ k → k < now.gi
 abbrev pub OthersStay : WireState → WireState → Type 0
 OthersStay since now = (k : ℕ) → k < since.given → IsAsBefore (since.links k) (now.links k)
 
+-- what the wire is by its making stays, and no count of it fell: that of the dials may stand at its last value
+pub record MovesOn (since now : WireState) : Type 0 where
+  pub nature : now.nature ≡ since.nature
+  pub given : since.given ≤ now.given
+  pub faults : since.faults ≤ now.faults
+  pub dials : RoseBy 0 since.dials now.dials
+
 -- ---- answers
 
 -- The events of a call in which each ask was for the authority of the start, and was answered; so many requests were started.
@@ -63,9 +73,13 @@ DialsAtMost n since now = now.dials ≤ since.dials + n
 abbrev pub GivesAtMost : ℕ → WireState → WireState → Type 0
 GivesAtMost n since now = now.given ≤ since.given + n
 
--- the addresses that a query asks for over one version of the data: the start, and the plan of its join
+-- a version answers the start with the status 200, as a server of its authority
+unfoldable pub is_served : List (List Triple) → Config → Address → ℕ → Bool
+is_served history config start version = is_answered history (Served version) config start && bytes_eq (authority_of start) (authority_of config.base)
+
+-- the addresses that a query asks for over one version of the data: the start, and, where it is served, the plan of its join
 abbrev pub addresses_of : List (List Triple) → Config → QueryData → Address → ℕ → List Address
-addresses_of history config q start version = start ∷ plan (server_world (version_of history version) config) q.patterns (no_names_bound q)
+addresses_of history config q start version = start ∷ (if is_served history config start version then plan (server_world (version_of history version) config) q.patterns (no_names_bound q) else [])
 
 -- how many requests these addresses may need: one each, and as many more as it may be asked again
 abbrev pub tries_of : Options → List Address → ℕ

@@ -1,5 +1,5 @@
 -- What a call leaves of its sink.
-use Rattle.std.specs.Prelude.{ℕ, ◌≡◌, ◌≤◌, true, None, Result, OnOk, IsErrOf}
+use Rattle.std.specs.Prelude.{◌≡◌, ◌≤◌, true, None, Result, OnOk, IsErrOf}
 use Rattle.tpf_base.specs.Causes.{Rose, HasCause, DoesNotFail}
 use Rattle.tpf_base.specs.Wrote.{SinkState}
 use Rattle.tpf_base.specs.declared.fault.Fault.{Fault}

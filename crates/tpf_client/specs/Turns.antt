@@ -1,5 +1,5 @@
 -- The turns of an evaluation: rows are taken from it, its asks are put, and pages are handed to it.
-use Rattle.std.specs.Prelude.{ℕ, ◌≡◌, ◌+◌, ◌==◌, ◌≤◌, if◌then◌else◌, List, [], ◌∷◌, ◌++◌, map, length, Option, None}
+use Rattle.std.specs.Prelude.{ℕ, ◌≡◌, ◌+◌, ◌-◌, ◌*◌, ◌==◌, ◌≤◌, if◌then◌else◌, List, [], ◌∷◌, ◌++◌, map, length, Option, None}
 use Rattle.std.specs.List.{All, AllByRecursion, Contains, sum_by}
 use Rattle.std.specs.List.Sorted.{IsPermutation}
 use Rattle.tpf_base.specs.Addresses.{Address}
@@ -10,7 +10,7 @@ use Rattle.fragment_page.specs.declared.page.Page.{Page}
 use Rattle.control_reader.specs.Takes.{Takes}
 use Rattle.request_pool.specs.Pools.{Pooled, Ask, held}
 use Rattle.request_pool.specs.Owned.{SuitsWire}
-use Rattle.join_core.specs.Evaluations.{Account, Standing, Terms, HasHome, EndsNumber, EndsTicket}
+use Rattle.join_core.specs.Evaluations.{Account, Standing, Terms, Sizes, HasHome, EndsNumber, EndsTicket}
 use Rattle.tpf_client.specs.declared.asks.Arrived.{Arrived}
 use Rattle.tpf_client.specs.declared.fault.ClientFault.{ClientFault}
 use Rattle.tpf_client.specs.Traffic.{is_under, AreDistinct, Event, Asked, Came, Waited, Broke, Travels}
@@ -30,12 +30,26 @@ is_number ticket number = if number == ticket then 1 else 0
 abbrev pub is_pair : ℕ → ℕ × Address → ℕ
 is_pair ticket pair = is_number ticket pair.0
 
--- An evaluation and its pool: the evaluation keeps to the terms, which the asks that are held keep to as well, their tickets differ, and they are those that the evaluation has out.
-pub record Meets (terms : Terms) (keeps : Type 0) (standing : Standing) (pool : Pooled) : Type 0 where
+-- what an evaluation keeps to
+pub record Limits : Type 0 where
+  pub terms : Terms
+  pub sizes : Sizes
+
+-- the terms and the sizes
+abbrev pub keeps_both : {Eval : Type 0} → (Terms → Eval → Type 0) → (Sizes → Eval → Type 0) → Limits → Eval → Type 0
+keeps_both keeps small limits e = keeps limits.terms e × small limits.sizes e
+
+-- how many asks may wait for their replies at once: for each row that is extended as many as there are patterns
+abbrev pub most_waiting : Sizes → ℕ
+most_waiting sizes = sizes.patterns * sizes.window
+
+-- An evaluation and its pool: the evaluation keeps to the limits, which the asks that are held keep to as well, their tickets differ, they are those that the evaluation has out, and no more than may wait.
+pub record Meets (limits : Limits) (keeps : Type 0) (standing : Standing) (pool : Pooled) : Type 0 where
   pub kept : keeps
-  pub homes : All (λ ask. HasHome terms.homes ask.address) (held pool)
+  pub homes : All (λ ask. HasHome limits.terms.homes ask.address) (held pool)
   pub tickets : (ticket : ℕ) → sum_by (is_under ticket) (held pool) ≡ sum_by (is_number ticket) standing.out
   pub distinct : AreDistinct (held pool)
+  pub few : length (held pool) ≤ most_waiting limits.sizes
   pub no_fault : pool.fault ≡ None
 
 -- what the account has out is held, each ticket once
@@ -109,18 +123,26 @@ IsPageReply version (Broke fault) = Unit {0}
 abbrev pub ArePages : Option ℕ → List Event → Type 0
 ArePages version events = AllByRecursion (IsPageReply version) events
 
+-- Where so many asks wait for their replies at first, no more than the most do at any moment.
+abbrev pub WaitFew : ℕ → ℕ → List Event → Type 0
+WaitFew most waiting [] = waiting ≤ most
+WaitFew most waiting (Asked ask ∷ events) = (waiting ≤ most) × WaitFew most (waiting + 1) events
+WaitFew most waiting (Came ask reply ∷ events) = (waiting ≤ most) × WaitFew most (waiting - 1) events
+WaitFew most waiting (Waited ∷ events) = WaitFew most waiting events
+WaitFew most waiting (Broke fault ∷ events) = WaitFew most waiting events
+
 abbrev pub AreTrue : (Address → Page → Type 0) → Option ℕ → List Event → Type 0
 AreTrue is_true version events = AllByRecursion (IsTrueReply is_true version) events
 
 -- ---- an evaluation, by its ghost members
 
-module _ {Source Eval : Type 0} (suits : Source → Eval → Type 0) (account : Source → Eval → Account) (keeps : Terms → Eval → Type 0) (standing : Eval → Standing) where
+module _ {Source Eval : Type 0} (suits : Source → Eval → Type 0) (account : Source → Eval → Account) (keeps : Limits → Eval → Type 0) (standing : Eval → Standing) where
   -- The evaluation handed these asks over, and they were put.
   pub record Hands (old new : Eval) (asked : List Ask) (pool pool' : Pooled) : Type 0 where
     pub puts : PutsAll asked pool pool'
     pub given : (standing new).given ≡ (standing old).given + length asked
     pub waiting : (standing new).waiting ≡ (standing old).waiting
-    pub meets : (terms : Terms) → Meets terms (keeps terms old) (standing old) pool → Meets terms (keeps terms new) (standing new) pool'
+    pub meets : (limits : Limits) → Meets limits (keeps limits old) (standing old) pool → Meets limits (keeps limits new) (standing new) pool'
     pub stays : (source : Source) → suits source old → suits source new
     pub owes : (source : Source) → suits source old → HandsAll (account source old) (account source new) asked
     pub outs : (source : Source) → suits source old → IsOut pool (account source old) → IsOut pool' (account source new)
@@ -130,8 +152,8 @@ module _ {Source Eval : Type 0} (suits : Source → Eval → Type 0) (account : 
     pub given : (standing new).given ≡ (standing old).given
     pub out : (standing new).out ≡ (standing old).out
     pub waiting : (standing old).waiting ≡ length rows + (standing new).waiting
-    pub kept : (terms : Terms) → keeps terms old → keeps terms new
-    pub width : (terms : Terms) → keeps terms old → All (λ row. length row ≡ terms.width) rows
+    pub kept : (limits : Limits) → keeps limits old → keeps limits new
+    pub width : (limits : Limits) → keeps limits old → All (λ row. length row ≡ limits.terms.width) rows
     pub stays : (source : Source) → suits source old → suits source new
     pub owes : (source : Source) → suits source old → GivesAll (account source old) (account source new) rows
 
@@ -152,7 +174,7 @@ module _ {Source Eval : Type 0} (suits : Source → Eval → Type 0) (account : 
       pub taken : Takes arrived.reply.body arrived.address page
       pub is_version : page.version ≡ version
       pub ends : EndsNumber (standing old) (standing new) arrived.ticket
-      pub kept : (terms : Terms) → keeps terms old → HasHome terms.homes arrived.address → keeps terms new
+      pub kept : (limits : Limits) → keeps limits old → HasHome limits.terms.homes arrived.address → keeps limits new
       pub stays : (source : Source) → suits source old → IsTrueFor source old arrived.ticket page → suits source new
       pub owes : (source : Source) → suits source old → IsTrueFor source old arrived.ticket page → EndsTicket (account source old) (account source new) arrived.ticket
 
@@ -174,9 +196,10 @@ module _ {Source Eval : Type 0} (suits : Source → Eval → Type 0) (account : 
         pub travels : Travels allows events pool pool' wire wire'
         pub on_wire : SuitsWire pool' wire'
         pub pages : ArePages version events
-        pub meets : (terms : Terms) → Meets terms (keeps terms old) (standing old) pool → Meets terms (keeps terms new) (standing new) pool'
-        pub homes : (terms : Terms) → Meets terms (keeps terms old) (standing old) pool → AllByRecursion (λ ask. HasHome terms.homes ask.address) (asked_in events)
-        pub width : (terms : Terms) → Meets terms (keeps terms old) (standing old) pool → All (λ row. length row ≡ terms.width) rows
+        pub meets : (limits : Limits) → Meets limits (keeps limits old) (standing old) pool → Meets limits (keeps limits new) (standing new) pool'
+        pub homes : (limits : Limits) → Meets limits (keeps limits old) (standing old) pool → AllByRecursion (λ ask. HasHome limits.terms.homes ask.address) (asked_in events)
+        pub width : (limits : Limits) → Meets limits (keeps limits old) (standing old) pool → All (λ row. length row ≡ limits.terms.width) rows
+        pub few : (limits : Limits) → Meets limits (keeps limits old) (standing old) pool → WaitFew (most_waiting limits.sizes) (length (held pool)) events
         pub stays : (source : Source) → IsTruth source old version events pool → Stays source old new rows (asked_in events) pool'
 
       -- Events and rows, and then a fault.
@@ -184,5 +207,6 @@ module _ {Source Eval : Type 0} (suits : Source → Eval → Type 0) (account : 
         pub travels : Travels allows events pool pool' wire wire'
         pub on_wire : SuitsWire pool' wire'
         pub explains : Explains version budget fault events
-        pub homes : (terms : Terms) → Meets terms (keeps terms old) (standing old) pool → AllByRecursion (λ ask. HasHome terms.homes ask.address) (asked_in events)
+        pub homes : (limits : Limits) → Meets limits (keeps limits old) (standing old) pool → AllByRecursion (λ ask. HasHome limits.terms.homes ask.address) (asked_in events)
+        pub few : (limits : Limits) → Meets limits (keeps limits old) (standing old) pool → WaitFew (most_waiting limits.sizes) (length (held pool)) events
         pub owes : (source : Source) → IsTruth source old version events pool → OwesMore (account source old) rows (asked_in events)

@@ -1,5 +1,5 @@
 // The calls.
-ghost use Rattle.std.specs.Prelude.{ℕ, ◌≡◌, ◌≤◌, ◌⊎◌, [], ◌∷◌, List, length, true, IfOk, IfErr, OnOk, OnErr, IsErrOf, None};
+ghost use Rattle.std.specs.Prelude.{ℕ, ◌≡◌, ◌≤◌, ◌⊎◌, ◌*◌, [], ◌∷◌, List, length, true, IfOk, IfErr, OnOk, OnErr, IsErrOf, None};
 ghost use Rattle.std.specs.Io.KnownBytes.{Appends};
 ghost use Rattle.tpf_base.specs.Causes.{Rose, counted_by};
 ghost use Rattle.result_json.specs.Results.{result_text};
@@ -10,7 +10,7 @@ ghost use Rattle.request_pool.specs.Pools.{held};
 ghost use Rattle.request_pool.specs.Owned.{SuitsWire};
 ghost use Rattle.join_core.specs.Evaluations.{HasHome};
 ghost use Rattle.tpf_client.specs.Traffic.{Event};
-ghost use Rattle.tpf_client.specs.Calls.{Joins, JoinsSome, GathersRest, WritesRest, WritesLess, WritesAll, WritesSome, Returns, Ran, RunsPool, WritesResult, WritesPrefix};
+ghost use Rattle.tpf_client.specs.Calls.{Joins, JoinsSome, GathersRest, WritesRest, WritesLess, WritesAll, WritesSome, Returns, Ran, RanFew, most_asked, RunsPool, WritesResult, WritesPrefix};
 ghost use Rattle.tpf_client.specs.Causes.{IsLocal};
 ghost use Rattle.tpf_client.specs.Sinks.{LeavesSink};
 ghost use Rattle.tpf_client.specs.Shown.{ShowsGiven, ShowsRest};
@@ -65,6 +65,8 @@ fn join_pages<R: Wait, W: Dial, B, T: TakesRows<B>>(
         × T.takes given rows.old rows.new behind.old behind.new) }
     ensures some { IfErr result (λ fault. (events : List Event) × (given : List Places) × JoinsSome (W.allows wire.old) query.now form bounds.version bounds.budget fault events given asks.old asks.new (W.state wire.old) (W.state wire.new)
         × T.takes_front given rows.old rows.new behind.old behind.new × (IsLocal fault ⊎ T.takes given rows.old rows.new behind.old behind.new)) }
+    ensures few { RanFew (W.allows wire.old) (length query.now.patterns * window) asks.old asks.new
+        (W.state wire.old) (W.state wire.new) }
     ensures sink { LeavesSink (T.sink behind.old) (T.sink behind.new) result }
     ensures allowed { SameAllowed (W.allows wire.old) (W.allows wire.new) }
 {
@@ -104,6 +106,8 @@ fn write_joined<'a, R: Wait, W: Dial, K: Sink>(
     ensures err { IfErr result (λ fault. WritesLess (W.allows wire.old) query.now form bounds.version bounds.budget fault asks.old asks.new (W.state wire.old) (W.state wire.new) (K.state out.old).taken (K.state out.new).taken) }
     ensures shown { IfErr result (λ fault. (less : WritesLess (W.allows wire.old) query.now form bounds.version bounds.budget fault asks.old asks.new (W.state wire.old) (W.state wire.new) (K.state out.old).taken (K.state out.new).taken)
         × ShowsRest (W.allows wire.old) query.now form bounds.version bounds.budget fault asks.old asks.new (W.state wire.old) (W.state wire.new) (K.state out.old).faults (K.state out.new).faults (K.state out.old).taken (K.state out.new).taken less) }
+    ensures few { RanFew (W.allows wire.old) (length query.now.patterns * window) asks.old asks.new
+        (W.state wire.old) (W.state wire.new) }
     ensures sink { LeavesSink (K.state out.old) (K.state out.new) result }
     ensures allowed { SameAllowed (W.allows wire.old) (W.allows wire.new) }
 {
@@ -144,6 +148,8 @@ fn write_rows<R: Wait, W: Dial, K: Sink>(
     ensures err { IfErr result (λ fault. WritesLess (W.allows wire.old) query.now page.form page.version options.now.budget fault asks.old asks.new (W.state wire.old) (W.state wire.new) (K.state out.old).taken (K.state out.new).taken) }
     ensures shown { IfErr result (λ fault. (less : WritesLess (W.allows wire.old) query.now page.form page.version options.now.budget fault asks.old asks.new (W.state wire.old) (W.state wire.new) (K.state out.old).taken (K.state out.new).taken)
         × ShowsRest (W.allows wire.old) query.now page.form page.version options.now.budget fault asks.old asks.new (W.state wire.old) (W.state wire.new) (K.state out.old).faults (K.state out.new).faults (K.state out.old).taken (K.state out.new).taken less) }
+    ensures few { RanFew (W.allows wire.old) (length query.now.patterns * options.now.window) asks.old asks.new
+        (W.state wire.old) (W.state wire.new) }
     ensures sink { LeavesSink (K.state out.old) (K.state out.new) result }
     ensures allowed { SameAllowed (W.allows wire.old) (W.allows wire.new) }
 {
@@ -199,6 +205,8 @@ fn write_result<R: Wait, W: Dial, K: Sink>(
     ensures err { IfErr result (λ fault. WritesSome (Ran (W.allows wire.old) asks.old asks.new (W.state wire.old) (W.state wire.new)) query.now start.now options.now.budget fault (K.state out.old).taken (K.state out.new).taken) }
     ensures shown { IfErr result (λ fault. (some : WritesSome (Ran (W.allows wire.old) asks.old asks.new (W.state wire.old) (W.state wire.new)) query.now start.now options.now.budget fault (K.state out.old).taken (K.state out.new).taken)
         × ShowsGiven (Ran (W.allows wire.old) asks.old asks.new (W.state wire.old) (W.state wire.new)) query.now start.now options.now.budget fault (K.state out.old).faults (K.state out.new).faults (K.state out.old).taken (K.state out.new).taken some) }
+    ensures few { RanFew (W.allows wire.old) (most_asked options.now query.now) asks.old asks.new
+        (W.state wire.old) (W.state wire.new) }
     ensures suits { SuitsWire asks.new (W.state wire.new) }
     ensures sink { LeavesSink (K.state out.old) (K.state out.new) result }
     ensures allowed { SameAllowed (W.allows wire.old) (W.allows wire.new) }
@@ -250,7 +258,9 @@ fn traffic_rests_on_laws<W: Dial>(wire: &W)
 /// then, where neither it nor memory failed, the head and all rows that were given. At each exit every
 /// connection (link) of this call is closed; each was dialled for the host and port of the start, and
 /// no more requests were started than the budget allows. Connections that were there before are left as
-/// they are.
+/// they are. At no moment more pages are waited for than the window times the patterns of the query, or
+/// the start page alone. At `Ok` the requests that are reported are at most the connections of the call,
+/// the answers and the faults of the wire together.
 ///
 /// Over a wire whose other ends answer as a server does, requests are sent for the start and the plan
 /// of the query alone, and no more of them than these and the failures of the wire. Where each answer
@@ -314,6 +324,8 @@ fn gather_rows<R: Wait, W: Dial>(
     requires suits { SuitsWire asks.old (W.state wire.old) }
     ensures ok { IfOk result (λ r. GathersRest (W.allows wire.old) query.now page.form page.version r.1 r.0.items asks.old asks.new (W.state wire.old) (W.state wire.new)) }
     ensures err { IfErr result (λ fault. WritesLess (W.allows wire.old) query.now page.form page.version options.now.budget fault asks.old asks.new (W.state wire.old) (W.state wire.new) None None) }
+    ensures few { RanFew (W.allows wire.old) (length query.now.patterns * options.now.window) asks.old asks.new
+        (W.state wire.old) (W.state wire.new) }
     ensures sink { IsErrOf result ClientFault.Sink → ⊥ }
     ensures allowed { SameAllowed (W.allows wire.old) (W.allows wire.new) }
 {
@@ -365,6 +377,8 @@ fn gather<R: Wait, W: Dial>(
     requires suits { SuitsWire asks.old (W.state wire.old) }
     ensures ok { IfOk result (λ r. Returns (Ran (W.allows wire.old) asks.old asks.new (W.state wire.old) (W.state wire.new)) query.now start.now r.1 r.0.items) }
     ensures err { IfErr result (λ fault. WritesSome (Ran (W.allows wire.old) asks.old asks.new (W.state wire.old) (W.state wire.new)) query.now start.now options.now.budget fault None None) }
+    ensures few { RanFew (W.allows wire.old) (most_asked options.now query.now) asks.old asks.new
+        (W.state wire.old) (W.state wire.new) }
     ensures suits { SuitsWire asks.new (W.state wire.new) }
     ensures sink { IsErrOf result ClientFault.Sink → ⊥ }
     ensures allowed { SameAllowed (W.allows wire.old) (W.allows wire.new) }

@@ -34,7 +34,7 @@ closes g c = ran-closed (g.W.Wire.allows c.args.wire.now) c.args.options.now c.n
 exit : (g : given.Over) (c : goal.After-drop-asks-inside-7 g) → ActsOnWire (g.W.Wire.allows c.args.wire.now) c.args.options.now c.args.start.now c.args.query.now c.gather-ended.result (λ r. r.1) (g.W.Wire.state c.args.wire.now) (g.W.Wire.state c.close.new.wire)
 exit g c =
     acts-on-wire c.solutions_rest_on_laws.ensures c.traffic_rests_on_laws.ensures (g.W.Wire.allows c.args.wire.now) c.args.options.now (g.W.Wire.state c.args.wire.now) (g.W.Wire.state c.gather-ended.new.wire) (g.W.Wire.state c.close.new.wire) c.is_lawful.ensures c.new-asks.ensures.limit c.requires.some c.args.start.now c.args.query.now
-    c.new-asks.result c.gather-ended.new.asks c.new-asks.ensures.empty c.close.ensures.closes c.gather-ended.result (λ r. r.1) _ _ _ c.gather-ended.ensures.ok c.gather-ended.ensures.err (λ r w. (r.0.items, w))
+    c.new-asks.result c.gather-ended.new.asks c.new-asks.ensures.empty c.close.ensures.closes c.gather-ended.result (λ r. r.1) _ _ _ c.gather-ended.ensures.ok c.gather-ended.ensures.err (λ r w. (r.0.items, w)) c.gather-ended.ensures.few
 
 -- ---- the result
 

@@ -2,7 +2,7 @@
 use Rattle.std.proofs.Common.{[]}
 use Rattle.list_laws.proofs.Members.{at_head}
 use Rattle.tpf_client.proofs.Shutting.{if-ok, if-err, either-way}
-use Rattle.tpf_client.proofs.Written.{all-gathered, some-written, none-written, less-suits}
+use Rattle.tpf_client.proofs.Written.{all-gathered, some-written, none-written, less-suits, few-behind, few-none}
 use Rattle.tpf_client.proofs.Waiting.{allowed-then}
 use Rattle.tpf_client.proofs.calls.gather.Goals as goal
 
@@ -43,3 +43,11 @@ returns-in-Err-clause-err g c = none-written (g.W.Wire.allows c.args.wire.now) c
 
 pub returns-in-Err-clause-suits : goal.returns-in-Err-clause-suits
 returns-in-Err-clause-suits g c = c.in-Err.ensures.starts.suits
+
+pub returns-in-Ok-clause-few : goal.returns-in-Ok-clause-few
+returns-in-Ok-clause-few g c =
+    few-behind (g.W.Wire.allows c.args.wire.now) (g.W.Wire.allows c.ask_start.new.wire) c.in-Ok.ensures.allowed c.args.options.now c.args.query.now c.args.start.now c.in-Ok.page c.args.asks.now c.ask_start.new.asks c.gather_rows.new.asks
+    (g.W.Wire.state c.args.wire.now) (g.W.Wire.state c.ask_start.new.wire) (g.W.Wire.state c.gather_rows.new.wire) c.requires.none c.in-Ok.ensures.starts c.gather_rows.ensures.few
+
+pub returns-in-Err-clause-few : goal.returns-in-Err-clause-few
+returns-in-Err-clause-few g c = few-none (g.W.Wire.allows c.args.wire.now) c.args.options.now c.args.query.now c.args.start.now c.args.options.now.budget c.in-Err.fault c.args.asks.now c.ask_start.new.asks (g.W.Wire.state c.args.wire.now) (g.W.Wire.state c.ask_start.new.wire) c.requires.none c.in-Err.ensures.starts

@@ -35,7 +35,7 @@ closes g c = ran-closed (g.W.Wire.allows c.args.wire.now) c.args.options.now c.n
 exit : (g : given.Over) (c : goal.After-drop-asks-inside-7 g) → ActsOnWire (g.W.Wire.allows c.args.wire.now) c.args.options.now c.args.start.now c.args.query.now c.write_result-ended.result (λ report. report) (g.W.Wire.state c.args.wire.now) (g.W.Wire.state c.close.new.wire)
 exit g c =
     acts-on-wire c.solutions_rest_on_laws.ensures c.traffic_rests_on_laws.ensures (g.W.Wire.allows c.args.wire.now) c.args.options.now (g.W.Wire.state c.args.wire.now) (g.W.Wire.state c.write_result-ended.new.wire) (g.W.Wire.state c.close.new.wire) c.is_lawful.ensures c.new-asks.ensures.limit c.requires.some c.args.start.now c.args.query.now
-    c.new-asks.result c.write_result-ended.new.asks c.new-asks.ensures.empty c.close.ensures.closes c.write_result-ended.result (λ report. report) _ _ _ c.write_result-ended.ensures.ok c.write_result-ended.ensures.err (λ report w. (w.rows, w.returns))
+    c.new-asks.result c.write_result-ended.new.asks c.new-asks.ensures.empty c.close.ensures.closes c.write_result-ended.result (λ report. report) _ _ _ c.write_result-ended.ensures.ok c.write_result-ended.ensures.err (λ report w. (w.rows, w.returns)) c.write_result-ended.ensures.few
 
 -- ---- the result
 

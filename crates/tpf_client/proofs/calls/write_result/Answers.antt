@@ -3,7 +3,7 @@ use Rattle.std.proofs.Common.{[]}
 use Rattle.list_laws.proofs.Members.{at_head}
 use Rattle.tpf_client.specs.declared.fault.ClientFault.TheVariants as faults
 use Rattle.tpf_client.proofs.Shutting.{if-ok, if-err}
-use Rattle.tpf_client.proofs.Written.{all-written, some-written, some-shown, none-written, none-shown, rest-suits}
+use Rattle.tpf_client.proofs.Written.{all-written, some-written, some-shown, none-written, none-shown, rest-suits, few-behind, few-none}
 use Rattle.tpf_client.proofs.Going.{err-as}
 use Rattle.tpf_client.proofs.Sinks.{stays-none, leaves-other}
 use Rattle.tpf_client.proofs.Waiting.{allowed-then}
@@ -60,3 +60,11 @@ returns-in-Err-clause-shown g c = (none-written (g.W.Wire.allows c.args.wire.now
 
 pub returns-in-Err-clause-sink : goal.returns-in-Err-clause-sink
 returns-in-Err-clause-sink g c = leaves-other _ _ c.in-Err.fault (λ e. c.in-Err.ensures.no_sink (err-as _ _ c.in-Err.fault faults.Sink e)) (stays-none (g.K.Sink.state c.args.out.now))
+
+pub returns-in-Ok-clause-few : goal.returns-in-Ok-clause-few
+returns-in-Ok-clause-few g c =
+    few-behind (g.W.Wire.allows c.args.wire.now) (g.W.Wire.allows c.ask_start.new.wire) c.in-Ok.ensures.allowed c.args.options.now c.args.query.now c.args.start.now c.in-Ok.page c.args.asks.now c.ask_start.new.asks c.write_rows.new.asks
+    (g.W.Wire.state c.args.wire.now) (g.W.Wire.state c.ask_start.new.wire) (g.W.Wire.state c.write_rows.new.wire) c.requires.none c.in-Ok.ensures.starts c.write_rows.ensures.few
+
+pub returns-in-Err-clause-few : goal.returns-in-Err-clause-few
+returns-in-Err-clause-few g c = few-none (g.W.Wire.allows c.args.wire.now) c.args.options.now c.args.query.now c.args.start.now c.args.options.now.budget c.in-Err.fault c.args.asks.now c.ask_start.new.asks (g.W.Wire.state c.args.wire.now) (g.W.Wire.state c.ask_start.new.wire) c.requires.none c.in-Err.ensures.starts

@@ -1,7 +1,7 @@
 -- The text begins with what stands in front of the rows.
 use Rattle.std.proofs.Common.{◌∙◌, ap}
 use Rattle.result_json.specs.Pieces.{Writing}
-use Rattle.tpf_client.proofs.Written.{nothing-begun, nothing-shown}
+use Rattle.tpf_client.proofs.Written.{nothing-begun, nothing-shown, nothing-ran}
 use Rattle.tpf_client.proofs.Sinks.{stays-none, leaves-stays, leaves-ok, leaves-lacking, leaves-as}
 use Rattle.tpf_client.proofs.Waiting.{same-allowed}
 use Rattle.tpf_client.proofs.calls.write_rows.Goals as goal
@@ -11,6 +11,9 @@ write_joined-requires-clause-fresh g c = c.new-text.ensures ∙ ap (λ (w : Writ
 
 pub returns-in-Err-clause-err : goal.returns-in-Err-clause-err
 returns-in-Err-clause-err g c = nothing-begun (g.W.Wire.allows c.args.wire.now) c.args.query.now c.args.page.form c.args.page.version c.args.options.now.budget c.args.asks.now (g.W.Wire.state c.args.wire.now) _ c.requires.suits
+
+pub returns-in-Err-clause-few : goal.returns-in-Err-clause-few
+returns-in-Err-clause-few g c = nothing-ran (g.W.Wire.allows c.args.wire.now) _ c.args.asks.now (g.W.Wire.state c.args.wire.now) c.requires.none c.requires.suits
 
 pub returns-in-Err-clause-allowed : goal.returns-in-Err-clause-allowed
 returns-in-Err-clause-allowed g c = same-allowed (g.W.Wire.allows c.args.wire.now)

@@ -2,6 +2,7 @@
 use Rattle.std.proofs.Common.{[], ◌∙◌, sym, subst}
 use Rattle.tpf_client.specs.declared.fault.ClientFault.{ClientFault}
 use Rattle.tpf_client.specs.Causes.{IsLocal}
+use Rattle.tpf_client.specs.Turns.{keeps_both}
 use Rattle.tpf_client.proofs.Turning.{give-meets, hands-nothing}
 use Rattle.tpf_client.proofs.Going.{sink-local}
 use Rattle.tpf_client.proofs.Sinks.{stays-ok, leaves-ok, leaves-lacking, leaves-fault}
@@ -11,7 +12,7 @@ pub hand_over-requires-clause-meets : goal.hand_over-requires-clause-meets
 hand_over-requires-clause-meets g c =
     let m = c.requires.meets in
     let r = c.in-Ok.ensures.gives in
-    (m.0, give-meets g.E.Evaluates.suits g.E.Evaluates.account g.E.Evaluates.keeps_to g.E.Evaluates.standing c.args.evaluation.now c.give_rows.new.evaluation r.0 c.args.asks.now m.0 r.1 m.1)
+    (m.0, give-meets g.E.Evaluates.suits g.E.Evaluates.account (keeps_both g.E.Evaluates.keeps_to g.E.Evaluates.keeps_small) g.E.Evaluates.standing c.args.evaluation.now c.give_rows.new.evaluation r.0 c.args.asks.now m.0 r.1 m.1)
 
 pub hand_over-requires-clause-given : goal.hand_over-requires-clause-given
 hand_over-requires-clause-given g c = c.requires.given ∙ sym c.in-Ok.ensures.gives.1.given
@@ -40,7 +41,7 @@ returns-in-Err-clause-err g c =
       r.0,
       [],
       c.give_rows.new.evaluation,
-      record { mid = c.give_rows.new.evaluation; gives = r.1; hands = hands-nothing g.E.Evaluates.suits g.E.Evaluates.account g.E.Evaluates.keeps_to g.E.Evaluates.standing c.give_rows.new.evaluation c.args.asks.now },
+      record { mid = c.give_rows.new.evaluation; gives = r.1; hands = hands-nothing g.E.Evaluates.suits g.E.Evaluates.account (keeps_both g.E.Evaluates.keeps_to g.E.Evaluates.keeps_small) g.E.Evaluates.standing c.give_rows.new.evaluation c.args.asks.now },
       r.3,
       subst (λ (f : ClientFault). IsLocal f) (sym c.of_sink.ensures) (sink-local c.in-Err.fault),
     )
