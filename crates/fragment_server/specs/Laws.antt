@@ -1,6 +1,6 @@
 -- Serves proofs alone: what a connection of a server of fragments does, in the words of any kind of connection.
 use Rattle.std.specs.Prelude.{ℕ, ◌≡◌, ◌≤◌, ◌<◌, Bool, true, false, List, [], ◌∷◌, ◌++◌, length, take, drop, if◌then◌else◌}
-use Rattle.std.specs.List.{AllByRecursion, concat}
+use Rattle.std.specs.List.{AllByRecursion}
 use Rattle.std.proofs.Common.{refl, sym, ap, ap₂, subst, ◌∙◌, arith, append_assoc, append-nil, length-append}
 use Rattle.std.proofs.lemmas.Bool.{true≢false}
 use Rattle.std.proofs.lemmas.List.{take-append-drop}
@@ -24,14 +24,13 @@ use Rattle.tpf_server.specs.Read.{Stands, heads_then}
 use Rattle.tpf_server.specs.Reading.{is_ended, waits}
 use Rattle.tpf_server.specs.Reloads as core_outcomes
 use Rattle.tpf_server.specs.Conversation as conversations
-use Rattle.tpf_server.specs.Conversation.{Answers, Conversation, Makes, ReadsFurther, opening, owed_pieces, owed_text, owes, wants_reload}
+use Rattle.tpf_server.specs.Conversation.{Answers, Conversation, Makes, ReadsFurther, opening, owed_text, owes, wants_reload}
 use Rattle.tpf_server.specs.declared.reading.Reading.{Reading}
 use Rattle.tpf_server.specs.declared.reading.Reading.TheVariants.{Reads as Going, Waits, Ended}
 use Rattle.tpf_server.proofs.HeadAnswers.{heads_at}
 use Rattle.tpf_server.proofs.HeadsLaws.{left_heads}
 use Rattle.tpf_server.proofs.MarkLaws.{numbers_front}
 use Rattle.tpf_server.proofs.ConversationLaws.{none_owed}
-use Rattle.tpf_server.proofs.PageLaws.{concat_more}
 use Rattle.fragment_server.specs.declared.connection.FragmentConnection.{FragmentConnection}
 use Rattle.fragment_server.specs.Fragments.{fragments, numbers_told, outcome_of, serving_of}
 use Rattle.fragment_server.specs.Alike.{IsAlike, answers_alike, fits_alike, numbers_alike}
@@ -207,9 +206,9 @@ pub fills_as : (server : core.Serving) (old new : FragmentConnection) → Makes 
     → (owes old.connection ≡ true → 0 < length new.connection.pending) → Fills fragments (serving_of server) old new
 fills_as server old new makes answers some = record {
   answers = answers;
-  more = concat makes.pieces;
+  more = makes.part;
   pending = makes.pending;
-  idle = λ none. no_front (concat makes.pieces) (owed_text server.config new.connection) (sym (ap concat makes.owed ∙ concat_more makes.pieces (owed_pieces server.config new.connection)) ∙ none_owed old.connection server.config none);
+  idle = λ none. no_front makes.part (owed_text server.config new.connection) (sym makes.owed ∙ none_owed old.connection server.config none);
   enough = makes.enough;
   some = some;
   wants = ap waits makes.reading;

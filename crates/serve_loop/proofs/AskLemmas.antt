@@ -29,11 +29,11 @@ module _ {Data Settings : Type 0} where
     wire = s.wire;
   }
 
-  answered_may : (may may' : Data → Type 0) (outcomes : List Reloaded) (old now : Moment Data Settings) → ((d : Data) → may d → may' d) → AreAnswered may outcomes old now → AreAnswered may' outcomes old now
+  pub answered_may : (may may' : Data → Type 0) (outcomes : List Reloaded) (old now : Moment Data Settings) → ((d : Data) → may d → may' d) → AreAnswered may outcomes old now → AreAnswered may' outcomes old now
   answered_may may may' [] old now f a = a
   answered_may may may' (outcome ∷ outcomes) old now f a = (a.0, answered_may may may' outcomes old a.0 f a.1, supplies_may may may' outcome a.0 now f a.2)
 
-  answered_then : (may : Data → Type 0) (xs ys : List Reloaded) (old mid now : Moment Data Settings) → AreAnswered may xs old mid → AreAnswered may ys mid now → AreAnswered may (ys ++ xs) old now
+  pub answered_then : (may : Data → Type 0) (xs ys : List Reloaded) (old mid now : Moment Data Settings) → AreAnswered may xs old mid → AreAnswered may ys mid now → AreAnswered may (ys ++ xs) old now
   answered_then may xs [] old mid now a b = subst (λ (m : Moment Data Settings). AreAnswered may xs old m) (sym b) a
   answered_then may xs (outcome ∷ outcomes) old mid now a b = (b.0, answered_then may xs outcomes old mid b.0 a b.1, b.2)
 
@@ -43,7 +43,7 @@ module _ {Data Settings : Type 0} where
   version_more may outcomes.OutOfMemory old now s = let n = s.none (λ v e. cc) in omega (arith, ap (λ (y : Serving Data Settings). y.version) n.1)
 
   -- how often it was asked
-  calls_answered : (may : Data → Type 0) (xs : List Reloaded) (old now : Moment Data Settings) → AreAnswered may xs old now → old.served.version + length xs ≤ MOST_VERSIONS → old.supply.calls < 2 ^ 64
+  pub calls_answered : (may : Data → Type 0) (xs : List Reloaded) (old now : Moment Data Settings) → AreAnswered may xs old now → old.served.version + length xs ≤ MOST_VERSIONS → old.supply.calls < 2 ^ 64
       → (now.supply.calls ≡ counted_by (length xs) old.supply.calls) × (now.served.version ≤ old.served.version + length xs)
   calls_answered may [] old now a few fits =
       let c = ap (λ (m : Moment Data Settings). m.supply.calls) a in

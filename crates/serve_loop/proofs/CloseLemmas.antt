@@ -16,10 +16,10 @@ use Rattle.serve_loop.proofs.RelatesLemmas.{same_or, is_not, none_some, versions
 use Rattle.serve_loop.proofs.SentenceLemmas.{some_same}
 use Rattle.serve_loop.proofs.BelowLemmas.{last_or, below_or}
 
-told_same : (x y : Link) → y ≡ x → TellsSame x y
+pub told_same : (x y : Link) → y ≡ x → TellsSame x y
 told_same x y e = record { sent = ap (λ (l : Link). l.sent) e; received = ap (λ (l : Link). l.received) e; ended = ap (λ (l : Link). l.ended) e }
 
-told_then : (x y z : Link) → TellsSame x y → TellsSame y z → TellsSame x z
+pub told_then : (x y z : Link) → TellsSame x y → TellsSame y z → TellsSame x z
 told_then x y z p q = record { sent = q.sent ∙ p.sent; received = q.received ∙ p.received; ended = q.ended ∙ p.ended }
 
 open_or : (x : Bool) → (x ≡ true) ⊎ (x ≡ false)

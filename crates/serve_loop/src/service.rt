@@ -9,6 +9,7 @@ ghost use Rattle.serve_loop.specs.Relates.{SuitsWire};
 ghost use Rattle.serve_loop.specs.Calls.{ServesAlone, RestsWire, served_with};
 ghost use Rattle.serve_loop.specs.Sentence.{AllClosed, LeavesOlder, CarriesOn, ServesOn, SpeaksSince, SpeaksWholeSince};
 ghost use Rattle.serve_loop.specs.Service.{ServesTurns, FailsTurns, FailsWait, RoseAtDoor};
+ghost use Rattle.serve_loop.specs.AskedTurns.{AsksOnce};
 
 use crate::live::{ServeFault, Served, Turned};
 use crate::turn::Loop;
@@ -87,6 +88,9 @@ fn serve_on<R: Wait, C: Converses, S: Supply<C::Server>, W: Accept>(
         stop_after served.connections (W.state wire.old) (W.state wire.new)) }
     ensures fails { IfErr result (λ fault. FailsTurns C.kind (C.Server.serving server.old).config
         stop_after fault (W.state wire.old) (W.state wire.new)) }
+    ensures asks { AsksOnce C.kind (S.may supply.old)
+        (moment (C.Server.serving server.old) (S.state supply.old) (W.state wire.old))
+        (moment (C.Server.serving server.new) (S.state supply.new) (W.state wire.new)) }
     ensures stops { IfOk result (λ served. IfSome stop_after (λ most. most ≤ served.connections)) }
     ensures first { IfOk result (λ served. IfSome stop_after (λ most. served.connections ≤ (most - 1) + MOST_LIVE)) }
     ensures never { OnOk result (stop_after ≡ None → ⊥) }
@@ -115,7 +119,8 @@ fn serve_on<R: Wait, C: Converses, S: Supply<C::Server>, W: Accept>(
 /// `stop_after` of them have ended, and for as long as it can where that is `None`. It takes turns, and
 /// waits only after a turn that moved and ended nothing. At each exit the links that are still live
 /// are closed. No link from before is touched, none is dialled, and the door is not opened again. The
-/// counts of the answer stand still at their last value.
+/// counts of the answer stand still at their last value. The supply is asked once for each reload request
+/// that waits in a turn, and for nothing else (`asks`).
 ///
 /// `Wire` where an accept or a wait failed: the faults of the door rose. A link that fails ends its own
 /// connection alone. `OutOfMemory` where memory ran out in one of them, or for
@@ -143,6 +148,9 @@ pub fn serve<R: Wait, C: Converses, S: Supply<C::Server>, W: Accept>(
         stop_after served.connections (W.state wire.old) (W.state wire.new)) }
     ensures fails { IfErr result (λ fault. FailsTurns C.kind (C.Server.serving server.old).config
         stop_after fault (W.state wire.old) (W.state wire.new)) }
+    ensures asks { AsksOnce C.kind (S.may supply.old)
+        (moment (C.Server.serving server.old) (S.state supply.old) (W.state wire.old))
+        (moment (C.Server.serving server.new) (S.state supply.new) (W.state wire.new)) }
     ensures stops { IfOk result (λ served. IfSome stop_after (λ most. most ≤ served.connections)) }
     ensures first { IfOk result (λ served. IfSome stop_after (λ most. served.connections ≤ (most - 1) + MOST_LIVE)) }
     ensures never { OnOk result (stop_after ≡ None → ⊥) }

@@ -31,21 +31,18 @@ use Rattle.tpf_server.specs.declared.status.Status.{Status}
 use Rattle.tpf_server.specs.Statuses.{code, version_line}
 use Rattle.tpf_server.specs.Serving.{Serving, IsHistoryOf, data_of}
 use Rattle.tpf_server.specs.Asked.{answer_of}
-use Rattle.tpf_server.specs.Given.{IsSmall}
 use Rattle.tpf_server.specs.Lines.{quad_lines, triple_line, triple_lines}
-use Rattle.tpf_server.specs.PageRests.{IsPart, PageLines, page_left, page_pieces}
-use Rattle.tpf_server.specs.Rests.{IsWithin, is_left, rest_pieces}
-use Rattle.tpf_server.specs.Opened.{body_pieces}
-use Rattle.tpf_server.specs.Owed.{Fills, Fits, answer_pieces, debt_left, debt_pieces, queue_pieces}
+use Rattle.tpf_server.specs.PageRests.{IsPart, PageLines, lines_left, page_left, page_text}
+use Rattle.tpf_server.specs.Rests.{IsWithin, is_left, rest_text}
+use Rattle.tpf_server.specs.Owed.{Fills, Fits, debt_left, debt_text, queue_text, queued_text}
 use Rattle.tpf_server.specs.Read.{IsReload, ReadsHeads, Stands, served_marks}
 use Rattle.tpf_server.specs.Reading.{is_ended, waits, when_starved}
 use Rattle.tpf_server.specs.Reloads.{IsOutcome, ReadsOn, outcome_asking, outcome_mark, outcome_numbers, outcome_queued}
-use Rattle.tpf_server.specs.Conversation.{Answers, AreServed, Conversation, Feeds, Makes, ReadsFurther, Reloads, opening, owed_pieces, owed_text, owes}
+use Rattle.tpf_server.specs.Conversation.{Answers, AreServed, Conversation, Feeds, Makes, ReadsFurther, Reloads, opening, owed_text, owes}
 use Rattle.tpf_server.proofs.LineLengths.{line_length}
-use Rattle.tpf_server.proofs.PageLaws.{concat_more}
-use Rattle.tpf_server.proofs.HeadAnswers.{answer_text_is}
 use Rattle.tpf_server.proofs.Readings.{queue_more}
-use Rattle.tpf_server.proofs.DebtLaws.{debt_done}
+use Rattle.tpf_server.proofs.StatusLaws.{body_some}
+use Rattle.tpf_server.proofs.DebtLaws.{debt_done, long_head}
 use Rattle.tpf_server.proofs.HeadsLaws.{ended_on, left_heads, reads_on, reload_ends, reload_goes, stands_kept, waits_on}
 use Rattle.tpf_server.proofs.MarkLaws.{AreAt, are_served, marked_before, marks_behind, numbers_append, numbers_front, plain_none, served_at, served_marked}
 
@@ -55,8 +52,8 @@ no_request : next_request [] ≡ Incomplete
 unfolding next_request blank_length least_below ends_empty
 no_request = refl
 
-nothing_owed : (config : Config) → debt_pieces config Nothing [] ≡ []
-unfolding debt_pieces rest_pieces
+nothing_owed : (config : Config) → debt_text config Nothing [] ≡ []
+unfolding debt_text rest_text
 nothing_owed config = refl
 
 opening_answers : (history : List (List Triple)) (config : Config) → Answers history config [] [] [] opening
@@ -64,7 +61,7 @@ opening_answers history config = record {
   heads = [];
   stands = (refl, no_request);
   marked = record { fits = tt; versions = tt; rising = tt };
-  text = ap concat (nothing_owed config);
+  text = nothing_owed config;
 }
 
 pub opened_answers : (history : List (List Triple)) (config : Config) (held : Held) (rest : Rest) (waiting : List Queued) (bytes : List ℕ) → held ≡ holding [] → rest ≡ Nothing → waiting ≡ [] → bytes ≡ []
@@ -102,17 +99,12 @@ starve_is unread reading stopped old_rest rest old_waiting waiting bytes cut kep
 
 -- ---- further heads are read
 
-debt_text : (config : Config) (rest : Rest) (waiting : List Queued) → concat (debt_pieces config rest waiting) ≡ concat (rest_pieces rest) ++ concat (queue_pieces config waiting)
-unfolding debt_pieces
-debt_text config rest waiting = concat_more (rest_pieces rest) (queue_pieces config waiting)
-
 -- what is owed more where answers were queued
-debt_more : (config : Config) (rest : Rest) (before after : List Queued) (text : List ℕ) → concat (queue_pieces config after) ≡ concat (queue_pieces config before) ++ text
-    → concat (debt_pieces config rest after) ≡ concat (debt_pieces config rest before) ++ text
+debt_more : (config : Config) (rest : Rest) (before after : List Queued) (text : List ℕ) → queue_text config after ≡ queue_text config before ++ text
+    → debt_text config rest after ≡ debt_text config rest before ++ text
+unfolding debt_text
 debt_more config rest before after text more =
-    debt_text config rest after ∙ ap (λ (l : List ℕ). concat (rest_pieces rest) ++ l) more
-    ∙ sym (append_assoc (concat (rest_pieces rest)) (concat (queue_pieces config before)) text)
-    ∙ ap (λ (l : List ℕ). l ++ text) (sym (debt_text config rest before))
+    ap (λ (l : List ℕ). rest_text rest ++ l) more ∙ sym (append_assoc (rest_text rest) (queue_text config before) text)
 
 module _ (history : List (List Triple)) (server : Serving) (bytes taken : List ℕ) (marks : List Mark) (piece : List ℕ) (first : List Mark) (numbers : List ℕ) (old new : Conversation) where
   further_text : (more : List Verdict) (later : List Mark) (answers_ : Answers history server.config bytes taken marks old) → new.pending ≡ old.pending
@@ -277,19 +269,18 @@ unfolding is_reload
 no_head config request is = neither (bytes_eq request.method (codes "GET")) (bytes_eq request.method (codes "HEAD")) _ is
 
 outcome_text : (history : List (List Triple)) (server : Serving) (request : Request) (outcome : Reloaded) (last : Bool) → is_reload server.config request ≡ true → request.closes ≡ last → IsOutcome server.version outcome
-    → concat (answer_pieces server.config (outcome_queued outcome last)) ≡ head_answer (answering history server.config) (Accepted request) (outcome_mark server.version outcome)
+    → queued_text server.config (outcome_queued outcome last) ≡ head_answer (answering history server.config) (Accepted request) (outcome_mark server.version outcome)
 unfolding answer_to
 outcome_text history server request outcome last is ends of =
-    answer_text_is server.config (outcome_queued outcome last)
-    ∙ ap (λ (a : Answer). answer_text a false last) (outcome_answer server.config server.version outcome of)
+    ap (λ (a : Answer). answer_text a false last) (outcome_answer server.config server.version outcome of)
     ∙ ap (λ (b : Bool). answer_text (if b then reload_answer (outcome_mark server.version outcome) else version_answer history (version_at (outcome_mark server.version outcome)) server.config request) false last) (sym is)
     ∙ ap₂ (λ (w l : Bool). answer_text (answer_to history (outcome_mark server.version outcome) server.config request) w l) (sym (no_head server.config request is)) (sym ends)
 
-outcome_owed : (config : Config) (rest : Rest) (before after : List Queued) (queued : Queued) (text more : List ℕ) → concat (answer_pieces config queued) ≡ text → concat (queue_pieces config after) ≡ concat (queue_pieces config (before ++ queued ∷ [])) ++ more
-    → concat (debt_pieces config rest after) ≡ concat (debt_pieces config rest before) ++ (text ++ more)
+outcome_owed : (config : Config) (rest : Rest) (before after : List Queued) (queued : Queued) (text more : List ℕ) → queued_text config queued ≡ text → queue_text config after ≡ queue_text config (before ++ queued ∷ []) ++ more
+    → debt_text config rest after ≡ debt_text config rest before ++ (text ++ more)
 outcome_owed config rest before after queued text more is behind =
     debt_more config rest before after (text ++ more)
-    (behind ∙ ap (λ (l : List ℕ). l ++ more) (queue_more config before queued ∙ ap (λ (l : List ℕ). concat (queue_pieces config before) ++ l) is) ∙ append_assoc (concat (queue_pieces config before)) text more)
+    (behind ∙ ap (λ (l : List ℕ). l ++ more) (queue_more config before queued ∙ ap (λ (l : List ℕ). queue_text config before ++ l) is) ∙ append_assoc (queue_text config before) text more)
 
 numbers_before : (history : List (List Triple)) (server : Serving) (request : Request) (outcome : Reloaded) (heads : List Verdict) → is_reload server.config request ≡ true → IsOutcome server.version outcome
     → reload_versions (answering history server.config) heads (served_marks server.version heads) ≡ []
@@ -304,7 +295,7 @@ module _ (server : Serving) (outcome : Reloaded) (of : IsOutcome server.version 
       → (request : Request) (last : Bool) → is_reload server.config request ≡ true → request.closes ≡ last
       → (heads : List Verdict) → reload_versions (answering history server.config) heads (served_marks server.version heads) ≡ []
       → new.pending ≡ old.pending
-      → owed_text server.config new ≡ owed_text server.config old ++ (concat (answer_pieces server.config (outcome_queued outcome last)) ++ answers (answering history server.config) heads (served_marks server.version heads))
+      → owed_text server.config new ≡ owed_text server.config old ++ (queued_text server.config (outcome_queued outcome last) ++ answers (answering history server.config) heads (served_marks server.version heads))
       → Stands server.config (heads_of (fed ++ [])) (a.heads ++ (Accepted request ∷ heads)) new.reading new.unread
       → ReadsFurther history server fed taken marks [] (outcome_mark server.version outcome ∷ []) (outcome_numbers outcome) new
   answered history fed taken marks a is request last reload ends heads none pending owed stands =
@@ -338,7 +329,7 @@ reloads_last server outcome unread rest before after pending starved reading kep
   reads = λ history fed taken marks last a.
       let r = a.stands.1.1 in
       answered server outcome of _ _ history fed taken marks a last r.request true r.asks r.last [] refl refl
-      (outcome_owed server.config rest before after (outcome_queued outcome true) _ [] refl (ap (λ (q : List Queued). concat (queue_pieces server.config q)) waiting ∙ sym (append-nil (concat (queue_pieces server.config (before ++ outcome_queued outcome true ∷ []))))))
+      (outcome_owed server.config rest before after (outcome_queued outcome true) _ [] refl (ap (queue_text server.config) waiting ∙ sym (append-nil (queue_text server.config (before ++ outcome_queued outcome true ∷ [])))))
       (subst (λ (x : Reading). Stands server.config (heads_of (fed ++ [])) (a.heads ++ (Accepted r.request ∷ [])) x kept.bytes) (sym ended) (reload_ends server.config fed a.stands.0 unread a.heads r a.stands.1.0 kept.bytes));
 }
 
@@ -379,14 +370,13 @@ reloads server outcome unread rest new_rest before after pending starved last ol
 -- ---- bytes are made
 
 makes_at : (config : Config) (unread : List ℕ) (rest new_rest : Rest) (before after : List Queued) (bytes made : List ℕ) (given : ℕ) (reading : Reading) (starved : Bool) → given ≤ length bytes → starved ≡ false
-    → Fills (debt_pieces config rest before) (debt_pieces config new_rest after) given bytes made
+    → Fills (debt_text config rest before) (debt_text config new_rest after) given bytes made
     → (65536 ≤ length made - given) ⊎ (debt_left new_rest after ≡ false)
     → Makes config (record { unread = unread; reading = reading; rest = rest; waiting = before; pending = drop given bytes; starved = starved }) (record { unread = unread; reading = reading; rest = new_rest; waiting = after; pending = drop given made; starved = starved })
 makes_at config unread rest new_rest before after bytes made given reading starved within fed fills enough = record {
-  pieces = fills.pieces;
+  part = fills.part;
   owed = fills.owed;
-  pending = ap (drop given) fills.made ∙ drop_front given bytes (concat fills.pieces) within;
-  small = subst (λ (n : ℕ). IsSmall n fills.pieces) (sym (length-drop given bytes)) fills.small;
+  pending = ap (drop given) fills.made ∙ drop_front given bytes fills.part within;
   enough = elim enough as (λ e. (65536 ≤ length (drop given made)) ⊎ ((starved || debt_left new_rest after) ≡ false)) [ inl h ↦ inl (omega (arith, h, length-drop given made)) | inr h ↦ inr (ap (λ (b : Bool). b || debt_left new_rest after) fed ∙ h) ];
   unread = refl;
   reading = refl;
@@ -400,7 +390,7 @@ makes_at config unread rest new_rest before after bytes made given reading starv
 
 pub makes : (config : Config) (unread : List ℕ) (rest new_rest : Rest) (before after : List Queued) (bytes made : List ℕ) (given : ℕ) (reading : Reading) (starved : Bool) (old : Conversation)
     → record { unread = unread; reading = reading; rest = rest; waiting = before; pending = drop given bytes; starved = starved } ≡ old → given ≤ length bytes → old.starved ≡ false
-    → Fills (debt_pieces config rest before) (debt_pieces config new_rest after) given bytes made
+    → Fills (debt_text config rest before) (debt_text config new_rest after) given bytes made
     → (65536 ≤ length made - given) ⊎ (debt_left new_rest after ≡ false)
     → Makes config old (record { unread = unread; reading = reading; rest = new_rest; waiting = after; pending = drop given made; starved = starved })
 makes config unread rest new_rest before after bytes made given reading starved old same within fed fills enough =
@@ -413,10 +403,9 @@ owes_left view old left same fed_ is = sym (ap owes same) ∙ ap (λ (b : Bool).
 -- with nothing owed nothing is made
 pub idle_makes : (config : Config) (view old : Conversation) (left : Bool) → view ≡ old → view.starved ≡ false → left ≡ debt_left view.rest view.waiting → left ≡ false → Makes config old old
 idle_makes config view old left same fed_ is none = record {
-  pieces = [];
+  part = [];
   owed = refl;
   pending = sym (append-nil old.pending);
-  small = tt;
   enough = inr (owes_left view old left same fed_ is ∙ none);
   unread = refl;
   reading = refl;
@@ -430,26 +419,11 @@ makes_answer config old new makes history fed taken marks a = record {
   marked = a.marked;
   text =
       ap (λ (p : List ℕ). taken ++ p ++ owed_text config new) makes.pending
-      ∙ ap (λ (l : List ℕ). l ++ owed_text config new) (sym (append_assoc taken old.pending (concat makes.pieces)))
-      ∙ append_assoc (taken ++ old.pending) (concat makes.pieces) (owed_text config new)
-      ∙ ap (λ (l : List ℕ). taken ++ old.pending ++ l) (sym (concat_more makes.pieces (owed_pieces config new)) ∙ ap concat (sym makes.owed))
+      ∙ ap (λ (l : List ℕ). l ++ owed_text config new) (sym (append_assoc taken old.pending makes.part))
+      ∙ append_assoc (taken ++ old.pending) makes.part (owed_text config new)
+      ∙ ap (λ (l : List ℕ). taken ++ old.pending ++ l) (sym makes.owed)
       ∙ a.text;
 }
-
--- pieces that are at most so long, each made where fewer than 65536 bytes were pending, leave at most 65535 bytes and one piece
-bounded_pieces : (longest pending : ℕ) (pieces later : List (List ℕ)) → AllByRecursion (λ (piece : List ℕ). length piece ≤ longest) (pieces ++ later) → IsSmall pending pieces → pending ≤ 65535 + longest → pending + length (concat pieces) ≤ 65535 + longest
-bounded_pieces longest pending [] later short small few = omega (arith, few)
-bounded_pieces longest pending (piece ∷ pieces) later short small few =
-    omega (arith, bounded_pieces longest (pending + length piece) pieces later short.1 small.1 (omega (arith, small.0, short.0)), length-append piece (concat pieces))
-
-pub makes_bounded : (config : Config) (old new : Conversation) → Makes config old new → (longest : ℕ) → AllByRecursion (λ (piece : List ℕ). length piece ≤ longest) (owed_pieces config old) → length old.pending ≤ 65535 + longest → length new.pending ≤ 65535 + longest
-makes_bounded config old new makes longest short few =
-    omega (
-      arith,
-      ap (λ (l : List ℕ). length l) makes.pending,
-      length-append old.pending (concat makes.pieces),
-      bounded_pieces longest (length old.pending) makes.pieces (owed_pieces config new) (subst (AllByRecursion (λ (piece : List ℕ). length piece ≤ longest)) makes.owed short) makes.small few,
-    )
 
 -- ---- bytes are taken
 
@@ -491,67 +465,68 @@ long_triples (t ∷ triples) some = long_first (triple_line t) (triple_lines tri
 below_is : (a b : ℕ) → nat_lt a b ≡ true → a < b
 below_is a b h = grind (arith, h)
 
-long_page : (page : PageLines) → IsPart page.table page.triples → page_left page ≡ true → 0 < length (concat (page_pieces page))
-unfolding page_pieces
-long_page page part left =
-    let both = ap (λ (l : List ℕ). length l) (concat_more (triple_lines (listed page.table page.triples)) (quad_lines page.quads)) in
+long_lines : (page : PageLines) → IsPart page.table page.triples → lines_left page ≡ true → 0 < length (concat (triple_lines (listed page.table page.triples)) ++ concat (quad_lines page.quads))
+long_lines page part left =
     let sum = length-append (concat (triple_lines (listed page.table page.triples))) (concat (quad_lines page.quads)) in
-    elim (or_cases (nat_lt page.triples.from page.triples.to) (nat_lt 0 (length page.quads)) left) as (λ e. 0 < length (concat (triple_lines (listed page.table page.triples) ++ quad_lines page.quads))) [
-      | inl h ↦ omega (arith, both, sum, long_triples (listed page.table page.triples) (omega (arith, part.lists, below_is page.triples.from page.triples.to h)))
-      | inr h ↦ omega (arith, both, sum, long_quads page.quads (below_is 0 (length page.quads) h))
+    elim (or_cases (nat_lt page.triples.from page.triples.to) (nat_lt 0 (length page.quads)) left) as (λ e. 0 < length (concat (triple_lines (listed page.table page.triples)) ++ concat (quad_lines page.quads))) [
+      | inl h ↦ omega (arith, sum, long_triples (listed page.table page.triples) (omega (arith, part.lists, below_is page.triples.from page.triples.to h)))
+      | inr h ↦ omega (arith, sum, long_quads page.quads (below_is 0 (length page.quads) h))
     ]
 
-long_status : (status : Status) → 0 < length (concat ((refusal (code status)).body ∷ []))
-long_status status = long_first (refusal (code status)).body [] (omega (arith, length-append (decimal_text (code status)) (32 ∷ (phrase (code status) ++ 10 ∷ []))))
+long_page : (page : PageLines) → IsPart page.table page.triples → page_left page ≡ true → 0 < length (page_text page)
+unfolding page_text
+long_page page part left =
+    let lines = concat (triple_lines (listed page.table page.triples)) ++ concat (quad_lines page.quads) in
+    let sum = length-append page.begun lines in
+    elim (or_cases (nat_lt 0 (length page.begun)) (lines_left page) left) as (λ e. 0 < length (page.begun ++ lines)) [
+      | inl h ↦ omega (arith, sum, below_is 0 (length page.begun) h)
+      | inr h ↦ omega (arith, sum, long_lines page part h)
+    ]
 
-long_rest : (rest : Rest) → IsWithin rest → is_left rest ≡ true → 0 < length (concat (rest_pieces rest))
-unfolding rest_pieces
+long_rest : (rest : Rest) → IsWithin rest → is_left rest ≡ true → 0 < length (rest_text rest)
+unfolding rest_text
 long_rest Nothing within left = absurd (true≢false (sym left))
-long_rest (Line status) within left = long_status status
-long_rest (Words text) within left = long_first text [] within
+long_rest (Line status) within left = body_some status
+long_rest (Words text) within left = within.0
 long_rest (Page page) within left = long_page page within left
 
-long_head : (status : ℕ) (media : MediaType) (body_length : ℕ) (closes : Bool) → 0 < length (head_text status media body_length closes)
-unfolding head_text
-long_head status media body_length closes = omega arith
-
-long_answer : (config : Config) (queued : Queued) → 0 < length (concat (answer_pieces config queued))
-unfolding answer_pieces
+long_answer : (config : Config) (queued : Queued) → 0 < length (queued_text config queued)
+unfolding answer_text
 long_answer config queued =
     let a = answer_of config queued.asking in
-    long_first (head_text a.status a.media_type (length a.body) queued.closes) (if queued.without_body then [] else body_pieces config queued.asking) (long_head a.status a.media_type (length a.body) queued.closes)
+    let head = head_text a.status a.media_type (length a.body) queued.closes in
+    omega (arith, long_head a.status a.media_type (length a.body) queued.closes, length-append head (if queued.without_body then [] else a.body))
 
-long_queue : (config : Config) (waiting : List Queued) → nat_lt 0 (length waiting) ≡ true → 0 < length (concat (queue_pieces config waiting))
+long_queue : (config : Config) (waiting : List Queued) → nat_lt 0 (length waiting) ≡ true → 0 < length (queue_text config waiting)
 long_queue config [] some = absurd (true≢false (sym some))
-long_queue config (q ∷ waiting) some =
-    omega (arith, long_answer config q, ap (λ (l : List ℕ). length l) (concat_more (answer_pieces config q) (queue_pieces config waiting)), length-append (concat (answer_pieces config q)) (concat (queue_pieces config waiting)))
+long_queue config (q ∷ waiting) some = omega (arith, long_answer config q, length-append (queued_text config q) (queue_text config waiting))
 
-pub long_debt : (config : Config) (rest : Rest) (waiting : List Queued) → Fits rest waiting → debt_left rest waiting ≡ true → 0 < length (concat (debt_pieces config rest waiting))
+pub long_debt : (config : Config) (rest : Rest) (waiting : List Queued) → Fits rest waiting → debt_left rest waiting ≡ true → 0 < length (debt_text config rest waiting)
+unfolding debt_text
 long_debt config rest waiting fits left =
-    let both = ap (λ (l : List ℕ). length l) (debt_text config rest waiting) in
-    let sum = length-append (concat (rest_pieces rest)) (concat (queue_pieces config waiting)) in
-    elim (or_cases (is_left rest) (nat_lt 0 (length waiting)) left) as (λ e. 0 < length (concat (debt_pieces config rest waiting))) [
-      | inl h ↦ omega (arith, both, sum, long_rest rest fits.range h)
-      | inr h ↦ omega (arith, both, sum, long_queue config waiting h)
+    let sum = length-append (rest_text rest) (queue_text config waiting) in
+    elim (or_cases (is_left rest) (nat_lt 0 (length waiting)) left) as (λ e. 0 < length (rest_text rest ++ queue_text config waiting)) [
+      | inl h ↦ omega (arith, sum, long_rest rest fits.range h)
+      | inr h ↦ omega (arith, sum, long_queue config waiting h)
     ]
 
--- where something is owed, a piece is made
+-- where something is owed, a byte is made
 pub makes_some : (config : Config) (old new : Conversation) → Makes config old new → Fits old.rest old.waiting → old.starved ≡ false → owes old ≡ true → 0 < length new.pending
 makes_some config old new makes fits fed_ left =
     let some = long_debt config old.rest old.waiting fits (sym (ap (λ (b : Bool). b || debt_left old.rest old.waiting) fed_) ∙ left) in
-    let both = ap (λ (l : List ℕ). length l) (ap concat makes.owed ∙ concat_more makes.pieces (owed_pieces config new)) in
-    let sum = length-append (concat makes.pieces) (owed_text config new) in
-    let more = ap (λ (l : List ℕ). length l) makes.pending ∙ length-append old.pending (concat makes.pieces) in
+    let both = ap (λ (l : List ℕ). length l) makes.owed in
+    let sum = length-append makes.part (owed_text config new) in
+    let more = ap (λ (l : List ℕ). length l) makes.pending ∙ length-append old.pending makes.part in
     elim makes.enough as (λ e. 0 < length new.pending) [
       | inl h ↦ omega (arith, h)
       | inr h ↦ omega (arith, some, both, sum, more, none_left new h)
     ]
   where
     none_left : (c : Conversation) → owes c ≡ false → length (owed_text config c) ≡ 0
-    none_left c h = ap (λ (l : List (List ℕ)). length (concat l)) (debt_done config c.rest c.waiting (or_parts c.starved (debt_left c.rest c.waiting) h).1)
+    none_left c h = ap (λ (l : List ℕ). length l) (debt_done config c.rest c.waiting (or_parts c.starved (debt_left c.rest c.waiting) h).1)
 
 pub none_owed : (c : Conversation) (config : Config) → owes c ≡ false → owed_text config c ≡ []
-none_owed c config h = ap concat (debt_done config c.rest c.waiting (or_parts c.starved (debt_left c.rest c.waiting) h).1)
+none_owed c config h = debt_done config c.rest c.waiting (or_parts c.starved (debt_left c.rest c.waiting) h).1
 
 pub some_owed : (c : Conversation) (config : Config) → Fits c.rest c.waiting → owes c ≡ true → c.starved ≡ false → owed_text config c ≡ [] → ⊥
 some_owed c config fits left fed_ none =

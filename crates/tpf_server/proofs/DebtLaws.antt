@@ -1,22 +1,23 @@
--- What is owed, and how it becomes less piece by piece.
-use Rattle.std.proofs.Common.{◌≡◌, ℕ, ◌+◌, ◌-◌, ◌<◌, ◌≤◌, Bool, true, false, List, [], ◌∷◌, ◌++◌, length, Result, Ok, Err, refl, ap, ap₂, sym, subst, ◌∙◌, arith, append_assoc, append-nil, length-append, if◌then◌else◌}
-use Rattle.std.specs.Prelude.{nat_lt, ◌||◌, OnOk}
-use Rattle.std.specs.List.{AllByRecursion, concat}
+-- What is owed, and how it becomes less part by part.
+use Rattle.std.proofs.Common.{◌≡◌, ℕ, ◌+◌, ◌-◌, ◌<◌, ◌≤◌, Bool, true, false, List, [], ◌∷◌, ◌++◌, length, take, Result, Ok, Err, refl, ap, ap₂, sym, subst, ◌∙◌, arith, append_assoc, append-nil, length-append, if◌then◌else◌}
+use Rattle.std.specs.Prelude.{nat_lt, ◌||◌, OnErr, OnOk}
+use Rattle.std.specs.List.{AllByRecursion}
 use Rattle.std.proofs.lemmas.Bool.{or_parts, true≢false}
+use Rattle.list_laws.specs.Begins.{Begins}
+use Rattle.list_laws.proofs.Begins.{cut_back, same_begins}
 use Rattle.template_fill.specs.Metadata.{Config}
-use Rattle.template_fill.specs.HttpAnswer.{MediaType, head_text}
+use Rattle.template_fill.specs.HttpAnswer.{MediaType, answer_text, head_text}
 use Rattle.tpf_server.specs.declared.asked.Queued.{Queued}
 use Rattle.tpf_server.specs.declared.pages.Opened.{Opened}
 use Rattle.tpf_server.specs.declared.rest.Rest.{Rest}
 use Rattle.tpf_server.specs.declared.rest.Rest.TheVariants.{Nothing}
 use Rattle.tpf_server.specs.Statuses.{code, media_of}
-use Rattle.tpf_server.specs.Asked.{IsAsked}
-use Rattle.tpf_server.specs.Given.{IsGiven, IsSmall}
-use Rattle.tpf_server.specs.Rests.{IsWithin, is_left, rest_pieces}
-use Rattle.tpf_server.specs.Opened.{Opens, body_pieces}
-use Rattle.tpf_server.specs.Owed.{Fits, Fills, answer_pieces, debt_left, debt_pieces, queue_pieces}
+use Rattle.tpf_server.specs.Asked.{IsAsked, answer_of}
+use Rattle.tpf_server.specs.Given.{IsGiven}
+use Rattle.tpf_server.specs.Rests.{IsWithin, is_left, rest_text}
+use Rattle.tpf_server.specs.Opened.{Opens}
+use Rattle.tpf_server.specs.Owed.{Fits, Fills, debt_left, debt_text, queue_text, queued_text}
 use Rattle.tpf_server.proofs.RestLaws.{rest_done, no_length}
-use Rattle.tpf_server.proofs.PageLaws.{concat_more}
 
 pub on_ok : {T E P Q : Type 0} (r : Result T E) → (P → Q) → OnOk r P → OnOk r Q
 on_ok (Ok x) f p = f p
@@ -24,10 +25,10 @@ on_ok (Err e) f p = p
 
 -- ---- an answer is begun
 
-wanted_pieces : (without : Bool) (body : Rest) → rest_pieces (if without then Nothing else body) ≡ (if without then [] else rest_pieces body)
-unfolding rest_pieces
-wanted_pieces true body = refl
-wanted_pieces false body = refl
+wanted_text : (without : Bool) (body : Rest) → rest_text (if without then Nothing else body) ≡ (if without then [] else rest_text body)
+unfolding rest_text
+wanted_text true body = refl
+wanted_text false body = refl
 
 wanted_within : (without : Bool) (body : Rest) → IsWithin body → IsWithin (if without then Nothing else body)
 wanted_within true body h = tt
@@ -36,44 +37,56 @@ wanted_within false body h = h
 head_is : (s n : ℕ) (m : MediaType) (status length : ℕ) (media : MediaType) (closes : Bool) → s ≡ status → n ≡ length → m ≡ media → head_text status media length closes ≡ head_text s m n closes
 head_is s n m status length media closes a b c = sym (ap₂ (λ (x y : ℕ). head_text x m y closes) a b ∙ ap (λ (x : MediaType). head_text status x length closes) c)
 
+pub long_head : (status : ℕ) (media : MediaType) (body_length : ℕ) (closes : Bool) → 0 < length (head_text status media body_length closes)
+unfolding head_text
+long_head status media body_length closes = omega arith
+
 pub begun : (config : Config) (queued : Queued) (o : Opened) (rest : Rest) (before after : List ℕ) → Opens config queued.asking o → after ≡ before ++ head_text (code o.status) (media_of o.media) o.length queued.closes
-    → rest ≡ (if queued.without_body then Nothing else o.body) → IsGiven (answer_pieces config queued) (rest_pieces rest) before after
-unfolding answer_pieces
-begun config queued o rest before after opens appended is = record {
-  piece = head_text (code o.status) (media_of o.media) o.length queued.closes;
-  pieces =
-      ap₂ (λ (h : List ℕ) (l : List (List ℕ)). h ∷ (if queued.without_body then [] else l)) (head_is (code o.status) o.length (media_of o.media) _ _ _ queued.closes opens.status opens.length opens.media) (sym opens.body)
-      ∙ ap (λ (l : List (List ℕ)). head_text (code o.status) (media_of o.media) o.length queued.closes ∷ l) (sym (ap rest_pieces is ∙ wanted_pieces queued.without_body o.body));
+    → length (head_text (code o.status) (media_of o.media) o.length queued.closes) ≤ 16384
+    → rest ≡ (if queued.without_body then Nothing else o.body) → IsGiven (queued_text config queued) (rest_text rest) before after
+unfolding answer_text
+begun config queued o rest before after opens appended few is = record {
+  part = head_text (code o.status) (media_of o.media) o.length queued.closes;
+  text =
+      ap₂ (λ (h l : List ℕ). h ++ (if queued.without_body then [] else l)) (head_is (code o.status) o.length (media_of o.media) _ _ _ queued.closes opens.status opens.length opens.media) (sym opens.body)
+      ∙ ap (λ (l : List ℕ). head_text (code o.status) (media_of o.media) o.length queued.closes ++ l) (sym (ap rest_text is ∙ wanted_text queued.without_body o.body));
   appended = appended;
+  some = long_head (code o.status) (media_of o.media) o.length queued.closes;
+  few = few;
 }
 
 pub begun_within : (config : Config) (queued : Queued) (o : Opened) (rest : Rest) → Opens config queued.asking o → rest ≡ (if queued.without_body then Nothing else o.body) → IsWithin rest
 begun_within config queued o rest opens is = subst IsWithin (sym is) (wanted_within queued.without_body o.body opens.range)
 
--- ---- the next piece
+-- ---- the next part
 
-pub rest_given : (config : Config) (rest new : Rest) (waiting : List Queued) (before after : List ℕ) → IsGiven (rest_pieces rest) (rest_pieces new) before after
-    → IsGiven (debt_pieces config rest waiting) (debt_pieces config new waiting) before after
-unfolding debt_pieces
+pub rest_given : (config : Config) (rest new : Rest) (waiting : List Queued) (before after : List ℕ) → IsGiven (rest_text rest) (rest_text new) before after
+    → IsGiven (debt_text config rest waiting) (debt_text config new waiting) before after
+unfolding debt_text
 rest_given config rest new waiting before after given = record {
-  piece = given.piece;
-  pieces = ap (λ (l : List (List ℕ)). l ++ queue_pieces config waiting) given.pieces;
+  part = given.part;
+  text = ap (λ (l : List ℕ). l ++ queue_text config waiting) given.text ∙ append_assoc given.part (rest_text new) (queue_text config waiting);
   appended = given.appended;
+  some = given.some;
+  few = given.few;
 }
 
-none_left : (rest : Rest) → is_left rest ≡ false → rest_pieces rest ≡ []
-unfolding rest_pieces
+none_left : (rest : Rest) → is_left rest ≡ false → rest_text rest ≡ []
+unfolding rest_text
 none_left rest none = rest_done rest none
 
 pub answer_given : (config : Config) (rest new : Rest) (waiting later : List Queued) (queued : Queued) (before after : List ℕ) → is_left rest ≡ false → waiting ≡ queued ∷ later
-    → IsGiven (answer_pieces config queued) (rest_pieces new) before after → IsGiven (debt_pieces config rest waiting) (debt_pieces config new later) before after
-unfolding debt_pieces
+    → IsGiven (queued_text config queued) (rest_text new) before after → IsGiven (debt_text config rest waiting) (debt_text config new later) before after
+unfolding debt_text
 answer_given config rest new waiting later queued before after none is given = record {
-  piece = given.piece;
-  pieces =
-      ap₂ (λ (l : List (List ℕ)) (q : List Queued). l ++ queue_pieces config q) (none_left rest none) is
-      ∙ ap (λ (l : List (List ℕ)). l ++ queue_pieces config later) given.pieces;
+  part = given.part;
+  text =
+      ap₂ (λ (l : List ℕ) (q : List Queued). l ++ queue_text config q) (none_left rest none) is
+      ∙ ap (λ (l : List ℕ). l ++ queue_text config later) given.text
+      ∙ append_assoc given.part (rest_text new) (queue_text config later);
   appended = given.appended;
+  some = given.some;
+  few = given.few;
 }
 
 abbrev AllAsked : List Queued → Type 0
@@ -88,47 +101,64 @@ answer_fits rest new waiting later queued is fits within = record { range = with
 pub nothing_waits : (rest : Rest) (waiting : List Queued) → is_left rest ≡ false → debt_left rest waiting ≡ true → waiting ≡ [] → ⊥
 nothing_waits rest waiting none left empty = true≢false (sym left ∙ ap₂ (λ (b : Bool) (q : List Queued). b || nat_lt 0 (length q)) none empty)
 
--- ---- many pieces
+-- ---- many parts
 
-small_more : (n : ℕ) (pieces : List (List ℕ)) (piece : List ℕ) → IsSmall n pieces → n + length (concat pieces) < 65536 → IsSmall n (pieces ++ piece ∷ [])
-small_more n [] piece small few = (omega (arith, few), tt)
-small_more n (p ∷ pieces) piece small few = (small.0, small_more (n + length p) pieces piece small.1 (omega (arith, few, length-append p (concat pieces))))
+pub fills_none : (owed : List ℕ) (taken : ℕ) (before : List ℕ) → Fills owed owed taken before before
+fills_none owed taken before = record { part = []; owed = refl; made = sym (append-nil before); few = λ h. h }
 
-pub fills_none : (owed : List (List ℕ)) (taken : ℕ) (before : List ℕ) → Fills owed owed taken before before
-fills_none owed taken before = record { pieces = []; owed = refl; made = sym (append-nil before); small = tt }
-
-pub fills_more : (owed left new : List (List ℕ)) (taken : ℕ) (before made after : List ℕ) → taken ≤ length before → length made - taken < 65536 → Fills owed left taken before made → IsGiven left new made after → Fills owed new taken before after
+pub fills_more : (owed left new : List ℕ) (taken : ℕ) (before made after : List ℕ) → taken ≤ length before → length made - taken < 65536 → Fills owed left taken before made → IsGiven left new made after → Fills owed new taken before after
 fills_more owed left new taken before made after within few fills given = record {
-  pieces = fills.pieces ++ given.piece ∷ [];
-  owed = fills.owed ∙ ap (λ (l : List (List ℕ)). fills.pieces ++ l) given.pieces ∙ sym (append_assoc fills.pieces (given.piece ∷ []) new);
-  made =
-      given.appended ∙ ap (λ (l : List ℕ). l ++ given.piece) fills.made ∙ append_assoc before (concat fills.pieces) given.piece
-      ∙ ap (λ (l : List ℕ). before ++ l) (ap (λ (l : List ℕ). concat fills.pieces ++ l) (sym (append-nil given.piece)) ∙ sym (concat_more fills.pieces (given.piece ∷ [])));
-  small = small_more (length before - taken) fills.pieces given.piece fills.small (omega (arith, within, few, ap (λ (l : List ℕ). length l) fills.made, length-append before (concat fills.pieces)));
+  part = fills.part ++ given.part;
+  owed = fills.owed ∙ ap (λ (l : List ℕ). fills.part ++ l) given.text ∙ sym (append_assoc fills.part given.part new);
+  made = given.appended ∙ ap (λ (l : List ℕ). l ++ given.part) fills.made ∙ append_assoc before fills.part given.part;
+  few = λ h. omega (arith, few, given.few, ap (λ (l : List ℕ). length l) given.appended, length-append made given.part);
 }
 
-pub made_within : (owed left : List (List ℕ)) (taken : ℕ) (before made : List ℕ) → taken ≤ length before → Fills owed left taken before made → taken ≤ length made
-made_within owed left taken before made within fills = omega (arith, within, ap (λ (l : List ℕ). length l) fills.made, length-append before (concat fills.pieces))
+pub made_within : (owed left : List ℕ) (taken : ℕ) (before made : List ℕ) → taken ≤ length before → Fills owed left taken before made → taken ≤ length made
+made_within owed left taken before made within fills = omega (arith, within, ap (λ (l : List ℕ). length l) fills.made, length-append before fills.part)
 
-pub fewer_pieces : (old new : List (List ℕ)) (before after : List ℕ) → IsGiven old new before after → length new < length old
-fewer_pieces old new before after given = omega (arith, ap (λ (l : List (List ℕ)). length l) given.pieces)
+pub less_owed : (old new before after : List ℕ) → IsGiven old new before after → length new < length old
+less_owed old new before after given = omega (arith, given.some, ap (λ (l : List ℕ). length l) given.text, length-append given.part new)
 
 no_queue : (waiting : List Queued) → nat_lt 0 (length waiting) ≡ false → waiting ≡ []
 no_queue [] h = refl
 no_queue (q ∷ waiting) h = absurd (no_length (length waiting) h)
 
-pub debt_done : (config : Config) (rest : Rest) (waiting : List Queued) → debt_left rest waiting ≡ false → debt_pieces config rest waiting ≡ []
-unfolding debt_pieces
+pub debt_done : (config : Config) (rest : Rest) (waiting : List Queued) → debt_left rest waiting ≡ false → debt_text config rest waiting ≡ []
+unfolding debt_text
 debt_done config rest waiting none =
     let p = or_parts (is_left rest) (nat_lt 0 (length waiting)) none in
-    ap₂ (λ (l : List (List ℕ)) (q : List Queued). l ++ queue_pieces config q) (none_left rest p.0) (no_queue waiting p.1)
+    ap₂ (λ (l : List ℕ) (q : List Queued). l ++ queue_text config q) (none_left rest p.0) (no_queue waiting p.1)
 
-pub debt_settled : (config : Config) (rest new : Rest) (waiting : List Queued) → rest_pieces new ≡ rest_pieces rest → debt_pieces config new waiting ≡ debt_pieces config rest waiting
-unfolding debt_pieces
-debt_settled config rest new waiting same = ap (λ (l : List (List ℕ)). l ++ queue_pieces config waiting) same
+pub debt_settled : (config : Config) (rest new : Rest) (waiting : List Queued) → rest_text new ≡ rest_text rest → debt_text config new waiting ≡ debt_text config rest waiting
+unfolding debt_text
+debt_settled config rest new waiting same = ap (λ (l : List ℕ). l ++ queue_text config waiting) same
 
-pub fills_settled : (debt left new : List (List ℕ)) (taken : ℕ) (before after : List ℕ) → new ≡ left → Fills debt left taken before after → Fills debt new taken before after
-fills_settled debt left new taken before after same fills = subst (λ (l : List (List ℕ)). Fills debt l taken before after) (sym same) fills
+pub fills_settled : (debt left new : List ℕ) (taken : ℕ) (before after : List ℕ) → new ≡ left → Fills debt left taken before after → Fills debt new taken before after
+fills_settled debt left new taken before after same fills = subst (λ (l : List ℕ). Fills debt l taken before after) (sym same) fills
 
 pub left_settled : (rest new : Rest) (waiting : List Queued) → is_left new ≡ is_left rest → debt_left rest waiting ≡ false → debt_left new waiting ≡ false
 left_settled rest new waiting same none = ap (λ (b : Bool). b || nat_lt 0 (length waiting)) same ∙ none
+
+-- ---- what was appended is taken back where memory was wanting
+
+pub back_fills : {T E : Type 0} (r : Result T E) (debt left : List ℕ) (taken : ℕ) (before made after : List ℕ) → OnOk r (after ≡ made) → OnOk r (Fills debt left taken before made) → OnOk r (Fills debt left taken before after)
+back_fills (Ok x) debt left taken before made after same fills = subst (λ (l : List ℕ). Fills debt left taken before l) (sym same) fills
+back_fills (Err e) debt left taken before made after same fills = fills
+
+pub back_enough : {T E : Type 0} (r : Result T E) (P : List ℕ → Type 0) (made after : List ℕ) → OnOk r (after ≡ made) → OnOk r (P made) → OnOk r (P after)
+back_enough (Ok x) P made after same enough = subst P (sym same) enough
+back_enough (Err e) P made after same enough = enough
+
+pub back_begins : {T E : Type 0} (r : Result T E) (before made after : List ℕ) → OnOk r (after ≡ made) → OnErr r (after ≡ before) → Begins before made → Begins before after
+back_begins (Ok x) before made after ok err front = subst (Begins before) (sym ok) front
+back_begins (Err e) before made after ok err front = same_begins before after err
+
+pub back_few : {T E : Type 0} (r : Result T E) (debt left : List ℕ) (taken : ℕ) (before after : List ℕ) → OnOk r (Fills debt left taken before after) → OnErr r (after ≡ before)
+    → length before - taken ≤ 81919 → length after - taken ≤ 81919
+back_few (Ok x) debt left taken before after fills err few = fills.few few
+back_few (Err e) debt left taken before after fills err few = omega (arith, few, ap (λ (l : List ℕ). length l) err)
+
+pub back_err : {T E : Type 0} (r : Result T E) (n : ℕ) (before made after : List ℕ) → OnErr r (after ≡ take n made) → n ≡ length before → Begins before made → OnErr r (after ≡ before)
+back_err (Ok x) n before made after same size front = tt
+back_err (Err e) n before made after same size front = same ∙ ap (λ (k : ℕ). take k made) size ∙ cut_back before made front

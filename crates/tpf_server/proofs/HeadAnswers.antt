@@ -1,7 +1,6 @@
 -- The answers to the heads at the front of bytes, one after another.
 use Rattle.std.proofs.Common.{◌≡◌, ℕ, ◌+◌, ◌-◌, ◌⊎◌, Bool, true, false, List, [], ◌∷◌, ◌++◌, map, length, take, drop, Option, Some, None, refl, ap, ap₂, sym, subst, ◌∙◌, inl, inr, arith, append-nil, length-drop, if◌then◌else◌}
 use Rattle.std.specs.Prelude.{codes, bytes_eq, not, nat_lt, nat_le, ◌&&◌}
-use Rattle.std.specs.List.{concat}
 use Rattle.std.proofs.lemmas.Bool.{true≢false}
 use Rattle.tpf_base.specs.HttpHeads.{Request, Verdict, Accepted, Rejected, NextRequest, Incomplete, Taken, Refused, next_request, next_at, with_length, judged, judged_head, head_limit, blank_length, head_length, field_lines, taken_whole, names_host, is_target}
 use Rattle.tpf_base.specs.HttpReader.{read_request}
@@ -25,37 +24,12 @@ use Rattle.http_wire.proofs.ConnectionLemmas.{heads_read}
 use Rattle.tpf_server.specs.declared.asked.Asking.{Asking}
 use Rattle.tpf_server.specs.declared.asked.Asking.TheVariants as asks
 use Rattle.tpf_server.specs.declared.asked.Queued.{Queued}
-use Rattle.tpf_server.specs.Statuses.{code, version_line}
+use Rattle.tpf_server.specs.Statuses.{code}
 use Rattle.tpf_server.specs.Serving.{Serving, IsHistoryOf, data_of, served}
 use Rattle.tpf_server.specs.Asked.{IsAsked, answer_at, answer_by, answer_for, answer_for_target, answer_of, body_at, is_head, is_other, page_answer_at, refused_with}
-use Rattle.tpf_server.specs.Opened.{body_pieces, page_lines}
-use Rattle.tpf_server.specs.Owed.{answer_pieces}
+use Rattle.tpf_server.specs.Owed.{queued_text}
 use Rattle.tpf_server.specs.Read.{IsAnswered, asks_for}
 use Rattle.triple_table.proofs.Bytes.{bytes_eq_same}
-use Rattle.tpf_server.proofs.PageLaws.{body_is_lines}
-
--- ---- the pieces of an answer are its text
-
-body_if : (page : Bool) (lines : List (List ℕ)) (body : List ℕ) → body ≡ concat lines
-    → concat (if page then lines else (refusal 404).body ∷ []) ≡ (if page then record { status = 200; media_type = NQuads; body = body } else refusal 404).body
-body_if true lines body is = sym is
-body_if false lines body is = append-nil (refusal 404).body
-
-body_text_is : (config : Config) (asking : Asking) → concat (body_pieces config asking) ≡ (answer_of config asking).body
-unfolding body_pieces answer_of
-body_text_is config (asks.Refused status) = append-nil (refusal (code status)).body
-body_text_is config (asks.Reloaded number) = append-nil (version_line number)
-body_text_is config (asks.Page slots page version) = body_if _ (page_lines (served version config) slots page) _ (body_is_lines (served version config) slots page)
-
-left_out : (without : Bool) (pieces : List (List ℕ)) (body : List ℕ) → concat pieces ≡ body → concat (if without then [] else pieces) ≡ (if without then [] else body)
-left_out true pieces body is = refl
-left_out false pieces body is = is
-
-pub answer_text_is : (config : Config) (queued : Queued) → concat (answer_pieces config queued) ≡ answer_text (answer_of config queued.asking) queued.without_body queued.closes
-unfolding answer_pieces answer_text
-answer_text_is config queued =
-    ap (λ (l : List ℕ). head_text (answer_of config queued.asking).status (answer_of config queued.asking).media_type (length (answer_of config queued.asking).body) queued.closes ++ l)
-    (left_out queued.without_body (body_pieces config queued.asking) (answer_of config queued.asking).body (body_text_is config queued.asking))
 
 -- ---- a request over a history whose last version is served
 
@@ -122,12 +96,11 @@ unfolding is_reload
 reload_is server request =
     ap (λ (b : Bool). b && is_path_of_reload server.config.reload (path_of request.target)) (known_other (bytes_eq request.method (codes "GET")) (bytes_eq request.method (codes "HEAD")))
 
-pub request_pieces : (history : List (List Triple)) (server : Serving) (request : Request) (queued : Queued) → IsHistoryOf history server → is_reload server.config request ≡ false
+pub request_text_is : (history : List (List Triple)) (server : Serving) (request : Request) (queued : Queued) → IsHistoryOf history server → is_reload server.config request ≡ false
     → answer_of server.config queued.asking ≡ answer_for server (asked_of request.method) request.target → queued.without_body ≡ is_head (asked_of request.method) → queued.closes ≡ request.closes
-    → concat (answer_pieces server.config queued) ≡ head_answer (answering history server.config) (Accepted request) (Served server.version)
-request_pieces history server request queued last plain answer body ends =
-    answer_text_is server.config queued
-    ∙ ap (λ (a : Answer). answer_text a queued.without_body queued.closes) (answer ∙ request_answer history server request last plain)
+    → queued_text server.config queued ≡ head_answer (answering history server.config) (Accepted request) (Served server.version)
+request_text_is history server request queued last plain answer body ends =
+    ap (λ (a : Answer). answer_text a queued.without_body queued.closes) (answer ∙ request_answer history server request last plain)
     ∙ ap₂ (λ (w l : Bool). answer_text (answer_to history (Served server.version) server.config request) w l) (body ∙ head_alone request.method) ends
 
 -- ---- a refusal
@@ -179,12 +152,11 @@ fault_code status (inr is) = ap (λ (n : ℕ). code (refused_with n)) is ∙ sym
 abbrev pub refusing_with : ℕ → Queued
 refusing_with status = record { asking = asks.Refused (refused_with status); without_body = false; closes = true }
 
-refused_pieces : (history : List (List Triple)) (server : Serving) (bytes : List ℕ) (status : ℕ) → next_request bytes ≡ Refused status
-    → concat (answer_pieces server.config (refusing_with status)) ≡ head_answer (answering history server.config) (Rejected status) (Served server.version)
+refused_text_is : (history : List (List Triple)) (server : Serving) (bytes : List ℕ) (status : ℕ) → next_request bytes ≡ Refused status
+    → queued_text server.config (refusing_with status) ≡ head_answer (answering history server.config) (Rejected status) (Served server.version)
 unfolding answer_of
-refused_pieces history server bytes status is =
-    answer_text_is server.config (refusing_with status)
-    ∙ ap (λ (n : ℕ). answer_text (refusal n) false true) (fault_code status (subst FaultOf is (next_fault bytes)))
+refused_text_is history server bytes status is =
+    ap (λ (n : ℕ). answer_text (refusal n) false true) (fault_code status (subst FaultOf is (next_fault bytes)))
 
 -- ---- one head
 
@@ -199,7 +171,7 @@ refused_reads server bytes status before after held is waiting = record {
   waiting = waiting;
   asked = tt;
   plain = λ history. refl;
-  text = λ history last. refused_pieces history server bytes status is;
+  text = λ history last. refused_text_is history server bytes status is;
   heads = heads_at bytes (Refused status) is;
   open_ = λ other. absurd (true≢false other);
   shorter = λ other. absurd (true≢false other);
@@ -218,7 +190,7 @@ taken_reads server bytes request n before after queued held is holds plain waiti
       waiting = waiting;
       asked = asked;
       plain = λ history. plain;
-      text = λ history last. request_pieces history server request queued last plain answer body ends;
+      text = λ history last. request_text_is history server request queued last plain answer body ends;
       heads = heads_at bytes (Taken request n) is ∙ ap (λ (l : List ℕ). if request.closes then last_head (Accepted request) else with_head (Accepted request) (heads_of l)) (sym rest);
       open_ = λ other. ap (λ (h : Held). h.refused) holds;
       shorter = λ other. omega (arith, within, ap (λ (l : List ℕ). length l) rest, length-drop n bytes);

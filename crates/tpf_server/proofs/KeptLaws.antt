@@ -1,5 +1,5 @@
 -- What a connection keeps where heads were read, and where bytes were made.
-use Rattle.std.proofs.Common.{◌≡◌, ℕ, ◌+◌, ◌-◌, ◌≤◌, ◌⊎◌, Bool, true, false, List, [], ◌∷◌, ◌++◌, length, drop, Option, None, refl, ap, sym, subst, ◌∙◌, arith, length-append}
+use Rattle.std.proofs.Common.{◌≡◌, ℕ, ◌+◌, ◌-◌, ◌≤◌, ◌⊎◌, Bool, true, false, List, [], ◌∷◌, ◌++◌, length, take, drop, Option, None, refl, ap, sym, subst, ◌∙◌, arith, length-append, length-drop, length-take}
 use Rattle.std.specs.List.{AllByRecursion}
 use Rattle.std.proofs.lemmas.Bool.{true≢false}
 use Rattle.list_laws.specs.Begins.{Begins}
@@ -15,7 +15,7 @@ use Rattle.tpf_server.specs.declared.rest.Rest.{Rest}
 use Rattle.tpf_server.specs.declared.rest.Rest.TheVariants.{Nothing}
 use Rattle.tpf_server.specs.Asked.{IsAsked}
 use Rattle.tpf_server.specs.Serving.{Serving}
-use Rattle.tpf_server.specs.Owed.{Fills, Fits, debt_left, debt_pieces}
+use Rattle.tpf_server.specs.Owed.{Fills, Fits, debt_left, debt_text}
 use Rattle.tpf_server.specs.Read.{IsOpen, ReadsHeads}
 use Rattle.tpf_server.specs.Reading.{is_ended}
 use Rattle.tpf_server.specs.Reloads.{ReadsOn, outcome_asking, outcome_queued}
@@ -76,10 +76,10 @@ on_asked server outcome false bytes before after reading held r all = r.asked (q
 pub reload_fits : (server : Serving) (outcome : Reloaded) (last : Bool) (bytes : List ℕ) (rest new : Rest) (before after : List Queued) (reading : Reading) (held : Held) → Fits rest before → new ≡ rest → ReadsOn server outcome last bytes before after reading held → Fits new after
 reload_fits server outcome last bytes rest new before after reading held fits same r = record { range = subst IsWithin (sym same) fits.range; asked = on_asked server outcome last bytes before after reading held r fits.asked }
 
--- pieces were made, and the memory of the queue was given back
+-- bytes were made, and the memory of the queue was given back
 pub makes_kept : (config own : Config) (unread : List ℕ) (rest made_rest new : Rest) (before made_waiting after : List Queued) (bytes made : List ℕ) (given : ℕ) (reading : Reading) (starved : Bool) (old : Conversation)
     → own ≡ config → conversation unread reading rest before (drop given bytes) starved ≡ old → given + given ≤ length bytes → old.starved ≡ false
-    → Fills (debt_pieces own rest before) (debt_pieces own made_rest made_waiting) given bytes made
+    → Fills (debt_text own rest before) (debt_text own made_rest made_waiting) given bytes made
     → (65536 ≤ length made - given) ⊎ (debt_left made_rest made_waiting ≡ false)
     → new ≡ made_rest → after ≡ made_waiting
     → Makes config old (conversation unread reading new after (drop given made) starved)
@@ -88,3 +88,25 @@ makes_kept config own unread rest made_rest new before made_waiting after bytes 
     (subst (λ (x : Rest). Makes own old (conversation unread reading x after (drop given made) starved)) (sym r)
     (subst (λ (x : List Queued). Makes own old (conversation unread reading made_rest x (drop given made) starved)) (sym w)
     (makes own unread rest made_rest before made_waiting bytes made given reading starved old same (omega (arith, half)) fed fills enough)))
+
+-- at most as many bytes are pending where some were taken
+pub kept_few : (left given : ℕ) (new old : List ℕ) → length new - left ≡ length old - given → length old - given ≤ 81919 → length new - left ≤ 81919
+kept_few left given new old same few = omega (arith, same, few)
+
+pub few_pending : (given : ℕ) (bytes : List ℕ) (pending : List ℕ) → drop given bytes ≡ pending → length bytes - given ≤ 81919 → length pending ≤ 81919
+few_pending given bytes pending is few = omega (arith, few, ap (λ (l : List ℕ). length l) is, length-drop given bytes)
+
+-- as many bytes are left where the same ones are
+pub same_left : (left given : ℕ) (new old : List ℕ) → drop left new ≡ drop given old → length new - left ≡ length old - given
+same_left left given new old same = omega (arith, ap (λ (l : List ℕ). length l) same, length-drop left new, length-drop given old)
+
+-- a front of them was kept
+pub cut_few : (given pending : ℕ) (bytes cut : List ℕ) → cut ≡ take (given + pending) bytes → length bytes - given ≤ 81919 → length cut - given ≤ 81919
+cut_few given pending bytes cut is few = omega (arith, few, ap (λ (l : List ℕ). length l) is, length-take (given + pending) bytes)
+
+pub few_taken : (n : ℕ) (old : List ℕ) (new : List ℕ) → new ≡ take n old → length old ≤ 81919 → length new ≤ 81919
+few_taken n old new is few = omega (arith, few, ap (λ (l : List ℕ). length l) is, length-take n old)
+
+pub few_view : (unread : List ℕ) (reading : Reading) (rest : Rest) (waiting : List Queued) (given : ℕ) (bytes : List ℕ) (starved : Bool) (old : Conversation)
+    → record { unread = unread; reading = reading; rest = rest; waiting = waiting; pending = drop given bytes; starved = starved } ≡ old → length bytes - given ≤ 81919 → length old.pending ≤ 81919
+few_view unread reading rest waiting given bytes starved old same few = few_pending given bytes old.pending (ap (λ (c : Conversation). c.pending) same) few

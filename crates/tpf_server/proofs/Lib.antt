@@ -4,6 +4,8 @@ pub mod Targets
 pub mod Numbers
 pub mod LineLengths
 pub mod Appends
+pub mod PartLaws
+pub mod GivenParts
 pub mod RestLaws
 pub mod StatusLaws
 pub mod HeadLaws

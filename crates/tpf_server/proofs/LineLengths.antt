@@ -1,8 +1,7 @@
 -- The lengths of lines.
 use Rattle.std.proofs.Common.{◌≡◌, ℕ, zero, suc, ◌+◌, ◌<◌, ◌≤◌, List, [], ◌∷◌, ◌++◌, length, drop, refl, ap, sym, ◌∙◌, arith, length-append, append-nil, length-drop}
-use Rattle.std.specs.Prelude.{None, slice_index_or}
+use Rattle.std.specs.Prelude.{slice_index_or}
 use Rattle.std.specs.List.{concat}
-use Rattle.rdf_terms.specs.declared.term.Term.TheVariants.{Iri}
 use Rattle.rdf_terms.specs.declared.term.Triple.{Triple}
 use Rattle.rdf_terms.specs.declared.term.Quad.{Quad}
 use Rattle.rdf_terms.specs.Canon.{canonical_term, canonical_graph, canonical_line}
@@ -24,10 +23,6 @@ pub drop_at : {A : Type 0} (xs : List A) (i : ℕ) (d : A) → i < length xs →
 drop_at [] i d h = absurd (omega arith)
 drop_at (x ∷ xs) zero d h = refl
 drop_at (x ∷ xs) (suc i) d h = drop_at xs i d (omega arith)
-
--- any quad
-abbrev pub some_quad : Quad
-some_quad = record { triple = record { subject = Iri []; predicate = Iri []; object = Iri [] }; graph = None }
 
 pub next_quad : (quads : List Quad) (i : ℕ) (d : Quad) → i < length quads
     → length (concat (quad_lines (drop i quads))) ≡ length (canonical_line (slice_index_or quads i d)) + length (concat (quad_lines (drop (i + 1) quads)))

@@ -17,10 +17,10 @@ use Rattle.fragment_pages.specs.Pages.{IsPage, IsPageNumber, shown}
 use Rattle.template_fill.specs.Metadata.{Config, page_metadata}
 use Rattle.template_fill.specs.Bodies.{in_default_graph}
 use Rattle.tpf_server.specs.Lines.{quad_lines, triple_lines}
-use Rattle.tpf_server.specs.PageRests.{IsPart, page_pieces}
+use Rattle.tpf_server.specs.PageRests.{IsPart, page_text}
 use Rattle.tpf_server.specs.Serving.{Serving, data_of}
-use Rattle.tpf_server.specs.Asked.{body_at, quads_at}
-use Rattle.tpf_server.specs.Opened.{page_lines}
+use Rattle.tpf_server.specs.Asked.{body_at}
+use Rattle.tpf_server.proofs.PartLaws.{concat_more}
 
 -- ---- a part of a range
 
@@ -82,10 +82,6 @@ canon_is : (quads : List Quad) → canon quads ≡ concat (quad_lines quads)
 canon_is [] = refl
 canon_is (q ∷ quads) = ap (λ (l : List ℕ). canonical_line q ++ l) (canon_is quads)
 
-pub concat_more : (xs ys : List (List ℕ)) → concat (xs ++ ys) ≡ concat xs ++ concat ys
-concat_more [] ys = refl
-concat_more (x ∷ xs) ys = ap (λ (l : List ℕ). x ++ l) (concat_more xs ys) ∙ sym (append_assoc x (concat xs) (concat ys))
-
 default_lines : (triples : List Triple) → quad_lines (map in_default_graph triples) ≡ triple_lines triples
 default_lines [] = refl
 default_lines (t ∷ triples) = ap (λ (l : List (List ℕ)). canonical_line (in_default_graph t) ∷ l) (default_lines triples)
@@ -94,24 +90,23 @@ lines_join : (triples : List Triple) (quads : List Quad) → quad_lines (map in_
 lines_join triples quads = map-append canonical_line (map in_default_graph triples) quads ∙ ap (λ (l : List (List ℕ)). l ++ quad_lines quads) (default_lines triples)
 
 module _ (server : Serving) (slots : Slots) (page : ℕ) where
-  pub page_lines_are : (range : Range) (quads : List Quad) → listed server.table range ≡ page_of (data_of server) slots page server.config.page_size
+  pub page_text_is : (range : Range) (quads : List Quad) → listed server.table range ≡ page_of (data_of server) slots page server.config.page_size
       → quads ≡ page_metadata server.config slots page (length (fragment (data_of server) slots)) server.version
-      → page_pieces (record { table = server.table; triples = range; quads = quads }) ≡ page_lines server slots page
-  unfolding page_pieces page_lines
-  page_lines_are range quads same meta =
-      ap₂ (λ (l : List Triple) (qs : List Quad). triple_lines l ++ quad_lines qs) same meta
-      ∙ sym (lines_join (page_of (data_of server) slots page server.config.page_size) (page_metadata server.config slots page (length (fragment (data_of server) slots)) server.version))
-
-  pub body_is_lines : body_at server slots page ≡ concat (page_lines server slots page)
-  unfolding body_at page_lines
-  body_is_lines = canon_is (quads_at server slots page)
+      → page_text (record { begun = []; table = server.table; triples = range; quads = quads }) ≡ body_at server slots page
+  unfolding page_text body_at
+  page_text_is range quads same meta =
+      let triples = page_of (data_of server) slots page server.config.page_size in
+      let metadata = page_metadata server.config slots page (length (fragment (data_of server) slots)) server.version in
+      ap₂ (λ (l : List Triple) (qs : List Quad). concat (triple_lines l) ++ concat (quad_lines qs)) same meta
+      ∙ sym (concat_more (triple_lines triples) (quad_lines metadata))
+      ∙ ap concat (sym (lines_join triples metadata))
+      ∙ sym (canon_is (map in_default_graph triples ++ metadata))
 
   pub page_length : (range : Range) (quads : List Quad) (a b : ℕ) → listed server.table range ≡ page_of (data_of server) slots page server.config.page_size
       → quads ≡ page_metadata server.config slots page (length (fragment (data_of server) slots)) server.version
       → a ≡ length (concat (triple_lines (listed server.table range))) → b ≡ length (concat (quad_lines quads))
       → a + b ≡ length (body_at server slots page)
-  unfolding page_pieces
+  unfolding page_text
   page_length range quads a b same meta of_triples of_quads =
-      let whole : concat (triple_lines (listed server.table range)) ++ concat (quad_lines quads) ≡ body_at server slots page =
-      sym (concat_more (triple_lines (listed server.table range)) (quad_lines quads)) ∙ ap concat (page_lines_are range quads same meta) ∙ sym body_is_lines in
+      let whole : concat (triple_lines (listed server.table range)) ++ concat (quad_lines quads) ≡ body_at server slots page = page_text_is range quads same meta in
       omega (arith, of_triples, of_quads, length-append (concat (triple_lines (listed server.table range))) (concat (quad_lines quads)), ap (λ (l : List ℕ). length l) whole)

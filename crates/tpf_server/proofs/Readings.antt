@@ -1,7 +1,7 @@
 -- Heads that are read one after another, and what the feed of requests tells of each.
 use Rattle.std.proofs.Common.{◌≡◌, ℕ, ◌+◌, Bool, true, false, List, [], ◌∷◌, ◌++◌, Option, Some, None, Result, Ok, Err, refl, ap, ap₂, sym, subst, ◌∙◌, append_assoc, append-nil, drop, if◌then◌else◌}
 use Rattle.std.specs.Prelude.{IfOk}
-use Rattle.std.specs.List.{AllByRecursion, concat}
+use Rattle.std.specs.List.{AllByRecursion}
 use Rattle.std.proofs.lemmas.Bool.{true≢false}
 use Rattle.rdf_terms.specs.declared.term.Triple.{Triple}
 use Rattle.tpf_base.specs.HttpHeads.{Request, Verdict, NextRequest, Incomplete, Taken, Refused, next_request}
@@ -23,11 +23,10 @@ use Rattle.tpf_server.specs.declared.reading.HeadRead.TheVariants as reads
 use Rattle.tpf_server.specs.declared.reading.Reading.TheVariants.{Reads, Waits, Ended}
 use Rattle.tpf_server.specs.Serving.{Serving, IsHistoryOf}
 use Rattle.tpf_server.specs.Asked.{IsAsked}
-use Rattle.tpf_server.specs.Owed.{answer_pieces, queue_pieces}
+use Rattle.tpf_server.specs.Owed.{queue_text, queued_text}
 use Rattle.tpf_server.specs.Read.{ArePlain, IsAnswered, IsQueued, IsReload, ReadsHead, ReadsHeads, asks_for, closed_heads, heads_then, served_marks}
 use Rattle.tpf_server.specs.Reloads.{ReadsOn, outcome_queued}
 use Rattle.tpf_server.proofs.HeadAnswers.{heads_at, refused_reads, refusing_with, reload_is, taken_reads}
-use Rattle.tpf_server.proofs.PageLaws.{concat_more}
 
 -- ---- what the feed tells
 
@@ -120,13 +119,11 @@ taken_next server held new before later head read open_ is after queued =
 abbrev AllAsked : List Queued → Type 0
 AllAsked waiting = AllByRecursion (λ (queued : Queued). IsAsked queued.asking) waiting
 
-pub queue_more : (config : Config) (before : List Queued) (queued : Queued) → concat (queue_pieces config (before ++ queued ∷ [])) ≡ concat (queue_pieces config before) ++ concat (answer_pieces config queued)
-queue_more config [] queued = ap concat (append-nil (answer_pieces config queued))
+pub queue_more : (config : Config) (before : List Queued) (queued : Queued) → queue_text config (before ++ queued ∷ []) ≡ queue_text config before ++ queued_text config queued
+queue_more config [] queued = append-nil (queued_text config queued)
 queue_more config (q ∷ before) queued =
-    concat_more (answer_pieces config q) (queue_pieces config (before ++ queued ∷ []))
-    ∙ ap (λ (l : List ℕ). concat (answer_pieces config q) ++ l) (queue_more config before queued)
-    ∙ sym (append_assoc (concat (answer_pieces config q)) (concat (queue_pieces config before)) (concat (answer_pieces config queued)))
-    ∙ ap (λ (l : List ℕ). l ++ concat (answer_pieces config queued)) (sym (concat_more (answer_pieces config q) (queue_pieces config before)))
+    ap (λ (l : List ℕ). queued_text config q ++ l) (queue_more config before queued)
+    ∙ sym (append_assoc (queued_text config q) (queue_text config before) (queued_text config queued))
 
 -- one more head over the same version
 answers_more : (server : Answering) (version : ℕ) (heads : List Verdict) (head : Verdict)
@@ -144,7 +141,7 @@ pub record Progress (server : Serving) (bytes : List ℕ) (before waiting : List
   pub heads : List Verdict
   pub plain : ArePlain server.config heads
   pub text : (history : List (List Triple)) → IsHistoryOf history server
-      → concat (queue_pieces server.config waiting) ≡ concat (queue_pieces server.config before) ++ answers (answering history server.config) heads (served_marks server.version heads)
+      → queue_text server.config waiting ≡ queue_text server.config before ++ answers (answering history server.config) heads (served_marks server.version heads)
   pub asked : AllAsked before → AllAsked waiting
   pub behind : (later : List Queued) × (waiting ≡ before ++ later)
   pub on : heads_of bytes ≡ heads_then heads (heads_of held.bytes)
@@ -154,7 +151,7 @@ pub begins : (server : Serving) (before : List Queued) (held : Held) → held.re
 begins server before held open_ = record {
   heads = [];
   plain = λ history. tt;
-  text = λ history last. sym (append-nil (concat (queue_pieces server.config before)));
+  text = λ history last. sym (append-nil (queue_text server.config before));
   asked = λ h. h;
   behind = ([], sym (append-nil before));
   on = refl;
@@ -163,13 +160,13 @@ begins server before held open_ = record {
 
 module _ (server : Serving) (bytes : List ℕ) (before waiting later : List Queued) (held new : Held) where
   read_text : (last : Bool) (p : Progress server bytes before waiting held) (r : IsAnswered server held.bytes waiting later last new) (history : List (List Triple)) → IsHistoryOf history server
-      → concat (queue_pieces server.config later) ≡ concat (queue_pieces server.config before) ++ answers (answering history server.config) (p.heads ++ r.head ∷ []) (served_marks server.version (p.heads ++ r.head ∷ []))
+      → queue_text server.config later ≡ queue_text server.config before ++ answers (answering history server.config) (p.heads ++ r.head ∷ []) (served_marks server.version (p.heads ++ r.head ∷ []))
   read_text last p r history is =
-      ap (λ (q : List Queued). concat (queue_pieces server.config q)) r.waiting
+      ap (λ (q : List Queued). queue_text server.config q) r.waiting
       ∙ queue_more server.config waiting r.queued
       ∙ ap₂ (λ (a b : List ℕ). a ++ b) (p.text history is) (r.text history is)
-      ∙ append_assoc (concat (queue_pieces server.config before)) (answers (answering history server.config) p.heads (served_marks server.version p.heads)) (head_answer (answering history server.config) r.head (Served server.version))
-      ∙ ap (λ (l : List ℕ). concat (queue_pieces server.config before) ++ l) (sym (answers_more (answering history server.config) server.version p.heads r.head))
+      ∙ append_assoc (queue_text server.config before) (answers (answering history server.config) p.heads (served_marks server.version p.heads)) (head_answer (answering history server.config) r.head (Served server.version))
+      ∙ ap (λ (l : List ℕ). queue_text server.config before ++ l) (sym (answers_more (answering history server.config) server.version p.heads r.head))
 
   read_plain : (last : Bool) (p : Progress server bytes before waiting held) (r : IsAnswered server held.bytes waiting later last new) → ArePlain server.config (p.heads ++ r.head ∷ [])
   read_plain last p r history = all_append (λ (head : Verdict). asks_reload (answering history server.config) head ≡ false) p.heads (r.head ∷ []) (p.plain history) (r.plain history, tt)

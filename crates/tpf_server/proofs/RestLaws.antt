@@ -1,26 +1,33 @@
--- The pieces that are left of a body.
-use Rattle.std.proofs.Common.{◌≡◌, ℕ, zero, suc, ◌+◌, ◌-◌, ◌<◌, ◌≤◌, Bool, true, false, List, [], ◌∷◌, ◌++◌, map, length, take, drop, refl, ap, ap₂, sym, subst, ◌∙◌, arith, length-drop}
+-- What is left of a body.
+use Rattle.std.proofs.Common.{◌≡◌, ℕ, zero, suc, ◌+◌, ◌-◌, ◌<◌, ◌≤◌, Bool, true, false, List, [], ◌∷◌, ◌++◌, map, length, take, drop, refl, ap, ap₂, sym, subst, ◌∙◌, arith, append_assoc, append-nil, length-drop}
 use Rattle.std.specs.Prelude.{slice_index_or, nat_lt, ◌||◌}
+use Rattle.std.specs.List.{concat}
 use Rattle.std.proofs.lemmas.Bool.{ltb-false, or_parts, true≢false}
+use Rattle.std.proofs.lemmas.Bool.Decides.{nat_tests}
 use Rattle.rdf_terms.specs.declared.term.Triple.{Triple}
 use Rattle.rdf_terms.specs.declared.term.Quad.{Quad}
 use Rattle.rdf_terms.specs.declared.term.Term.TheVariants.{Iri}
 use Rattle.rdf_terms.specs.Canon.{canonical_line}
+use Rattle.triple_table.specs.declared.ids.IdTriple.{IdTriple}
 use Rattle.triple_table.specs.declared.ids.Row.{Row}
 use Rattle.triple_table.specs.declared.ids.Range.{Range}
 use Rattle.triple_table.specs.Rows.{id_triple_of}
-use Rattle.triple_table.specs.Stored.{Stored, listed, rows_in, triple_at}
-use Rattle.template_fill.specs.Bodies.{in_default_graph}
+use Rattle.triple_table.specs.Stored.{Stored, IsIdTriple, held_terms, listed, rows_in, triple_at}
 use Rattle.template_fill.specs.HttpAnswer.{refusal}
+use Rattle.tpf_server.specs.declared.parts.Begun.{Begun}
+use Rattle.tpf_server.specs.declared.parts.Begun.TheVariants as begins
 use Rattle.tpf_server.specs.declared.status.Status.{Status}
 use Rattle.tpf_server.specs.Statuses.{code}
-use Rattle.tpf_server.specs.Lines.{quad_lines, triple_line, triple_lines}
+use Rattle.tpf_server.specs.Lines.{quad_lines, some_quad, triple_line, triple_lines}
+use Rattle.tpf_server.specs.Parts.{triple_marks}
 use Rattle.tpf_server.specs.Given.{IsGiven}
-use Rattle.tpf_server.specs.PageRests.{IsPart, PageLines, page_left, page_pieces}
+use Rattle.tpf_server.specs.PageRests.{IsBegun, IsPart, PageLines, begun_text, lines_left, page_left, page_text}
 use Rattle.tpf_server.specs.declared.rest.Rest.{Rest}
 use Rattle.tpf_server.specs.declared.rest.Rest.TheVariants.{Nothing, Line, Words, Page}
-use Rattle.tpf_server.specs.Rests.{is_left, rest_pieces}
-use Rattle.tpf_server.proofs.LineLengths.{drop_at}
+use Rattle.tpf_server.specs.Rests.{IsWithin, is_left, rest_text}
+use Rattle.tpf_server.proofs.StatusLaws.{body_few, body_some}
+use Rattle.tpf_server.proofs.LineLengths.{drop_at, line_length}
+use Rattle.tpf_server.proofs.PartLaws.{AreMarks, are_dropped, marks_low, triple_are, triple_some, triple_text}
 
 drop_one : {A : Type 0} (xs : List A) (n : ℕ) → drop 1 (drop n xs) ≡ drop (suc n) xs
 drop_one [] zero = refl
@@ -69,86 +76,176 @@ part_passed s range part some =
       lists = omega (arith, next, part.lists, some);
     }
 
-pub page_passed : (s : Stored) (range : Range) (quads : List Quad) (p : PageLines) → record { table = s; triples = range; quads = quads } ≡ p → IsPart p.table p.triples → p.triples.from < p.triples.to → IsPart s (passed range)
-page_passed s range quads p same part some =
-    part_passed s range (subst (λ (x : PageLines). IsPart x.table x.triples) (sym same) part) (subst (λ (x : PageLines). x.triples.from < x.triples.to) (sym same) some)
+-- ---- the line that was begun
 
-pub given_triple : (s : Stored) (range : Range) (quads : List Quad) (p : PageLines) (t : Triple) (before after : List ℕ) → record { table = s; triples = range; quads = quads } ≡ p
-    → p.triples.from < p.triples.to → length (listed p.table p.triples) ≡ p.triples.to - p.triples.from
-    → ((d : Triple) → slice_index_or (listed s range) 0 d ≡ t) → after ≡ before ++ canonical_line (in_default_graph t)
-    → IsGiven (page_pieces p) (page_pieces (record { table = s; triples = passed range; quads = quads })) before after
-unfolding page_pieces
-given_triple s range quads p t before after same some count is appended = record {
-  piece = triple_line t;
-  pieces =
-      ap (λ (x : PageLines). triple_lines (listed x.table x.triples) ++ quad_lines x.quads) (sym same)
-      ∙ ap (λ (l : List Triple). triple_lines l ++ quad_lines quads)
-      (next_listed s range t (subst (λ (x : PageLines). x.triples.from < x.triples.to) (sym same) some) (subst (λ (x : PageLines). length (listed x.table x.triples) ≡ x.triples.to - x.triples.from) (sym same) count)
-      ∙ ap (λ (x : Triple). x ∷ listed s (passed range)) (is t));
-  appended = appended;
-}
+is_below : (a b : ℕ) → a < b → nat_lt a b ≡ true
+is_below a b h = grind (arith, nat_tests)
 
-pub given_quad : (s : Stored) (range : Range) (quads : List Quad) (i : ℕ) (p : PageLines) (d : Quad) (before after : List ℕ) → record { table = s; triples = range; quads = drop i quads } ≡ p
-    → p.triples.to ≤ p.triples.from → 0 < length p.quads
-    → after ≡ before ++ canonical_line (slice_index_or quads i d)
-    → IsGiven (page_pieces p) (page_pieces (record { table = s; triples = range; quads = drop (i + 1) quads })) before after
-unfolding page_pieces
-given_quad s range quads i p d before after same none some appended =
-    let over : range.to ≤ range.from = subst (λ (x : PageLines). x.triples.to ≤ x.triples.from) (sym same) none in
+long_triple : (t : Triple) (from : ℕ) → from < length (triple_marks t) → 0 < length (concat (drop from (triple_marks t)))
+long_triple t from some =
+    omega (arith, some, length-drop from (triple_marks t), marks_low (drop from (triple_marks t)) (are_dropped from (triple_marks t) (triple_are t)))
+
+begun_long : (s : Stored) (quads : List Quad) (ids : IdTriple) (from : ℕ) → IsBegun s quads (begins.Triple ids from) → 0 < length (begun_text s quads (begins.Triple ids from))
+unfolding begun_text
+begun_long s quads ids from fits = long_triple (triple_at (held_terms s) ids) from fits.1
+
+line_long : (s : Stored) (quads : List Quad) (place from : ℕ) → IsBegun s quads (begins.Line place from) → 0 < length (begun_text s quads (begins.Line place from))
+unfolding begun_text
+line_long s quads place from fits = omega (arith, fits.1, length-drop from (canonical_line (slice_index_or quads place some_quad)))
+
+-- what is left where this line was begun
+abbrev pub lines_at : Stored → List Quad → Begun → Range → ℕ → PageLines
+lines_at s quads b range i = record { begun = begun_text s quads b; table = s; triples = range; quads = drop i quads }
+
+module _ (s : Stored) (quads : List Quad) (b : Begun) (range : Range) (i : ℕ) (p : PageLines) (same : lines_at s quads b range i ≡ p) where
+  pub none_begun : b ≡ begins.Nothing → false ≡ nat_lt 0 (length p.begun)
+  unfolding begun_text
+  none_begun is = ap (λ (x : Begun). nat_lt 0 (length (begun_text s quads x))) (sym is) ∙ ap (λ (x : PageLines). nat_lt 0 (length x.begun)) same
+
+  pub triple_begun : (ids : IdTriple) (from : ℕ) → b ≡ begins.Triple ids from → IsBegun s quads b → true ≡ nat_lt 0 (length p.begun)
+  triple_begun ids from is fits =
+      sym (is_below 0 (length (begun_text s quads (begins.Triple ids from))) (begun_long s quads ids from (subst (IsBegun s quads) is fits)))
+      ∙ ap (λ (x : Begun). nat_lt 0 (length (begun_text s quads x))) (sym is) ∙ ap (λ (x : PageLines). nat_lt 0 (length x.begun)) same
+
+  pub line_begun : (place from : ℕ) → b ≡ begins.Line place from → IsBegun s quads b → true ≡ nat_lt 0 (length p.begun)
+  line_begun place from is fits =
+      sym (is_below 0 (length (begun_text s quads (begins.Line place from))) (line_long s quads place from (subst (IsBegun s quads) is fits)))
+      ∙ ap (λ (x : Begun). nat_lt 0 (length (begun_text s quads x))) (sym is) ∙ ap (λ (x : PageLines). nat_lt 0 (length x.begun)) same
+
+  pub not_none : b ≡ begins.Nothing → nat_lt 0 (length p.begun) ≡ true → ⊥
+  not_none is some = true≢false (sym some ∙ sym (none_begun is))
+
+  -- a part of what is left of it was given
+  pub given_on : (new : Begun) (before after : List ℕ) → IsGiven (begun_text s quads b) (begun_text s quads new) before after → IsGiven (page_text p) (page_text (lines_at s quads new range i)) before after
+  unfolding page_text
+  given_on new before after given = record {
+    part = given.part;
+    text =
+        sym (ap page_text same)
+        ∙ ap (λ (l : List ℕ). l ++ (concat (triple_lines (listed s range)) ++ concat (quad_lines (drop i quads)))) given.text
+        ∙ append_assoc given.part (begun_text s quads new) (concat (triple_lines (listed s range)) ++ concat (quad_lines (drop i quads)));
+    appended = given.appended;
+    some = given.some;
+    few = given.few;
+  }
+
+  pub given_triple : (held : Stored) (ids : IdTriple) (from : ℕ) (new : Begun) (before after : List ℕ) → held ≡ s → b ≡ begins.Triple ids from
+      → IsGiven (begun_text held quads (begins.Triple ids from)) (begun_text held quads new) before after → IsGiven (page_text p) (page_text (lines_at s quads new range i)) before after
+  given_triple held ids from new before after of is given =
+      given_on new before after
+      (subst (λ (x : Begun). IsGiven (begun_text s quads x) (begun_text s quads new) before after) (sym is)
+      (subst (λ (x : Stored). IsGiven (begun_text x quads (begins.Triple ids from)) (begun_text x quads new) before after) of given))
+
+  pub given_line : (place from : ℕ) (new : Begun) (before after : List ℕ) → b ≡ begins.Line place from
+      → IsGiven (begun_text s quads (begins.Line place from)) (begun_text s quads new) before after → IsGiven (page_text p) (page_text (lines_at s quads new range i)) before after
+  given_line place from new before after is given =
+      given_on new before after (subst (λ (x : Begun). IsGiven (begun_text s quads x) (begun_text s quads new) before after) (sym is) given)
+
+pub fits_triple : (s held : Stored) (quads : List Quad) (b : Begun) (ids : IdTriple) (from : ℕ) → held ≡ s → b ≡ begins.Triple ids from → IsBegun s quads b
+    → IsIdTriple (held_terms held) ids × (from < length (triple_marks (triple_at (held_terms held) ids)))
+fits_triple s held quads b ids from of is fits =
+    subst (λ (x : Stored). IsIdTriple (held_terms x) ids × (from < length (triple_marks (triple_at (held_terms x) ids)))) (sym of) (subst (IsBegun s quads) is fits)
+
+pub fits_line : (s : Stored) (quads : List Quad) (b : Begun) (place from : ℕ) → b ≡ begins.Line place from → IsBegun s quads b
+    → (place < length quads) × (from < length (canonical_line (slice_index_or quads place some_quad)))
+fits_line s quads b place from is fits = subst (IsBegun s quads) is fits
+
+pub fits_on : (s held : Stored) (quads : List Quad) (new : Begun) → held ≡ s → IsBegun held quads new → IsBegun s quads new
+fits_on s held quads new of fits = subst (λ (x : Stored). IsBegun x quads new) of fits
+
+-- ---- the next line is begun
+
+pub first_triple : (s : Stored) (quads : List Quad) (ids : IdTriple) → IsIdTriple (held_terms s) ids → IsBegun s quads (begins.Triple ids 0)
+first_triple s quads ids is = (is, triple_some (triple_at (held_terms s) ids))
+
+pub first_triple_long : (s : Stored) (quads : List Quad) (ids : IdTriple) → IsIdTriple (held_terms s) ids → nat_lt 0 (length (begun_text s quads (begins.Triple ids 0))) ≡ true
+first_triple_long s quads ids is = is_below 0 (length (begun_text s quads (begins.Triple ids 0))) (begun_long s quads ids 0 (first_triple s quads ids is))
+
+pub first_line : (s : Stored) (quads : List Quad) (place : ℕ) → place < length quads → IsBegun s quads (begins.Line place 0)
+first_line s quads place within = (within, omega (arith, line_length (slice_index_or quads place some_quad)))
+
+pub first_line_long : (s : Stored) (quads : List Quad) (place : ℕ) → place < length quads → nat_lt 0 (length (begun_text s quads (begins.Line place 0))) ≡ true
+first_line_long s quads place within = is_below 0 (length (begun_text s quads (begins.Line place 0))) (line_long s quads place 0 (first_line s quads place within))
+
+pub triple_stands : (s : Stored) (range : Range) (all quads : List Quad) (t : List ℕ) (ids : IdTriple) (p : PageLines) → record { begun = t; table = s; triples = range; quads = quads } ≡ p
+    → p.begun ≡ [] → p.triples.from < p.triples.to → length (listed p.table p.triples) ≡ p.triples.to - p.triples.from
+    → ((d : Triple) → slice_index_or (listed s range) 0 d ≡ triple_at (held_terms s) ids)
+    → page_text (record { begun = begun_text s all (begins.Triple ids 0); table = s; triples = passed range; quads = quads }) ≡ page_text p
+unfolding page_text begun_text
+triple_stands s range all quads t ids p same none some count is =
+    let first = triple_at (held_terms s) ids in
+    let rest = concat (quad_lines quads) in
+    let next : listed s range ≡ first ∷ listed s (passed range) =
+    next_listed s range first (subst (λ (x : PageLines). x.triples.from < x.triples.to) (sym same) some) (subst (λ (x : PageLines). length (listed x.table x.triples) ≡ x.triples.to - x.triples.from) (sym same) count)
+    ∙ ap (λ (x : Triple). x ∷ listed s (passed range)) (is first) in
+    ap (λ (l : List ℕ). l ++ (concat (triple_lines (listed s (passed range))) ++ rest)) (triple_text first)
+    ∙ sym (append_assoc (triple_line first) (concat (triple_lines (listed s (passed range)))) rest)
+    ∙ ap (λ (l : List Triple). concat (triple_lines l) ++ rest) (sym next)
+    ∙ ap (λ (l : List ℕ). l ++ (concat (triple_lines (listed s range)) ++ rest)) (sym (ap (λ (x : PageLines). x.begun) same ∙ none))
+    ∙ ap page_text same
+
+pub line_stands : (s : Stored) (range : Range) (quads : List Quad) (i : ℕ) (t : List ℕ) (p : PageLines) → record { begun = t; table = s; triples = range; quads = drop i quads } ≡ p
+    → p.begun ≡ [] → p.triples.to ≤ p.triples.from → 0 < length p.quads
+    → page_text (record { begun = begun_text s quads (begins.Line i 0); table = s; triples = range; quads = drop (i + 1) quads }) ≡ page_text p
+unfolding page_text begun_text
+line_stands s range quads i t p same none past some =
+    let over : range.to ≤ range.from = subst (λ (x : PageLines). x.triples.to ≤ x.triples.from) (sym same) past in
     let more : 0 < length (drop i quads) = subst (λ (x : PageLines). 0 < length x.quads) (sym same) some in
     let within : i < length quads = omega (arith, more, length-drop i quads) in
     let e : suc i ≡ i + 1 = omega arith in
-    let line = canonical_line (slice_index_or quads i d) in
-    record {
-      piece = line;
-      pieces =
-          ap (λ (x : PageLines). triple_lines (listed x.table x.triples) ++ quad_lines x.quads) (sym same)
-          ∙ ap (λ (l : List Triple). triple_lines l ++ quad_lines (drop i quads)) (none_listed s range over)
-          ∙ ap quad_lines (drop_at quads i d within ∙ ap (λ (n : ℕ). slice_index_or quads i d ∷ drop n quads) e)
-          ∙ ap (λ (l : List Triple). line ∷ (triple_lines l ++ quad_lines (drop (i + 1) quads))) (sym (none_listed s range over));
-      appended = appended;
-    }
+    let line = canonical_line (slice_index_or quads i some_quad) in
+    ap (λ (l : List Triple). line ++ (concat (triple_lines l) ++ concat (quad_lines (drop (i + 1) quads)))) (none_listed s range over)
+    ∙ ap (λ (l : List Quad). concat (quad_lines l)) (sym (drop_at quads i some_quad within ∙ ap (λ (n : ℕ). slice_index_or quads i some_quad ∷ drop n quads) e))
+    ∙ ap (λ (l : List Triple). concat (triple_lines l) ++ concat (quad_lines (drop i quads))) (sym (none_listed s range over))
+    ∙ ap (λ (l : List ℕ). l ++ (concat (triple_lines (listed s range)) ++ concat (quad_lines (drop i quads)))) (sym (ap (λ (x : PageLines). x.begun) same ∙ none))
+    ∙ ap page_text same
 
-pub quads_within : (s : Stored) (range : Range) (quads : List Quad) (i : ℕ) (p : PageLines) → record { table = s; triples = range; quads = drop i quads } ≡ p → 0 < length p.quads → i < length quads
-quads_within s range quads i p same some =
+pub part_behind : (s : Stored) (range : Range) (quads : List Quad) (t : List ℕ) (p : PageLines) → record { begun = t; table = s; triples = range; quads = quads } ≡ p → IsPart p.table p.triples → p.triples.from < p.triples.to → IsPart s (passed range)
+part_behind s range quads t p same part some =
+    part_passed s range (subst (λ (x : PageLines). IsPart x.table x.triples) (sym same) part) (subst (λ (x : PageLines). x.triples.from < x.triples.to) (sym same) some)
+
+pub quads_within : (s : Stored) (range : Range) (quads : List Quad) (i : ℕ) (t : List ℕ) (p : PageLines) → record { begun = t; table = s; triples = range; quads = drop i quads } ≡ p → 0 < length p.quads → i < length quads
+quads_within s range quads i t p same some =
     let more : 0 < length (drop i quads) = subst (λ (x : PageLines). 0 < length x.quads) (sym same) some in
     omega (arith, more, length-drop i quads)
 
-pub given_line : (rest : Rest) (status : Status) (before after : List ℕ) → rest ≡ Line status → after ≡ before ++ (refusal (code status)).body
-    → IsGiven (rest_pieces rest) (rest_pieces Nothing) before after
-unfolding rest_pieces
-given_line rest status before after is appended = record { piece = (refusal (code status)).body; pieces = ap rest_pieces is; appended = appended }
+pub part_kept : (p q : PageLines) → q.table ≡ p.table → q.triples ≡ p.triples → IsPart p.table p.triples → IsPart q.table q.triples
+part_kept p q table triples part = subst (λ (x : Stored). IsPart x q.triples) (sym table) (subst (λ (x : Range). IsPart p.table x) (sym triples) part)
 
-pub given_words : (rest : Rest) (text : List ℕ) (before after : List ℕ) → rest ≡ Words text → after ≡ before ++ text → IsGiven (rest_pieces rest) (rest_pieces Nothing) before after
-unfolding rest_pieces
-given_words rest text before after is appended = record { piece = text; pieces = ap rest_pieces is; appended = appended }
-
-pub given_page : (rest : Rest) (p q : PageLines) (before after : List ℕ) → rest ≡ Page p → IsGiven (page_pieces p) (page_pieces q) before after
-    → IsGiven (rest_pieces rest) (rest_pieces (Page q)) before after
-unfolding rest_pieces
-given_page rest p q before after is given = record { piece = given.piece; pieces = ap rest_pieces is ∙ given.pieces; appended = given.appended }
-
--- ---- nothing left
-
-pub no_length : (n : ℕ) → nat_lt 0 (suc n) ≡ false → ⊥
-no_length n h = grind (arith, h)
+-- ---- what is left
 
 no_quads : (quads : List Quad) → nat_lt 0 (length quads) ≡ false → quads ≡ []
 no_quads [] h = refl
 no_quads (q ∷ quads) h = absurd (grind (arith, h))
 
-pub page_done : (page : PageLines) → page_left page ≡ false → page_pieces page ≡ []
-unfolding page_pieces
-page_done page h =
-    let p = or_parts (nat_lt page.triples.from page.triples.to) (nat_lt 0 (length page.quads)) h in
-    ap₂ (λ (l : List Triple) (quads : List Quad). triple_lines l ++ quad_lines quads) (none_listed page.table page.triples (ltb-false page.triples.from page.triples.to p.0)) (no_quads page.quads p.1)
+pub no_bytes : (l : List ℕ) → nat_lt 0 (length l) ≡ false → l ≡ []
+no_bytes [] h = refl
+no_bytes (x ∷ l) h = absurd (grind (arith, h))
 
-pub rest_done : (rest : Rest) → is_left rest ≡ false → rest_pieces rest ≡ rest_pieces Nothing
-unfolding rest_pieces
-rest_done Nothing h = refl
-rest_done (Line status) h = absurd (true≢false h)
-rest_done (Words text) h = absurd (true≢false h)
-rest_done (Page page) h = page_done page h
+pub no_length : (n : ℕ) → nat_lt 0 (suc n) ≡ false → ⊥
+no_length n h = grind (arith, h)
+
+-- lines are left where none was begun
+pub lines_of : (p : PageLines) → page_left p ≡ true → nat_lt 0 (length p.begun) ≡ false → lines_left p ≡ true
+lines_of p left none = sym (ap (λ (b : Bool). b || lines_left p) none) ∙ left
+
+some_of : (quads : List Quad) → nat_lt 0 (length quads) ≡ true → 0 < length quads
+some_of quads h = grind (arith, h)
+
+pub quads_left : (p : PageLines) → lines_left p ≡ true → p.triples.to ≤ p.triples.from → 0 < length p.quads
+quads_left p left past =
+    some_of p.quads (sym (ap (λ (b : Bool). b || nat_lt 0 (length p.quads)) (not_before p.triples.from p.triples.to past)) ∙ left)
+  where
+    not_before : (from to : ℕ) → to ≤ from → nat_lt from to ≡ false
+    not_before from to h = grind (arith, nat_tests)
+
+pub page_done : (page : PageLines) → page_left page ≡ false → page_text page ≡ []
+unfolding page_text
+page_done page h =
+    let none = or_parts (nat_lt 0 (length page.begun)) (lines_left page) h in
+    let p = or_parts (nat_lt page.triples.from page.triples.to) (nat_lt 0 (length page.quads)) none.1 in
+    ap (λ (l : List ℕ). l ++ (concat (triple_lines (listed page.table page.triples)) ++ concat (quad_lines page.quads))) (no_bytes page.begun none.0)
+    ∙ ap₂ (λ (l : List Triple) (quads : List Quad). concat (triple_lines l) ++ concat (quad_lines quads)) (none_listed page.table page.triples (ltb-false page.triples.from page.triples.to p.0)) (no_quads page.quads p.1)
 
 below_none : (i : ℕ) → nat_lt i 0 ≡ false
 below_none i = grind arith
@@ -161,9 +258,39 @@ left_is quads zero = refl
 left_is [] (suc i) = below_none (suc i)
 left_is (q ∷ quads) (suc i) = below_suc i (length quads) ∙ left_is quads i
 
-pub left_else : (s : Stored) (range : Range) (quads : List Quad) (i n : ℕ) (p : PageLines) → record { table = s; triples = range; quads = drop i quads } ≡ p → nat_lt range.from range.to ≡ false → n ≡ length quads → nat_lt i n ≡ page_left p
-left_else s range quads i n p same none size =
-    ap (nat_lt i) size ∙ left_is quads i ∙ ap (λ (b : Bool). b || nat_lt 0 (length (drop i quads))) (sym none) ∙ ap page_left same
+pub quads_are : (s : Stored) (range : Range) (quads : List Quad) (i n : ℕ) (t : List ℕ) (p : PageLines) → record { begun = t; table = s; triples = range; quads = drop i quads } ≡ p → n ≡ length quads → nat_lt i n ≡ nat_lt 0 (length p.quads)
+quads_are s range quads i n t p same size = ap (nat_lt i) size ∙ left_is quads i ∙ ap (λ (x : PageLines). nat_lt 0 (length x.quads)) same
 
-pub left_then : (s : Stored) (range : Range) (quads : List Quad) (p : PageLines) → record { table = s; triples = range; quads = quads } ≡ p → nat_lt range.from range.to ≡ true → true ≡ page_left p
-left_then s range quads p same some = ap (λ (b : Bool). b || nat_lt 0 (length quads)) (sym some) ∙ ap page_left same
+-- ---- bodies
+
+whole_given : (text new before after : List ℕ) → new ≡ [] → 0 < length text → length text ≤ 16384 → after ≡ before ++ text → IsGiven text new before after
+whole_given text new before after none some few appended = record {
+  part = text;
+  text = sym (append-nil text) ∙ ap (λ (l : List ℕ). text ++ l) (sym none);
+  appended = appended;
+  some = some;
+  few = few;
+}
+
+pub given_status : (rest : Rest) (status : Status) (before after : List ℕ) → rest ≡ Line status → after ≡ before ++ (refusal (code status)).body → IsGiven (rest_text rest) (rest_text Nothing) before after
+unfolding rest_text
+given_status rest status before after is appended =
+    subst (λ (x : Rest). IsGiven (rest_text x) [] before after) (sym is) (whole_given (refusal (code status)).body [] before after refl (body_some status) (body_few status) appended)
+
+pub given_words : (rest : Rest) (text : List ℕ) (before after : List ℕ) → rest ≡ Words text → IsWithin rest → after ≡ before ++ text → IsGiven (rest_text rest) (rest_text Nothing) before after
+unfolding rest_text
+given_words rest text before after is within appended =
+    let w : IsWithin (Words text) = subst IsWithin is within in
+    subst (λ (x : Rest). IsGiven (rest_text x) [] before after) (sym is) (whole_given text [] before after refl w.0 w.1 appended)
+
+pub given_page : (rest : Rest) (p q : PageLines) (before after : List ℕ) → rest ≡ Page p → IsGiven (page_text p) (page_text q) before after → IsGiven (rest_text rest) (rest_text (Page q)) before after
+unfolding rest_text
+given_page rest p q before after is given =
+    record { part = given.part; text = ap rest_text is ∙ given.text; appended = given.appended; some = given.some; few = given.few }
+
+pub rest_done : (rest : Rest) → is_left rest ≡ false → rest_text rest ≡ rest_text Nothing
+unfolding rest_text
+rest_done Nothing h = refl
+rest_done (Line status) h = absurd (true≢false h)
+rest_done (Words text) h = absurd (true≢false h)
+rest_done (Page page) h = page_done page h

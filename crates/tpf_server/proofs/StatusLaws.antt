@@ -1,5 +1,5 @@
 -- The bodies of answers without a page.
-use Rattle.std.proofs.Common.{◌≡◌, refl}
+use Rattle.std.proofs.Common.{◌≡◌, ℕ, ◌<◌, ◌≤◌, List, length, refl, subst, arith}
 use Rattle.tpf_base.specs.Decimals.{digits_up_to, decimal_text}
 use Rattle.template_fill.specs.HttpAnswer.{phrase, refusal}
 use Rattle.tpf_server.specs.declared.status.Status.{Status}
@@ -15,3 +15,19 @@ body_is MethodNotAllowed = refl
 body_is HeaderFieldsTooLarge = refl
 body_is InternalServerError = refl
 body_is ServiceUnavailable = refl
+
+text_size : (status : Status) → (0 < length (body_text status)) × (length (body_text status) ≤ 16384)
+unfolding body_text
+text_size Success = (omega arith, omega arith)
+text_size BadRequest = (omega arith, omega arith)
+text_size NotFound = (omega arith, omega arith)
+text_size MethodNotAllowed = (omega arith, omega arith)
+text_size HeaderFieldsTooLarge = (omega arith, omega arith)
+text_size InternalServerError = (omega arith, omega arith)
+text_size ServiceUnavailable = (omega arith, omega arith)
+
+pub body_some : (status : Status) → 0 < length (refusal (code status)).body
+body_some status = subst (λ (l : List ℕ). 0 < length l) (body_is status) (text_size status).0
+
+pub body_few : (status : Status) → length (refusal (code status)).body ≤ 16384
+body_few status = subst (λ (l : List ℕ). length l ≤ 16384) (body_is status) (text_size status).1

@@ -1,6 +1,6 @@
 -- What is known of one connection of a server.
 use Rattle.std.specs.Prelude.{ℕ, ◌≡◌, ◌⊎◌, ◌≤◌, ◌<◌, ◌||◌, Bool, true, false, List, [], ◌∷◌, ◌++◌, length, take, drop}
-use Rattle.std.specs.List.{AllByRecursion, concat}
+use Rattle.std.specs.List.{AllByRecursion}
 use Rattle.rdf_terms.specs.declared.term.Triple.{Triple}
 use Rattle.tpf_base.specs.HttpHeads.{Verdict}
 use Rattle.tpf_base.specs.HttpConnection.{heads_of}
@@ -14,8 +14,7 @@ use Rattle.tpf_server.specs.declared.reading.Reading.TheVariants.{Reads}
 use Rattle.tpf_server.specs.declared.rest.Rest.{Rest}
 use Rattle.tpf_server.specs.declared.rest.Rest.TheVariants.{Nothing}
 use Rattle.tpf_server.specs.Serving.{Serving, IsHistoryOf}
-use Rattle.tpf_server.specs.Given.{IsSmall}
-use Rattle.tpf_server.specs.Owed.{debt_left, debt_pieces}
+use Rattle.tpf_server.specs.Owed.{debt_left, debt_text}
 use Rattle.tpf_server.specs.Read.{Stands}
 use Rattle.tpf_server.specs.Reading.{is_ended, waits, when_starved}
 use Rattle.tpf_server.specs.Reloads.{outcome_mark, outcome_numbers}
@@ -45,12 +44,9 @@ wants_reload c = waits c.reading
 abbrev pub owes : Conversation → Bool
 owes c = c.starved || debt_left c.rest c.waiting
 
--- the pieces of the response that are not made yet: each is the head of an answer, or one line of a body
-abbrev pub owed_pieces : Config → Conversation → List (List ℕ)
-owed_pieces config c = debt_pieces config c.rest c.waiting
-
+-- the bytes of the response that are not made yet
 abbrev pub owed_text : Config → Conversation → List ℕ
-owed_text config c = concat (owed_pieces config c)
+owed_text config c = debt_text config c.rest c.waiting
 
 -- for want of memory all is dropped but what is pending
 abbrev pub starved_at : Conversation → Conversation
@@ -91,12 +87,11 @@ pub record Reloads (server : Serving) (outcome : Reloaded) (old new : Conversati
       → Answers history server.config fed taken marks old
       → ReadsFurther history server fed taken marks [] (outcome_mark server.version outcome ∷ []) (outcome_numbers outcome) new
 
--- pieces were made, each where fewer than 65536 bytes were pending, until as many are pending or nothing is owed
+-- further bytes were made, until at least 65536 are pending or nothing is owed
 pub record Makes (config : Config) (old new : Conversation) : Type 0 where
-  pub pieces : List (List ℕ)
-  pub owed : owed_pieces config old ≡ pieces ++ owed_pieces config new
-  pub pending : new.pending ≡ old.pending ++ concat pieces
-  pub small : IsSmall (length old.pending) pieces
+  pub part : List ℕ
+  pub owed : owed_text config old ≡ part ++ owed_text config new
+  pub pending : new.pending ≡ old.pending ++ part
   pub enough : (65536 ≤ length new.pending) ⊎ (owes new ≡ false)
   pub unread : new.unread ≡ old.unread
   pub reading : new.reading ≡ old.reading

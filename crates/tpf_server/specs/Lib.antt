@@ -5,6 +5,7 @@ pub mod Lines
 pub mod Opened
 pub mod Owed
 pub mod PageRests
+pub mod Parts
 pub mod Parameters
 pub mod Read
 pub mod Reading

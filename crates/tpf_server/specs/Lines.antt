@@ -1,5 +1,6 @@
 -- The lines of a body, one by one.
-use Rattle.std.specs.Prelude.{ℕ, List, map}
+use Rattle.std.specs.Prelude.{ℕ, List, [], None, map}
+use Rattle.rdf_terms.specs.declared.term.Term.TheVariants.{Iri}
 use Rattle.rdf_terms.specs.declared.term.Triple.{Triple}
 use Rattle.rdf_terms.specs.declared.term.Quad.{Quad}
 use Rattle.rdf_terms.specs.Canon.{canonical_line}
@@ -14,3 +15,7 @@ triple_line triple = canonical_line (in_default_graph triple)
 -- lines of the default graph
 abbrev pub triple_lines : List Triple → List (List ℕ)
 triple_lines triples = map triple_line triples
+
+-- any quad
+abbrev pub some_quad : Quad
+some_quad = record { triple = record { subject = Iri []; predicate = Iri []; object = Iri [] }; graph = None }

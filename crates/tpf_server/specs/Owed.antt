@@ -1,28 +1,24 @@
--- What is owed on a connection, as pieces: each is the head of an answer, or one line of a body.
-use Rattle.std.specs.Prelude.{ℕ, ◌-◌, ◌≡◌, ◌||◌, Bool, nat_lt, List, [], ◌∷◌, ◌++◌, length, if◌then◌else◌}
-use Rattle.std.specs.List.{AllByRecursion, concat, flat_map}
+-- What is owed on a connection.
+use Rattle.std.specs.Prelude.{ℕ, ◌-◌, ◌≡◌, ◌≤◌, ◌||◌, Bool, nat_lt, List, ◌++◌, length}
+use Rattle.std.specs.List.{AllByRecursion, flat_map}
 use Rattle.template_fill.specs.Metadata.{Config}
-use Rattle.template_fill.specs.HttpAnswer.{head_text}
+use Rattle.template_fill.specs.HttpAnswer.{answer_text}
 use Rattle.tpf_server.specs.declared.asked.Queued.{Queued}
 use Rattle.tpf_server.specs.declared.rest.Rest.{Rest}
 use Rattle.tpf_server.specs.Asked.{IsAsked, answer_of}
-use Rattle.tpf_server.specs.Opened.{body_pieces}
-use Rattle.tpf_server.specs.Rests.{IsWithin, is_left, rest_pieces}
-use Rattle.tpf_server.specs.Given.{IsSmall}
+use Rattle.tpf_server.specs.Rests.{IsWithin, is_left, rest_text}
 
--- the pieces of an answer that is not begun
-unfoldable pub answer_pieces : Config → Queued → List (List ℕ)
-answer_pieces config queued =
-    head_text (answer_of config queued.asking).status (answer_of config queued.asking).media_type (length (answer_of config queued.asking).body) queued.closes
-    ∷ (if queued.without_body then [] else body_pieces config queued.asking)
+-- the text of an answer that is not begun
+abbrev pub queued_text : Config → Queued → List ℕ
+queued_text config queued = answer_text (answer_of config queued.asking) queued.without_body queued.closes
 
 -- of several answers
-abbrev pub queue_pieces : Config → List Queued → List (List ℕ)
-queue_pieces config waiting = flat_map (answer_pieces config) waiting
+abbrev pub queue_text : Config → List Queued → List ℕ
+queue_text config waiting = flat_map (queued_text config) waiting
 
 -- what is left of an answer, and the answers behind it
-unfoldable pub debt_pieces : Config → Rest → List Queued → List (List ℕ)
-debt_pieces config rest waiting = rest_pieces rest ++ queue_pieces config waiting
+unfoldable pub debt_text : Config → Rest → List Queued → List ℕ
+debt_text config rest waiting = rest_text rest ++ queue_text config waiting
 
 -- something is owed
 abbrev pub debt_left : Rest → List Queued → Bool
@@ -33,9 +29,9 @@ pub record Fits (rest : Rest) (waiting : List Queued) : Type 0 where
   pub range : IsWithin rest
   pub asked : AllByRecursion (λ (queued : Queued). IsAsked queued.asking) waiting
 
--- pieces were appended, each where fewer than 65536 bytes stood behind those that were taken
-pub record Fills (debt left : List (List ℕ)) (taken : ℕ) (before after : List ℕ) : Type 0 where
-  pub pieces : List (List ℕ)
-  pub owed : debt ≡ pieces ++ left
-  pub made : after ≡ before ++ concat pieces
-  pub small : IsSmall (length before - taken) pieces
+-- a first part of the text was appended; behind the bytes that were taken stand at most 81919, where no more stood there before
+pub record Fills (debt left : List ℕ) (taken : ℕ) (before after : List ℕ) : Type 0 where
+  pub part : List ℕ
+  pub owed : debt ≡ part ++ left
+  pub made : after ≡ before ++ part
+  pub few : length before - taken ≤ 81919 → length after - taken ≤ 81919

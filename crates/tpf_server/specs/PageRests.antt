@@ -1,22 +1,44 @@
--- The lines of a page that are left.
-use Rattle.std.specs.Prelude.{ℕ, ◌≡◌, ◌-◌, ◌||◌, Bool, nat_lt, List, ◌++◌, length}
+-- What is left of the text of a page.
+use Rattle.std.specs.Prelude.{ℕ, ◌≡◌, ◌-◌, ◌<◌, ◌||◌, Bool, nat_lt, List, [], ◌++◌, length, drop, slice_index_or}
+use Rattle.std.specs.List.{concat}
+use Rattle.rdf_terms.specs.Canon.{canonical_line}
 use Rattle.rdf_terms.specs.declared.term.Quad.{Quad}
 use Rattle.triple_table.specs.declared.ids.Range.{Range}
-use Rattle.triple_table.specs.Stored.{Stored, IsRange, listed}
-use Rattle.tpf_server.specs.Lines.{quad_lines, triple_lines}
+use Rattle.triple_table.specs.Stored.{Stored, IsIdTriple, IsRange, held_terms, listed, triple_at}
+use Rattle.tpf_server.specs.declared.parts.Begun.{Begun}
+use Rattle.tpf_server.specs.declared.parts.Begun.TheVariants.{Nothing, Triple, Line}
+use Rattle.tpf_server.specs.Lines.{quad_lines, some_quad, triple_lines}
+use Rattle.tpf_server.specs.Parts.{triple_marks}
 
--- the table, its triples on the page that are left, and the quads of the page's metadata
+-- what is left of the line that was begun
+unfoldable pub begun_text : Stored → List Quad → Begun → List ℕ
+begun_text s quads Nothing = []
+begun_text s quads (Triple ids from) = concat (drop from (triple_marks (triple_at (held_terms s) ids)))
+begun_text s quads (Line place from) = drop from (canonical_line (slice_index_or quads place some_quad))
+
+-- of the line that was begun a byte is left
+abbrev pub IsBegun : Stored → List Quad → Begun → Type 0
+IsBegun s quads Nothing = Unit {0}
+IsBegun s quads (Triple ids from) = IsIdTriple (held_terms s) ids × (from < length (triple_marks (triple_at (held_terms s) ids)))
+IsBegun s quads (Line place from) = (place < length quads) × (from < length (canonical_line (slice_index_or quads place some_quad)))
+
+-- what is left of the line that was begun, and the table, its triples on the page, and the quads of the page's metadata of which no line was begun
 pub record PageLines : Type 0 where
+  pub begun : List ℕ
   pub table : Stored
   pub triples : Range
   pub quads : List Quad
 
--- their lines
-unfoldable pub page_pieces : PageLines → List (List ℕ)
-page_pieces page = triple_lines (listed page.table page.triples) ++ quad_lines page.quads
+-- the text of their lines
+unfoldable pub page_text : PageLines → List ℕ
+page_text page = page.begun ++ (concat (triple_lines (listed page.table page.triples)) ++ concat (quad_lines page.quads))
+
+-- a line of which no byte was given is left
+abbrev pub lines_left : PageLines → Bool
+lines_left page = nat_lt page.triples.from page.triples.to || nat_lt 0 (length page.quads)
 
 abbrev pub page_left : PageLines → Bool
-page_left page = nat_lt page.triples.from page.triples.to || nat_lt 0 (length page.quads)
+page_left page = nat_lt 0 (length page.begun) || lines_left page
 
 -- the range is one of the table, and lists as many triples as it has places
 pub record IsPart (table : Stored) (part : Range) : Type 0 where

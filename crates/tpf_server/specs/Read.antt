@@ -1,6 +1,6 @@
 -- How the heads of requests are read: up to the first that closes, or that asks for a reload.
 use Rattle.std.specs.Prelude.{ℕ, ◌≡◌, ◌<◌, ◌&&◌, Bool, true, false, List, [], ◌∷◌, ◌++◌, map, drop, length, Option, None, if◌then◌else◌}
-use Rattle.std.specs.List.{AllByRecursion, concat}
+use Rattle.std.specs.List.{AllByRecursion}
 use Rattle.http_wire.specs.Requests.{Held}
 use Rattle.http_wire.specs.declared.message.RequestHead.{RequestHead}
 use Rattle.template_fill.specs.ReadAddress.{path_of}
@@ -18,7 +18,7 @@ use Rattle.tpf_server.specs.declared.reading.HeadRead.{HeadRead}
 use Rattle.tpf_server.specs.declared.reading.HeadRead.TheVariants.{Nothing, Answered, Reload}
 use Rattle.tpf_server.specs.Serving.{Serving, IsHistoryOf}
 use Rattle.tpf_server.specs.Asked.{IsAsked, answer_for, answer_of, is_head, is_other}
-use Rattle.tpf_server.specs.Owed.{answer_pieces, queue_pieces}
+use Rattle.tpf_server.specs.Owed.{queue_text, queued_text}
 
 -- some heads, and then those that follow
 abbrev pub heads_then : List Verdict → Heads → Heads
@@ -62,7 +62,7 @@ pub record IsAnswered (server : Serving) (bytes : List ℕ) (before after : List
   pub waiting : after ≡ before ++ queued ∷ []
   pub asked : IsAsked queued.asking
   pub plain : (history : List (List Triple)) → asks_reload (answering history server.config) head ≡ false
-  pub text : (history : List (List Triple)) → IsHistoryOf history server → concat (answer_pieces server.config queued) ≡ head_answer (answering history server.config) head (Served server.version)
+  pub text : (history : List (List Triple)) → IsHistoryOf history server → queued_text server.config queued ≡ head_answer (answering history server.config) head (Served server.version)
   pub heads : heads_of bytes ≡ (if last then last_head head else with_head head (heads_of held.bytes))
   pub open_ : last ≡ false → held.refused ≡ None
   pub shorter : last ≡ false → length held.bytes < length bytes
@@ -84,7 +84,7 @@ pub record ReadsHeads (server : Serving) (bytes : List ℕ) (before after : List
   pub heads : List Verdict
   pub plain : ArePlain server.config heads
   pub text : (history : List (List Triple)) → IsHistoryOf history server
-      → concat (queue_pieces server.config after) ≡ concat (queue_pieces server.config before) ++ answers (answering history server.config) heads (served_marks server.version heads)
+      → queue_text server.config after ≡ queue_text server.config before ++ answers (answering history server.config) heads (served_marks server.version heads)
   pub asked : AllByRecursion (λ (queued : Queued). IsAsked queued.asking) before → AllByRecursion (λ (queued : Queued). IsAsked queued.asking) after
   pub behind : (later : List Queued) × (after ≡ before ++ later)
   pub stands : Stands server.config (heads_of bytes) heads reading held.bytes

@@ -1,6 +1,5 @@
 // One connection: from the bytes that come to the bytes of the response.
-ghost use Rattle.std.specs.Prelude.{ℕ, ◌≡◌, ◌≤◌, ◌<◌, ◌+◌, ◌++◌, [], List, None, true, false, length, take, drop, IsOk, IsErr, OnOk, OnErr};
-ghost use Rattle.std.specs.List.{AllByRecursion};
+ghost use Rattle.std.specs.Prelude.{ℕ, ◌≡◌, ◌≤◌, ◌<◌, ◌+◌, ◌-◌, ◌++◌, [], List, None, true, false, length, take, drop, IsOk, IsErr, OnOk, OnErr};
 ghost use Rattle.rdf_terms.specs.declared.term.Triple.{Triple};
 ghost use Rattle.list_laws.specs.Begins.{Begins};
 ghost use Rattle.http_wire.specs.Requests.{holding};
@@ -8,7 +7,7 @@ ghost use Rattle.template_fill.specs.Metadata.{Config};
 ghost use Rattle.tpf_base.specs.Marks.{Mark};
 ghost use Rattle.tpf_server.specs.Reading.{is_ended};
 ghost use Rattle.tpf_server.specs.Reloads.{IsOutcome};
-ghost use Rattle.tpf_server.specs.Conversation.{Answers, Conversation, Feeds, Makes, Reloads, closing, opening, owed_pieces, owed_text, owes, starved_at, wants_reload};
+ghost use Rattle.tpf_server.specs.Conversation.{Answers, Conversation, Feeds, Makes, Reloads, closing, opening, owed_text, owes, starved_at, wants_reload};
 
 use crate::Server;
 use crate::outcome::Reloaded;
@@ -25,7 +24,9 @@ use tpf_base::OutOfMemory;
 const KEPT: usize = 16384;
 
 /// One connection of a server: it takes the bytes that come and gives those of the response in
-/// pieces. A piece is the head of an answer or one line of a body; no body is made whole.
+/// parts, each of at most 16384 bytes: the head of an answer, a line of a body, or a part of a long line.
+/// No body is made whole, and no long line. So at most 81919 bytes are pending at any time, whatever is
+/// asked for: 65535, and one part.
 ///
 /// A head is answered over the version that the server has when the head is read, also where the
 /// server is reloaded before the answer is made. A request for a reload is not answered, and nothing
@@ -61,10 +62,12 @@ fn remaining_feed(alloc: Global, requests: RequestFeed, ended: bool) -> RequestF
 
 /// Drops the bytes that were given, where they are more than the others, and tells how many given ones
 /// are left.
+#[tactic(auto, using(crate::proofs::KeptLaws::same_left))]
 fn compact(bytes: &mut Vec<u8>, given: usize) -> usize
     requires { given ≤ length bytes.old.items }
     ensures pending { drop result bytes.new.items ≡ drop given bytes.old.items }
     ensures half { result + result ≤ length bytes.new.items }
+    ensures left { length bytes.new.items - result ≡ length bytes.old.items - given }
 {
     if given == bytes.len() {
         bytes.clear();
@@ -78,7 +81,7 @@ fn compact(bytes: &mut Vec<u8>, given: usize) -> usize
 }
 
 impl Model for Connection {
-    ghost use Rattle.std.specs.Prelude.{◌≡◌, ◌≤◌, ◌+◌, length, drop, None};
+    ghost use Rattle.std.specs.Prelude.{◌≡◌, ◌≤◌, ◌+◌, ◌-◌, length, drop, None};
     ghost use Rattle.tpf_server.specs.Owed.{Fits};
     ghost use Rattle.tpf_server.specs.Conversation as conversations;
 
@@ -86,7 +89,7 @@ impl Model for Connection {
 
     ghost view = { λ c. record { unread = c.requests.bytes; reading = c.reading; rest = c.debt.rest; waiting = c.debt.waiting.items; pending = drop c.given c.bytes.items; starved = c.starved } };
 
-    ghost invariant = { λ c. (c.given + c.given ≤ length c.bytes.items) × (c.requests.refused ≡ None) × Fits c.debt.rest c.debt.waiting.items };
+    ghost invariant = { λ c. (c.given + c.given ≤ length c.bytes.items) × (c.requests.refused ≡ None) × Fits c.debt.rest c.debt.waiting.items × (length c.bytes.items - c.given ≤ 81919) };
 }
 
 impl Connection {
@@ -257,10 +260,11 @@ impl Connection {
         answered
     }
 
-    /// Makes pieces. Out of memory, what is owed is dropped.
+    /// Makes parts. Out of memory, what is owed is dropped.
     fn make_on(&mut self, server: &Server) -> Result<(), OutOfMemory>
         requires fed { self.old.starved ≡ false }
         ensures ok { OnOk result (Makes server.now.config self.old self.new) }
+        ensures few { length self.new.pending ≤ 81919 }
         ensures pending { Begins self.old.pending self.new.pending }
         ensures some { OnOk result (owes self.old ≡ true → 0 < length self.new.pending) }
         ensures reading { OnErr result (self.new.reading ≡ self.old.reading) }
@@ -272,8 +276,10 @@ impl Connection {
         Ok(())
     }
 
+    #[tactic(auto, using(crate::proofs::KeptLaws::few_view))]
     fn make(&mut self, server: &Server) -> Result<(), OutOfMemory>
         ensures ok { OnOk result (Makes server.now.config self.old self.new) }
+        ensures few { length self.new.pending ≤ 81919 }
         ensures full { 65536 ≤ length self.old.pending → OnOk result (self.new ≡ self.old) }
         ensures full_ok { 65536 ≤ length self.old.pending → self.old.starved ≡ false → IsOk result }
         ensures idle { owes self.old ≡ false → OnOk result (self.new ≡ self.old) }
@@ -295,11 +301,10 @@ impl Connection {
         self.make_on(server)
     }
 
-    /// Makes further bytes of the response, a head or a line of a body at a time, until at least 65536
-    /// are pending or nothing is owed. Where as many are pending, or nothing is owed, it changes nothing
-    /// and takes no memory; so never more are pending than 65535 and one head or line (`bounded`). Each
-    /// answer is made over the version by which its head was read; of the server only the configuration
-    /// is used.
+    /// Makes further bytes of the response, a part at a time, until at least 65536 are pending or nothing
+    /// is owed. Where as many are pending, or nothing is owed, it changes nothing and takes no memory. So
+    /// never more than 81919 are pending (`few`). Each answer is made over the version by which its head
+    /// was read; of the server only the configuration is used.
     ///
     /// `OutOfMemory` comes only where memory runs out. The pending bytes are then as before, all else is
     /// dropped, and each later `feed` and `fill` answers `OutOfMemory`.
@@ -311,7 +316,7 @@ impl Connection {
         ensures idle_ok { owes self.old ≡ false → IsOk result }
         ensures answers { OnOk result ((history : List (List Triple)) (fed taken : List ℕ) (marks : List Mark) → Answers history server.now.config fed taken marks self.old → Answers history server.now.config fed taken marks self.new) }
         ensures some { OnOk result (owes self.old ≡ true → 0 < length self.new.pending) }
-        ensures bounded { OnOk result ((longest : ℕ) → AllByRecursion (λ piece. length piece ≤ longest) (owed_pieces server.now.config self.old) → length self.old.pending ≤ 65535 + longest → length self.new.pending ≤ 65535 + longest) }
+        ensures few { length self.new.pending ≤ 81919 }
         ensures err { OnErr result (self.new ≡ starved_at self.old) }
         ensures starved { self.old.starved ≡ true → IsErr result }
     {
@@ -334,9 +339,11 @@ impl Connection {
         self.starved || self.debt.is_left()
     }
 
-    /// The bytes of the response that are made and not taken.
+    /// The bytes of the response that are made and not taken: at most 81919.
+    #[tactic(auto, using(crate::proofs::KeptLaws::few_view))]
     pub fn pending(&self) -> &[u8]
-        ensures { result.now ≡ self.now.pending }
+        ensures is_pending { result.now ≡ self.now.pending }
+        ensures few { length result.now ≤ 81919 }
     {
         &self.bytes[self.given..]
     }

@@ -1,5 +1,5 @@
 // The head of an answer.
-ghost use Rattle.std.specs.Prelude.{ℕ, ◌≡◌, ◌==◌, ◌++◌, codes, OnOk, IfOk};
+ghost use Rattle.std.specs.Prelude.{ℕ, ◌≡◌, ◌≤◌, ◌==◌, ◌++◌, codes, length, OnOk, IfOk};
 ghost use Rattle.http_wire.specs.Fields.{pair_of, pairs_of};
 ghost use Rattle.list_laws.specs.Begins.{Begins};
 ghost use Rattle.tpf_base.specs.Decimals.{decimal_text};
@@ -89,18 +89,19 @@ fn fields(
 }
 
 /// Appends the head of an answer whose body has this length.
-#[tactic(auto, using(list_laws::proofs::Begins::same_begins, list_laws::proofs::Begins::more_begins))]
+#[tactic(auto, using(list_laws::proofs::Begins::same_begins, list_laws::proofs::Begins::more_begins, crate::proofs::HeadLaws::short_head))]
 pub fn write_answer_head(
     alloc: Global,
     status: Status,
     media: MediaType,
-    length: u128,
+    body_length: u128,
     closes: bool,
     out: &mut Vec<u8>,
 ) -> Result<(), OutOfMemory>
-    ensures ok { OnOk result (out.new.items ≡ out.old.items ++ head_text (code status) (media_of media) length closes) }
+    ensures ok { OnOk result (out.new.items ≡ out.old.items ++ head_text (code status) (media_of media) body_length closes) }
+    ensures few { length (head_text (code status) (media_of media) body_length closes) ≤ 16384 }
     ensures front { Begins out.old.items out.new.items }
 {
-    let fields = fields(alloc, status, media, length, closes)?;
+    let fields = fields(alloc, status, media, body_length, closes)?;
     write_head(status.code(), fields.as_slice(), out)
 }

@@ -21,6 +21,7 @@ mod outcome;
 mod owed;
 mod pages;
 mod parameters;
+mod parts;
 mod reading;
 mod rest;
 mod server;

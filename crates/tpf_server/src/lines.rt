@@ -16,7 +16,7 @@ use triple_table::{IdTriple, Range, Table};
 
 /// The length of the line of a triple of the table: the sum of lengths that the table keeps.
 #[tactic(auto, using(crate::proofs::LineLengths::triple_line_length))]
-fn triple_length(table: &Table, ids: IdTriple) -> u128
+pub fn triple_length(table: &Table, ids: IdTriple) -> u128
     requires { IsIdTriple (held_terms table.now) ids }
     ensures length { result ≡ length (canonical_line (in_default_graph (triple_at (held_terms table.now) ids))) }
     ensures small { result < 2 ^ 70 }

@@ -1,10 +1,10 @@
 // What is owed on a connection: the rest of an answer that was begun, and the answers behind it.
-ghost use Rattle.std.specs.Prelude.{ℕ, ◌≡◌, ◌⊎◌, ◌-◌, ◌≤◌, [], true, false, None, length, IfOk, OnOk, if◌then◌else◌};
+ghost use Rattle.std.specs.Prelude.{ℕ, ◌≡◌, ◌⊎◌, ◌-◌, ◌≤◌, [], true, false, None, length, take, IfOk, OnOk, OnErr, if◌then◌else◌};
 ghost use Rattle.list_laws.specs.Begins.{Begins};
 ghost use Rattle.tpf_server.specs.Asked.{IsAsked};
 ghost use Rattle.tpf_server.specs.Given.{IsGiven};
-ghost use Rattle.tpf_server.specs.Rests.{IsWithin, rest_pieces};
-ghost use Rattle.tpf_server.specs.Owed.{Fits, Fills, answer_pieces, debt_left, debt_pieces};
+ghost use Rattle.tpf_server.specs.Rests.{IsWithin, rest_text};
+ghost use Rattle.tpf_server.specs.Owed.{Fits, Fills, debt_left, debt_text, queued_text};
 ghost use Rattle.tpf_server.specs.Read.{IsQueued, ReadsHead, ReadsHeads};
 ghost use Rattle.tpf_server.specs.Reloads.{ReadsOn};
 
@@ -38,6 +38,23 @@ fn body_or_nothing(without_body: bool, body: Rest) -> Rest
     if without_body { Rest::Nothing } else { body }
 }
 
+/// Takes back what was appended since `out` had this length, where the writing failed.
+#[tactic(auto, using(list_laws::proofs::Begins::cut_back))]
+fn taken_back(
+    written: Result<(), OutOfMemory>,
+    before: usize,
+    out: &mut Vec<u8>,
+) -> Result<(), OutOfMemory>
+    ensures same { result ≡ written }
+    ensures ok { OnOk result (out.new.items ≡ out.old.items) }
+    ensures err { OnErr result (out.new.items ≡ take before out.old.items) }
+{
+    if written.is_err() {
+        out.truncate(before);
+    }
+    written
+}
+
 /// Appends the head of an answer, and tells what its body is.
 #[tactic(auto, using(crate::proofs::DebtLaws::begun, crate::proofs::DebtLaws::begun_within, list_laws::proofs::Begins::same_begins))]
 fn begin(
@@ -47,7 +64,7 @@ fn begin(
     out: &mut Vec<u8>,
 ) -> Result<Rest, OutOfMemory>
     requires { IsAsked queued.now.asking }
-    ensures ok { IfOk result (λ rest. IsGiven (answer_pieces config.now queued.now) (rest_pieces rest) out.old.items out.new.items) }
+    ensures ok { IfOk result (λ rest. IsGiven (queued_text config.now queued.now) (rest_text rest) out.old.items out.new.items) }
     ensures range { IfOk result IsWithin }
     ensures front { Begins out.old.items out.new.items }
 {
@@ -174,11 +191,11 @@ impl Debt {
         self.read_heads(alloc, server, requests)
     }
 
-    /// Appends the next piece.
+    /// Appends the next part.
     fn give(&mut self, alloc: Global, config: &Config, out: &mut Vec<u8>) -> Result<(), OutOfMemory>
         requires fits { Fits self.old.rest self.old.waiting.items }
         requires left { debt_left self.old.rest self.old.waiting.items ≡ true }
-        ensures ok { OnOk result (IsGiven (debt_pieces config.now self.old.rest self.old.waiting.items) (debt_pieces config.now self.new.rest self.new.waiting.items) out.old.items out.new.items) }
+        ensures ok { OnOk result (IsGiven (debt_text config.now self.old.rest self.old.waiting.items) (debt_text config.now self.new.rest self.new.waiting.items) out.old.items out.new.items) }
         ensures fits { OnOk result (Fits self.new.rest self.new.waiting.items) }
         ensures front { Begins out.old.items out.new.items }
     {
@@ -194,8 +211,8 @@ impl Debt {
         }
     }
 
-    /// Appends pieces until 65536 bytes stand behind the `given` ones, or nothing is owed.
-    pub fn fill(
+    /// Appends parts until 65536 bytes stand behind the `given` ones, or nothing is owed.
+    fn fill_on(
         &mut self,
         alloc: Global,
         config: &Config,
@@ -204,7 +221,7 @@ impl Debt {
     ) -> Result<(), OutOfMemory>
         requires fits { Fits self.old.rest self.old.waiting.items }
         requires given { given ≤ length out.old.items }
-        ensures ok { OnOk result (Fills (debt_pieces config.now self.old.rest self.old.waiting.items) (debt_pieces config.now self.new.rest self.new.waiting.items) given out.old.items out.new.items) }
+        ensures ok { OnOk result (Fills (debt_text config.now self.old.rest self.old.waiting.items) (debt_text config.now self.new.rest self.new.waiting.items) given out.old.items out.new.items) }
         ensures enough { OnOk result ((65536 ≤ length out.new.items - given) ⊎ (debt_left self.new.rest self.new.waiting.items ≡ false)) }
         ensures fits { OnOk result (Fits self.new.rest self.new.waiting.items) }
         ensures front { Begins out.old.items out.new.items }
@@ -214,5 +231,28 @@ impl Debt {
         }
         self.rest.settle();
         Ok(())
+    }
+
+    /// Appends parts until 65536 bytes stand behind the `given` ones, or nothing is owed; so at most 81919
+    /// stand there, where no more stood there before. After `OutOfMemory` `out` is as before.
+    #[tactic(auto, using(list_laws::proofs::Begins::cut_back))]
+    pub fn fill(
+        &mut self,
+        alloc: Global,
+        config: &Config,
+        given: usize,
+        out: &mut Vec<u8>,
+    ) -> Result<(), OutOfMemory>
+        requires fits { Fits self.old.rest self.old.waiting.items }
+        requires given { given ≤ length out.old.items }
+        ensures ok { OnOk result (Fills (debt_text config.now self.old.rest self.old.waiting.items) (debt_text config.now self.new.rest self.new.waiting.items) given out.old.items out.new.items) }
+        ensures enough { OnOk result ((65536 ≤ length out.new.items - given) ⊎ (debt_left self.new.rest self.new.waiting.items ≡ false)) }
+        ensures fits { OnOk result (Fits self.new.rest self.new.waiting.items) }
+        ensures front { Begins out.old.items out.new.items }
+        ensures few { length out.old.items - given ≤ 81919 → length out.new.items - given ≤ 81919 }
+    {
+        let before = out.len();
+        let filled = self.fill_on(alloc, config, given, out);
+        taken_back(filled, before, out)
     }
 }

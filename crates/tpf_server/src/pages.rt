@@ -147,8 +147,10 @@ fn version_text(alloc: Global, number: u64) -> Result<Text, OutOfMemory>
 }
 
 /// The answer to a reload that reached this version.
+#[tactic(auto, using(crate::proofs::OpenLaws::short_version))]
 fn open_version(alloc: Global, number: u64) -> Result<Opened, OutOfMemory>
-    ensures { IfOk result (λ o. o ≡ record { status = Status.Success; media = MediaType.PlainText; length = length (version_line number); body = Rest.Words (version_line number) }) }
+    ensures few { length (version_line number) ≤ 16384 }
+    ensures opened { IfOk result (λ o. o ≡ record { status = Status.Success; media = MediaType.PlainText; length = length (version_line number); body = Rest.Words (version_line number) }) }
 {
     let text = version_text(alloc, number)?;
     Ok(Opened {

@@ -1,12 +1,11 @@
 // What is left of the body of an answer that was begun.
-ghost use Rattle.std.specs.Prelude.{ℕ, ◌≡◌, ◌++◌, ◌∷◌, [], ◌<◌, ◌≤◌, length, drop, false, true, IsTrue, OnOk, ◌↔◌};
+ghost use Rattle.std.specs.Prelude.{ℕ, ◌≡◌, ◌++◌, ◌∷◌, [], ◌<◌, ◌≤◌, length, drop, nat_lt, false, true, IsTrue, OnOk, ◌↔◌};
 ghost use Rattle.list_laws.specs.Begins.{Begins};
-ghost use Rattle.tpf_server.specs.Lines.{quad_lines, triple_lines};
 ghost use Rattle.tpf_server.specs.Given.{IsGiven};
-ghost use Rattle.tpf_server.specs.PageRests.{IsPart, page_left, page_pieces};
-ghost use Rattle.tpf_server.specs.Rests.{IsWithin, is_left, rest_pieces};
+ghost use Rattle.tpf_server.specs.PageRests.{IsPart, lines_left, page_left, page_text};
+ghost use Rattle.tpf_server.specs.Rests.{IsWithin, is_left, rest_text};
 
-use crate::lines::write_triple;
+use crate::parts::{Begun, write_line_part, write_triple_part};
 use crate::snapshot::Snapshot;
 use crate::status::Status;
 use hydra_controls::MetadataLines;
@@ -14,11 +13,12 @@ use std::marker::Model;
 use tpf_base::{OutOfMemory, Text};
 use triple_table::Range;
 
-/// The lines of a page that are left: a range of the table, and then the metadata from a place on, whose
-/// lines are made one by one.
+/// The lines of a page that are left: the rest of the line that was begun, a range of the table, and then
+/// the metadata from a place on. The text of a line is made when it is given.
 #[derive(Drop)]
 pub struct PageRest {
     snapshot: Snapshot,
+    begun: Begun,
     triples: Range,
     metadata: MetadataLines,
     next: usize,
@@ -30,75 +30,157 @@ impl Model for PageRest {
 
     ghost Value = { rests.PageLines };
 
-    ghost view = { λ p. record { table = p.snapshot.table; triples = p.triples; quads = drop p.next p.metadata } };
+    ghost view = { λ p. record { begun = rests.begun_text p.snapshot.table p.metadata p.begun; table = p.snapshot.table; triples = p.triples; quads = drop p.next p.metadata } };
+
+    ghost invariant = { λ p. rests.IsBegun p.snapshot.table p.metadata p.begun };
 }
 
 impl PageRest {
+    #[tactic(auto, unfolding(crate::specs::PageRests::begun_text))]
     pub fn new(snapshot: Snapshot, triples: Range, metadata: MetadataLines) -> PageRest
-        ensures { result ≡ record { table = snapshot.table; triples = triples; quads = metadata } }
+        ensures { result ≡ record { begun = []; table = snapshot.table; triples = triples; quads = metadata } }
     {
         PageRest {
             snapshot,
+            begun: Begun::Nothing,
             triples,
             metadata,
             next: 0,
         }
     }
 
-    #[tactic(auto, using(crate::proofs::RestLaws::left_else, crate::proofs::RestLaws::left_then))]
+    /// Whether a byte is left of the line that was begun.
+    fn is_begun(&self) -> bool
+        ensures { result ≡ nat_lt 0 (length self.now.begun) }
+    {
+        match self.begun {
+            Begun::Nothing => false,
+            Begun::Triple(_, _) => true,
+            Begun::Line(_, _) => true,
+        }
+    }
+
+    /// Whether triples are left of whose lines no byte was given.
+    fn has_triples(&self) -> bool
+        ensures { result ≡ nat_lt self.now.triples.from self.now.triples.to }
+    {
+        self.triples.from < self.triples.to
+    }
+
+    /// Whether lines of the metadata are left of which no byte was given.
+    #[tactic(auto, using(crate::proofs::RestLaws::quads_are))]
+    fn has_quads(&self) -> bool
+        ensures { result ≡ nat_lt 0 (length self.now.quads) }
+    {
+        self.next < self.metadata.count()
+    }
+
+    /// Whether lines are left of which no byte was given.
+    fn has_lines(&self) -> bool
+        ensures { result ≡ lines_left self.now }
+    {
+        self.has_triples() || self.has_quads()
+    }
+
     fn is_left(&self) -> bool
         ensures { result ≡ page_left self.now }
     {
-        self.triples.from < self.triples.to || self.next < self.metadata.count()
+        self.is_begun() || self.has_lines()
     }
 
-    /// Appends the next line of a triple.
-    #[tactic(auto, using(crate::proofs::RestLaws::page_passed, list_laws::proofs::Begins::same_begins))]
-    fn give_triple(&mut self, out: &mut Vec<u8>) -> Result<(), OutOfMemory>
+    /// Begins the next line of a triple.
+    #[tactic(auto, using(crate::proofs::RestLaws::part_behind))]
+    fn begin_triple(&mut self)
         requires part { IsPart self.old.table self.old.triples }
+        requires none { self.old.begun ≡ [] }
         requires some { self.old.triples.from < self.old.triples.to }
-        ensures ok { OnOk result (IsGiven (page_pieces self.old) (page_pieces self.new) out.old.items out.new.items) }
+        ensures text { page_text self.new ≡ page_text self.old }
+        ensures begun { nat_lt 0 (length self.new.begun) ≡ true }
         ensures part { IsPart self.new.table self.new.triples }
-        ensures front { Begins out.old.items out.new.items }
     {
         let _end = self.triples.to;
-        write_triple(
-            self.snapshot.table(),
-            self.snapshot.table().at(&self.triples, 0),
-            out,
-        )?;
+        self.begun = Begun::Triple(self.snapshot.table().at(&self.triples, 0), 0);
         self.triples.from += 1;
-        Ok(())
     }
 
-    /// Appends the next line of the metadata.
-    fn give_quad(&mut self, out: &mut Vec<u8>) -> Result<(), OutOfMemory>
-        requires none { self.old.triples.to ≤ self.old.triples.from }
+    /// Begins the next line of the metadata.
+    fn begin_line(&mut self)
+        requires none { self.old.begun ≡ [] }
+        requires past { self.old.triples.to ≤ self.old.triples.from }
         requires some { 0 < length self.old.quads }
-        ensures ok { OnOk result (IsGiven (page_pieces self.old) (page_pieces self.new) out.old.items out.new.items) }
+        ensures text { page_text self.new ≡ page_text self.old }
+        ensures begun { nat_lt 0 (length self.new.begun) ≡ true }
+        ensures range { self.new.triples ≡ self.old.triples }
+        ensures table { self.new.table ≡ self.old.table }
+    {
+        let _count = self.metadata.count();
+        self.begun = Begun::Line(self.next, 0);
+        self.next += 1;
+    }
+
+    /// Begins the next line.
+    #[tactic(auto, using(crate::proofs::RestLaws::quads_left, crate::proofs::RestLaws::part_kept))]
+    fn begin(&mut self)
+        requires part { IsPart self.old.table self.old.triples }
+        requires none { self.old.begun ≡ [] }
+        requires some { lines_left self.old ≡ true }
+        ensures text { page_text self.new ≡ page_text self.old }
+        ensures begun { nat_lt 0 (length self.new.begun) ≡ true }
+        ensures part { IsPart self.new.table self.new.triples }
+    {
+        if self.has_triples() {
+            self.begin_triple();
+        } else {
+            self.begin_line();
+        }
+    }
+
+    /// Begins the next line, unless a byte is left of the one before.
+    #[tactic(auto, using(crate::proofs::RestLaws::no_bytes, crate::proofs::RestLaws::lines_of))]
+    fn begin_next(&mut self)
+        requires part { IsPart self.old.table self.old.triples }
+        requires some { page_left self.old ≡ true }
+        ensures text { page_text self.new ≡ page_text self.old }
+        ensures begun { nat_lt 0 (length self.new.begun) ≡ true }
+        ensures part { IsPart self.new.table self.new.triples }
+    {
+        if !self.is_begun() {
+            self.begin();
+        }
+    }
+
+    /// Appends the next part of the line that was begun.
+    fn go_on(&mut self, out: &mut Vec<u8>) -> Result<(), OutOfMemory>
+        requires { nat_lt 0 (length self.old.begun) ≡ true }
+        ensures ok { OnOk result (IsGiven (page_text self.old) (page_text self.new) out.old.items out.new.items) }
         ensures range { self.new.triples ≡ self.old.triples }
         ensures table { self.new.table ≡ self.old.table }
         ensures front { Begins out.old.items out.new.items }
     {
-        let _count = self.metadata.count();
-        self.metadata.write(self.next, out)?;
-        self.next += 1;
-        Ok(())
+        match self.begun {
+            Begun::Nothing => Ok(()),
+            Begun::Triple(ids, from) => {
+                self.begun = write_triple_part(self.snapshot.table(), ids, from, out)?;
+                Ok(())
+            }
+            Begun::Line(place, from) => {
+                self.begun = write_line_part(&self.metadata, place, from, out)?;
+                Ok(())
+            }
+        }
     }
 
-    /// Appends the next line.
+    /// Appends the next part.
+    #[tactic(auto, using(crate::proofs::RestLaws::part_kept))]
     fn give(&mut self, out: &mut Vec<u8>) -> Result<(), OutOfMemory>
         requires part { IsPart self.old.table self.old.triples }
         requires some { page_left self.old ≡ true }
-        ensures ok { OnOk result (IsGiven (page_pieces self.old) (page_pieces self.new) out.old.items out.new.items) }
+        ensures ok { OnOk result (IsGiven (page_text self.old) (page_text self.new) out.old.items out.new.items) }
         ensures part { IsPart self.new.table self.new.triples }
         ensures front { Begins out.old.items out.new.items }
     {
-        if self.triples.from < self.triples.to {
-            self.give_triple(out)
-        } else {
-            self.give_quad(out)
-        }
+        self.begin_next();
+        self.go_on(out)
     }
 }
 
@@ -125,12 +207,12 @@ impl Rest {
         }
     }
 
-    /// Appends the next line.
+    /// Appends the next part.
     #[tactic(auto, using(crate::proofs::RestLaws::given_page))]
     pub fn give(&mut self, out: &mut Vec<u8>) -> Result<(), OutOfMemory>
         requires range { IsWithin self.old }
         requires some { is_left self.old ≡ true }
-        ensures ok { OnOk result (IsGiven (rest_pieces self.old) (rest_pieces self.new) out.old.items out.new.items) }
+        ensures ok { OnOk result (IsGiven (rest_text self.old) (rest_text self.new) out.old.items out.new.items) }
         ensures range { IsWithin self.new }
         ensures front { Begins out.old.items out.new.items }
     {
@@ -153,7 +235,7 @@ impl Rest {
     /// Gives the memory of a body back of which nothing is left.
     #[tactic(auto, using(crate::proofs::RestLaws::rest_done))]
     pub fn settle(&mut self)
-        ensures pieces { rest_pieces self.new ≡ rest_pieces self.old }
+        ensures text { rest_text self.new ≡ rest_text self.old }
         ensures left { is_left self.new ≡ is_left self.old }
         ensures range { IsWithin self.old → IsWithin self.new }
     {

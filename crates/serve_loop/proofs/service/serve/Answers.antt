@@ -3,6 +3,7 @@ use Rattle.std.proofs.Common.{sym, subst, ℕ, ◌+◌, ◌≤◌}
 use Rattle.serve_loop.proofs.CallLemmas.{alone_then}
 use Rattle.serve_loop.proofs.ServeLemmas.{begins_at, sentence_left, whole_left, closed_left, older_left, links_given, some_history, if_ok_map}
 use Rattle.serve_loop.proofs.ServiceLemmas.{serves_left, fails_left, if_err_map, rose_left}
+use Rattle.serve_loop.proofs.AskedLemmas.{asks_left}
 use Rattle.serve_loop.proofs.service.serve.Goals as goal
 
 pub returns-clause-prefixes : goal.returns-clause-prefixes
@@ -42,3 +43,6 @@ returns-clause-fails g c = if_err_map c.serve_on-served.result _ _ (λ fault s. 
 
 pub returns-clause-wire : goal.returns-clause-wire
 returns-clause-wire g c = if_err_map c.serve_on-served.result _ _ (λ fault w e. rose_left _ _ _ _ c.close.ensures.leaves (w e)) c.serve_on-served.ensures.wire
+
+pub returns-clause-asks : goal.returns-clause-asks
+returns-clause-asks g c = asks_left _ _ _ _ _ _ _ _ c.close.ensures.leaves c.serve_on-served.ensures.asks

@@ -5,6 +5,8 @@ use Rattle.serve_loop.proofs.ServeLemmas.{serves_none, serves_turn, serves_rest,
 use Rattle.serve_loop.proofs.CallLemmas.{alone_none, alone_then}
 use Rattle.serve_loop.proofs.ServeLemmas.{some_history, begins_at}
 use Rattle.serve_loop.proofs.ServiceLemmas.{so_far_none, so_far_more, takes_turn, serves_turns, fails_turn, fails_wait, wire_from, fault_as}
+use Rattle.serve_loop.proofs.AskedLemmas.{asked_more, asked_none, asks_once, none_asked, none_given}
+use Rattle.serve_loop.proofs.WelcomeLemmas.{rests_same}
 use Rattle.serve_loop.proofs.service.serve_on.Goals as goal
 
 pub loop-init : goal.loop-init
@@ -15,6 +17,7 @@ loop-init g c = record {
   suits = c.requires.suits;
   serves = λ first since t r. serves_none _ _ _ _ _ _ _ _ r;
   so_far = so_far_none _ _ c.args.stop_after _ _ c.requires.empty;
+  asked = asked_none _ _ _ _ c.requires.empty;
   fewer = zero_if c.args.stop_after;
   follows = g.met.C.Server.Serves.follows_itself c.args.server.now;
   keeps = g.met.S.Supply.keeps_itself c.args.supply.now;
@@ -36,6 +39,12 @@ loop-preserved g c = record {
       so_far_more _ _ c.args.stop_after c.loop.served.connections _ _ _ c.in_ok-turned.turned _ _ _ _ c.loop.invariant.so_far turn
       (record { only = c.in_ok-rest.ensures.only; busy = c.in_ok-rest.ensures.busy; waits = c.in_ok-rest.ensures.waits })
       (ap (λ s. s.connections) c.with-served.ensures) c.in_ok-turned.ensures.count c.is_reached.ensures.fits (c.is_reached.ensures.fewer c.if-is_reached.false);
+  asked =
+      let s = some_history (g.C.Server.Serves.serving c.args.server.now) (g.met.C.Server.Serves.numbered c.args.server.now) in
+      let p = c.loop.invariant.serves s.0 _ _ (begins_at _ _ s.0 _ _ _ _ _ c.requires.empty c.requires.none s.1) in
+      asked_more _ _ _ s.0 _ _ _ _ _ c.in_ok-turned.turned _ _ _ _ _ _ _ c.loop.invariant.asked p.relates (λ d. (c.loop.invariant.same d).0)
+      (takes_turn _ _ _ _ _ _ c.in_ok-turned.turned _ _ _ _ _ refl p.relates c.loop.invariant.asked.links c.in_ok-turned.ensures.busy c.in_ok-turned.ensures.idle)
+      (c.in_ok-turned.ensures.asks (g.W.Wire.state c.args.wire.now)) c.in_ok-rest.ensures.only c.in_ok-turned.ensures.count;
   fewer = less_if c.args.stop_after _ (c.is_reached.ensures.fewer c.if-is_reached.false);
   follows = g.met.C.Server.Serves.follows_then _ _ _ c.loop.invariant.follows c.in_ok-turned.ensures.follows;
   keeps = g.met.S.Supply.keeps_then _ _ _ c.loop.invariant.keeps c.in_ok-turned.ensures.keeps;
@@ -100,3 +109,28 @@ returns-in_err-rest-clause-fails g c =
     let e = err_from_is_err_and c.from_residual-in_err-rest.result c.from_residual-in_err-rest.ensures.1 in
     fault_as _ _ e.0 _ e.1 e.2 (fails_wait _ _ c.args.stop_after _ c.loop.served.connections _ c.in_ok-turned.turned _ _ _ _ c.loop.invariant.so_far
     (takes_turn _ _ _ _ _ _ c.in_ok-turned.turned _ _ _ _ _ refl p.relates c.loop.invariant.so_far.links c.in_ok-turned.ensures.busy c.in_ok-turned.ensures.idle) idle.0 idle.1 c.in_err-rest.ensures.fails)
+
+pub returns-then-is_reached-clause-asks : goal.returns-then-is_reached-clause-asks
+returns-then-is_reached-clause-asks g c =
+    let s = some_history (g.C.Server.Serves.serving c.args.server.now) (g.met.C.Server.Serves.numbered c.args.server.now) in
+    let p = c.loop.invariant.serves s.0 _ _ (begins_at _ _ s.0 _ _ _ _ _ c.requires.empty c.requires.none s.1) in
+    asks_once _ _ _ _ _ _ _ _
+    (asked_more _ _ _ s.0 _ _ _ _ _ c.in_ok-turned.turned _ _ _ _ _ _ _ c.loop.invariant.asked p.relates (λ d. (c.loop.invariant.same d).0)
+    (takes_turn _ _ _ _ _ _ c.in_ok-turned.turned _ _ _ _ _ refl p.relates c.loop.invariant.asked.links c.in_ok-turned.ensures.busy c.in_ok-turned.ensures.idle)
+    (c.in_ok-turned.ensures.asks (g.W.Wire.state c.args.wire.now)) (rests_same _) c.in_ok-turned.ensures.count)
+    refl refl (none_given _)
+
+pub returns-in_err-turned-clause-asks : goal.returns-in_err-turned-clause-asks
+returns-in_err-turned-clause-asks g c =
+    let same = none_asked _ _ _ _ _ (c.in_err-turned.ensures.unasked (g.W.Wire.state c.args.wire.now)) in
+    asks_once _ _ _ _ _ _ _ _ c.loop.invariant.asked same.0 same.1 c.in_err-turned.ensures.fails.none
+
+pub returns-in_err-rest-clause-asks : goal.returns-in_err-rest-clause-asks
+returns-in_err-rest-clause-asks g c =
+    let s = some_history (g.C.Server.Serves.serving c.args.server.now) (g.met.C.Server.Serves.numbered c.args.server.now) in
+    let p = c.loop.invariant.serves s.0 _ _ (begins_at _ _ s.0 _ _ _ _ _ c.requires.empty c.requires.none s.1) in
+    asks_once _ _ _ _ _ _ _ _
+    (asked_more _ _ _ s.0 _ _ _ _ _ c.in_ok-turned.turned _ _ _ _ _ _ _ c.loop.invariant.asked p.relates (λ d. (c.loop.invariant.same d).0)
+    (takes_turn _ _ _ _ _ _ c.in_ok-turned.turned _ _ _ _ _ refl p.relates c.loop.invariant.asked.links c.in_ok-turned.ensures.busy c.in_ok-turned.ensures.idle)
+    (c.in_ok-turned.ensures.asks (g.W.Wire.state c.args.wire.now)) c.in_err-rest.ensures.only c.in_ok-turned.ensures.count)
+    refl refl (none_given _)

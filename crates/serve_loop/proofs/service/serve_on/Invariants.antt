@@ -8,6 +8,7 @@ use Rattle.serve_loop.specs.Calls.{ServesAlone}
 use Rattle.serve_loop.specs.Steps.{ServesTo}
 use Rattle.serve_loop.specs.Traffic.{moment}
 use Rattle.serve_loop.proofs.ServiceLemmas.{SoFar}
+use Rattle.serve_loop.proofs.AskedLemmas.{AskedSoFar}
 use Rattle.serve_loop.proofs.service.serve_on.Given as goal
 
 abbrev pub invariant-loop : goal.invariant-loop
@@ -22,6 +23,9 @@ invariant-loop g l = record {
       (moment (g.C.Server.Serves.serving l.fn.server) (g.S.Supply.state l.fn.supply) (g.W.Wire.state l.fn.wire))
       (moment (g.C.Server.Serves.serving l.server) (g.S.Supply.state l.supply) (g.W.Wire.state l.wire));
   so_far : SoFar g.C.Converses.kind (g.C.Server.Serves.serving l.fn.server).config l.stop_after l.served.connections (held_count l.connections) (g.W.Wire.state l.fn.wire) (g.W.Wire.state l.wire);
+  asked : AskedSoFar g.C.Converses.kind (g.S.Supply.may l.fn.supply) (held_count l.connections)
+      (moment (g.C.Server.Serves.serving l.fn.server) (g.S.Supply.state l.fn.supply) (g.W.Wire.state l.fn.wire))
+      (moment (g.C.Server.Serves.serving l.server) (g.S.Supply.state l.supply) (g.W.Wire.state l.wire));
   fewer : IfSome l.stop_after (λ most. l.served.connections ≤ most - 1);
   follows : g.C.Server.Serves.Follows l.fn.server l.server;
   keeps : g.S.Supply.Keeps l.fn.supply l.supply;

@@ -8,5 +8,5 @@ use Rattle.tpf_server.proofs.head.write_answer_head.Goals as goal
 pub returns-clause-ok : goal.returns-clause-ok
 returns-clause-ok c =
     subst (λ (x : List ℕ). OnOk c.write_head.result (c.write_head.new.out.items ≡ c.args.out.now.items ++ x))
-    (head_is c.args.status (media_of c.args.media) c.code.result c.args.length c.args.closes (pairs_of c.as_slice.result.now) c.code.ensures (ap pairs_of c.as_slice.ensures.value ∙ c.in_ok-fields.ensures))
+    (head_is c.args.status (media_of c.args.media) c.code.result c.args.body_length c.args.closes (pairs_of c.as_slice.result.now) c.code.ensures (ap pairs_of c.as_slice.ensures.value ∙ c.in_ok-fields.ensures))
     c.write_head.ensures.ok

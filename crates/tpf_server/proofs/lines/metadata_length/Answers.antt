@@ -1,5 +1,6 @@
 use Rattle.std.proofs.Common.{arith}
-use Rattle.tpf_server.proofs.LineLengths.{next_quad, some_quad}
+use Rattle.tpf_server.specs.Lines.{some_quad}
+use Rattle.tpf_server.proofs.LineLengths.{next_quad}
 use Rattle.tpf_server.proofs.lines.metadata_length.Goals as goal
 
 pub loop-i-preserved : goal.loop-i-preserved

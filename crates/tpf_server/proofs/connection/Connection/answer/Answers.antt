@@ -18,6 +18,7 @@ invariant_of-self c = (
   c.self.invariant.0,
   ap (λ (h : Held). h.refused) (c.replace-requests.ensures.after ∙ c.new.ensures),
   nothing_fits c.replace-debt.new.dest.rest c.replace-debt.new.dest.waiting.items (ap (λ (d : Debt). d.rest) c.replace-debt.ensures.after ∙ c.new-2.ensures.rest) (ap (λ (d : Debt). d.waiting.items) c.replace-debt.ensures.after ∙ c.new-2.ensures.waiting),
+  c.self.invariant.3,
 )
 
 pub invariant_of-self-2 : goal.invariant_of-self-2
@@ -28,6 +29,7 @@ invariant_of-self-2 c = (
   reload_fits c.args.server.now c.args.outcome c.args.closes c.replace-requests.result.bytes c.replace-debt.result.rest c.read_on.new.self.rest c.replace-debt.result.waiting.items c.read_on.new.self.waiting.items c.in_ok-reading.reading c.read_on.new.requests
       (same_fits c.self.inside.debt.rest c.replace-debt.result.rest c.self.inside.debt.waiting.items c.replace-debt.result.waiting.items (ap (λ (d : Debt). d.rest) c.replace-debt.ensures.value) (ap (λ (d : Debt). d.waiting.items) c.replace-debt.ensures.value) c.self.invariant.2)
       c.in_ok-reading.ensures.rest c.in_ok-reading.ensures.ok,
+  c.self.invariant.3,
 )
 
 pub returns-clause-ok : goal.returns-clause-ok

@@ -1,29 +1,33 @@
-use Rattle.std.proofs.Common.{sym, ◌∙◌, inl, inr, arith}
-use Rattle.list_laws.proofs.Begins.{begins_on}
-use Rattle.tpf_server.specs.Owed.{debt_pieces}
-use Rattle.tpf_server.proofs.DebtLaws.{debt_settled, fills_more, fills_settled, left_settled}
+use Rattle.std.proofs.Common.{◌-◌, ◌≡◌, ◌≤◌, ◌⊎◌, ℕ, List, false, length, rules, subst, sym, vec_len, ◌∙◌}
+use Rattle.std.specs.Prelude.{OnOk}
+use Rattle.tpf_server.specs.Owed.{Fills, Fits, debt_left, debt_text}
+use Rattle.tpf_server.proofs.DebtLaws.{back_begins, back_enough, back_err, back_few, back_fills}
 use Rattle.tpf_server.proofs.owed.Debt.fill.Goals as goal
-use Rattle.tpf_server.proofs.owed.Debt.fill.Goals.{then-loop-self-test+else-is_left, else-loop-self-test}
-
-pub loop-self-preserved : goal.loop-self-preserved
-loop-self-preserved c = (
-  fills_more (debt_pieces c.args.config.now c.args.self.now.rest c.args.self.now.waiting.items) (debt_pieces c.args.config.now c.loop-self.self.rest c.loop-self.self.waiting.items) (debt_pieces c.args.config.now c.give.new.self.rest c.give.new.self.waiting.items) c.args.given c.args.out.now.items c.loop-self.out.items c.give.new.out.items
-      c.requires.given (omega (arith, c.loop-self-test.true, c.len.ensures)) c.loop-self.invariant.0 c.in_ok-give.ensures.ok,
-  c.in_ok-give.ensures.fits,
-  begins_on c.args.out.now.items c.loop-self.out.items c.give.new.out.items c.loop-self.invariant.2 c.in_ok-give.ensures.front,
-)
 
 pub returns-clause-ok : goal.returns-clause-ok
 returns-clause-ok c =
-    fills_settled (debt_pieces c.args.config.now c.args.self.now.rest c.args.self.now.waiting.items) (debt_pieces c.args.config.now c.loop-self.self.rest c.loop-self.self.waiting.items) (debt_pieces c.args.config.now c.settle.new.self c.loop-self.self.waiting.items) c.args.given c.args.out.now.items c.loop-self.out.items
-    (debt_settled c.args.config.now c.loop-self.self.rest c.settle.new.self c.loop-self.self.waiting.items c.settle.ensures.pieces) c.loop-self.invariant.0
+    back_fills c.taken_back.result _ _ c.args.given c.args.out.now.items c.fill_on-filled.new.out.items c.taken_back.new.out.items c.taken_back.ensures.ok
+    (subst (λ r. OnOk r (Fills (debt_text c.args.config.now c.args.self.now.rest c.args.self.now.waiting.items) (debt_text c.args.config.now c.fill_on-filled.new.self.rest c.fill_on-filled.new.self.waiting.items) c.args.given c.args.out.now.items c.fill_on-filled.new.out.items)) (sym c.taken_back.ensures.same) c.fill_on-filled.ensures.ok)
 
 pub returns-clause-enough : goal.returns-clause-enough
 returns-clause-enough c =
-    elim c.loop-self-test.branch [
-      | then-loop-self-test+else-is_left w ↦ inr (left_settled c.loop-self.self.rest c.settle.new.self c.loop-self.self.waiting.items c.settle.ensures.left (sym w.is_left.ensures ∙ w.if-is_left.false))
-      | else-loop-self-test w ↦ inl (omega (arith, w.loop-self-test.false, c.len.ensures))
-    ]
+    back_enough c.taken_back.result (λ (l : List ℕ). (65536 ≤ length l - c.args.given) ⊎ (debt_left c.fill_on-filled.new.self.rest c.fill_on-filled.new.self.waiting.items ≡ false)) c.fill_on-filled.new.out.items c.taken_back.new.out.items c.taken_back.ensures.ok
+    (subst (λ r. OnOk r ((65536 ≤ length c.fill_on-filled.new.out.items - c.args.given) ⊎ (debt_left c.fill_on-filled.new.self.rest c.fill_on-filled.new.self.waiting.items ≡ false))) (sym c.taken_back.ensures.same) c.fill_on-filled.ensures.enough)
 
 pub returns-clause-fits : goal.returns-clause-fits
-returns-clause-fits c = record { range = c.settle.ensures.range c.loop-self.invariant.1.range; asked = c.loop-self.invariant.1.asked }
+returns-clause-fits c = subst (λ r. OnOk r (Fits c.fill_on-filled.new.self.rest c.fill_on-filled.new.self.waiting.items)) (sym c.taken_back.ensures.same) c.fill_on-filled.ensures.fits
+
+pub returns-clause-front : goal.returns-clause-front
+returns-clause-front c =
+    let long : vec_len c.args.out.now ≡ length c.args.out.now.items = search rules in
+    back_begins c.taken_back.result c.args.out.now.items c.fill_on-filled.new.out.items c.taken_back.new.out.items c.taken_back.ensures.ok
+    (back_err c.taken_back.result c.len-before.result c.args.out.now.items c.fill_on-filled.new.out.items c.taken_back.new.out.items c.taken_back.ensures.err (c.len-before.ensures ∙ long) c.fill_on-filled.ensures.front)
+    c.fill_on-filled.ensures.front
+
+pub returns-clause-few : goal.returns-clause-few
+returns-clause-few c =
+    let long : vec_len c.args.out.now ≡ length c.args.out.now.items = search rules in
+    back_few c.taken_back.result _ _ c.args.given c.args.out.now.items c.taken_back.new.out.items
+    (back_fills c.taken_back.result _ _ c.args.given c.args.out.now.items c.fill_on-filled.new.out.items c.taken_back.new.out.items c.taken_back.ensures.ok
+    (subst (λ r. OnOk r (Fills (debt_text c.args.config.now c.args.self.now.rest c.args.self.now.waiting.items) (debt_text c.args.config.now c.fill_on-filled.new.self.rest c.fill_on-filled.new.self.waiting.items) c.args.given c.args.out.now.items c.fill_on-filled.new.out.items)) (sym c.taken_back.ensures.same) c.fill_on-filled.ensures.ok))
+    (back_err c.taken_back.result c.len-before.result c.args.out.now.items c.fill_on-filled.new.out.items c.taken_back.new.out.items c.taken_back.ensures.err (c.len-before.ensures ∙ long) c.fill_on-filled.ensures.front)

@@ -1,0 +1,62 @@
+-- How often a service asks its supply: once for each reload request that waits, over all its turns.
+use Rattle.std.specs.Prelude.{ℕ, ◌≡◌, ◌+◌, ◌<◌, ◌≤◌, ◌^◌, true, List, [], ◌∷◌, length, Option, Some}
+use Rattle.tpf_base.specs.Causes.{counted_by}
+use Rattle.tpf_base.specs.Links.{WireState}
+use Rattle.tpf_base.specs.Marks.{Mark}
+use Rattle.tpf_base.specs.Sending.{Holds}
+use Rattle.connections.specs.Kinds.{Kind}
+use Rattle.connections.specs.Versions.{MOST_VERSIONS}
+use Rattle.serve_loop.specs.declared.live.Live.{Live}
+use Rattle.serve_loop.specs.declared.live.Turned.{Turned}
+use Rattle.serve_loop.specs.Traffic.{Moment, moment}
+use Rattle.serve_loop.specs.Calls.{IsOwned, RestsWire, TellsSame}
+use Rattle.serve_loop.specs.Asks.{AnswersAll, waiting}
+use Rattle.serve_loop.specs.Service.{TakesTurn, ended_in}
+
+module _ {C Data Settings : Type 0} where
+  -- The link of a live connection is open and was given since, and the connection answers all that came and went on it.
+  pub record AnswersLink (kind : Kind C Data Settings) (config : Settings) (since : ℕ) (l : Live C) (wire : WireState) : Type 0 where
+    pub later : since ≤ l.link
+    pub given : l.link < wire.given
+    pub is_open : (wire.links l.link).is_open ≡ true
+    pub history : List Data
+    pub some : 1 ≤ length history
+    pub fed : List ℕ
+    pub taken : List ℕ
+    pub marks : List Mark
+    pub answers : kind.Answers history config fed taken marks l.connection
+    pub sent_is : Holds (wire.links l.link).sent taken
+    pub received_is : Holds (wire.links l.link).received fed
+
+  -- The live connections of a service: of each open link that was given since there is one.
+  pub record AreLive (kind : Kind C Data Settings) (config : Settings) (since : ℕ) (at : ℕ → Option (Live C)) (wire : WireState) : Type 0 where
+    pub answers : (key : ℕ) (l : Live C) → at key ≡ Some l → AnswersLink kind config since l wire
+    pub owned : (k : ℕ) → since ≤ k → k < wire.given → (wire.links k).is_open ≡ true → IsOwned at k
+    pub alone : (i j : ℕ) (a b : Live C) → at i ≡ Some a → at j ≡ Some b → a.link ≡ b.link → i ≡ j
+
+  -- A turn asked the supply once for each of its live connections that waited for a reload, and for nothing else: so many waited. Of the server and the supply alone; the wire is one that stays.
+  pub record AsksTurn (kind : Kind C Data Settings) (may : Data → Type 0) (config : Settings) (since waited : ℕ) (same : WireState) (old now : Moment Data Settings) : Type 0 where
+    pub at : ℕ → Option (Live C)
+    pub lives : AreLive kind config since at old.wire
+    pub answers : AnswersAll kind may at (moment old.served old.supply same) (moment now.served now.supply same)
+    pub waited_is : waited ≡ waiting kind at answers.keys
+
+  -- These turns, the last one first, each with a wait or nothing behind it; in all of them so many connections waited for a reload.
+  abbrev pub AskedTurns : Kind C Data Settings → (Data → Type 0) → Settings → ℕ → List Turned → ℕ → Moment Data Settings → Moment Data Settings → Type 0
+  AskedTurns kind may config since [] waited old now = (waited ≡ 0) × (now ≡ old)
+  AskedTurns kind may config since (turned ∷ turns) waited old now =
+      (before : Moment Data Settings) × (after : WireState) × (earlier : ℕ) × (more : ℕ) × AskedTurns kind may config since turns earlier old before
+      × TakesTurn kind config since (ended_in turns) turned before.wire after × AsksTurn kind may config since more old.wire before now × RestsWire after now.wire × (waited ≡ earlier + more)
+
+  -- A service asked its supply once for each reload request that waited in one of its turns, and for nothing else; behind the last of these turns no byte moved and no link was given.
+  pub record AsksOnce (kind : Kind C Data Settings) (may : Data → Type 0) (old now : Moment Data Settings) : Type 0 where
+    pub turns : List Turned
+    pub waited : ℕ
+    pub last : Moment Data Settings
+    pub took : AskedTurns kind may old.served.config old.wire.given turns waited old last
+    pub told : (k : ℕ) → TellsSame (last.wire.links k) (now.wire.links k)
+    pub given : now.wire.given ≡ last.wire.given
+    pub served : now.served ≡ last.served
+    pub supply : now.supply ≡ last.supply
+    -- and by its count: as often as connections waited, where there are numbers for as many versions
+    pub asked : old.served.version + waited ≤ MOST_VERSIONS → old.supply.calls < 2 ^ 64 → now.supply.calls ≡ counted_by waited old.supply.calls
