@@ -29,7 +29,7 @@ module _ (old new : ShelfState) (name : List ℕ) where
   pub gives : (choice : Choice) (authority : List ℕ) (result : Result Stored DataFault)
       → IfOk result (λ table. IsOfFile old.told name choice authority (triples_in table)) → IfErr result (DataCause old new name choice authority)
       → DataDecides old new name choice authority (λ outcome. Gives outcome result)
-  gives choice authority (Ok table) ok err quiet = λ files is outcome o. one_outcome files name choice authority outcome (served (triples_in table)) o (ok files is)
+  gives choice authority (Ok table) ok err quiet = λ files is outcome o. one_outcome files name choice authority outcome (served (triples_in table)) o (ok.tells files is)
   gives choice authority (Err fault) ok err quiet = λ files is outcome o. fault_gives choice authority files fault is quiet err outcome o
 
   query_fault_gives : (files : Files) (fault : QueryFileFault) → old.told ≡ Some files → ¬ (Rose old.faults new.faults) → QueryCause old new name fault
@@ -40,7 +40,7 @@ module _ (old new : ShelfState) (name : List ℕ) where
 
   pub gives_query : (result : Result QueryData QueryFileFault) → IfOk result (IsOfQueryFile old.told name) → IfErr result (QueryCause old new name)
       → QueryDecides old new name (λ outcome. GivesQuery outcome result)
-  gives_query (Ok q) ok err quiet = λ files is outcome o. one_query files name outcome (reads q) o (ok files is)
+  gives_query (Ok q) ok err quiet = λ files is outcome o. one_query files name outcome (reads q) o (ok.tells files is)
   gives_query (Err fault) ok err quiet = λ files is outcome o. query_fault_gives files fault is quiet err outcome o
 
 -- ---- a shelf that did not fail

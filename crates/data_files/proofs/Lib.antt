@@ -1,3 +1,4 @@
 pub mod TermLists
 pub mod Outcomes
 pub mod Causes
+pub mod Held

@@ -19,6 +19,12 @@ Files = List (List ℕ × List ℕ)
 abbrev pub IfTold : Option Files → (Files → Type 0) → Type 0
 IfTold told P = (files : Files) → told ≡ Some files → P files
 
+-- a fact about the contents of files: of some contents, and so of those that the shelf tells, where it tells them
+pub record OfContents (told : Option Files) (P : Files → Type 0) : Type 0 where
+  pub files : Files
+  pub holds : P files
+  pub tells : IfTold told P
+
 -- the file holds at most 1073741824 bytes, which read as these quads; no term has a canonical text of more than 262144 bytes
 abbrev pub HoldsData : Files → List ℕ → List Quad → Type 0
 HoldsData files name quads = (bytes : List ℕ) × (content_of files name ≡ Some bytes) × (length bytes ≤ 1073741824) × Reads bytes 262144 quads
@@ -47,9 +53,9 @@ AreFew triples = (terms : List Term) × IsRanking triples terms × (length tripl
 abbrev pub Serves : Files → List ℕ → Choice → List ℕ → List Triple → Type 0
 Serves files name choice authority triples = (quads : List Quad) × HoldsData files name quads × ((label : List ℕ) → ¬ (Clashes authority (chosen choice quads) label)) × IsServed authority (chosen choice quads) triples × AreFew triples
 
--- the data set is the one that is served of the file, where the shelf tells it
+-- the data set is one that is served of a file of this name, and of that which the shelf tells, where it tells it
 abbrev pub IsOfFile : Option Files → List ℕ → Choice → List ℕ → List Triple → Type 0
-IsOfFile told name choice authority triples = IfTold told (λ files. Serves files name choice authority triples)
+IsOfFile told name choice authority triples = OfContents told (λ files. Serves files name choice authority triples)
 
 -- what becomes of a file of data: its triples are served, or why they are not
 pub data Outcome : Type 0 where

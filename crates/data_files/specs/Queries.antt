@@ -4,15 +4,15 @@ use Rattle.tpf_base.specs.Outside.{content_of}
 use Rattle.bgp_core.specs.Queries.{QueryData}
 use Rattle.pattern_parser.specs.Queries.{ReadsQuery, FaultAt}
 use Rattle.pattern_parser.specs.declared.fault.QueryWhy.{QueryWhy}
-use Rattle.data_files.specs.Data.{Files, IfTold}
+use Rattle.data_files.specs.Data.{Files, OfContents}
 
 -- the file holds a text that is this query
 abbrev pub HoldsQuery : Files → List ℕ → QueryData → Type 0
 HoldsQuery files name q = (bytes : List ℕ) × (content_of files name ≡ Some bytes) × ReadsQuery bytes q
 
--- the query is that of the file, where the shelf tells it
+-- the query is that of a file of this name, and of that which the shelf tells, where it tells it
 abbrev pub IsOfQueryFile : Option Files → List ℕ → QueryData → Type 0
-IsOfQueryFile told name q = IfTold told (λ files. HoldsQuery files name q)
+IsOfQueryFile told name q = OfContents told (λ files. HoldsQuery files name q)
 
 -- the file holds a text whose first fault this is, at this byte
 abbrev pub HasQueryFault : Files → List ℕ → ℕ → QueryWhy → Type 0

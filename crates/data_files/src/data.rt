@@ -5,7 +5,7 @@ ghost use Rattle.rdf_terms.specs.Triples.{IsRdfQuad};
 ghost use Rattle.triple_table.specs.Chosen.{chosen};
 ghost use Rattle.triple_table.specs.Served.{Clashes, IsServed};
 ghost use Rattle.triple_table.specs.Stored.{triples_in};
-ghost use Rattle.data_files.specs.Data.{IfTold, HoldsData, AreFew, IsOfFile, OneOutcome};
+ghost use Rattle.data_files.specs.Data.{OfContents, HoldsData, AreFew, IsOfFile, OneOutcome};
 ghost use Rattle.data_files.specs.Kept.{ReadsNamed};
 ghost use Rattle.data_files.specs.Causes.{DataCause, ServeCause, DataDecides, Gives, unread};
 
@@ -37,7 +37,7 @@ fn unread(fault: FileFault) -> DataFault
 
 /// The quads of a file.
 fn read_quads<F: Shelf>(alloc: Global, shelf: &mut F, name: &str) -> Result<Vec<Quad>, DataFault>
-    ensures ok { IfOk result (λ v. IfTold (F.state shelf.old).told (λ files. HoldsData files name.now v.items)) }
+    ensures ok { IfOk result (λ v. OfContents (F.state shelf.old).told (λ files. HoldsData files name.now v.items)) }
     ensures classes { IfOk result (λ v. All IsRdfQuad v.items) }
     ensures err { (choice : Choice) (authority : List ℕ) →
         IfErr result (DataCause (F.state shelf.old) (F.state shelf.new) name.now choice authority) }

@@ -1,5 +1,5 @@
 -- Where none of the causes is there, a command succeeds, or memory is wanting.
-use Rattle.std.proofs.Common.{ℕ, ◌≡◌, ◌≤◌, [], ◌∷◌, List, length, Option, None, Result, Ok, Err, IfOk, IfErr, codes, refl, sym, subst, ◌∙◌}
+use Rattle.std.proofs.Common.{ℕ, ◌≡◌, ◌≤◌, ◌<◌, ◌^◌, [], ◌∷◌, List, length, Option, None, Result, Ok, Err, IfOk, IfErr, codes, refl, sym, subst, ◌∙◌}
 use Rattle.std.specs.List.{AllByRecursion}
 use Rattle.tpf_base.specs.Addresses.{Address, address_text}
 use Rattle.tpf_base.specs.Links.{WireState}
@@ -35,7 +35,7 @@ use Rattle.query_command.specs.Files.{FailsByFile, ReadsLocally, KeepsOutput}
 use Rattle.query_command.specs.Answers.{Answers, GivesAnswer, AskCause, AnswersSome, FitsOver, OfQuery, IsWanting, IsClientWanting, SucceedsOver, AsksServer}
 use Rattle.query_command.specs.Generated.{usual_options, GeneratedAnswers, GeneratedCause}
 use Rattle.query_command.specs.Loops.{LocalView, LocalAnswers, LocalCause, GivesData, local_config}
-use Rattle.query_command.specs.Plans.{SendsInside, RequestsInside, MayFail, RepliesGenerated, EndsCounted, SendsLocally, RequestsLocally, RepliesLocally, EndsByPlan, SucceedsByPlan, OfGenerated, PlanIsWithin}
+use Rattle.query_command.specs.Plans.{SendsInside, RequestsInside, MayFail, RepliesGenerated, EndsCounted, SendsLocally, RequestsLocally, RepliesLocally, EndsByPlan, SucceedsByPlan, OfGenerated, PlanIsWithin, EndsFile, EndsGenerated, HonestFile, HonestGenerated}
 use Rattle.query_command.specs.Commands.{AsksFile, AsksGenerated}
 use Rattle.query_command.proofs.Reading.{gives_answer, gives_data, gives_query_of}
 use Rattle.query_command.proofs.Counting.{gives_counts}
@@ -102,9 +102,9 @@ module _ (told : Option Files) (name : List ℕ) (allows : List ℕ → ℕ → 
   pub asked_complete : PlansAreRead → StartsAreRead → AnsweredGivePages → QueriesAreAskable → (fault : ClientFault) → (a : AnswersSome told name allows start options fault old new out out' taken taken') → AllByRecursion IsValidPattern a.q.patterns
       → length (address_text start) ≤ 65536 → ¬ (Rose out out') → OfQuery told name (λ q. (triples : List Triple) (config : Config) → FitsOver allows q start options triples config old new → fault ≡ clients.OutOfMemory)
   asked_complete plans starts gives askable fault a valid short fine = λ files is q holds triples config fits.
-      let same : q ≡ a.q = same_query q a.q (one_query files name (reads q) (reads a.q) holds (a.is_read files is)) in
+      let same : q ≡ a.q = same_query q a.q (one_query files name (reads q) (reads a.q) holds (a.is_read.tells files is)) in
       let own : FitsOver allows a.q start options triples config old new = subst (λ (x : QueryData). FitsOver allows x start options triples config old new) same fits in
-      still_memory triples fault (a.writes.complete (triples ∷ []) config own.honest own.lively own.rise own.rises (plan_fits plans starts gives allows a.q start options triples config old new (askable files name a.q (a.is_read files is) valid) short own) fine)
+      still_memory triples fault (a.writes.complete (triples ∷ []) config own.honest own.lively own.rise own.rises (plan_fits plans starts gives allows a.q start options triples config old new (askable files name a.q (a.is_read.tells files is) valid) short own) fine)
 
 module _ (shelf shelf' : ShelfState) (name : List ℕ) (allows : List ℕ → ℕ → List ℕ → List ℕ → Type 0) (start : Address) (options : Options) (wire wire' : WireState) (out out' : SinkState) where
   query_complete : (result : Result Report AnswerFault) → IfErr result (AskCause shelf shelf' name allows start options wire wire' out out') → QueryDecides shelf shelf' name (λ outcome. GivesAnswer outcome result)
@@ -139,8 +139,9 @@ module _ (shelf shelf' : ShelfState) (name : List ℕ) (allows : List ℕ → �
 module _ (shelf shelf' : ShelfState) (out out' : SinkState) (inside : Option (Looped FragmentServer)) (view : LocalView) where
   pub asks_file : (result : Result Report AnswerFault) → IfOk result (λ report. LocalAnswers shelf.told view inside report out out') → IfErr result (LocalCause shelf shelf' view inside out out')
       → SendsLocally shelf.told view inside → RequestsLocally shelf.told view inside → RepliesLocally shelf.told view inside result → EndsByPlan shelf.told view result
+      → (view.options.budget < 2 ^ 63 → EndsFile shelf.told view inside result) → HonestFile shelf.told view inside result
       → ReadsLocally view.name view.query shelf shelf' result → KeepsOutput out out' result → AsksFile shelf shelf' out out' inside view result
-  asks_file result ok err sent requested replied ends named output =
+  asks_file result ok err sent requested replied ends planned honest named output =
       let data_exact = gives_data shelf shelf' view inside out out' result ok err in
       let query_exact = gives_query_of shelf shelf' view inside out out' result ok err in
       record {
@@ -152,6 +153,8 @@ module _ (shelf shelf' : ShelfState) (out out' : SinkState) (inside : Option (Lo
         requested = requested;
         replied = replied;
         ends = ends;
+        planned = planned;
+        honest = honest;
         complete = local_complete shelf shelf' view inside out out' result err data_exact query_exact ends;
         reads = named;
         output = output;
@@ -159,19 +162,21 @@ module _ (shelf shelf' : ShelfState) (out out' : SinkState) (inside : Option (Lo
 
   -- no wire was made: the data or the query are refused
   pub asks_none : (fault : AnswerFault) → inside ≡ None → LocalCause shelf shelf' view inside out out' fault → ((triples : List Triple) (config : Config) (q : QueryData) → MayFail view.fail_every view.options triples config q fault)
+      → (view.options.budget < 2 ^ 63 → EndsFile shelf.told view inside (Err fault)) → HonestFile shelf.told view inside (Err fault)
       → ReadsLocally view.name view.query shelf shelf' (Err fault) → KeepsOutput out out' (Err fault) → AsksFile shelf shelf' out out' inside view (Err fault)
-  asks_none fault none err ends named output =
+  asks_none fault none err ends planned honest named output =
       asks_file (Err fault) tt err
       (λ files is triples q serves holds. subst (λ (made : Option (Looped FragmentServer)). SendsInside made triples (local_config view.page_size) q) (sym none) tt)
       (λ files is triples q serves holds. subst (λ (made : Option (Looped FragmentServer)). RequestsInside view.options made triples (local_config view.page_size) q) (sym none) tt)
-      tt (λ small files is triples q serves holds. ends triples (local_config view.page_size) q) named output
+      tt (λ small files is triples q serves holds. ends triples (local_config view.page_size) q) planned honest named output
 
 module _ (shelf shelf' : ShelfState) (persons : ℕ) (name : List ℕ) (inside : Option (Looped FragmentServer)) where
   pub asks_generated : (result : Result Counts AnswerFault) → IfOk result (GeneratedAnswers shelf.told persons name inside) → IfErr result (GeneratedCause shelf shelf' persons name inside)
       → OfGenerated shelf.told persons name (λ triples q. SendsInside inside triples (local_config 100) q) → OfGenerated shelf.told persons name (λ triples q. RequestsInside usual_options inside triples (local_config 100) q)
       → RepliesGenerated shelf.told persons name inside result → OfGenerated shelf.told persons name (λ triples q. EndsCounted usual_options triples (local_config 100) q result)
+      → EndsGenerated shelf.told persons name inside result → HonestGenerated persons inside result
       → ReadsNamed name shelf shelf' (FailsByFile result) → AsksGenerated shelf shelf' inside persons name result
-  asks_generated result ok err sent requested replied ends named =
+  asks_generated result ok err sent requested replied ends planned honest named =
       let exact = gives_counts shelf shelf' persons name inside result ok err in
       record {
         answers = ok;
@@ -181,14 +186,17 @@ module _ (shelf shelf' : ShelfState) (persons : ℕ) (name : List ℕ) (inside :
         requested = requested;
         replied = replied;
         ends = ends;
+        planned = planned;
+        honest = honest;
         complete = generated_complete shelf shelf' persons name inside result err exact ends;
         reads = named;
       }
 
   pub counts_none : (fault : AnswerFault) → inside ≡ None → GeneratedCause shelf shelf' persons name inside fault → ((triples : List Triple) (config : Config) (q : QueryData) → MayFail 0 usual_options triples config q fault)
+      → EndsGenerated shelf.told persons name inside (Err fault) → HonestGenerated persons inside (Err fault)
       → ReadsNamed name shelf shelf' (FailsByFile {A = Counts} (Err fault)) → AsksGenerated shelf shelf' inside persons name (Err fault)
-  counts_none fault none err ends named =
+  counts_none fault none err ends planned honest named =
       asks_generated (Err fault) tt err
       (λ files is triples q serves holds. subst (λ (made : Option (Looped FragmentServer)). SendsInside made triples (local_config 100) q) (sym none) tt)
       (λ files is triples q serves holds. subst (λ (made : Option (Looped FragmentServer)). RequestsInside usual_options made triples (local_config 100) q) (sym none) tt)
-      tt (λ files is triples q serves holds. ends triples (local_config 100) q) named
+      tt (λ files is triples q serves holds. ends triples (local_config 100) q) planned honest named

@@ -21,7 +21,7 @@ use Rattle.tpf_client.specs.declared.fault.ClientFault.{ClientFault}
 use Rattle.tpf_client.specs.declared.fault.ClientFault.TheVariants as clients
 use Rattle.tpf_client.specs.Calls.{solutions_of}
 use Rattle.data_files.specs.Data.{Files, IfTold}
-use Rattle.data_files.specs.Queries.{HoldsQuery, QueryOutcome, IsQueryOutcome, reads}
+use Rattle.data_files.specs.Queries.{HoldsQuery, IsOfQueryFile, QueryOutcome, IsQueryOutcome, reads}
 use Rattle.data_files.proofs.Outcomes.{one_query}
 use Rattle.data_files.specs.Causes.{QueryDecides}
 use Rattle.data_files.proofs.Causes.{gives_query}
@@ -35,8 +35,8 @@ use Rattle.query_command.specs.Answers.{WritesOver, FailsOver, IsReading, GivesA
 use Rattle.query_command.specs.Generated.{usual_options, CountsQuery, LoopsGenerated, AsksOver, FailsOn, FailsFileOver, GeneratedAnswers, GeneratedCause}
 use Rattle.query_command.specs.Limits.{GeneratedAreServable, QueriesAreAskable}
 use Rattle.tpf_client.specs.Requested.{AnswersPlan}
-use Rattle.query_command.specs.Plans.{SendsPlan, SendsInside, BoundsRequests, RequestsInside, RepliesRows, RepliedGenerated, MayEnd, OfGenerated}
-use Rattle.query_command.specs.Loops.{LoopsServer, WritesAnswer, local_base, local_config, allows_of, wire_of, begun}
+use Rattle.query_command.specs.Plans.{SendsPlan, SendsInside, BoundsRequests, RequestsInside, RepliesRows, RepliedGenerated, MayEnd, EndsOver, OfGenerated}
+use Rattle.query_command.specs.Loops.{LoopsServer, LeavesHonest, WritesAnswer, local_base, local_config, allows_of, wire_of, begun}
 
 -- the served data are one list
 abbrev pub OneServed : Type 0
@@ -106,8 +106,12 @@ same_query one other e = cc
 never_rose : Rose 0 0 → ⊥
 never_rose h = omega (arith, h)
 
+-- of the wire that was left
+pub generated_honest : (persons : ℕ) (inside : Option (Looped FragmentServer)) (server : FragmentServer) → StartsGenerated persons (local_config 100) (serving server) → LoopsServer server 0 0 inside LeavesHonest → LoopsGenerated persons inside LeavesHonest
+generated_honest persons inside server starts l = record { server = server; starts = starts; loops = l }
+
 module _ (told : Option Files) (persons : ℕ) (name : List ℕ) (inside : Option (Looped FragmentServer)) where
-  module _ (q : QueryData) (is_read : IfTold told (λ files. HoldsQuery files name q)) where
+  module _ (q : QueryData) (is_read : IsOfQueryFile told name q) where
     pub generated_answers : (counts : Counts) → CountsQuery persons q counts → LoopsGenerated persons inside (AsksOver q counts.rows) → GeneratedAnswers told persons name inside counts
     generated_answers counts k l = (
       record { q = q; is_read = is_read; counts_are = k },
@@ -120,12 +124,30 @@ module _ (told : Option Files) (persons : ℕ) (name : List ℕ) (inside : Optio
       record { server = l.server; starts = l.starts; loops = record { after = l.loops.after; is_inside = l.loops.is_inside; says = record { q = q; is_read = is_read; writes = l.loops.says } } },
     )
 
+    -- over any shelf
+    pub generated_planned : GeneratedAreServable → QueriesAreAskable → persons ≤ 1000000 → AllByRecursion IsValidPattern q.patterns → (server : FragmentServer) → StartsGenerated persons (local_config 100) (serving server) → (fault : ClientFault) → LoopsServer server 0 0 inside LeavesHonest
+        → (AreServable (serving server).data_set → AllByRecursion IsAskable q.patterns → MayEnd 0 usual_options (serving server).data_set (serving server).config q fault)
+        → LoopsGenerated persons inside (λ old new. EndsOver told name 0 usual_options (Err fault) old)
+    generated_planned data_law query_law most valid server starts fault l ends = record {
+      server = server;
+      starts = starts;
+      loops = record {
+        after = l.after;
+        is_inside = l.is_inside;
+        says = record {
+          q = q;
+          is_read = is_read;
+          ends = ends (data_law persons (serving server).data_set most starts.data_set) (query_law is_read.files name q is_read.holds valid);
+        };
+      };
+    }
+
   -- what holds of the data that were made and the query that was read holds of all data and queries that the files hold
-  module _ (server : FragmentServer) (starts : StartsGenerated persons (local_config 100) (serving server)) (q : QueryData) (is_read : IfTold told (λ files. HoldsQuery files name q)) (one_served : OneServed) where
+  module _ (server : FragmentServer) (starts : StartsGenerated persons (local_config 100) (serving server)) (q : QueryData) (is_read : IsOfQueryFile told name q) (one_served : OneServed) where
     of_both : (P : List Triple → Config → QueryData → Type 0) (files : Files) → told ≡ Some files → (triples : List Triple) (asked : QueryData) → IsServed (codes "localhost") (chosen DefaultGraph (generated persons)) triples → HoldsQuery files name asked
         → P (serving server).data_set (serving server).config q → P triples (local_config 100) asked
     of_both P files is triples asked serves holds h =
-        subst (λ (x : QueryData). P triples (local_config 100) x) (same_query q asked (one_query files name (reads q) (reads asked) (is_read files is) holds))
+        subst (λ (x : QueryData). P triples (local_config 100) x) (same_query q asked (one_query files name (reads q) (reads asked) (is_read.tells files is) holds))
         (subst (λ (c : Config). P triples c q) starts.config_is
         (subst (λ (ts : List Triple). P ts (serving server).config q) (one_served (codes "localhost") (chosen DefaultGraph (generated persons)) (serving server).data_set triples starts.data_set serves) h))
 
@@ -155,17 +177,17 @@ module _ (told : Option Files) (persons : ℕ) (name : List ℕ) (inside : Optio
         → OfGenerated told persons name (λ triples asked. MayEnd 0 usual_options triples (local_config 100) asked fault)
     generated_ends data_law query_law most valid fault ends = λ files is triples asked serves holds.
         of_both (λ (ts : List Triple) (c : Config) (x : QueryData). MayEnd 0 usual_options ts c x fault) files is triples asked serves holds
-        (ends (data_law persons (serving server).data_set most starts.data_set) (query_law files name q (is_read files is) valid))
+        (ends (data_law persons (serving server).data_set most starts.data_set) (query_law files name q (is_read.tells files is) valid))
 
   -- what the file holds is the query that was read
   answers_read : (counts : Counts) → GeneratedAnswers told persons name inside counts → IfTold told (λ files. (outcome : QueryOutcome) → IsQueryOutcome files name outcome → IsReading outcome)
-  answers_read counts a = λ files is outcome o. (a.0.q, one_query files name outcome (reads a.0.q) o (a.0.is_read files is))
+  answers_read counts a = λ files is outcome o. (a.0.q, one_query files name outcome (reads a.0.q) o (a.0.is_read.tells files is))
 
 module _ (shelf shelf' : ShelfState) (persons : ℕ) (name : List ℕ) (inside : Option (Looped FragmentServer)) where
   causes_read : (X : Type 0) (fault : AnswerFault) → GeneratedCause shelf shelf' persons name inside fault → QueryDecides shelf shelf' name (λ outcome. GivesAnswer {X = X} outcome (Err fault))
   causes_read X (faults.Data fault) e quiet = λ files is outcome o. tt
   causes_read X (faults.Query fault) e quiet = gives_query shelf shelf' name (Err fault) tt e.0 quiet
-  causes_read X (faults.Client fault) e quiet = λ files is outcome o. (e.1.loops.says.q, one_query files name outcome (reads e.1.loops.says.q) o (e.1.loops.says.is_read files is))
+  causes_read X (faults.Client fault) e quiet = λ files is outcome o. (e.1.loops.says.q, one_query files name outcome (reads e.1.loops.says.q) o (e.1.loops.says.is_read.tells files is))
 
   pub gives_counts : (result : Result Counts AnswerFault) → IfOk result (GeneratedAnswers shelf.told persons name inside) → IfErr result (GeneratedCause shelf shelf' persons name inside)
       → QueryDecides shelf shelf' name (λ outcome. GivesAnswer outcome result)

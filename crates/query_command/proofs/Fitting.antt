@@ -14,7 +14,7 @@ use Rattle.control_reader.specs.Takes.{Takes}
 use Rattle.bgp_core.specs.Queries.{QueryData}
 use Rattle.plan_laws.specs.Fitting.{IsRead, AreServable, IsAskable, IsServable, PlansAreRead, BasesAreRead, StartsAreRead}
 use Rattle.tpf_client.specs.Honest.{IsVersionOf}
-use Rattle.tpf_client.specs.Requests.{addresses_of}
+use Rattle.tpf_client.specs.Requests.{is_served, addresses_of}
 use Rattle.tpf_client.specs.declared.options.Options.{Options}
 use Rattle.tpf_client.specs.Plans.{IsAnswered, IsReadByAll, IsSmallByAll, IsFit, PlanFits, answer_at}
 use Rattle.query_command.specs.Loops.{local_base}
@@ -35,6 +35,11 @@ at_version triples config q start P version is h = subst (λ (v : ℕ). P (addre
 all_weaker : (P Q : Address → Type 0) → ((address : Address) → P address → Q address) → (list : List Address) → AllByRecursion P list → AllByRecursion Q list
 all_weaker P Q f [] h = tt
 all_weaker P Q f (address ∷ list) h = (f address h.0, all_weaker P Q f list h.1)
+
+-- what holds of all addresses holds of them where they are asked for
+if_all : (P : Address → Type 0) (b : Bool) (list : List Address) → AllByRecursion P list → AllByRecursion P (if b then list else [])
+if_all P true list h = h
+if_all P false list h = tt
 
 is_200 : (n : ℕ) → n == 200 ≡ true → n ≡ 200
 is_200 n h = grind (arith, nat_tests)
@@ -78,7 +83,7 @@ plan_is_read plans bases triples config q base valid is_config servable askable 
       base = base_short config.base base;
     } in (
       subst (IsRead (triples ∷ []) (Served 1) config) base (bases (triples ∷ []) (Served 1) config s),
-      plans (triples ∷ []) (Served 1) config q.patterns (length q.names) s askable,
+      if_all (IsRead (triples ∷ []) (Served 1) config) (is_served (triples ∷ []) config local_base 1) _ (plans (triples ∷ []) (Served 1) config q.patterns (length q.names) s askable),
     )
 
 -- ---- over a wire to a server elsewhere
@@ -126,7 +131,7 @@ plan_fits plans starts gives allows q start options triples config old new askab
     } in
     let reads : AllByRecursion (IsRead (triples ∷ []) (Served 1) config) (addresses_of (triples ∷ []) config q start 1) = (
       starts (triples ∷ []) (Served 1) config start s f.authority (target_of_start start text) f.answered,
-      plans (triples ∷ []) (Served 1) config q.patterns (length q.names) s askable,
+      if_all (IsRead (triples ∷ []) (Served 1) config) (is_served (triples ∷ []) config start 1) _ (plans (triples ∷ []) (Served 1) config q.patterns (length q.names) s askable),
     ) in
     record {
       fit = λ version is. at_version triples config q start (AllByRecursion (IsFit (triples ∷ []) config options.max_body)) version is (fits triples config options.max_body (addresses_of (triples ∷ []) config q start 1) reads f.small);

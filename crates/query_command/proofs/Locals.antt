@@ -16,7 +16,7 @@ use Rattle.tpf_client.specs.declared.fault.ClientFault.{ClientFault}
 use Rattle.data_files.specs.declared.fault.QueryFileFault.{QueryFileFault}
 use Rattle.data_files.specs.declared.fault.QueryFileFault.TheVariants as query_faults
 use Rattle.data_files.specs.Data.{Files, IfTold, served}
-use Rattle.data_files.specs.Queries.{HoldsQuery, HasQueryFault, reads}
+use Rattle.data_files.specs.Queries.{IsOfQueryFile, HasQueryFault, reads}
 use Rattle.data_files.proofs.Outcomes.{one_outcome, one_query}
 use Rattle.data_files.specs.Causes.{QueryCause}
 use Rattle.file_server.specs.Servers.{Starts, serving}
@@ -24,8 +24,8 @@ use Rattle.data_files.specs.Kept.{KeepsShelf}
 use Rattle.query_command.specs.Answers.{AnswersSome}
 use Rattle.query_command.specs.Limits.{FilesAreServable, QueriesAreAskable}
 use Rattle.tpf_client.specs.Requested.{AnswersPlan}
-use Rattle.query_command.specs.Plans.{SendsPlan, SendsInside, BoundsRequests, RequestsInside, RepliedInside, EndsAsPlanned, OfFiles}
-use Rattle.query_command.specs.Loops.{LocalView, LoopsServer, LoopsFile, AnswersFilesFront, WritesLooped, FailsLooped, WritesAnswer, WritesAnswerFront, LocalAnswers, allows_of, wire_of, begun, local_base, local_config}
+use Rattle.query_command.specs.Plans.{SendsPlan, SendsInside, BoundsRequests, RequestsInside, RepliedInside, EndsAsPlanned, EndsOver, OfFiles}
+use Rattle.query_command.specs.Loops.{LocalView, LoopsServer, LoopsFile, LeavesHonest, AnswersFilesFront, WritesLooped, FailsLooped, WritesAnswer, WritesAnswerFront, LocalAnswers, allows_of, wire_of, begun, local_base, local_config}
 
 same_data : (one other : List Triple) → served one ≡ served other → one ≡ other
 same_data one other e = cc
@@ -44,10 +44,15 @@ of_both view own triples config q asked P d c r h =
     subst (λ (x : QueryData). P triples (local_config view.page_size) x) (same_query q asked r)
     (subst (λ (s : Config). P triples s q) c (subst (λ (ts : List Triple). P ts config q) (same_data own triples d) h))
 
+-- of the wire that was left, whatever the query is
+pub local_honest : (told : Option Files) (view : LocalView) (server : FragmentServer) → Starts told view.name view.choice (local_config view.page_size) (serving server) → (inside : Option (Looped FragmentServer))
+    → LoopsServer server view.seed view.fail_every inside LeavesHonest → LoopsFile told view inside LeavesHonest
+local_honest told view server starts inside l = record { server = server; starts = starts; loops = l }
+
 module _ (told told' : Option Files) (same : told' ≡ told) (view : LocalView) (server : FragmentServer) (starts : Starts told view.name view.choice (local_config view.page_size) (serving server)) (inside : Option (Looped FragmentServer)) (out out' : SinkState) where
-  module _ (q : QueryData) (is_read : IfTold told' (λ files. HoldsQuery files view.query q)) where
-    read : IfTold told (λ files. HoldsQuery files view.query q)
-    read = subst (λ (t : Option Files). IfTold t (λ files. HoldsQuery files view.query q)) same is_read
+  module _ (q : QueryData) (is_read : IsOfQueryFile told' view.query q) where
+    read : IsOfQueryFile told view.query q
+    read = subst (λ (t : Option Files). IsOfQueryFile t view.query q) same is_read
 
     pub local_answers : (report : Report)
         → LoopsServer server view.seed view.fail_every inside (WritesLooped q view.options report out out')
@@ -67,28 +72,46 @@ module _ (told told' : Option Files) (same : told' ≡ told) (view : LocalView) 
 
     -- of both files
     module _ (files_law : FilesAreServable) (query_law : QueriesAreAskable) (valid : AllByRecursion IsValidPattern q.patterns) where
+      -- over any shelf
+      pub local_planned : (result : Result Report ClientFault) → LoopsServer server view.seed view.fail_every inside LeavesHonest
+          → (AreServable (serving server).data_set → AllByRecursion IsAskable q.patterns → view.options.budget < 2 ^ 63 → EndsAsPlanned view.fail_every view.options (serving server).data_set (serving server).config q result)
+          → view.options.budget < 2 ^ 63 → LoopsFile told view inside (λ old new. EndsOver told view.query view.fail_every view.options result old)
+      local_planned result l ends small = record {
+        server = server;
+        starts = starts;
+        loops = record {
+          after = l.after;
+          is_inside = l.is_inside;
+          says = record {
+            q = q;
+            is_read = read;
+            ends = ends (files_law starts.data_set.files view.name view.choice (serving server).data_set starts.data_set.holds) (query_law read.files view.query q read.holds valid) small;
+          };
+        };
+      }
+
       pub local_ends : (result : Result Report ClientFault)
           → (AreServable (serving server).data_set → AllByRecursion IsAskable q.patterns → view.options.budget < 2 ^ 63 → EndsAsPlanned view.fail_every view.options (serving server).data_set (serving server).config q result)
           → view.options.budget < 2 ^ 63 → OfFiles told view (λ triples asked. EndsAsPlanned view.fail_every view.options triples (local_config view.page_size) asked result)
       local_ends result ends small = λ files is triples asked serves holds.
-          let own = starts.data_set files is in
-          let there = read files is in
+          let own = starts.data_set.tells files is in
+          let there = read.tells files is in
           of_both view (serving server).data_set triples (serving server).config q asked (λ (ts : List Triple) (c : Config) (x : QueryData). EndsAsPlanned view.fail_every view.options ts c x result)
           (one_outcome files view.name view.choice (codes "localhost") (served (serving server).data_set) (served triples) own serves) starts.config_is (one_query files view.query (reads q) (reads asked) there holds)
           (ends (files_law files view.name view.choice (serving server).data_set own) (query_law files view.query q there valid) small)
 
     pub local_sent : LoopsServer server view.seed view.fail_every inside (λ old new. SendsPlan (serving server).data_set (serving server).config q (wire_of new)) → OfFiles told view (λ triples asked. SendsInside inside triples (local_config view.page_size) asked)
     local_sent l = λ files is triples asked serves holds.
-        let own = starts.data_set files is in
-        let there = read files is in
+        let own = starts.data_set.tells files is in
+        let there = read.tells files is in
         subst (λ (made : Option (Looped FragmentServer)). SendsInside made triples (local_config view.page_size) asked) (sym l.is_inside)
         (of_both view (serving server).data_set triples (serving server).config q asked (λ (ts : List Triple) (c : Config) (x : QueryData). SendsPlan ts c x (wire_of l.after))
         (one_outcome files view.name view.choice (codes "localhost") (served (serving server).data_set) (served triples) own serves) starts.config_is (one_query files view.query (reads q) (reads asked) there holds) l.says)
 
     pub local_requested : LoopsServer server view.seed view.fail_every inside (λ old new. BoundsRequests view.options (serving server).data_set (serving server).config q (wire_of new)) → OfFiles told view (λ triples asked. RequestsInside view.options inside triples (local_config view.page_size) asked)
     local_requested l = λ files is triples asked serves holds.
-        let own = starts.data_set files is in
-        let there = read files is in
+        let own = starts.data_set.tells files is in
+        let there = read.tells files is in
         subst (λ (made : Option (Looped FragmentServer)). RequestsInside view.options made triples (local_config view.page_size) asked) (sym l.is_inside)
         (of_both view (serving server).data_set triples (serving server).config q asked (λ (ts : List Triple) (c : Config) (x : QueryData). BoundsRequests view.options ts c x (wire_of l.after))
         (one_outcome files view.name view.choice (codes "localhost") (served (serving server).data_set) (served triples) own serves) starts.config_is (one_query files view.query (reads q) (reads asked) there holds) l.says)
@@ -96,8 +119,8 @@ module _ (told told' : Option Files) (same : told' ≡ told) (view : LocalView) 
     pub local_replied : (report : Report) → LoopsServer server view.seed view.fail_every inside (λ old new. AnswersPlan ((serving server).data_set ∷ []) (serving server).config view.options q local_base report (wire_of old) (wire_of new))
         → OfFiles told view (RepliedInside told view inside report)
     local_replied report l = λ files is triples asked serves holds.
-        let own = starts.data_set files is in
-        let there = read files is in
+        let own = starts.data_set.tells files is in
+        let there = read.tells files is in
         record {
           server = server;
           starts = starts;

@@ -12,6 +12,7 @@ use Rattle.tpf_client.specs.declared.options.Options.{Options}
 use Rattle.tpf_client.specs.declared.options.Report.{Report}
 use Rattle.tpf_client.specs.declared.fault.ClientFault.{ClientFault}
 use Rattle.tpf_client.specs.declared.fault.ClientFault.TheVariants as clients
+use Rattle.tpf_client.specs.Acts.{ActsOnWire}
 use Rattle.tpf_client.specs.Calls.{RunsPool, WritesResult, WritesPrefix, WritesAll, WritesSome, IsCause}
 use Rattle.tpf_client.specs.Honest.{IsHonestWire, WritesSolutions, WritesSolutionsFront}
 use Rattle.tpf_client.specs.Requests.{AnswersAll, DialsAtMost, GivesAtMost, RequestsAreTries}
@@ -51,14 +52,15 @@ module _ (server : FragmentServer) (seed fail_every : ℕ) (old after : Looped F
       → IfOk result (λ report. report.requests ≤ options.budget)
       → IfOk result (λ report. DialsAtMost report.requests (wire_of old) (wire_of after))
       → IfOk result (λ report. GivesAtMost report.requests (wire_of old) (wire_of after))
+      → ActsOnWire (allows_of old) options asked q result (λ report. report) (wire_of old) (wire_of after)
       → IfOk result (λ report. LoopsServer server seed fail_every (Some after) (λ wire wire'. WritesOver (allows_of wire) q start options report (wire_of wire) (wire_of wire') taken taken'))
-  loops_ok (Ok report) whole all headline plan answered tries paced replied within dialled linked = record {
+  loops_ok (Ok report) whole all headline plan answered tries paced replied within dialled linked acts = record {
     after = after;
     is_inside = refl;
     says = subst (λ (wire : Looped FragmentServer). Wrote wire start report) is
-        (subst (λ (at : Address). Wrote old at report) same (record { whole = whole; writes = all; headline = headline; plan = plan; answered = answered; tries = tries; paced = paced; replied = replied; within = within; dialled = dialled; linked = linked }));
+        (subst (λ (at : Address). Wrote old at report) same (record { whole = whole; writes = all; headline = headline; plan = plan; answered = answered; tries = tries; paced = paced; replied = replied; within = within; dialled = dialled; linked = linked; acts = acts }));
   }
-  loops_ok (Err fault) whole all headline plan answered tries paced replied within dialled linked = tt
+  loops_ok (Err fault) whole all headline plan answered tries paced replied within dialled linked acts = tt
 
   pub loops_err : (result : Result Report ClientFault)
       → OnErr result (WritesPrefix q taken taken')
@@ -75,9 +77,10 @@ module _ (server : FragmentServer) (seed fail_every : ℕ) (old after : Looped F
       → IfErr result (ForBudget (SpendsRequests options (wire_of old) (wire_of after)))
       → IfErr result (ForBudget (SpendsTries (allows_of old) options asked (wire_of old) (wire_of after)))
       → OverHonest (allows_of old) (wire_of old) (λ history config. IfErr result (ForBudget (SpendsPlan history config options q asked)))
+      → ActsOnWire (allows_of old) options asked q result (λ report. report) (wire_of old) (wire_of after)
       → IfErr result (λ fault. LoopsServer server seed fail_every (Some after) (λ wire wire'. FailsOver (allows_of wire) q start options fault (wire_of wire) (wire_of wire') out out' taken taken'))
-  loops_err (Ok report) front some shown headline cause sink plan honest_cause lively_cause complete failed_often spent_requests spent_tries spent_plan = tt
-  loops_err (Err fault) front some shown headline cause sink plan honest_cause lively_cause complete failed_often spent_requests spent_tries spent_plan = record {
+  loops_err (Ok report) front some shown headline cause sink plan honest_cause lively_cause complete failed_often spent_requests spent_tries spent_plan acts = tt
+  loops_err (Err fault) front some shown headline cause sink plan honest_cause lively_cause complete failed_often spent_requests spent_tries spent_plan acts = record {
     after = after;
     is_inside = refl;
     says = subst (λ (wire : Looped FragmentServer). Failed wire start fault) is
@@ -96,6 +99,7 @@ module _ (server : FragmentServer) (seed fail_every : ℕ) (old after : Looped F
           spent_requests = spent_requests;
           spent_tries = spent_tries;
           spent_plan = spent_plan;
+          acts = acts;
         }));
   }
 

@@ -16,6 +16,7 @@ use Rattle.tpf_client.specs.declared.options.Options.{Options}
 use Rattle.tpf_client.specs.declared.options.Report.{Report}
 use Rattle.tpf_client.specs.declared.fault.ClientFault.{ClientFault}
 use Rattle.tpf_client.specs.declared.fault.ClientFault.TheVariants as client_faults
+use Rattle.tpf_client.specs.Acts.{ActsOnWire}
 use Rattle.tpf_client.specs.Calls.{RunsPool, WritesResult, WritesPrefix, WritesAll, WritesSome, IsCause}
 use Rattle.tpf_client.specs.Honest.{IsHonestWire, WritesSolutions, WritesSolutionsFront}
 use Rattle.tpf_client.specs.Requests.{AreClosed, AreDialledFor, OthersStay, AnswersAll, DialsAtMost, GivesAtMost, DialsAreTries, RequestsAreTries, addresses_of}
@@ -26,7 +27,7 @@ use Rattle.tpf_client.specs.Plans.{SendsAsked, AsksPlan, OverHonest, OverLively,
 use Rattle.data_files.specs.declared.fault.QueryFileFault.TheVariants as query_faults
 use Rattle.data_files.specs.declared.fault.DataFault.TheVariants as data_faults
 use Rattle.data_files.specs.Data.{Files, IfTold}
-use Rattle.data_files.specs.Queries.{HoldsQuery, QueryOutcome, reads}
+use Rattle.data_files.specs.Queries.{HoldsQuery, IsOfQueryFile, QueryOutcome, reads}
 use Rattle.data_files.specs.Kept.{ReadsNamed}
 use Rattle.data_files.specs.Causes.{QueryCause, QueryDecides, GivesQuery}
 use Rattle.query_command.specs.declared.fault.AnswerFault.{AnswerFault}
@@ -47,7 +48,7 @@ pub record KeepsToPlan (allows : List ℕ → ℕ → List ℕ → List ℕ → 
   pub unprovoked : OverHonest allows old (λ history config. StaysUnprovoked options old new)
   pub requested : OverHonest allows old (λ history config. RequestsPlan history config options q start old new)
 
--- The result of a query was written over a wire: the text of some rows, and all that was asked was answered; over a wire that is honest for a history, of the solutions over one version, the reported one, by as many requests as its plan has and failures need. The requests that are reported are within the budget, and no more dials were made and no more links given than these.
+-- The result of a query was written over a wire: the text of some rows, and all that was asked was answered; over a wire that is honest for a history, of the solutions over one version, the reported one, by as many requests as its plan has and failures need. The requests that are reported are within the budget, and no more dials were made and no more links given than these. All that is said of a plan is said of one version, the reported one (`acts`).
 pub record WritesOver (allows : List ℕ → ℕ → List ℕ → List ℕ → Type 0) (q : QueryData) (start : Address) (options : Options) (report : Report) (old new : WireState) (taken taken' : Option (List ℕ)) : Type 0 where
   pub whole : WritesResult q report.rows taken taken'
   pub writes : WritesAll (RunsPool allows options old new) q start report taken taken'
@@ -60,8 +61,9 @@ pub record WritesOver (allows : List ℕ → ℕ → List ℕ → List ℕ → T
   pub within : report.requests ≤ options.budget
   pub dialled : DialsAtMost report.requests old new
   pub linked : GivesAtMost report.requests old new
+  pub acts : ActsOnWire allows options start q (Ok report) (λ told. told) old new
 
--- A front of such a text was written, with all rows that were given where neither the sink nor memory failed, and the call over the wire ended with this fault. Over an honest wire, and a lively one, it has these causes; and where the plan fits and the faults are few it is want of memory, or the data changed. Over a lively wire a request failed too often only for as many rises of the faults and ends of links; and the budget is spent only on links, requests and failures, and is less than what was asked may be tried, over an honest wire than what the plan has.
+-- A front of such a text was written, with all rows that were given where neither the sink nor memory failed, and the call over the wire ended with this fault. Over an honest wire, and a lively one, it has these causes; and where the plan fits and the faults are few it is want of memory, or the data changed. Over a lively wire a request failed too often only for as many rises of the faults and ends of links; and the budget is spent only on links, requests and failures, and is less than what was asked may be tried, over an honest wire than what the plan has. All that is said of a plan, and the causes over one, is said of one version (`acts`).
 pub record FailsOver (allows : List ℕ → ℕ → List ℕ → List ℕ → Type 0) (q : QueryData) (start : Address) (options : Options) (fault : ClientFault) (old new : WireState) (out out' : ℕ) (taken taken' : Option (List ℕ)) : Type 0 where
   pub front : WritesPrefix q taken taken'
   pub writes : WritesSome (RunsPool allows options old new) q start options.budget fault taken taken'
@@ -77,17 +79,18 @@ pub record FailsOver (allows : List ℕ → ℕ → List ℕ → List ℕ → Ty
   pub spent_requests : ForBudget (SpendsRequests options old new) fault
   pub spent_tries : ForBudget (SpendsTries allows options start old new) fault
   pub spent_plan : OverHonest allows old (λ history config. ForBudget (SpendsPlan history config options q start) fault)
+  pub acts : ActsOnWire {A = Report} allows options start q (Err fault) (λ told. told) old new
 
 -- the query of the file was asked, and the text of its result written
 pub record Answers (told : Option Files) (name : List ℕ) (allows : List ℕ → ℕ → List ℕ → List ℕ → Type 0) (start : Address) (options : Options) (report : Report) (old new : WireState) (taken taken' : Option (List ℕ)) : Type 0 where
   pub q : QueryData
-  pub is_read : IfTold told (λ files. HoldsQuery files name q)
+  pub is_read : IsOfQueryFile told name q
   pub writes : WritesOver allows q start options report old new taken taken'
 
 -- the query of the file was asked, and a front of such a text written
 pub record AnswersSome (told : Option Files) (name : List ℕ) (allows : List ℕ → ℕ → List ℕ → List ℕ → Type 0) (start : Address) (options : Options) (fault : ClientFault) (old new : WireState) (out out' : ℕ) (taken taken' : Option (List ℕ)) : Type 0 where
   pub q : QueryData
-  pub is_read : IfTold told (λ files. HoldsQuery files name q)
+  pub is_read : IsOfQueryFile told name q
   pub writes : FailsOver allows q start options fault old new out out' taken taken'
 
 -- why there is no whole answer over a wire; where the query is refused the wire and the output are as before

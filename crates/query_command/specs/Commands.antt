@@ -1,5 +1,5 @@
 -- What the queries through a server in the same process came to, and what they left.
-use Rattle.std.specs.Prelude.{ℕ, List, codes, Option, Result, IfOk, IfErr}
+use Rattle.std.specs.Prelude.{ℕ, ◌<◌, ◌^◌, List, codes, Option, Result, IfOk, IfErr}
 use Rattle.tpf_base.specs.Causes.{Rose}
 use Rattle.tpf_base.specs.Outside.{ShelfState}
 use Rattle.tpf_base.specs.Wrote.{SinkState}
@@ -14,7 +14,7 @@ use Rattle.query_command.specs.Files.{FailsByFile, ReadsLocally, KeepsOutput}
 use Rattle.query_command.specs.Answers.{GivesAnswer, IsWanting}
 use Rattle.query_command.specs.Loops.{LocalView, LocalAnswers, LocalCause, GivesData, local_config}
 use Rattle.query_command.specs.Generated.{GeneratedAnswers, GeneratedCause, usual_options}
-use Rattle.query_command.specs.Plans.{SendsInside, RequestsInside, RepliesGenerated, EndsCounted, OfGenerated, PlanIsWithin, SendsLocally, RequestsLocally, RepliesLocally, EndsByPlan, SucceedsByPlan}
+use Rattle.query_command.specs.Plans.{SendsInside, RequestsInside, RepliesGenerated, EndsCounted, OfGenerated, PlanIsWithin, SendsLocally, RequestsLocally, RepliesLocally, EndsByPlan, SucceedsByPlan, EndsFile, EndsGenerated, HonestFile, HonestGenerated}
 
 -- The query of a file, asked of a file of data.
 pub record AsksFile (shelf shelf' : ShelfState) (out out' : SinkState) (inside : Option (Looped FragmentServer)) (local : LocalView) (result : Result Report AnswerFault) : Type 0 where
@@ -26,6 +26,8 @@ pub record AsksFile (shelf shelf' : ShelfState) (out out' : SinkState) (inside :
   pub requested : RequestsLocally shelf.told local inside
   pub replied : RepliesLocally shelf.told local inside result
   pub ends : EndsByPlan shelf.told local result
+  pub planned : local.options.budget < 2 ^ 63 → EndsFile shelf.told local inside result
+  pub honest : HonestFile shelf.told local inside result
   pub complete : ¬ (Rose shelf.faults shelf'.faults) → ¬ (Rose out.faults out'.faults) → SucceedsByPlan shelf.told local result
   pub reads : ReadsLocally local.name local.query shelf shelf' result
   pub output : KeepsOutput out out' result
@@ -39,6 +41,8 @@ pub record AsksGenerated (shelf shelf' : ShelfState) (inside : Option (Looped Fr
   pub requested : OfGenerated shelf.told persons name (λ triples q. RequestsInside usual_options inside triples (local_config 100) q)
   pub replied : RepliesGenerated shelf.told persons name inside result
   pub ends : OfGenerated shelf.told persons name (λ triples q. EndsCounted usual_options triples (local_config 100) q result)
+  pub planned : EndsGenerated shelf.told persons name inside result
+  pub honest : HonestGenerated persons inside result
   pub complete : ¬ (Rose shelf.faults shelf'.faults)
       → OfGenerated shelf.told persons name (λ triples q. PlanIsWithin 0 usual_options triples (local_config 100) q → IfErr result IsWanting)
   pub reads : ReadsNamed name shelf shelf' (FailsByFile result)

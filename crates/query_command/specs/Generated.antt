@@ -17,8 +17,8 @@ use Rattle.tpf_client.specs.declared.fault.ClientFault.{ClientFault}
 use Rattle.tpf_client.specs.declared.fault.ClientFault.TheVariants as client_faults
 use Rattle.tpf_client.specs.Calls.{solutions_of}
 use Rattle.data_files.specs.declared.fault.DataFault.TheVariants as data_faults
-use Rattle.data_files.specs.Data.{Files, IfTold}
-use Rattle.data_files.specs.Queries.{HoldsQuery}
+use Rattle.data_files.specs.Data.{Files}
+use Rattle.data_files.specs.Queries.{IsOfQueryFile}
 use Rattle.data_files.specs.Causes.{QueryCause}
 use Rattle.file_server.specs.Servers.{serving}
 use Rattle.query_command.specs.declared.fault.AnswerFault.{AnswerFault}
@@ -43,7 +43,7 @@ pub record CountsQuery (persons : ℕ) (q : QueryData) (counts : Counts) : Type 
 -- the same of the query of a file
 pub record CountsFile (told : Option Files) (persons : ℕ) (query_name : List ℕ) (counts : Counts) : Type 0 where
   pub q : QueryData
-  pub is_read : IfTold told (λ files. HoldsQuery files query_name q)
+  pub is_read : IsOfQueryFile told query_name q
   pub counts_are : CountsQuery persons q counts
 
 -- ---- the wire inside

@@ -1,5 +1,5 @@
 -- The wire in one process to the server of a file.
-use Rattle.std.specs.Prelude.{ℕ, ◌≡◌, List, length, codes, Option, None, Some, Result, Ok, Err}
+use Rattle.std.specs.Prelude.{ℕ, ◌≡◌, ◌<◌, ◌^◌, List, [], ◌∷◌, length, codes, Option, None, Some, Result, Ok, Err}
 use Rattle.std.specs.Io.KnownBytes.{Appends}
 use Rattle.std.specs.List.Sorted.{IsPermutation}
 use Rattle.rand_pcg.specs.Pcg.{multiplier_64}
@@ -15,6 +15,9 @@ use Rattle.bgp_core.specs.Solutions.{Places}
 use Rattle.result_json.specs.Results.{result_text}
 use Rattle.tpf_base.specs.declared.failing.Failing.TheVariants.{Dials}
 use Rattle.template_fill.specs.Metadata.{Config}
+use Rattle.template_fill.specs.Bodies.{version_of}
+use Rattle.template_fill.specs.Configurations.{IsConfig, IsHistory}
+use Rattle.connections.specs.Versions as numbered
 use Rattle.triple_table.specs.declared.choice.Choice.{Choice}
 use Rattle.loop_wire.specs.Looped.{Looped, new_wire, state_of}
 use Rattle.fragment_server.specs.declared.server.FragmentServer.{FragmentServer}
@@ -23,8 +26,9 @@ use Rattle.tpf_client.specs.declared.options.Options.{Options}
 use Rattle.tpf_client.specs.declared.options.Report.{Report}
 use Rattle.tpf_client.specs.declared.fault.ClientFault.{ClientFault}
 use Rattle.tpf_client.specs.Calls.{solutions_of}
-use Rattle.data_files.specs.Data.{Files, IfTold, Serves, Outcome, served}
-use Rattle.data_files.specs.Queries.{HoldsQuery}
+use Rattle.tpf_client.specs.Honest.{IsHonestWire}
+use Rattle.data_files.specs.Data.{Files, IsOfFile, Outcome, served}
+use Rattle.data_files.specs.Queries.{IsOfQueryFile}
 use Rattle.data_files.specs.Causes.{DataCause, QueryCause, Gives}
 use Rattle.file_server.specs.Servers.{Starts, serving}
 use Rattle.query_command.specs.declared.fault.AnswerFault.{AnswerFault}
@@ -66,6 +70,17 @@ wire_of wire = state_of (owes wire.server) wire
 abbrev pub begun : FragmentServer → ℕ → ℕ → Looped FragmentServer
 begun server seed fail_every = new_wire server (started 64 multiplier_64 seed (increment_of 64 54)) (Dials fail_every)
 
+-- ---- honesty
+
+-- The law: a wire in one process answers as its server does, over each history of as many data sets as the number of the version that is served, of which the last is the one that is served. So it is however often it was called.
+abbrev pub WiresAreHonest : Type 0
+WiresAreHonest = (wire : Looped FragmentServer) (history : List (List Triple)) → numbered.IsHistory history (serving wire.server) → IsHistory history → IsConfig (serving wire.server).config
+    → ((version : ℕ) → length (version_of history version) < 2 ^ 64) → IsHonestWire (allows_of wire) history (serving wire.server).config (wire_of wire)
+
+-- a wire to a server of version 1 was left so that it answers as the server does with which it was made, over the one data set of that
+abbrev pub LeavesHonest : Looped FragmentServer → Looped FragmentServer → Type 0
+LeavesHonest old new = IsHonestWire (allows_of new) ((serving old.server).data_set ∷ []) (serving old.server).config (wire_of new)
+
 -- ---- the answer
 
 -- the text of some order of the query's solutions over the triples was written whole, of so many rows
@@ -84,17 +99,17 @@ pub record WritesAnswerFront (triples : List Triple) (q : QueryData) (taken take
 -- both files were read, and the answer was written: the triples are those served of the file of data, the query is that of the other file
 pub record AnswersFiles (told : Option Files) (name query_name : List ℕ) (choice : Choice) (n : ℕ) (taken taken' : Option (List ℕ)) : Type 0 where
   pub triples : List Triple
-  pub is_served : IfTold told (λ files. Serves files name choice (codes "localhost") triples)
+  pub is_served : IsOfFile told name choice (codes "localhost") triples
   pub q : QueryData
-  pub is_read : IfTold told (λ files. HoldsQuery files query_name q)
+  pub is_read : IsOfQueryFile told query_name q
   pub writes : WritesAnswer triples q n taken taken'
 
 -- both files were read, and a front of the answer was written
 pub record AnswersFilesFront (told : Option Files) (name query_name : List ℕ) (choice : Choice) (taken taken' : Option (List ℕ)) : Type 0 where
   pub triples : List Triple
-  pub is_served : IfTold told (λ files. Serves files name choice (codes "localhost") triples)
+  pub is_served : IsOfFile told name choice (codes "localhost") triples
   pub q : QueryData
-  pub is_read : IfTold told (λ files. HoldsQuery files query_name q)
+  pub is_read : IsOfQueryFile told query_name q
   pub writes : WritesAnswerFront triples q taken taken'
 
 -- ---- the wire inside
@@ -127,7 +142,7 @@ LocalAnswers told local inside report out out' =
 
 -- the data are served
 abbrev pub IsDataRead : Option Files → List ℕ → Choice → Type 0
-IsDataRead told name choice = (triples : List Triple) × IfTold told (λ files. Serves files name choice (codes "localhost") triples)
+IsDataRead told name choice = (triples : List Triple) × IsOfFile told name choice (codes "localhost") triples
 
 -- why there is no whole answer; where a file is refused the output is as before, and no wire was made
 abbrev pub LocalCause : ShelfState → ShelfState → LocalView → Option (Looped FragmentServer) → SinkState → SinkState → AnswerFault → Type 0

@@ -24,13 +24,14 @@ use Rattle.tpf_client.specs.Requests.{addresses_of}
 use Rattle.tpf_client.specs.Plans.{HasLongPage, IsSmallByAll}
 use Rattle.tpf_client.specs.Requested.{AnswersPlan}
 use Rattle.data_files.specs.Data.{Files, IfTold, Serves}
-use Rattle.data_files.specs.Queries.{HoldsQuery}
+use Rattle.data_files.specs.Queries.{HoldsQuery, IsOfQueryFile}
+use Rattle.file_server.specs.Servers.{serving}
 use Rattle.query_command.specs.declared.fault.AnswerFault.{AnswerFault}
 use Rattle.query_command.specs.declared.fault.AnswerFault.TheVariants as faults
 use Rattle.query_command.specs.declared.generated_query.Counts.{Counts}
 use Rattle.query_command.specs.Answers.{IsWanting}
 use Rattle.query_command.specs.Generated.{LoopsGenerated, usual_options}
-use Rattle.query_command.specs.Loops.{LocalView, LoopsFile, local_base, local_config, wire_of}
+use Rattle.query_command.specs.Loops.{LocalView, LoopsFile, LeavesHonest, local_base, local_config, wire_of}
 
 -- the addresses that a query asks the server of these data for: the base, and the plan of its join (Verborgh et al.)
 abbrev pub plan_of : List Triple → Config → QueryData → List Address
@@ -136,6 +137,42 @@ OfFiles told local holds = IfTold told (λ files. (triples : List Triple) (q : Q
 -- of the generated data that are served, and the query of a file, where the shelf tells it
 abbrev pub OfGenerated : Option Files → ℕ → List ℕ → (List Triple → QueryData → Type 0) → Type 0
 OfGenerated told persons query_name holds = IfTold told (λ files. (triples : List Triple) (q : QueryData) → IsServed (codes "localhost") (chosen DefaultGraph (generated persons)) triples → HoldsQuery files query_name q → holds triples q)
+
+-- ---- over any shelf, told or not
+
+-- what holds where a wire was made: the data and the query were read
+abbrev pub WhereMade : {X : Type 0} → Result X AnswerFault → Type 0 → Type 0
+WhereMade (Ok answer) holds = holds
+WhereMade (Err (faults.Data fault)) holds = Unit {0}
+WhereMade (Err (faults.Query fault)) holds = Unit {0}
+WhereMade (Err (faults.Client fault)) holds = holds
+
+-- How a call over the wire ended that was made, by the plan over the data of its server: of a query, that of a file, which is that of the shelf, where it tells it.
+pub record EndsOver (told : Option Files) (query_name : List ℕ) (n : ℕ) (options : Options) (result : Result Report ClientFault) (old : Looped FragmentServer) : Type 0 where
+  pub q : QueryData
+  pub is_read : IsOfQueryFile told query_name q
+  pub ends : EndsAsPlanned n options (serving old.server).data_set (serving old.server).config q result
+
+-- so a query of a file ends for which a wire was made
+abbrev pub EndsFile : Option Files → LocalView → Option (Looped FragmentServer) → Result Report AnswerFault → Type 0
+EndsFile told local inside (Ok report) = LoopsFile told local inside (λ old new. EndsOver told local.query local.fail_every local.options (Ok report) old)
+EndsFile told local inside (Err (faults.Data fault)) = Unit {0}
+EndsFile told local inside (Err (faults.Query fault)) = Unit {0}
+EndsFile told local inside (Err (faults.Client fault)) = LoopsFile told local inside (λ old new. EndsOver told local.query local.fail_every local.options (Err fault) old)
+
+-- and a query of generated data that is given up over its wire
+abbrev pub EndsGenerated : Option Files → ℕ → List ℕ → Option (Looped FragmentServer) → Result Counts AnswerFault → Type 0
+EndsGenerated told persons query_name inside (Ok counts) = Unit {0}
+EndsGenerated told persons query_name inside (Err (faults.Data fault)) = Unit {0}
+EndsGenerated told persons query_name inside (Err (faults.Query fault)) = Unit {0}
+EndsGenerated told persons query_name inside (Err (faults.Client fault)) = LoopsGenerated persons inside (λ old new. EndsOver told query_name 0 usual_options (Err fault) old)
+
+-- the wire that was made answers as its server does, also as it was left
+abbrev pub HonestFile : Option Files → LocalView → Option (Looped FragmentServer) → Result Report AnswerFault → Type 0
+HonestFile told local inside answer = WhereMade answer (LoopsFile told local inside LeavesHonest)
+
+abbrev pub HonestGenerated : ℕ → Option (Looped FragmentServer) → Result Counts AnswerFault → Type 0
+HonestGenerated persons inside answer = WhereMade answer (LoopsGenerated persons inside LeavesHonest)
 
 -- ---- completeness
 

@@ -5,7 +5,7 @@ ghost use Rattle.file_server.specs.Servers.{serving};
 ghost use Rattle.generated_server.specs.Starts.{StartsGenerated};
 ghost use Rattle.plan_laws.specs.Fitting.{AreServable, IsAskable};
 ghost use Rattle.query_command.specs.Generated.{usual_options, CountsQuery, LoopsGenerated, AsksOver, FailsOn};
-ghost use Rattle.query_command.specs.Loops.{LoopsServer, local_base, local_config, wire_of};
+ghost use Rattle.query_command.specs.Loops.{LoopsServer, LeavesHonest, local_base, local_config, wire_of};
 ghost use Rattle.query_command.specs.Plans.{SendsPlan, BoundsRequests, RepliesRows, MayEnd};
 ghost use Rattle.query_command.specs.Commands.{AsksGenerated};
 
@@ -82,6 +82,7 @@ fn ask_generated<R: Wait>(
         (RepliesRows (serving server).data_set (serving server).config query.now counts.rows)) }
     ensures ends { AreServable (serving server).data_set → AllByRecursion IsAskable query.now.patterns
         → IfErr result (MayEnd 0 usual_options (serving server).data_set (serving server).config query.now) }
+    ensures honest { LoopsServer server 0 0 inside.new LeavesHonest }
 {
     let triples = server.server().table().len() as u64;
     let asked = Asked {
@@ -116,7 +117,9 @@ fn ask_generated<R: Wait>(
 /// times as many as the plan has (`requested`), at an answer each of these was answered, as often as the plan
 /// has it or more (`replied`), a fault over the wire comes only where a body is longer than the limit, the
 /// plan has more addresses than the budget, or memory ran out (`ends`), and the call succeeds where none of
-/// these is so and the shelf does not fail (`complete`).
+/// these is so and the shelf does not fail (`complete`). Over any other shelf such a fault has the same
+/// causes, of a query as read of some file (`planned`). The wire that is left answers as the server of these data
+/// does (`honest`).
 pub fn query_generated<R: Wait, F: Shelf>(
     rt: &R,
     alloc: Global,

@@ -17,8 +17,10 @@ mod limits;
 mod local_query;
 mod server_query;
 mod start;
+mod wires;
 
 pub use fault::AnswerFault;
 pub use generated_query::{Counts, query_generated};
 pub use local_query::{LocalQuery, local};
 pub use server_query::query;
+pub use wires::wires_in_process_are_honest;

@@ -5,7 +5,7 @@ ghost use Rattle.data_files.specs.Kept.{KeepsSink};
 ghost use Rattle.file_server.specs.Servers.{serving};
 ghost use Rattle.plan_laws.specs.Fitting.{AreServable, IsAskable};
 ghost use Rattle.tpf_client.specs.Requested.{AnswersPlan};
-ghost use Rattle.query_command.specs.Loops.{LoopsServer, WritesLooped, FailsLooped, WritesAnswer, WritesAnswerFront, local_view, local_base, wire_of};
+ghost use Rattle.query_command.specs.Loops.{LoopsServer, LeavesHonest, WritesLooped, FailsLooped, WritesAnswer, WritesAnswerFront, local_view, local_base, wire_of};
 ghost use Rattle.query_command.specs.Plans.{SendsPlan, BoundsRequests, EndsAsPlanned};
 ghost use Rattle.query_command.specs.Commands.{AsksFile};
 
@@ -100,6 +100,7 @@ pub(crate) fn ask_server<R: Wait, K: Sink>(
     ensures ends { AreServable (serving server).data_set → AllByRecursion IsAskable query.now.patterns
         → asked.now.options.budget < 2 ^ 63 → EndsAsPlanned asked.now.fail_every asked.now.options
         (serving server).data_set (serving server).config query.now result }
+    ensures honest { LoopsServer server asked.now.seed asked.now.fail_every inside.new LeavesHonest }
     ensures output { KeepsSink (K.state out.old) (K.state out.new) }
     ensures spared { (K.state out.old).faultless ≡ true → IsErrOf result ClientFault.Sink → ⊥ }
 {
@@ -136,7 +137,10 @@ pub(crate) fn ask_server<R: Wait, K: Sink>(
 /// a fault comes only where too many fail, a body is longer than the limit, or the budget is too small, and
 /// never by a stall, a body that is no page, or another version (`ends`). Where none of these is so and
 /// shelf and output do not fail, the call succeeds unless memory runs out (`complete`). What is said of
-/// the plan holds where the shelf tells both files.
+/// the plan holds where the shelf tells both files. Over any other shelf the same
+/// holds of the data with which the wire was made and of a query, each as read of some file: so a stall, a
+/// page that is none and another version never end the call, and an exchange only where dials are to fail
+/// (`planned`). The wire that is left answers as the server of these data does (`honest`).
 pub fn local<R: Wait, F: Shelf, K: Sink>(
     rt: &R,
     alloc: Global,

@@ -1,4 +1,5 @@
 // How runs end, and what is shown of that.
+use crate::sent::{answers_in, targets_in};
 use case_rows::{Case, CaseFault};
 use std::alloc::Global;
 use std::str;
@@ -10,8 +11,9 @@ pub struct Outcome {
     pub status: u8,
     pub out: MemSink,
     pub err: MemSink,
-    /// Whether a wire was left inside.
-    pub has_wire: bool,
+    /// What was sent on the wire that was left inside, or on the one that was handed in; none, where there is no such
+    /// wire.
+    pub sent: Option<String>,
 }
 
 impl Outcome {
@@ -28,15 +30,21 @@ pub struct Show {
     count: Option<String>,
     said: Vec<String>,
     has_wire: Option<String>,
+    has_targets: bool,
+    has_answers: bool,
+    order: Vec<String>,
 }
 
-/// `sorted`, `count`, `said`, `wire`: what is to be shown of a run.
+/// `sorted`, `count`, `said`, `wire`, `targets`, `answers`, `order`: what is to be shown of a run.
 pub fn show_of(alloc: Global, case: &mut Case<'_>) -> Result<Show, CaseFault> {
     Ok(Show {
         is_sorted: case.flag("sorted")?,
         count: case.text_if(alloc, "count")?,
         said: case.texts(alloc, "said")?,
         has_wire: case.text_if(alloc, "wire")?,
+        has_targets: case.flag("targets")?,
+        has_answers: case.flag("answers")?,
+        order: case.texts(alloc, "order")?,
     })
 }
 
@@ -83,6 +91,20 @@ fn times(text: &str, part: &str) -> usize {
     text.split(part).count().saturating_sub(1)
 }
 
+/// Which of two texts stands first.
+fn order_of(text: &str, one: &str, other: &str) -> &'static str {
+    match (text.find(one), text.find(other)) {
+        (Some(first), Some(second)) => {
+            if first < second {
+                "in this order"
+            } else {
+                "in the other order"
+            }
+        }
+        _ => "not both",
+    }
+}
+
 impl Show {
     /// What is shown of the output.
     fn output(&self, alloc: Global, text: &str) -> Result<String, CaseFault> {
@@ -113,13 +135,34 @@ impl Show {
         }
     }
 
-    /// What is shown of a run: the status, the output and the line on the standard error.
+    /// What is shown of what was sent: the targets of requests, the answers, or which of two texts comes first.
+    fn traffic(&self, alloc: Global, sent: &str) -> Result<String, CaseFault> {
+        if self.has_targets {
+            return targets_in(alloc, sent);
+        }
+        if self.has_answers {
+            return answers_in(alloc, sent);
+        }
+        match self.order.as_slice() {
+            [one, other] => Ok(String::from_str(
+                alloc,
+                order_of(sent, one.as_str(), other.as_str()),
+            )?),
+            _ => Ok(String::new(alloc)),
+        }
+    }
+
+    /// What is shown of a run: the status, the output, the line on the standard error, and what was sent.
     pub fn outcome(&self, alloc: Global, outcome: &Outcome) -> Result<String, CaseFault> {
-        if !self.agrees(outcome.has_wire) {
+        if !self.agrees(outcome.sent.is_some()) {
             return Err(CaseFault::Differs);
         }
         let out = self.output(alloc, text_of(outcome.out.taken())?)?;
         let err = self.error(alloc, text_of(outcome.err.taken())?)?;
-        Ok(format!(in alloc; "{} {out}| {err}", outcome.status)?)
+        let sent = match &outcome.sent {
+            Some(sent) => self.traffic(alloc, sent.as_str())?,
+            None => String::new(alloc),
+        };
+        Ok(format!(in alloc; "{} {out}| {err}{sent}", outcome.status)?)
     }
 }

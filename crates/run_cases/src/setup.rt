@@ -1,9 +1,10 @@
 // The words and the files of a run, and what fails in it.
 use crate::outcomes::Outcome;
+use crate::sent::sent_inside;
 use case_rows::{Case, CaseFault};
 use std::alloc::Global;
 use std::sync::Wait;
-use tpf_base::{Bytes, Failing, MemShelf, MemSink, NoWire, Text};
+use tpf_base::{Accept, Bytes, Dial, Failing, MemShelf, MemSink, NoWire, Shelf, Text};
 use tpf_cli::{Inside, run};
 
 /// The words of a line, which has a `|` between each two.
@@ -44,8 +45,8 @@ impl Setup {
         Ok(self.files.push(File { name, bytes })?)
     }
 
-    /// The files, each by its name.
-    fn files(&self, alloc: Global) -> Result<Vec<(Text, Bytes)>, CaseFault> {
+    /// The files, each by its name, on a shelf that fails so.
+    pub fn shelf(&self, alloc: Global, failing: Failing) -> Result<MemShelf, CaseFault> {
         let mut files = Vec::new(alloc);
         for file in &self.files {
             let name = Text::copy(alloc, file.name.as_str());
@@ -55,10 +56,10 @@ impl Setup {
             };
             files.push((name, bytes))?;
         }
-        Ok(files)
+        Ok(MemShelf::new(alloc, files, failing))
     }
 
-    /// The run, with these words behind its own.
+    /// The run over a wire that gives no link, with these words behind its own.
     pub fn ended<R: Wait>(
         &self,
         rt: &R,
@@ -67,28 +68,58 @@ impl Setup {
         fails: Fails,
     ) -> Result<Outcome, CaseFault> {
         let line = format!(in alloc; "{}{more}", self.line)?;
-        let words = words_of(alloc, line.as_str())?;
-        let files = self.files(alloc)?;
-        let (shelf_fails, out_fails, err_fails) = (fails.shelf, fails.out, fails.err);
-        let mut shelf = MemShelf::new(alloc, files, shelf_fails);
-        let mut wire = NoWire::new();
-        let mut out = MemSink::new(alloc, out_fails);
-        let mut err = MemSink::new(alloc, err_fails);
-        let mut left = Inside::Unused;
-        let status = run(
-            rt, alloc, &words, &mut shelf, &mut wire, &mut out, &mut err, &mut left,
-        );
-        let has_wire = match left {
-            Inside::Loop(_) => true,
-            Inside::Unused => false,
-        };
-        Ok(Outcome {
-            status,
-            out,
-            err,
-            has_wire,
-        })
+        self.ended_over(rt, alloc, line.as_str(), fails, &mut NoWire::new())
     }
+
+    /// The run over this wire.
+    pub fn ended_on<R: Wait, W: Dial + Accept>(
+        &self,
+        rt: &R,
+        alloc: Global,
+        fails: Fails,
+        wire: &mut W,
+    ) -> Result<Outcome, CaseFault> {
+        self.ended_over(rt, alloc, self.line.as_str(), fails, wire)
+    }
+
+    /// The run of the words of this line over this wire.
+    fn ended_over<R: Wait, W: Dial + Accept>(
+        &self,
+        rt: &R,
+        alloc: Global,
+        line: &str,
+        fails: Fails,
+        wire: &mut W,
+    ) -> Result<Outcome, CaseFault> {
+        let (shelf, out, err) = (fails.shelf, fails.out, fails.err);
+        let mut shelf = self.shelf(alloc, shelf)?;
+        let (out, err) = (MemSink::new(alloc, out), MemSink::new(alloc, err));
+        ended(rt, alloc, line, &mut shelf, wire, out, err)
+    }
+}
+
+/// The run of the words of a line over this shelf, this wire, this output and this standard error.
+pub fn ended<R: Wait, F: Shelf, W: Dial + Accept>(
+    rt: &R,
+    alloc: Global,
+    line: &str,
+    shelf: &mut F,
+    wire: &mut W,
+    mut out: MemSink,
+    mut err: MemSink,
+) -> Result<Outcome, CaseFault> {
+    let words = words_of(alloc, line)?;
+    let mut left = Inside::Unused;
+    let status = run(
+        rt, alloc, &words, shelf, wire, &mut out, &mut err, &mut left,
+    );
+    let sent = sent_inside(alloc, &left)?;
+    Ok(Outcome {
+        status,
+        out,
+        err,
+        sent,
+    })
 }
 
 /// Which calls of the shelf, the output and the standard error fail.
@@ -111,7 +142,7 @@ impl Fails {
 }
 
 /// What fails: `every 2`, `at 3` or `after 10` (bytes), and nothing where the row lacks the member.
-fn failing_of(alloc: Global, case: &mut Case<'_>, member: &str) -> Result<Failing, CaseFault> {
+pub fn failing_of(alloc: Global, case: &mut Case<'_>, member: &str) -> Result<Failing, CaseFault> {
     let Some(text) = case.text_if(alloc, member)? else {
         return Ok(Failing::Never);
     };

@@ -293,7 +293,7 @@ ends_from stop_after old start new result none fine s = record {
 pub says_from : (base : Address) (wire start wire' : WireState) (out out' : SinkState) (result : Result ℕ ServiceFault) → start.given ≡ wire.given → wire'.door.place ≡ door_of base
     → Appends out.taken out'.taken (codes "ready\n") → AppendsPrefix out.taken out'.taken (codes "ready\n") → SaysReady base wire wire' out out' result
 says_from base wire start wire' out out' result given at ready front =
-    record { ready = on_ok_so _ result ready; front = front; opened = on_ok_so _ result at; door = inr at; after = inr ready }
+    record { ready = on_ok_so _ result ready; front = front; opened = on_ok_so _ result at; door = inr at; place = inr at; after = inr ready }
 
 pub door_cause : (wire start wire' : WireState) (out out' : ℕ) (result : Result ℕ ServiceFault) → wire.faults ≤ start.faults → wire.door.faults ≤ start.door.faults → IfErr result (LinksCause start wire') → IfErr result (DoorCause wire wire' out out')
 door_cause wire start wire' out out' (Ok n) before door h = tt
@@ -349,7 +349,7 @@ not_refused files name choice authority triples is = λ refused. subst IsFault (
 module _ (shelf mid shelf' : ShelfState) (first : KeepsShelf shelf mid) (name : List ℕ) (choice : Choice) (config : Config) (server : Serving (List Triple) Config) (starts : Starts shelf.told name choice config server) where
   failed_shelf : FailedReading mid shelf' name choice (authority_of config.base) → IfTold shelf.told (λ files. Rose shelf.faults shelf'.faults)
   failed_shelf (inl rose) = λ files is. RoseBy-within 1 1 mid.faults shelf'.faults shelf.faults shelf'.faults (omega arith) first.later (omega arith) rose
-  failed_shelf (inr refused) = λ files is. absurd (not_refused files name choice (authority_of config.base) server.data_set (starts.data_set files is) (refused files (first.told ∙ is)))
+  failed_shelf (inr refused) = λ files is. absurd (not_refused files name choice (authority_of config.base) server.data_set (starts.data_set.tells files is) (refused files (first.told ∙ is)))
 
   -- a reload of a file that was served fails with its shelf alone
   reason : FailedReload mid shelf' name choice server.config → FailedShelf shelf shelf' config
@@ -377,7 +377,7 @@ module _ (told : Option Files) (name : List ℕ) (choice : Choice) (config : Con
   decided : (wire wire' : WireState) (out out' : ℕ) (result : Result ℕ ServiceFault) → IfErr result (DoorCause wire wire' out out')
       → IfTold told (λ files. (outcome : Outcome) → IsOutcome files name choice (authority_of config.base) outcome → GivesServed outcome result)
   decided wire wire' out out' result h = λ files is outcome o.
-      serving_gives wire wire' out out' outcome result h (server.data_set, one_outcome files name choice (authority_of config.base) outcome (served server.data_set) o (starts.data_set files is))
+      serving_gives wire wire' out out' outcome result h (server.data_set, one_outcome files name choice (authority_of config.base) outcome (served server.data_set) o (starts.data_set.tells files is))
 
 -- ---- the command
 
@@ -420,6 +420,7 @@ module _ (shelf shelf' : ShelfState) (wire : WireState) (out : SinkState) (name 
     front = record { front = []; rest = codes "ready\n"; whole = refl; bytes = Appends-nil out.taken };
     opened = tt;
     door = inl refl;
+    place = inl refl;
     after = inl refl;
   }
 

@@ -133,12 +133,13 @@ DoorCause wire wire' out out' faults.Wire = RoseAtDoor wire wire'
 DoorCause wire wire' out out' faults.Sink = Rose out out'
 DoorCause wire wire' out out' faults.OutOfMemory = Unit {0}
 
--- `ready` and LF were written where a service began: once its door was open at the host and the port of the base, and before a link was given.
+-- `ready` and LF were written where a service began: once its door was open at the host and the port of the base, and before a link was given. The door was opened nowhere else.
 pub record SaysReady {T : Type 0} (base : Address) (wire wire' : WireState) (out out' : SinkState) (result : Result T ServiceFault) : Type 0 where
   pub ready : OnOk result (Appends out.taken out'.taken (codes "ready\n"))
   pub front : AppendsPrefix out.taken out'.taken (codes "ready\n")
   pub opened : OnOk result (wire'.door.place ≡ door_of base)
   pub door : (out'.taken ≡ out.taken) ⊎ (wire'.door.place ≡ door_of base)
+  pub place : (wire'.door.place ≡ wire.door.place) ⊎ (wire'.door.place ≡ door_of base)
   pub after : (wire'.given ≡ wire.given) ⊎ Appends out.taken out'.taken (codes "ready\n")
 
 -- the data of the file are served

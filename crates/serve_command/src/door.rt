@@ -1,5 +1,5 @@
 // The door of a service.
-ghost use Rattle.std.specs.Prelude.{◌≡◌, ◌≤◌, codes, IfErr, OnOk};
+ghost use Rattle.std.specs.Prelude.{◌≡◌, ◌≤◌, ◌⊎◌, codes, IfErr, OnOk};
 ghost use Rattle.std.specs.Io.KnownBytes.{Appends};
 ghost use Rattle.tpf_base.specs.Wrote.{AppendsPrefix};
 ghost use Rattle.tpf_base.specs.Calls.{OnlyListens};
@@ -14,6 +14,8 @@ use tpf_base::{Accept, Fault, Sink, write_all};
 /// Opens the door at the host and the port of the base.
 fn open_door<W: Accept>(server: &FragmentServer, wire: &mut W) -> Result<(), ServiceFault>
     ensures opened { OnOk result ((W.state wire.new).door.place ≡ door_of (serving server.now).config.base) }
+    ensures place { ((W.state wire.new).door.place ≡ (W.state wire.old).door.place)
+        ⊎ ((W.state wire.new).door.place ≡ door_of (serving server.now).config.base) }
     ensures only { OnlyListens (W.state wire.old) (W.state wire.new) }
     ensures calm { OnOk result ((W.state wire.new).door.faults ≡ (W.state wire.old).door.faults) }
     ensures door { (W.state wire.old).door.faults ≤ (W.state wire.new).door.faults }

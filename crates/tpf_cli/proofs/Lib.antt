@@ -3,4 +3,5 @@ pub mod Ranges
 pub mod Said
 pub mod Asked
 pub mod Commanded
+pub mod Among
 pub mod Promised

@@ -40,6 +40,7 @@ use Rattle.tpf_cli.specs.Endings.{EndOfRun, usage, no_words, answered, made, cou
 use Rattle.tpf_cli.specs.Lines.{sizes_text}
 use Rattle.tpf_cli.specs.Ranges.{IsInRange, IsTyped}
 use Rattle.tpf_cli.specs.Runs.{Around, Writes, WritesNumbers, CutsLine, CountsFile, Does, DoesOf, unwritten, wire_inside, options_of, view_of, config_by}
+use Rattle.tpf_cli.proofs.Among.{run_among}
 use Rattle.tpf_cli.specs.Promises.{Keeps, KeepsTable, KeepsTableOf, TellsRequests, TellsRequestsOf, IsDone, SucceedsOf}
 
 -- ---- the table
@@ -419,6 +420,7 @@ module _ (a : Around) where
   pub run_keeps : (command : Option Command) → ((c : Command) → command ≡ Some c → IsInRange c) → (end : EndOfRun) (result : ℕ) (err err' : SinkState) → DoesOf a command end → Says result end err err' → KeepsSink err err' → Keeps a command result err err'
   run_keeps command ranged end result err err' does says error = record {
     ending = (end, does, says);
+    among = run_among a command ranged end result err err' does says;
     table = run_table command ranged end result err err' does says;
     requests = run_requests command ranged end result err err' does says;
     complete = run_succeeds command ranged end result err err' does says;

@@ -1,3 +1,4 @@
+pub mod Statuses
 pub mod Names
 pub mod Lines
 pub mod Endings

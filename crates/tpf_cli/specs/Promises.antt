@@ -1,5 +1,6 @@
 -- Which status may come of a run, and when a run succeeds.
-use Rattle.std.specs.Prelude.{ℕ, ◌≡◌, ◌⊎◌, ◌++◌, List, length, codes, decimal, Option, Some, None, [], ◌∷◌}
+use Rattle.std.specs.Prelude.{ℕ, ◌≡◌, ◌==◌, ◌⊎◌, ◌++◌, Bool, true, false, List, length, codes, decimal, Option, Some, None, [], ◌∷◌}
+use Rattle.std.specs.List.{list_any}
 use Rattle.std.specs.Io.KnownBytes.{Appends}
 use Rattle.rdf_terms.specs.declared.term.Triple.{Triple}
 use Rattle.tpf_base.specs.Addresses.{authority_of}
@@ -19,6 +20,25 @@ use Rattle.command_words.specs.Commands.{Command, local, query, serve, make}
 use Rattle.tpf_cli.specs.Endings.{EndOfRun, Says}
 use Rattle.tpf_cli.specs.Lines.{counts_text}
 use Rattle.tpf_cli.specs.Runs.{Around, DoesOf, options_of, view_of}
+
+-- ---- the statuses that may come, over any shelf, wire and output, told or not
+
+-- of a query in one process: where no dial fails, 5 never comes
+abbrev pub local_statuses : Bool → List ℕ
+local_statuses true = 0 ∷ 3 ∷ 4 ∷ 6 ∷ 7 ∷ 8 ∷ 9 ∷ 10 ∷ []
+local_statuses false = 0 ∷ 3 ∷ 4 ∷ 5 ∷ 6 ∷ 7 ∷ 8 ∷ 9 ∷ 10 ∷ []
+
+abbrev pub statuses_of : Option Command → List ℕ
+statuses_of None = 2 ∷ 8 ∷ []
+statuses_of (Some (local name query_name choice page client seed fail_every)) = local_statuses (fail_every == 0)
+statuses_of (Some (query url query_name client)) = 0 ∷ 4 ∷ 5 ∷ 6 ∷ 7 ∷ 8 ∷ 9 ∷ 10 ∷ 11 ∷ []
+statuses_of (Some (serve name base choice page stop_after reload)) = 0 ∷ 3 ∷ 8 ∷ 9 ∷ 10 ∷ 12 ∷ []
+statuses_of (Some (make count None)) = 0 ∷ 8 ∷ 9 ∷ []
+statuses_of (Some (make count (Some asked_name))) = 0 ∷ 4 ∷ 6 ∷ 7 ∷ 8 ∷ 9 ∷ 10 ∷ []
+
+-- the status is one of them
+abbrev pub IsAmong : List ℕ → ℕ → Type 0
+IsAmong statuses status = list_any (λ n. n == status) statuses ≡ true
 
 -- ---- the table of a query in one process, where each n-th dial fails
 
@@ -82,9 +102,10 @@ SucceedsOf a (Some (make count (Some asked_name))) status =
 
 -- ---- the run
 
--- What a run keeps to that ended with this status: it did what its words command and said so, by the table of statuses; it told the requests of its plan; and it succeeded where nothing stood in the way. The shelf tells what it told, and no count of shelf, output and standard error fell.
+-- What a run keeps to that ended with this status: it did what its words command and said so, with one of the statuses of the command, by the table of statuses; it told the requests of its plan; and it succeeded where nothing stood in the way. The shelf tells what it told, and no count of shelf, output and standard error fell.
 pub record Keeps (a : Around) (command : Option Command) (status : ℕ) (err err' : SinkState) : Type 0 where
   pub ending : (end : EndOfRun) × DoesOf a command end × Says status end err err'
+  pub among : IsAmong (statuses_of command) status
   pub table : KeepsTableOf a command status
   pub requests : TellsRequestsOf a command status err err'
   pub complete : SucceedsOf a command status

@@ -1,16 +1,12 @@
 //! The command line of `tpf`: the words, the commands, and what is said at the end of each.
 //!
 //! A whole run in memory: `words` are those of a command line with the program's name, the shelf has the
-//! files, and the two sinks take what the output and the standard error would.
+//! files, the wire the links, and the two sinks take what the output and the standard error would.
 //!
 //! ```rust
-//! let mut shelf = MemShelf::new(alloc, files, shelf_fails);
-//! let mut wire = NoWire::new();
-//! let mut out = MemSink::new(alloc, out_fails);
-//! let mut err = MemSink::new(alloc, err_fails);
 //! let mut left = Inside::Unused;
 //! let status = run(
-//!     rt, alloc, &words, &mut shelf, &mut wire, &mut out, &mut err, &mut left,
+//!     rt, alloc, &words, shelf, wire, &mut out, &mut err, &mut left,
 //! );
 //! ```
 #![tactic(auto)]
@@ -20,6 +16,7 @@ mod ending;
 mod lines;
 mod names;
 mod say;
+mod status;
 mod top;
 
 pub use top::{Inside, run};

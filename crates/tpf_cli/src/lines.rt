@@ -2,8 +2,10 @@
 ghost use Rattle.std.specs.Prelude.{◌≡◌, ◌++◌, codes, decimal, IfOk, OnOk};
 ghost use Rattle.tpf_base.specs.Wrote.{WritesWhole};
 ghost use Rattle.data_files.specs.Kept.{KeepsSink};
+ghost use Rattle.tpf_cli.specs.Statuses.{code_of};
 ghost use Rattle.tpf_cli.specs.Lines.{SaysLine, version_text, counts_text, versions_text, sizes_text};
 
+use crate::status::Status;
 use itoa::Buffer;
 use query_command::Counts;
 use std::alloc::Global;
@@ -11,13 +13,13 @@ use tpf_base::{Fault, OutOfMemory, Sink, write_all};
 
 /// Writes a line, and gives the status where that did not run out of memory, and else 8. A failure is
 /// passed over.
-pub fn write_line<E: Sink>(err: &mut E, line: &[u8], status: u8) -> u8
-    ensures says { SaysLine result status line.now (E.state err.old) (E.state err.new) }
+pub fn write_line<E: Sink>(err: &mut E, line: &[u8], status: Status) -> Status
+    ensures says { SaysLine (code_of result) (code_of status) line.now (E.state err.old) (E.state err.new) }
     ensures keeps { KeepsSink (E.state err.old) (E.state err.new) }
 {
     match write_all(err, line) {
         Ok(()) | Err(Fault::Failed) => status,
-        Err(Fault::OutOfMemory) => 8,
+        Err(Fault::OutOfMemory) => Status::Memory,
     }
 }
 
@@ -116,48 +118,60 @@ pub fn write_fault<E: Sink>(
     front: &[u8],
     n: u64,
     why: &[u8],
-    status: u8,
-) -> u8
-    ensures says { SaysLine result status (front.now ++ decimal n ++ codes ": " ++ why.now ++ codes "\n")
+    status: Status,
+) -> Status
+    ensures says { SaysLine (code_of result) (code_of status) (front.now ++ decimal n ++ codes ": " ++ why.now ++ codes "\n")
         (E.state err.old) (E.state err.new) }
     ensures keeps { KeepsSink (E.state err.old) (E.state err.new) }
 {
     match fault_line(alloc, front, n, why) {
         Ok(text) => write_line(err, &text, status),
-        Err(_) => 8,
+        Err(_) => Status::Memory,
     }
 }
 
 /// Writes a line that is a front, a name and LF.
-pub fn write_named<E: Sink>(alloc: Global, err: &mut E, front: &[u8], name: &[u8], status: u8) -> u8
-    ensures says { SaysLine result status (front.now ++ name.now ++ codes "\n") (E.state err.old) (E.state err.new) }
+pub fn write_named<E: Sink>(
+    alloc: Global,
+    err: &mut E,
+    front: &[u8],
+    name: &[u8],
+    status: Status,
+) -> Status
+    ensures says { SaysLine (code_of result) (code_of status) (front.now ++ name.now ++ codes "\n") (E.state err.old) (E.state err.new) }
     ensures keeps { KeepsSink (E.state err.old) (E.state err.new) }
 {
     match named_line(alloc, front, name) {
         Ok(text) => write_line(err, &text, status),
-        Err(_) => 8,
+        Err(_) => Status::Memory,
     }
 }
 
 /// Writes a line that is a front, a number and LF.
-pub fn write_number<E: Sink>(alloc: Global, err: &mut E, front: &[u8], n: u64, status: u8) -> u8
-    ensures says { SaysLine result status (front.now ++ decimal n ++ codes "\n") (E.state err.old) (E.state err.new) }
+pub fn write_number<E: Sink>(
+    alloc: Global,
+    err: &mut E,
+    front: &[u8],
+    n: u64,
+    status: Status,
+) -> Status
+    ensures says { SaysLine (code_of result) (code_of status) (front.now ++ decimal n ++ codes "\n") (E.state err.old) (E.state err.new) }
     ensures keeps { KeepsSink (E.state err.old) (E.state err.new) }
 {
     match number_line(alloc, front, n) {
         Ok(text) => write_line(err, &text, status),
-        Err(_) => 8,
+        Err(_) => Status::Memory,
     }
 }
 
 /// Writes the counts of requests and of rows, with status 0.
-pub fn write_counts<E: Sink>(alloc: Global, err: &mut E, requests: u64, rows: u64) -> u8
-    ensures says { SaysLine result 0 (counts_text requests rows) (E.state err.old) (E.state err.new) }
+pub fn write_counts<E: Sink>(alloc: Global, err: &mut E, requests: u64, rows: u64) -> Status
+    ensures says { SaysLine (code_of result) 0 (counts_text requests rows) (E.state err.old) (E.state err.new) }
     ensures keeps { KeepsSink (E.state err.old) (E.state err.new) }
 {
     match counts_line(alloc, requests, rows) {
-        Ok(text) => write_line(err, &text, 0),
-        Err(_) => 8,
+        Ok(text) => write_line(err, &text, Status::Done),
+        Err(_) => Status::Memory,
     }
 }
 
@@ -178,12 +192,12 @@ pub fn write_versions<E: Sink>(
     err: &mut E,
     first: Option<u64>,
     other: Option<u64>,
-) -> u8
-    ensures says { SaysLine result 11 (versions_text first other) (E.state err.old) (E.state err.new) }
+) -> Status
+    ensures says { SaysLine (code_of result) 11 (versions_text first other) (E.state err.old) (E.state err.new) }
     ensures keeps { KeepsSink (E.state err.old) (E.state err.new) }
 {
     match versions_line(alloc, first, other) {
-        Ok(text) => write_line(err, &text, 11),
-        Err(_) => 8,
+        Ok(text) => write_line(err, &text, Status::Changed),
+        Err(_) => Status::Memory,
     }
 }

@@ -180,13 +180,17 @@ fn ending_of<'a, R: Wait, F: Shelf, W: Dial + Accept, K: Sink>(
 /// not be read from `shelf`; 11 the data changed; 12 the listener (door) or a wait failed.
 ///
 /// Of `local` and `make --run`, with nothing assumed of a wire: 5 comes only where so many dials fail
-/// (`--fail-every`), 6 only where a body of the plan is longer than `--max-body`, 7 only where the plan
-/// with the requests that fail passes `--budget`, as do retries + 1 times the plan, and 11 and 12 never
-/// (`table`). At status 0 of `local` the number of requests that is told is that of the plan's addresses
+/// (`--fail-every`), 6 only where a body of the plan is longer than `--max-body`, and 7 only where the plan
+/// with the requests that fail passes `--budget`, as do retries + 1 times the plan (`table`). At status 0 of `local` the number of requests that is told is that of the plan's addresses
 /// where no dial fails, and else only by a quotient more (`requests`). Where the files are read
 /// and none of these causes is there, and no output or shelf fails, the status is 0 or 8; so it is of
 /// `query` over a wire whose other ends answer as a server does, where the plan fits, of `serve` where
 /// the wire does not fail, and of `make` (`complete`).
+///
+/// Over any shelf, wire and output, whether they tell what they hold or not, a run ends with one of the statuses
+/// of its command (`among`): no words that are none with another than 2 and 8; `local` never with 11 and 12,
+/// and with 5 only where a dial is to fail; `query` never with 3 and 12; `serve` with 0, 3, 8, 9, 10 and 12 alone;
+/// `make` with 0, 8 and 9, and with `--run` with 4, 6, 7 and 10 beside these.
 ///
 /// Words that are no command leave `shelf`, `wire` and `out` as they are, and `make` without `--run` leaves
 /// `shelf` and `wire` so (`shelf`, `wire`, `out`).
@@ -212,5 +216,5 @@ pub fn run<R: Wait, F: Shelf, W: Dial + Accept, K: Sink, E: Sink>(
     ensures out { IsWithoutOutput (command_of (map string_bytes words.now)) → out.new ≡ out.old }
 {
     let ending = ending_of(rt, alloc, words, shelf, wire, out, inside);
-    say(alloc, err, &ending)
+    say(alloc, err, &ending).code()
 }

@@ -1,4 +1,7 @@
+use Rattle.std.proofs.Common.{ℕ, List, subst}
+use Rattle.nquads_text.specs.Reads.{Reads}
 use Rattle.data_files.proofs.Causes.{no_file, file_failed}
+use Rattle.data_files.proofs.Held.{held_data}
 use Rattle.data_files.proofs.data.read_quads.Goals as goal
 
 pub returns-in-Err-clause-reads : goal.returns-in-Err-clause-reads
@@ -8,3 +11,8 @@ returns-in-Err-clause-reads g c = record {
   calm = λ fine. c.in-Err.ensures.cause.unfailed (file_failed c.in-Err.fault _ c.unread.ensures fine);
   spared = λ fine there room. no_file c.in-Err.fault _ c.unread.ensures (c.in-Err.ensures.holds fine there room);
 }
+
+pub returns-in-Ok-read_all-clause-ok : goal.returns-in-Ok-read_all-clause-ok
+returns-in-Ok-read_all-clause-ok g c =
+    held_data (g.F.Shelf.state c.args.shelf.now).told c.args.name.now c.in-Ok.bytes.items c.in-Ok.ensures.whole c.in-Ok-read_all.quads.items c.in-Ok.ensures.within
+    (subst (λ (b : List ℕ). Reads b 262144 c.in-Ok-read_all.quads.items) c.deref.ensures.value c.in-Ok-read_all.ensures.read)

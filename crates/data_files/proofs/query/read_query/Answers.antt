@@ -1,6 +1,8 @@
-use Rattle.std.proofs.Common.{Ok, Err, rules}
+use Rattle.std.proofs.Common.{ℕ, List, Ok, Err, subst, rules}
+use Rattle.pattern_parser.specs.Queries.{ReadsQuery}
 use Rattle.data_files.specs.declared.fault.QueryFileFault.TheVariants as query_faults
 use Rattle.data_files.proofs.Causes.{gives_query, no_query_file, query_file_failed}
+use Rattle.data_files.proofs.Held.{held_query}
 use Rattle.data_files.proofs.query.read_query.Goals as goal
 
 pub returns-in-Err-clause-reads : goal.returns-in-Err-clause-reads
@@ -12,7 +14,9 @@ returns-in-Err-clause-reads g c = record {
 }
 
 pub returns-in-Ok-parse-clause-ok : goal.returns-in-Ok-parse-clause-ok
-returns-in-Ok-parse-clause-ok g c = search rules
+returns-in-Ok-parse-clause-ok g c =
+    held_query (g.F.Shelf.state c.args.shelf.now).told c.args.name.now c.in-Ok.bytes.items c.in-Ok.ensures.whole c.in-Ok-parse.query
+    (subst (λ (b : List ℕ). ReadsQuery b c.in-Ok-parse.query) c.deref.ensures.value c.in-Ok-parse.ensures.query)
 
 pub returns-in-Ok-parse-clause-exact : goal.returns-in-Ok-parse-clause-exact
 returns-in-Ok-parse-clause-exact g c =

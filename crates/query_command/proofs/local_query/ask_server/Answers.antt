@@ -2,7 +2,7 @@
 use Rattle.query_command.specs.Loops.{local_base}
 use Rattle.file_server.specs.Servers.{serving}
 use Rattle.query_command.proofs.Looping.{loops_ok, loops_err, solves, solves_front, valid_served, config_served, keeps}
-use Rattle.query_command.proofs.Honest.{honest_wire}
+use Rattle.query_command.proofs.Honest.{honest_wire, loops_honest}
 use Rattle.query_command.proofs.Fitting.{plan_is_read}
 use Rattle.query_command.proofs.Planned.{sends_from, requests_from, ends_from, answers_from}
 use Rattle.query_command.proofs.local_query.ask_server.Goals as goal
@@ -11,14 +11,14 @@ pub returns-clause-answers : goal.returns-clause-answers
 returns-clause-answers g c =
     loops_ok c.args.server c.args.asked.now.seed c.args.asked.now.fail_every c.new-wire.result c.query-answer.new.wire c.new-wire.ensures c.args.query.now c.args.asked.now.start.now local_base c.requires.start c.args.asked.now.options ((g.K.Sink.state c.args.out.now).faults) ((g.K.Sink.state c.query-answer.new.out).faults) ((g.K.Sink.state c.args.out.now).taken) ((g.K.Sink.state c.query-answer.new.out).taken) c.query-answer.result c.query-answer.ensures.whole c.query-answer.ensures.ok c.query-answer.ensures.headline
     (record { closed = c.query-answer.ensures.acts.closed; peers = c.query-answer.ensures.acts.peers; others = c.query-answer.ensures.acts.others; sent = c.query-answer.ensures.acts.sent; dials = c.query-answer.ensures.acts.dials; given = c.query-answer.ensures.acts.given; asked = c.query-answer.ensures.acts.asked; tries = c.query-answer.ensures.acts.planned; counted = c.query-answer.ensures.acts.counted; unprovoked = c.query-answer.ensures.acts.unprovoked; requested = c.query-answer.ensures.acts.requested })
-    c.query-answer.ensures.acts.answered c.query-answer.ensures.acts.requests c.query-answer.ensures.acts.paced c.query-answer.ensures.acts.replied c.query-answer.ensures.acts.within c.query-answer.ensures.acts.dialled c.query-answer.ensures.acts.linked
+    c.query-answer.ensures.acts.answered c.query-answer.ensures.acts.requests c.query-answer.ensures.acts.paced c.query-answer.ensures.acts.replied c.query-answer.ensures.acts.within c.query-answer.ensures.acts.dialled c.query-answer.ensures.acts.linked c.query-answer.ensures.acts
 
 pub returns-clause-cause : goal.returns-clause-cause
 returns-clause-cause g c =
     loops_err c.args.server c.args.asked.now.seed c.args.asked.now.fail_every c.new-wire.result c.query-answer.new.wire c.new-wire.ensures c.args.query.now c.args.asked.now.start.now local_base c.requires.start c.args.asked.now.options ((g.K.Sink.state c.args.out.now).faults) ((g.K.Sink.state c.query-answer.new.out).faults) ((g.K.Sink.state c.args.out.now).taken) ((g.K.Sink.state c.query-answer.new.out).taken) c.query-answer.result c.query-answer.ensures.front c.query-answer.ensures.err c.query-answer.ensures.shown c.query-answer.ensures.prefix c.query-answer.ensures.acts.cause c.query-answer.ensures.sink.sink
     (record { closed = c.query-answer.ensures.acts.closed; peers = c.query-answer.ensures.acts.peers; others = c.query-answer.ensures.acts.others; sent = c.query-answer.ensures.acts.sent; dials = c.query-answer.ensures.acts.dials; given = c.query-answer.ensures.acts.given; asked = c.query-answer.ensures.acts.asked; tries = c.query-answer.ensures.acts.planned; counted = c.query-answer.ensures.acts.counted; unprovoked = c.query-answer.ensures.acts.unprovoked; requested = c.query-answer.ensures.acts.requested })
     c.query-answer.ensures.acts.honest_cause c.query-answer.ensures.acts.lively_cause c.query-answer.ensures.complete
-    c.query-answer.ensures.acts.failed_often c.query-answer.ensures.acts.spent_requests c.query-answer.ensures.acts.spent_tries c.query-answer.ensures.acts.spent_plan
+    c.query-answer.ensures.acts.failed_often c.query-answer.ensures.acts.spent_requests c.query-answer.ensures.acts.spent_tries c.query-answer.ensures.acts.spent_plan c.query-answer.ensures.acts
 
 pub returns-clause-answer : goal.returns-clause-answer
 returns-clause-answer g c =
@@ -50,6 +50,11 @@ returns-clause-ends g c = λ servable askable small.
     (honest_wire c.args.server c.args.asked.now.seed c.args.asked.now.fail_every c.requires.first valid config c.is_few.ensures)
     (plan_is_read c.plans_are_read.ensures.plan c.plans_are_read.ensures.base (serving c.args.server).data_set (serving c.args.server).config c.args.query.now c.requires.base valid config servable askable)
     c.fails_as_due.ensures small (returns-clause-answers g c) (returns-clause-cause g c)
+
+pub returns-clause-honest : goal.returns-clause-honest
+returns-clause-honest g c =
+    loops_honest c.args.server c.args.asked.now.seed c.args.asked.now.fail_every c.new-wire.result c.query-answer.new.wire c.new-wire.ensures c.query-answer.ensures.allowed
+    (honest_wire c.args.server c.args.asked.now.seed c.args.asked.now.fail_every c.requires.first (valid_served c.args.server c.server.result.now c.server.ensures c.is_valid.ensures.data_set) (config_served c.args.server c.server.result.now c.server.ensures c.is_valid.ensures.config) c.is_few.ensures)
 
 pub returns-clause-replied : goal.returns-clause-replied
 returns-clause-replied g c =

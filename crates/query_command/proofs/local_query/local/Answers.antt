@@ -9,25 +9,25 @@ use Rattle.file_server.specs.Servers.{Starts, serving}
 use Rattle.query_command.specs.declared.fault.AnswerFault.TheVariants as faults
 use Rattle.query_command.specs.Loops.{local_view}
 use Rattle.query_command.proofs.Complete.{asks_file, asks_none}
-use Rattle.query_command.proofs.Locals.{local_answers, local_fault, local_ends, local_sent, local_requested, local_replied, valid_read, query_from}
+use Rattle.query_command.proofs.Locals.{local_answers, local_fault, local_honest, local_planned, local_ends, local_sent, local_requested, local_replied, valid_read, query_from}
 use Rattle.query_command.proofs.Opening.{opens_two, asked_two, reads_none, reads_one, reads_both, reads_refused}
 use Rattle.query_command.proofs.local_query.local.Goals as goal
 
 pub returns-in_default : goal.returns-in_default
 returns-in_default g c =
-    asks_none _ _ _ _ _ (local_view c.args.asked.now) (faults.Data data_faults.OutOfMemory) c.requires.none (tt, refl, c.requires.none) (λ triples config q. tt) (reads_none _ _ _)
+    asks_none _ _ _ _ _ (local_view c.args.asked.now) (faults.Data data_faults.OutOfMemory) c.requires.none (tt, refl, c.requires.none) (λ triples config q. tt) (λ small. tt) tt (reads_none _ _ _)
     (record { keeps = sink_none _; spared = λ fine. tt })
 
 pub returns-in_default-local_config : goal.returns-in_default-local_config
 returns-in_default-local_config g c =
-    asks_none _ _ _ _ _ (local_view c.args.asked.now) (faults.Data data_faults.OutOfMemory) c.requires.none (tt, refl, c.requires.none) (λ triples config q. tt) (reads_none _ _ _)
+    asks_none _ _ _ _ _ (local_view c.args.asked.now) (faults.Data data_faults.OutOfMemory) c.requires.none (tt, refl, c.requires.none) (λ triples config q. tt) (λ small. tt) tt (reads_none _ _ _)
     (record { keeps = sink_none _; spared = λ fine. tt })
 
 pub returns-in-Err : goal.returns-in-Err
 returns-in-Err g c =
     asks_none _ _ _ _ _ (local_view c.args.asked.now) (faults.Data c.in-Err.fault) c.requires.none
     (subst (λ (config : Config). DataCause (g.F.Shelf.state c.args.shelf.now) (g.F.Shelf.state c.server_of_file.new.shelf) c.args.asked.now.name.now c.args.asked.now.choice.now (authority_of config.base) c.in-Err.fault) c.in-Ok-local_config.ensures c.in-Err.ensures.err, refl, c.requires.none)
-    (λ triples config q. tt)
+    (λ triples config q. tt) (λ small. tt) tt
     (reads_one _ _ _ _ c.in-Err.fault _ (λ e. cc) (λ e. cc) c.in-Err.ensures.reads)
     (record { keeps = sink_none _; spared = λ fine. tt })
 
@@ -43,7 +43,7 @@ returns-in-Err-read_query g c =
       refl,
       c.requires.none,
     )
-    (λ triples config q. tt)
+    (λ triples config q. tt) (λ small. tt) tt
     (reads_refused _ _ _ _ _ _ first (λ e. cc) c.in-Err-read_query.fault _ (λ e. cc) (λ e. cc) c.in-Err-read_query.ensures.reads)
     (record { keeps = sink_none _; spared = λ fine. tt })
 
@@ -67,6 +67,8 @@ returns-in-Ok-ask_server g c =
     (local_requested _ _ told view server starts _ out out' q read e.requested)
     (local_replied _ _ told view server starts _ out out' q read c.in-Ok-ask_server.report c.in-Ok-ask_server.ensures.replied)
     (local_ends _ _ told view server starts c.ask_server.new.inside out out' q read c.commands_keep_limits.ensures.files c.commands_keep_limits.ensures.queries (valid_read q _ c.patterns-patterns.ensures.value c.patterns-patterns.ensures.valid) (Ok c.in-Ok-ask_server.report) c.in-Ok-ask_server.ensures.ends)
+    (local_planned _ _ told view server starts c.ask_server.new.inside out out' q read c.commands_keep_limits.ensures.files c.commands_keep_limits.ensures.queries (valid_read q _ c.patterns-patterns.ensures.value c.patterns-patterns.ensures.valid) (Ok c.in-Ok-ask_server.report) e.honest c.in-Ok-ask_server.ensures.ends)
+    (local_honest _ view server starts _ e.honest)
     (reads_both _ _ _ _ _ _ first (λ e. cc) (Ok c.in-Ok-ask_server.report) (asked_two _ _ _ _ _ _ first (λ e. cc) second.asks) (opens_two _ _ _ first.asks.opened second.asks.opened) (λ e. absurd e) _ (λ e. cc) second)
     (record { keeps = e.output; spared = λ fine. tt })
 
@@ -90,6 +92,8 @@ returns g c =
     (local_requested _ _ told view server starts _ out out' q read c.ask_server.ensures.requested)
     tt
     (local_ends _ _ told view server starts c.ask_server.new.inside out out' q read c.commands_keep_limits.ensures.files c.commands_keep_limits.ensures.queries (valid_read q _ c.patterns-patterns.ensures.value c.patterns-patterns.ensures.valid) (Err fault) e.ends)
+    (local_planned _ _ told view server starts c.ask_server.new.inside out out' q read c.commands_keep_limits.ensures.files c.commands_keep_limits.ensures.queries (valid_read q _ c.patterns-patterns.ensures.value c.patterns-patterns.ensures.valid) (Err fault) c.ask_server.ensures.honest e.ends)
+    (local_honest _ view server starts _ c.ask_server.ensures.honest)
     (reads_both _ _ _ _ _ _ first (λ e. cc) (Err (faults.Client fault)) (asked_two _ _ _ _ _ _ first (λ e. cc) second.asks) (opens_two _ _ _ first.asks.opened second.asks.opened) (λ e. absurd e) _ (λ e. cc) second)
     (record { keeps = c.ask_server.ensures.output; spared = λ fine is. c.ask_server.ensures.spared fine (cc) })
 

@@ -33,6 +33,7 @@ returns-in-Ok-query_server-clause-asks g c =
         within = e.acts.within;
         dialled = e.acts.dialled;
         linked = e.acts.linked;
+        acts = e.acts;
       };
     })
     tt
@@ -62,6 +63,7 @@ returns-clause-asks g c =
         spent_requests = e.acts.spent_requests;
         spent_tries = e.acts.spent_tries;
         spent_plan = e.acts.spent_plan;
+        acts = e.acts;
       };
     })
     (valid_read c.in-Ok.query _ c.patterns-patterns.ensures.value c.patterns-patterns.ensures.valid)

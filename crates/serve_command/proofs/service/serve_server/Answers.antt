@@ -14,7 +14,7 @@ returns-in-Err-clause-serves g c =
       ends = record { closed = none_given _ _ begun.only.none_given.given; older = λ k below. older_none (g.W.Wire.state c.args.wire.now) (g.W.Wire.state c.begin.new.wire) k (begun.only.none_given.links k); stops = tt; soon = tt; never = tt; links = tt; calm = tt };
       turns = inr (inl begun.only);
       listens = begun.only.count;
-      says = record { ready = tt; front = begun.says.front; opened = tt; door = begun.says.door; after = begun.says.after };
+      says = record { ready = tt; front = begun.says.front; opened = tt; door = begun.says.door; place = begun.says.place; after = begun.says.after };
       err = c.in-Err.ensures.err;
     }
 

@@ -1,0 +1,132 @@
+// What was sent on the links of wires.
+use case_rows::CaseFault;
+use fragment_server::FragmentConnection;
+use loop_wire::LoopWire;
+use script_wire::ScriptWire;
+use std::alloc::Global;
+use std::str;
+use tpf_cli::Inside;
+
+/// What stands behind the bytes of each link.
+const END: &str = "\0\r\n";
+
+/// Appends what was sent on a link.
+fn push_sent(out: &mut String, bytes: &[u8]) -> Result<(), CaseFault> {
+    match str::from_utf8(bytes) {
+        Ok(text) => {
+            out.push_str(text)?;
+            Ok(out.push_str(END)?)
+        }
+        Err(_) => Err(CaseFault::Row),
+    }
+}
+
+/// What was sent on a wire in one process.
+pub fn loop_sent(alloc: Global, wire: &LoopWire<FragmentConnection>) -> Result<String, CaseFault> {
+    let mut sent = String::new(alloc);
+    for i in 0..wire.links() {
+        push_sent(&mut sent, wire.sent_on(i))?;
+    }
+    Ok(sent)
+}
+
+/// What was sent on a wire of scripts.
+pub fn script_sent(alloc: Global, wire: &ScriptWire) -> Result<String, CaseFault> {
+    let mut sent = String::new(alloc);
+    for i in 0..wire.links() {
+        push_sent(&mut sent, wire.sent_on(i))?;
+    }
+    Ok(sent)
+}
+
+/// What was sent on the wire that was left inside, if one was.
+pub fn sent_inside(alloc: Global, left: &Inside) -> Result<Option<String>, CaseFault> {
+    match left {
+        Inside::Loop(wire) => Ok(Some(loop_sent(alloc, wire)?)),
+        Inside::Unused => Ok(None),
+    }
+}
+
+/// The target of a request that begins with this line.
+fn target_of(line: &str) -> Option<&str> {
+    match line.strip_prefix("GET ") {
+        Some(rest) => rest.strip_suffix(" HTTP/1.1"),
+        None => None,
+    }
+}
+
+/// The targets of the requests that were sent, in the order of their links.
+fn targets_of<'a>(alloc: Global, sent: &'a str) -> Result<Vec<&'a str>, CaseFault> {
+    let mut targets = Vec::new(alloc);
+    for line in sent.split("\r\n") {
+        if let Some(target) = target_of(line) {
+            targets.push(target)?;
+        }
+    }
+    Ok(targets)
+}
+
+/// The targets of the requests that were sent, with a blank between each two: the first one, and the others in the
+/// order of their bytes.
+pub fn targets_in(alloc: Global, sent: &str) -> Result<String, CaseFault> {
+    let mut targets = targets_of(alloc, sent)?;
+    if targets.len() > 1 {
+        targets[1..].sort_unstable();
+    }
+    let mut out = String::new(alloc);
+    for (i, target) in targets.iter().enumerate() {
+        out.push_str(if i == 0 { "" } else { " " })?;
+        out.push_str(target)?;
+    }
+    Ok(out)
+}
+
+/// What stands in a text between two others.
+fn between<'a>(text: &'a str, front: &str, end: &str) -> Option<&'a str> {
+    let Some((_, rest)) = text.split_once(front) else {
+        return None;
+    };
+    match rest.split_once(end) {
+        Some((part, _)) => Some(part),
+        None => None,
+    }
+}
+
+/// Appends an answer: its status, and of a page its count and its version, else the text of its body.
+fn push_answer(alloc: Global, answer: &str, out: &mut String) -> Result<(), CaseFault> {
+    let Some((head, body)) = answer.split_once("\r\n\r\n") else {
+        return Err(CaseFault::Row);
+    };
+    let status = head.split_once(' ').unwrap_or((head, "")).0;
+    let count = between(body, "totalItems> \"", "\"");
+    let version = between(body, "versionInfo> \"", "\"");
+    let shown = match (count, version) {
+        (Some(count), Some(version)) => format!(in alloc;
+            "{status} count {count} version {version}"
+        )?,
+        _ => format!(in alloc; "{status} {}", body.trim_end())?,
+    };
+    Ok(out.push_str(shown.as_str())?)
+}
+
+/// Appends the answers on a link, with a comma between each two.
+fn push_answers(alloc: Global, text: &str, out: &mut String) -> Result<(), CaseFault> {
+    for (i, answer) in text.split("HTTP/1.1 ").skip(1).enumerate() {
+        out.push_str(if i == 0 { "" } else { ", " })?;
+        push_answer(alloc, answer, out)?;
+    }
+    Ok(())
+}
+
+/// The answers on each link, which stand in brackets.
+pub fn answers_in(alloc: Global, sent: &str) -> Result<String, CaseFault> {
+    let mut out = String::new(alloc);
+    for text in sent.split(END) {
+        if !text.is_empty() {
+            out.push('[')?;
+            push_answers(alloc, text, &mut out)?;
+            out.push(']')?;
+        }
+    }
+    Ok(out)
+}

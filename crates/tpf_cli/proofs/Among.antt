@@ -1,0 +1,240 @@
+-- The statuses with which a command may end.
+use Rattle.std.proofs.Common.{ℕ, ◌≡◌, ◌==◌, ◌<◌, ◌^◌, ◌⊎◌, Bool, true, false, List, [], ◌∷◌, Option, Some, None, Result, Ok, Err, IfErr, refl, sym, subst, inl, inr, arith}
+use Rattle.std.proofs.lemmas.Bool.Decides.{nat_tests}
+use Rattle.rdf_terms.specs.declared.term.Triple.{Triple}
+use Rattle.template_fill.specs.Metadata.{Config}
+use Rattle.tpf_base.specs.Addresses.{Address}
+use Rattle.tpf_base.specs.Wrote.{SinkState}
+use Rattle.loop_wire.specs.Looped.{Looped}
+use Rattle.fragment_server.specs.declared.server.FragmentServer.{FragmentServer}
+use Rattle.tpf_base.specs.declared.fault.Fault.{Fault}
+use Rattle.tpf_base.specs.declared.fault.Fault.TheVariants as sinks
+use Rattle.bgp_core.specs.Queries.{QueryData}
+use Rattle.tpf_client.specs.declared.options.Options.{Options}
+use Rattle.tpf_client.specs.declared.options.Report.{Report}
+use Rattle.tpf_client.specs.declared.fault.ClientFault.{ClientFault}
+use Rattle.tpf_client.specs.declared.fault.ClientFault.TheVariants as clients
+use Rattle.data_files.specs.declared.fault.DataFault.{DataFault}
+use Rattle.data_files.specs.declared.fault.DataFault.TheVariants as data_faults
+use Rattle.data_files.specs.declared.fault.QueryFileFault.{QueryFileFault}
+use Rattle.data_files.specs.declared.fault.QueryFileFault.TheVariants as query_faults
+use Rattle.query_command.specs.declared.fault.AnswerFault.{AnswerFault}
+use Rattle.query_command.specs.declared.fault.AnswerFault.TheVariants as answers
+use Rattle.query_command.specs.declared.generated_query.Counts.{Counts}
+use Rattle.query_command.specs.Answers.{AsksServer}
+use Rattle.query_command.specs.Commands.{AsksFile}
+use Rattle.query_command.specs.Generated.{usual_options, GeneratedCause}
+use Rattle.query_command.specs.Loops.{LocalView}
+use Rattle.query_command.specs.Plans.{MayEnd, EndsGenerated}
+use Rattle.serve_command.specs.declared.fault.ServiceFault.{ServiceFault}
+use Rattle.serve_command.specs.declared.fault.ServiceFault.TheVariants as services
+use Rattle.command_words.specs.Commands.{Command, local, query, serve, make}
+use Rattle.tpf_cli.specs.Endings as ends
+use Rattle.tpf_cli.specs.Endings.{EndOfRun, usage, no_words, answered, made, counted, data_status, query_status, client_status, fault_status, answer_status, service_status, made_status, counted_status, status_of, Says}
+use Rattle.tpf_cli.specs.Ranges.{IsInRange}
+use Rattle.tpf_cli.specs.Runs.{Around, WritesNumbers, CountsFile, Does, DoesOf, unwritten, wire_inside, options_of, view_of}
+use Rattle.tpf_cli.specs.Promises.{IsAmong, local_statuses, statuses_of}
+
+-- ---- faults, by the statuses that they have
+
+module _ (statuses : List ℕ) (memory : IsAmong statuses 8) where
+  of_data : IsAmong statuses 3 → IsAmong statuses 10 → (fault : DataFault) → IsAmong statuses (data_status fault)
+  of_data refused file data_faults.TooLong = refused
+  of_data refused file (data_faults.Bad line why) = refused
+  of_data refused file (data_faults.GenidClash label) = refused
+  of_data refused file data_faults.TooMany = refused
+  of_data refused file data_faults.File = file
+  of_data refused file data_faults.OutOfMemory = memory
+
+  of_query : IsAmong statuses 4 → IsAmong statuses 10 → (fault : QueryFileFault) → IsAmong statuses (query_status fault)
+  of_query refused file (query_faults.Bad at why) = refused
+  of_query refused file query_faults.File = file
+  of_query refused file query_faults.OutOfMemory = memory
+
+  of_client : IsAmong statuses 5 → IsAmong statuses 6 → IsAmong statuses 7 → IsAmong statuses 9 → IsAmong statuses 11 → (fault : ClientFault) → IsAmong statuses (client_status fault)
+  of_client exchange reply budget sink changed clients.Exchange = exchange
+  of_client exchange reply budget sink changed clients.Stalled = exchange
+  of_client exchange reply budget sink changed (clients.Cut received) = exchange
+  of_client exchange reply budget sink changed (clients.Reply fault received) = reply
+  of_client exchange reply budget sink changed (clients.Page fault body) = reply
+  of_client exchange reply budget sink changed (clients.Changed first other) = changed
+  of_client exchange reply budget sink changed (clients.Budget n) = budget
+  of_client exchange reply budget sink changed clients.Sink = sink
+  of_client exchange reply budget sink changed clients.OutOfMemory = memory
+
+  -- in one process
+  of_inside : (n : ℕ) → (0 < n → IsAmong statuses 5) → IsAmong statuses 6 → IsAmong statuses 7 → IsAmong statuses 9
+      → (options : Options) (triples : List Triple) (config : Config) (q : QueryData) (fault : ClientFault) → MayEnd n options triples config q fault → IsAmong statuses (client_status fault)
+  of_inside n exchange reply budget sink options triples config q clients.Exchange may = exchange may.some
+  of_inside n exchange reply budget sink options triples config q clients.Stalled may = absurd may
+  of_inside n exchange reply budget sink options triples config q (clients.Cut received) may = exchange may.some
+  of_inside n exchange reply budget sink options triples config q (clients.Reply fault received) may = reply
+  of_inside n exchange reply budget sink options triples config q (clients.Page fault body) may = absurd may
+  of_inside n exchange reply budget sink options triples config q (clients.Changed first other) may = absurd may
+  of_inside n exchange reply budget sink options triples config q (clients.Budget most) may = budget
+  of_inside n exchange reply budget sink options triples config q clients.Sink may = sink
+  of_inside n exchange reply budget sink options triples config q clients.OutOfMemory may = memory
+
+-- ---- a query of a file in one process
+
+-- the statuses that come whether a dial is to fail or not
+all_0 : (b : Bool) → IsAmong (local_statuses b) 0
+all_0 true = refl
+all_0 false = refl
+
+all_3 : (b : Bool) → IsAmong (local_statuses b) 3
+all_3 true = refl
+all_3 false = refl
+
+all_4 : (b : Bool) → IsAmong (local_statuses b) 4
+all_4 true = refl
+all_4 false = refl
+
+all_6 : (b : Bool) → IsAmong (local_statuses b) 6
+all_6 true = refl
+all_6 false = refl
+
+all_7 : (b : Bool) → IsAmong (local_statuses b) 7
+all_7 true = refl
+all_7 false = refl
+
+all_8 : (b : Bool) → IsAmong (local_statuses b) 8
+all_8 true = refl
+all_8 false = refl
+
+all_9 : (b : Bool) → IsAmong (local_statuses b) 9
+all_9 true = refl
+all_9 false = refl
+
+all_10 : (b : Bool) → IsAmong (local_statuses b) 10
+all_10 true = refl
+all_10 false = refl
+
+is_some : (n : ℕ) → 0 < n → false ≡ (n == 0)
+is_some n some = grind (arith, nat_tests)
+
+some_5 : (n : ℕ) → 0 < n → IsAmong (local_statuses (n == 0)) 5
+some_5 n some = subst (λ (b : Bool). IsAmong (local_statuses b) 5) (is_some n some) refl
+
+module _ (a : Around) where
+  among_file : (view : LocalView) (answer : Result Report AnswerFault) → view.options.budget < 2 ^ 63 → AsksFile a.shelf a.shelf' a.out a.out' (wire_inside a.inside') view answer
+      → IsAmong (local_statuses (view.fail_every == 0)) (answer_status answer)
+  among_file view (Ok report) small h = all_0 (view.fail_every == 0)
+  among_file view (Err (answers.Data fault)) small h = let b = view.fail_every == 0 in of_data (local_statuses b) (all_8 b) (all_3 b) (all_10 b) fault
+  among_file view (Err (answers.Query fault)) small h = let b = view.fail_every == 0 in of_query (local_statuses b) (all_8 b) (all_4 b) (all_10 b) fault
+  among_file view (Err (answers.Client fault)) small h =
+      let b = view.fail_every == 0 in
+      let l = h.planned small in
+      of_inside (local_statuses b) (all_8 b) view.fail_every (some_5 view.fail_every) (all_6 b) (all_7 b) (all_9 b) view.options _ _ l.loops.says.q fault l.loops.says.ends
+
+  -- ---- a query over a wire
+
+  among_server : (name : List ℕ) (url : Address) (options : Options) (result : Result Report AnswerFault) → AsksServer a.shelf a.shelf' a.allows a.wire a.wire' a.out a.out' name url options result
+      → IsAmong (0 ∷ 4 ∷ 5 ∷ 6 ∷ 7 ∷ 8 ∷ 9 ∷ 10 ∷ 11 ∷ []) (answer_status result)
+  among_server name url options (Ok report) h = refl
+  among_server name url options (Err (answers.Data fault)) h = absurd h.cause
+  among_server name url options (Err (answers.Query fault)) h = of_query (0 ∷ 4 ∷ 5 ∷ 6 ∷ 7 ∷ 8 ∷ 9 ∷ 10 ∷ 11 ∷ []) refl refl refl fault
+  among_server name url options (Err (answers.Client fault)) h = of_client (0 ∷ 4 ∷ 5 ∷ 6 ∷ 7 ∷ 8 ∷ 9 ∷ 10 ∷ 11 ∷ []) refl refl refl refl refl refl fault
+
+  -- ---- a service
+
+  among_service : (result : Result ℕ ServiceFault) → IsAmong (0 ∷ 3 ∷ 8 ∷ 9 ∷ 10 ∷ 12 ∷ []) (service_status result)
+  among_service (Ok connections) = refl
+  among_service (Err (services.Data fault)) = of_data (0 ∷ 3 ∷ 8 ∷ 9 ∷ 10 ∷ 12 ∷ []) refl refl refl fault
+  among_service (Err services.Wire) = refl
+  among_service (Err services.Sink) = refl
+  among_service (Err services.OutOfMemory) = refl
+
+  -- ---- generated data
+
+  among_made : (result : Result (Unit {0}) Fault) → IsAmong (0 ∷ 8 ∷ 9 ∷ []) (made_status result)
+  among_made (Ok nothing) = refl
+  among_made (Err sinks.Failed) = refl
+  among_made (Err sinks.OutOfMemory) = refl
+
+  abbrev counted_statuses : List ℕ
+  counted_statuses = 0 ∷ 4 ∷ 6 ∷ 7 ∷ 8 ∷ 9 ∷ 10 ∷ []
+
+  among_cut : (cause : Fault) → IsAmong counted_statuses (fault_status (unwritten cause))
+  among_cut sinks.Failed = refl
+  among_cut sinks.OutOfMemory = refl
+
+  no_dial : 0 < 0 → IsAmong counted_statuses 5
+  no_dial h = absurd (omega (arith, h))
+
+  module _ (persons : ℕ) (name : List ℕ) where
+    abbrev inside : Option (Looped FragmentServer)
+    inside = wire_inside a.inside'
+
+    among_fault : (fault : AnswerFault) → GeneratedCause a.shelf a.shelf' persons name inside fault → EndsGenerated a.shelf.told persons name inside (Err fault) → IsAmong counted_statuses (fault_status fault)
+    among_fault (answers.Data fault) cause planned = subst (λ (f : DataFault). IsAmong counted_statuses (data_status f)) (sym cause.0) refl
+    among_fault (answers.Query fault) cause planned = of_query counted_statuses refl refl refl fault
+    among_fault (answers.Client fault) cause planned = of_inside counted_statuses refl 0 no_dial refl refl refl usual_options _ _ planned.loops.says.q fault planned.loops.says.ends
+
+    among_numbers : (came : Result Counts AnswerFault) (result : Result (Unit {0}) AnswerFault) → WritesNumbers a.out a.out' came result
+        → IfErr came (GeneratedCause a.shelf a.shelf' persons name inside) → EndsGenerated a.shelf.told persons name inside came → IsAmong counted_statuses (counted_status result)
+    among_numbers came (Ok nothing) line cause planned = refl
+    among_numbers (Ok counts) (Err fault) line cause planned = subst (λ (f : AnswerFault). IsAmong counted_statuses (fault_status f)) (sym line.is) (among_cut line.cause)
+    among_numbers (Err came) (Err fault) line cause planned = subst (λ (f : AnswerFault). IsAmong counted_statuses (fault_status f)) line.0 (among_fault came cause planned)
+
+    among_counted : (result : Result (Unit {0}) AnswerFault) → CountsFile a.shelf a.shelf' a.out a.out' inside persons name result → IsAmong counted_statuses (counted_status result)
+    among_counted result h = among_numbers h.came result h.line h.asks.cause h.asks.planned
+
+  -- ---- commands
+
+  among_command : (command : Command) → IsInRange command → (end : EndOfRun) → Does a command end → IsAmong (statuses_of (Some command)) (status_of end)
+  among_command (local name query_name choice page client seed fail_every) r (answered data_name asked answer) h =
+      let few = r.2.budget in among_file (view_of name query_name choice page client seed fail_every) answer (omega (arith, few)) h.3
+  among_command (local name query_name choice page client seed fail_every) r usage h = absurd h
+  among_command (local name query_name choice page client seed fail_every) r no_words h = absurd h
+  among_command (local name query_name choice page client seed fail_every) r (ends.served file service) h = absurd h
+  among_command (local name query_name choice page client seed fail_every) r (made written) h = absurd h
+  among_command (local name query_name choice page client seed fail_every) r (counted asked result) h = absurd h
+  among_command (query url query_name client) r (answered data_name asked answer) h = among_server query_name url (options_of client) answer h.2
+  among_command (query url query_name client) r usage h = absurd h
+  among_command (query url query_name client) r no_words h = absurd h
+  among_command (query url query_name client) r (ends.served file service) h = absurd h
+  among_command (query url query_name client) r (made written) h = absurd h
+  among_command (query url query_name client) r (counted asked result) h = absurd h
+  among_command (serve name base choice page stop_after reload) r (ends.served file service) h = among_service service
+  among_command (serve name base choice page stop_after reload) r usage h = absurd h
+  among_command (serve name base choice page stop_after reload) r no_words h = absurd h
+  among_command (serve name base choice page stop_after reload) r (answered data_name asked answer) h = absurd h
+  among_command (serve name base choice page stop_after reload) r (made written) h = absurd h
+  among_command (serve name base choice page stop_after reload) r (counted asked result) h = absurd h
+  among_command (make count None) r (made written) h = among_made written
+  among_command (make count None) r usage h = absurd h.1
+  among_command (make count None) r no_words h = absurd h.1
+  among_command (make count None) r (answered data_name asked answer) h = absurd h.1
+  among_command (make count None) r (ends.served file service) h = absurd h.1
+  among_command (make count None) r (counted asked result) h = absurd h.1
+  among_command (make count (Some name)) r (counted asked result) h = among_counted count name result h.1.1
+  among_command (make count (Some name)) r usage h = absurd h.1
+  among_command (make count (Some name)) r no_words h = absurd h.1
+  among_command (make count (Some name)) r (answered data_name asked answer) h = absurd h.1
+  among_command (make count (Some name)) r (ends.served file service) h = absurd h.1
+  among_command (make count (Some name)) r (made written) h = absurd h.1
+
+  -- ---- runs
+
+  among_memory : (command : Option Command) → IsAmong (statuses_of command) 8
+  among_memory None = refl
+  among_memory (Some (local name query_name choice page client seed fail_every)) = all_8 (fail_every == 0)
+  among_memory (Some (query url query_name client)) = refl
+  among_memory (Some (serve name base choice page stop_after reload)) = refl
+  among_memory (Some (make count None)) = refl
+  among_memory (Some (make count (Some name))) = refl
+
+  among_none : (end : EndOfRun) → (end ≡ usage) ⊎ (end ≡ no_words) → IsAmong (2 ∷ 8 ∷ []) (status_of end)
+  among_none end (inl is) = subst (λ (e : EndOfRun). IsAmong (2 ∷ 8 ∷ []) (status_of e)) (sym is) refl
+  among_none end (inr is) = subst (λ (e : EndOfRun). IsAmong (2 ∷ 8 ∷ []) (status_of e)) (sym is) refl
+
+  among_of : (command : Option Command) → ((c : Command) → command ≡ Some c → IsInRange c) → (end : EndOfRun) → DoesOf a command end → IsAmong (statuses_of command) (status_of end)
+  among_of None ranged end h = among_none end h.0
+  among_of (Some command) ranged end (inl h) = among_command command (ranged command refl) end h
+  among_of (Some command) ranged end (inr h) = subst (λ (e : EndOfRun). IsAmong (statuses_of (Some command)) (status_of e)) (sym h.0) (among_memory (Some command))
+
+  -- the status is that of the ending, or 8
+  pub run_among : (command : Option Command) → ((c : Command) → command ≡ Some c → IsInRange c) → (end : EndOfRun) (result : ℕ) (err err' : SinkState) → DoesOf a command end → Says result end err err' → IsAmong (statuses_of command) result
+  run_among command ranged end result err err' h (inl s) = subst (IsAmong (statuses_of command)) (sym s.0) (among_of command ranged end h)
+  run_among command ranged end result err err' h (inr s) = subst (IsAmong (statuses_of command)) (sym s.0) (among_memory command)
