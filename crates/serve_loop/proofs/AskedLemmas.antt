@@ -1,21 +1,24 @@
 -- The turns of a service, and how often it asked its supply in them.
-use Rattle.std.proofs.Common.{ℕ, ◌≡◌, ◌+◌, ◌<◌, ◌≤◌, List, [], ◌∷◌, ◌++◌, length, take, Option, Some, refl, sym, ◌∙◌, ap, subst, arith, append-nil, length-append}
+use Rattle.std.proofs.Common.{ℕ, ◌≡◌, ◌+◌, List, [], ◌∷◌, ◌++◌, length, take, Option, Some, refl, ◌∙◌, ap, subst, arith, append-nil, length-append}
 use Rattle.tpf_base.specs.Causes.{counted_by}
 use Rattle.tpf_base.specs.Calls.{GivesNone}
-use Rattle.tpf_base.specs.Links.{Link, WireState}
+use Rattle.tpf_base.specs.Links.{WireState}
 use Rattle.connections.specs.Kinds.{Kind}
-use Rattle.connections.specs.Versions.{Serving, SupplyState, MOST_VERSIONS}
+use Rattle.connections.specs.Versions.{Serving, SupplyState}
 use Rattle.connections.specs.declared.reloaded.Reloaded.{Reloaded}
 use Rattle.serve_loop.specs.declared.live.Live.{Live}
+use Rattle.serve_loop.specs.declared.live.ServeFault.{ServeFault}
 use Rattle.serve_loop.specs.declared.live.Turned.{Turned}
-use Rattle.serve_loop.specs.Traffic.{Talk, Traffic, Moment, moment}
+use Rattle.serve_loop.specs.Traffic.{Lives, Talk, Traffic, Moment, moment}
 use Rattle.serve_loop.specs.Relates.{IsTalk, Relates}
-use Rattle.serve_loop.specs.Calls.{LeavesAll, RestsWire}
+use Rattle.serve_loop.specs.Calls.{LeavesAll}
 use Rattle.serve_loop.specs.Asks.{AnswersAll, AreAnswered, waiting}
-use Rattle.serve_loop.specs.Service.{TakesTurn, ended_in}
-use Rattle.serve_loop.specs.AskedTurns.{AnswersLink, AreLive, AsksTurn, AskedTurns, AsksOnce}
+use Rattle.serve_loop.specs.Service.{PassesBetween, TakesTurn, ended_in}
+use Rattle.serve_loop.specs.Greets.{FailsAfter, Greeting, Resting}
+use Rattle.serve_loop.specs.AskedTurns.{AnswersLink, AreLive, AskedTurns, AsksOnce}
 use Rattle.serve_loop.proofs.AskLemmas.{answered_may, answered_then, calls_answered}
 use Rattle.serve_loop.proofs.CloseLemmas.{told_same, told_then}
+use Rattle.serve_loop.proofs.GreetLemmas.{gives_between, greeted_count, greeted_gives, rests_between}
 use Rattle.serve_loop.proofs.SentenceLemmas.{has_one, some_same}
 
 -- The turns so far, in which the supply was asked for these outcomes, the last one first.
@@ -79,18 +82,17 @@ module _ {C Data Settings : Type 0} where
     asked = h.asked;
   }
 
-  -- one turn more, and a wait or nothing behind it
+  -- one turn more, and what came behind it
   pub asked_more : (kind : Kind C Data Settings) (may may' : Data → Type 0) (first : List Data) (old : Moment Data Settings) (t : Traffic C Data) (at : ℕ → Option (Live C)) (live rest : ℕ) (turned : Turned)
       (served served' : Serving Data Settings) (supply supply' : SupplyState Data) (a b c : WireState) (s : AskedSoFar kind may live old (moment served supply a))
       → Relates kind may first old t at live (moment served supply a) → ((d : Data) → may' d → may d)
       → TakesTurn kind old.served.config old.wire.given (ended_in s.turns) turned a b
       → AnswersAll kind may' at (moment served supply old.wire) (moment served' supply' old.wire)
-      → RestsWire b c → rest + turned.ended + a.given ≡ live + b.given
+      → PassesBetween b c → rest + turned.ended + a.given ≡ live + c.given
       → AskedSoFar kind may rest old (moment served' supply' c)
-  asked_more kind may may' first old t at live rest turned served served' supply supply' a b c s r f turn asks rests count =
+  asked_more kind may may' first old t at live rest turned served served' supply supply' a b c s r f turn asks between count =
       let h = answers_may kind may' may at (moment served supply old.wire) (moment served' supply' old.wire) f asks in
       let sl = s.links in
-      let rg = rests.given in
       let hc = h.count in
       let sc = s.count in
       record {
@@ -104,10 +106,10 @@ module _ {C Data Settings : Type 0} where
           s.took,
           turn,
           record { at = at; lives = are_live kind may first old (moment served supply a) t at live r; answers = h; waited_is = refl },
-          rests,
+          between,
           refl,
         );
-        links = omega (arith, sl, rg, count);
+        links = omega (arith, sl, count);
         outcomes = h.outcomes ++ s.outcomes;
         count = omega (arith, length-append h.outcomes s.outcomes, hc, sc);
         answered = answered_then may s.outcomes h.outcomes old (moment served supply old.wire) (moment served' supply' old.wire) s.answered h.answered;
@@ -131,6 +133,19 @@ module _ {C Data Settings : Type 0} where
         ∙ (calls_answered may s.outcomes old (moment now.served now.supply old.wire) s.answered (omega (arith, few, c)) fits).0
         ∙ ap (λ (n : ℕ). counted_by n old.supply.calls) s.count;
   }
+
+  -- what followed the last turn failed
+  pub failed_asks : (kind : Kind C Data Settings) (may : Data → Type 0) (fault : ServeFault) (turned : Turned) (at new : Lives C) (old : Moment Data Settings) (served : Serving Data Settings) (supply : SupplyState Data) (b c : WireState)
+      → FailsAfter kind fault turned at new b c
+      → ((m : WireState) (left : ℕ) → PassesBetween b m → left + b.given ≡ at.count + m.given → AskedSoFar kind may left old (moment served supply m))
+      → AsksOnce kind may old (moment served supply c)
+  failed_asks kind may fault turned at new old served supply b c (Greeting busy g) f =
+      asks_once kind may g.mid.count old (moment served supply g.between) served supply c
+      (f g.between g.mid.count (gives_between b g.between (greeted_gives kind g.number at g.mid b g.between g.greeted)) (greeted_count kind g.number at g.mid b g.between g.greeted))
+      refl refl g.fails.none
+  failed_asks kind may fault turned at new old served supply b c (Resting still none same w fails) f =
+      let wg = w.given in
+      asks_once kind may at.count old (moment served supply c) served supply c (f c at.count (rests_between b c w) (omega (arith, wg))) refl refl (none_given c)
 
   -- at the exit links are closed
   pub asks_left : (kind : Kind C Data Settings) (may : Data → Type 0) (at : ℕ → Option (Live C)) (old : Moment Data Settings) (served : Serving Data Settings) (supply : SupplyState Data) (a b : WireState)

@@ -150,6 +150,11 @@ sends_wants k piece a b w s c = let m = (s.memory refl).links k in record {
   moves = inl (record { sent = c.sent ∙ ap (λ (l : Link). l.sent) m; received = c.received ∙ ap (λ (l : Link). l.received) m });
 }
 
+-- or after its last bytes
+pub sends_ends : (k : ℕ) (pending : List ℕ) (a b w : WireState) (n : ℕ) → Sends k (front_of pending) a b (answers.Moved n) → Closes k b w → ClosesOn Sending k a w
+sends_ends k pending a b w n s c = let m = s.moved n refl in
+    record { closed = c.is_open; moves = inr (take n (front_of pending), GoesOut refl (few_sent n MOST_SENT pending) (c.sent ∙ m.2) (c.received ∙ s.received)) }
+
 pub sends_fails : (k : ℕ) (pending : List ℕ) (a b w : WireState) → Sends k (front_of pending) a b answers.Failed → Closes k b w → ClosesOn Sending k a w
 sends_fails k pending a b w s c = let f = s.failed refl in
     record { closed = c.is_open; moves = inr (take f.0 (front_of pending), GoesOut refl (few_sent f.0 MOST_SENT pending) (c.sent ∙ f.2) (c.received ∙ s.received)) }

@@ -17,9 +17,10 @@ use Rattle.serve_loop.specs.Calls.{RestsWire, LeavesAll, served_with}
 use Rattle.serve_loop.specs.Steps.{TurnsTo, ServesTo, Carries}
 use Rattle.serve_loop.specs.Traffic.{moment}
 use Rattle.serve_loop.proofs.SentenceLemmas.{sentence, speaks_whole}
-use Rattle.serve_loop.proofs.EndsLemmas.{ends_same, ends_then, ended_more}
+use Rattle.serve_loop.proofs.EndsLemmas.{ends_same, ends_then, ends_as, ended_more}
 use Rattle.serve_loop.proofs.TurnLemmas.{relates_may}
-use Rattle.serve_loop.proofs.WelcomeLemmas.{relates_rests, rests_open}
+use Rattle.serve_loop.proofs.BelowLemmas.{nothing}
+use Rattle.serve_loop.proofs.WelcomeLemmas.{rests_open}
 use Rattle.serve_loop.proofs.CloseLemmas.{relates_left, all_closed}
 use Rattle.serve_loop.proofs.StepLemmas.{begins}
 
@@ -95,29 +96,20 @@ module _ {C Data Settings : Type 0} where
         starved = counts_more x.starved y.starved 0 p.wanted turned.starved p.starved (ap (λ (z : Served). z.starved) is);
       }
 
-  -- a wait
-  pub serves_rest : (kind : Kind C Data Settings) (may : Data → Type 0) (first : List Data) (since : Moment Data Settings) (t : Traffic C Data) (x : Served) (at : ℕ → Option (Live C)) (len : ℕ) (old : Moment Data Settings) (served : Serving Data Settings) (supply : SupplyState Data) (a b : WireState)
-      → RestsWire a b → ServesTo kind may first since t x at len old (moment served supply a) → ServesTo kind may first since t x at len old (moment served supply b)
-  serves_rest kind may first since t x at len old served supply a b w p =
-      let e = p.ends in
-      let er = e.rose in
-      let wf = w.alone.faults in
+  -- what followed it ended no connection
+  pub serves_follow : (kind : Kind C Data Settings) (may : Data → Type 0) (first : List Data) (since : Moment Data Settings) (t : Traffic C Data) (x : Served) (at at' : ℕ → Option (Live C)) (len rest : ℕ) (old mid now : Moment Data Settings)
+      → ServesTo kind may first since t x at len old mid
+      → ((u : Traffic C Data) → Relates kind may first since u at len mid → TurnsTo kind may first since u nothing at' rest mid now)
+      → ServesTo kind may first since t x at' rest old now
+  serves_follow kind may first since t x at at' len rest old mid now p f =
+      let q = f p.traffic p.relates in
       record {
-        traffic = p.traffic;
-        relates = relates_rests kind may first since p.traffic at len served supply a b w p.relates;
+        traffic = q.traffic;
+        relates = q.relates;
         count = p.count;
         wanted = p.wanted;
-        ends = record {
-          ordered = e.ordered;
-          broken = e.broken;
-          starved = e.starved;
-          ordered_is = e.ordered_is;
-          broken_is = e.broken_is;
-          starved_is = e.starved_is;
-          count_is = e.count_is;
-          wanted_is = e.wanted_is;
-          rose = omega (arith, er, wf);
-        };
+        ends = ends_as t q.traffic (p.count + 0) p.count (p.wanted + 0) p.wanted old.wire.faults now.wire.faults (omega arith) (omega arith)
+            (ends_then t p.traffic q.traffic p.count 0 p.wanted 0 old.wire.faults mid.wire.faults now.wire.faults p.ends q.ends);
         connections = p.connections;
         starved = p.starved;
       }
@@ -125,6 +117,13 @@ module _ {C Data Settings : Type 0} where
   pub serves_carries : (kind : Kind C Data Settings) (may : Data → Type 0) (first : List Data) (since : Moment Data Settings) (t : Traffic C Data) (x : Served) (at : ℕ → Option (Live C)) (len : ℕ) (old now : Moment Data Settings)
       → ServesTo kind may first since t x at len old now → Carries kind may first since at len now
   serves_carries kind may first since t x at len old now p = record { traffic = p.traffic; relates = p.relates }
+
+  -- what failed behind it
+  pub serves_failed : (kind : Kind C Data Settings) (may : Data → Type 0) (first : List Data) (since : Moment Data Settings) (t : Traffic C Data) (x : Served) (at at' : ℕ → Option (Live C)) (len rest : ℕ) (old mid now : Moment Data Settings)
+      → ServesTo kind may first since t x at len old mid
+      → ((u : Traffic C Data) → Relates kind may first since u at len mid → Carries kind may first since at' rest now)
+      → Carries kind may first since at' rest now
+  serves_failed kind may first since t x at at' len rest old mid now p f = f p.traffic p.relates
 
   -- a turn that failed
   pub serves_fault : (kind : Kind C Data Settings) (may may' : Data → Type 0) (first : List Data) (since : Moment Data Settings) (t : Traffic C Data) (x : Served) (at at' : ℕ → Option (Live C)) (len rest : ℕ) (old mid now : Moment Data Settings)

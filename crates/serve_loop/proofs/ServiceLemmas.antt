@@ -12,7 +12,7 @@ use Rattle.serve_loop.specs.declared.live.Turned.{Turned}
 use Rattle.serve_loop.specs.Traffic.{Talk, Traffic, Moment}
 use Rattle.serve_loop.specs.Relates.{IsTalk, Relates}
 use Rattle.serve_loop.specs.Calls.{ServesAlone, IsBusy, LeavesAll, IsOwned}
-use Rattle.serve_loop.specs.Service.{ended_in, ServesLink, TakesTurn, RestsAfter, TookTurns, AreTooFew, FailsTurn, FailsWait, RoseAtDoor, HasDoorCause, ServesTurns, FailsTurns}
+use Rattle.serve_loop.specs.Service.{ended_in, ServesLink, TakesTurn, ComesAfter, TookTurns, AreTooFew, FailsTurn, FailsWait, RoseAtDoor, HasDoorCause, ServesTurns, FailsTurns}
 use Rattle.serve_loop.proofs.CloseLemmas.{links_none, links_then}
 use Rattle.serve_loop.proofs.SentenceLemmas.{has_one, some_same}
 
@@ -36,6 +36,13 @@ so_far_none kind config stop_after live w none = record {
 few_enough : (stop_after : Option ℕ) (x n : ℕ) → IfSome stop_after (λ m. m < 2 ^ 64) → x ≡ counted_by n 0 → IfSome stop_after (λ m. x < m) → IfSome stop_after (λ m. n < m)
 few_enough None x n fits is h = tt
 few_enough (Some m) x n fits is h = omega (arith, fits, is, h)
+
+-- how many links there were behind a turn, and behind what followed it
+pub links_after : (live rest done ended since given after : ℕ) → live + done + since ≡ given → rest + ended + given ≡ live + after → rest + (done + ended) + since ≡ after
+links_after live rest done ended since given after links count = omega (arith, links, count)
+
+pub count_after : (live rest left ended given after now : ℕ) → rest + ended + given ≡ live + after → left + after ≡ rest + now → left + ended + given ≡ live + now
+count_after live rest left ended given after now count more = omega (arith, count, more)
 
 count_more : (x y n e : ℕ) → x ≡ counted_by n 0 → y ≡ counted_by e x → y ≡ counted_by (n + e) 0
 count_more x y n e p q = omega (arith, p, q)
@@ -89,18 +96,17 @@ module _ {C Data Settings : Type 0} where
 
   -- one turn more, and what came after it
   pub so_far_more : (kind : Kind C Data Settings) (config : Settings) (stop_after : Option ℕ) (x y live rest : ℕ) (turned : Turned) (old a b c : WireState) (s : SoFar kind config stop_after x live old a)
-      → TakesTurn kind config old.given (ended_in s.turns) turned a b → RestsAfter turned b c
-      → y ≡ counted_by turned.ended x → rest + turned.ended + a.given ≡ live + b.given → IfSome stop_after (λ m. m < 2 ^ 64) → IfSome stop_after (λ m. y < m)
+      → TakesTurn kind config old.given (ended_in s.turns) turned a b → ComesAfter old.given (ended_in s.turns + turned.ended) turned b c
+      → y ≡ counted_by turned.ended x → rest + turned.ended + a.given ≡ live + c.given → IfSome stop_after (λ m. m < 2 ^ 64) → IfSome stop_after (λ m. y < m)
       → SoFar kind config stop_after y rest old c
-  so_far_more kind config stop_after x y live rest turned old a b c s turn rests is count fits few =
+  so_far_more kind config stop_after x y live rest turned old a b c s turn after is count fits few =
       let sl = s.links in
-      let rg = rests.only.given in
       let counted_is = count_more x y (ended_in s.turns) turned.ended s.count is in
       record {
         turns = turned ∷ s.turns;
-        took = (a, b, s.took, turn, rests);
+        took = (a, b, s.took, turn, after);
         count = counted_is;
-        links = omega (arith, sl, rg, count);
+        links = omega (arith, sl, count);
         too_few = λ some. few_enough stop_after y (ended_in s.turns + turned.ended) fits counted_is few;
       }
 
@@ -134,7 +140,7 @@ module _ {C Data Settings : Type 0} where
     after = c;
     took = s.took;
     too_few = s.too_few;
-    last = inr (record { turned = turned; after = b; turn = turn; still = moved; none = ended; fails = fails });
+    last = inr (inl (record { turned = turned; after = b; turn = turn; still = moved; none = ended; fails = fails }));
     left = links_none c;
   }
 

@@ -17,6 +17,7 @@ use Rattle.serve_loop.specs.declared.step.Received.TheVariants as received
 use Rattle.serve_loop.specs.Traffic.{Talk, Given, Moment, moment}
 use Rattle.serve_loop.specs.Relates.{IsTalk, IsExcused, IsNumber, IsRising, Versions}
 use Rattle.serve_loop.specs.Steps.{GoesOn, EndsAs, TalksTo, StepsLink, Hears, IsReady}
+use Rattle.serve_loop.specs.Calls.{IsQuiet}
 use Rattle.serve_loop.proofs.CallLemmas.{receives_only}
 
 pub holds_as : (told : Option (List ℕ)) (x y : List ℕ) → x ≡ y → Holds told x → Holds told y
@@ -215,6 +216,29 @@ module _ {C Data Settings : Type 0} where
         on_plain (λ (x : Talk C). IsTalk kind since history owner (moment served supply a) k x)
         (λ (x : Talk C). TalksTo kind since history owner k stepped.Moved new x (moment served supply a) (moment served supply b))
         talk old e o u (λ fed taken marks p. sent_talk kind since history owner served supply a b k n old new fed taken marks m.0 m.1 m.2 s.received takes p) h;
+  }
+
+  -- the last bytes were sent on a connection that closes, and the link was closed behind them
+  pub sent_last_step : (kind : Kind C Data Settings) (served : Serving Data Settings) (supply : SupplyState Data) (a b w : WireState) (k : ℕ) (old new : C) (n : ℕ)
+      → Sends k (kind.pending old) a b (answers.Moved n) → Takes kind n old new → IsQuiet kind new → kind.closing new ≡ true → Closes k b w
+      → StepsLink kind k old new stepped.Ended (moment served supply a) (moment served supply w)
+  sent_last_step kind served supply a b w k old new n s takes quiet closing c = record {
+    talks = λ since history owner talk is_history up e o u h. let m = s.moved n refl in
+        on_plain (λ (x : Talk C). IsTalk kind since history owner (moment served supply a) k x)
+        (λ (x : Talk C). TalksTo kind since history owner k stepped.Ended new x (moment served supply a) (moment served supply w))
+        talk old e o u (λ fed taken marks p. let t = sent_talk kind since history owner served supply a b k n old new fed taken marks m.0 m.1 m.2 s.received takes p in record {
+          talk' = t.talk';
+          is = same_talk kind since history owner served supply b w k t.talk' c.sent c.received t.is;
+          goes_on = t.goes_on;
+          end_ = inl (record {
+            over = t.end_.1;
+            unfed = t.end_.2;
+            pending = ap kind.pending t.end_.0 ∙ quiet.pending;
+            owes = ap kind.owes t.end_.0 ∙ quiet.owes;
+            wants = ap kind.wants t.end_.0 ∙ quiet.wants;
+            end_ = inl (ap kind.closing t.end_.0 ∙ closing);
+          });
+        }) h;
   }
 
   pub not_yet_step : (kind : Kind C Data Settings) (served : Serving Data Settings) (supply : SupplyState Data) (a b : WireState) (k : ℕ) (old new : C)

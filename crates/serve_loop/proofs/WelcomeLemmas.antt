@@ -27,7 +27,7 @@ use Rattle.serve_loop.proofs.EndsLemmas.{ends_same, ends_none, ends_then, ends_a
 use Rattle.serve_loop.proofs.ChainLemmas.{relates_same, goes_on_then}
 
 -- nothing was sent or received on a new link
-told_nothing : (told : Option (List ℕ)) (tells : Tells) → told ≡ told_by tells [] → Holds told []
+pub told_nothing : (told : Option (List ℕ)) (tells : Tells) → told ≡ told_by tells [] → Holds told []
 told_nothing told CountsAlone e = λ x t. cc
 told_nothing told SentAndReceived e = λ x t. cc
 told_nothing told All e = λ x t. cc
@@ -52,7 +52,7 @@ alone_waits a b x = let s = x.door.stalls in record {
 pub alone_accepts : (a b : WireState) → OnlyAccepts a b → a.door.faults ≤ b.door.faults → ServesAlone a b
 alone_accepts a b x later = record { dials = x.dials; nature = x.nature; place = x.place; calls = x.calls; stalls = x.stalls; door_faults = later; faults = x.later }
 
-untouched_same : (x y : Link) → y ≡ x → IsUntouched x y
+pub untouched_same : (x y : Link) → y ≡ x → IsUntouched x y
 untouched_same x y e = older_as x x y e (x.woken, refl)
 
 -- a wait that answered

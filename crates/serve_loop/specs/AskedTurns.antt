@@ -9,9 +9,9 @@ use Rattle.connections.specs.Versions.{MOST_VERSIONS}
 use Rattle.serve_loop.specs.declared.live.Live.{Live}
 use Rattle.serve_loop.specs.declared.live.Turned.{Turned}
 use Rattle.serve_loop.specs.Traffic.{Moment, moment}
-use Rattle.serve_loop.specs.Calls.{IsOwned, RestsWire, TellsSame}
+use Rattle.serve_loop.specs.Calls.{IsOwned, TellsSame}
 use Rattle.serve_loop.specs.Asks.{AnswersAll, waiting}
-use Rattle.serve_loop.specs.Service.{TakesTurn, ended_in}
+use Rattle.serve_loop.specs.Service.{PassesBetween, TakesTurn, ended_in}
 
 module _ {C Data Settings : Type 0} where
   -- The link of a live connection is open and was given since, and the connection answers all that came and went on it.
@@ -41,12 +41,12 @@ module _ {C Data Settings : Type 0} where
     pub answers : AnswersAll kind may at (moment old.served old.supply same) (moment now.served now.supply same)
     pub waited_is : waited ≡ waiting kind at answers.keys
 
-  -- These turns, the last one first, each with a wait or nothing behind it; in all of them so many connections waited for a reload.
+  -- These turns, the last one first, each with links that were given, a wait or nothing behind it; in all of them so many connections waited for a reload.
   abbrev pub AskedTurns : Kind C Data Settings → (Data → Type 0) → Settings → ℕ → List Turned → ℕ → Moment Data Settings → Moment Data Settings → Type 0
   AskedTurns kind may config since [] waited old now = (waited ≡ 0) × (now ≡ old)
   AskedTurns kind may config since (turned ∷ turns) waited old now =
       (before : Moment Data Settings) × (after : WireState) × (earlier : ℕ) × (more : ℕ) × AskedTurns kind may config since turns earlier old before
-      × TakesTurn kind config since (ended_in turns) turned before.wire after × AsksTurn kind may config since more old.wire before now × RestsWire after now.wire × (waited ≡ earlier + more)
+      × TakesTurn kind config since (ended_in turns) turned before.wire after × AsksTurn kind may config since more old.wire before now × PassesBetween after now.wire × (waited ≡ earlier + more)
 
   -- A service asked its supply once for each reload request that waited in one of its turns, and for nothing else; behind the last of these turns no byte moved and no link was given.
   pub record AsksOnce (kind : Kind C Data Settings) (may : Data → Type 0) (old now : Moment Data Settings) : Type 0 where

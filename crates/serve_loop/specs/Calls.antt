@@ -201,6 +201,14 @@ module _ {C : Type 0} where
   IsForeign at n k = (key : ℕ) (l : Live C) → key < n → at key ≡ Some l → l.link ≢ k
 
 module _ {C Data Settings : Type 0} where
+  -- A connection that had something to send and is live still has more to send, or does not close: one that closes ends with the last byte that is sent.
+  abbrev pub GoesOnSpeaking : Kind C Data Settings → C → C → Type 0
+  GoesOnSpeaking kind old new = Speaks kind old → kind.closing new ≡ true → IsQuiet kind new → ⊥
+
+  -- Of all that are live before and after.
+  abbrev pub AllGoOn : Kind C Data Settings → (ℕ → Option (Live C)) → (ℕ → Option (Live C)) → Type 0
+  AllGoOn kind at new = (key : ℕ) (l m : Live C) → at key ≡ Some l → new key ≡ Some m → GoesOnSpeaking kind l.connection m.connection
+
   -- What a step called on the link of its connection, by what that has to send.
   abbrev pub StepsLive : Kind C Data Settings → C → Stepped → ℕ → WireState → WireState → Type 0
   StepsLive kind c answer k old new = ByNeed kind c (HasCalled answer k old new) (HasClosed answer k old new)

@@ -1,4 +1,4 @@
--- What a service does on its wire: turns, and a wait after each that moved and ended nothing.
+-- What a service does on its wire: turns, after each that moved or ended something the links that wait at the door, and a wait after each other one.
 use Rattle.std.specs.Prelude.{ℕ, ◌≡◌, ◌≢◌, ◌⊎◌, ◌+◌, ◌<◌, ◌≤◌, true, false, List, [], ◌∷◌, length, Option, IfSome}
 use Rattle.tpf_base.specs.Causes.{Rose, counted, counted_by}
 use Rattle.tpf_base.specs.Links.{WireState}
@@ -10,7 +10,7 @@ use Rattle.serve_loop.specs.declared.live.ServeFault.{ServeFault}
 use Rattle.serve_loop.specs.declared.live.ServeFault.TheVariants as faults
 use Rattle.serve_loop.specs.declared.live.Turned.{Turned}
 use Rattle.serve_loop.specs.declared.live.TheConstants.{MOST_LIVE}
-use Rattle.serve_loop.specs.Calls.{MovesOn, StaysOn, IsFresh, RestsWire, ServesAlone, TellsSame, TurnsLive}
+use Rattle.serve_loop.specs.Calls.{MovesOn, StaysOn, IsFresh, IsUntouched, RestsWire, ServesAlone, TellsSame, TurnsLive}
 
 -- how many connections ended in these turns
 abbrev pub ended_in : List Turned → ℕ
@@ -21,11 +21,39 @@ ended_in (turned ∷ turns) = ended_in turns + turned.ended
 abbrev pub AreTooFew : Option ℕ → List Turned → Type 0
 AreTooFew stop_after turns = turns ≢ [] → IfSome stop_after (λ most. ended_in turns < most)
 
--- After a turn: one wait, where it moved and ended nothing; else nothing.
-pub record RestsAfter (turned : Turned) (old new : WireState) : Type 0 where
-  pub only : RestsWire old new
-  pub busy : (turned.moved ≡ true) ⊎ (0 < turned.ended) → new ≡ old
-  pub waits : turned.moved ≡ false → turned.ended ≡ 0 → new.waits ≡ counted old.waits
+-- An open link on which no byte moved yet.
+pub record IsNew (k : ℕ) (wire : WireState) : Type 0 where
+  pub is_open : (wire.links k).is_open ≡ true
+  pub sent : Holds (wire.links k).sent []
+  pub received : Holds (wire.links k).received []
+
+-- Links were given, or none: nothing moved on them yet, no other was touched, and nothing waited.
+pub record GivesLinks (old new : WireState) : Type 0 where
+  pub given : old.given ≤ new.given
+  pub fresh : (k : ℕ) → old.given ≤ k → k < new.given → IsNew k new
+  pub others : (k : ℕ) → k < old.given → new.links k ≡ old.links k
+  pub idle : old.idle ≡ 0 → new.idle ≡ 0
+  pub waits : new.waits ≡ old.waits
+  pub calm : new.door.faults ≡ old.door.faults
+  pub alone : ServesAlone old new
+
+-- The same until none waits at the door, or so many are open as are live at once, where the links of the service are those given since this one, of which so many have ended.
+pub record GreetsLinks (since done : ℕ) (old new : WireState) : Type 0 where
+  pub gives : GivesLinks old new
+  pub most : new.given ≤ since + done + MOST_LIVE
+  pub door : (since + done + MOST_LIVE ≤ new.given) ⊎ Rose old.door.stalls new.door.stalls
+
+-- After a turn: one wait, where it moved and ended nothing; else the links that wait at the door.
+pub data ComesAfter (since done : ℕ) (turned : Turned) (old new : WireState) : Type 0 where
+  Rests : turned.moved ≡ false → turned.ended ≡ 0 → RestsWire old new → new.waits ≡ counted old.waits → ComesAfter since done turned old new
+  Greets : (turned.moved ≡ true) ⊎ (0 < turned.ended) → GreetsLinks since done old new → ComesAfter since done turned old new
+
+-- Between turns: links may have been given, on which nothing moved yet, and a wait may have answered one; no other was touched.
+pub record PassesBetween (old new : WireState) : Type 0 where
+  pub given : old.given ≤ new.given
+  pub fresh : (k : ℕ) → old.given ≤ k → k < new.given → IsNew k new
+  pub links : (k : ℕ) → k < old.given → IsUntouched (old.links k) (new.links k)
+  pub alone : ServesAlone old new
 
 -- the faults of the door rose, and so did those of the wire
 pub record RoseAtDoor (old new : WireState) : Type 0 where
@@ -92,7 +120,7 @@ module _ {C Data Settings : Type 0} where
   TookTurns kind config since [] old new = new ≡ old
   TookTurns kind config since (turned ∷ turns) old new =
       (before : WireState) × (after : WireState) × TookTurns kind config since turns old before
-      × TakesTurn kind config since (ended_in turns) turned before after × RestsAfter turned after new
+      × TakesTurn kind config since (ended_in turns) turned before after × ComesAfter since (ended_in (turned ∷ turns)) turned after new
 
   -- A service that stopped: turns with what came after each, and a last turn, after which it closed the links that were left.
   pub record ServesTurns (kind : Kind C Data Settings) (config : Settings) (stop_after : Option ℕ) (connections : ℕ) (old new : WireState) : Type 0 where
@@ -115,12 +143,24 @@ module _ {C Data Settings : Type 0} where
     pub none : turned.ended ≡ 0
     pub fails : FailsWait fault after new
 
-  -- A service that gave up: turns with what came after each, then a turn that failed at the door, or one that moved and ended nothing and a wait that failed, after which it closed the links that were left.
+  -- a turn that moved or ended something, links that were given, and a door that failed then
+  pub record FailsGreeting (kind : Kind C Data Settings) (config : Settings) (since done : ℕ) (fault : ServeFault) (old new : WireState) : Type 0 where
+    pub turned : Turned
+    pub after : WireState
+    pub last : WireState
+    pub turn : TakesTurn kind config since done turned old after
+    pub busy : (turned.moved ≡ true) ⊎ (0 < turned.ended)
+    pub gives : GivesLinks after last
+    pub most : last.given ≤ since + done + turned.ended + MOST_LIVE
+    pub fails : FailsTurn fault last new
+
+  -- A service that gave up: turns with what came after each, and then a turn that failed at the door, or one behind which the wait or the door failed, after which it closed the links that were left.
   pub record FailsTurns (kind : Kind C Data Settings) (config : Settings) (stop_after : Option ℕ) (fault : ServeFault) (old new : WireState) : Type 0 where
     pub turns : List Turned
     pub before : WireState
     pub after : WireState
     pub took : TookTurns kind config old.given turns old before
     pub too_few : AreTooFew stop_after turns
-    pub last : FailsTurn fault before after ⊎ FailsRest kind config old.given (ended_in turns) fault before after
+    pub last : FailsTurn fault before after
+        ⊎ (FailsRest kind config old.given (ended_in turns) fault before after ⊎ FailsGreeting kind config old.given (ended_in turns) fault before after)
     pub left : LeavesLinks after new

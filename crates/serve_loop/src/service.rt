@@ -1,4 +1,4 @@
-// A service: turns, and waits where a turn did nothing.
+// A service: turns, and what follows each.
 ghost use Rattle.std.specs.Prelude.{ℕ, ◌≡◌, ◌+◌, ◌-◌, ◌≤◌, ◌<◌, ◌^◌, ◌⊎◌, IfOk, OnOk, OnErr, IfErr, IfSome, None, Some, true, false, ◌↔◌};
 ghost use Rattle.tpf_base.specs.Causes.{counted};
 ghost use Rattle.tpf_base.specs.Links.{listens};
@@ -9,6 +9,7 @@ ghost use Rattle.serve_loop.specs.Relates.{SuitsWire};
 ghost use Rattle.serve_loop.specs.Calls.{ServesAlone, RestsWire, served_with};
 ghost use Rattle.serve_loop.specs.Sentence.{AllClosed, LeavesOlder, CarriesOn, ServesOn, SpeaksSince, SpeaksWholeSince};
 ghost use Rattle.serve_loop.specs.Service.{ServesTurns, FailsTurns, FailsWait, RoseAtDoor};
+ghost use Rattle.serve_loop.specs.Greets.{FollowsTurn, FailsAfter};
 ghost use Rattle.serve_loop.specs.AskedTurns.{AsksOnce};
 
 use crate::live::{ServeFault, Served, Turned};
@@ -18,24 +19,45 @@ use std::alloc::Global;
 use std::sync::Wait;
 use tpf_base::{Accept, Fault, Wire};
 
-/// Waits, unless the turn moved or ended something.
-fn rest<W: Wire>(wire: &mut W, turned: Turned) -> Result<(), ServeFault>
+/// Waits until a link or the door may be ready.
+fn rest<W: Wire>(wire: &mut W) -> Result<(), ServeFault>
     ensures only { RestsWire (W.state wire.old) (W.state wire.new) }
-    ensures busy { (turned.moved ≡ true) ⊎ (0 < turned.ended) → W.state wire.new ≡ W.state wire.old }
-    ensures waits { turned.moved ≡ false → turned.ended ≡ 0
-        → (W.state wire.new).waits ≡ counted (W.state wire.old).waits }
-    ensures idle { OnErr result ((turned.moved ≡ false) × (turned.ended ≡ 0)) }
+    ensures waits { (W.state wire.new).waits ≡ counted (W.state wire.old).waits }
     ensures fails { IfErr result (λ fault. FailsWait fault (W.state wire.old) (W.state wire.new)) }
     ensures calm { OnOk result ((W.state wire.new).door.faults ≡ (W.state wire.old).door.faults) }
 {
-    if turned.moved || turned.ended > 0 {
-        return Ok(());
-    }
     match wire.wait() {
         Ok(_) => Ok(()),
         Err(Fault::Failed) => Err(ServeFault::Wire),
         Err(Fault::OutOfMemory) => Err(ServeFault::OutOfMemory),
     }
+}
+
+/// Behind a turn that moved or ended something, accepts the links that wait at the door; behind another one
+/// waits.
+fn follow<C: Converses, W: Accept>(
+    connections: &mut Loop<C>,
+    server: &C::Server,
+    wire: &mut W,
+    turned: Turned,
+) -> Result<(), ServeFault>
+    requires listens { listens (W.state wire.old) ≡ true }
+    requires few { held_count connections.old ≤ MOST_LIVE }
+    requires suits { SuitsWire C.Suits server.now (λ key. held connections.old key) (W.state wire.old) }
+    ensures few { held_count connections.new ≤ MOST_LIVE }
+    ensures suits { SuitsWire C.Suits server.now (λ key. held connections.new key) (W.state wire.new) }
+    ensures follows { OnOk result (FollowsTurn C.kind turned
+        (lives connections.old) (lives connections.new) (W.state wire.old) (W.state wire.new)) }
+    ensures fails { IfErr result (λ fault. FailsAfter C.kind fault turned
+        (lives connections.old) (lives connections.new) (W.state wire.old) (W.state wire.new)) }
+    ensures calm { OnOk result ((W.state wire.new).door.faults ≡ (W.state wire.old).door.faults) }
+    ensures wire { IfErr result (λ fault. fault ≡ ServeFault.Wire → RoseAtDoor (W.state wire.old) (W.state wire.new)) }
+    ensures alone { ServesAlone (W.state wire.old) (W.state wire.new) }
+{
+    if turned.moved || turned.ended > 0 {
+        return connections.greet(server, wire);
+    }
+    rest(wire)
 }
 
 /// Whether so many connections are enough.
@@ -63,7 +85,7 @@ impl Served {
     }
 }
 
-/// Takes turns until so many connections have ended, and waits between those that did nothing.
+/// Takes turns until so many connections have ended, each with what follows it.
 fn serve_on<R: Wait, C: Converses, S: Supply<C::Server>, W: Accept>(
     rt: &R,
     connections: &mut Loop<C>,
@@ -110,17 +132,18 @@ fn serve_on<R: Wait, C: Converses, S: Supply<C::Server>, W: Accept>(
         if is_reached(stop_after, served.connections) {
             return Ok(served);
         }
-        rest(wire, turned)?;
+        follow(connections, server, wire, turned)?;
     }
     Ok(served)
 }
 
 /// Serves the links (the connections) that come to the door (the listener) of a wire, until at least
-/// `stop_after` of them have ended, and for as long as it can where that is `None`. It takes turns, and
-/// waits only after a turn that moved and ended nothing. At each exit the links that are still live
-/// are closed. No link from before is touched, none is dialled, and the door is not opened again. The
-/// counts of the answer stand still at their last value. The supply is asked once for each reload request
-/// that waits in a turn, and for nothing else (`asks`).
+/// `stop_after` of them have ended, and for as long as it can where that is `None`. It takes turns. Behind
+/// each that moved or ended something it accepts the links that wait at the door, until none does or
+/// `MOST_LIVE` are live; only behind the others it waits. At each exit the links that are still live are
+/// closed. No link from before is touched, none is dialled, and the door is not opened again. The counts of
+/// the answer stand still at their last value. The supply is asked once for each reload request that waits in
+/// a turn, and for nothing else (`asks`).
 ///
 /// `Wire` where an accept or a wait failed: the faults of the door rose. A link that fails ends its own
 /// connection alone. `OutOfMemory` where memory ran out in one of them, or for

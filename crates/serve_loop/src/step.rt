@@ -7,7 +7,7 @@ ghost use Rattle.connections.specs.Kinds.{Takes, IsOutcome};
 ghost use Rattle.serve_loop.specs.Traffic.{moment};
 ghost use Rattle.serve_loop.specs.Asks.{AnswersAt};
 ghost use Rattle.serve_loop.specs.declared.live.TheConstants.{MOST_RECEIVED};
-ghost use Rattle.serve_loop.specs.Calls.{HasCalled, CallsOnly, IsPrepared, StepsLive, front_of, left_by};
+ghost use Rattle.serve_loop.specs.Calls.{HasCalled, CallsOnly, GoesOnSpeaking, IsPrepared, IsQuiet, StepsLive, front_of, left_by};
 ghost use Rattle.serve_loop.specs.Steps.{Supplies, StepsOn, StepsLink, Makes, Prepares, Hears, IsReady};
 
 use crate::live::{Live, MOST_SENT, Stepped};
@@ -164,7 +164,17 @@ fn prepare<C: Converses, S: Supply<C::Server>>(
     make(live, server)
 }
 
-/// Sends what is pending. A link that fails is closed.
+/// Whether a connection closes, and all of its response was sent.
+fn is_over<C: Converses>(connection: &C) -> bool
+    ensures quiet { result ≡ true → IsQuiet C.kind connection.now }
+    ensures closes { result ≡ true → C.kind.closing connection.now ≡ true }
+    ensures goes_on { result ≡ false → C.kind.closing connection.now ≡ true → IsQuiet C.kind connection.now → ⊥ }
+{
+    connection.closing() && !connection.owes() && connection.pending().is_empty()
+}
+
+/// Sends what is pending. A link that fails is closed, and that of a connection that closes too, once all
+/// was sent on it.
 fn send_step<C: Converses, W: Wire>(live: &mut Live<C>, wire: &mut W) -> Stepped
     requires is_open { ((W.state wire.old).links live.old.link).is_open ≡ true }
     requires some { 0 < length (C.kind.pending live.old.connection) }
@@ -172,13 +182,20 @@ fn send_step<C: Converses, W: Wire>(live: &mut Live<C>, wire: &mut W) -> Stepped
         (moment served supply (W.state wire.old))
         (moment served supply (W.state wire.new)) }
     ensures called { HasCalled result live.old.link (W.state wire.old) (W.state wire.new) Sending }
+    ensures lasts { left_by result live.new ≡ Some live.new → C.kind.closing live.new.connection ≡ true → IsQuiet C.kind live.new.connection → ⊥ }
     ensures only { CallsOnly live.old.link (W.state wire.old) (W.state wire.new) }
     ensures kept { live.new.link ≡ live.old.link }
     ensures is_open { left_by result live.new ≡ Some live.new → ((W.state wire.new).links live.old.link).is_open ≡ true }
     ensures suits { (server : C.Server) → C.Suits server live.old.connection → C.Suits server live.new.connection }
 {
     match send_pending(live, wire) {
-        Moved::Moved(_) => Stepped::Moved,
+        Moved::Moved(_) => {
+            if is_over(&live.connection) {
+                wire.close(live.link);
+                return Stepped::Ended;
+            }
+            Stepped::Moved
+        }
         Moved::NotYet => Stepped::Still,
         Moved::OutOfMemory => {
             wire.close(live.link);
@@ -237,7 +254,8 @@ fn receive_step<C: Converses, W: Wire>(
 }
 
 /// Steps a connection: answers a reload request where one waits, makes bytes of the response, and then
-/// sends what is pending; where nothing is, it ends the connection if that closes, and receives if not.
+/// sends what is pending; where nothing is, it ends the connection if that closes, and receives if not. A
+/// connection that closes ends with the last byte that is sent.
 pub fn step<C: Converses, S: Supply<C::Server>, W: Wire>(
     live: &mut Live<C>,
     buffer: &mut [u8],
@@ -257,6 +275,7 @@ pub fn step<C: Converses, S: Supply<C::Server>, W: Wire>(
         (moment (C.Server.serving server.old) (S.state supply.old) same)
         (moment (C.Server.serving server.new) (S.state supply.new) same) }
     ensures called { StepsLive C.kind live.old.connection result live.old.link (W.state wire.old) (W.state wire.new) }
+    ensures lasts { left_by result live.new ≡ Some live.new → GoesOnSpeaking C.kind live.old.connection live.new.connection }
     ensures only { CallsOnly live.old.link (W.state wire.old) (W.state wire.new) }
     ensures kept { live.new.link ≡ live.old.link }
     ensures is_open { left_by result live.new ≡ Some live.new → ((W.state wire.new).links live.old.link).is_open ≡ true }

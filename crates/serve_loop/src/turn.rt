@@ -8,8 +8,9 @@ ghost use Rattle.serve_loop.specs.Traffic.{moment, kept, no_traffic};
 ghost use Rattle.serve_loop.specs.Relates.{Relates, SuitsWire};
 ghost use Rattle.serve_loop.specs.Asks.{AnswersAt, AnswersAll, AreAnswered};
 ghost use Rattle.serve_loop.specs.Sentence.{RelatesOn, TurnsOn, SpeaksOn, SpeaksWholeOn};
-ghost use Rattle.serve_loop.specs.Calls.{ServesAlone, IsBusy, StepsAll, CallsAt, ClosesAt, LeavesAll, ends, turned_by, turned_with};
+ghost use Rattle.serve_loop.specs.Calls.{AllGoOn, GoesOnSpeaking, ServesAlone, IsBusy, StepsAll, CallsAt, ClosesAt, LeavesAll, ends, turned_by, turned_with};
 ghost use Rattle.serve_loop.specs.Service.{FailsTurn};
+ghost use Rattle.serve_loop.specs.Greets.{GreetsAll, FailsGreets};
 ghost use Rattle.serve_loop.specs.Steps.{Welcomes};
 
 use crate::live::{Live, MOST_LIVE, MOST_RECEIVED, ServeFault, Stepped, Turned};
@@ -100,6 +101,31 @@ fn welcome<C: Converses, W: Accept>(
     greet(alloc, live, server, wire)
 }
 
+/// Keeps new connections for the links that wait at the door, until it gives none or `MOST_LIVE` are live.
+fn greet_all<C: Converses, W: Accept>(
+    alloc: Global,
+    live: &mut Slab<Live<C>>,
+    server: &C::Server,
+    wire: &mut W,
+) -> Result<(), ServeFault>
+    requires listens { listens (W.state wire.old) ≡ true }
+    requires few { slab_len live.old ≤ MOST_LIVE }
+    requires suits { SuitsWire C.Suits server.now (λ key. get live.old key) (W.state wire.old) }
+    ensures few { slab_len live.new ≤ MOST_LIVE }
+    ensures suits { SuitsWire C.Suits server.now (λ key. get live.new key) (W.state wire.new) }
+    ensures greets { OnOk result (GreetsAll C.kind (kept live.old) (kept live.new) (W.state wire.old) (W.state wire.new)) }
+    ensures fails { IfErr result (λ fault. FailsGreets C.kind fault
+        (kept live.old) (kept live.new) (W.state wire.old) (W.state wire.new)) }
+{
+    for greeted in 0..MOST_LIVE {
+        let accepted = greet(alloc, live, server, wire)?;
+        if !accepted {
+            return Ok(());
+        }
+    }
+    Ok(())
+}
+
 /// Whether the connection is live no more.
 fn ends(stepped: Stepped) -> bool
     ensures { result ≡ ends stepped }
@@ -135,6 +161,7 @@ fn step_at<C: Converses, S: Supply<C::Server>, W: Wire>(
         (moment (C.Server.serving server.old) (S.state supply.old) same)
         (moment (C.Server.serving server.new) (S.state supply.new) same) }
     ensures calls { CallsAt C.kind (get live.old key) result (W.state wire.old) (W.state wire.new) }
+    ensures lasts { (l m : Live C) → get live.old key ≡ Some l → get live.new key ≡ Some m → GoesOnSpeaking C.kind l.connection m.connection }
     ensures follows { C.Server.Follows server.old server.new }
     ensures keeps { S.Keeps supply.old supply.new }
     ensures same { (data_set : C.Server.Data) → S.may supply.new data_set ↔ S.may supply.old data_set }
@@ -197,6 +224,7 @@ fn step_all<C: Converses, S: Supply<C::Server>, W: Wire>(
         (moment (C.Server.serving server.old) (S.state supply.old) same)
         (moment (C.Server.serving server.new) (S.state supply.new) same) }
     ensures all { StepsAll C.kind result (get live.old) (W.state wire.old) (W.state wire.new) }
+    ensures lasts { AllGoOn C.kind (get live.old) (get live.new) }
     ensures follows { C.Server.Follows server.old server.new }
     ensures keeps { S.Keeps supply.old supply.new }
     ensures same { (data_set : C.Server.Data) → S.may supply.new data_set ↔ S.may supply.old data_set }
@@ -274,7 +302,8 @@ impl<C: Converses> Loop<C> {
     /// Takes what the system knows of readiness, asks the door (the listener) for a link where fewer than
     /// `MOST_LIVE` connections are live, and then steps each connection once: it sends at most `MOST_SENT`
     /// bytes of what is pending or owed; where nothing is, it closes a connection that is to end, and
-    /// receives at most `MOST_RECEIVED` bytes of another. A connection that waits for a reload asks the
+    /// receives at most `MOST_RECEIVED` bytes of another. A connection that is to end is closed with the last
+    /// byte that is sent (`lasts`). A connection that waits for a reload asks the
     /// supply once before, unless the version is the last possible one. A connection that runs out of
     /// memory, or whose link fails, ends alone.
     ///
@@ -310,6 +339,7 @@ impl<C: Converses> Loop<C> {
         ensures calm { OnOk result ((W.state wire.new).door.faults ≡ (W.state wire.old).door.faults) }
         ensures busy { IfOk result (λ turned. IsBusy C.kind MOST_LIVE turned
             (held self.old) (held_count self.old) (W.state wire.old) (W.state wire.new)) }
+        ensures lasts { OnOk result (AllGoOn C.kind (held self.old) (held self.new)) }
         ensures idle { IfOk result (λ turned. turned.moved ≡ true → (W.state wire.new).idle ≡ 0) }
         ensures count { IfOk result (λ turned. held_count self.new + turned.ended + (W.state wire.old).given
             ≡ held_count self.old + (W.state wire.new).given) }
@@ -330,6 +360,25 @@ impl<C: Converses> Loop<C> {
             moved: accepted || turned.moved,
             ..turned
         })
+    }
+
+    /// Accepts the links that wait at the door (the listener) until none does or `MOST_LIVE` connections are
+    /// live, and keeps a new connection for each. No byte moves, and nothing waits.
+    ///
+    /// `Wire` where an accept failed: the faults of the door rose. `OutOfMemory` where memory ran out
+    /// there, or for the place of a new connection. In both cases the live connections stay, those for the
+    /// links that were given before among them.
+    pub fn greet<W: Accept>(&mut self, server: &C::Server, wire: &mut W) -> Result<(), ServeFault>
+        requires listens { listens (W.state wire.old) ≡ true }
+        requires few { held_count self.old ≤ MOST_LIVE }
+        requires suits { SuitsWire C.Suits server.now (λ key. held self.old key) (W.state wire.old) }
+        ensures few { held_count self.new ≤ MOST_LIVE }
+        ensures suits { SuitsWire C.Suits server.now (λ key. held self.new key) (W.state wire.new) }
+        ensures greets { OnOk result (GreetsAll C.kind (lives self.old) (lives self.new) (W.state wire.old) (W.state wire.new)) }
+        ensures fails { IfErr result (λ fault. FailsGreets C.kind fault
+            (lives self.old) (lives self.new) (W.state wire.old) (W.state wire.new)) }
+    {
+        greet_all(self.alloc, &mut self.live, server, wire)
     }
 
     /// Closes the links of all live connections, and forgets them.

@@ -44,6 +44,9 @@ pub fn run_process<R: Env + Files + Streams + Net + Clock + Wait + AllocGlobal>(
     rt: &R,
 ) -> ExitCode {
     let alloc: Global = rt.alloc();
+    let mut shelf = DiskShelf::new(rt);
+    let mut wire = NetWire::new(rt);
+    let mut out = StreamSink::output(rt);
     let mut err = StreamSink::errors(rt);
     let words = match words_of(rt) {
         Ok(words) => words,
@@ -53,9 +56,6 @@ pub fn run_process<R: Env + Files + Streams + Net + Clock + Wait + AllocGlobal>(
         }
         Err(_) => Vec::new(alloc),
     };
-    let mut shelf = DiskShelf::new(rt);
-    let mut wire = NetWire::new(rt);
-    let mut out = StreamSink::output(rt);
     let mut inside = Inside::Unused;
     let status = run(
         rt,

@@ -1,10 +1,7 @@
--- A wait, or nothing.
+-- A wait.
 use Rattle.std.proofs.Common.{ap, Err}
-use Rattle.serve_loop.proofs.WelcomeLemmas.{rests_same, rests_wakes, rests_none, alone_waits}
+use Rattle.serve_loop.proofs.WelcomeLemmas.{rests_wakes, rests_none, alone_waits}
 use Rattle.serve_loop.proofs.service.rest.Goals as goal
-
-pub returns-then-turned-clause-only : goal.returns-then-turned-clause-only
-returns-then-turned-clause-only g c = rests_same _
 
 pub returns-in-Ok-clause-only : goal.returns-in-Ok-clause-only
 returns-in-Ok-clause-only g c = rests_wakes _ _ _ c.in-Ok.ensures.ok c.in-Ok.ensures.only

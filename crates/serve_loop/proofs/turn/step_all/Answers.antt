@@ -3,6 +3,7 @@ use Rattle.std.proofs.Common.{refl, sym, ◌∙◌, arith}
 use Rattle.serve_loop.proofs.SlotLemmas.{past_none}
 use Rattle.serve_loop.proofs.AskLemmas.{answers_below, answers_more, answers_all}
 use Rattle.serve_loop.proofs.BelowLemmas.{below_none, below_more, below_all}
+use Rattle.serve_loop.proofs.LastLemmas.{go_on_none, go_on_more, go_on_all}
 use Rattle.serve_loop.proofs.TurnLemmas.{turns_none, turns_more, counts_with, fewer_as}
 use Rattle.serve_loop.proofs.turn.step_all.Goals as goal
 
@@ -15,6 +16,7 @@ loop-key-init g c = record {
   untouched = λ key h. refl;
   turns = λ first since t r. turns_none _ _ _ _ _ _ _ _ r;
   asks = λ w. answers_below _ _ _ _;
+  lasts = go_on_none _ _ _;
   below = below_none _ _ _;
   follows = g.met.C.Server.Serves.follows_itself c.args.server.now;
   keeps = g.met.S.Supply.keeps_itself c.args.supply.now;
@@ -31,6 +33,7 @@ loop-key-preserved g c = record {
   turns = λ first since t r. turns_more _ _ _ _ _ _ c.loop-key.turned _ c.step_at.result _ _ _ _ _ _ _ c.loop-key.invariant.same c.with-turned.ensures (c.loop-key.invariant.turns first since t r)
       (λ u q. c.step_at.ensures.turns first since u q);
   asks = λ w. answers_more _ _ _ _ c.loop-key.key _ _ _ _ (λ d. (c.loop-key.invariant.same d).0) (c.loop-key.invariant.asks w) (sym (c.loop-key.invariant.untouched c.loop-key.key (omega arith))) (c.step_at.ensures.asks w);
+  lasts = go_on_more _ c.loop-key.key _ _ _ c.loop-key.invariant.lasts (c.loop-key.invariant.untouched c.loop-key.key (omega arith)) c.step_at.ensures.others c.step_at.ensures.lasts;
   below = below_more _ c.loop-key.turned _ c.loop-key.key _ _ _ _ _ c.step_at.result c.requires.suits.distinct c.with-turned.ensures c.loop-key.invariant.below
       (sym (c.loop-key.invariant.untouched c.loop-key.key (omega arith))) c.step_at.ensures.calls;
   follows = g.met.C.Server.Serves.follows_then _ _ _ c.loop-key.invariant.follows c.step_at.ensures.follows;
@@ -45,6 +48,10 @@ returns-clause-all g c = let e = c.loop-key-test.false in
 pub returns-clause-asks : goal.returns-clause-asks
 returns-clause-asks g c = let e = c.loop-key-test.false in
     λ w. answers_all _ _ _ c.loop-key.key _ _ (λ key h. past_none c.args.live.now c.capacity-keys.result key c.capacity-keys.ensures.slots (omega (arith, e, h))) (c.loop-key.invariant.asks w)
+
+pub returns-clause-lasts : goal.returns-clause-lasts
+returns-clause-lasts g c = let e = c.loop-key-test.false in
+    go_on_all _ c.loop-key.key _ _ (λ key h. past_none c.args.live.now c.capacity-keys.result key c.capacity-keys.ensures.slots (omega (arith, e, h))) c.loop-key.invariant.lasts
 
 pub returns-clause-turns : goal.returns-clause-turns
 returns-clause-turns g c = c.loop-key.invariant.turns

@@ -8,6 +8,7 @@ use Rattle.serve_loop.specs.Asks.{AnswersBelow}
 use Rattle.serve_loop.specs.Calls.{StepsBelow}
 use Rattle.serve_loop.specs.Steps.{TurnsTo}
 use Rattle.serve_loop.specs.Traffic.{moment}
+use Rattle.serve_loop.proofs.LastLemmas.{GoOnBelow}
 use Rattle.serve_loop.proofs.turn.step_all.Given as goal
 
 abbrev pub invariant-loop-key : goal.invariant-loop-key
@@ -25,6 +26,7 @@ invariant-loop-key g l = record {
   asks : (w : WireState) → AnswersBelow g.C.Converses.kind (g.S.Supply.may l.fn.supply) (get l.fn.live) l.key
       (moment (g.C.Server.Serves.serving l.fn.server) (g.S.Supply.state l.fn.supply) w)
       (moment (g.C.Server.Serves.serving l.server) (g.S.Supply.state l.supply) w);
+  lasts : GoOnBelow g.C.Converses.kind l.key (get l.fn.live) (get l.live);
   below : StepsBelow g.C.Converses.kind l.turned l.key (get l.fn.live) (g.W.Wire.state l.fn.wire) (g.W.Wire.state l.wire);
   follows : g.C.Server.Serves.Follows l.fn.server l.server;
   keeps : g.S.Supply.Keeps l.fn.supply l.supply;

@@ -5,6 +5,7 @@ use Rattle.serve_loop.proofs.AskLemmas.{answers_welcomed}
 use Rattle.serve_loop.proofs.SentenceLemmas.{sentence}
 use Rattle.serve_loop.proofs.ServeLemmas.{sentence_turn, speaks_turn}
 use Rattle.serve_loop.proofs.CallLemmas.{alone_then}
+use Rattle.serve_loop.proofs.LastLemmas.{go_on_welcomed}
 use Rattle.serve_loop.proofs.ServiceLemmas.{fault_as}
 use Rattle.serve_loop.proofs.WelcomeLemmas.{welcomed, unwelcomed, turns_after, busy, or_true, or_else}
 use Rattle.serve_loop.proofs.turn.Loop.turn.Goals as goal
@@ -59,3 +60,9 @@ returns-else-accepted-clause-alone g c = alone_then _ _ _ c.in_ok-accepted.ensur
 
 pub returns-in_err-accepted-clause-fails : goal.returns-in_err-accepted-clause-fails
 returns-in_err-accepted-clause-fails g c = let p = err_from_is_err_and c.from_residual.result c.from_residual.ensures.1 in fault_as _ _ p.0 _ p.1 p.2 c.in_err-accepted.ensures.fails
+
+pub returns-then-accepted-clause-lasts : goal.returns-then-accepted-clause-lasts
+returns-then-accepted-clause-lasts g c = go_on_welcomed _ _ _ _ _ _ _ _ _ c.in_ok-accepted.ensures.welcomes c.step_all-turned.ensures.lasts
+
+pub returns-else-accepted-clause-lasts : goal.returns-else-accepted-clause-lasts
+returns-else-accepted-clause-lasts g c = go_on_welcomed _ _ _ _ _ _ _ _ _ c.in_ok-accepted.ensures.welcomes c.step_all-turned.ensures.lasts
