@@ -1,0 +1,11 @@
+mod Allowed
+mod Chains
+mod Steps
+mod Wires
+mod Known
+mod Causes
+mod Completing
+mod Acting
+mod Writing
+mod Progressing
+mod Ending

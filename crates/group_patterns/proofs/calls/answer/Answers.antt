@@ -1,0 +1,35 @@
+-- What the call promises, from what it wrote and what it asked.
+use Rattle.tpf_client.proofs.Shutting.{if-ok-from, if-err-from, on-err-of}
+use Rattle.group_patterns.proofs.Known.{group-written, prefix-written, answers-written, front-written}
+use Rattle.group_patterns.proofs.Acting.{acts-on-groups}
+use Rattle.group_patterns.proofs.Completing.{completes}
+use Rattle.group_patterns.proofs.Causes.{honest-cause-of, lively-cause-of}
+use Rattle.group_patterns.proofs.Ending.{not-sunk}
+use Rattle.group_patterns.proofs.calls.answer.Goals as goal
+
+pub returns-clause-whole : goal.returns-clause-whole
+returns-clause-whole g c = if-ok-from c.write_answers.result _ _ c.write_answers.ensures.ok (λ report w. group-written (g.W.Wire.allows c.args.wire.now) c.args.options.now c.args.start.now c.args.query.now report (g.W.Wire.state c.args.wire.now) (g.W.Wire.state c.write_answers.new.wire) _ _ w)
+
+pub returns-clause-front : goal.returns-clause-front
+returns-clause-front g c = on-err-of c.write_answers.result _ _ (λ fault w. prefix-written (g.W.Wire.allows c.args.wire.now) c.args.options.now c.args.start.now c.args.query.now fault (g.W.Wire.state c.args.wire.now) (g.W.Wire.state c.write_answers.new.wire) _ _ w) c.write_answers.ensures.err
+
+pub returns-clause-headline : goal.returns-clause-headline
+returns-clause-headline g c = λ history config honest.
+    if-ok-from c.write_answers.result _ _ c.write_answers.ensures.ok (λ report w. answers-written c.solutions_suffice.ensures (g.W.Wire.allows c.args.wire.now) c.args.options.now c.args.start.now c.args.query.now report (g.W.Wire.state c.args.wire.now) (g.W.Wire.state c.write_answers.new.wire) _ _ history config honest w)
+
+pub returns-clause-prefix : goal.returns-clause-prefix
+returns-clause-prefix g c = λ history config honest.
+    on-err-of c.write_answers.result _ _ (λ fault w. front-written c.solutions_suffice.ensures (g.W.Wire.allows c.args.wire.now) c.args.options.now c.args.start.now c.args.query.now fault (g.W.Wire.state c.args.wire.now) (g.W.Wire.state c.write_answers.new.wire) _ _ history config honest w) c.write_answers.ensures.err
+
+pub returns-clause-acts : goal.returns-clause-acts
+returns-clause-acts g c =
+    acts-on-groups (g.W.Wire.allows c.args.wire.now) c.args.options.now c.args.start.now c.args.query.now (g.W.Wire.state c.args.wire.now) (g.W.Wire.state c.write_answers.new.wire) (g.K.Sink.state c.args.out.now).faults (g.K.Sink.state c.write_answers.new.out).faults
+    c.write_answers.result c.write_answers.ensures.sink.sink
+    (if-ok-from c.write_answers.result _ _ c.write_answers.ensures.ok (λ report w. w.asks)) (if-err-from c.write_answers.result _ _ c.write_answers.ensures.err (λ fault w. w.asks))
+
+pub returns-clause-complete : goal.returns-clause-complete
+returns-clause-complete g c = λ history config honest alive rise few fits none.
+    completes history config c.args.options.now c.args.query.now c.args.start.now (g.W.Wire.state c.args.wire.now) (g.W.Wire.state c.write_answers.new.wire) rise few fits c.write_answers.result
+    (if-err-from c.write_answers.result _ _ c.write_answers.ensures.err (λ fault w. honest-cause-of (g.W.Wire.allows c.args.wire.now) c.args.options.now c.args.start.now c.args.query.now fault (g.W.Wire.state c.args.wire.now) (g.W.Wire.state c.write_answers.new.wire) history config honest w.asks))
+    (if-err-from c.write_answers.result _ _ c.write_answers.ensures.err (λ fault w. lively-cause-of (g.W.Wire.allows c.args.wire.now) c.args.options.now c.args.start.now c.args.query.now fault (g.W.Wire.state c.args.wire.now) (g.W.Wire.state c.write_answers.new.wire) history config honest alive w.asks))
+    (not-sunk _ c.write_answers.result c.write_answers.ensures.sink.sink none)

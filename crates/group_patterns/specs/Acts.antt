@@ -1,0 +1,91 @@
+-- What the call of a query with groups promises of its wire, and what each fault shows.
+use Rattle.std.specs.Prelude.{ℕ, ◌≡◌, ◌≢◌, ◌≤◌, ◌<◌, List, [], Bool, true, false, Result, IfOk, IfErr}
+use Rattle.tpf_base.specs.Addresses.{Address}
+use Rattle.tpf_base.specs.Causes.{Rose}
+use Rattle.tpf_base.specs.HttpReply as replies
+use Rattle.tpf_base.specs.HttpReply.{reply_of}
+use Rattle.tpf_base.specs.Links.{WireState}
+use Rattle.tpf_base.specs.Sending.{Holds}
+use Rattle.http_wire.specs.Replies.{shown_fault}
+use Rattle.http_wire.specs.declared.message.ReplyFault.{ReplyFault}
+use Rattle.fragment_page.specs.declared.page.PageFault.{PageFault}
+use Rattle.control_reader.specs.Takes.{Faults}
+use Rattle.pool_laws.specs.Causes.{RepliedOn}
+use Rattle.group_query.specs.Trees.{GroupData, group_tree, blocks_of}
+use Rattle.tpf_client.specs.declared.options.Options.{Options}
+use Rattle.tpf_client.specs.declared.options.Report.{Report}
+use Rattle.tpf_client.specs.declared.fault.ClientFault.{ClientFault}
+use Rattle.tpf_client.specs.declared.fault.ClientFault.TheVariants as faults
+use Rattle.tpf_client.specs.Requests.{AreClosed, AreDialledFor, OthersStay, MovesOn, DialsAtMost, GivesAtMost}
+use Rattle.tpf_client.specs.Plans.{OverHonest, OverLively, StaysUnprovoked}
+use Rattle.group_patterns.specs.Blocks.{AsksAll, AsksSome}
+use Rattle.group_patterns.specs.Plans.{IsHonestGroupCause, IsLivelyGroupCause}
+
+-- ---- causes
+
+-- These bytes were received in reply to the request for an address, on a link that was given in the call.
+pub record IsReceivedIn (limit : ℕ) (since now : WireState) (received : List ℕ) : Type 0 where
+  pub address : Address
+  pub on : RepliedOn limit address received now
+  pub fresh : since.given ≤ on.k
+  pub below : on.k < now.given
+
+-- The link ended, and what was received is no whole reply at its end.
+pub record IsCutIn (limit : ℕ) (since now : WireState) (received : List ℕ) : Type 0 where
+  pub is_received : IsReceivedIn limit since now received
+  pub ended : Holds (now.links is_received.on.k).ended true
+  pub more : reply_of received true limit ≡ replies.More
+
+-- What was received has this fault.
+pub record IsRefusedIn (limit : ℕ) (since now : WireState) (fault : ReplyFault) (received : List ℕ) : Type 0 where
+  pub is_received : IsReceivedIn limit since now received
+  pub why : replies.ReplyFault
+  pub is_fault : fault ≡ shown_fault why
+  pub bad : reply_of received false limit ≡ replies.Bad why
+
+-- The body of a whole reply, which was received, is for this reason no page of the address that was asked.
+pub record IsNoPageIn (limit : ℕ) (since now : WireState) (fault : PageFault) (body : List ℕ) : Type 0 where
+  pub received : List ℕ
+  pub is_received : IsReceivedIn limit since now received
+  pub at_end : Bool
+  pub n : ℕ
+  pub keeps : Bool
+  pub whole : reply_of received at_end limit ≡ replies.Whole body n keeps
+  pub ended : at_end ≡ true → Holds (now.links is_received.on.k).ended true
+  pub why : Faults body is_received.address fault
+
+-- What each fault shows of the wire, of what came, and of the sink: the wire's faults rose; so many waits followed one another, which is never so over a lively wire; a link was cut; a reply is refused; a body is no page; two versions differ; the budget is told whole; the sink's faults rose.
+abbrev pub IsGroupCause : Options → WireState → WireState → ℕ → ℕ → ClientFault → Type 0
+IsGroupCause options since now before after faults.Exchange = Rose since.faults now.faults
+IsGroupCause options since now before after faults.Stalled = (1000 ≤ now.idle) × (since.nature.lively ≡ true → ⊥)
+IsGroupCause options since now before after (faults.Cut received) = IsCutIn options.max_body since now received
+IsGroupCause options since now before after (faults.Reply fault received) = IsRefusedIn options.max_body since now fault received
+IsGroupCause options since now before after (faults.Page fault body) = IsNoPageIn options.max_body since now fault body
+IsGroupCause options since now before after (faults.Changed first other) = first ≢ other
+IsGroupCause options since now before after (faults.Budget n) = n ≡ options.budget
+IsGroupCause options since now before after faults.Sink = Rose before after
+IsGroupCause options since now before after faults.OutOfMemory = Unit {0}
+
+-- ---- the wire
+
+-- What a call did on its wire, and why it ended as it did; `before` and `after` count the faults of its sink.
+-- Links: all are closed at the end, each was dialled for the authority of the start, and no other link is touched; the budget bounds the dials and the links of all blocks together, and at Ok the requests that are reported do.
+-- Blocks: at Ok each was asked once, one after another, with what those before it left of the budget, and did on the wire what the call for one query does; at a fault some were. Without a block the wire is as before.
+-- Faults: what each shows of the wire, over honest ends, and over lively ones, where the plan is that of all blocks; none was provoked over a steady wire.
+pub record ActsOnGroups (allows : List ℕ → ℕ → List ℕ → List ℕ → Type 0) (options : Options) (start : Address) (g : GroupData) (result : Result Report ClientFault) (since now : WireState) (before after : ℕ) : Type 0 where
+  pub closed : AreClosed since now
+  pub peers : AreDialledFor start since now
+  pub others : OthersStay since now
+  pub moves : MovesOn since now
+  pub dials : DialsAtMost options.budget since now
+  pub given : GivesAtMost options.budget since now
+  pub within : IfOk result (λ report. report.requests ≤ options.budget)
+  pub dialled : IfOk result (λ report. DialsAtMost report.requests since now)
+  pub linked : IfOk result (λ report. GivesAtMost report.requests since now)
+  pub blocks : IfOk result (λ report. AsksAll allows options start g.names (blocks_of (group_tree g)) report since now)
+  pub stops : IfErr result (λ fault. AsksSome allows options start g.names (blocks_of (group_tree g)) fault since now)
+  pub no_block : blocks_of (group_tree g) ≡ [] → now ≡ since
+  pub cause : IfErr result (IsGroupCause options since now before after)
+  pub honest_cause : OverHonest allows since (λ history config. IfErr result (IsHonestGroupCause history config options g start))
+  pub lively_cause : OverLively allows since (λ history config. IfErr result (IsLivelyGroupCause history config options g start since now))
+  pub unprovoked : OverHonest allows since (λ history config. StaysUnprovoked options since now)

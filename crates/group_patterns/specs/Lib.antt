@@ -1,0 +1,6 @@
+pub mod Blocks
+pub mod Texts
+pub mod Plans
+pub mod Acts
+pub mod Asking
+pub mod Writing
