@@ -6,13 +6,14 @@ use Rattle.tpf_base.specs.declared.shelf.FileFault.{FileFault}
 use Rattle.tpf_base.specs.declared.shelf.FileFault.TheVariants as unreadable
 use Rattle.triple_table.specs.declared.choice.Choice.{Choice}
 use Rattle.triple_table.specs.Stored.{Stored, triples_in}
-use Rattle.bgp_core.specs.Queries.{QueryData}
+use Rattle.group_parser.specs.declared.reading.Asked.{Asked}
+use Rattle.group_parser.specs.declared.reading.Asked.TheVariants.{Plain, Groups}
 use Rattle.data_files.specs.declared.fault.DataFault.{DataFault}
 use Rattle.data_files.specs.declared.fault.DataFault.TheVariants as faults
 use Rattle.data_files.specs.declared.fault.QueryFileFault.{QueryFileFault}
 use Rattle.data_files.specs.declared.fault.QueryFileFault.TheVariants as query_faults
 use Rattle.data_files.specs.Data.{Files, IsOfFile, Outcome, served, too_long, bad, clash, too_many, IsOutcome}
-use Rattle.data_files.specs.Queries.{IsOfQueryFile, QueryOutcome, reads, refused, IsQueryOutcome}
+use Rattle.data_files.specs.Queries.{IsOfAskedFile, QueryOutcome, reads, reads_groups, refused, IsQueryOutcome}
 use Rattle.data_files.specs.Causes.{DataCause, QueryCause, DataDecides, QueryDecides, Gives, GivesQuery, unread, unread_query}
 use Rattle.data_files.proofs.Outcomes.{one_outcome, one_query}
 
@@ -38,9 +39,10 @@ module _ (old new : ShelfState) (name : List ℕ) where
   query_fault_gives files query_faults.File is quiet c outcome o = absurd (quiet c)
   query_fault_gives files query_faults.OutOfMemory is quiet c outcome o = tt
 
-  pub gives_query : (result : Result QueryData QueryFileFault) → IfOk result (IsOfQueryFile old.told name) → IfErr result (QueryCause old new name)
+  pub gives_query : (result : Result Asked QueryFileFault) → IfOk result (IsOfAskedFile old.told name) → IfErr result (QueryCause old new name)
       → QueryDecides old new name (λ outcome. GivesQuery outcome result)
-  gives_query (Ok q) ok err quiet = λ files is outcome o. one_query files name outcome (reads q) o (ok.tells files is)
+  gives_query (Ok (Plain q)) ok err quiet = λ files is outcome o. one_query files name outcome (reads q) o (ok.tells files is)
+  gives_query (Ok (Groups g)) ok err quiet = λ files is outcome o. one_query files name outcome (reads_groups g) o (ok.tells files is)
   gives_query (Err fault) ok err quiet = λ files is outcome o. query_fault_gives files fault is quiet err outcome o
 
 -- ---- a shelf that did not fail

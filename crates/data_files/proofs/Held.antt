@@ -8,11 +8,12 @@ use Rattle.triple_table.specs.declared.choice.Choice.{Choice}
 use Rattle.triple_table.specs.Chosen.{chosen}
 use Rattle.triple_table.specs.Served.{Clashes, IsServed}
 use Rattle.triple_table.specs.Stored.{Stored, triples_in}
-use Rattle.bgp_core.specs.Queries.{QueryData}
-use Rattle.pattern_parser.specs.Queries.{ReadsQuery}
+use Rattle.group_parser.specs.declared.reading.Asked.{Asked}
+use Rattle.group_parser.specs.declared.reading.Asked.TheVariants.{Plain, Groups}
+use Rattle.group_parser.specs.Asking.{IsAsked}
 use Rattle.data_files.specs.declared.fault.DataFault.{DataFault}
 use Rattle.data_files.specs.Data.{Files, OfContents, HoldsData, AreFew, IsOfFile}
-use Rattle.data_files.specs.Queries.{IsOfQueryFile}
+use Rattle.data_files.specs.Queries.{IsOfAskedFile}
 
 -- a file alone
 alone : (name bytes : List ℕ) → content_of ((name, bytes) ∷ []) name ≡ Some bytes
@@ -26,11 +27,16 @@ module _ (told : Option Files) (name bytes : List ℕ) (whole : (files : Files) 
     tells = λ files is. (bytes, whole files is, few, reads);
   }
 
-  pub held_query : (q : QueryData) → ReadsQuery bytes q → IsOfQueryFile told name q
-  held_query q reads = record {
+  pub held_query : (asked : Asked) → IsAsked bytes asked → IsOfAskedFile told name asked
+  held_query (Plain q) is_asked = record {
     files = (name, bytes) ∷ [];
-    holds = (bytes, alone name bytes, reads);
-    tells = λ files is. (bytes, whole files is, reads);
+    holds = (bytes, alone name bytes, is_asked.1);
+    tells = λ files is. (bytes, whole files is, is_asked.1);
+  }
+  held_query (Groups g) is_asked = record {
+    files = (name, bytes) ∷ [];
+    holds = (bytes, alone name bytes, is_asked);
+    tells = λ files is. (bytes, whole files is, is_asked);
   }
 
 pub held_served : (told : Option Files) (name : List ℕ) (choice : Choice) (authority : List ℕ) (quads : List Quad) → OfContents told (λ files. HoldsData files name quads) → (result : Result Stored DataFault)

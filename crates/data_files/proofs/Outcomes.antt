@@ -19,12 +19,18 @@ use Rattle.triple_table.specs.Stored.{PassesMost, IsRanking}
 use Rattle.triple_table.specs.Served.{Clashes, IsLeastClash, IsServed}
 use Rattle.triple_table.proofs.ServedData.{served_one}
 use Rattle.bgp_core.specs.Queries.{QueryData}
-use Rattle.pattern_parser.specs.Queries.{ReadsQuery, FaultAt}
-use Rattle.pattern_parser.specs.declared.fault.QueryWhy.{QueryWhy}
-use Rattle.pattern_parser.proofs.OneQuery.{query_apart, one_first}
+use Rattle.pattern_parser.specs.Queries.{ReadsQuery}
 use Rattle.pattern_parser.proofs.OneQuery as one_queries
+use Rattle.group_query.specs.Trees.{GroupData}
+use Rattle.group_faults.specs.declared.fault.GroupWhy.{GroupWhy}
+use Rattle.group_faults.specs.Faults.{GroupFaultAt}
+use Rattle.group_parser.specs.declared.reading.Asked.TheVariants.{Groups}
+use Rattle.group_parser.specs.Asking.{IsAsked}
+use Rattle.group_parser.proofs.Texts.{query_apart, one_first}
+use Rattle.group_parser.proofs.Texts as one_groups
 use Rattle.data_files.specs.Data.{Files, HoldsData, IsTooLong, HasDataFault, HasClash, HasTooMany, AreFew, Serves, served, too_long, bad, clash, too_many, OneOutcome}
-use Rattle.data_files.specs.Queries.{HoldsQuery, HasQueryFault, reads, refused, OneQueryOutcome}
+use Rattle.data_files.specs.Queries.{HoldsQuery, HoldsGroup, HasQueryFault, reads, reads_groups, refused, OneQueryOutcome}
+use Rattle.data_files.proofs.PlainTexts.{is_plain_text, as_group}
 use Rattle.data_files.proofs.TermLists.{ranking_one}
 
 some_same : {A : Type 0} {x y : A} → Some x ≡ Some y → x ≡ y
@@ -146,17 +152,42 @@ one_outcome files name choice authority too_many too_many p q = refl
 
 -- ---- queries
 
-fault_held : (files : Files) (name : List ℕ) (q : QueryData) (at : ℕ) (why : QueryWhy) → HasQueryFault files name at why → HoldsQuery files name q → ⊥
-fault_held files name q at why f h = query_apart f.0 q why at (subst (λ (b : List ℕ). ReadsQuery b q) (same_bytes files name h.0 f.0 h.1 f.1) h.2) f.2
+module _ (files : Files) (name : List ℕ) where
+  -- what a file holds is read of each of its contents, which are one
+  query_in : (q : QueryData) (bytes : List ℕ) → content_of files name ≡ Some bytes → HoldsQuery files name q → ReadsQuery bytes q
+  query_in q bytes is h = subst (λ (b : List ℕ). ReadsQuery b q) (same_bytes files name h.0 bytes h.1 is) h.2
 
-query_fault_same : (files : Files) (name : List ℕ) (n m : ℕ) (v w : QueryWhy) → HasQueryFault files name n v → HasQueryFault files name m w → refused n v ≡ refused m w
-query_fault_same files name n m v w f g =
-    let first : FaultAt g.0 v n = subst (λ (b : List ℕ). FaultAt b v n) (same_bytes files name f.0 g.0 f.1 g.1) f.2 in
-    let e = one_first g.0 v n w m first g.2 in
-    ap (λ (k : ℕ). refused k v) e.1 ∙ ap (λ (k : QueryWhy). refused m k) e.0
+  group_in : (g : GroupData) (bytes : List ℕ) → content_of files name ≡ Some bytes → HoldsGroup files name g → IsAsked bytes (Groups g)
+  group_in g bytes is h = subst (λ (b : List ℕ). IsAsked b (Groups g)) (same_bytes files name h.0 bytes h.1 is) h.2
+
+  query_group : (q : QueryData) (g : GroupData) → HoldsQuery files name q → HoldsGroup files name g → ⊥
+  query_group q g h k = k.2.0 (is_plain_text k.0 q (query_in q k.0 k.1 h))
+
+  query_fault : (q : QueryData) (at : ℕ) (why : GroupWhy) → HoldsQuery files name q → HasQueryFault files name at why → ⊥
+  query_fault q at why h f = let r = as_group f.0 q (query_in q f.0 f.1 h) in query_apart f.0 r.0 why at r.1 f.2
+
+  group_fault : (g : GroupData) (at : ℕ) (why : GroupWhy) → HoldsGroup files name g → HasQueryFault files name at why → ⊥
+  group_fault g at why h f = query_apart f.0 g why at (group_in g f.0 f.1 h).1 f.2
+
+  query_same : (p q : QueryData) → HoldsQuery files name p → HoldsQuery files name q → reads p ≡ reads q
+  query_same p q h k = ap reads (one_queries.one_query k.0 p q (query_in p k.0 k.1 h) k.2)
+
+  group_same : (f g : GroupData) → HoldsGroup files name f → HoldsGroup files name g → reads_groups f ≡ reads_groups g
+  group_same f g h k = ap reads_groups (one_groups.one_query k.0 f g (group_in f k.0 k.1 h).1 k.2.1)
+
+  query_fault_same : (n m : ℕ) (v w : GroupWhy) → HasQueryFault files name n v → HasQueryFault files name m w → refused n v ≡ refused m w
+  query_fault_same n m v w f g =
+      let first : GroupFaultAt g.0 v n = subst (λ (b : List ℕ). GroupFaultAt b v n) (same_bytes files name f.0 g.0 f.1 g.1) f.2 in
+      let e = one_first g.0 v n w m first g.2 in
+      ap (λ (k : ℕ). refused k v) e.1 ∙ ap (λ (k : GroupWhy). refused m k) e.0
 
 pub one_query : OneQueryOutcome
-one_query files name (reads p) (reads q) f g = ap reads (one_queries.one_query g.0 p q (subst (λ (b : List ℕ). ReadsQuery b p) (same_bytes files name f.0 g.0 f.1 g.1) f.2) g.2)
-one_query files name (reads p) (refused m w) f g = absurd (fault_held files name p m w g f)
-one_query files name (refused n v) (reads q) f g = absurd (fault_held files name q n v f g)
+one_query files name (reads p) (reads q) f g = query_same files name p q f g
+one_query files name (reads p) (reads_groups h) f g = absurd (query_group files name p h f g)
+one_query files name (reads p) (refused m w) f g = absurd (query_fault files name p m w f g)
+one_query files name (reads_groups k) (reads q) f g = absurd (query_group files name q k g f)
+one_query files name (reads_groups k) (reads_groups h) f g = group_same files name k h f g
+one_query files name (reads_groups k) (refused m w) f g = absurd (group_fault files name k m w f g)
+one_query files name (refused n v) (reads q) f g = absurd (query_fault files name q n v g f)
+one_query files name (refused n v) (reads_groups h) f g = absurd (group_fault files name h n v g f)
 one_query files name (refused n v) (refused m w) f g = query_fault_same files name n m v w f g

@@ -9,14 +9,15 @@ use Rattle.triple_table.specs.declared.choice.Choice.{Choice}
 use Rattle.triple_table.specs.Chosen.{chosen}
 use Rattle.triple_table.specs.Stored.{Stored, PassesMost, triples_in}
 use Rattle.triple_table.specs.Served.{IsLeastClash}
-use Rattle.bgp_core.specs.Queries.{QueryData}
 use Rattle.pattern_parser.specs.declared.fault.QueryWhy.TheVariants as queries
+use Rattle.group_faults.specs.declared.fault.GroupWhy.TheVariants.{Basic}
+use Rattle.group_parser.specs.declared.reading.Asked.{Asked}
 use Rattle.data_files.specs.declared.fault.DataFault.{DataFault}
 use Rattle.data_files.specs.declared.fault.DataFault.TheVariants as faults
 use Rattle.data_files.specs.declared.fault.QueryFileFault.{QueryFileFault}
 use Rattle.data_files.specs.declared.fault.QueryFileFault.TheVariants as query_faults
 use Rattle.data_files.specs.Data.{IfTold, IsTooLong, HasDataFault, HasClash, HasTooMany, Outcome, IsOutcome, served, too_long, bad, clash, too_many}
-use Rattle.data_files.specs.Queries.{HasQueryFault, QueryOutcome, IsQueryOutcome, reads, refused}
+use Rattle.data_files.specs.Queries.{HasQueryFault, QueryOutcome, IsQueryOutcome, outcome_of, refused}
 
 -- a file that was not read
 abbrev pub unread : FileFault → DataFault
@@ -26,7 +27,7 @@ unread unreadable.OutOfMemory = faults.OutOfMemory
 
 abbrev pub unread_query : FileFault → QueryFileFault
 unread_query unreadable.Failed = query_faults.File
-unread_query unreadable.TooLong = query_faults.Bad 262144 queries.TooLong
+unread_query unreadable.TooLong = query_faults.Bad 262144 (Basic queries.TooLong)
 unread_query unreadable.OutOfMemory = query_faults.OutOfMemory
 
 -- what a fault of the data of a file rests on, by the shelf before and after it was read
@@ -64,8 +65,8 @@ Gives outcome (Err faults.TooMany) = outcome ≡ too_many
 Gives outcome (Err faults.File) = ⊥
 Gives outcome (Err faults.OutOfMemory) = Unit {0}
 
-abbrev pub GivesQuery : QueryOutcome → Result QueryData QueryFileFault → Type 0
-GivesQuery outcome (Ok q) = outcome ≡ reads q
+abbrev pub GivesQuery : QueryOutcome → Result Asked QueryFileFault → Type 0
+GivesQuery outcome (Ok asked) = outcome ≡ outcome_of asked
 GivesQuery outcome (Err (query_faults.Bad at why)) = outcome ≡ refused at why
 GivesQuery outcome (Err query_faults.File) = ⊥
 GivesQuery outcome (Err query_faults.OutOfMemory) = Unit {0}

@@ -1,7 +1,7 @@
 // Why a file is not read, or what it holds is not served.
 
+use group_faults::GroupWhy;
 use nquads_text::Why;
-use pattern_parser::QueryWhy;
 use tpf_base::Text;
 
 /// Why the data of a file are not served. Where the shelf tells what the file holds, all but the last
@@ -26,9 +26,9 @@ pub enum DataFault {
 /// Why the query of a file is not read.
 #[derive(Clone, Copy, Debug, PartialEq, Eq)]
 pub enum QueryFileFault {
-    /// The first fault of the query, and the byte at which it stands, from 0. A file of more than
-    /// 262144 bytes is too long a query, at byte 262144.
-    Bad { at: usize, why: QueryWhy },
+    /// The first fault of the query, and the byte at which it stands, from 0, in the grammar of queries
+    /// with groups. A file of more than 262144 bytes is too long a query, at byte 262144.
+    Bad { at: usize, why: GroupWhy },
     /// The file could not be read: the shelf's count of faults rose.
     File,
     /// Out of memory.

@@ -1,12 +1,13 @@
 // The query of a file.
 ghost use Rattle.std.specs.Prelude.{◌≡◌, Err, IfOk, IfErr};
-ghost use Rattle.data_files.specs.Queries.{IsOfQueryFile, OneQueryOutcome};
+ghost use Rattle.data_files.specs.Queries.{IsOfAskedFile, OneQueryOutcome};
 ghost use Rattle.data_files.specs.Kept.{ReadsNamed};
 ghost use Rattle.data_files.specs.Causes.{QueryCause, QueryDecides, GivesQuery, unread_query};
 
 use crate::QueryFileFault;
-use bgp_core::Query;
-use pattern_parser::{QueryFault, QueryWhy, parse};
+use group_faults::{GroupFault, GroupWhy};
+use group_parser::{Asked, parse_asked};
+use pattern_parser::QueryWhy;
 use std::alloc::Global;
 use tpf_base::{FileFault, Shelf, read_file};
 
@@ -20,13 +21,15 @@ fn unread(fault: FileFault) -> QueryFileFault
         FileFault::Failed => QueryFileFault::File,
         FileFault::TooLong => QueryFileFault::Bad {
             at: MOST_QUERY,
-            why: QueryWhy::TooLong,
+            why: GroupWhy::Basic(QueryWhy::TooLong),
         },
         FileFault::OutOfMemory => QueryFileFault::OutOfMemory,
     }
 }
 
-/// Reads the query of a file: a text of at most 262144 bytes (SPARQL 1.1 Query, 19.8).
+/// Reads the query of a file: a text of at most 262144 bytes (SPARQL 1.1 Query, 19.8). It is a query of
+/// one basic graph pattern where its tokens hold none of DISTINCT, OPTIONAL and UNION and one `{`, and
+/// else a query with groups.
 ///
 /// `Bad` comes exactly where the file holds such bytes, `File` only where the shelf's count of faults
 /// rose, and `OutOfMemory` where memory ran out. What the shelf tells stays as it was. The file is found
@@ -36,8 +39,8 @@ pub fn read_query<F: Shelf>(
     alloc: Global,
     shelf: &mut F,
     name: &str,
-) -> Result<Query, QueryFileFault>
-    ensures ok { IfOk result (IsOfQueryFile (F.state shelf.old).told name.now) }
+) -> Result<Asked, QueryFileFault>
+    ensures ok { IfOk result (IsOfAskedFile (F.state shelf.old).told name.now) }
     ensures err { IfErr result (QueryCause (F.state shelf.old) (F.state shelf.new) name.now) }
     ensures exact { QueryDecides (F.state shelf.old) (F.state shelf.new) name.now
         (λ outcome. GivesQuery outcome result) }
@@ -47,15 +50,15 @@ pub fn read_query<F: Shelf>(
         Ok(bytes) => bytes,
         Err(fault) => return Err(unread(fault)),
     };
-    match parse(alloc, &bytes) {
-        Ok(query) => Ok(query),
-        Err(QueryFault::Bad { at, why }) => Err(QueryFileFault::Bad { at, why }),
-        Err(QueryFault::OutOfMemory) => Err(QueryFileFault::OutOfMemory),
+    match parse_asked(alloc, &bytes) {
+        Ok(asked) => Ok(asked),
+        Err(GroupFault::Bad { at, why }) => Err(QueryFileFault::Bad { at, why }),
+        Err(GroupFault::OutOfMemory) => Err(QueryFileFault::OutOfMemory),
     }
 }
 
-/// The text of a file has one outcome at most: it is one query, or has one first fault. The call does
-/// nothing; it tells a proof of it.
+/// The text of a file has one outcome at most: it is one query without groups, one with groups, or has one
+/// first fault. The call does nothing; it tells a proof of it.
 pub fn one_query_outcome()
     ensures { OneQueryOutcome }
 {}

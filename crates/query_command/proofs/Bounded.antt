@@ -48,7 +48,7 @@ part_askable : (part : Part) → IsShortPart part → IsAskablePart part
 part_askable (Fixed t) h = h
 part_askable (Name n) h = tt
 
-patterns_askable : (ps : List Pattern) → AllByRecursion IsValidPattern ps → AllByRecursion IsShortPattern ps → AllByRecursion IsAskable ps
+pub patterns_askable : (ps : List Pattern) → AllByRecursion IsValidPattern ps → AllByRecursion IsShortPattern ps → AllByRecursion IsAskable ps
 patterns_askable [] v h = tt
 patterns_askable (p ∷ ps) v h =
     let short = h.0 in

@@ -80,10 +80,10 @@ module _ (shelf shelf' : ShelfState) (persons : ℕ) (name : List ℕ) (inside :
 
 -- ---- over a wire to a server elsewhere
 
-one_told : (triples : List Triple) (first other : Option ℕ) → TellsVersions (triples ∷ []) first other → ⊥
+pub one_told : (triples : List Triple) (first other : Option ℕ) → TellsVersions (triples ∷ []) first other → ⊥
 one_told triples first other t = t.differ (sym (one_version triples t.one t.is_one) ∙ one_version triples t.two t.is_two)
 
-still_memory : (triples : List Triple) (fault : ClientFault) → MayStill (triples ∷ []) fault → fault ≡ clients.OutOfMemory
+pub still_memory : (triples : List Triple) (fault : ClientFault) → MayStill (triples ∷ []) fault → fault ≡ clients.OutOfMemory
 still_memory triples clients.Exchange h = absurd h
 still_memory triples clients.Stalled h = absurd h
 still_memory triples (clients.Cut received) h = absurd h

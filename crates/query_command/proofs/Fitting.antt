@@ -7,9 +7,9 @@ use Rattle.tpf_base.specs.Addresses.{Address, address_text, authority_of, query_
 use Rattle.tpf_base.specs.Links.{WireState}
 use Rattle.tpf_base.specs.Marks.{Served}
 use Rattle.template_fill.specs.Metadata.{Config}
-use Rattle.template_fill.specs.Configurations.{IsConfig, IsValidDataSet}
+use Rattle.template_fill.specs.Configurations.{IsConfig, IsHistory, IsValidDataSet}
 use Rattle.template_fill.specs.ReadAddress.{path_of}
-use Rattle.template_fill.specs.Answered.{address_answer, AnsweredGivePages}
+use Rattle.template_fill.specs.Answered.{address_answer, is_answered, AnsweredGivePages}
 use Rattle.control_reader.specs.Takes.{Takes}
 use Rattle.bgp_core.specs.Queries.{QueryData}
 use Rattle.plan_laws.specs.Fitting.{IsRead, AreServable, IsAskable, IsServable, PlansAreRead, BasesAreRead, StartsAreRead}
@@ -32,7 +32,7 @@ pub at_version : (triples : List Triple) (config : Config) (q : QueryData) (star
     → P (addresses_of (triples ∷ []) config q start 1) → P (addresses_of (triples ∷ []) config q start version)
 at_version triples config q start P version is h = subst (λ (v : ℕ). P (addresses_of (triples ∷ []) config q start v)) (one_version triples version is) h
 
-all_weaker : (P Q : Address → Type 0) → ((address : Address) → P address → Q address) → (list : List Address) → AllByRecursion P list → AllByRecursion Q list
+pub all_weaker : (P Q : Address → Type 0) → ((address : Address) → P address → Q address) → (list : List Address) → AllByRecursion P list → AllByRecursion Q list
 all_weaker P Q f [] h = tt
 all_weaker P Q f (address ∷ list) h = (f address h.0, all_weaker P Q f list h.1)
 
@@ -51,13 +51,13 @@ module _ (triples : List Triple) (config : Config) where
   status_at : (address : Address) → Reads address → (version : ℕ) → 1 ≡ version → (answer_at (triples ∷ []) config version address).status ≡ 200
   status_at address r version is = subst (λ (v : ℕ). (answer_at (triples ∷ []) config v address).status ≡ 200) is (is_200 (address_answer (triples ∷ []) (Served 1) config address).status r.answered)
 
-  answered_of : (address : Address) → Reads address → IsAnswered (triples ∷ []) config address
+  pub answered_of : (address : Address) → Reads address → IsAnswered (triples ∷ []) config address
   answered_of address r = record {
     short = r.short;
     answered = λ version low high. status_at address r version (one_version triples version (record { low = low; high = high }));
   }
 
-  read_by_all : (address : Address) → Reads address → IsReadByAll (triples ∷ []) config address
+  pub read_by_all : (address : Address) → Reads address → IsReadByAll (triples ∷ []) config address
   read_by_all address r = λ version is status.
       (r.page, subst (λ (v : ℕ). Takes (answer_at (triples ∷ []) config v address).body address r.page) (one_version triples version is) r.taken)
 
@@ -89,7 +89,7 @@ plan_is_read plans bases triples config q base valid is_config servable askable 
 -- ---- over a wire to a server elsewhere
 
 module _ (triples : List Triple) (config : Config) (most : ℕ) where
-  fits : (list : List Address) → AllByRecursion (IsRead (triples ∷ []) (Served 1) config) list → AllByRecursion (IsSmallByAll (triples ∷ []) config most) list → AllByRecursion (IsFit (triples ∷ []) config most) list
+  pub fits : (list : List Address) → AllByRecursion (IsRead (triples ∷ []) (Served 1) config) list → AllByRecursion (IsSmallByAll (triples ∷ []) config most) list → AllByRecursion (IsFit (triples ∷ []) config most) list
   fits [] r s = tt
   fits (address ∷ list) r s = (record { is_answered = answered_of triples config address r.0; is_read = read_by_all triples config address r.0; is_small = s.0 }, fits list r.1 s.1)
 
@@ -119,20 +119,26 @@ base_of_start base start none same path few =
 target_of_start : (start : Address) → length (address_text start) ≤ 65536 → length (target_of start) ≤ 65536
 target_of_start start few = omega (arith, few, text_length start)
 
+-- the plan from a start that is answered is read
+pub start_plan_is_read : PlansAreRead → StartsAreRead → AnsweredGivePages → (triples : List Triple) (config : Config) (start : Address) (q : QueryData) → IsHistory (triples ∷ []) → IsConfig config → AreServable triples
+    → authority_of start ≡ authority_of config.base → is_answered (triples ∷ []) (Served 1) config start ≡ true → length (address_text start) ≤ 65536
+    → AllByRecursion IsAskable q.patterns → AllByRecursion (IsRead (triples ∷ []) (Served 1) config) (addresses_of (triples ∷ []) config q start 1)
+start_plan_is_read plans starts gives triples config start q is_history is_config servable authority answered text askable =
+    let s : IsServable (triples ∷ []) (Served 1) config = record {
+      is_history = is_history;
+      is_config = is_config;
+      version = record { low = omega arith; high = omega arith };
+      triples = servable;
+      base = base_of_start config.base start is_config.no_query authority ((gives (triples ∷ []) (Served 1) config start).0 answered).gives.asks.path text;
+    } in (
+      starts (triples ∷ []) (Served 1) config start s authority (target_of_start start text) answered,
+      if_all (IsRead (triples ∷ []) (Served 1) config) (is_served (triples ∷ []) config start 1) _ (plans (triples ∷ []) (Served 1) config q.patterns (length q.names) s askable),
+    )
+
 pub plan_fits : PlansAreRead → StartsAreRead → AnsweredGivePages → (allows : List ℕ → ℕ → List ℕ → List ℕ → Type 0) (q : QueryData) (start : Address) (options : Options) (triples : List Triple) (config : Config) (old new : WireState)
     → AllByRecursion IsAskable q.patterns → length (address_text start) ≤ 65536 → (f : FitsOver allows q start options triples config old new) → PlanFits (triples ∷ []) config options q start f.rise
 plan_fits plans starts gives allows q start options triples config old new askable text f =
-    let s : IsServable (triples ∷ []) (Served 1) config = record {
-      is_history = f.honest.is_history;
-      is_config = f.honest.is_config;
-      version = record { low = omega arith; high = omega arith };
-      triples = f.servable;
-      base = base_of_start config.base start f.honest.is_config.no_query f.authority ((gives (triples ∷ []) (Served 1) config start).0 f.answered).gives.asks.path text;
-    } in
-    let reads : AllByRecursion (IsRead (triples ∷ []) (Served 1) config) (addresses_of (triples ∷ []) config q start 1) = (
-      starts (triples ∷ []) (Served 1) config start s f.authority (target_of_start start text) f.answered,
-      if_all (IsRead (triples ∷ []) (Served 1) config) (is_served (triples ∷ []) config start 1) _ (plans (triples ∷ []) (Served 1) config q.patterns (length q.names) s askable),
-    ) in
+    let reads = start_plan_is_read plans starts gives triples config start q f.honest.is_history f.honest.is_config f.servable f.authority f.answered text askable in
     record {
       fit = λ version is. at_version triples config q start (AllByRecursion (IsFit (triples ∷ []) config options.max_body)) version is (fits triples config options.max_body (addresses_of (triples ∷ []) config q start 1) reads f.small);
       within = λ version is. at_version triples config q start (λ (list : List Address). length list + f.rise ≤ options.budget) version is f.within;

@@ -8,10 +8,9 @@ use Rattle.tpf_base.specs.HttpConnection.{heads_of}
 use Rattle.tpf_base.specs.Marks.{Mark, Served, Failed, version_at}
 use Rattle.template_fill.specs.Metadata.{Config}
 use Rattle.template_fill.specs.Bodies.{version_of}
-use Rattle.template_fill.specs.Configurations.{IsConfig, IsHistory, IsValidDataSet}
+use Rattle.template_fill.specs.Configurations.{IsConfig, IsValidDataSet}
 use Rattle.template_fill.specs.Responses.{answering, asks_reload, reload_version, reload_versions, response_by, FitsHead, IsVersion, IsRising, AreMarks, IsHonest}
 use Rattle.connections.specs.Versions.{Serving}
-use Rattle.connections.specs.Versions as numbered
 use Rattle.loop_wire.specs.Looped.{Looped}
 use Rattle.loop_wire.specs.Response.{IsOf}
 use Rattle.tpf_base.specs.Links.{SameAllowed}
@@ -155,8 +154,8 @@ honest_wire server seed fail_every first valid config few = record {
 
 -- ---- the solutions
 
-one_version : (triples : List Triple) (version : ℕ) → 1 ≤ version → version ≤ 1 → version_of (triples ∷ []) version ≡ triples
-one_version triples version low high = ap (version_of (triples ∷ [])) (same version low high)
+pub version_is : (triples : List Triple) (version : ℕ) → 1 ≤ version → version ≤ 1 → version_of (triples ∷ []) version ≡ triples
+version_is triples version low high = ap (version_of (triples ∷ [])) (same version low high)
   where
     same : (n : ℕ) → 1 ≤ n → n ≤ 1 → n ≡ 1
     same n a b = omega (arith, a, b)
@@ -164,7 +163,7 @@ one_version triples version low high = ap (version_of (triples ∷ [])) (same ve
 pub answer_of_one : (triples : List Triple) (q : QueryData) (report : Report) (taken taken' : Option (List ℕ)) → WritesSolutions (triples ∷ []) q report.version report.rows taken taken' → WritesAnswer triples q report.rows taken taken'
 answer_of_one triples q report taken taken' s = record {
   rows = s.rows;
-  rows_are = subst (λ (ts : List Triple). IsPermutation (solutions_of ts q) s.rows) (one_version triples s.version s.is_version.low s.is_version.high) s.rows_are;
+  rows_are = subst (λ (ts : List Triple). IsPermutation (solutions_of ts q) s.rows) (version_is triples s.version s.is_version.low s.is_version.high) s.rows_are;
   text = s.text;
   count = s.count;
 }
@@ -172,6 +171,6 @@ answer_of_one triples q report taken taken' s = record {
 pub front_of_one : (triples : List Triple) (q : QueryData) (taken taken' : Option (List ℕ)) → WritesSolutionsFront (triples ∷ []) q taken taken' → WritesAnswerFront triples q taken taken'
 front_of_one triples q taken taken' s = record {
   rows = s.rows;
-  rows_are = subst (λ (ts : List Triple). IsPermutation (solutions_of ts q) s.rows) (one_version triples s.version s.is_version.low s.is_version.high) s.rows_are;
+  rows_are = subst (λ (ts : List Triple). IsPermutation (solutions_of ts q) s.rows) (version_is triples s.version s.is_version.low s.is_version.high) s.rows_are;
   text = s.text;
 }

@@ -8,5 +8,12 @@ pub mod Failing
 pub mod Fitting
 pub mod Planned
 pub mod Bounded
+pub mod ShortTokens
+pub mod GroupTerms
 pub mod Complete
 pub mod Opening
+pub mod ValidBlocks
+pub mod GroupPlans
+pub mod GroupPlanned
+pub mod GroupLooping
+pub mod GroupFiles

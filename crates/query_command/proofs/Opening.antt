@@ -1,14 +1,13 @@
 -- Files that are found one after another.
-use Rattle.std.proofs.Common.{ℕ, ◌≡◌, ◌++◌, inl, inr, List, [], ◌∷◌, Option, Result, Ok, Err, refl, sym, ap, subst, ◌∙◌, arith}
+use Rattle.std.proofs.Common.{ℕ, ◌≡◌, ◌++◌, inl, inr, List, [], ◌∷◌, Option, Result, Err, refl, sym, ap, subst, ◌∙◌, arith}
 use Rattle.std.proofs.lemmas.List.{append_assoc}
 use Rattle.tpf_base.specs.Outside.{ShelfState, HoldsName, LeavesOpened, AsksOnce}
 use Rattle.tpf_client.specs.declared.options.Report.{Report}
-use Rattle.tpf_client.specs.declared.fault.ClientFault.{ClientFault}
 use Rattle.data_files.specs.declared.fault.DataFault.{DataFault}
 use Rattle.data_files.specs.declared.fault.DataFault.TheVariants as data_faults
 use Rattle.data_files.specs.declared.fault.QueryFileFault.{QueryFileFault}
 use Rattle.data_files.specs.declared.fault.QueryFileFault.TheVariants as query_faults
-use Rattle.data_files.specs.Kept.{KeepsShelf, ReadsNamed}
+use Rattle.data_files.specs.Kept.{ReadsNamed}
 use Rattle.data_files.specs.KeptLaws.{shelf_none, shelf_both, reads_keep}
 use Rattle.query_command.specs.declared.fault.AnswerFault.{AnswerFault}
 use Rattle.query_command.specs.declared.fault.AnswerFault.TheVariants as faults

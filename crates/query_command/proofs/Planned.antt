@@ -188,7 +188,7 @@ answers_from server seed n after q options taken taken' (Err fault) honest ok = 
 
 -- ---- completeness
 
-long_body : (triples : List Triple) (config : Config) (most : ℕ) (list : List Address) (received : List ℕ) → AllByRecursion (IsSmallByAll (triples ∷ []) config most) list → HasLongPage (triples ∷ []) config most list received → ⊥
+pub long_body : (triples : List Triple) (config : Config) (most : ℕ) (list : List Address) (received : List ℕ) → AllByRecursion (IsSmallByAll (triples ∷ []) config most) list → HasLongPage (triples ∷ []) config most list received → ⊥
 long_body triples config most list received small h =
     let b = h.long.is_body in
     let fits = all_in (IsSmallByAll (triples ∷ []) config most) list h.address small h.is_asked in

@@ -5,3 +5,5 @@ pub mod Generated
 pub mod Plans
 pub mod Limits
 pub mod Commands
+pub mod Groups
+pub mod Over

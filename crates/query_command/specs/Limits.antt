@@ -10,7 +10,8 @@ use Rattle.generated_data.specs.Generated.{generated}
 use Rattle.bgp_core.specs.Queries.{QueryData, IsValidPattern}
 use Rattle.plan_laws.specs.Fitting.{AreServable, IsAskable}
 use Rattle.data_files.specs.Data.{Files, Serves}
-use Rattle.data_files.specs.Queries.{HoldsQuery}
+use Rattle.group_query.specs.Trees.{GroupData, group_tree, blocks_of}
+use Rattle.data_files.specs.Queries.{HoldsQuery, HoldsGroup}
 
 -- the data that are served of a file
 abbrev pub FilesAreServable : Type 0
@@ -23,3 +24,8 @@ GeneratedAreServable = (persons : ℕ) (triples : List Triple) → persons ≤ 1
 -- the patterns of the query that a file holds
 abbrev pub QueriesAreAskable : Type 0
 QueriesAreAskable = (files : Files) (name : List ℕ) (q : QueryData) → HoldsQuery files name q → AllByRecursion IsValidPattern q.patterns → AllByRecursion IsAskable q.patterns
+
+-- the patterns of each block of the query with groups that a file holds
+abbrev pub GroupsAreAskable : Type 0
+GroupsAreAskable = (files : Files) (name : List ℕ) (g : GroupData) → HoldsGroup files name g
+    → AllByRecursion (AllByRecursion IsValidPattern) (blocks_of (group_tree g)) → AllByRecursion (AllByRecursion IsAskable) (blocks_of (group_tree g))

@@ -7,16 +7,20 @@ ghost use Rattle.plan_laws.specs.Fitting.{AreServable, IsAskable};
 ghost use Rattle.query_command.specs.Generated.{usual_options, CountsQuery, LoopsGenerated, AsksOver, FailsOn};
 ghost use Rattle.query_command.specs.Loops.{LoopsServer, LeavesHonest, local_base, local_config, wire_of};
 ghost use Rattle.query_command.specs.Plans.{SendsPlan, BoundsRequests, RepliesRows, MayEnd};
-ghost use Rattle.query_command.specs.Commands.{AsksGenerated};
+ghost use Rattle.query_command.specs.Groups.{GeneratedAsked};
+ghost use Rattle.query_command.specs.Over.{AsksGeneratedOver};
 
 use crate::AnswerFault;
+use crate::group_wire::ask_groups;
 use crate::limits::commands_keep_limits;
-use crate::local_query::{Asked, ask_server};
+use crate::local_query::{OverWire, ask_server};
 use crate::start::{local_config, local_start};
 use bgp_core::Query;
 use data_files::{DataFault, read_query};
 use fragment_server::{FragmentConnection, FragmentServer};
 use generated_server::server_of_generated;
+use group_parser::Asked;
+use group_query::GroupQuery;
 use loop_wire::LoopWire;
 use std::alloc::Global;
 use std::sync::Wait;
@@ -85,7 +89,7 @@ fn ask_generated<R: Wait>(
     ensures honest { LoopsServer server 0 0 inside.new LeavesHonest }
 {
     let triples = server.server().table().len() as u64;
-    let asked = Asked {
+    let asked = OverWire {
         start,
         options: usual_options(),
         seed: 0,
@@ -93,6 +97,37 @@ fn ask_generated<R: Wait>(
     };
     let mut drain = Drain::new();
     match ask_server(rt, alloc, &asked, server, query, &mut drain, inside) {
+        Ok(report) => Ok(Counts {
+            triples,
+            rows: report.rows,
+        }),
+        Err(fault) => Err(fault),
+    }
+}
+
+/// Asks the server of generated data a query with groups, whose result is counted and not kept.
+fn count_groups<R: Wait>(
+    rt: &R,
+    alloc: Global,
+    persons: u32,
+    start: &WebAddress,
+    server: FragmentServer,
+    query: &GroupQuery,
+    inside: &mut Option<LoopWire<FragmentConnection>>,
+) -> Result<Counts, ClientFault>
+    requires start { start.now ≡ local_base }
+    requires starts { StartsGenerated persons (local_config 100) (serving server) }
+    ensures { AsksGeneratedOver server persons query.now result inside.new }
+{
+    let triples = server.server().table().len() as u64;
+    let asked = OverWire {
+        start,
+        options: usual_options(),
+        seed: 0,
+        fail_every: 0,
+    };
+    let mut drain = Drain::new();
+    match ask_groups(rt, alloc, &asked, server, query, &mut drain, inside) {
         Ok(report) => Ok(Counts {
             triples,
             rows: report.rows,
@@ -120,6 +155,10 @@ fn ask_generated<R: Wait>(
 /// these is so and the shelf does not fail (`complete`). Over any other shelf such a fault has the same
 /// causes, of a query as read of some file (`planned`). The wire that is left answers as the server of these data
 /// does (`honest`).
+///
+/// A query with groups is asked block after block (`GeneratedAsked.Groups`): the numbers are those of the
+/// data and of its answers over them, and a fault over the wire comes only where a body is longer than the
+/// limit, the budget is spent, or memory ran out (`ends`).
 pub fn query_generated<R: Wait, F: Shelf>(
     rt: &R,
     alloc: Global,
@@ -130,7 +169,7 @@ pub fn query_generated<R: Wait, F: Shelf>(
 ) -> Result<Counts, AnswerFault>
     requires none { inside.old ≡ None }
     requires most { persons ≤ 1000000 }
-    ensures { AsksGenerated (F.state shelf.old) (F.state shelf.new) inside.new persons query.now result }
+    ensures { GeneratedAsked (F.state shelf.old) (F.state shelf.new) inside.new persons query.now result }
 {
     commands_keep_limits();
     served_is_one();
@@ -144,9 +183,19 @@ pub fn query_generated<R: Wait, F: Shelf>(
     let Ok(server) = generated_server(alloc, persons) else {
         return Err(AnswerFault::Data(DataFault::OutOfMemory));
     };
-    let _patterns = query.patterns();
-    match ask_generated(rt, alloc, persons, &start, server, &query, inside) {
-        Ok(counts) => Ok(counts),
-        Err(fault) => Err(AnswerFault::Client(fault)),
+    match query {
+        Asked::Plain(query) => {
+            let _patterns = query.patterns();
+            match ask_generated(rt, alloc, persons, &start, server, &query, inside) {
+                Ok(counts) => Ok(counts),
+                Err(fault) => Err(AnswerFault::Client(fault)),
+            }
+        }
+        Asked::Groups(query) => {
+            match count_groups(rt, alloc, persons, &start, server, &query, inside) {
+                Ok(counts) => Ok(counts),
+                Err(fault) => Err(AnswerFault::Client(fault)),
+            }
+        }
     }
 }

@@ -13,6 +13,7 @@
 
 mod fault;
 mod generated_query;
+mod group_wire;
 mod limits;
 mod local_query;
 mod server_query;

@@ -7,15 +7,17 @@ ghost use Rattle.plan_laws.specs.Fitting.{AreServable, IsAskable};
 ghost use Rattle.tpf_client.specs.Requested.{AnswersPlan};
 ghost use Rattle.query_command.specs.Loops.{LoopsServer, LeavesHonest, WritesLooped, FailsLooped, WritesAnswer, WritesAnswerFront, local_view, local_base, wire_of};
 ghost use Rattle.query_command.specs.Plans.{SendsPlan, BoundsRequests, EndsAsPlanned};
-ghost use Rattle.query_command.specs.Commands.{AsksFile};
+ghost use Rattle.query_command.specs.Groups.{FileAsked};
 
 use crate::AnswerFault;
+use crate::group_wire::ask_groups;
 use crate::limits::commands_keep_limits;
 use crate::start::{local_config, local_start};
 use bgp_core::Query;
 use data_files::{DataFault, read_query};
 use file_server::server_of_file;
 use fragment_server::{FragmentConnection, FragmentServer};
+use group_parser::Asked;
 use loop_wire::LoopWire;
 use plan_laws::plans_are_read;
 use std::alloc::Global;
@@ -46,7 +48,7 @@ pub struct LocalQuery<'a> {
 }
 
 /// A table has fewer triples than a page can count. The call does nothing; it tells a proof of it.
-fn is_few(server: &FragmentServer)
+pub(crate) fn is_few(server: &FragmentServer)
     ensures { length (serving server.now).data_set < 2 ^ 64 }
 {
     let _count = server.server().table().len();
@@ -54,7 +56,7 @@ fn is_few(server: &FragmentServer)
 
 /// What is asked over a wire that is made for it.
 #[derive(Drop)]
-pub(crate) struct Asked<'a> {
+pub(crate) struct OverWire<'a> {
     /// The page at which the query starts.
     pub(crate) start: &'a WebAddress,
     /// What bounds the call over the wire.
@@ -70,7 +72,7 @@ pub(crate) struct Asked<'a> {
 pub(crate) fn ask_server<R: Wait, K: Sink>(
     rt: &R,
     alloc: Global,
-    asked: &Asked<'_>,
+    asked: &OverWire<'_>,
     server: FragmentServer,
     query: &Query,
     out: &mut K,
@@ -141,6 +143,12 @@ pub(crate) fn ask_server<R: Wait, K: Sink>(
 /// holds of the data with which the wire was made and of a query, each as read of some file: so a stall, a
 /// page that is none and another version never end the call, and an exchange only where dials are to fail
 /// (`planned`). The wire that is left answers as the server of these data does (`honest`).
+///
+/// A query without groups is asked as one basic graph pattern (`FileAsked.Plain`). One with groups is asked
+/// block after block (`FileAsked.Groups`): the text of its answers over the data of the file is written,
+/// and what was done on the wire is said of each block. A stall, a page that is none and another version
+/// never end it, an exchange does only where dials are to fail, a reply only where a body of the plan is
+/// longer than the limit, and the budget is told whole (`ends`).
 pub fn local<R: Wait, F: Shelf, K: Sink>(
     rt: &R,
     alloc: Global,
@@ -155,7 +163,7 @@ pub fn local<R: Wait, F: Shelf, K: Sink>(
     requires window { 1 ≤ asked.now.options.window }
     requires some { 1 ≤ asked.now.options.links }
     requires few { asked.now.options.links ≤ 256 }
-    ensures { AsksFile (F.state shelf.old) (F.state shelf.new) (K.state out.old) (K.state out.new)
+    ensures { FileAsked (F.state shelf.old) (F.state shelf.new) (K.state out.old) (K.state out.new)
         inside.new (local_view asked.now) result }
 {
     commands_keep_limits();
@@ -173,15 +181,23 @@ pub fn local<R: Wait, F: Shelf, K: Sink>(
         Ok(query) => query,
         Err(fault) => return Err(AnswerFault::Query(fault)),
     };
-    let _patterns = query.patterns();
-    let over = Asked {
+    let over = OverWire {
         start: &start,
         options: asked.options,
         seed: asked.seed,
         fail_every: asked.fail_every,
     };
-    match ask_server(rt, alloc, &over, server, &query, out, inside) {
-        Ok(report) => Ok(report),
-        Err(fault) => Err(AnswerFault::Client(fault)),
+    match query {
+        Asked::Plain(query) => {
+            let _patterns = query.patterns();
+            match ask_server(rt, alloc, &over, server, &query, out, inside) {
+                Ok(report) => Ok(report),
+                Err(fault) => Err(AnswerFault::Client(fault)),
+            }
+        }
+        Asked::Groups(query) => match ask_groups(rt, alloc, &over, server, &query, out, inside) {
+            Ok(report) => Ok(report),
+            Err(fault) => Err(AnswerFault::Client(fault)),
+        },
     }
 }

@@ -1,11 +1,14 @@
 // The query of a file over a wire.
 ghost use Rattle.std.specs.Prelude.{◌≤◌};
 ghost use Rattle.tpf_base.specs.Links.{SameAllowed};
-ghost use Rattle.query_command.specs.Answers.{AsksServer};
+ghost use Rattle.query_command.specs.Groups.{ServerAsked};
 
 use crate::AnswerFault;
+use crate::group_wire::blocks_are_valid;
 use crate::limits::commands_keep_limits;
 use data_files::read_query;
+use group_parser::Asked;
+use group_patterns::answer;
 use plan_laws::plans_are_read;
 use std::alloc::Global;
 use std::sync::Wait;
@@ -28,6 +31,10 @@ use tpf_client::{Options, Report, query as query_server};
 /// within the limits of the program does, the plan fits, the faults of the wire rise at most as often as a
 /// request may be sent again, and shelf and output do not fail, the call succeeds unless memory runs out
 /// (`complete`).
+///
+/// A query without groups is asked as one basic graph pattern (`ServerAsked.Plain`). One with groups is
+/// asked block after block (`ServerAsked.Groups`): over a wire whose other ends answer as a server does, the
+/// text of its answers over the version that is reported is written.
 pub fn query<R: Wait, F: Shelf, W: Dial, K: Sink>(
     rt: &R,
     alloc: Global,
@@ -41,7 +48,7 @@ pub fn query<R: Wait, F: Shelf, W: Dial, K: Sink>(
     requires window { 1 ≤ options.now.window }
     requires some { 1 ≤ options.now.links }
     requires few { options.now.links ≤ 256 }
-    ensures asks { AsksServer (F.state shelf.old) (F.state shelf.new)
+    ensures asks { ServerAsked (F.state shelf.old) (F.state shelf.new)
         (W.allows wire.old) (W.state wire.old) (W.state wire.new) (K.state out.old) (K.state out.new)
         name.now start.now options.now result }
     ensures allowed { SameAllowed (W.allows wire.old) (W.allows wire.new) }
@@ -53,9 +60,20 @@ pub fn query<R: Wait, F: Shelf, W: Dial, K: Sink>(
         Ok(query) => query,
         Err(fault) => return Err(AnswerFault::Query(fault)),
     };
-    let _patterns = query.patterns();
-    match query_server(rt, alloc, &query, start, options, wire, out) {
-        Ok(report) => Ok(report),
-        Err(fault) => Err(AnswerFault::Client(fault)),
+    match query {
+        Asked::Plain(query) => {
+            let _patterns = query.patterns();
+            match query_server(rt, alloc, &query, start, options, wire, out) {
+                Ok(report) => Ok(report),
+                Err(fault) => Err(AnswerFault::Client(fault)),
+            }
+        }
+        Asked::Groups(query) => {
+            blocks_are_valid(&query);
+            match answer(rt, alloc, &query, start, options, wire, out) {
+                Ok(report) => Ok(report),
+                Err(fault) => Err(AnswerFault::Client(fault)),
+            }
+        }
     }
 }

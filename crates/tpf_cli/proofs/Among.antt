@@ -1,5 +1,5 @@
 -- The statuses with which a command may end.
-use Rattle.std.proofs.Common.{ℕ, ◌≡◌, ◌==◌, ◌<◌, ◌^◌, ◌⊎◌, Bool, true, false, List, [], ◌∷◌, Option, Some, None, Result, Ok, Err, IfErr, refl, sym, subst, inl, inr, arith}
+use Rattle.std.proofs.Common.{ℕ, ◌≡◌, ◌==◌, ◌<◌, ◌^◌, ◌⊎◌, Bool, true, false, List, [], ◌∷◌, Option, Some, None, Result, Ok, Err, refl, sym, subst, inl, inr, arith}
 use Rattle.std.proofs.lemmas.Bool.Decides.{nat_tests}
 use Rattle.rdf_terms.specs.declared.term.Triple.{Triple}
 use Rattle.template_fill.specs.Metadata.{Config}
@@ -10,6 +10,7 @@ use Rattle.fragment_server.specs.declared.server.FragmentServer.{FragmentServer}
 use Rattle.tpf_base.specs.declared.fault.Fault.{Fault}
 use Rattle.tpf_base.specs.declared.fault.Fault.TheVariants as sinks
 use Rattle.bgp_core.specs.Queries.{QueryData}
+use Rattle.group_query.specs.Trees.{GroupData}
 use Rattle.tpf_client.specs.declared.options.Options.{Options}
 use Rattle.tpf_client.specs.declared.options.Report.{Report}
 use Rattle.tpf_client.specs.declared.fault.ClientFault.{ClientFault}
@@ -21,8 +22,7 @@ use Rattle.data_files.specs.declared.fault.QueryFileFault.TheVariants as query_f
 use Rattle.query_command.specs.declared.fault.AnswerFault.{AnswerFault}
 use Rattle.query_command.specs.declared.fault.AnswerFault.TheVariants as answers
 use Rattle.query_command.specs.declared.generated_query.Counts.{Counts}
-use Rattle.query_command.specs.Answers.{AsksServer}
-use Rattle.query_command.specs.Commands.{AsksFile}
+use Rattle.query_command.specs.Groups.{MayEndGroup, FileAsked, ServerAsked, GeneratedAsked, Plain, Groups}
 use Rattle.query_command.specs.Generated.{usual_options, GeneratedCause}
 use Rattle.query_command.specs.Loops.{LocalView}
 use Rattle.query_command.specs.Plans.{MayEnd, EndsGenerated}
@@ -75,6 +75,19 @@ module _ (statuses : List ℕ) (memory : IsAmong statuses 8) where
   of_inside n exchange reply budget sink options triples config q clients.Sink may = sink
   of_inside n exchange reply budget sink options triples config q clients.OutOfMemory may = memory
 
+  -- the same of a query with groups
+  of_groups : (n : ℕ) → (0 < n → IsAmong statuses 5) → IsAmong statuses 6 → IsAmong statuses 7 → IsAmong statuses 9
+      → (options : Options) (triples : List Triple) (config : Config) (g : GroupData) (fault : ClientFault) → MayEndGroup n options triples config g fault → IsAmong statuses (client_status fault)
+  of_groups n exchange reply budget sink options triples config g clients.Exchange may = exchange may
+  of_groups n exchange reply budget sink options triples config g clients.Stalled may = absurd may
+  of_groups n exchange reply budget sink options triples config g (clients.Cut received) may = exchange may
+  of_groups n exchange reply budget sink options triples config g (clients.Reply fault received) may = reply
+  of_groups n exchange reply budget sink options triples config g (clients.Page fault body) may = absurd may
+  of_groups n exchange reply budget sink options triples config g (clients.Changed first other) may = absurd may
+  of_groups n exchange reply budget sink options triples config g (clients.Budget most) may = budget
+  of_groups n exchange reply budget sink options triples config g clients.Sink may = sink
+  of_groups n exchange reply budget sink options triples config g clients.OutOfMemory may = memory
+
 -- ---- a query of a file in one process
 
 -- the statuses that come whether a dial is to fail or not
@@ -117,22 +130,27 @@ some_5 : (n : ℕ) → 0 < n → IsAmong (local_statuses (n == 0)) 5
 some_5 n some = subst (λ (b : Bool). IsAmong (local_statuses b) 5) (is_some n some) refl
 
 module _ (a : Around) where
-  among_file : (view : LocalView) (answer : Result Report AnswerFault) → view.options.budget < 2 ^ 63 → AsksFile a.shelf a.shelf' a.out a.out' (wire_inside a.inside') view answer
+  among_file : (view : LocalView) (answer : Result Report AnswerFault) → view.options.budget < 2 ^ 63 → FileAsked a.shelf a.shelf' a.out a.out' (wire_inside a.inside') view answer
       → IsAmong (local_statuses (view.fail_every == 0)) (answer_status answer)
   among_file view (Ok report) small h = all_0 (view.fail_every == 0)
   among_file view (Err (answers.Data fault)) small h = let b = view.fail_every == 0 in of_data (local_statuses b) (all_8 b) (all_3 b) (all_10 b) fault
   among_file view (Err (answers.Query fault)) small h = let b = view.fail_every == 0 in of_query (local_statuses b) (all_8 b) (all_4 b) (all_10 b) fault
-  among_file view (Err (answers.Client fault)) small h =
+  among_file view (Err (answers.Client fault)) small (Plain h) =
       let b = view.fail_every == 0 in
       let l = h.planned small in
       of_inside (local_statuses b) (all_8 b) view.fail_every (some_5 view.fail_every) (all_6 b) (all_7 b) (all_9 b) view.options _ _ l.loops.says.q fault l.loops.says.ends
+  among_file view (Err (answers.Client fault)) small (Groups g h) =
+      let b = view.fail_every == 0 in
+      let l = h.ends small in
+      of_groups (local_statuses b) (all_8 b) view.fail_every (some_5 view.fail_every) (all_6 b) (all_7 b) (all_9 b) view.options _ _ g fault l.loops.says
 
   -- ---- a query over a wire
 
-  among_server : (name : List ℕ) (url : Address) (options : Options) (result : Result Report AnswerFault) → AsksServer a.shelf a.shelf' a.allows a.wire a.wire' a.out a.out' name url options result
+  among_server : (name : List ℕ) (url : Address) (options : Options) (result : Result Report AnswerFault) → ServerAsked a.shelf a.shelf' a.allows a.wire a.wire' a.out a.out' name url options result
       → IsAmong (0 ∷ 4 ∷ 5 ∷ 6 ∷ 7 ∷ 8 ∷ 9 ∷ 10 ∷ 11 ∷ []) (answer_status result)
   among_server name url options (Ok report) h = refl
-  among_server name url options (Err (answers.Data fault)) h = absurd h.cause
+  among_server name url options (Err (answers.Data fault)) (Plain h) = absurd h.cause
+  among_server name url options (Err (answers.Data fault)) (Groups g h) = absurd h.cause
   among_server name url options (Err (answers.Query fault)) h = of_query (0 ∷ 4 ∷ 5 ∷ 6 ∷ 7 ∷ 8 ∷ 9 ∷ 10 ∷ 11 ∷ []) refl refl refl fault
   among_server name url options (Err (answers.Client fault)) h = of_client (0 ∷ 4 ∷ 5 ∷ 6 ∷ 7 ∷ 8 ∷ 9 ∷ 10 ∷ 11 ∷ []) refl refl refl refl refl refl fault
 
@@ -171,14 +189,20 @@ module _ (a : Around) where
     among_fault (answers.Query fault) cause planned = of_query counted_statuses refl refl refl fault
     among_fault (answers.Client fault) cause planned = of_inside counted_statuses refl 0 no_dial refl refl refl usual_options _ _ planned.loops.says.q fault planned.loops.says.ends
 
+    among_asked : (fault : AnswerFault) → GeneratedAsked a.shelf a.shelf' inside persons name (Err fault) → IsAmong counted_statuses (fault_status fault)
+    among_asked fault (Plain h) = among_fault fault h.cause h.planned
+    among_asked (answers.Data fault) (Groups g h) = absurd h.cause
+    among_asked (answers.Query fault) (Groups g h) = absurd h.cause
+    among_asked (answers.Client fault) (Groups g h) = of_groups counted_statuses refl 0 no_dial refl refl refl usual_options _ _ g fault h.ends.loops.says
+
     among_numbers : (came : Result Counts AnswerFault) (result : Result (Unit {0}) AnswerFault) → WritesNumbers a.out a.out' came result
-        → IfErr came (GeneratedCause a.shelf a.shelf' persons name inside) → EndsGenerated a.shelf.told persons name inside came → IsAmong counted_statuses (counted_status result)
-    among_numbers came (Ok nothing) line cause planned = refl
-    among_numbers (Ok counts) (Err fault) line cause planned = subst (λ (f : AnswerFault). IsAmong counted_statuses (fault_status f)) (sym line.is) (among_cut line.cause)
-    among_numbers (Err came) (Err fault) line cause planned = subst (λ (f : AnswerFault). IsAmong counted_statuses (fault_status f)) line.0 (among_fault came cause planned)
+        → GeneratedAsked a.shelf a.shelf' inside persons name came → IsAmong counted_statuses (counted_status result)
+    among_numbers came (Ok nothing) line asks = refl
+    among_numbers (Ok counts) (Err fault) line asks = subst (λ (f : AnswerFault). IsAmong counted_statuses (fault_status f)) (sym line.is) (among_cut line.cause)
+    among_numbers (Err came) (Err fault) line asks = subst (λ (f : AnswerFault). IsAmong counted_statuses (fault_status f)) line.0 (among_asked came asks)
 
     among_counted : (result : Result (Unit {0}) AnswerFault) → CountsFile a.shelf a.shelf' a.out a.out' inside persons name result → IsAmong counted_statuses (counted_status result)
-    among_counted result h = among_numbers h.came result h.line h.asks.cause h.asks.planned
+    among_counted result h = among_numbers h.came result h.line h.asks
 
   -- ---- commands
 

@@ -16,14 +16,14 @@ use Rattle.data_files.specs.Causes.{QueryDecides}
 use Rattle.data_files.specs.Kept.{KeepsSink}
 use Rattle.query_command.specs.declared.fault.AnswerFault.{AnswerFault}
 use Rattle.query_command.specs.declared.fault.AnswerFault.TheVariants as faults
-use Rattle.query_command.specs.Answers.{IsReading, GivesAnswer}
 use Rattle.query_command.specs.declared.generated_query.Counts.{Counts}
-use Rattle.query_command.specs.Commands.{AsksGenerated}
+use Rattle.query_command.specs.Groups.{GeneratedAsked}
 use Rattle.command_words.specs.declared.command.ClientWords.{ClientWords}
 use Rattle.tpf_cli.specs.Ranges.{IsClient}
 use Rattle.tpf_cli.specs.declared.top.Inside.{Inside}
 use Rattle.tpf_cli.specs.Endings.{EndOfRun}
-use Rattle.tpf_cli.specs.Runs.{Makes, Writes, WritesNumbers, CutsLine, CountsFile, options_of, unwritten}
+use Rattle.tpf_cli.proofs.Grouped.{generated_gives}
+use Rattle.tpf_cli.specs.Runs.{Makes, Writes, WritesNumbers, CountsFile, IsRead, GivesEnd, options_of, unwritten}
 
 -- the bounds of a client are those of its words
 pub options_in : (client : ClientWords) (options : Options) → options ≡ options_of client → IsClient client → (1 ≤ options.window) × (1 ≤ options.links) × (options.links ≤ 256)
@@ -31,29 +31,29 @@ options_in client options is h = subst (λ (o : Options). (1 ≤ o.window) × (1
 
 -- a line that was not written is no fault of the query
 module _ (shelf shelf' : ShelfState) (name : List ℕ) where
-  unwritten_gives : (cause : Fault) → QueryDecides shelf shelf' name IsReading → QueryDecides shelf shelf' name (λ outcome. GivesAnswer {X = Unit {0}} outcome (Err (unwritten cause)))
+  unwritten_gives : (cause : Fault) → QueryDecides shelf shelf' name IsRead → QueryDecides shelf shelf' name (λ outcome. GivesEnd {X = Unit {0}} outcome (Err (unwritten cause)))
   unwritten_gives sinks.Failed h = h
   unwritten_gives sinks.OutOfMemory h = h
 
-  fault_gives : (cause : AnswerFault) → QueryDecides shelf shelf' name (λ outcome. GivesAnswer {X = Counts} outcome (Err cause)) → QueryDecides shelf shelf' name (λ outcome. GivesAnswer {X = Unit {0}} outcome (Err cause))
+  fault_gives : (cause : AnswerFault) → QueryDecides shelf shelf' name (λ outcome. GivesEnd {X = Counts} outcome (Err cause)) → QueryDecides shelf shelf' name (λ outcome. GivesEnd {X = Unit {0}} outcome (Err cause))
   fault_gives (faults.Data fault) h = h
   fault_gives (faults.Query fault) h = h
   fault_gives (faults.Client fault) h = h
 
   line_gives : (out out' : SinkState) (came : Result Counts AnswerFault) (result : Result (Unit {0}) AnswerFault) → WritesNumbers out out' came result
-      → QueryDecides shelf shelf' name (λ outcome. GivesAnswer outcome came) → QueryDecides shelf shelf' name (λ outcome. GivesAnswer outcome result)
+      → QueryDecides shelf shelf' name (λ outcome. GivesEnd outcome came) → QueryDecides shelf shelf' name (λ outcome. GivesEnd outcome result)
   line_gives out out' (Ok counts) (Ok nothing) line h = h
-  line_gives out out' (Ok counts) (Err fault) line h = subst (λ (f : AnswerFault). QueryDecides shelf shelf' name (λ outcome. GivesAnswer {X = Unit {0}} outcome (Err f))) (sym line.is) (unwritten_gives line.cause h)
+  line_gives out out' (Ok counts) (Err fault) line h = subst (λ (f : AnswerFault). QueryDecides shelf shelf' name (λ outcome. GivesEnd {X = Unit {0}} outcome (Err f))) (sym line.is) (unwritten_gives line.cause h)
   line_gives out out' (Err cause) (Ok nothing) line h = absurd line
-  line_gives out out' (Err cause) (Err fault) line h = subst (λ (f : AnswerFault). QueryDecides shelf shelf' name (λ outcome. GivesAnswer {X = Unit {0}} outcome (Err f))) line.0 (fault_gives cause h)
+  line_gives out out' (Err cause) (Err fault) line h = subst (λ (f : AnswerFault). QueryDecides shelf shelf' name (λ outcome. GivesEnd {X = Unit {0}} outcome (Err f))) line.0 (fault_gives cause h)
 
   pub counts_file : (out out' : SinkState) (inside made : Option (Looped FragmentServer)) → inside ≡ made → (persons : ℕ) (came : Result Counts AnswerFault) (result : Result (Unit {0}) AnswerFault)
-      → AsksGenerated shelf shelf' made persons name came → WritesNumbers out out' came result → KeepsSink out out' → CountsFile shelf shelf' out out' inside persons name result
+      → GeneratedAsked shelf shelf' made persons name came → WritesNumbers out out' came result → KeepsSink out out' → CountsFile shelf shelf' out out' inside persons name result
   counts_file out out' inside made same persons came result asks line output = record {
     came = came;
-    asks = subst (λ (i : Option (Looped FragmentServer)). AsksGenerated shelf shelf' i persons name came) (sym same) asks;
+    asks = subst (λ (i : Option (Looped FragmentServer)). GeneratedAsked shelf shelf' i persons name came) (sym same) asks;
     line = line;
-    exact = line_gives out out' came result line asks.exact;
+    exact = line_gives out out' came result line (generated_gives shelf shelf' name made persons came asks);
     output = output;
   }
 

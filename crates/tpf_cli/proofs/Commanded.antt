@@ -1,11 +1,19 @@
 -- What was done is what the words command.
-use Rattle.std.proofs.Common.{◌≡◌, inl, inr, Option, Some, None, refl, subst}
+use Rattle.std.proofs.Common.{ℕ, ◌≡◌, inl, inr, List, [], Option, Some, None, Result, refl, sym, subst}
 use Rattle.std.specs.Option.{option_map}
+use Rattle.tpf_base.specs.Addresses.{Address}
+use Rattle.triple_table.specs.declared.choice.Choice.{Choice}
+use Rattle.tpf_client.specs.declared.options.Options.{Options}
+use Rattle.tpf_client.specs.declared.options.Report.{Report}
+use Rattle.query_command.specs.declared.fault.AnswerFault.{AnswerFault}
+use Rattle.query_command.specs.Groups.{FileAsked, ServerAsked}
+use Rattle.command_words.specs.declared.command.ClientWords.{ClientWords}
 use Rattle.command_words.specs.CommandViews.{command_view}
 use Rattle.command_words.specs.declared.command.Command as declared_command
-use Rattle.command_words.specs.Commands.{Command}
-use Rattle.tpf_cli.specs.Endings.{usage, no_words}
-use Rattle.tpf_cli.specs.Runs.{Around, IsIdle, DoesOf}
+use Rattle.command_words.specs.Commands.{Command, local, query}
+use Rattle.tpf_cli.specs.declared.top.Inside.TheVariants.{Unused}
+use Rattle.tpf_cli.specs.Endings.{usage, no_words, answered}
+use Rattle.tpf_cli.specs.Runs.{Around, IsIdle, Does, DoesOf, wire_inside, options_of}
 
 module _ (a : Around) where
   pub no_words_of : (given : Option Command) → IsIdle a → DoesOf a given no_words
@@ -14,6 +22,24 @@ module _ (a : Around) where
 
   pub usage_of : (given : Option Command) → None ≡ given → IsIdle a → DoesOf a given usage
   usage_of given is idle = subst (λ (g : Option Command). DoesOf a g usage) is (inl refl, idle)
+
+  -- a query of a file, by the options that the words give
+  pub does_local : (given : Command) (name query_name : List ℕ) (choice : Choice) (page : ℕ) (client : ClientWords) (seed fail_every : ℕ) (options : Options) (answer : Result Report AnswerFault)
+      → given ≡ local name query_name choice page client seed fail_every → options ≡ options_of client → a.wire' ≡ a.wire
+      → FileAsked a.shelf a.shelf' a.out a.out' (wire_inside a.inside') (record { name = name; query = query_name; choice = choice; page_size = page; options = options; seed = seed; fail_every = fail_every }) answer
+      → Does a given (answered name query_name answer)
+  does_local given name query_name choice page client seed fail_every options answer is same still asked =
+      subst (λ (c : Command). Does a c (answered name query_name answer)) (sym is) (
+        refl,
+        refl,
+        still,
+        subst (λ (o : Options). FileAsked a.shelf a.shelf' a.out a.out' (wire_inside a.inside') (record { name = name; query = query_name; choice = choice; page_size = page; options = o; seed = seed; fail_every = fail_every }) answer) same asked,
+      )
+
+  -- a query of a server
+  pub does_query : (given : Command) (url : Address) (query_name : List ℕ) (client : ClientWords) (answer : Result Report AnswerFault) → given ≡ query url query_name client → a.inside' ≡ Unused
+      → ServerAsked a.shelf a.shelf' a.allows a.wire a.wire' a.out a.out' query_name url (options_of client) answer → Does a given (answered [] query_name answer)
+  does_query given url query_name client answer is unused asked = subst (λ (c : Command). Does a c (answered [] query_name answer)) (sym is) (refl, unused, asked)
 
 -- the command that the words are, by what is read of them
 pub words_are_none : (o : Option declared_command.Command) (given : Option Command) → o ≡ None → option_map command_view o ≡ given → None ≡ given

@@ -1,7 +1,10 @@
 pub mod Typed
 pub mod Ranges
 pub mod Said
+pub mod Grouped
 pub mod Asked
 pub mod Commanded
 pub mod Among
+pub mod Refused
+pub mod Completed
 pub mod Promised

@@ -23,8 +23,8 @@ use Rattle.data_files.specs.KeptLaws.{shelf_same, reads_keep, sink_same}
 use Rattle.query_command.specs.declared.fault.AnswerFault.{AnswerFault}
 use Rattle.query_command.specs.declared.fault.AnswerFault.TheVariants as answers
 use Rattle.query_command.specs.Files.{FailsByFile}
-use Rattle.query_command.specs.Answers.{FitsOver, OfQuery, IsWanting, AsksServer}
-use Rattle.query_command.specs.Commands.{AsksFile}
+use Rattle.query_command.specs.Answers.{FitsOver, OfQuery, IsWanting}
+use Rattle.query_command.specs.Groups.{FileAsked, ServerAsked, GeneratedAsked, Plain, Groups}
 use Rattle.query_command.specs.declared.generated_query.Counts.{Counts}
 use Rattle.query_command.specs.Generated.{usual_options}
 use Rattle.query_command.specs.Loops.{LocalView, local_config}
@@ -37,10 +37,12 @@ use Rattle.command_words.specs.declared.command.ClientWords.{ClientWords}
 use Rattle.command_words.specs.Commands.{Command, local, query, serve, make}
 use Rattle.tpf_cli.specs.Endings as ends
 use Rattle.tpf_cli.specs.Endings.{EndOfRun, usage, no_words, answered, made, counted, data_status, query_status, client_status, fault_status, answer_status, service_status, made_status, counted_status, status_of, Says}
-use Rattle.tpf_cli.specs.Lines.{sizes_text}
 use Rattle.tpf_cli.specs.Ranges.{IsInRange, IsTyped}
-use Rattle.tpf_cli.specs.Runs.{Around, Writes, WritesNumbers, CutsLine, CountsFile, Does, DoesOf, unwritten, wire_inside, options_of, view_of, config_by}
+use Rattle.tpf_cli.specs.Runs.{Around, Writes, WritesNumbers, CountsFile, Does, DoesOf, unwritten, wire_inside, options_of, view_of, config_by}
 use Rattle.tpf_cli.proofs.Among.{run_among}
+use Rattle.tpf_cli.proofs.Grouped.{no_plain, file_reads, file_output, server_reads, server_output, generated_reads}
+use Rattle.tpf_cli.proofs.Refused.{run_group_table, run_refusal}
+use Rattle.tpf_cli.proofs.Completed.{wanting_done, numbers_done, run_groups_done}
 use Rattle.tpf_cli.specs.Promises.{Keeps, KeepsTable, KeepsTableOf, TellsRequests, TellsRequestsOf, IsDone, SucceedsOf}
 
 -- ---- the table
@@ -132,24 +134,19 @@ not_twelve : (answer : Result Report AnswerFault) → answer_status answer ≡ 1
 not_twelve (Ok report) e = omega (arith, e)
 not_twelve (Err fault) e = let known = known_fault fault in omega (arith, known.1, e)
 
--- ---- completeness
-
-wanting_done : (fault : AnswerFault) → IsWanting fault → IsDone (fault_status fault)
-wanting_done (answers.Data fault) h = subst (λ (f : DataFault). IsDone (data_status f)) (sym h) (inr refl)
-wanting_done (answers.Query fault) h = subst (λ (f : QueryFileFault). IsDone (query_status f)) (sym h) (inr refl)
-wanting_done (answers.Client fault) h = subst (λ (f : ClientFault). IsDone (client_status f)) (sym h) (inr refl)
-
 module _ (a : Around) where
   -- ---- a query in one process
 
-  file_table : (view : LocalView) (answer : Result Report AnswerFault) → view.options.budget < 2 ^ 63 → AsksFile a.shelf a.shelf' a.out a.out' (wire_inside a.inside') view answer → OfFiles a.shelf.told view (λ triples q. KeepsTable view.fail_every view.options triples (local_config view.page_size) q (answer_status answer))
+  file_table : (view : LocalView) (answer : Result Report AnswerFault) → view.options.budget < 2 ^ 63 → FileAsked a.shelf a.shelf' a.out a.out' (wire_inside a.inside') view answer → OfFiles a.shelf.told view (λ triples q. KeepsTable view.fail_every view.options triples (local_config view.page_size) q (answer_status answer))
   file_table view (Ok report) small h = λ files is triples q serves holds. done_table view.fail_every view.options triples (local_config view.page_size) q
-  file_table view (Err fault) small h = λ files is triples q serves holds. fault_table view.fail_every view.options triples (local_config view.page_size) q fault (h.ends small files is triples q serves holds)
+  file_table view (Err fault) small (Groups g h) = λ files is triples q serves holds. absurd (no_plain a.shelf.told view.query g h.is_read files is q holds)
+  file_table view (Err fault) small (Plain h) = λ files is triples q serves holds. fault_table view.fail_every view.options triples (local_config view.page_size) q fault (h.ends small files is triples q serves holds)
 
-  file_succeeds : (view : LocalView) (answer : Result Report AnswerFault) → view.options.budget < 2 ^ 63 → AsksFile a.shelf a.shelf' a.out a.out' (wire_inside a.inside') view answer → ¬ (Rose a.shelf.faults a.shelf'.faults) → ¬ (Rose a.out.faults a.out'.faults)
+  file_succeeds : (view : LocalView) (answer : Result Report AnswerFault) → view.options.budget < 2 ^ 63 → FileAsked a.shelf a.shelf' a.out a.out' (wire_inside a.inside') view answer → ¬ (Rose a.shelf.faults a.shelf'.faults) → ¬ (Rose a.out.faults a.out'.faults)
       → OfFiles a.shelf.told view (λ triples q. PlanIsWithin view.fail_every view.options triples (local_config view.page_size) q → IsDone (answer_status answer))
   file_succeeds view (Ok report) small h quiet fine = λ files is triples q serves holds within. inl refl
-  file_succeeds view (Err fault) small h quiet fine = λ files is triples q serves holds within. wanting_done fault (h.complete quiet fine small files is triples q serves holds within)
+  file_succeeds view (Err fault) small (Groups g h) quiet fine = λ files is triples q serves holds within. absurd (no_plain a.shelf.told view.query g h.is_read files is q holds)
+  file_succeeds view (Err fault) small (Plain h) quiet fine = λ files is triples q serves holds within. wanting_done fault (h.complete quiet fine small files is triples q serves holds within)
 
   -- a line that was not written is a fault of the output, or want of memory
   cut_table : (triples : List Triple) (q : QueryData) (cause : Fault) → KeepsTable 0 usual_options triples (local_config 100) q (fault_status (unwritten cause))
@@ -165,31 +162,29 @@ module _ (a : Around) where
 
   generated_table : (persons : ℕ) (name : List ℕ) (result : Result (Unit {0}) AnswerFault) → CountsFile a.shelf a.shelf' a.out a.out' (wire_inside a.inside') persons name result
       → OfGenerated a.shelf.told persons name (λ triples q. KeepsTable 0 usual_options triples (local_config 100) q (counted_status result))
-  generated_table persons name result h = numbers_table persons name h.came result h.line h.asks.ends
-
-  cut_done : (line : List ℕ) (fault : AnswerFault) → ¬ (Rose a.out.faults a.out'.faults) → CutsLine a.out a.out' line fault → IsDone (fault_status fault)
-  cut_done line fault fine w = subst (λ (f : AnswerFault). IsDone (fault_status f)) (sym w.is) (by w.cause refl)
+  generated_table persons name result h = numbers_table persons name h.came result h.line (by h.came h.asks)
     where
-      by : (cause : Fault) → w.cause ≡ cause → IsDone (fault_status (unwritten cause))
-      by sinks.Failed e = absurd (fine (w.failed e))
-      by sinks.OutOfMemory e = inr refl
-
-  numbers_done : (came : Result Counts AnswerFault) (result : Result (Unit {0}) AnswerFault) → ¬ (Rose a.out.faults a.out'.faults) → WritesNumbers a.out a.out' came result → IfErr came IsWanting → IsDone (counted_status result)
-  numbers_done came (Ok nothing) fine line wanting = inl refl
-  numbers_done (Ok counts) (Err fault) fine line wanting = cut_done (sizes_text counts) fault fine line
-  numbers_done (Err cause) (Err fault) fine line wanting = subst (λ (f : AnswerFault). IsDone (fault_status f)) line.0 (wanting_done cause wanting)
+      by : (came : Result Counts AnswerFault) → GeneratedAsked a.shelf a.shelf' (wire_inside a.inside') persons name came → OfGenerated a.shelf.told persons name (λ triples q. EndsCounted usual_options triples (local_config 100) q came)
+      by came (Plain g) = g.ends
+      by came (Groups g d) = λ files is triples q serves holds. absurd (no_plain a.shelf.told name g d.is_read files is q holds)
 
   generated_succeeds : (persons : ℕ) (name : List ℕ) (result : Result (Unit {0}) AnswerFault) → CountsFile a.shelf a.shelf' a.out a.out' (wire_inside a.inside') persons name result
       → ¬ (Rose a.shelf.faults a.shelf'.faults) → ¬ (Rose a.out.faults a.out'.faults)
       → OfGenerated a.shelf.told persons name (λ triples q. PlanIsWithin 0 usual_options triples (local_config 100) q → IsDone (counted_status result))
-  generated_succeeds persons name result h quiet fine = λ files is triples q serves holds within. numbers_done h.came result fine h.line (h.asks.complete quiet files is triples q serves holds within)
+  generated_succeeds persons name result h quiet fine = λ files is triples q serves holds within. numbers_done a h.came result fine h.line (by h.came h.asks files is triples q serves holds within)
+    where
+      by : (came : Result Counts AnswerFault) → GeneratedAsked a.shelf a.shelf' (wire_inside a.inside') persons name came
+          → OfGenerated a.shelf.told persons name (λ triples q. PlanIsWithin 0 usual_options triples (local_config 100) q → IfErr came IsWanting)
+      by came (Plain g) = g.complete quiet
+      by came (Groups g d) = λ files is triples q serves holds within. absurd (no_plain a.shelf.told name g d.is_read files is q holds)
 
   -- ---- the other commands
 
-  server_succeeds : (name : List ℕ) (client : ClientWords) (answer : Result Report AnswerFault) (url : Address) → IsTyped url → AsksServer a.shelf a.shelf' a.allows a.wire a.wire' a.out a.out' name url (options_of client) answer → ¬ (Rose a.shelf.faults a.shelf'.faults) → ¬ (Rose a.out.faults a.out'.faults)
+  server_succeeds : (name : List ℕ) (client : ClientWords) (answer : Result Report AnswerFault) (url : Address) → IsTyped url → ServerAsked a.shelf a.shelf' a.allows a.wire a.wire' a.out a.out' name url (options_of client) answer → ¬ (Rose a.shelf.faults a.shelf'.faults) → ¬ (Rose a.out.faults a.out'.faults)
       → OfQuery a.shelf.told name (λ q. (triples : List Triple) (config : Config) → FitsOver a.allows q url (options_of client) triples config a.wire a.wire' → IsDone (answer_status answer))
   server_succeeds name client (Ok report) url typed h quiet fine = λ files is q holds triples config fits. inl refl
-  server_succeeds name client (Err fault) url typed h quiet fine = λ files is q holds triples config fits. wanting_done fault (h.complete typed quiet fine files is q holds triples config fits)
+  server_succeeds name client (Err fault) url typed (Groups g h) quiet fine = λ files is q holds triples config fits. absurd (no_plain a.shelf.told name g h.is_read files is q holds)
+  server_succeeds name client (Err fault) url typed (Plain h) quiet fine = λ files is q holds triples config fits. wanting_done fault (h.complete typed quiet fine files is q holds triples config fits)
 
   service_succeeds : (name : List ℕ) (choice : Choice) (config : Config) (stop_after : Option ℕ) (result : Result ℕ ServiceFault) → ServesFile a.shelf a.shelf' a.wire a.wire' a.out a.out' name choice config stop_after result
       → ¬ (Rose a.shelf.faults a.shelf'.faults) → ¬ (Rose a.out.faults a.out'.faults) → ¬ (Rose a.wire.door.faults a.wire'.door.faults)
@@ -306,9 +301,10 @@ module _ (a : Around) where
 
   -- ---- the requests that are told
 
-  told_requests : (view : LocalView) (answer : Result Report AnswerFault) → view.options.budget < 2 ^ 63 → AsksFile a.shelf a.shelf' a.out a.out' (wire_inside a.inside') view answer → (data_name asked : List ℕ) (result : ℕ) (err err' : SinkState) → Says result (answered data_name asked answer) err err'
+  told_requests : (view : LocalView) (answer : Result Report AnswerFault) → view.options.budget < 2 ^ 63 → FileAsked a.shelf a.shelf' a.out a.out' (wire_inside a.inside') view answer → (data_name asked : List ℕ) (result : ℕ) (err err' : SinkState) → Says result (answered data_name asked answer) err err'
       → result ≡ 0 → OfFiles a.shelf.told view (λ triples q. TellsRequests view.fail_every view.options.retries (length (plan_of triples (local_config view.page_size) q)) err err')
-  told_requests view (Ok report) small h data_name asked result err err' (inl s) zero_status = λ files is triples q serves holds.
+  told_requests view (Ok report) small (Groups g h) data_name asked result err err' (inl s) zero_status = λ files is triples q serves holds. absurd (no_plain a.shelf.told view.query g h.is_read files is q holds)
+  told_requests view (Ok report) small (Plain h) data_name asked result err err' (inl s) zero_status = λ files is triples q serves holds.
       record { requests = report.requests; rows = report.rows; counts = h.ends small files is triples q serves holds; told = s.1 }
   told_requests view (Ok report) small h data_name asked result err err' (inr s) zero_status = let eight = s.0 in absurd (omega (arith, eight, zero_status))
   told_requests view (Err fault) small h data_name asked result err err' (inl s) zero_status = let known = known_fault fault in let is = s.0 in absurd (omega (arith, known.0, is, zero_status))
@@ -344,13 +340,13 @@ module _ (a : Around) where
   -- ---- what is left of shelf and output
 
   shelf_command : (command : Command) (end : EndOfRun) → Does a command end → KeepsShelf a.shelf a.shelf'
-  shelf_command (local name query_name choice page client seed fail_every) (answered data_name asked answer) h = h.3.reads.keeps
+  shelf_command (local name query_name choice page client seed fail_every) (answered data_name asked answer) h = (file_reads a.shelf a.shelf' a.out a.out' (wire_inside a.inside') (view_of name query_name choice page client seed fail_every) answer h.3).keeps
   shelf_command (local name query_name choice page client seed fail_every) usage h = absurd h
   shelf_command (local name query_name choice page client seed fail_every) no_words h = absurd h
   shelf_command (local name query_name choice page client seed fail_every) (ends.served file service) h = absurd h
   shelf_command (local name query_name choice page client seed fail_every) (made written) h = absurd h
   shelf_command (local name query_name choice page client seed fail_every) (counted asked result) h = absurd h
-  shelf_command (query url query_name client) (answered data_name asked answer) h = reads_keep query_name a.shelf a.shelf' (FailsByFile answer) h.2.reads
+  shelf_command (query url query_name client) (answered data_name asked answer) h = reads_keep query_name a.shelf a.shelf' (FailsByFile answer) (server_reads a.shelf a.shelf' query_name a.allows a.wire a.wire' a.out a.out' url (options_of client) answer h.2)
   shelf_command (query url query_name client) usage h = absurd h
   shelf_command (query url query_name client) no_words h = absurd h
   shelf_command (query url query_name client) (ends.served file service) h = absurd h
@@ -368,7 +364,7 @@ module _ (a : Around) where
   shelf_command (make count None) (answered data_name asked answer) h = absurd h.1
   shelf_command (make count None) (ends.served file service) h = absurd h.1
   shelf_command (make count None) (counted asked result) h = absurd h.1
-  shelf_command (make count (Some name)) (counted asked result) h = reads_keep name a.shelf a.shelf' (FailsByFile h.1.1.came) h.1.1.asks.reads
+  shelf_command (make count (Some name)) (counted asked result) h = reads_keep name a.shelf a.shelf' (FailsByFile h.1.1.came) (generated_reads a.shelf a.shelf' name (wire_inside a.inside') count h.1.1.came h.1.1.asks)
   shelf_command (make count (Some name)) usage h = absurd h.1
   shelf_command (make count (Some name)) no_words h = absurd h.1
   shelf_command (make count (Some name)) (answered data_name asked answer) h = absurd h.1
@@ -376,13 +372,13 @@ module _ (a : Around) where
   shelf_command (make count (Some name)) (made written) h = absurd h.1
 
   output_command : (command : Command) (end : EndOfRun) → Does a command end → KeepsSink a.out a.out'
-  output_command (local name query_name choice page client seed fail_every) (answered data_name asked answer) h = h.3.output.keeps
+  output_command (local name query_name choice page client seed fail_every) (answered data_name asked answer) h = (file_output a.shelf a.shelf' a.out a.out' (wire_inside a.inside') (view_of name query_name choice page client seed fail_every) answer h.3).keeps
   output_command (local name query_name choice page client seed fail_every) usage h = absurd h
   output_command (local name query_name choice page client seed fail_every) no_words h = absurd h
   output_command (local name query_name choice page client seed fail_every) (ends.served file service) h = absurd h
   output_command (local name query_name choice page client seed fail_every) (made written) h = absurd h
   output_command (local name query_name choice page client seed fail_every) (counted asked result) h = absurd h
-  output_command (query url query_name client) (answered data_name asked answer) h = h.2.output.keeps
+  output_command (query url query_name client) (answered data_name asked answer) h = (server_output a.shelf a.shelf' query_name a.allows a.wire a.wire' a.out a.out' url (options_of client) answer h.2).keeps
   output_command (query url query_name client) usage h = absurd h
   output_command (query url query_name client) no_words h = absurd h
   output_command (query url query_name client) (ends.served file service) h = absurd h
@@ -422,8 +418,11 @@ module _ (a : Around) where
     ending = (end, does, says);
     among = run_among a command ranged end result err err' does says;
     table = run_table command ranged end result err err' does says;
+    groups = run_group_table a command ranged end result err err' does says;
+    refusal = run_refusal a command end result err err' does says;
     requests = run_requests command ranged end result err err' does says;
     complete = run_succeeds command ranged end result err err' does says;
+    groups_complete = run_groups_done a command ranged end result err err' does says;
     shelf = run_shelf command end does;
     output = run_output command end does;
     error = error;

@@ -16,7 +16,7 @@ use Rattle.query_command.specs.declared.fault.AnswerFault.{AnswerFault}
 use Rattle.query_command.specs.declared.fault.AnswerFault.TheVariants as answers
 use Rattle.serve_command.specs.declared.fault.ServiceFault.{ServiceFault}
 use Rattle.serve_command.specs.declared.fault.ServiceFault.TheVariants as services
-use Rattle.tpf_cli.specs.Names.{why_text, query_why_text, page_text}
+use Rattle.tpf_cli.specs.Names.{why_text, group_why_text, page_text}
 use Rattle.tpf_cli.specs.Lines.{SaysLine, counts_text, versions_text}
 
 -- how a run ends: the words are no command; memory ran out over them; what came of a query, with the names of the files of data and of the query; of a service, with that of its file; of generated data; and of a query of generated data, with the name of its file
@@ -52,7 +52,7 @@ query_status query_faults.File = 10
 query_status query_faults.OutOfMemory = 8
 
 abbrev pub query_line : List ℕ → QueryFileFault → List ℕ
-query_line name (query_faults.Bad at why) = codes "query: byte " ++ decimal at ++ codes ": " ++ query_why_text why ++ codes "\n"
+query_line name (query_faults.Bad at why) = codes "query: byte " ++ decimal at ++ codes ": " ++ group_why_text why ++ codes "\n"
 query_line name query_faults.File = codes "file: " ++ name ++ codes "\n"
 query_line name query_faults.OutOfMemory = codes "memory\n"
 

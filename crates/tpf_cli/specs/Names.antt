@@ -4,6 +4,8 @@ use Rattle.nquads_text.specs.declared.fault.Why.{Why}
 use Rattle.nquads_text.specs.declared.fault.Why.TheVariants.{Utf8, Statement, Escape, RelativeIri, LangString, TermTooLong}
 use Rattle.pattern_parser.specs.declared.fault.QueryWhy.{QueryWhy}
 use Rattle.pattern_parser.specs.declared.fault.QueryWhy.TheVariants as queries
+use Rattle.group_faults.specs.declared.fault.GroupWhy.{GroupWhy}
+use Rattle.group_faults.specs.declared.fault.GroupWhy.TheVariants as groups
 use Rattle.fragment_page.specs.declared.page.PageFault.{PageFault}
 use Rattle.fragment_page.specs.declared.page.PageFault.TheVariants as pages
 
@@ -16,7 +18,7 @@ why_text RelativeIri = codes "relative iri"
 why_text LangString = codes "lang string"
 why_text TermTooLong = codes "term too long"
 
--- of a query
+-- of a query that may be one without groups
 abbrev pub query_why_text : QueryWhy → List ℕ
 query_why_text queries.TooLong = codes "too long"
 query_why_text queries.Utf8 = codes "utf8"
@@ -26,6 +28,12 @@ query_why_text queries.UnknownPrefix = codes "unknown prefix"
 query_why_text queries.RelativeIri = codes "relative iri"
 query_why_text queries.LangString = codes "lang string"
 query_why_text queries.TooManyPatterns = codes "too many patterns"
+
+-- of a query
+abbrev pub group_why_text : GroupWhy → List ℕ
+group_why_text (groups.Basic why) = query_why_text why
+group_why_text groups.TooDeep = codes "too deep"
+group_why_text groups.SharedBlank = codes "shared blank"
 
 -- of a page
 abbrev pub page_text : PageFault → List ℕ

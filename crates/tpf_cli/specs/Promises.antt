@@ -1,20 +1,30 @@
 -- Which status may come of a run, and when a run succeeds.
-use Rattle.std.specs.Prelude.{ℕ, ◌≡◌, ◌==◌, ◌⊎◌, ◌++◌, Bool, true, false, List, length, codes, decimal, Option, Some, None, [], ◌∷◌}
+use Rattle.std.specs.Prelude.{ℕ, ◌≡◌, ◌==◌, ◌⊎◌, ◌<◌, Bool, true, false, List, length, codes, Option, Some, None, [], ◌∷◌}
 use Rattle.std.specs.List.{list_any}
 use Rattle.std.specs.Io.KnownBytes.{Appends}
 use Rattle.rdf_terms.specs.declared.term.Triple.{Triple}
 use Rattle.tpf_base.specs.Addresses.{authority_of}
 use Rattle.tpf_base.specs.Causes.{Rose}
+use Rattle.tpf_base.specs.Outside.{ShelfState}
 use Rattle.tpf_base.specs.Wrote.{SinkState, AppendsPrefix}
 use Rattle.template_fill.specs.Metadata.{Config}
 use Rattle.bgp_core.specs.Queries.{QueryData}
+use Rattle.triple_table.specs.declared.choice.Choice.TheVariants.{DefaultGraph}
+use Rattle.triple_table.specs.Chosen.{chosen}
+use Rattle.triple_table.specs.Served.{IsServed}
+use Rattle.generated_data.specs.Generated.{generated}
+use Rattle.group_query.specs.Trees.{GroupData}
+use Rattle.group_faults.specs.declared.fault.GroupWhy.{GroupWhy}
+use Rattle.group_patterns.specs.Plans.{group_plan}
 use Rattle.tpf_client.specs.declared.options.Options.{Options}
 use Rattle.tpf_client.specs.Plans.{HasLongPage}
-use Rattle.data_files.specs.Data.{IfTold, Serves}
+use Rattle.data_files.specs.Data.{Files, IfTold, Serves}
+use Rattle.data_files.specs.Queries.{HoldsGroup, HasQueryFault}
 use Rattle.data_files.specs.Kept.{KeepsShelf, KeepsSink}
 use Rattle.query_command.specs.Answers.{FitsOver, OfQuery}
 use Rattle.query_command.specs.Generated.{usual_options}
-use Rattle.query_command.specs.Loops.{local_config}
+use Rattle.query_command.specs.Loops.{LocalView, local_base, local_config}
+use Rattle.query_command.specs.Groups.{GroupIsWithin, FitsGroupOver}
 use Rattle.query_command.specs.Plans.{plan_of, CountsRequests, FailsOften, PassesBudget, OfFiles, OfGenerated, PlanIsWithin}
 use Rattle.command_words.specs.Commands.{Command, local, query, serve, make}
 use Rattle.tpf_cli.specs.Endings.{EndOfRun, Says}
@@ -60,6 +70,50 @@ KeepsTableOf a (Some (serve name base choice page stop_after reload)) status = U
 KeepsTableOf a (Some (make count None)) status = Unit {0}
 KeepsTableOf a (Some (make count (Some asked_name))) status = OfGenerated a.shelf.told count asked_name (λ triples q. KeepsTable 0 usual_options triples (local_config 100) q status)
 
+-- ---- the table of a query with groups in one process
+
+-- 5 comes only where dials are to fail, 6 only where a body that a block asks for is longer than the limit, 7 where no dial fails only where the plan of all blocks passes the budget; 11 and 12 never come
+pub record KeepsGroupTable (n : ℕ) (options : Options) (triples : List Triple) (config : Config) (g : GroupData) (status : ℕ) : Type 0 where
+  pub exchange : status ≡ 5 → 0 < n
+  pub reply : status ≡ 6 → (received : List ℕ) × HasLongPage (triples ∷ []) config options.max_body (group_plan (triples ∷ []) config g local_base 1) received
+  pub budget : status ≡ 7 → n ≡ 0 → options.budget < length (group_plan (triples ∷ []) config g local_base 1)
+  pub changed : status ≡ 11 → ⊥
+  pub wire : status ≡ 12 → ⊥
+
+-- of the data that are served of a file and the query with groups of another, where the shelf tells them
+abbrev pub OfGroupFiles : Option Files → LocalView → (List Triple → GroupData → Type 0) → Type 0
+OfGroupFiles told view holds = IfTold told (λ files. (triples : List Triple) (g : GroupData) → Serves files view.name view.choice (codes "localhost") triples → HoldsGroup files view.query g → holds triples g)
+
+-- of the generated data that are served, and the query with groups of a file, where the shelf tells it
+abbrev pub OfGroupGenerated : Option Files → ℕ → List ℕ → (List Triple → GroupData → Type 0) → Type 0
+OfGroupGenerated told persons query_name holds = IfTold told (λ files. (triples : List Triple) (g : GroupData) → IsServed (codes "localhost") (chosen DefaultGraph (generated persons)) triples → HoldsGroup files query_name g → holds triples g)
+
+-- of what the words command
+abbrev pub KeepsGroupTableOf : Around → Option Command → ℕ → Type 0
+KeepsGroupTableOf a None status = Unit {0}
+KeepsGroupTableOf a (Some (local name query_name choice page client seed fail_every)) status =
+    OfGroupFiles a.shelf.told (view_of name query_name choice page client seed fail_every) (λ triples g. KeepsGroupTable fail_every (options_of client) triples (local_config page) g status)
+KeepsGroupTableOf a (Some (query url query_name client)) status = Unit {0}
+KeepsGroupTableOf a (Some (serve name base choice page stop_after reload)) status = Unit {0}
+KeepsGroupTableOf a (Some (make count None)) status = Unit {0}
+KeepsGroupTableOf a (Some (make count (Some asked_name))) status = OfGroupGenerated a.shelf.told count asked_name (λ triples g. KeepsGroupTable 0 usual_options triples (local_config 100) g status)
+
+-- ---- refused queries
+
+-- Status 4 comes only where the text of the file has a fault, with groups or without; and where it has one and no file failed to be read, the query is refused (4), unless the data were before it (3), or memory ran out (8).
+pub record RefusesBy (shelf shelf' : ShelfState) (name : List ℕ) (status : ℕ) : Type 0 where
+  pub four : status ≡ 4 → IfTold shelf.told (λ files. (at : ℕ) × (why : GroupWhy) × HasQueryFault files name at why)
+  pub refused : ¬ (Rose shelf.faults shelf'.faults) → IfTold shelf.told (λ files. (at : ℕ) (why : GroupWhy) → HasQueryFault files name at why → (status ≡ 3) ⊎ ((status ≡ 4) ⊎ (status ≡ 8)))
+
+-- of what the words command
+abbrev pub RefusesOf : Around → Option Command → ℕ → Type 0
+RefusesOf a None status = Unit {0}
+RefusesOf a (Some (local name query_name choice page client seed fail_every)) status = RefusesBy a.shelf a.shelf' query_name status
+RefusesOf a (Some (query url query_name client)) status = RefusesBy a.shelf a.shelf' query_name status
+RefusesOf a (Some (serve name base choice page stop_after reload)) status = Unit {0}
+RefusesOf a (Some (make count None)) status = Unit {0}
+RefusesOf a (Some (make count (Some asked_name))) status = RefusesBy a.shelf a.shelf' asked_name status
+
 -- ---- the number of requests that is told
 
 -- so many requests are told as a plan of so many addresses takes, where each n-th dial fails: as many where none does. The standard error took the line, or a part of its front where it failed.
@@ -100,15 +154,36 @@ SucceedsOf a (Some (make count None)) status = ¬ (Rose a.out.faults a.out'.faul
 SucceedsOf a (Some (make count (Some asked_name))) status =
     ¬ (Rose a.shelf.faults a.shelf'.faults) → ¬ (Rose a.out.faults a.out'.faults) → OfGenerated a.shelf.told count asked_name (λ triples q. PlanIsWithin 0 usual_options triples (local_config 100) q → IsDone status)
 
+-- of the query with groups of a file, where the shelf tells it
+abbrev pub OfGroupQuery : Option Files → List ℕ → (GroupData → Type 0) → Type 0
+OfGroupQuery told query_name holds = IfTold told (λ files. (g : GroupData) → HoldsGroup files query_name g → holds g)
+
+-- The same of a query with groups: in one process where no dial fails, each body that a block asks for is within the limit, and the plan of all blocks is within the budget; over the handed-in wire where that is as a server of some data makes it, and this plan fits.
+abbrev pub SucceedsGroupsOf : Around → Option Command → ℕ → Type 0
+SucceedsGroupsOf a None status = Unit {0}
+SucceedsGroupsOf a (Some (local name query_name choice page client seed fail_every)) status =
+    ¬ (Rose a.shelf.faults a.shelf'.faults) → ¬ (Rose a.out.faults a.out'.faults)
+    → OfGroupFiles a.shelf.told (view_of name query_name choice page client seed fail_every) (λ triples g. GroupIsWithin fail_every (options_of client) triples (local_config page) g → IsDone status)
+SucceedsGroupsOf a (Some (query url query_name client)) status =
+    ¬ (Rose a.shelf.faults a.shelf'.faults) → ¬ (Rose a.out.faults a.out'.faults)
+    → OfGroupQuery a.shelf.told query_name (λ g. (triples : List Triple) (config : Config) → FitsGroupOver a.allows g url (options_of client) triples config a.wire a.wire' → IsDone status)
+SucceedsGroupsOf a (Some (serve name base choice page stop_after reload)) status = Unit {0}
+SucceedsGroupsOf a (Some (make count None)) status = Unit {0}
+SucceedsGroupsOf a (Some (make count (Some asked_name))) status =
+    ¬ (Rose a.shelf.faults a.shelf'.faults) → ¬ (Rose a.out.faults a.out'.faults) → OfGroupGenerated a.shelf.told count asked_name (λ triples g. GroupIsWithin 0 usual_options triples (local_config 100) g → IsDone status)
+
 -- ---- the run
 
--- What a run keeps to that ended with this status: it did what its words command and said so, with one of the statuses of the command, by the table of statuses; it told the requests of its plan; and it succeeded where nothing stood in the way. The shelf tells what it told, and no count of shelf, output and standard error fell.
+-- What a run keeps to that ended with this status: it did what its words command and said so, with one of the statuses of the command, by the tables of statuses; it told the requests of its plan; it refused a query exactly where its text has a fault; and it succeeded where nothing stood in the way. `table`, `requests` and `complete` speak of a query without groups, `groups` and `groups_complete` of one with. The shelf tells what it told, and no count of shelf, output and standard error fell.
 pub record Keeps (a : Around) (command : Option Command) (status : ℕ) (err err' : SinkState) : Type 0 where
   pub ending : (end : EndOfRun) × DoesOf a command end × Says status end err err'
   pub among : IsAmong (statuses_of command) status
   pub table : KeepsTableOf a command status
+  pub groups : KeepsGroupTableOf a command status
+  pub refusal : RefusesOf a command status
   pub requests : TellsRequestsOf a command status err err'
   pub complete : SucceedsOf a command status
+  pub groups_complete : SucceedsGroupsOf a command status
   pub shelf : KeepsShelf a.shelf a.shelf'
   pub output : KeepsSink a.out a.out'
   pub error : KeepsSink err err'

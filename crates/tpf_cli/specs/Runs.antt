@@ -14,15 +14,17 @@ use Rattle.template_fill.specs.Metadata.{Config}
 use Rattle.triple_table.specs.declared.choice.Choice.{Choice}
 use Rattle.loop_wire.specs.Looped.{Looped}
 use Rattle.fragment_server.specs.declared.server.FragmentServer.{FragmentServer}
+use Rattle.group_query.specs.Trees.{GroupData}
 use Rattle.tpf_client.specs.declared.options.Options.{Options}
 use Rattle.tpf_client.specs.declared.fault.ClientFault.TheVariants as clients
-use Rattle.data_files.specs.Causes.{QueryDecides}
+use Rattle.data_files.specs.Causes.{QueryDecides, GivesQuery}
+use Rattle.data_files.specs.Queries.{QueryOutcome, reads_groups}
 use Rattle.data_files.specs.Kept.{KeepsSink}
 use Rattle.query_command.specs.declared.fault.AnswerFault.{AnswerFault}
 use Rattle.query_command.specs.declared.fault.AnswerFault.TheVariants as answer_faults
-use Rattle.query_command.specs.Answers.{GivesAnswer, AsksServer}
+use Rattle.query_command.specs.Answers.{IsReading}
 use Rattle.query_command.specs.Loops.{LocalView}
-use Rattle.query_command.specs.Commands.{AsksFile, AsksGenerated}
+use Rattle.query_command.specs.Groups.{FileAsked, ServerAsked, GeneratedAsked}
 use Rattle.query_command.specs.declared.generated_query.Counts.{Counts}
 use Rattle.serve_command.specs.Services.{ServesFile}
 use Rattle.command_words.specs.declared.command.ClientWords.{ClientWords}
@@ -87,12 +89,23 @@ WritesNumbers out out' (Ok counts) (Err fault) = CutsLine out out' (sizes_text c
 WritesNumbers out out' (Err cause) (Ok nothing) = ⊥
 WritesNumbers out out' (Err cause) (Err fault) = (cause ≡ fault) × (out' ≡ out)
 
+-- a query is read, without groups or with them
+abbrev pub IsRead : QueryOutcome → Type 0
+IsRead outcome = IsReading outcome ⊎ ((g : GroupData) × (outcome ≡ reads_groups g))
+
+-- what the file of the query holds is answered by itself, or by want of memory
+abbrev pub GivesEnd : {X : Type 0} → QueryOutcome → Result X AnswerFault → Type 0
+GivesEnd outcome (Ok answer) = IsRead outcome
+GivesEnd outcome (Err (answer_faults.Data fault)) = Unit {0}
+GivesEnd outcome (Err (answer_faults.Query fault)) = GivesQuery outcome (Err fault)
+GivesEnd outcome (Err (answer_faults.Client fault)) = IsRead outcome
+
 -- A query was asked of the data of so many persons in the process, and the line of its numbers written, and nothing else.
 pub record CountsFile (shelf shelf' : ShelfState) (out out' : SinkState) (inside : Option (Looped FragmentServer)) (persons : ℕ) (name : List ℕ) (result : Result (Unit {0}) AnswerFault) : Type 0 where
   pub came : Result Counts AnswerFault
-  pub asks : AsksGenerated shelf shelf' inside persons name came
+  pub asks : GeneratedAsked shelf shelf' inside persons name came
   pub line : WritesNumbers out out' came result
-  pub exact : QueryDecides shelf shelf' name (λ outcome. GivesAnswer outcome result)
+  pub exact : QueryDecides shelf shelf' name (λ outcome. GivesEnd outcome result)
   pub output : KeepsSink out out'
 
 -- what `make` did that ended so
@@ -124,7 +137,7 @@ config_by base page reload = record { base = base; page_size = page; reload = re
 abbrev pub Does : Around → Command → EndOfRun → Type 0
 Does a (local name query_name choice page client seed fail_every) (answered data_name asked answer) =
     (data_name ≡ name) × (asked ≡ query_name) × (a.wire' ≡ a.wire)
-    × AsksFile a.shelf a.shelf' a.out a.out' (wire_inside a.inside') (view_of name query_name choice page client seed fail_every) answer
+    × FileAsked a.shelf a.shelf' a.out a.out' (wire_inside a.inside') (view_of name query_name choice page client seed fail_every) answer
 Does a (local name query_name choice page client seed fail_every) usage = ⊥
 Does a (local name query_name choice page client seed fail_every) no_words = ⊥
 Does a (local name query_name choice page client seed fail_every) (served file service) = ⊥
@@ -132,7 +145,7 @@ Does a (local name query_name choice page client seed fail_every) (made written)
 Does a (local name query_name choice page client seed fail_every) (counted asked result) = ⊥
 Does a (query url query_name client) (answered data_name asked answer) =
     (asked ≡ query_name) × (a.inside' ≡ Unused)
-    × AsksServer a.shelf a.shelf' a.allows a.wire a.wire' a.out a.out' query_name url (options_of client) answer
+    × ServerAsked a.shelf a.shelf' a.allows a.wire a.wire' a.out a.out' query_name url (options_of client) answer
 Does a (query url query_name client) usage = ⊥
 Does a (query url query_name client) no_words = ⊥
 Does a (query url query_name client) (served file service) = ⊥

@@ -2,9 +2,8 @@
 ghost use Rattle.std.specs.Prelude.{◌≡◌, ◌≤◌, None};
 ghost use Rattle.template_fill.specs.Configurations.{HasReloadPath};
 ghost use Rattle.data_files.specs.Kept.{KeepsSink};
-ghost use Rattle.query_command.specs.Answers.{AsksServer};
 ghost use Rattle.query_command.specs.Loops.{local_view};
-ghost use Rattle.query_command.specs.Commands.{AsksFile};
+ghost use Rattle.query_command.specs.Groups.{FileAsked, ServerAsked};
 ghost use Rattle.serve_command.specs.Services.{ServesFile, config_of};
 ghost use Rattle.tpf_cli.specs.Ranges.{IsClient, IsTyped};
 ghost use Rattle.tpf_cli.specs.Runs.{WritesNumbers, CountsFile, options_of, unwritten, wire_inside};
@@ -45,7 +44,7 @@ fn inside_of(made: Option<LoopWire<FragmentConnection>>) -> Inside
     }
 }
 
-/// Asks a file, and leaves the wire that was made for it.
+/// Asks a file, by a query with groups or without, and leaves the wire that was made for it.
 pub fn ask_file<R: Wait, F: Shelf, K: Sink>(
     rt: &R,
     alloc: Global,
@@ -59,7 +58,7 @@ pub fn ask_file<R: Wait, F: Shelf, K: Sink>(
     requires window { 1 ≤ asked.now.options.window }
     requires some { 1 ≤ asked.now.options.links }
     requires few { asked.now.options.links ≤ 256 }
-    ensures { AsksFile (F.state shelf.old) (F.state shelf.new) (K.state out.old) (K.state out.new)
+    ensures { FileAsked (F.state shelf.old) (F.state shelf.new) (K.state out.old) (K.state out.new)
         (wire_inside inside.new) (local_view asked.now) result }
 {
     let mut made = None;
@@ -76,7 +75,7 @@ pub struct ServerQuery<'a> {
     pub client: ClientWords,
 }
 
-/// Asks a server.
+/// Asks a server, by a query with groups or without.
 pub fn ask_server<R: Wait, F: Shelf, W: Dial, K: Sink>(
     rt: &R,
     alloc: Global,
@@ -87,7 +86,7 @@ pub fn ask_server<R: Wait, F: Shelf, W: Dial, K: Sink>(
 ) -> Result<Report, AnswerFault>
     requires typed { IsTyped asked.now.url }
     requires client { IsClient asked.now.client }
-    ensures { AsksServer (F.state shelf.old) (F.state shelf.new)
+    ensures { ServerAsked (F.state shelf.old) (F.state shelf.new)
         (W.allows wire.old) (W.state wire.old) (W.state wire.new) (K.state out.old) (K.state out.new)
         asked.now.query.now asked.now.url (options_of asked.now.client) result }
 {

@@ -1,8 +1,9 @@
 // The names of faults, in lower-case words.
 ghost use Rattle.std.specs.Prelude.{◌≡◌};
-ghost use Rattle.tpf_cli.specs.Names.{why_text, query_why_text, page_text};
+ghost use Rattle.tpf_cli.specs.Names.{why_text, query_why_text, group_why_text, page_text};
 
 use control_reader::PageFault;
+use group_faults::GroupWhy;
 use nquads_text::Why;
 use pattern_parser::QueryWhy;
 
@@ -20,8 +21,8 @@ pub fn why_text(why: Why) -> &'static [u8]
     }
 }
 
-/// The name of a fault of a query.
-pub fn query_why_text(why: QueryWhy) -> &'static [u8]
+/// The name of a fault that a query without groups may have as well.
+fn query_why_text(why: QueryWhy) -> &'static [u8]
     ensures { result.now ≡ query_why_text why }
 {
     match why {
@@ -33,6 +34,17 @@ pub fn query_why_text(why: QueryWhy) -> &'static [u8]
         QueryWhy::RelativeIri => b"relative iri",
         QueryWhy::LangString => b"lang string",
         QueryWhy::TooManyPatterns => b"too many patterns",
+    }
+}
+
+/// The name of a fault of a query.
+pub fn group_why_text(why: GroupWhy) -> &'static [u8]
+    ensures { result.now ≡ group_why_text why }
+{
+    match why {
+        GroupWhy::Basic(why) => query_why_text(why),
+        GroupWhy::TooDeep => b"too deep",
+        GroupWhy::SharedBlank => b"shared blank",
     }
 }
 

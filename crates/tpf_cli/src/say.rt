@@ -9,7 +9,7 @@ use crate::ending::Ending;
 use crate::lines::{
     write_counts, write_fault, write_line, write_named, write_number, write_versions,
 };
-use crate::names::{page_text, query_why_text, why_text};
+use crate::names::{group_why_text, page_text, why_text};
 use crate::status::Status;
 use data_files::{DataFault, QueryFileFault};
 use http_wire::ReplyFault;
@@ -65,7 +65,7 @@ fn say_query<E: Sink>(alloc: Global, err: &mut E, name: &str, fault: QueryFileFa
                 err,
                 b"query: byte ",
                 at as u64,
-                query_why_text(why),
+                group_why_text(why),
                 Status::Query,
             )
         }

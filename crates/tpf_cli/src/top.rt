@@ -165,6 +165,11 @@ fn ending_of<'a, R: Wait, F: Shelf, W: Dial + Accept, K: Sink>(
 /// Query Results JSON. `tpf query URL QUERYFILE` asks the server at an address over `wire`. Both end with
 /// the line `requests R rows S` on `err`.
 ///
+/// The query of a file may have groups: OPTIONAL, UNION, groups in one another, and DISTINCT (SPARQL 1.1, 5 to 7 and
+/// 15.3). Then its blocks of triple patterns are asked for one after another as they are written, each from the start
+/// page on and with what the others left of `--budget`; their rows are put together in memory, and the text is written
+/// behind the last of them. Where two blocks tell different versions of the data the status is 11.
+///
 /// `tpf serve FILE --base URL` serves the data of a file over `wire` at the host and the port of the base,
 /// writes `ready` and LF to `out` once it listens there, and ends with the line `served C`, after
 /// `--stop-after` connections.
@@ -181,11 +186,15 @@ fn ending_of<'a, R: Wait, F: Shelf, W: Dial + Accept, K: Sink>(
 ///
 /// Of `local` and `make --run`, with nothing assumed of a wire: 5 comes only where so many dials fail
 /// (`--fail-every`), 6 only where a body of the plan is longer than `--max-body`, and 7 only where the plan
-/// with the requests that fail passes `--budget`, as do retries + 1 times the plan (`table`). At status 0 of `local` the number of requests that is told is that of the plan's addresses
-/// where no dial fails, and else only by a quotient more (`requests`). Where the files are read
-/// and none of these causes is there, and no output or shelf fails, the status is 0 or 8; so it is of
-/// `query` over a wire whose other ends answer as a server does, where the plan fits, of `serve` where
-/// the wire does not fail, and of `make` (`complete`).
+/// with the requests that fail passes `--budget`, as do retries + 1 times the plan (`table`). At status 0 of `local`
+/// the number of requests that is told is that of the plan's addresses where no dial fails, and else only by a quotient
+/// more (`requests`). These are of a query without groups. With groups 5 comes only where a dial is to fail, 6 only
+/// where a body that a block asks for is longer than `--max-body`, and 7, where no dial fails, only where the plan of
+/// all blocks passes `--budget` (`groups`). Of any query 4 comes only where its text has a fault, and always there, if
+/// the data were not refused before it (`refusal`). Where the files are read, none of these causes is there (of a
+/// query with groups: no dial fails), and no output or shelf fails, the status is 0 or 8; so it is of `query` over a
+/// wire whose other ends answer as a server does, where the plan fits, of `serve` where the wire does not fail, and of
+/// `make` (`complete`, `groups_complete`).
 ///
 /// Over any shelf, wire and output, whether they tell what they hold or not, a run ends with one of the statuses
 /// of its command (`among`): no words that are none with another than 2 and 8; `local` never with 11 and 12,

@@ -1,4 +1,5 @@
 use Rattle.query_command.proofs.Bounded.{files_are_servable, generated_are_servable, queries_are_askable}
+use Rattle.query_command.proofs.GroupTerms.{groups_are_askable}
 use Rattle.query_command.proofs.limits.commands_keep_limits.Goals as goal
 
 pub returns-clause-files : goal.returns-clause-files
@@ -9,3 +10,6 @@ returns-clause-generated c = generated_are_servable c.generated_data_are_small.e
 
 pub returns-clause-queries : goal.returns-clause-queries
 returns-clause-queries c = queries_are_askable c.terms_are_short.ensures
+
+pub returns-clause-groups : goal.returns-clause-groups
+returns-clause-groups c = groups_are_askable

@@ -1,5 +1,5 @@
 -- What is said of the server is said of the file that it serves.
-use Rattle.std.proofs.Common.{Ok, Err, refl, sym, ap, subst, codes}
+use Rattle.std.proofs.Common.{Ok, Err, refl, ap, subst}
 use Rattle.template_fill.specs.Metadata.{Config}
 use Rattle.tpf_base.specs.Addresses.{authority_of}
 use Rattle.data_files.specs.declared.fault.DataFault.TheVariants as data_faults
@@ -8,33 +8,35 @@ use Rattle.data_files.specs.KeptLaws.{reads_keep, sink_none}
 use Rattle.file_server.specs.Servers.{Starts, serving}
 use Rattle.query_command.specs.declared.fault.AnswerFault.TheVariants as faults
 use Rattle.query_command.specs.Loops.{local_view}
+use Rattle.query_command.specs.Groups as sums
 use Rattle.query_command.proofs.Complete.{asks_file, asks_none}
 use Rattle.query_command.proofs.Locals.{local_answers, local_fault, local_honest, local_planned, local_ends, local_sent, local_requested, local_replied, valid_read, query_from}
+use Rattle.query_command.proofs.GroupFiles.{plain_file, group_file, file_ok, file_err}
 use Rattle.query_command.proofs.Opening.{opens_two, asked_two, reads_none, reads_one, reads_both, reads_refused}
 use Rattle.query_command.proofs.local_query.local.Goals as goal
 
 pub returns-in_default : goal.returns-in_default
 returns-in_default g c =
-    asks_none _ _ _ _ _ (local_view c.args.asked.now) (faults.Data data_faults.OutOfMemory) c.requires.none (tt, refl, c.requires.none) (λ triples config q. tt) (λ small. tt) tt (reads_none _ _ _)
-    (record { keeps = sink_none _; spared = λ fine. tt })
+    sums.Plain (asks_none _ _ _ _ _ (local_view c.args.asked.now) (faults.Data data_faults.OutOfMemory) c.requires.none (tt, refl, c.requires.none) (λ triples config q. tt) (λ small. tt) tt (reads_none _ _ _)
+    (record { keeps = sink_none _; spared = λ fine. tt }))
 
 pub returns-in_default-local_config : goal.returns-in_default-local_config
 returns-in_default-local_config g c =
-    asks_none _ _ _ _ _ (local_view c.args.asked.now) (faults.Data data_faults.OutOfMemory) c.requires.none (tt, refl, c.requires.none) (λ triples config q. tt) (λ small. tt) tt (reads_none _ _ _)
-    (record { keeps = sink_none _; spared = λ fine. tt })
+    sums.Plain (asks_none _ _ _ _ _ (local_view c.args.asked.now) (faults.Data data_faults.OutOfMemory) c.requires.none (tt, refl, c.requires.none) (λ triples config q. tt) (λ small. tt) tt (reads_none _ _ _)
+    (record { keeps = sink_none _; spared = λ fine. tt }))
 
 pub returns-in-Err : goal.returns-in-Err
 returns-in-Err g c =
-    asks_none _ _ _ _ _ (local_view c.args.asked.now) (faults.Data c.in-Err.fault) c.requires.none
+    sums.Plain (asks_none _ _ _ _ _ (local_view c.args.asked.now) (faults.Data c.in-Err.fault) c.requires.none
     (subst (λ (config : Config). DataCause (g.F.Shelf.state c.args.shelf.now) (g.F.Shelf.state c.server_of_file.new.shelf) c.args.asked.now.name.now c.args.asked.now.choice.now (authority_of config.base) c.in-Err.fault) c.in-Ok-local_config.ensures c.in-Err.ensures.err, refl, c.requires.none)
     (λ triples config q. tt) (λ small. tt) tt
     (reads_one _ _ _ _ c.in-Err.fault _ (λ e. cc) (λ e. cc) c.in-Err.ensures.reads)
-    (record { keeps = sink_none _; spared = λ fine. tt })
+    (record { keeps = sink_none _; spared = λ fine. tt }))
 
 pub returns-in-Err-read_query : goal.returns-in-Err-read_query
 returns-in-Err-read_query g c =
     let first = c.in-Ok-server_of_file.ensures.reads in
-    asks_none _ _ _ _ _ (local_view c.args.asked.now) (faults.Query c.in-Err-read_query.fault) c.requires.none (
+    sums.Plain (asks_none _ _ _ _ _ (local_view c.args.asked.now) (faults.Query c.in-Err-read_query.fault) c.requires.none (
       query_from (g.F.Shelf.state c.args.shelf.now) (g.F.Shelf.state c.server_of_file.new.shelf) (g.F.Shelf.state c.read_query.new.shelf) (reads_keep _ _ _ _ first) c.args.asked.now.query.now c.in-Err-read_query.fault c.in-Err-read_query.ensures.err,
       (
         (serving c.in-Ok-server_of_file.server).data_set,
@@ -45,7 +47,7 @@ returns-in-Err-read_query g c =
     )
     (λ triples config q. tt) (λ small. tt) tt
     (reads_refused _ _ _ _ _ _ first (λ e. cc) c.in-Err-read_query.fault _ (λ e. cc) (λ e. cc) c.in-Err-read_query.ensures.reads)
-    (record { keeps = sink_none _; spared = λ fine. tt })
+    (record { keeps = sink_none _; spared = λ fine. tt }))
 
 pub returns-in-Ok-ask_server : goal.returns-in-Ok-ask_server
 returns-in-Ok-ask_server g c =
@@ -57,10 +59,10 @@ returns-in-Ok-ask_server g c =
     let starts = subst (λ (config : Config). Starts (g.F.Shelf.state c.args.shelf.now).told view.name view.choice config (serving server)) c.in-Ok-local_config.ensures c.in-Ok-server_of_file.ensures.starts in
     let out = (g.K.Sink.state c.args.out.now) in
     let out' = (g.K.Sink.state c.ask_server.new.out) in
-    let q = c.in-Ok-read_query.query in
-    let read = c.in-Ok-read_query.ensures.ok in
+    let q = c.in-Plain.query in
+    let read = plain_file _ view.query c.in-Ok-read_query.query q c.in-Plain.is c.in-Ok-read_query.ensures.ok in
     let e = c.ask_server.ensures in
-    asks_file _ _ out out' _ view (Ok c.in-Ok-ask_server.report)
+    sums.Plain (asks_file _ _ out out' _ view (Ok c.in-Ok-ask_server.report)
     (local_answers _ _ told view server starts _ out out' q read c.in-Ok-ask_server.report c.in-Ok-ask_server.ensures.answers c.in-Ok-ask_server.ensures.answer)
     tt
     (local_sent _ _ told view server starts _ out out' q read e.sent)
@@ -70,10 +72,10 @@ returns-in-Ok-ask_server g c =
     (local_planned _ _ told view server starts c.ask_server.new.inside out out' q read c.commands_keep_limits.ensures.files c.commands_keep_limits.ensures.queries (valid_read q _ c.patterns-patterns.ensures.value c.patterns-patterns.ensures.valid) (Ok c.in-Ok-ask_server.report) e.honest c.in-Ok-ask_server.ensures.ends)
     (local_honest _ view server starts _ e.honest)
     (reads_both _ _ _ _ _ _ first (λ e. cc) (Ok c.in-Ok-ask_server.report) (asked_two _ _ _ _ _ _ first (λ e. cc) second.asks) (opens_two _ _ _ first.asks.opened second.asks.opened) (λ e. absurd e) _ (λ e. cc) second)
-    (record { keeps = e.output; spared = λ fine. tt })
+    (record { keeps = e.output; spared = λ fine. tt }))
 
-pub returns : goal.returns
-returns g c =
+pub returns-in-Plain : goal.returns-in-Plain
+returns-in-Plain g c =
     let view = local_view c.args.asked.now in
     let first = c.in-Ok-server_of_file.ensures.reads in
     let second = c.in-Ok-read_query.ensures.reads in
@@ -82,11 +84,11 @@ returns g c =
     let starts = subst (λ (config : Config). Starts (g.F.Shelf.state c.args.shelf.now).told view.name view.choice config (serving server)) c.in-Ok-local_config.ensures c.in-Ok-server_of_file.ensures.starts in
     let out = (g.K.Sink.state c.args.out.now) in
     let out' = (g.K.Sink.state c.ask_server.new.out) in
-    let q = c.in-Ok-read_query.query in
-    let read = c.in-Ok-read_query.ensures.ok in
+    let q = c.in-Plain.query in
+    let read = plain_file _ view.query c.in-Ok-read_query.query q c.in-Plain.is c.in-Ok-read_query.ensures.ok in
     let fault = c.in-Err-ask_server.fault in
     let e = c.in-Err-ask_server.ensures in
-    asks_file _ _ out out' _ view (Err (faults.Client fault)) tt
+    sums.Plain (asks_file _ _ out out' _ view (Err (faults.Client fault)) tt
     (local_fault _ _ told view server starts _ out out' q read fault e.cause e.front)
     (local_sent _ _ told view server starts _ out out' q read c.ask_server.ensures.sent)
     (local_requested _ _ told view server starts _ out out' q read c.ask_server.ensures.requested)
@@ -95,7 +97,35 @@ returns g c =
     (local_planned _ _ told view server starts c.ask_server.new.inside out out' q read c.commands_keep_limits.ensures.files c.commands_keep_limits.ensures.queries (valid_read q _ c.patterns-patterns.ensures.value c.patterns-patterns.ensures.valid) (Err fault) c.ask_server.ensures.honest e.ends)
     (local_honest _ view server starts _ c.ask_server.ensures.honest)
     (reads_both _ _ _ _ _ _ first (λ e. cc) (Err (faults.Client fault)) (asked_two _ _ _ _ _ _ first (λ e. cc) second.asks) (opens_two _ _ _ first.asks.opened second.asks.opened) (λ e. absurd e) _ (λ e. cc) second)
-    (record { keeps = c.ask_server.ensures.output; spared = λ fine is. c.ask_server.ensures.spared fine (cc) })
+    (record { keeps = c.ask_server.ensures.output; spared = λ fine is. c.ask_server.ensures.spared fine (cc) }))
+
+pub returns-in-Ok-ask_groups : goal.returns-in-Ok-ask_groups
+returns-in-Ok-ask_groups g c =
+    let view = local_view c.args.asked.now in
+    let first = c.in-Ok-server_of_file.ensures.reads in
+    let second = c.in-Ok-read_query.ensures.reads in
+    let server = c.in-Ok-server_of_file.server in
+    let starts = subst (λ (config : Config). Starts (g.F.Shelf.state c.args.shelf.now).told view.name view.choice config (serving server)) c.in-Ok-local_config.ensures c.in-Ok-server_of_file.ensures.starts in
+    let q = c.in-Groups.query in
+    let read = group_file _ _ first.asks.told view.query c.in-Ok-read_query.query q c.in-Groups.is c.in-Ok-read_query.ensures.ok in
+    sums.Groups q (file_ok _ _ view server starts _ _ _ q read c.commands_keep_limits.ensures.files c.commands_keep_limits.ensures.groups c.in-Ok-ask_groups.report c.in-Ok-ask_groups.ensures
+    (reads_both _ _ _ _ _ _ first (λ e. cc) (Ok c.in-Ok-ask_groups.report) (asked_two _ _ _ _ _ _ first (λ e. cc) second.asks) (opens_two _ _ _ first.asks.opened second.asks.opened) (λ e. absurd e) _ (λ e. cc) second))
+
+pub returns : goal.returns
+returns g c =
+    let view = local_view c.args.asked.now in
+    let first = c.in-Ok-server_of_file.ensures.reads in
+    let second = c.in-Ok-read_query.ensures.reads in
+    let server = c.in-Ok-server_of_file.server in
+    let starts = subst (λ (config : Config). Starts (g.F.Shelf.state c.args.shelf.now).told view.name view.choice config (serving server)) c.in-Ok-local_config.ensures c.in-Ok-server_of_file.ensures.starts in
+    let q = c.in-Groups.query in
+    let read = group_file _ _ first.asks.told view.query c.in-Ok-read_query.query q c.in-Groups.is c.in-Ok-read_query.ensures.ok in
+    let fault = c.in-Err-ask_groups.fault in
+    sums.Groups q (file_err _ _ view server starts _ _ _ q read c.commands_keep_limits.ensures.files c.commands_keep_limits.ensures.groups fault c.in-Err-ask_groups.ensures
+    (reads_both _ _ _ _ _ _ first (λ e. cc) (Err (faults.Client fault)) (asked_two _ _ _ _ _ _ first (λ e. cc) second.asks) (opens_two _ _ _ first.asks.opened second.asks.opened) (λ e. absurd e) _ (λ e. cc) second))
 
 pub ask_server-requires-clause-base : goal.ask_server-requires-clause-base
 ask_server-requires-clause-base g c = ap (λ (s : Config). s.base) (subst (λ (config : Config). Starts (g.F.Shelf.state c.args.shelf.now).told c.args.asked.now.name.now c.args.asked.now.choice.now config (serving c.in-Ok-server_of_file.server)) c.in-Ok-local_config.ensures c.in-Ok-server_of_file.ensures.starts).config_is
+
+pub ask_groups-requires-clause-base : goal.ask_groups-requires-clause-base
+ask_groups-requires-clause-base g c = ap (λ (s : Config). s.base) (subst (λ (config : Config). Starts (g.F.Shelf.state c.args.shelf.now).told c.args.asked.now.name.now c.args.asked.now.choice.now config (serving c.in-Ok-server_of_file.server)) c.in-Ok-local_config.ensures c.in-Ok-server_of_file.ensures.starts).config_is

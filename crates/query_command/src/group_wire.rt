@@ -1,0 +1,90 @@
+// A query with groups over a wire that is made for it.
+ghost use Rattle.std.specs.Prelude.{◌≡◌, ◌≤◌};
+ghost use Rattle.std.specs.List.{AllByRecursion};
+ghost use Rattle.bgp_core.specs.Queries.{IsValidPattern};
+ghost use Rattle.file_server.specs.Servers.{serving};
+ghost use Rattle.query_command.specs.Loops.{local_base};
+ghost use Rattle.query_command.specs.Over.{IsValidStep, AreValidBlocks, AsksGroups};
+
+use crate::local_query::{OverWire, is_few};
+use bgp_core::Pattern;
+use fragment_server::{FragmentConnection, FragmentServer};
+use group_patterns::answer;
+use group_query::{GroupQuery, Step};
+use loop_wire::LoopWire;
+use plan_laws::plans_are_read;
+use std::alloc::Global;
+use std::sync::Wait;
+use tpf_base::{Failing, Sink};
+use tpf_client::{ClientFault, Report};
+
+/// That the fixed parts of patterns are valid terms. It does nothing.
+fn patterns_are_valid(patterns: &[Pattern])
+    ensures { AllByRecursion IsValidPattern patterns.now }
+{
+    for pattern in patterns {
+        pattern.is_valid();
+    }
+}
+
+/// That the fixed parts of a block are valid terms. It does nothing.
+fn step_is_valid(step: &Step)
+    ensures { IsValidStep step.now }
+{
+    match step {
+        Step::Block(patterns) => patterns_are_valid(patterns.as_slice()),
+        Step::Empty => {}
+        Step::Join => {}
+        Step::Optional => {}
+        Step::Union => {}
+    }
+}
+
+fn steps_are_valid(steps: &[Step])
+    ensures { AllByRecursion IsValidStep steps.now }
+{
+    for step in steps {
+        step_is_valid(step);
+    }
+}
+
+/// That the fixed parts of all blocks are valid terms. It does nothing.
+pub(crate) fn blocks_are_valid(query: &GroupQuery)
+    ensures { AreValidBlocks query.now }
+{
+    steps_are_valid(query.steps());
+}
+
+/// Asks a server a query with groups over a wire that is made for it, of this seed, on which each
+/// `fail_every`-th dial fails, and leaves the wire.
+pub(crate) fn ask_groups<R: Wait, K: Sink>(
+    rt: &R,
+    alloc: Global,
+    asked: &OverWire<'_>,
+    server: FragmentServer,
+    query: &GroupQuery,
+    out: &mut K,
+    inside: &mut Option<LoopWire<FragmentConnection>>,
+) -> Result<Report, ClientFault>
+    requires start { asked.now.start.now ≡ local_base }
+    requires first { (serving server).version ≡ 1 }
+    requires base { (serving server).config.base ≡ local_base }
+    requires window { 1 ≤ asked.now.options.window }
+    requires some { 1 ≤ asked.now.options.links }
+    requires few { asked.now.options.links ≤ 256 }
+    ensures { AsksGroups server asked.now.seed asked.now.fail_every asked.now.options query.now result
+        inside.new (K.state out.old) (K.state out.new) }
+{
+    plans_are_read();
+    is_few(&server);
+    server.server().is_valid();
+    blocks_are_valid(query);
+    let failing = Failing::Dials(asked.fail_every);
+    let mut wire: LoopWire<FragmentConnection> = LoopWire::new(alloc, server, asked.seed, failing);
+    let start = asked.start;
+    let options = &asked.options;
+    let ended = answer(rt, alloc, query, start, options, &mut wire, out);
+    wire.fails_as_due();
+    *inside = Some(wire);
+    ended
+}

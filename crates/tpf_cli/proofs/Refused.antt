@@ -1,0 +1,333 @@
+-- Which statuses come of queries with groups in one process, and where a query is refused.
+use Rattle.std.proofs.Common.{ℕ, ◌≡◌, ◌⊎◌, ◌<◌, ◌≤◌, ◌^◌, inl, inr, List, Option, Some, None, Result, Ok, Err, codes, refl, sym, subst, arith}
+use Rattle.rdf_terms.specs.declared.term.Triple.{Triple}
+use Rattle.tpf_base.specs.Addresses.{Address}
+use Rattle.tpf_base.specs.Causes.{Rose}
+use Rattle.tpf_base.specs.Outside.{ShelfState}
+use Rattle.tpf_base.specs.Wrote.{SinkState}
+use Rattle.tpf_base.specs.declared.fault.Fault.{Fault}
+use Rattle.tpf_base.specs.declared.fault.Fault.TheVariants as sinks
+use Rattle.template_fill.specs.Metadata.{Config}
+use Rattle.triple_table.specs.declared.choice.Choice.TheVariants.{DefaultGraph}
+use Rattle.triple_table.specs.Chosen.{chosen}
+use Rattle.triple_table.proofs.ServedData.{served_one}
+use Rattle.generated_data.specs.Generated.{generated}
+use Rattle.group_query.specs.Trees.{GroupData}
+use Rattle.group_faults.specs.declared.fault.GroupWhy.{GroupWhy}
+use Rattle.tpf_client.specs.declared.options.Options.{Options}
+use Rattle.tpf_client.specs.declared.options.Report.{Report}
+use Rattle.tpf_client.specs.declared.fault.ClientFault.{ClientFault}
+use Rattle.tpf_client.specs.declared.fault.ClientFault.TheVariants as clients
+use Rattle.data_files.specs.declared.fault.DataFault.{DataFault}
+use Rattle.data_files.specs.declared.fault.DataFault.TheVariants as data_faults
+use Rattle.data_files.specs.declared.fault.QueryFileFault.{QueryFileFault}
+use Rattle.data_files.specs.declared.fault.QueryFileFault.TheVariants as query_faults
+use Rattle.data_files.specs.Data.{IfTold, served}
+use Rattle.data_files.specs.Queries.{HasQueryFault, reads_groups, refused}
+use Rattle.data_files.specs.Causes.{DataCause, QueryCause, QueryDecides}
+use Rattle.data_files.proofs.Outcomes.{one_outcome, one_query}
+use Rattle.file_server.specs.Servers.{serving}
+use Rattle.query_command.specs.declared.fault.AnswerFault.{AnswerFault}
+use Rattle.query_command.specs.declared.fault.AnswerFault.TheVariants as answers
+use Rattle.query_command.specs.declared.generated_query.Counts.{Counts}
+use Rattle.query_command.specs.Generated.{usual_options}
+use Rattle.query_command.specs.Loops.{LocalView, local_config}
+use Rattle.query_command.specs.Groups.{MayEndGroup, FileAsked, ServerAsked, GeneratedAsked, Plain, Groups}
+use Rattle.command_words.specs.Commands.{Command, local, query, serve, make}
+use Rattle.tpf_cli.specs.Endings as ends
+use Rattle.tpf_cli.specs.Endings.{EndOfRun, usage, no_words, answered, made, counted, data_status, query_status, client_status, fault_status, answer_status, counted_status, status_of, Says}
+use Rattle.tpf_cli.specs.Ranges.{IsInRange}
+use Rattle.tpf_cli.specs.Runs.{Around, WritesNumbers, CountsFile, IsRead, GivesEnd, Does, DoesOf, unwritten, wire_inside, options_of, view_of}
+use Rattle.tpf_cli.specs.Promises.{KeepsGroupTable, KeepsGroupTableOf, OfGroupFiles, OfGroupGenerated, RefusesBy, RefusesOf}
+use Rattle.tpf_cli.proofs.Grouped.{no_groups, file_gives, server_gives}
+
+-- ---- the table
+
+module _ (n : ℕ) (options : Options) (triples : List Triple) (config : Config) (g : GroupData) where
+  -- a status that the table does not speak of
+  other_group : (status : ℕ) → (status ≤ 4) ⊎ ((8 ≤ status) × (status ≤ 10)) → KeepsGroupTable n options triples config g status
+  other_group status (inl low) = record { exchange = λ e. absurd (omega (arith, low, e)); reply = λ e. absurd (omega (arith, low, e)); budget = λ e. absurd (omega (arith, low, e)); changed = λ e. omega (arith, low, e); wire = λ e. omega (arith, low, e) }
+  other_group status (inr between) =
+      record { exchange = λ e. absurd (omega (arith, between, e)); reply = λ e. absurd (omega (arith, between, e)); budget = λ e. absurd (omega (arith, between, e)); changed = λ e. omega (arith, between, e); wire = λ e. omega (arith, between, e) }
+
+  done_group : KeepsGroupTable n options triples config g 0
+  done_group = other_group 0 (inl (omega arith))
+
+  memory_group : KeepsGroupTable n options triples config g 8
+  memory_group = other_group 8 (inr (omega arith, omega arith))
+
+  data_group : (fault : DataFault) → KeepsGroupTable n options triples config g (data_status fault)
+  data_group data_faults.TooLong = other_group 3 (inl (omega arith))
+  data_group (data_faults.Bad line why) = other_group 3 (inl (omega arith))
+  data_group (data_faults.GenidClash label) = other_group 3 (inl (omega arith))
+  data_group data_faults.TooMany = other_group 3 (inl (omega arith))
+  data_group data_faults.File = other_group 10 (inr (omega arith, omega arith))
+  data_group data_faults.OutOfMemory = memory_group
+
+  query_group : (fault : QueryFileFault) → KeepsGroupTable n options triples config g (query_status fault)
+  query_group (query_faults.Bad at why) = other_group 4 (inl (omega arith))
+  query_group query_faults.File = other_group 10 (inr (omega arith, omega arith))
+  query_group query_faults.OutOfMemory = memory_group
+
+  client_group : (fault : ClientFault) → MayEndGroup n options triples config g fault → KeepsGroupTable n options triples config g (client_status fault)
+  client_group clients.Exchange h = record { exchange = λ e. h; reply = λ e. absurd (omega (arith, e)); budget = λ e. absurd (omega (arith, e)); changed = λ e. omega (arith, e); wire = λ e. omega (arith, e) }
+  client_group clients.Stalled h = absurd h
+  client_group (clients.Cut received) h = record { exchange = λ e. h; reply = λ e. absurd (omega (arith, e)); budget = λ e. absurd (omega (arith, e)); changed = λ e. omega (arith, e); wire = λ e. omega (arith, e) }
+  client_group (clients.Reply fault received) h = record { exchange = λ e. absurd (omega (arith, e)); reply = λ e. (received, h.1); budget = λ e. absurd (omega (arith, e)); changed = λ e. omega (arith, e); wire = λ e. omega (arith, e) }
+  client_group (clients.Page fault body) h = absurd h
+  client_group (clients.Changed first other) h = absurd h
+  client_group (clients.Budget most) h = record { exchange = λ e. absurd (omega (arith, e)); reply = λ e. absurd (omega (arith, e)); budget = λ e. h.1; changed = λ e. omega (arith, e); wire = λ e. omega (arith, e) }
+  client_group clients.Sink h = other_group 9 (inr (omega arith, omega arith))
+  client_group clients.OutOfMemory h = memory_group
+
+  -- a line that was not written
+  cut_group : (cause : Fault) → KeepsGroupTable n options triples config g (fault_status (unwritten cause))
+  cut_group sinks.Failed = other_group 9 (inr (omega arith, omega arith))
+  cut_group sinks.OutOfMemory = memory_group
+
+pub same_data : (one other : List Triple) → served one ≡ served other → one ≡ other
+same_data one other e = cc
+
+pub same_group : (one other : GroupData) → reads_groups one ≡ reads_groups other → one ≡ other
+same_group one other e = cc
+
+-- what is said of some data, configuration and query is said of equal ones
+pub carried : (P : List Triple → Config → GroupData → Type 0) (triples others : List Triple) → triples ≡ others → (config other : Config) → config ≡ other → (g h : GroupData) → g ≡ h → P triples config g → P others other h
+carried P triples others same_triples config other same_config g h same p =
+    subst (λ (x : GroupData). P others other x) same (subst (λ (c : Config). P others c g) same_config (subst (λ (ts : List Triple). P ts config g) same_triples p))
+
+module _ (a : Around) where
+  module _ (view : LocalView) where
+    group_file : (answer : Result Report AnswerFault) → view.options.budget < 2 ^ 63 → FileAsked a.shelf a.shelf' a.out a.out' (wire_inside a.inside') view answer
+        → OfGroupFiles a.shelf.told view (λ triples g. KeepsGroupTable view.fail_every view.options triples (local_config view.page_size) g (answer_status answer))
+    group_file (Ok report) small h = λ files is triples g serves holds. done_group view.fail_every view.options triples (local_config view.page_size) g
+    group_file (Err (answers.Data fault)) small h = λ files is triples g serves holds. data_group view.fail_every view.options triples (local_config view.page_size) g fault
+    group_file (Err (answers.Query fault)) small h = λ files is triples g serves holds. query_group view.fail_every view.options triples (local_config view.page_size) g fault
+    group_file (Err (answers.Client fault)) small (Plain h) = λ files is triples g serves holds. absurd (no_groups a.shelf.told view.query h.cause.0.q h.cause.0.is_read files is g holds)
+    group_file (Err (answers.Client fault)) small (Groups own h) = λ files is triples g serves holds.
+        let l = h.ends small in
+        let there = one_outcome files view.name view.choice (codes "localhost") (served (serving l.server).data_set) (served triples) (l.starts.data_set.tells files is) serves in
+        let asked = one_query files view.query (reads_groups own) (reads_groups g) (h.is_read.tells files is) holds in
+        client_group view.fail_every view.options triples (local_config view.page_size) g fault
+        (carried (λ (ts : List Triple) (c : Config) (x : GroupData). MayEndGroup view.fail_every view.options ts c x fault) (serving l.server).data_set triples (same_data (serving l.server).data_set triples there) (serving l.server).config (local_config view.page_size) l.starts.config_is own g (same_group own g asked) l.loops.says)
+
+  module _ (persons : ℕ) (name : List ℕ) where
+    group_counted : (fault : AnswerFault) → GeneratedAsked a.shelf a.shelf' (wire_inside a.inside') persons name (Err fault)
+        → OfGroupGenerated a.shelf.told persons name (λ triples g. KeepsGroupTable 0 usual_options triples (local_config 100) g (fault_status fault))
+    group_counted (answers.Data fault) h = λ files is triples g serves holds. data_group 0 usual_options triples (local_config 100) g fault
+    group_counted (answers.Query fault) h = λ files is triples g serves holds. query_group 0 usual_options triples (local_config 100) g fault
+    group_counted (answers.Client fault) (Plain h) = λ files is triples g serves holds. absurd (no_groups a.shelf.told name h.cause.1.loops.says.q h.cause.1.loops.says.is_read files is g holds)
+    group_counted (answers.Client fault) (Groups own h) = λ files is triples g serves holds.
+        let l = h.ends in
+        let there = served_one (codes "localhost") (chosen DefaultGraph (generated persons)) (serving l.server).data_set triples l.starts.data_set serves in
+        let asked = one_query files name (reads_groups own) (reads_groups g) (h.is_read.tells files is) holds in
+        client_group 0 usual_options triples (local_config 100) g fault
+        (carried (λ (ts : List Triple) (c : Config) (x : GroupData). MayEndGroup 0 usual_options ts c x fault) (serving l.server).data_set triples there (serving l.server).config (local_config 100) l.starts.config_is own g (same_group own g asked) l.loops.says)
+
+    group_numbers : (came : Result Counts AnswerFault) (result : Result (Unit {0}) AnswerFault) → WritesNumbers a.out a.out' came result → GeneratedAsked a.shelf a.shelf' (wire_inside a.inside') persons name came
+        → OfGroupGenerated a.shelf.told persons name (λ triples g. KeepsGroupTable 0 usual_options triples (local_config 100) g (counted_status result))
+    group_numbers came (Ok nothing) line asks = λ files is triples g serves holds. done_group 0 usual_options triples (local_config 100) g
+    group_numbers (Ok counts) (Err fault) line asks = λ files is triples g serves holds.
+        subst (λ (f : AnswerFault). KeepsGroupTable 0 usual_options triples (local_config 100) g (fault_status f)) (sym line.is) (cut_group 0 usual_options triples (local_config 100) g line.cause)
+    group_numbers (Err cause) (Err fault) line asks = λ files is triples g serves holds.
+        subst (λ (f : AnswerFault). KeepsGroupTable 0 usual_options triples (local_config 100) g (fault_status f)) line.0 (group_counted cause asks files is triples g serves holds)
+
+  few : (n : ℕ) → n ≤ 1000000000000 → n < 2 ^ 63
+  few n h = omega (arith, h)
+
+  group_command : (command : Command) → IsInRange command → (end : EndOfRun) → Does a command end → KeepsGroupTableOf a (Some command) (status_of end)
+  group_command (local name query_name choice page client seed fail_every) r (answered data_name asked answer) h = group_file (view_of name query_name choice page client seed fail_every) answer (few client.budget r.2.budget) h.3
+  group_command (local name query_name choice page client seed fail_every) r usage h = absurd h
+  group_command (local name query_name choice page client seed fail_every) r no_words h = absurd h
+  group_command (local name query_name choice page client seed fail_every) r (ends.served file service) h = absurd h
+  group_command (local name query_name choice page client seed fail_every) r (made written) h = absurd h
+  group_command (local name query_name choice page client seed fail_every) r (counted asked result) h = absurd h
+  group_command (query url query_name client) r end h = tt
+  group_command (serve name base choice page stop_after reload) r end h = tt
+  group_command (make count None) r end h = tt
+  group_command (make count (Some name)) r (counted asked result) h = group_numbers count name h.1.1.came result h.1.1.line h.1.1.asks
+  group_command (make count (Some name)) r usage h = absurd h.1
+  group_command (make count (Some name)) r no_words h = absurd h.1
+  group_command (make count (Some name)) r (answered data_name asked answer) h = absurd h.1
+  group_command (make count (Some name)) r (ends.served file service) h = absurd h.1
+  group_command (make count (Some name)) r (made written) h = absurd h.1
+
+  memory_groups : (command : Option Command) → KeepsGroupTableOf a command 8
+  memory_groups None = tt
+  memory_groups (Some (local name query_name choice page client seed fail_every)) = λ files is triples g serves holds. memory_group fail_every (options_of client) triples (local_config page) g
+  memory_groups (Some (query url query_name client)) = tt
+  memory_groups (Some (serve name base choice page stop_after reload)) = tt
+  memory_groups (Some (make count None)) = tt
+  memory_groups (Some (make count (Some name))) = λ files is triples g serves holds. memory_group 0 usual_options triples (local_config 100) g
+
+  groups_of : (command : Option Command) → ((c : Command) → command ≡ Some c → IsInRange c) → (end : EndOfRun) → DoesOf a command end → KeepsGroupTableOf a command (status_of end)
+  groups_of None ranged end h = tt
+  groups_of (Some command) ranged end (inl h) = group_command command (ranged command refl) end h
+  groups_of (Some command) ranged end (inr h) = subst (λ (e : EndOfRun). KeepsGroupTableOf a (Some command) (status_of e)) (sym h.0) (memory_groups (Some command))
+
+  -- the status is that of the ending, or 8
+  pub run_group_table : (command : Option Command) → ((c : Command) → command ≡ Some c → IsInRange c) → (end : EndOfRun) (result : ℕ) (err err' : SinkState) → DoesOf a command end → Says result end err err' → KeepsGroupTableOf a command result
+  run_group_table command ranged end result err err' h (inl s) = subst (KeepsGroupTableOf a command) (sym s.0) (groups_of command ranged end h)
+  run_group_table command ranged end result err err' h (inr s) = subst (KeepsGroupTableOf a command) (sym s.0) (memory_groups command)
+
+-- ---- refused queries
+
+-- what a fault shows of the files
+abbrev Shows : ShelfState → ShelfState → List ℕ → AnswerFault → Type 0
+Shows shelf shelf' name (answers.Data fault) = fault ≡ data_faults.File → Rose shelf.faults shelf'.faults
+Shows shelf shelf' name (answers.Query fault) = QueryCause shelf shelf' name fault
+Shows shelf shelf' name (answers.Client fault) = Unit {0}
+
+-- a file with a fault is not read
+not_read : (at : ℕ) (why : GroupWhy) → IsRead (refused at why) → ⊥
+not_read at why (inl q) = let e = q.1 in cc
+not_read at why (inr g) = let e = g.1 in cc
+
+module _ (shelf shelf' : ShelfState) (name : List ℕ) where
+  abbrev Faulty : Type 0
+  Faulty = IfTold shelf.told (λ files. (at : ℕ) × (why : GroupWhy) × HasQueryFault files name at why)
+
+  four_of_data : (fault : DataFault) → data_status fault ≡ 4 → Faulty
+  four_of_data data_faults.TooLong e = absurd (omega (arith, e))
+  four_of_data (data_faults.Bad line why) e = absurd (omega (arith, e))
+  four_of_data (data_faults.GenidClash label) e = absurd (omega (arith, e))
+  four_of_data data_faults.TooMany e = absurd (omega (arith, e))
+  four_of_data data_faults.File e = absurd (omega (arith, e))
+  four_of_data data_faults.OutOfMemory e = absurd (omega (arith, e))
+
+  four_of_client : (fault : ClientFault) → client_status fault ≡ 4 → Faulty
+  four_of_client clients.Exchange e = absurd (omega (arith, e))
+  four_of_client clients.Stalled e = absurd (omega (arith, e))
+  four_of_client (clients.Cut received) e = absurd (omega (arith, e))
+  four_of_client (clients.Reply fault received) e = absurd (omega (arith, e))
+  four_of_client (clients.Page fault body) e = absurd (omega (arith, e))
+  four_of_client (clients.Changed first other) e = absurd (omega (arith, e))
+  four_of_client (clients.Budget most) e = absurd (omega (arith, e))
+  four_of_client clients.Sink e = absurd (omega (arith, e))
+  four_of_client clients.OutOfMemory e = absurd (omega (arith, e))
+
+  four_of : (fault : AnswerFault) → Shows shelf shelf' name fault → fault_status fault ≡ 4 → Faulty
+  four_of (answers.Data fault) h e = four_of_data fault e
+  four_of (answers.Query (query_faults.Bad at why)) h e = λ files is. (at, why, h files is)
+  four_of (answers.Query query_faults.File) h e = absurd (omega (arith, e))
+  four_of (answers.Query query_faults.OutOfMemory) h e = absurd (omega (arith, e))
+  four_of (answers.Client fault) h e = four_of_client fault e
+
+  -- a query with a fault
+  abbrev IsRefused : ℕ → Type 0
+  IsRefused status = (status ≡ 3) ⊎ ((status ≡ 4) ⊎ (status ≡ 8))
+
+  refused_data : (fault : DataFault) → (fault ≡ data_faults.File → ⊥) → IsRefused (data_status fault)
+  refused_data data_faults.TooLong file = inl refl
+  refused_data (data_faults.Bad line why) file = inl refl
+  refused_data (data_faults.GenidClash label) file = inl refl
+  refused_data data_faults.TooMany file = inl refl
+  refused_data data_faults.File file = absurd (file refl)
+  refused_data data_faults.OutOfMemory file = inr (inr refl)
+
+  refused_of : (X : Type 0) (fault : AnswerFault) → Shows shelf shelf' name fault → QueryDecides shelf shelf' name (λ outcome. GivesEnd {X = X} outcome (Err fault)) → ¬ (Rose shelf.faults shelf'.faults)
+      → IfTold shelf.told (λ files. (at : ℕ) (why : GroupWhy) → HasQueryFault files name at why → IsRefused (fault_status fault))
+  refused_of X (answers.Data fault) h gives quiet = λ files is at why bad. refused_data fault (λ e. quiet (h e))
+  refused_of X (answers.Query (query_faults.Bad at why)) h gives quiet = λ files is place kind bad. inr (inl refl)
+  refused_of X (answers.Query query_faults.File) h gives quiet = absurd (quiet h)
+  refused_of X (answers.Query query_faults.OutOfMemory) h gives quiet = λ files is at why bad. inr (inr refl)
+  refused_of X (answers.Client fault) h gives quiet = λ files is at why bad. absurd (not_read at why (gives quiet files is (refused at why) bad))
+
+  fault_refuses : (X : Type 0) (fault : AnswerFault) → Shows shelf shelf' name fault → QueryDecides shelf shelf' name (λ outcome. GivesEnd {X = X} outcome (Err fault)) → RefusesBy shelf shelf' name (fault_status fault)
+  fault_refuses X fault h gives = record { four = four_of fault h; refused = refused_of X fault h gives }
+
+  done_refuses : {X : Type 0} (answer : X) → QueryDecides shelf shelf' name (λ outcome. GivesEnd outcome (Ok answer)) → RefusesBy shelf shelf' name 0
+  done_refuses answer gives = record {
+    four = λ e. absurd (omega (arith, e));
+    refused = λ quiet files is at why bad. absurd (not_read at why (gives quiet files is (refused at why) bad));
+  }
+
+  memory_refuses : RefusesBy shelf shelf' name 8
+  memory_refuses = record { four = λ e. absurd (omega (arith, e)); refused = λ quiet files is at why bad. inr (inr refl) }
+
+module _ (a : Around) where
+  file_shows : (view : LocalView) (fault : AnswerFault) → FileAsked a.shelf a.shelf' a.out a.out' (wire_inside a.inside') view (Err fault) → Shows a.shelf a.shelf' view.query fault
+  file_shows view (answers.Data fault) (Plain h) = λ e. subst (λ (f : DataFault). DataCause a.shelf a.shelf' view.name view.choice (codes "localhost") f) e h.cause.0
+  file_shows view (answers.Query fault) (Plain h) = h.cause.0
+  file_shows view (answers.Client fault) (Plain h) = tt
+  file_shows view (answers.Data fault) (Groups g h) = absurd h.cause
+  file_shows view (answers.Query fault) (Groups g h) = absurd h.cause
+  file_shows view (answers.Client fault) (Groups g h) = tt
+
+  refuses_file : (view : LocalView) (answer : Result Report AnswerFault) → FileAsked a.shelf a.shelf' a.out a.out' (wire_inside a.inside') view answer → RefusesBy a.shelf a.shelf' view.query (answer_status answer)
+  refuses_file view (Ok report) h = done_refuses a.shelf a.shelf' view.query report (file_gives a.shelf a.shelf' a.out a.out' (wire_inside a.inside') view (Ok report) h)
+  refuses_file view (Err fault) h = fault_refuses a.shelf a.shelf' view.query Report fault (file_shows view fault h) (file_gives a.shelf a.shelf' a.out a.out' (wire_inside a.inside') view (Err fault) h)
+
+  module _ (name : List ℕ) (url : Address) (options : Options) where
+    server_shows : (fault : AnswerFault) → ServerAsked a.shelf a.shelf' a.allows a.wire a.wire' a.out a.out' name url options (Err fault) → Shows a.shelf a.shelf' name fault
+    server_shows (answers.Data fault) (Plain h) = absurd h.cause
+    server_shows (answers.Query fault) (Plain h) = h.cause.0
+    server_shows (answers.Client fault) (Plain h) = tt
+    server_shows (answers.Data fault) (Groups g h) = absurd h.cause
+    server_shows (answers.Query fault) (Groups g h) = absurd h.cause
+    server_shows (answers.Client fault) (Groups g h) = tt
+
+    refuses_server : (answer : Result Report AnswerFault) → ServerAsked a.shelf a.shelf' a.allows a.wire a.wire' a.out a.out' name url options answer → RefusesBy a.shelf a.shelf' name (answer_status answer)
+    refuses_server (Ok report) h = done_refuses a.shelf a.shelf' name report (server_gives a.shelf a.shelf' name a.allows a.wire a.wire' a.out a.out' url options (Ok report) h)
+    refuses_server (Err fault) h = fault_refuses a.shelf a.shelf' name Report fault (server_shows fault h) (server_gives a.shelf a.shelf' name a.allows a.wire a.wire' a.out a.out' url options (Err fault) h)
+
+  module _ (persons : ℕ) (name : List ℕ) where
+    generated_shows : (fault : AnswerFault) → GeneratedAsked a.shelf a.shelf' (wire_inside a.inside') persons name (Err fault) → Shows a.shelf a.shelf' name fault
+    generated_shows (answers.Data fault) (Plain h) = λ e. let memory = h.cause.0 in cc
+    generated_shows (answers.Query fault) (Plain h) = h.cause.0
+    generated_shows (answers.Client fault) (Plain h) = tt
+    generated_shows (answers.Data fault) (Groups g h) = absurd h.cause
+    generated_shows (answers.Query fault) (Groups g h) = absurd h.cause
+    generated_shows (answers.Client fault) (Groups g h) = tt
+
+    unwritten_shows : (cause : Fault) → Shows a.shelf a.shelf' name (unwritten cause)
+    unwritten_shows sinks.Failed = tt
+    unwritten_shows sinks.OutOfMemory = tt
+
+    numbers_show : (came : Result Counts AnswerFault) (fault : AnswerFault) → WritesNumbers a.out a.out' came (Err fault) → GeneratedAsked a.shelf a.shelf' (wire_inside a.inside') persons name came → Shows a.shelf a.shelf' name fault
+    numbers_show (Ok counts) fault line asks = subst (λ (f : AnswerFault). Shows a.shelf a.shelf' name f) (sym line.is) (unwritten_shows line.cause)
+    numbers_show (Err cause) fault line asks = subst (λ (f : AnswerFault). Shows a.shelf a.shelf' name f) line.0 (generated_shows cause asks)
+
+    refuses_counted : (result : Result (Unit {0}) AnswerFault) → CountsFile a.shelf a.shelf' a.out a.out' (wire_inside a.inside') persons name result → RefusesBy a.shelf a.shelf' name (counted_status result)
+    refuses_counted (Ok nothing) h = done_refuses a.shelf a.shelf' name nothing h.exact
+    refuses_counted (Err fault) h = fault_refuses a.shelf a.shelf' name (Unit {0}) fault (numbers_show h.came fault h.line h.asks) h.exact
+
+  refusal_command : (command : Command) (end : EndOfRun) → Does a command end → RefusesOf a (Some command) (status_of end)
+  refusal_command (local name query_name choice page client seed fail_every) (answered data_name asked answer) h = refuses_file (view_of name query_name choice page client seed fail_every) answer h.3
+  refusal_command (local name query_name choice page client seed fail_every) usage h = absurd h
+  refusal_command (local name query_name choice page client seed fail_every) no_words h = absurd h
+  refusal_command (local name query_name choice page client seed fail_every) (ends.served file service) h = absurd h
+  refusal_command (local name query_name choice page client seed fail_every) (made written) h = absurd h
+  refusal_command (local name query_name choice page client seed fail_every) (counted asked result) h = absurd h
+  refusal_command (query url query_name client) (answered data_name asked answer) h = refuses_server query_name url (options_of client) answer h.2
+  refusal_command (query url query_name client) usage h = absurd h
+  refusal_command (query url query_name client) no_words h = absurd h
+  refusal_command (query url query_name client) (ends.served file service) h = absurd h
+  refusal_command (query url query_name client) (made written) h = absurd h
+  refusal_command (query url query_name client) (counted asked result) h = absurd h
+  refusal_command (serve name base choice page stop_after reload) end h = tt
+  refusal_command (make count None) end h = tt
+  refusal_command (make count (Some name)) (counted asked result) h = refuses_counted count name result h.1.1
+  refusal_command (make count (Some name)) usage h = absurd h.1
+  refusal_command (make count (Some name)) no_words h = absurd h.1
+  refusal_command (make count (Some name)) (answered data_name asked answer) h = absurd h.1
+  refusal_command (make count (Some name)) (ends.served file service) h = absurd h.1
+  refusal_command (make count (Some name)) (made written) h = absurd h.1
+
+  memory_refusal : (command : Option Command) → RefusesOf a command 8
+  memory_refusal None = tt
+  memory_refusal (Some (local name query_name choice page client seed fail_every)) = memory_refuses a.shelf a.shelf' query_name
+  memory_refusal (Some (query url query_name client)) = memory_refuses a.shelf a.shelf' query_name
+  memory_refusal (Some (serve name base choice page stop_after reload)) = tt
+  memory_refusal (Some (make count None)) = tt
+  memory_refusal (Some (make count (Some name))) = memory_refuses a.shelf a.shelf' name
+
+  refusal_of : (command : Option Command) (end : EndOfRun) → DoesOf a command end → RefusesOf a command (status_of end)
+  refusal_of None end h = tt
+  refusal_of (Some command) end (inl h) = refusal_command command end h
+  refusal_of (Some command) end (inr h) = subst (λ (e : EndOfRun). RefusesOf a (Some command) (status_of e)) (sym h.0) (memory_refusal (Some command))
+
+  -- the status is that of the ending, or 8
+  pub run_refusal : (command : Option Command) (end : EndOfRun) (result : ℕ) (err err' : SinkState) → DoesOf a command end → Says result end err err' → RefusesOf a command result
+  run_refusal command end result err err' h (inl s) = subst (RefusesOf a command) (sym s.0) (refusal_of command end h)
+  run_refusal command end result err err' h (inr s) = subst (RefusesOf a command) (sym s.0) (memory_refusal command)
