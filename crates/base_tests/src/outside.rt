@@ -10,52 +10,77 @@ use tpf_base::{
     Steps, Text, Wire, read_file, write_all,
 };
 
-/// Six writes of one byte each: a dot for one that is taken, and F for one that failed.
-fn writes(alloc: Global, failing: Failing) -> Result<String, AllocError> {
-    let mut sink = MemSink::new(alloc, failing);
-    let mut marks = String::new(alloc);
-    for _ in 0..6 {
-        match sink.write(b"x") {
-            Ok(_) => marks.push('.')?,
-            Err(Fault::Failed) => marks.push('F')?,
-            Err(Fault::OutOfMemory) => marks.push('M')?,
-        }
+/// A dot for a write that took its bytes, and F for one that failed.
+fn mark(answer: Result<usize, Fault>) -> u8 {
+    match answer {
+        Ok(_) => b'.',
+        Err(Fault::Failed) => b'F',
+        Err(Fault::OutOfMemory) => b'M',
     }
-    Ok(marks)
+}
+
+/// Six writes of one byte each.
+fn writes(alloc: Global, failing: Failing) -> [u8; 6] {
+    let mut sink = MemSink::new(alloc, failing);
+    let mut marks = [0u8; 6];
+    for i in 0..6 {
+        marks[i] = mark(sink.write(b"x"));
+    }
+    marks
 }
 
 fn at(alloc: Global, calls: &[u64]) -> Result<Failing, AllocError> {
     Ok(Failing::At(Vec::from_slice(alloc, calls)?))
 }
 
+fn writes_of_each_kind(alloc: Global) -> Result<[[u8; 6]; 8], AllocError> {
+    Ok([
+        writes(alloc, Failing::Never),
+        writes(alloc, Failing::Every(2)),
+        writes(alloc, Failing::Every(1)),
+        writes(alloc, Failing::Every(0)),
+        writes(alloc, at(alloc, &[1, 4])?),
+        writes(alloc, Failing::AfterBytes(3)),
+        writes(alloc, Failing::AfterBytes(0)),
+        writes(alloc, Failing::Dials(1)),
+    ])
+}
+
 #[test]
-fn calls_fail_by_their_number(rt: HostRuntime) -> Result<(), Fail> {
-    let alloc = rt.alloc();
-    assert_eq!(rt; writes(alloc, Failing::Never)?.as_str(), "......");
-    assert_eq!(rt; writes(alloc, Failing::Every(2))?.as_str(), ".F.F.F");
-    assert_eq!(rt; writes(alloc, Failing::Every(1))?.as_str(), "FFFFFF");
-    assert_eq!(rt; writes(alloc, Failing::Every(0))?.as_str(), "......");
-    assert_eq!(rt; writes(alloc, at(alloc, &[1, 4])?)?.as_str(), "F..F..");
-    assert_eq!(rt; writes(alloc, Failing::AfterBytes(3))?.as_str(), "...FFF");
-    assert_eq!(rt; writes(alloc, Failing::AfterBytes(0))?.as_str(), "FFFFFF");
-    assert_eq!(rt; writes(alloc, Failing::Dials(1))?.as_str(), "......");
-    Ok(())
+fn calls_fail_by_their_number(rt: HostRuntime) {
+    let wanted = [
+        *b"......", *b".F.F.F", *b"FFFFFF", *b"......", *b"F..F..", *b"...FFF", *b"FFFFFF",
+        *b"......",
+    ];
+    assert_eq!(rt; writes_of_each_kind(rt.alloc()), Ok(wanted));
+}
+
+fn is_dial_due(failing: Failing, dial: u64) -> bool {
+    failing.is_dial_due(dial)
 }
 
 #[test]
 fn dials_fail_by_their_number(rt: HostRuntime) {
-    for (n, dial, want) in [(3, 2, false), (3, 3, true), (3, 6, true), (0, 3, false)] {
-        assert_eq!(rt; Failing::Dials(n).is_dial_due(dial), want, "{dial} of {n}");
-    }
-    assert_eq!(rt; Failing::Every(1).is_dial_due(1), false);
+    let got = [
+        is_dial_due(Failing::Dials(3), 2),
+        is_dial_due(Failing::Dials(3), 3),
+        is_dial_due(Failing::Dials(3), 6),
+        is_dial_due(Failing::Dials(0), 3),
+        is_dial_due(Failing::Every(1), 1),
+    ];
+    assert_eq!(rt; got, [false, true, true, false, false]);
 }
 
 #[test]
-fn a_sink_takes_bytes_until_it_fails(rt: HostRuntime) {
+fn a_sink_takes_all_bytes(rt: HostRuntime) {
     let mut whole = MemSink::new(rt.alloc(), Failing::Never);
     assert_eq!(rt; write_all(&mut whole, b"abc"), Ok(()));
     assert_eq!(rt; write_all(&mut whole, b"def"), Ok(()));
     assert_eq!(rt; whole.taken(), b"abcdef".as_slice());
+}
+
+#[test]
+fn a_sink_takes_bytes_until_it_fails(rt: HostRuntime) {
     let mut cut = MemSink::new(rt.alloc(), Failing::AfterBytes(4));
     assert_eq!(rt; write_all(&mut cut, b"abcdef"), Err(Fault::Failed));
     assert_eq!(rt; cut.taken(), b"abcd".as_slice());
@@ -70,21 +95,45 @@ fn long_bytes(alloc: Global) -> Result<Vec<u8>, AllocError> {
     Ok(bytes)
 }
 
+fn add_file(
+    alloc: Global,
+    name: &str,
+    bytes: &[u8],
+    files: &mut Vec<(Text, Bytes)>,
+) -> Result<(), Fail> {
+    let name = Text::copy(alloc, name)?;
+    let bytes = Bytes::copy(alloc, bytes)?;
+    Ok(files.push((name, bytes))?)
+}
+
+/// Files with these bytes, and with none and three.
+fn files_with(alloc: Global, long: &[u8]) -> Result<Vec<(Text, Bytes)>, Fail> {
+    let mut files = Vec::new(alloc);
+    for (name, bytes) in [("empty", b"".as_slice()), ("a", b"abc"), ("long", long)] {
+        add_file(alloc, name, bytes, &mut files)?;
+    }
+    Ok(files)
+}
+
 /// A shelf with the files `empty`, `a` and `long`.
 fn shelf(alloc: Global, failing: Failing) -> Result<MemShelf, Fail> {
-    let mut files = Vec::new(alloc);
-    files.push((Text::copy(alloc, "empty")?, Bytes::copy(alloc, b"")?))?;
-    files.push((Text::copy(alloc, "a")?, Bytes::copy(alloc, b"abc")?))?;
-    files.push((
-        Text::copy(alloc, "long")?,
-        Bytes::from_vec(long_bytes(alloc)?),
-    ))?;
+    let files = files_with(alloc, &long_bytes(alloc)?)?;
     Ok(MemShelf::new(alloc, files, failing))
+}
+
+/// How many bytes of a file of the shelf are read.
+fn length_read(
+    alloc: Global,
+    failing: Failing,
+    name: &str,
+    most: usize,
+) -> Result<Result<usize, FileFault>, Fail> {
+    let mut files = shelf(alloc, failing)?;
+    Ok(read_file(alloc, &mut files, name, most).map(|bytes| bytes.len()))
 }
 
 #[test]
 fn a_file_is_read_whole_or_refused(rt: HostRuntime) -> Result<(), Fail> {
-    let alloc = rt.alloc();
     let table = [
         ("empty", 0, Ok(0)),
         ("a", 3, Ok(3)),
@@ -94,13 +143,17 @@ fn a_file_is_read_whole_or_refused(rt: HostRuntime) -> Result<(), Fail> {
         ("b", 9, Err(FileFault::Failed)),
     ];
     for (name, most, want) in table {
-        let mut files = shelf(alloc, Failing::Never)?;
-        let got = read_file(alloc, &mut files, name, most).map(|bytes| bytes.len());
+        let got = length_read(rt.alloc(), Failing::Never, name, most)?;
         assert_eq!(rt; got, want, "{name} of at most {most}");
     }
-    let mut files = shelf(alloc, Failing::Never)?;
-    let bytes = read_file(alloc, &mut files, "long", 200_000);
-    assert_eq!(rt; bytes, Ok(long_bytes(alloc)?));
+    Ok(())
+}
+
+#[test]
+fn a_long_file_is_read_whole(rt: HostRuntime) -> Result<(), Fail> {
+    let long = long_bytes(rt.alloc())?;
+    let mut files = shelf(rt.alloc(), Failing::Never)?;
+    assert!(rt; read_file(rt.alloc(), &mut files, "long", 200_000) == Ok(long));
     Ok(())
 }
 
@@ -117,63 +170,90 @@ fn a_file_is_found_by_its_name(rt: HostRuntime) -> Result<(), Fail> {
 
 #[test]
 fn a_shelf_fails_where_it_is_told(rt: HostRuntime) -> Result<(), Fail> {
-    let alloc = rt.alloc();
-    let mut third = shelf(alloc, at(alloc, &[3])?)?;
-    let got = read_file(alloc, &mut third, "a", 9).map(|bytes| bytes.len());
-    assert_eq!(rt; got, Err(FileFault::Failed));
-    let mut cut = shelf(alloc, Failing::AfterBytes(2))?;
-    let got = read_file(alloc, &mut cut, "a", 9).map(|bytes| bytes.len());
-    assert_eq!(rt; got, Err(FileFault::Failed));
+    let third = length_read(rt.alloc(), at(rt.alloc(), &[3])?, "a", 9)?;
+    let cut = length_read(rt.alloc(), Failing::AfterBytes(2), "a", 9)?;
+    assert_eq!(rt; [third, cut], [Err(FileFault::Failed); 2]);
     Ok(())
+}
+
+/// Whether two finds of a file differ, how many bytes each read brings, two behind the first find and
+/// one behind the second that come after it, and what the second find's read and the last byte are.
+fn found_twice(files: &mut MemShelf) -> Result<(bool, [usize; 4], [u8; 2], u8), Fault> {
+    let mut to = [0u8; 2];
+    let first = files.find("a")?;
+    let before = files.read(first, &mut to)?;
+    let second = files.find("a")?;
+    let anew = files.read(second, &mut to)?;
+    let front = to;
+    let behind = files.read(first, &mut to)?;
+    let end = files.read(first, &mut to)?;
+    Ok((first != second, [before, anew, behind, end], front, to[0]))
 }
 
 #[test]
 fn a_second_find_begins_at_the_front(rt: HostRuntime) -> Result<(), Fail> {
     let mut files = shelf(rt.alloc(), Failing::Never)?;
-    let mut to = [0u8; 2];
-    let Ok(first) = files.find("a") else {
-        return Ok(assert!(rt; false, "the first find"));
-    };
-    assert_eq!(rt; files.read(first, &mut to), Ok(2));
-    let Ok(second) = files.find("a") else {
-        return Ok(assert!(rt; false, "the second find"));
-    };
-    assert!(rt; first != second);
-    assert_eq!(rt; files.read(second, &mut to), Ok(2));
-    assert_eq!(rt; to.as_slice(), b"ab".as_slice());
-    assert_eq!(rt; files.read(first, &mut to), Ok(1));
-    assert_eq!(rt; to[0], b'c');
-    assert_eq!(rt; files.read(first, &mut to), Ok(0));
+    assert_eq!(rt;
+        found_twice(&mut files),
+        Ok((true, [2, 2, 1, 0], *b"ab", b'c'))
+    );
     Ok(())
 }
 
+/// Whether two copies of a text are the same, and each has its characters.
+fn is_kept(alloc: Global, text: &str) -> Result<bool, Fail> {
+    let one = Text::copy(alloc, text)?;
+    let other = Text::from_string(String::from_str(alloc, text)?);
+    Ok(one == other && one.as_str() == text && one.into_string().as_str() == text)
+}
+
+fn is_less(alloc: Global, first: &str, second: &str) -> Result<bool, Fail> {
+    let first = Text::copy(alloc, first)?;
+    Ok(first < Text::copy(alloc, second)?)
+}
+
 #[test]
-fn texts_and_bytes_are_copied_and_compared(rt: HostRuntime) -> Result<(), Fail> {
-    let alloc = rt.alloc();
-    let text = Text::copy(alloc, "aé")?;
-    assert_eq!(rt; text.as_str(), "aé");
-    assert!(rt; text == Text::from_string(String::from_str(alloc, "aé")?));
-    assert!(rt; Text::copy(alloc, "ab")? < Text::copy(alloc, "b")?);
-    assert!(rt; Text::copy(alloc, "a")? < Text::copy(alloc, "aa")?);
-    assert_eq!(rt; text.into_string().as_str(), "aé");
-    let bytes = Bytes::copy(alloc, b"\x00\xff")?;
-    assert_eq!(rt; bytes.as_slice(), b"\x00\xff".as_slice());
-    assert!(rt; bytes != Bytes::copy(alloc, b"\x00")?);
-    assert_eq!(rt; bytes.into_vec().as_slice(), b"\x00\xff".as_slice());
+fn texts_are_copied_and_compared(rt: HostRuntime) -> Result<(), Fail> {
+    assert!(rt; is_kept(rt.alloc(), "aé")?);
+    assert!(rt; is_less(rt.alloc(), "ab", "b")?);
+    assert!(rt; is_less(rt.alloc(), "a", "aa")?);
     Ok(())
+}
+
+/// Whether a copy has the bytes and is not the same as other bytes.
+fn are_kept(alloc: Global, bytes: &[u8], other: &[u8]) -> Result<bool, Fail> {
+    let copy = Bytes::copy(alloc, bytes)?;
+    let differs = copy != Bytes::copy(alloc, other)?;
+    Ok(differs && copy.as_slice() == bytes && copy.into_vec().as_slice() == bytes)
+}
+
+#[test]
+fn bytes_are_copied_and_compared(rt: HostRuntime) -> Result<(), Fail> {
+    assert!(rt; are_kept(rt.alloc(), b"\x00\xff", b"\x00")?);
+    Ok(())
+}
+
+fn opened(wire: &mut NoWire) -> [Option<Fault>; 4] {
+    [
+        wire.dial("localhost", 80).err(),
+        wire.listen("localhost", 80).err(),
+        wire.accept().err(),
+        wire.wait().err(),
+    ]
+}
+
+fn moved(wire: &mut NoWire) -> [Moved; 2] {
+    wire.look();
+    let answers = [wire.send(0, b"x"), wire.recv(0, &mut [0u8; 1])];
+    wire.close(0);
+    answers
 }
 
 #[test]
 fn no_wire_gives_no_link(rt: HostRuntime) {
     let mut wire = NoWire::new();
-    assert_eq!(rt; wire.dial("localhost", 80), Err(Fault::Failed));
-    assert_eq!(rt; wire.listen("localhost", 80), Err(Fault::Failed));
-    assert_eq!(rt; wire.accept(), Err(Fault::Failed));
-    assert_eq!(rt; wire.wait(), Err(Fault::Failed));
-    wire.look();
-    assert_eq!(rt; wire.send(0, b"x"), Moved::Failed);
-    assert_eq!(rt; wire.recv(0, &mut [0u8; 1]), Moved::Failed);
-    wire.close(0);
+    assert_eq!(rt; opened(&mut wire), [Some(Fault::Failed); 4]);
+    assert_eq!(rt; moved(&mut wire), [Moved::Failed; 2]);
     assert_eq!(rt; wire.idle(), 0);
 }
 

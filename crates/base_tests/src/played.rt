@@ -95,26 +95,20 @@ impl Played {
         self.wire.recv(link, to)
     }
 
-    /// One receive with room for so many bytes, at most 8, and its answer at the end of the log:
-    /// bytes, `.` for the end, `-` for a stall, and `F` for a fault.
-    pub fn hear(&mut self, link: u64, room: usize, log: &mut String) -> Result<(), AllocError> {
+    /// One receive with room for so many bytes, at most 8, and its answer at the end of the log.
+    fn hear(&mut self, link: u64, room: usize, log: &mut String) -> Result<(), AllocError> {
         let mut buffer = [0u8; 8];
         let answer = self.recv(link, &mut buffer[..room.min(8)]);
-        match answer {
-            Moved::Moved(n) => match std::str::from_utf8(&buffer[..n]) {
-                Ok(text) => log.push_str(text)?,
-                Err(_) => log.push('?')?,
-            },
-            Moved::End => log.push('.')?,
-            Moved::NotYet => log.push('-')?,
-            Moved::Failed => log.push('F')?,
-            Moved::OutOfMemory => log.push('M')?,
-        }
+        let heard = match answer {
+            Moved::Moved(n) => str::from_utf8(&buffer[..n]).unwrap_or("?"),
+            other => mark(other),
+        };
+        log.push_str(heard)?;
         log.push(' ')
     }
 
     /// So many receives.
-    pub fn heard(
+    fn heard(
         &mut self,
         alloc: Global,
         link: u64,
@@ -127,4 +121,111 @@ impl Played {
         }
         Ok(log)
     }
+
+    /// Makes a call, and gives its answer as a text.
+    pub fn answer(&mut self, alloc: Global, call: Call) -> Result<String, AllocError> {
+        match call {
+            Call::Dial => given(alloc, self.dial("host", 80)),
+            Call::Listen => done(alloc, self.listen("host", 80)),
+            Call::Accept => accepted(alloc, self.accept()),
+            Call::Wait => woken(alloc, self.wait()),
+            Call::Look => {
+                self.look();
+                Ok(String::new(alloc))
+            }
+            Call::Idle => self.idle().to_string(alloc),
+            Call::Links => self.links().to_string(alloc),
+            Call::Send(link, text) => moved(alloc, self.send(link, text.as_bytes())),
+            Call::Receive { link, room, times } => self.heard(alloc, link, room, times),
+            Call::Sent(link) => text_of(alloc, self.sent_on(link)),
+        }
+    }
+}
+
+/// A call on a wire, and what its answer is as a text.
+#[derive(Clone, Copy)]
+pub enum Call {
+    /// The number of the link.
+    Dial,
+    /// `done`.
+    Listen,
+    /// The number of the link, or `none`.
+    Accept,
+    /// The number of the link, or `door`.
+    Wait,
+    /// Nothing.
+    Look,
+    Idle,
+    /// How many links were given.
+    Links,
+    /// How many bytes of the text were sent.
+    Send(u64, &'static str),
+    /// So many receives with room for so many bytes, with a blank behind the answer of each: the bytes,
+    /// `.` for the end, `-` for a stall, and `F` for a fault.
+    Receive {
+        link: u64,
+        room: usize,
+        times: usize,
+    },
+    /// The bytes that were sent on a link.
+    Sent(usize),
+}
+
+/// What a call answers that moved no byte.
+fn mark(answer: Moved) -> &'static str {
+    match answer {
+        Moved::Moved(_) => "?",
+        Moved::End => ".",
+        Moved::NotYet => "-",
+        Moved::Failed => "F",
+        Moved::OutOfMemory => "M",
+    }
+}
+
+fn said(fault: Fault) -> &'static str {
+    match fault {
+        Fault::Failed => "failed",
+        Fault::OutOfMemory => "out of memory",
+    }
+}
+
+fn given(alloc: Global, answer: Result<u64, Fault>) -> Result<String, AllocError> {
+    match answer {
+        Ok(link) => link.to_string(alloc),
+        Err(fault) => String::from_str(alloc, said(fault)),
+    }
+}
+
+fn done(alloc: Global, answer: Result<(), Fault>) -> Result<String, AllocError> {
+    match answer {
+        Ok(()) => String::from_str(alloc, "done"),
+        Err(fault) => String::from_str(alloc, said(fault)),
+    }
+}
+
+fn accepted(alloc: Global, answer: Result<Option<u64>, Fault>) -> Result<String, AllocError> {
+    match answer {
+        Ok(Some(link)) => link.to_string(alloc),
+        Ok(None) => String::from_str(alloc, "none"),
+        Err(fault) => String::from_str(alloc, said(fault)),
+    }
+}
+
+fn woken(alloc: Global, answer: Result<Ready, Fault>) -> Result<String, AllocError> {
+    match answer {
+        Ok(Ready::Link(link)) => link.to_string(alloc),
+        Ok(Ready::Door) => String::from_str(alloc, "door"),
+        Err(fault) => String::from_str(alloc, said(fault)),
+    }
+}
+
+fn moved(alloc: Global, answer: Moved) -> Result<String, AllocError> {
+    match answer {
+        Moved::Moved(bytes) => bytes.to_string(alloc),
+        other => String::from_str(alloc, mark(other)),
+    }
+}
+
+fn text_of(alloc: Global, bytes: &[u8]) -> Result<String, AllocError> {
+    String::from_str(alloc, str::from_utf8(bytes).unwrap_or("?"))
 }

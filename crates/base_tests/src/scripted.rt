@@ -1,9 +1,10 @@
 // Links that do what scripts say.
-use crate::played::Played;
+use crate::played::{Call, Played};
 use script_wire::{Script, ScriptWire};
-use std::alloc::Global;
+use std::alloc::{AllocError, Global};
+use std::process::Abort;
 use std::test::Fail;
-use tpf_base::{Bytes, Dial, Failing, Fault, Moved, Ready, Wire};
+use tpf_base::{Bytes, Dial, Failing, Fault, Moved, Wire};
 
 fn script(
     alloc: Global,
@@ -24,18 +25,57 @@ fn script(
     })
 }
 
-/// A wire with these scripts: of each the bytes that come, one piece a word, and whether it ends.
-fn wire(alloc: Global, scripts: &[(&[&str], bool)], failing: Failing) -> Result<Played, Fail> {
-    let mut made = Vec::new(alloc);
-    for one in scripts {
-        made.push(script(alloc, 0, one.0, one.1, 65536)?)?;
+/// How many links speak before a link does, the pieces that come on it, whether it ends, and how many
+/// bytes a send takes.
+type Link<'a> = (u64, &'a [&'a str], bool, usize);
+
+fn wire(alloc: Global, links: &[Link], failing: Failing) -> Result<Played, Fail> {
+    let mut scripts = Vec::new(alloc);
+    for (after, pieces, ends, most) in links {
+        scripts.push(script(alloc, *after, pieces, *ends, *most)?)?;
     }
-    Ok(Played::new(alloc, made, failing))
+    Ok(Played::new(alloc, scripts, failing))
+}
+
+/// Makes a call, which has this answer.
+fn call_one<R: Abort>(
+    rt: &R,
+    alloc: Global,
+    wire: &mut Played,
+    call: (Call, &str),
+    number: usize,
+) -> Result<(), Fail> {
+    let answer = wire.answer(alloc, call.0)?;
+    assert_eq!(rt; answer.as_str(), call.1, "call {number}");
+    Ok(())
+}
+
+/// Makes calls one after another, each of which has the answer beside it.
+fn call_all<R: Abort>(
+    rt: &R,
+    alloc: Global,
+    wire: &mut Played,
+    calls: &[(Call, &str)],
+) -> Result<(), Fail> {
+    for i in 0..calls.len() {
+        call_one(rt, alloc, wire, calls[i], i)?;
+    }
+    Ok(())
+}
+
+/// The same over a wire of these links.
+fn call_on<R: Abort>(
+    rt: &R,
+    alloc: Global,
+    links: &[Link],
+    calls: &[(Call, &str)],
+) -> Result<(), Fail> {
+    let mut wire = wire(alloc, links, Failing::Never)?;
+    call_all(rt, alloc, &mut wire, calls)
 }
 
 #[test]
 fn pieces_come_one_by_one_after_a_stall_each(rt: HostRuntime) -> Result<(), Fail> {
-    let alloc = rt.alloc();
     let table: [(&[&str], bool, usize, &str); 6] = [
         (&["abc", "de"], true, 8, "- abc - de . . . "),
         (&["abc", "de"], false, 8, "- abc - de - - - "),
@@ -45,128 +85,189 @@ fn pieces_come_one_by_one_after_a_stall_each(rt: HostRuntime) -> Result<(), Fail
         (&[], true, 8, ". . . . . . . "),
     ];
     for (pieces, ends, room, want) in table {
-        let mut wire = wire(alloc, &[(pieces, ends)], Failing::Never)?;
-        assert_eq!(rt; wire.dial("host", 80), Ok(0));
-        let log = wire.heard(alloc, 0, room, 7)?;
-        assert_eq!(rt; log.as_str(), want);
+        let hear = Call::Receive {
+            link: 0,
+            room,
+            times: 7,
+        };
+        let calls = [(Call::Dial, "0"), (hear, want)];
+        call_on(&rt, rt.alloc(), &[(0, pieces, ends, 65536)], &calls)?;
     }
     Ok(())
 }
 
+/// Two receives on the first link.
+const TWO: Call = Call::Receive {
+    link: 0,
+    room: 8,
+    times: 2,
+};
+
+const SPEAKING: [(Call, &str); 10] = [
+    (Call::Dial, "0"),
+    (Call::Dial, "1"),
+    (TWO, "- - "),
+    (Call::Send(0, "xy"), "2"),
+    // One link has spoken.
+    (TWO, "- - "),
+    (Call::Send(1, "z"), "1"),
+    (TWO, "abc . "),
+    (Call::Links, "2"),
+    (Call::Sent(0), "xy"),
+    (Call::Sent(1), "z"),
+];
+
 #[test]
 fn the_first_piece_comes_once_enough_links_have_spoken(rt: HostRuntime) -> Result<(), Fail> {
-    let alloc = rt.alloc();
-    let mut scripts = Vec::new(alloc);
-    for after in [2, 0] {
-        scripts.push(script(alloc, after, &["abc"], true, 65536)?)?;
-    }
-    let mut wire = Played::new(alloc, scripts, Failing::Never);
-    assert_eq!(rt; wire.dial("a", 80), Ok(0));
-    assert_eq!(rt; wire.dial("b", 80), Ok(1));
-    let log = wire.heard(alloc, 0, 8, 2)?;
-    assert_eq!(rt; log.as_str(), "- - ");
-    assert_eq!(rt; wire.send(0, b"xy"), Moved::Moved(2));
-    let log = wire.heard(alloc, 0, 8, 2)?;
-    assert_eq!(rt; log.as_str(), "- - ", "one link has spoken");
-    assert_eq!(rt; wire.send(1, b"z"), Moved::Moved(1));
-    let log = wire.heard(alloc, 0, 8, 2)?;
-    assert_eq!(rt; log.as_str(), "abc . ");
-    assert_eq!(rt; wire.links(), 2);
-    assert_eq!(rt; wire.sent_on(0), b"xy".as_slice());
-    assert_eq!(rt; wire.sent_on(1), b"z".as_slice());
-    Ok(())
+    let links: [Link; 2] = [(2, &["abc"], true, 65536), (0, &["abc"], true, 65536)];
+    call_on(&rt, rt.alloc(), &links, &SPEAKING)
 }
 
 #[test]
 fn a_send_takes_at_most_what_the_script_says(rt: HostRuntime) -> Result<(), Fail> {
-    let alloc = rt.alloc();
     let table = [
-        (0, Moved::NotYet, ""),
-        (1, Moved::Moved(1), "a"),
-        (4, Moved::Moved(4), "abcd"),
-        (65536, Moved::Moved(6), "abcdef"),
+        (0, "-", ""),
+        (1, "1", "a"),
+        (4, "4", "abcd"),
+        (65536, "6", "abcdef"),
     ];
     for (most, want, sent) in table {
-        let mut scripts = Vec::new(alloc);
-        scripts.push(script(alloc, 0, &[], true, most)?)?;
-        let mut wire = Played::new(alloc, scripts, Failing::Never);
-        assert_eq!(rt; wire.dial("host", 80), Ok(0));
-        assert_eq!(rt; wire.send(0, b"abcdef"), want, "{most}");
-        assert_eq!(rt; wire.sent_on(0), sent.as_bytes());
+        let calls = [
+            (Call::Dial, "0"),
+            (Call::Send(0, "abcdef"), want),
+            (Call::Sent(0), sent),
+        ];
+        call_on(&rt, rt.alloc(), &[(0, &[], true, most)], &calls)?;
     }
     Ok(())
 }
 
+/// Receives on the second link.
+const TWO_MORE: Call = Call::Receive {
+    link: 1,
+    room: 8,
+    times: 2,
+};
+
+const ONE_MORE: Call = Call::Receive {
+    link: 1,
+    room: 8,
+    times: 1,
+};
+
+const WAITING: [(Call, &str); 20] = [
+    // No link, and the door is closed.
+    (Call::Wait, "failed"),
+    (Call::Listen, "done"),
+    (Call::Wait, "door"),
+    (Call::Accept, "0"),
+    // A link was given.
+    (Call::Idle, "0"),
+    (Call::Dial, "1"),
+    (Call::Wait, "1"),
+    (Call::Look, ""),
+    // A look is no wait.
+    (Call::Idle, "1"),
+    (Call::Wait, "1"),
+    (Call::Idle, "2"),
+    (TWO_MORE, "- a "),
+    // A byte moved.
+    (Call::Idle, "0"),
+    // The end is to come.
+    (Call::Wait, "1"),
+    (ONE_MORE, ". "),
+    (Call::Wait, "door"),
+    (Call::Dial, "2"),
+    // No script is left.
+    (Call::Wait, "failed"),
+    (Call::Dial, "failed"),
+    (Call::Accept, "none"),
+];
+
 #[test]
 fn a_wait_answers_what_can_move(rt: HostRuntime) -> Result<(), Fail> {
-    let alloc = rt.alloc();
-    let none = Err(Fault::Failed);
-    let mut wire = wire(
-        alloc,
-        &[(&[], false), (&["a"], true), (&[], false)],
-        Failing::Never,
-    )?;
-    assert_eq!(rt; wire.wait(), none, "no link, and the door is closed");
-    assert_eq!(rt; wire.listen("host", 80), Ok(()));
-    assert_eq!(rt; wire.wait(), Ok(Ready::Door));
-    assert_eq!(rt; wire.accept(), Ok(Some(0)));
-    assert_eq!(rt; wire.idle(), 0, "a link was given");
-    assert_eq!(rt; wire.dial("host", 80), Ok(1));
-    assert_eq!(rt; wire.wait(), Ok(Ready::Link(1)));
-    wire.look();
-    assert_eq!(rt; wire.idle(), 1, "a look is no wait");
-    assert_eq!(rt; wire.wait(), Ok(Ready::Link(1)));
-    assert_eq!(rt; wire.idle(), 2);
-    let log = wire.heard(alloc, 1, 8, 2)?;
-    assert_eq!(rt; log.as_str(), "- a ");
-    assert_eq!(rt; wire.idle(), 0, "a byte moved");
-    assert_eq!(rt; wire.wait(), Ok(Ready::Link(1)), "the end is to come");
-    let log = wire.heard(alloc, 1, 8, 1)?;
-    assert_eq!(rt; log.as_str(), ". ");
-    assert_eq!(rt; wire.wait(), Ok(Ready::Door));
-    assert_eq!(rt; wire.dial("host", 80), Ok(2));
-    assert_eq!(rt; wire.wait(), none, "no script is left");
-    assert_eq!(rt; wire.dial("host", 80), Err(Fault::Failed));
-    assert_eq!(rt; wire.accept(), Ok(None));
-    Ok(())
+    let links: [Link; 3] = [
+        (0, &[], false, 65536),
+        (0, &["a"], true, 65536),
+        (0, &[], false, 65536),
+    ];
+    call_on(&rt, rt.alloc(), &links, &WAITING)
+}
+
+/// A receive on the first link.
+const ONE: Call = Call::Receive {
+    link: 0,
+    room: 8,
+    times: 1,
+};
+
+/// F for a call that failed, else its letter.
+fn letter(is_ok: bool, letter: char) -> char {
+    if is_ok { letter } else { 'F' }
+}
+
+/// A send and a receive on the first link.
+fn two_calls(wire: &mut Played, alloc: Global, log: &mut String) -> Result<(), AllocError> {
+    let is_sent = wire.send(0, b"x") == Moved::Moved(1);
+    log.push(letter(is_sent, 's'))?;
+    log.push_str(wire.answer(alloc, ONE)?.as_str())
 }
 
 /// How each call of a row ended: a dial, listen, a send, a receive, a wait and accept, as far as the
 /// ones before it allow.
-fn six_calls(alloc: Global, failing: Failing) -> Result<String, Fail> {
-    let mut wire = wire(alloc, &[(&["abc"], true), (&["abc"], true)], failing)?;
+fn log_all(wire: &mut Played, alloc: Global, log: &mut String) -> Result<(), AllocError> {
+    let is_dialled = wire.dial("a", 80).is_ok();
+    log.push(letter(is_dialled, 'd'))?;
+    let is_open = wire.listen("b", 80).is_ok();
+    log.push(letter(is_open, 'l'))?;
+    if is_dialled {
+        two_calls(wire, alloc, log)?;
+    }
+    log.push(letter(wire.wait().is_ok(), 'w'))?;
+    if is_open {
+        log.push(letter(wire.accept().is_ok(), 'a'))?;
+    }
+    Ok(())
+}
+
+fn log_calls(wire: &mut Played, alloc: Global) -> Result<String, AllocError> {
     let mut log = String::new(alloc);
-    let dialled = wire.dial("a", 80);
-    log.push(if dialled.is_ok() { 'd' } else { 'F' })?;
-    let opened = wire.listen("b", 80);
-    log.push(if opened.is_ok() { 'l' } else { 'F' })?;
-    if dialled.is_ok() {
-        log.push(if wire.send(0, b"x") == Moved::Moved(1) {
-            's'
-        } else {
-            'F'
-        })?;
-        wire.hear(0, 8, &mut log)?;
-    }
-    log.push(if wire.wait().is_ok() { 'w' } else { 'F' })?;
-    if opened.is_ok() {
-        log.push(if wire.accept().is_ok() { 'a' } else { 'F' })?;
-    }
+    log_all(wire, alloc, &mut log)?;
     Ok(log)
+}
+
+fn six_calls(alloc: Global, failing: Failing) -> Result<String, Fail> {
+    let link: Link = (0, &["abc"], true, 65536);
+    let mut wire = wire(alloc, &[link, link], failing)?;
+    Ok(log_calls(&mut wire, alloc)?)
+}
+
+/// Whether the calls end so.
+fn end_so(alloc: Global, failing: Failing, want: &str) -> Result<bool, Fail> {
+    Ok(six_calls(alloc, failing)?.as_str() == want)
+}
+
+#[test]
+fn calls_fail_as_they_are_told(rt: HostRuntime) -> Result<(), Fail> {
+    let alloc = rt.alloc();
+    let got = [
+        end_so(alloc, Failing::Never, "dls- wa")?,
+        end_so(alloc, Failing::Every(2), "dFsF w")?,
+        end_so(alloc, Failing::Every(1), "FFF")?,
+        end_so(alloc, Failing::AfterBytes(0), "FFF")?,
+        end_so(alloc, Failing::AfterBytes(1), "dlsF FF")?,
+        end_so(alloc, Failing::Dials(1), "Flwa")?,
+    ];
+    assert_eq!(rt; got, [true; 6]);
+    Ok(())
+}
+
+fn failing_at(alloc: Global, call: u64) -> Result<Failing, AllocError> {
+    Ok(Failing::At(Vec::from_slice(alloc, &[call])?))
 }
 
 #[test]
 fn calls_fail_by_their_number(rt: HostRuntime) -> Result<(), Fail> {
-    let alloc = rt.alloc();
-    assert_eq!(rt; six_calls(alloc, Failing::Never)?.as_str(), "dls- wa");
-    assert_eq!(rt; six_calls(alloc, Failing::Every(2))?.as_str(), "dFsF w");
-    assert_eq!(rt; six_calls(alloc, Failing::Every(1))?.as_str(), "FFF");
-    assert_eq!(rt; six_calls(alloc, Failing::AfterBytes(0))?.as_str(), "FFF");
-    assert_eq!(rt;
-        six_calls(alloc, Failing::AfterBytes(1))?.as_str(),
-        "dlsF FF"
-    );
-    assert_eq!(rt; six_calls(alloc, Failing::Dials(1))?.as_str(), "Flwa");
     let rows = [
         (1, "Flwa"),
         (2, "dFs- w"),
@@ -176,34 +277,67 @@ fn calls_fail_by_their_number(rt: HostRuntime) -> Result<(), Fail> {
         (6, "dls- wF"),
     ];
     for (number, want) in rows {
-        let failing = Failing::At(Vec::from_slice(alloc, &[number])?);
-        assert_eq!(rt; six_calls(alloc, failing)?.as_str(), want, "call {number}");
+        let got = six_calls(rt.alloc(), failing_at(rt.alloc(), number)?)?;
+        assert_eq!(rt; got.as_str(), want, "call {number}");
     }
     Ok(())
 }
 
-#[test]
-fn a_wire_of_scripts_tells_the_bytes_of_a_large_reply(rt: HostRuntime) -> Result<(), Fail> {
-    let alloc = rt.alloc();
+/// 300000 bytes.
+fn large_piece(alloc: Global) -> Result<Vec<u8>, AllocError> {
     let mut piece = Vec::new(alloc);
     for k in 0..300_000u32 {
         piece.push((k % 251) as u8)?;
     }
+    Ok(piece)
+}
+
+/// A link on which a large piece comes.
+fn large_script(alloc: Global) -> Result<Script, Fail> {
     let mut pieces = Vec::new(alloc);
-    pieces.push(Bytes::from_vec(piece))?;
-    let mut scripts = Vec::new(alloc);
-    scripts.push(Script {
+    pieces.push(Bytes::from_vec(large_piece(alloc)?))?;
+    Ok(Script {
         after: 0,
         pieces,
         ends: true,
         most: 65536,
-    })?;
-    let mut wire = Played::new(alloc, scripts, Failing::Never);
-    assert_eq!(rt; wire.dial("host", 80), Ok(0));
-    let mut buffer = vec![in alloc; 0u8; 400_000]?;
-    assert_eq!(rt; wire.recv(0, buffer.as_mut_slice()), Moved::NotYet);
-    assert_eq!(rt; wire.recv(0, buffer.as_mut_slice()), Moved::Moved(300_000));
-    assert_eq!(rt; buffer.get(299_999), Some(&((299_999u32 % 251) as u8)));
+    })
+}
+
+fn large_wire(alloc: Global) -> Result<Played, Fail> {
+    let mut scripts = Vec::new(alloc);
+    scripts.push(large_script(alloc)?)?;
+    Ok(Played::new(alloc, scripts, Failing::Never))
+}
+
+/// The answers of a dial and two receives.
+type Answers = (Result<u64, Fault>, Moved, Moved);
+
+fn receive_twice(wire: &mut Played, to: &mut [u8]) -> Answers {
+    (wire.dial("host", 80), wire.recv(0, to), wire.recv(0, to))
+}
+
+/// Receives the large piece.
+fn receive_large(alloc: Global, to: &mut [u8]) -> Result<Answers, Fail> {
+    let mut wire = large_wire(alloc)?;
+    Ok(receive_twice(&mut wire, to))
+}
+
+fn byte_at(bytes: &[u8], i: usize) -> Option<u8> {
+    if i < bytes.len() {
+        Some(bytes[i])
+    } else {
+        None
+    }
+}
+
+#[test]
+fn a_wire_of_scripts_tells_the_bytes_of_a_large_reply(rt: HostRuntime) -> Result<(), Fail> {
+    let mut buffer = vec![in rt.alloc(); 0u8; 400_000]?;
+    let answers = receive_large(rt.alloc(), buffer.as_mut_slice())?;
+    let last = byte_at(buffer.as_slice(), 299_999);
+    let wanted = (Ok(0), Moved::NotYet, Moved::Moved(300_000));
+    assert_eq!(rt; (answers, last), (wanted, Some((299_999u32 % 251) as u8)));
     Ok(())
 }
 

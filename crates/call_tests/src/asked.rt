@@ -32,57 +32,77 @@ pub const OPTIONS: Options = Options {
 /// The name of a fault of a page.
 fn page_name(fault: &PageFault) -> &'static str {
     match fault {
-        PageFault::NoTopic => "no topic",
-        PageFault::CountText => "count text",
-        PageFault::BlankData => "blank data",
-        PageFault::ForeignLink => "foreign link",
-        _ => "another fault",
+        PageFault::NoTopic => "page no topic",
+        PageFault::CountText => "page count text",
+        PageFault::BlankData => "page blank data",
+        PageFault::ForeignLink => "page foreign link",
+        _ => "page another fault",
     }
 }
 
 /// The name of a fault of a reply.
 fn reply_name(fault: &ReplyFault) -> &'static str {
     match fault {
-        ReplyFault::Status(404) => "status 404",
-        ReplyFault::Coding => "coding",
-        ReplyFault::Framing => "framing",
-        ReplyFault::TooLong => "too long",
-        _ => "another fault",
+        ReplyFault::Status(404) => "reply status 404",
+        ReplyFault::Coding => "reply coding",
+        ReplyFault::Framing => "reply framing",
+        ReplyFault::TooLong => "reply too long",
+        _ => "reply another fault",
     }
 }
 
-/// What came of a call, as text: what the report tells, or the fault, a `Cut` with the number of bytes
-/// that it keeps.
-pub fn told(alloc: Global, ended: &Result<Report, ClientFault>) -> Result<String, Fail> {
-    match ended {
-        Ok(report) => {
-            let version = report.version.unwrap_or(0);
-            Ok(format!(in alloc;
-                "{} requests, {} rows, version {version}",
-                report.requests, report.rows
-            )?)
-        }
-        Err(ClientFault::Exchange) => Ok(String::from_str(alloc, "exchange")?),
-        Err(ClientFault::Stalled) => Ok(String::from_str(alloc, "stalled")?),
-        Err(ClientFault::Cut { received }) => Ok(format!(in alloc;
-            "cut {}",
-            received.as_slice().len()
-        )?),
-        Err(ClientFault::Reply { fault, .. }) => {
-            Ok(format!(in alloc; "reply {}", reply_name(fault))?)
-        }
-        Err(ClientFault::Page { fault, .. }) => {
-            Ok(format!(in alloc; "page {}", page_name(fault))?)
-        }
-        Err(ClientFault::Changed(first, other)) => {
-            let first = first.unwrap_or(0);
-            let other = other.unwrap_or(0);
-            Ok(format!(in alloc; "changed {first} {other}")?)
-        }
-        Err(ClientFault::Budget(most)) => Ok(format!(in alloc; "budget {most}")?),
-        Err(ClientFault::Sink) => Ok(String::from_str(alloc, "sink")?),
-        Err(ClientFault::OutOfMemory) => Ok(String::from_str(alloc, "out of memory")?),
+/// The name of a fault.
+fn fault_name(fault: &ClientFault) -> &'static str {
+    match fault {
+        ClientFault::Exchange => "exchange",
+        ClientFault::Stalled => "stalled",
+        ClientFault::Cut { .. } => "cut",
+        ClientFault::Reply { fault, .. } => reply_name(fault),
+        ClientFault::Page { fault, .. } => page_name(fault),
+        ClientFault::Changed(_, _) => "changed",
+        ClientFault::Budget(_) => "budget",
+        ClientFault::Sink => "sink",
+        ClientFault::OutOfMemory => "out of memory",
     }
+}
+
+/// A fault as text: its name, and the numbers that it has, a `Cut` that of the bytes that it keeps.
+fn fault_told(alloc: Global, fault: &ClientFault) -> Result<String, Fail> {
+    let name = fault_name(fault);
+    match fault {
+        ClientFault::Cut { received } => {
+            Ok(format!(in alloc; "{name} {}", received.as_slice().len())?)
+        }
+        ClientFault::Changed(first, other) => {
+            let (first, other) = (first.unwrap_or(0), other.unwrap_or(0));
+            Ok(format!(in alloc; "{name} {first} {other}")?)
+        }
+        ClientFault::Budget(most) => Ok(format!(in alloc; "{name} {most}")?),
+        _ => Ok(String::from_str(alloc, name)?),
+    }
+}
+
+/// What a report tells, as text.
+fn report_told(alloc: Global, report: &Report) -> Result<String, Fail> {
+    let version = report.version.unwrap_or(0);
+    let (requests, rows) = (report.requests, report.rows);
+    Ok(format!(in alloc; "{requests} requests, {rows} rows, version {version}")?)
+}
+
+/// What came of a call, as text.
+fn told(alloc: Global, ended: &Result<Report, ClientFault>) -> Result<String, Fail> {
+    match ended {
+        Ok(report) => report_told(alloc, report),
+        Err(fault) => fault_told(alloc, fault),
+    }
+}
+
+/// Fails where a text is not the one that is wanted.
+pub fn same(text: &str, wanted: &str) -> Result<(), Fail> {
+    if text != wanted {
+        return Err(Fail::new(format_args!("wanted {wanted:?}, got {text:?}")));
+    }
+    Ok(())
 }
 
 /// What came of a call, and the text that the sink took.

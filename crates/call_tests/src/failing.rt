@@ -1,5 +1,5 @@
 // A server in one process, over a wire one of whose calls fails.
-use crate::asked::{Came, OPTIONS, ask};
+use crate::asked::{Came, OPTIONS, ask, same};
 use crate::servers::server_of;
 use fragment_server::{FragmentConnection, FragmentServer};
 use loop_wire::LoopWire;
@@ -31,6 +31,12 @@ fn server(alloc: Global) -> Result<FragmentServer, Fail> {
     server_of(alloc, DATA, 100)
 }
 
+fn one_call(alloc: Global, call: u64) -> Result<Vec<u64>, Fail> {
+    let mut calls = Vec::new(alloc);
+    calls.push(call)?;
+    Ok(calls)
+}
+
 /// What comes of a query over a wire of this seed whose call with this number fails.
 fn came_of<R: Wait>(
     rt: &R,
@@ -40,8 +46,7 @@ fn came_of<R: Wait>(
     call: u64,
     retries: u32,
 ) -> Result<Came, Fail> {
-    let mut calls = Vec::new(alloc);
-    calls.push(call)?;
+    let calls = one_call(alloc, call)?;
     let server = server(alloc)?;
     let mut wire: LoopWire<FragmentConnection> = LoopWire::new(
         alloc,
@@ -67,65 +72,91 @@ fn is_whole(text: &str) -> bool {
     rows.len() == length && rows.contains(FROM_A) && rows.contains(FROM_B) && rows.ends_with(END)
 }
 
+/// Fails where something else was told, or the text is not the whole result.
+fn check_whole(came: &Came, call: u64) -> Result<(), Fail> {
+    if !came.told.ends_with(" requests, 2 rows, version 1") || !is_whole(came.text.as_str()) {
+        return Err(Fail::new(format_args!("{call}: {}, {}", came.told, came.text)));
+    }
+    Ok(())
+}
+
+/// Fails where a query over the wire of this seed does not bring the rows at the first try.
+fn check_seed<R: Wait>(rt: &R, alloc: Global, seed: u64) -> Result<(), Fail> {
+    let came = came(rt, alloc, seed, 0, 0)?;
+    check_whole(&came, seed)?;
+    same(came.told.as_str(), "4 requests, 2 rows, version 1")
+}
+
 #[test]
 fn every_seed_brings_the_same_rows(rt: HostRuntime) -> Result<(), Fail> {
     for seed in 0..10 {
-        let came = came(&rt, rt.alloc(), seed, 0, 0)?;
-        assert_eq!(rt;
-            came.told.as_str(),
-            "4 requests, 2 rows, version 1",
-            "{seed}"
-        );
-        assert!(rt; is_whole(came.text.as_str()), "{seed}");
+        check_seed(&rt, rt.alloc(), seed)?;
     }
     Ok(())
+}
+
+/// Fails where a query does not bring the rows, of whose calls one fails and may be made again.
+fn check_retried<R: Wait>(rt: &R, alloc: Global, call: u64) -> Result<(), Fail> {
+    let came = came(rt, alloc, 1, call, 2)?;
+    check_whole(&came, call)
 }
 
 #[test]
 fn a_call_that_fails_is_made_again(rt: HostRuntime) -> Result<(), Fail> {
     for call in 1..100 {
-        let came = came(&rt, rt.alloc(), 1, call, 2)?;
-        assert!(rt;
-            came.told.ends_with(" requests, 2 rows, version 1"),
-            "{call}"
-        );
-        assert!(rt; is_whole(came.text.as_str()), "{call}");
+        check_retried(&rt, rt.alloc(), call)?;
     }
     Ok(())
 }
 
+/// Whether the text is nothing, or a front of the result that is not whole.
+fn is_front(text: &str) -> bool {
+    (text.is_empty() || text.starts_with(FRONT)) && !is_whole(text)
+}
+
+/// Whether a query ends of whose calls one fails; it fails where that leaves another text, or where
+/// else the query does not bring the rows at the first try.
+fn has_ended(came: &Came, call: u64) -> Result<bool, Fail> {
+    if came.told.as_str() != "exchange" {
+        check_whole(came, call)?;
+        same(came.told.as_str(), "4 requests, 2 rows, version 1")?;
+        return Ok(false);
+    }
+    if !is_front(came.text.as_str()) {
+        return Err(Fail::new(format_args!("{call}: {}", came.text)));
+    }
+    Ok(true)
+}
+
+fn ends_at<R: Wait>(rt: &R, alloc: Global, call: u64) -> Result<bool, Fail> {
+    let came = came(rt, alloc, 1, call, 0)?;
+    has_ended(&came, call)
+}
+
 #[test]
 fn without_a_retry_a_call_that_fails_ends_the_query(rt: HostRuntime) -> Result<(), Fail> {
-    let mut failed = 0u32;
+    let mut ended = 0u32;
     for call in 1..100 {
-        let came = came(&rt, rt.alloc(), 1, call, 0)?;
-        if came.told.as_str() == "exchange" {
-            failed = failed.saturating_add(1);
-            assert!(rt;
-                came.text.is_empty() || came.text.starts_with(FRONT),
-                "{call}"
-            );
-            assert!(rt; !is_whole(came.text.as_str()), "{call}");
-        } else {
-            assert_eq!(rt;
-                came.told.as_str(),
-                "4 requests, 2 rows, version 1",
-                "{call}"
-            );
-            assert!(rt; is_whole(came.text.as_str()), "{call}");
+        if ends_at(&rt, rt.alloc(), call)? {
+            ended = ended.saturating_add(1);
         }
     }
-    assert!(rt; failed > 20 && failed < 99);
+    assert!(rt; ended > 20 && ended < 99);
     Ok(())
+}
+
+/// What is told of a query of one row over a wire whose call with this number fails.
+fn told_of_one<R: Wait>(rt: &R, alloc: Global, call: u64) -> Result<String, Fail> {
+    let query = "SELECT * WHERE { ?x <http://e/n> ?y }";
+    let came = came_of(rt, alloc, query, 1, call, 2)?;
+    Ok(came.told)
 }
 
 // The dial is the first call, and the request for the start page is sent by the second.
 #[test]
 fn a_second_call_that_fails_costs_one_request(rt: HostRuntime) -> Result<(), Fail> {
-    let query = "SELECT * WHERE { ?x <http://e/n> ?y }";
-    let whole = came_of(&rt, rt.alloc(), query, 1, 0, 2)?;
-    assert_eq!(rt; whole.told.as_str(), "2 requests, 1 rows, version 1");
-    let again = came_of(&rt, rt.alloc(), query, 1, 2, 2)?;
-    assert_eq!(rt; again.told.as_str(), "3 requests, 1 rows, version 1");
-    Ok(())
+    let whole = told_of_one(&rt, rt.alloc(), 0)?;
+    same(whole.as_str(), "2 requests, 1 rows, version 1")?;
+    let again = told_of_one(&rt, rt.alloc(), 2)?;
+    same(again.as_str(), "3 requests, 1 rows, version 1")
 }

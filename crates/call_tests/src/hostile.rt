@@ -1,5 +1,7 @@
 // Servers that say what no server should, and sinks that fail.
-use crate::asked::{Came, OPTIONS, ask};
+ghost use Rattle.std.specs.Prelude.{◌≤◌};
+
+use crate::asked::{Came, OPTIONS, ask, same};
 use crate::replies::wire_of;
 use std::alloc::Global;
 use std::sync::Wait;
@@ -53,11 +55,16 @@ const REPLIES: [(&str, &str); 19] = [
     ("f7v f7dvn f7dw", "changed 1 2"),
 ];
 
+/// Fails where something else comes of replies.
+fn check_told<R: Wait>(rt: &R, alloc: Global, words: &str, wanted: &str) -> Result<(), Fail> {
+    let came = asked(rt, alloc, words, 100000)?;
+    same(came.told.as_str(), wanted)
+}
+
 #[test]
 fn what_no_server_should_say_has_its_name(rt: HostRuntime) -> Result<(), Fail> {
-    for (words, wanted) in REPLIES {
-        let came = asked(&rt, rt.alloc(), words, 100000)?;
-        assert_eq!(rt; came.told.as_str(), wanted, "{words}");
+    for (words, wanted) in &REPLIES {
+        check_told(&rt, rt.alloc(), words, wanted)?;
     }
     Ok(())
 }
@@ -75,27 +82,67 @@ const TEXTS: [(&str, &str); 6] = [
     ("f1v f1vd", ONE),
 ];
 
+/// Fails where something else is written of replies.
+fn check_text<R: Wait>(rt: &R, alloc: Global, words: &str, wanted: &str) -> Result<(), Fail> {
+    let came = asked(rt, alloc, words, 100000)?;
+    same(came.text.as_str(), wanted)
+}
+
 #[test]
 fn what_was_found_is_written(rt: HostRuntime) -> Result<(), Fail> {
-    for (words, wanted) in TEXTS {
-        let came = asked(&rt, rt.alloc(), words, 100000)?;
-        assert_eq!(rt; came.text.as_str(), wanted, "{words}");
+    for (words, wanted) in &TEXTS {
+        check_text(&rt, rt.alloc(), words, wanted)?;
     }
     Ok(())
 }
 
-/// How many links a client has, and what comes of four patterns where the reply to the first is held
-/// back until the start and all four were asked for.
-const WAITING: [(u32, &str); 2] = [(4, "5 requests, 0 rows, version 0"), (1, "exchange")];
+const FOUR: &str = "SELECT * WHERE { ?a <u:p> ?b . ?b <u:q> ?c . ?c <u:r> ?d . ?d <u:s> ?e }";
+
+/// What comes of four patterns over so many links, where the reply to the first is held back until the
+/// start and all four were asked for.
+fn asked_at_once<R: Wait>(rt: &R, alloc: Global, links: u32) -> Result<Came, Fail>
+    requires some { 1 ≤ links }
+    requires few { links ≤ 256 }
+{
+    let options = Options { links, ..OPTIONS };
+    let mut wire = wire_of(alloc, "f7 f0 f0 f0 f0", 5)?;
+    ask(rt, alloc, FOUR, &options, &mut wire, Failing::Never)
+}
 
 #[test]
 fn all_patterns_are_asked_for_at_once(rt: HostRuntime) -> Result<(), Fail> {
-    let text = "SELECT * WHERE { ?a <u:p> ?b . ?b <u:q> ?c . ?c <u:r> ?d . ?d <u:s> ?e }";
-    for (links, wanted) in WAITING {
-        let options = Options { links, ..OPTIONS };
-        let mut wire = wire_of(rt.alloc(), "f7 f0 f0 f0 f0", 5)?;
-        let came = ask(&rt, rt.alloc(), text, &options, &mut wire, Failing::Never)?;
-        assert_eq!(rt; came.told.as_str(), wanted, "{links}");
+    let came = asked_at_once(&rt, rt.alloc(), 4)?;
+    same(came.told.as_str(), "5 requests, 0 rows, version 0")
+}
+
+#[test]
+fn over_one_link_the_first_reply_is_waited_for(rt: HostRuntime) -> Result<(), Fail> {
+    let came = asked_at_once(&rt, rt.alloc(), 1)?;
+    same(came.told.as_str(), "exchange")
+}
+
+/// What comes of a query with one row, where the sink takes so many bytes.
+fn asked_into<R: Wait>(rt: &R, alloc: Global, most: usize) -> Result<Came, Fail> {
+    let mut wire = wire_of(alloc, "f1v f1vd", 0)?;
+    let fails = Failing::AfterBytes(most as u64);
+    ask(rt, alloc, ALL, &OPTIONS, &mut wire, fails)
+}
+
+/// Whether the sink is said to have failed where it did, and took so many bytes of the result.
+fn is_front(came: &Came, most: usize) -> bool {
+    let wanted = if most < ONE.len() {
+        "sink"
+    } else {
+        "2 requests, 1 rows, version 1"
+    };
+    let text = came.text.as_str();
+    came.told.as_str() == wanted && ONE.starts_with(text) && text.len() == most
+}
+
+fn check_front<R: Wait>(rt: &R, alloc: Global, most: usize) -> Result<(), Fail> {
+    let came = asked_into(rt, alloc, most)?;
+    if !is_front(&came, most) {
+        return Err(Fail::new(format_args!("{most}: {}, {}", came.told, came.text)));
     }
     Ok(())
 }
@@ -103,17 +150,7 @@ fn all_patterns_are_asked_for_at_once(rt: HostRuntime) -> Result<(), Fail> {
 #[test]
 fn a_sink_that_fails_took_a_front(rt: HostRuntime) -> Result<(), Fail> {
     for most in 0..=ONE.len() {
-        let mut wire = wire_of(rt.alloc(), "f1v f1vd", 0)?;
-        let fails = Failing::AfterBytes(most as u64);
-        let came = ask(&rt, rt.alloc(), ALL, &OPTIONS, &mut wire, fails)?;
-        let wanted = if most < ONE.len() {
-            "sink"
-        } else {
-            "2 requests, 1 rows, version 1"
-        };
-        assert_eq!(rt; came.told.as_str(), wanted, "{most}");
-        assert!(rt; ONE.starts_with(came.text.as_str()), "{most}");
-        assert_eq!(rt; came.text.len(), most);
+        check_front(&rt, rt.alloc(), most)?;
     }
     Ok(())
 }

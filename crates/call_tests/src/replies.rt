@@ -44,18 +44,21 @@ fn push_part(alloc: Global, out: &mut String, letter: char, number: usize) -> Re
     Ok(())
 }
 
-fn push_count(out: &mut String, count: &str) -> Result<(), Fail> {
-    out.push_str("<http://localhost/data> <http://www.w3.org/ns/hydra/core#totalItems> \"")?;
-    out.push_str(count)?;
-    out.push_str("\" <g:1> .\n")?;
+fn push_line(out: &mut String, front: &str, value: &str, back: &str) -> Result<(), Fail> {
+    out.push_str(front)?;
+    out.push_str(value)?;
+    out.push_str(back)?;
     Ok(())
 }
 
+fn push_count(out: &mut String, count: &str) -> Result<(), Fail> {
+    let front = "<http://localhost/data> <http://www.w3.org/ns/hydra/core#totalItems> \"";
+    push_line(out, front, count, "\" <g:1> .\n")
+}
+
 fn push_next(out: &mut String, address: &str) -> Result<(), Fail> {
-    out.push_str("<http://localhost/data> <http://www.w3.org/ns/hydra/core#next> <")?;
-    out.push_str(address)?;
-    out.push_str("> <g:1> .\n")?;
-    Ok(())
+    let front = "<http://localhost/data> <http://www.w3.org/ns/hydra/core#next> <";
+    push_line(out, front, address, "> <g:1> .\n")
 }
 
 /// The address of the page with this number.
@@ -64,10 +67,8 @@ fn numbered(alloc: Global, number: usize) -> Result<String, Fail> {
 }
 
 fn push_version(out: &mut String, version: &str) -> Result<(), Fail> {
-    out.push_str("<d:s> <http://www.w3.org/2002/07/owl#versionInfo> \"")?;
-    out.push_str(version)?;
-    out.push_str("\" <g:1> .\n")?;
-    Ok(())
+    let front = "<d:s> <http://www.w3.org/2002/07/owl#versionInfo> \"";
+    push_line(out, front, version, "\" <g:1> .\n")
 }
 
 /// The page whose parts these letters are.
@@ -86,57 +87,66 @@ fn with_length(alloc: Global, body: &str, length: usize) -> Result<String, Fail>
     Ok(format!(in alloc; "{HEAD}Content-Length: {length}\r\n\r\n{body}")?)
 }
 
-/// Chunks of one byte each, whose lines have 1000 bytes, and no end.
-fn dripped(alloc: Global, chunks: u32) -> Result<String, Fail> {
-    let mut line = String::from_str(alloc, "1;")?;
-    for _ in 0..996 {
-        line.push('a')?;
+/// Adds so many letters.
+fn add_letters(out: &mut String, letters: u32) -> Result<(), Fail> {
+    for _ in 0..letters {
+        out.push('a')?;
     }
+    Ok(())
+}
+
+/// The line of a chunk of one byte, which has so many bytes, the line end among them.
+fn chunk_line(alloc: Global, bytes: u32) -> Result<String, Fail> {
+    let mut line = String::from_str(alloc, "1;")?;
+    add_letters(&mut line, bytes.saturating_sub(4))?;
     line.push_str("\r\n")?;
-    let mut out = format!(in alloc; "{HEAD}Transfer-Encoding: chunked\r\n\r\n")?;
+    Ok(line)
+}
+
+/// Adds so many chunks of one byte behind this line.
+fn add_chunks(out: &mut String, line: &str, chunks: u32) -> Result<(), Fail> {
     for _ in 0..chunks {
-        out.push_str(line.as_str())?;
+        out.push_str(line)?;
         out.push_str("x\r\n")?;
     }
+    Ok(())
+}
+
+/// Chunks of one byte each, whose lines have so many bytes, and then an end.
+fn dripped(alloc: Global, bytes: u32, chunks: u32, end: &str) -> Result<String, Fail> {
+    let line = chunk_line(alloc, bytes)?;
+    let mut out = format!(in alloc; "{HEAD}Transfer-Encoding: chunked\r\n\r\n")?;
+    add_chunks(&mut out, line.as_str(), chunks)?;
+    out.push_str(end)?;
     Ok(out)
 }
 
-/// A chunk whose line has so many bytes, the line end among them.
-fn long_line(alloc: Global, bytes: u32) -> Result<String, Fail> {
-    let mut out = format!(in alloc; "{HEAD}Transfer-Encoding: chunked\r\n\r\n1;")?;
-    for _ in 4..bytes {
-        out.push('a')?;
-    }
-    out.push_str("\r\nx\r\n0\r\n\r\n")?;
-    Ok(out)
+/// A page by the letters of its parts.
+fn page(alloc: Global, letters: &str, number: usize) -> Result<String, Fail> {
+    let page = page_text(alloc, letters, number)?;
+    with_length(alloc, page.as_str(), page.len())
 }
+
+const NOT_FOUND: &str = "HTTP/1.1 404 Not Found\r\nConnection: close\r\nContent-Length: 0\r\n\r\n";
+
+const ZIPPED: &str =
+    "HTTP/1.1 200 OK\r\nContent-Type: application/n-quads\r\nConnection: close\r\nContent-Encoding: gzip\r\nContent-Length: 1\r\n\r\nx";
+
+/// Half a body of 100 bytes.
+const HALF: &str = "xxxxxxxxxxxxxxxxxxxxxxxxxxxxxxxxxxxxxxxxxxxxxxxxxx";
 
 /// What a word stands for: a reply by its name, or a page by the letters of its parts.
 fn reply(alloc: Global, word: &str, number: usize) -> Result<String, Fail> {
     match word {
-        "-404" => Ok(String::from_str(
-            alloc,
-            "HTTP/1.1 404 Not Found\r\nConnection: close\r\nContent-Length: 0\r\n\r\n",
-        )?),
-        "-gzip" => Ok(format!(in alloc;
-            "{HEAD}Content-Encoding: gzip\r\nContent-Length: 1\r\n\r\nx"
-        )?),
+        "-404" => Ok(String::from_str(alloc, NOT_FOUND)?),
+        "-gzip" => Ok(String::from_str(alloc, ZIPPED)?),
         "-empty" => with_length(alloc, "", 0),
-        "-half" => {
-            let mut body = String::new(alloc);
-            for _ in 0..50 {
-                body.push('x')?;
-            }
-            with_length(alloc, body.as_str(), 100)
-        }
+        "-half" => with_length(alloc, HALF, 100),
         "-over" => with_length(alloc, "", 100001),
-        "-line" => long_line(alloc, 1025),
-        "-1054" => dripped(alloc, 1054),
-        "-1055" => dripped(alloc, 1055),
-        letters => {
-            let page = page_text(alloc, letters, number)?;
-            with_length(alloc, page.as_str(), page.len())
-        }
+        "-line" => dripped(alloc, 1025, 1, "0\r\n\r\n"),
+        "-1054" => dripped(alloc, 1000, 1054, ""),
+        "-1055" => dripped(alloc, 1000, 1055, ""),
+        letters => page(alloc, letters, number),
     }
 }
 
@@ -152,14 +162,20 @@ fn script(alloc: Global, reply: &str, after: u64) -> Result<Script, Fail> {
     })
 }
 
-/// A wire with a link for each word. The reply of the second link is held back until so many links had
-/// a byte sent.
-pub fn wire_of(alloc: Global, words: &str, after: u64) -> Result<ScriptWire, Fail> {
+/// The links of these words. The reply of the second one is held back until so many links had a byte
+/// sent.
+fn scripts(alloc: Global, words: &str, after: u64) -> Result<Vec<Script>, Fail> {
     let mut scripts = Vec::new(alloc);
     for (number, word) in words.split(' ').enumerate() {
         let text = reply(alloc, word, number.saturating_add(2))?;
         let held = if number == 1 { after } else { 0 };
         scripts.push(script(alloc, text.as_str(), held)?)?;
     }
+    Ok(scripts)
+}
+
+/// A wire with a link for each word, of which the second is held back so.
+pub fn wire_of(alloc: Global, words: &str, after: u64) -> Result<ScriptWire, Fail> {
+    let scripts = scripts(alloc, words, after)?;
     Ok(ScriptWire::new(alloc, scripts, Failing::Never))
 }

@@ -28,13 +28,25 @@ fn quads(alloc: Global, data: &str) -> Result<Vec<Quad>, Fail>
     }
 }
 
-/// A server of N-Quads text with the base `http://localhost/data`, with so many triples a page.
-pub fn server_of(alloc: Global, data: &str, page_size: u64) -> Result<FragmentServer, Fail> {
+fn table_of(alloc: Global, data: &str) -> Result<Table, Fail> {
     let quads = quads(alloc, data)?;
-    let table = Table::build(alloc, quads.as_slice(), &Choice::Union, host(), 100000)?;
+    match Table::build(alloc, quads.as_slice(), &Choice::Union, host(), 100000) {
+        Ok(table) => Ok(table),
+        Err(_) => Err(Fail::new("no table")),
+    }
+}
+
+fn config_of(alloc: Global, page_size: u64) -> Result<Config, Fail> {
     let base = WebAddress::read(alloc, "http://localhost/data")?;
     match Config::new(base, page_size) {
-        Some(config) => Ok(FragmentServer::new(Server::new(alloc, table, config)?)),
+        Some(config) => Ok(config),
         None => Err(Fail::new("no configuration")),
     }
+}
+
+/// A server of N-Quads text with the base `http://localhost/data`, with so many triples a page.
+pub fn server_of(alloc: Global, data: &str, page_size: u64) -> Result<FragmentServer, Fail> {
+    let config = config_of(alloc, page_size)?;
+    let table = table_of(alloc, data)?;
+    Ok(FragmentServer::new(Server::new(alloc, table, config)?))
 }

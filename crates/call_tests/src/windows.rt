@@ -1,7 +1,7 @@
 // How many nodes of a join work at once, seen on the one link of a client.
 ghost use Rattle.std.specs.Prelude.{◌≤◌};
 
-use crate::asked::{OPTIONS, ask};
+use crate::asked::{OPTIONS, ask, same};
 use crate::servers::server_of;
 use fragment_server::FragmentConnection;
 use loop_wire::LoopWire;
@@ -11,14 +11,33 @@ use std::test::Fail;
 use tpf_base::Failing;
 use tpf_client::Options;
 
+/// Adds a chain of three triples from one subject.
+fn add_chain(alloc: Global, number: u32, text: &mut String) -> Result<(), Fail> {
+    let number = number.to_string(alloc)?;
+    let n = number.as_str();
+    for part in [
+        "<http://e/a> <http://e/p> <http://e/b",
+        n,
+        "> .\n<http://e/b",
+        n,
+        "> <http://e/q> <http://e/c",
+        n,
+        "> .\n<http://e/c",
+        n,
+        "> <http://e/r> <http://e/d",
+        n,
+        "> .\n",
+    ] {
+        text.push_str(part)?;
+    }
+    Ok(())
+}
+
 /// Twenty chains of three triples from one subject.
 fn chains(alloc: Global) -> Result<String, Fail> {
     let mut text = String::new(alloc);
     for n in 1..21u32 {
-        let lines = format!(in alloc;
-            "<http://e/a> <http://e/p> <http://e/b{n}> .\n<http://e/b{n}> <http://e/q> <http://e/c{n}> .\n<http://e/c{n}> <http://e/r> <http://e/d{n}> .\n"
-        )?;
-        text.push_str(lines.as_str())?;
+        add_chain(alloc, n, &mut text)?;
     }
     Ok(text)
 }
@@ -31,41 +50,59 @@ fn first_with(requests: &str, text: &str) -> usize {
     requests.find(text).unwrap_or(requests.len())
 }
 
-/// What comes of the query in pages of five over one link, and whether `c10` was asked for before `b11`.
-fn asked_with<R: Wait>(rt: &R, alloc: Global, window: u32) -> Result<(String, bool), Fail>
-    requires { 1 ≤ window }
-{
+/// A wire to a server of the chains, in pages of five.
+fn wire_of(alloc: Global) -> Result<LoopWire<FragmentConnection>, Fail> {
     let data = chains(alloc)?;
     let server = server_of(alloc, data.as_str(), 5)?;
-    let mut wire: LoopWire<FragmentConnection> = LoopWire::new(alloc, server, 0, Failing::Never);
+    Ok(LoopWire::new(alloc, server, 0, Failing::Never))
+}
+
+/// Whether one link was dialled, on which `c10` was asked for before `b11`.
+fn is_deep_first(wire: &LoopWire<FragmentConnection>) -> Result<bool, Fail> {
+    if wire.links() != 1 {
+        return Err(Fail::new("another link was dialled"));
+    }
+    let requests = str::from_utf8(wire.sent_on(0))?;
+    Ok(first_with(requests, "%2Fc10&") < first_with(requests, "%2Fb11&"))
+}
+
+/// What comes of the query over one link, and whether `c10` was asked for before `b11`.
+fn asked_over<R: Wait>(
+    rt: &R,
+    alloc: Global,
+    window: u32,
+    wire: &mut LoopWire<FragmentConnection>,
+) -> Result<(String, bool), Fail>
+    requires { 1 ≤ window }
+{
     let options = Options {
         window,
         links: 1,
         budget: 1000,
         ..OPTIONS
     };
-    let came = ask(rt, alloc, QUERY, &options, &mut wire, Failing::Never)?;
-    if wire.links() != 1 {
-        return Err(Fail::new("another link was dialled"));
-    }
-    let requests = str::from_utf8(wire.sent_on(0))?;
-    let is_deep_first = first_with(requests, "%2Fc10&") < first_with(requests, "%2Fb11&");
-    Ok((came.told, is_deep_first))
+    let came = ask(rt, alloc, QUERY, &options, wire, Failing::Never)?;
+    Ok((came.told, is_deep_first(wire)?))
+}
+
+fn asked_with<R: Wait>(rt: &R, alloc: Global, window: u32) -> Result<(String, bool), Fail>
+    requires { 1 ≤ window }
+{
+    let mut wire = wire_of(alloc)?;
+    asked_over(rt, alloc, window, &mut wire)
 }
 
 // The start, three first pages, three further ones, two for each `b` and one for each `c`.
 #[test]
 fn with_one_window_the_deepest_node_is_started_first(rt: HostRuntime) -> Result<(), Fail> {
     let (told, is_deep_first) = asked_with(&rt, rt.alloc(), 1)?;
-    assert_eq!(rt; told.as_str(), "67 requests, 20 rows, version 1");
     assert!(rt; is_deep_first);
-    Ok(())
+    same(told.as_str(), "67 requests, 20 rows, version 1")
 }
 
 #[test]
 fn with_two_windows_two_nodes_are_started(rt: HostRuntime) -> Result<(), Fail> {
     let (told, is_deep_first) = asked_with(&rt, rt.alloc(), 2)?;
-    assert_eq!(rt; told.as_str(), "67 requests, 20 rows, version 1");
     assert!(rt; !is_deep_first);
-    Ok(())
+    same(told.as_str(), "67 requests, 20 rows, version 1")
 }

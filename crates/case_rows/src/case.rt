@@ -51,6 +51,14 @@ impl<'a> Case<'a> {
         }
     }
 
+    /// The member that is a number, if the row has it.
+    pub fn number_if(&mut self, member: &str) -> Result<Option<u64>, CaseFault> {
+        if !self.has(member) {
+            return Ok(None);
+        }
+        Ok(Some(self.number(member)?))
+    }
+
     /// The member that is a list of numbers; none, where the row lacks it.
     pub fn numbers(&mut self, alloc: Global, member: &str) -> Result<Vec<u64>, CaseFault> {
         let mut numbers = Vec::new(alloc);

@@ -17,6 +17,7 @@
 //! ```
 #![tactic(auto)]
 
+mod answer_text;
 mod case;
 mod fault;
 mod files;
@@ -25,6 +26,10 @@ mod tally;
 mod text;
 mod told;
 
+pub use answer_text::{
+    bytes_text, debug_text, number_or_none, number_text, numbers_text, push_number, text_of_bytes,
+    truth_text, word_text,
+};
 pub use case::Case;
 pub use fault::CaseFault;
 pub use files::{Answers, run};

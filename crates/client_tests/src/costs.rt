@@ -20,22 +20,33 @@ const CALLS: u64 = 6;
 const REPLY: &str =
     "HTTP/1.1 200 OK\r\nContent-Type: application/n-quads\r\nConnection: close\r\nContent-Length: 1\r\n\r\nx";
 
+/// A link on which one reply comes, once so many links had a byte sent.
+fn script(alloc: Global, after: u64) -> Result<Script, Fail> {
+    let mut pieces = Vec::new(alloc);
+    pieces.push(Bytes::copy(alloc, REPLY.as_bytes())?)?;
+    Ok(Script {
+        after,
+        pieces,
+        ends: false,
+        most: 65536,
+    })
+}
+
+fn scripts(alloc: Global, held: usize) -> Result<Vec<Script>, Fail> {
+    let mut scripts = Vec::new(alloc);
+    for link in 0..ASKS {
+        let after = if link < held { ASKS as u64 } else { 0 };
+        scripts.push(script(alloc, after)?)?;
+    }
+    Ok(scripts)
+}
+
 /// A wire with a link for each ask. The first links, as many as are told, hold their replies until each
 /// link had a byte sent. The call after as many as the asks may cost fails.
 fn wire_of(alloc: Global, held: usize) -> Result<ScriptWire, Fail> {
-    let mut scripts = Vec::new(alloc);
-    for link in 0..ASKS {
-        let mut pieces = Vec::new(alloc);
-        pieces.push(Bytes::copy(alloc, REPLY.as_bytes())?)?;
-        scripts.push(Script {
-            after: if link < held { ASKS as u64 } else { 0 },
-            pieces,
-            ends: false,
-            most: 65536,
-        })?;
-    }
     let mut calls = Vec::new(alloc);
     calls.push(CALLS * ASKS as u64 + 1)?;
+    let scripts = scripts(alloc, held)?;
     Ok(ScriptWire::new(alloc, scripts, Failing::At(calls)))
 }
 
@@ -51,11 +62,16 @@ fn pool_of(alloc: Global, links: u32) -> Result<Pool, Fail>
     Ok(pool)
 }
 
+/// What comes of the asks.
+fn all_steps(alloc: Global, links: u32, wire: &mut ScriptWire) -> Result<String, Fail> {
+    let mut pool = pool_of(alloc, links)?;
+    steps(alloc, &mut pool, wire, 10_000)
+}
+
 /// Whether all replies come before that call, where the oldest half of those in flight has to wait.
 fn all_come(alloc: Global, links: u32) -> Result<bool, Fail> {
     let mut wire = wire_of(alloc, links as usize / 2)?;
-    let mut pool = pool_of(alloc, links)?;
-    let told = steps(alloc, &mut pool, &mut wire, 10_000)?;
+    let told = all_steps(alloc, links, &mut wire)?;
     Ok(told.ends_with("idle"))
 }
 

@@ -5,6 +5,7 @@ ghost use Rattle.exchange.specs.declared.exchange.Standing.TheVariants.{Underway
 ghost use Rattle.script_wire.specs.Held.{state_of};
 
 use crate::polling::{asked_behind, polled};
+use crate::stepping::same;
 use exchange::{Exchange, ExchangeFault, ReceiveBuffer};
 use http_wire::{Reply, ReplyFault};
 use script_wire::{Script, ScriptWire};
@@ -19,15 +20,20 @@ const REQUEST: &str = "GET /d?s=a HTTP/1.1\r\nHost: e:81\r\nAccept: application/
 
 const OK: &str = "HTTP/1.1 200 OK\r\nContent-Type: application/n-quads\r\n";
 
-/// A link on which these pieces come.
-fn script(alloc: Global, pieces: &[&[u8]], ends: bool, most: usize) -> Result<Script, Fail> {
+fn copies(alloc: Global, pieces: &[&[u8]]) -> Result<Vec<Bytes>, Fail> {
     let mut all = Vec::new(alloc);
     for piece in pieces {
         all.push(Bytes::copy(alloc, piece)?)?;
     }
+    Ok(all)
+}
+
+/// A link on which these pieces come.
+fn script(alloc: Global, pieces: &[&[u8]], ends: bool, most: usize) -> Result<Script, Fail> {
+    let pieces = copies(alloc, pieces)?;
     Ok(Script {
         after: 0,
-        pieces: all,
+        pieces,
         ends,
         most,
     })
@@ -136,9 +142,15 @@ fn ended(alloc: Global, limit: u64, wire: &mut ScriptWire) -> Result<Outcome, Fa
 }
 
 /// What a first exchange on the wire comes to.
-fn first(alloc: Global, limit: u64, mut wire: ScriptWire) -> Result<String, Fail> {
-    let Outcome { exchange, answer } = ended(alloc, limit, &mut wire)?;
+fn first_on(alloc: Global, limit: u64, wire: &mut ScriptWire) -> Result<String, Fail> {
+    let Outcome { exchange, answer } = ended(alloc, limit, wire)?;
     told(alloc, &exchange, answer)
+}
+
+/// The same on a wire with one link on which these pieces come.
+fn first(alloc: Global, limit: u64, pieces: &[&[u8]], ends: bool) -> Result<String, Fail> {
+    let mut wire = wire(alloc, pieces, ends, 65536)?;
+    first_on(alloc, limit, &mut wire)
 }
 
 /// The text behind the begin of a good head.
@@ -168,32 +180,46 @@ const WHOLE: [(&str, &str); 7] = [
     ("Connection: close\r\n\r\n", "closed "),
 ];
 
+/// Fails where a reply that comes in two pieces is not told as wanted.
+fn check_cuts(alloc: Global, reply: &[u8], wanted: &str) -> Result<(), Fail> {
+    for at in 0..=reply.len() {
+        let (front, back) = reply.split_at(at);
+        same(first(alloc, 3, &[front, back], true)?, wanted, at)?;
+    }
+    Ok(())
+}
+
 #[test]
 fn a_reply_is_whole_over_any_cut(rt: HostRuntime) -> Result<(), Fail> {
-    let alloc = rt.alloc();
     for (rest, wanted) in &WHOLE {
-        let reply = with_ok(alloc, rest)?;
-        let bytes = reply.as_bytes();
-        for at in 0..=bytes.len() {
-            let (front, back) = bytes.split_at(at);
-            let wire = wire(alloc, &[front, back], true, 65536)?;
-            assert_eq!(rt; first(alloc, 3, wire)?.as_str(), *wanted, "{rest} at {at}");
-        }
+        let reply = with_ok(rt.alloc(), rest)?;
+        check_cuts(rt.alloc(), reply.as_bytes(), wanted)?;
+    }
+    Ok(())
+}
+
+/// Fails where the front of a reply is not kept, behind which the link ends.
+fn check_front(alloc: Global, front: &[u8]) -> Result<(), Fail> {
+    let wanted = format!(in alloc; "cut {}", str::from_utf8(front)?)?;
+    same(
+        first(alloc, 3, &[front], true)?,
+        wanted.as_str(),
+        front.len(),
+    )
+}
+
+fn check_fronts(alloc: Global, reply: &[u8]) -> Result<(), Fail> {
+    for at in 0..reply.len() {
+        check_front(alloc, &reply[..at])?;
     }
     Ok(())
 }
 
 #[test]
 fn a_reply_cut_short_is_kept(rt: HostRuntime) -> Result<(), Fail> {
-    let alloc = rt.alloc();
     for (rest, _) in &WHOLE[..5] {
-        let reply = with_ok(alloc, rest)?;
-        let bytes = reply.as_bytes();
-        for at in 0..bytes.len() {
-            let wire = wire(alloc, &[&bytes[..at]], true, 65536)?;
-            let wanted = format!(in alloc; "cut {}", str::from_utf8(&bytes[..at])?)?;
-            assert_eq!(rt; first(alloc, 3, wire)?.as_str(), wanted.as_str());
-        }
+        let reply = with_ok(rt.alloc(), rest)?;
+        check_fronts(rt.alloc(), reply.as_bytes())?;
     }
     Ok(())
 }
@@ -222,13 +248,17 @@ const REFUSED: [(&str, &str); 8] = [
     ),
 ];
 
+/// Fails where a reply is not refused with the fault, or not kept.
+fn check_refused(alloc: Global, reply: &str, fault: &str) -> Result<(), Fail> {
+    let wanted = format!(in alloc; "{fault} {reply}")?;
+    let told = first(alloc, 3, &[reply.as_bytes()], false)?;
+    same(told, wanted.as_str(), reply.len())
+}
+
 #[test]
 fn each_fault_keeps_what_was_received(rt: HostRuntime) -> Result<(), Fail> {
-    let alloc = rt.alloc();
     for (reply, fault) in &REFUSED {
-        let wire = wire(alloc, &[reply.as_bytes()], false, 65536)?;
-        let wanted = format!(in alloc; "{fault} {reply}")?;
-        assert_eq!(rt; first(alloc, 3, wire)?.as_str(), wanted.as_str());
+        check_refused(rt.alloc(), reply, fault)?;
     }
     Ok(())
 }
@@ -256,60 +286,84 @@ fn asked_twice(alloc: Global, wire: &ScriptWire) -> Result<bool, Fail> {
 }
 
 /// What two exchanges come to, of which the second goes over the link that the first left.
-fn both(alloc: Global, mut wire: ScriptWire) -> Result<String, Fail> {
-    let Outcome { exchange, answer } = ended(alloc, 9, &mut wire)?;
-    let link = exchange.link();
-    let before = told(alloc, &exchange, answer)?;
-    let after = second(alloc, 9, exchange, &mut wire)?;
-    if link != Some(0) || !asked_twice(alloc, &wire)? {
+fn both_on(alloc: Global, wire: &mut ScriptWire) -> Result<String, Fail> {
+    let Outcome { exchange, answer } = ended(alloc, 9, wire)?;
+    if exchange.link() != Some(0) {
         return Err(Fail::new("another link was dialled"));
     }
+    let before = told(alloc, &exchange, answer)?;
+    let after = second(alloc, 9, exchange, wire)?;
     Ok(format!(in alloc; "{before}, {after}")?)
+}
+
+/// The same where no other link was given.
+fn both_told(alloc: Global, wire: &mut ScriptWire) -> Result<String, Fail> {
+    let told = both_on(alloc, wire)?;
+    if !asked_twice(alloc, wire)? {
+        return Err(Fail::new("another link was dialled"));
+    }
+    Ok(told)
+}
+
+/// The same on a wire with one link on which these pieces come.
+fn both(alloc: Global, pieces: &[&[u8]]) -> Result<String, Fail> {
+    let mut wire = wire(alloc, pieces, true, 1)?;
+    both_told(alloc, &mut wire)
+}
+
+fn two_replies(alloc: Global) -> Result<String, Fail> {
+    let one = with_ok(alloc, "Content-Length: 3\r\n\r\nabc")?;
+    let two = with_ok(alloc, "Content-Length: 2\r\n\r\nde")?;
+    both(alloc, &[one.as_bytes(), two.as_bytes()])
 }
 
 #[test]
 fn a_second_request_goes_over_the_link_that_was_left(rt: HostRuntime) -> Result<(), Fail> {
-    let one = with_ok(rt.alloc(), "Content-Length: 3\r\n\r\nabc")?;
-    let two = with_ok(rt.alloc(), "Content-Length: 2\r\n\r\nde")?;
-    let wire = wire(rt.alloc(), &[one.as_bytes(), two.as_bytes()], true, 1)?;
-    let told = both(rt.alloc(), wire)?;
-    assert_eq!(rt; told.as_str(), "left abc, left de");
-    Ok(())
+    same(two_replies(rt.alloc())?, "left abc, left de", 0)
+}
+
+fn with_byte_behind(alloc: Global) -> Result<String, Fail> {
+    let reply = with_ok(alloc, "Content-Length: 3\r\n\r\nabcx")?;
+    first(alloc, 3, &[reply.as_bytes()], true)
 }
 
 #[test]
 fn a_byte_behind_the_reply_closes_the_link(rt: HostRuntime) -> Result<(), Fail> {
-    let alloc = rt.alloc();
-    let reply = with_ok(alloc, "Content-Length: 3\r\n\r\nabcx")?;
-    let wire = wire(alloc, &[reply.as_bytes()], true, 65536)?;
-    assert_eq!(rt; first(alloc, 3, wire)?.as_str(), "closed abc");
-    Ok(())
+    same(with_byte_behind(rt.alloc())?, "closed abc", 0)
 }
 
-/// What an exchange comes to whose dial fails, its link, and how many links were given.
-fn undialled(alloc: Global) -> Result<(String, Option<u64>, usize), Fail> {
+/// What an exchange comes to that has no link.
+fn linkless(alloc: Global, wire: &mut ScriptWire) -> Result<String, Fail> {
+    let Outcome { exchange, answer } = ended(alloc, 3, wire)?;
+    if exchange.link().is_some() || wire.links() != 0 {
+        return Err(Fail::new("a link was given"));
+    }
+    told(alloc, &exchange, answer)
+}
+
+/// What an exchange comes to whose dial fails, where no link is given.
+fn undialled(alloc: Global) -> Result<String, Fail> {
     let mut wire = failing_wire(alloc, &[OK.as_bytes()], true, 65536, Failing::Dials(1))?;
-    let Outcome { exchange, answer } = ended(alloc, 3, &mut wire)?;
-    let link = exchange.link();
-    let told = told(alloc, &exchange, answer)?;
-    Ok((told, link, wire.links()))
+    linkless(alloc, &mut wire)
 }
 
 #[test]
 fn a_dial_that_fails_gives_no_link(rt: HostRuntime) -> Result<(), Fail> {
-    let (told, link, links) = undialled(rt.alloc())?;
-    assert_eq!(rt; told.as_str(), "failed");
-    assert_eq!(rt; (link, links), (None, 0));
-    Ok(())
+    same(undialled(rt.alloc())?, "failed", 0)
+}
+
+/// The failure of the call with this number alone.
+fn failing_at(alloc: Global, call: u64) -> Result<Failing, Fail> {
+    let mut calls = Vec::new(alloc);
+    calls.push(call)?;
+    Ok(Failing::At(calls))
 }
 
 /// What an exchange comes to of whose calls the one with this number fails.
 fn failed_at(alloc: Global, reply: &str, call: u64) -> Result<String, Fail> {
-    let mut calls = Vec::new(alloc);
-    calls.push(call)?;
-    let failing = Failing::At(calls);
-    let wire = failing_wire(alloc, &[reply.as_bytes()], true, 65536, failing)?;
-    first(alloc, 3, wire)
+    let failing = failing_at(alloc, call)?;
+    let mut wire = failing_wire(alloc, &[reply.as_bytes()], true, 65536, failing)?;
+    first_on(alloc, 3, &mut wire)
 }
 
 /// The calls of the wire in order: a dial, a send, and two receives, of which the first answers
@@ -317,9 +371,12 @@ fn failed_at(alloc: Global, reply: &str, call: u64) -> Result<String, Fail> {
 #[test]
 fn each_call_that_fails_ends_the_exchange(rt: HostRuntime) -> Result<(), Fail> {
     let reply = with_ok(rt.alloc(), "Content-Length: 3\r\n\r\nabc")?;
-    for call in 1..=4 {
-        let told = failed_at(rt.alloc(), reply.as_str(), call)?;
-        assert_eq!(rt; told.as_str(), "failed", "{call}");
+    for call in 1..=4u64 {
+        same(
+            failed_at(rt.alloc(), reply.as_str(), call)?,
+            "failed",
+            call as usize,
+        )?;
     }
     Ok(())
 }
@@ -367,9 +424,13 @@ fn longest(alloc: Global) -> Result<String, Fail> {
     Ok(reply)
 }
 
-/// The answer where a reply comes in one piece, and the link ends.
-fn answer_to(alloc: Global, limit: u64, reply: &str) -> Result<Result<Reply, ExchangeFault>, Fail> {
-    let mut wire = wire(alloc, &[reply.as_bytes()], true, 65536)?;
+/// The answer where a reply comes in these pieces, and the link ends.
+fn answer_to(
+    alloc: Global,
+    limit: u64,
+    pieces: &[&[u8]],
+) -> Result<Result<Reply, ExchangeFault>, Fail> {
+    let mut wire = wire(alloc, pieces, true, 65536)?;
     Ok(ended(alloc, limit, &mut wire)?.answer)
 }
 
@@ -409,44 +470,66 @@ fn an_exchange_keeps_nothing_at_its_start(rt: HostRuntime) -> Result<(), Fail> {
     Ok(())
 }
 
+/// Whether a reply of so many chunks is cut at its end.
+fn is_padded_cut(alloc: Global, chunks: usize) -> Result<bool, Fail> {
+    let reply = padded(alloc, chunks)?;
+    let answer = answer_to(alloc, 2000, &[reply.as_bytes()])?;
+    Ok(is_cut(answer, reply.as_bytes()))
+}
+
 #[test]
 fn a_reply_padded_as_much_as_it_may_be_is_cut_at_its_end(rt: HostRuntime) -> Result<(), Fail> {
     // 1002 bytes for each of 1054 chunks are 1056108, and 1048576 and eight for each byte 1057008
-    let reply = padded(rt.alloc(), 1054)?;
-    let answer = answer_to(rt.alloc(), 2000, reply.as_str())?;
-    assert!(rt; is_cut(answer, reply.as_bytes()));
+    assert!(rt; is_padded_cut(rt.alloc(), 1054)?);
     Ok(())
+}
+
+/// Whether a reply of so many chunks is too long.
+fn is_padded_too_long(alloc: Global, chunks: usize) -> Result<bool, Fail> {
+    let reply = padded(alloc, chunks)?;
+    let answer = answer_to(alloc, 2000, &[reply.as_bytes()])?;
+    Ok(is_too_long(answer, reply.len()))
 }
 
 #[test]
 fn a_reply_padded_too_much_is_too_long(rt: HostRuntime) -> Result<(), Fail> {
-    let reply = padded(rt.alloc(), 1055)?;
-    let answer = answer_to(rt.alloc(), 2000, reply.as_str())?;
-    assert!(rt; is_too_long(answer, reply.len()));
+    assert!(rt; is_padded_too_long(rt.alloc(), 1055)?);
     Ok(())
+}
+
+/// How many bytes are kept where 8192 follow the longest reply.
+fn kept_of_longest(alloc: Global) -> Result<Option<usize>, Fail> {
+    let reply = longest(alloc)?;
+    let mut behind = String::new(alloc);
+    fill(&mut behind, 8192)?;
+    let answer = answer_to(alloc, 1054, &[reply.as_bytes(), behind.as_bytes()])?;
+    Ok(kept_of(answer))
 }
 
 #[test]
 fn no_more_is_kept_than_the_bound_and_as_much_can_be(rt: HostRuntime) -> Result<(), Fail> {
-    let alloc = rt.alloc();
-    let reply = longest(alloc)?;
-    let mut behind = String::new(alloc);
-    fill(&mut behind, 8192)?;
-    let mut wire = wire(alloc, &[reply.as_bytes(), behind.as_bytes()], true, 65536)?;
-    let kept = kept_of(ended(alloc, 1054, &mut wire)?.answer);
-    assert_eq!(rt; kept, Some(9 * 1054 + 1_187_840));
+    assert_eq!(rt; kept_of_longest(rt.alloc())?, Some(9 * 1054 + 1_187_840));
     Ok(())
 }
 
-#[test]
-fn a_large_body_comes_whole(rt: HostRuntime) -> Result<(), Fail> {
-    let alloc = rt.alloc();
+/// A reply with a body of three million bytes.
+fn large(alloc: Global) -> Result<String, Fail> {
     let mut reply = with_ok(alloc, "Content-Length: 3000000\r\n\r\n")?;
     for _ in 0..3_000_000 {
         reply.push('a')?;
     }
-    let wire = wire(alloc, &[reply.as_bytes()], false, 65536)?;
-    let told = first(alloc, 3_000_000, wire)?;
-    assert_eq!(rt; told.len(), 3_000_005);
+    Ok(reply)
+}
+
+/// How many bytes are told of it.
+fn told_of_large(alloc: Global) -> Result<usize, Fail> {
+    let reply = large(alloc)?;
+    let told = first(alloc, 3_000_000, &[reply.as_bytes()], false)?;
+    Ok(told.len())
+}
+
+#[test]
+fn a_large_body_comes_whole(rt: HostRuntime) -> Result<(), Fail> {
+    assert_eq!(rt; told_of_large(rt.alloc())?, 3_000_005);
     Ok(())
 }

@@ -5,7 +5,9 @@
 mod costs;
 #[cfg(test)]
 mod exchanges;
-pub mod polling;
+#[cfg(test)]
+mod polling;
 #[cfg(test)]
 mod pooling;
-pub mod stepping;
+#[cfg(test)]
+mod stepping;

@@ -4,7 +4,7 @@ ghost use Rattle.tpf_base.specs.Links.{WireState};
 ghost use Rattle.request_pool.specs.Pools.{held};
 ghost use Rattle.request_pool.specs.Owned.{SuitsWire};
 
-use crate::stepping::{put_all, steps};
+use crate::stepping::{put_all, same, steps};
 use request_pool::{Pool, PoolFault};
 use script_wire::{Script, ScriptWire};
 use std::alloc::Global;
@@ -23,7 +23,7 @@ const FRONT: &str =
 const REFUSED: &str = "HTTP/1.1 404 Not Found\r\nContent-Length: 0\r\n\r\n";
 
 /// A pool that asks over a wire of scripts.
-#[derive(Drop)]
+#[derive(Clone, Copy)]
 struct Case {
     links: u32,
     retries: u32,
@@ -57,14 +57,19 @@ fn times_of(letter: char) -> u32 {
     }
 }
 
+fn add_pieces(alloc: Global, letter: char, pieces: &mut Vec<Bytes>) -> Result<(), Fail> {
+    for _ in 0..times_of(letter) {
+        pieces.push(Bytes::copy(alloc, piece_of(letter).as_bytes())?)?;
+    }
+    Ok(())
+}
+
 /// The script of a link. It begins with a `4` where its first piece comes once four links had a byte
 /// sent, and ends with a point where the link ends.
 fn script(alloc: Global, word: &str) -> Result<Script, Fail> {
     let mut pieces = Vec::new(alloc);
     for letter in word.chars() {
-        for _ in 0..times_of(letter) {
-            pieces.push(Bytes::copy(alloc, piece_of(letter).as_bytes())?)?;
-        }
+        add_pieces(alloc, letter, &mut pieces)?;
     }
     Ok(Script {
         after: if word.starts_with('4') { 4 } else { 0 },
@@ -74,15 +79,25 @@ fn script(alloc: Global, word: &str) -> Result<Script, Fail> {
     })
 }
 
-fn wire_of(alloc: Global, case: &Case) -> Result<ScriptWire, Fail> {
+fn scripts(alloc: Global, words: &str) -> Result<Vec<Script>, Fail> {
     let mut scripts = Vec::new(alloc);
-    for word in case.wire.split(' ') {
+    for word in words.split(' ') {
         scripts.push(script(alloc, word)?)?;
     }
-    let mut calls = Vec::new(alloc);
-    for word in case.failing.split_whitespace() {
-        calls.push(word.parse::<u64>()?)?;
+    Ok(scripts)
+}
+
+fn numbers(alloc: Global, words: &str) -> Result<Vec<u64>, Fail> {
+    let mut numbers = Vec::new(alloc);
+    for word in words.split_whitespace() {
+        numbers.push(word.parse::<u64>()?)?;
     }
+    Ok(numbers)
+}
+
+fn wire_of(alloc: Global, case: &Case) -> Result<ScriptWire, Fail> {
+    let calls = numbers(alloc, case.failing)?;
+    let scripts = scripts(alloc, case.wire)?;
     Ok(ScriptWire::new(alloc, scripts, Failing::At(calls)))
 }
 
@@ -96,33 +111,69 @@ fn pool_of(alloc: Global, case: &Case) -> Result<Pool, Fail>
     Ok(pool)
 }
 
-/// The paths of the requests that were sent on each link.
-fn requests(alloc: Global, wire: &ScriptWire) -> Result<String, Fail> {
-    let mut out = String::new(alloc);
-    for link in 0..wire.links() {
-        out.push_str(" [")?;
-        for word in str::from_utf8(wire.sent_on(link))?.split(' ') {
-            if word.starts_with('/') {
-                out.push_str(word)?;
-            }
+/// Adds the paths of requests.
+fn add_paths(sent: &str, out: &mut String) -> Result<(), Fail> {
+    for word in sent.split(' ') {
+        if word.starts_with('/') {
+            out.push_str(word)?;
         }
-        out.push(']')?;
     }
-    Ok(out)
+    Ok(())
 }
 
-/// What comes of a case: the tickets in the order of their replies, the end, and the paths that were
-/// asked for on each link. The end is told again at each later step.
-fn told(alloc: Global, case: &Case) -> Result<String, Fail> {
-    let mut wire = wire_of(alloc, case)?;
-    let mut pool = pool_of(alloc, case)?;
-    let mut told = steps(alloc, &mut pool, &mut wire, 10_000)?;
-    let again = steps(alloc, &mut pool, &mut wire, 1)?;
+/// Adds the paths of the requests that were sent on each link.
+fn add_requests(wire: &ScriptWire, out: &mut String) -> Result<(), Fail> {
+    for link in 0..wire.links() {
+        out.push_str(" [")?;
+        add_paths(str::from_utf8(wire.sent_on(link))?, out)?;
+        out.push(']')?;
+    }
+    Ok(())
+}
+
+/// Steps to the end: the tickets in the order of their replies, and the end, which is told again at
+/// each later step.
+fn steps_to_end<W: Dial>(alloc: Global, pool: &mut Pool, wire: &mut W) -> Result<String, Fail>
+    requires suits { SuitsWire pool.old (W.state wire.old) }
+{
+    let told = steps(alloc, pool, wire, 10_000)?;
+    let again = steps(alloc, pool, wire, 1)?;
     if !told.ends_with(again.as_str()) {
         return Err(Fail::new("another end at a later step"));
     }
-    told.push_str(requests(alloc, &wire)?.as_str())?;
     Ok(told)
+}
+
+/// The same of a pool that holds the asks.
+fn all_steps(alloc: Global, case: &Case, wire: &mut ScriptWire) -> Result<String, Fail> {
+    let mut pool = pool_of(alloc, case)?;
+    steps_to_end(alloc, &mut pool, wire)
+}
+
+/// What comes of a case on a wire: the tickets in the order of their replies, the end, and the paths
+/// that were asked for on each link.
+fn told_on(alloc: Global, case: &Case, wire: &mut ScriptWire) -> Result<String, Fail> {
+    let mut told = all_steps(alloc, case, wire)?;
+    add_requests(wire, &mut told)?;
+    Ok(told)
+}
+
+/// What comes of a case.
+fn told(alloc: Global, case: &Case) -> Result<String, Fail> {
+    let mut wire = wire_of(alloc, case)?;
+    told_on(alloc, case, &mut wire)
+}
+
+/// Fails where something else comes of a case.
+fn check(alloc: Global, case: &Case, wanted: &str) -> Result<(), Fail> {
+    let told = told(alloc, case)?;
+    if told.as_str() != wanted {
+        let Case { wire, failing, .. } = *case;
+        return Err(Fail::new(format_args!(
+            "{wire:?} {failing:?}: wanted {wanted:?}, got {told:?}"
+        )));
+    }
+    Ok(())
 }
 
 /// How many exchanges may be in flight, and what comes of four asks where the first reply comes once
@@ -144,7 +195,7 @@ fn all_come_where_the_first_reply_waits_for_four_requests(rt: HostRuntime) -> Re
             failing: "",
             wire: "4c c c c",
         };
-        assert_eq!(rt; told(rt.alloc(), &case)?.as_str(), wanted);
+        check(rt.alloc(), &case, wanted)?;
     }
     Ok(())
 }
@@ -169,7 +220,7 @@ fn a_kept_link_serves_the_asks_to_its_authority(rt: HostRuntime) -> Result<(), F
             failing: "",
             wire,
         };
-        assert_eq!(rt; told(rt.alloc(), &case)?.as_str(), wanted);
+        check(rt.alloc(), &case, wanted)?;
     }
     Ok(())
 }
@@ -217,7 +268,7 @@ fn a_call_that_fails_is_a_failure_of_its_ask(rt: HostRuntime) -> Result<(), Fail
             failing,
             wire: "k k k",
         };
-        assert_eq!(rt; told(rt.alloc(), &case)?.as_str(), wanted, "{failing}");
+        check(rt.alloc(), &case, wanted)?;
     }
     Ok(())
 }
@@ -247,7 +298,7 @@ fn an_ask_that_failed_is_asked_again_before_others(rt: HostRuntime) -> Result<()
             failing,
             wire,
         };
-        assert_eq!(rt; told(rt.alloc(), &case)?.as_str(), wanted, "{wire}");
+        check(rt.alloc(), &case, wanted)?;
     }
     Ok(())
 }
@@ -284,7 +335,7 @@ fn no_more_is_started_than_the_budget_allows(rt: HostRuntime) -> Result<(), Fail
             failing,
             wire,
         };
-        assert_eq!(rt; told(rt.alloc(), &case)?.as_str(), wanted, "{budget}");
+        check(rt.alloc(), &case, wanted)?;
     }
     Ok(())
 }
@@ -311,7 +362,7 @@ fn a_thousand_waits_with_nothing_moved_are_a_stall(rt: HostRuntime) -> Result<()
             failing: "",
             wire,
         };
-        assert_eq!(rt; told(rt.alloc(), &case)?.as_str(), wanted, "{wire}");
+        check(rt.alloc(), &case, wanted)?;
     }
     Ok(())
 }
@@ -346,7 +397,26 @@ fn tells_again<W: Dial>(pool: &mut Pool, wire: &mut W, bytes: &[u8]) -> bool
     true
 }
 
-/// Whether one ask ends with a fault that keeps the bytes, which is told again.
+/// Whether the pool ends with a fault that keeps the bytes, which is told again.
+fn ends_with<W: Dial>(
+    alloc: Global,
+    pool: &mut Pool,
+    wire: &mut W,
+    bytes: &[u8],
+) -> Result<bool, Fail>
+    requires suits { SuitsWire pool.old (W.state wire.old) }
+{
+    let _told = steps(alloc, pool, wire, 10)?;
+    Ok(tells_again(pool, wire, bytes))
+}
+
+/// The same of a pool that holds the asks.
+fn keeps_on(alloc: Global, case: &Case, wire: &mut ScriptWire, bytes: &str) -> Result<bool, Fail> {
+    let mut pool = pool_of(alloc, case)?;
+    ends_with(alloc, &mut pool, wire, bytes.as_bytes())
+}
+
+/// The same of a pool that holds one ask.
 fn keeps(alloc: Global, wire: &'static str, bytes: &str) -> Result<bool, Fail> {
     let case = Case {
         links: 1,
@@ -357,9 +427,7 @@ fn keeps(alloc: Global, wire: &'static str, bytes: &str) -> Result<bool, Fail> {
         wire,
     };
     let mut wire = wire_of(alloc, &case)?;
-    let mut pool = pool_of(alloc, &case)?;
-    let _told = steps(alloc, &mut pool, &mut wire, 10)?;
-    Ok(tells_again(&mut pool, &mut wire, bytes.as_bytes()))
+    keeps_on(alloc, &case, &mut wire, bytes)
 }
 
 #[test]
@@ -389,17 +457,45 @@ fn one_more<W: Dial>(alloc: Global, pool: &mut Pool, wire: &mut W) -> Result<Str
     steps(alloc, pool, wire, 10)
 }
 
+/// What comes of so many steps and a close, and of an ask that is put then.
+fn steps_and_close<W: Dial>(
+    alloc: Global,
+    pool: &mut Pool,
+    wire: &mut W,
+    most: u32,
+) -> Result<String, Fail>
+    requires suits { SuitsWire pool.old (W.state wire.old) }
+{
+    let told = steps(alloc, pool, wire, most)?;
+    if !emptied(pool, wire) {
+        return Err(Fail::new("something is held"));
+    }
+    let later = one_more(alloc, pool, wire)?;
+    Ok(format!(in alloc; "{told}| {later}")?)
+}
+
+/// The same of a pool that holds the asks.
+fn closed_on(alloc: Global, case: &Case, wire: &mut ScriptWire, most: u32) -> Result<String, Fail> {
+    let mut pool = pool_of(alloc, case)?;
+    steps_and_close(alloc, &mut pool, wire, most)
+}
+
+/// The same, and the paths that were asked for on each link.
+fn closed_told(
+    alloc: Global,
+    case: &Case,
+    wire: &mut ScriptWire,
+    most: u32,
+) -> Result<String, Fail> {
+    let mut told = closed_on(alloc, case, wire, most)?;
+    add_requests(wire, &mut told)?;
+    Ok(told)
+}
+
 /// What comes of a case after so many steps and a close, and of an ask that is put then.
 fn closed(alloc: Global, case: &Case, most: u32) -> Result<String, Fail> {
     let mut wire = wire_of(alloc, case)?;
-    let mut pool = pool_of(alloc, case)?;
-    let told = steps(alloc, &mut pool, &mut wire, most)?;
-    if !emptied(&mut pool, &mut wire) {
-        return Err(Fail::new("something is held"));
-    }
-    let later = one_more(alloc, &mut pool, &mut wire)?;
-    let requests = requests(alloc, &wire)?;
-    Ok(format!(in alloc; "{told}| {later}{requests}")?)
+    closed_told(alloc, case, &mut wire, most)
 }
 
 /// After how many steps of four asks over two links the pool is closed, the wire, and what comes of
@@ -425,7 +521,7 @@ fn a_pool_can_be_closed_at_every_state(rt: HostRuntime) -> Result<(), Fail> {
             failing: "",
             wire,
         };
-        assert_eq!(rt; closed(rt.alloc(), &case, most)?.as_str(), wanted);
+        same(closed(rt.alloc(), &case, most)?, wanted, most as usize)?;
     }
     Ok(())
 }

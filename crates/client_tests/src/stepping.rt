@@ -31,6 +31,14 @@ pub fn put_all(alloc: Global, pool: &mut Pool, hosts: &[u8]) -> Result<(), Fail>
     Ok(())
 }
 
+/// Fails where a text is not the one that is wanted in the case with this number.
+pub fn same(text: String, wanted: &str, case: usize) -> Result<(), Fail> {
+    if text.as_str() != wanted {
+        return Err(Fail::new(format_args!("{case}: wanted {wanted:?}, got {text:?}")));
+    }
+    Ok(())
+}
+
 /// The name of a fault of a pool.
 fn fault_name(fault: &PoolFault) -> &'static str {
     match fault {

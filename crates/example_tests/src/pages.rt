@@ -40,10 +40,17 @@ fn free() -> Slots
     }
 }
 
+fn config(alloc: Global) -> Result<Config, Fail> {
+    let base = WebAddress::read(alloc, "http://localhost/data")?;
+    match Config::new(base, 100) {
+        Some(config) => Ok(config),
+        None => Err(Fail::new("no configuration")),
+    }
+}
+
 #[test]
 fn lines_made_one_by_one_have_2258_bytes(rt: HostRuntime) -> Result<(), Fail> {
-    let base = WebAddress::read(rt.alloc(), "http://localhost/data")?;
-    let config = Config::new(base, 100).ok_or("a configuration")?;
+    let config = config(rt.alloc())?;
     let lines = MetadataLines::new(rt.alloc(), &config, &free(), 1, 0, 1)?;
     let mut text = Vec::new(rt.alloc());
     for i in 0..lines.count() {

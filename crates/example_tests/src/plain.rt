@@ -121,9 +121,7 @@ fn pages_of_every_kind_are_fragments_found_the_plain_way(rt: HostRuntime) -> Res
         (("http://e/zz", "-", "-"), 0),
     ];
     for (texts, count) in table {
-        let (is_same, length) = compared(rt.alloc(), texts)?;
-        assert!(rt; is_same);
-        assert_eq!(rt; length, count);
+        assert_eq!(rt; compared(rt.alloc(), texts)?, (true, count));
     }
     Ok(())
 }

@@ -32,13 +32,12 @@ fn host() -> &'static str
 
 /// A server without a triple.
 fn server_of(alloc: Global) -> Result<Server, Fail> {
-    let quads = Vec::new(alloc);
-    let table = Table::build(alloc, quads.as_slice(), &Choice::Union, host(), 100)?;
     let base = WebAddress::read(alloc, "http://localhost/data")?;
-    match Config::new(base, 100) {
-        Some(config) => Ok(Server::new(alloc, table, config)?),
-        None => Err(Fail::new("no configuration")),
-    }
+    let Some(config) = Config::new(base, 100) else {
+        return Err(Fail::new("no configuration"));
+    };
+    let table = Table::build(alloc, &[], &Choice::Union, host(), 100)?;
+    Ok(Server::new(alloc, table, config)?)
 }
 
 /// Whether a text stands at the front of the response.

@@ -1,7 +1,8 @@
 // `text_base`, `rdf_terms`, `nquads_text` and `quad_feed`.
 use nquads_text::{read_all, write_quad};
 use quad_feed::QuadFeed;
-use rdf_terms::{Term, TermFault};
+use rdf_terms::{Quad, Term, TermFault};
+use std::alloc::Global;
 use std::test::Fail;
 use text_base::Text;
 
@@ -37,16 +38,21 @@ fn a_statement_is_read_and_written(rt: HostRuntime) -> Result<(), Fail> {
     Ok(())
 }
 
-#[test]
-fn a_text_is_read_from_its_pieces(rt: HostRuntime) -> Result<(), Fail> {
-    let alloc = rt.alloc();
-    let text = "<http://e/s> <http://e/p> <http://e/o> .\n_:a <http://e/p> _:b .";
+/// The statements of a text that comes in pieces.
+fn fed(alloc: Global, text: &str) -> Result<Vec<Quad>, Fail> {
     let mut feed = QuadFeed::new(alloc, LONGEST);
     for piece in text.as_bytes().chunks(7) {
         feed.feed(piece)?;
     }
     let quads = feed.finish()?;
-    assert!(rt; quads == read_all(alloc, text.as_bytes(), LONGEST)?);
+    Ok(quads)
+}
+
+#[test]
+fn a_text_is_read_from_its_pieces(rt: HostRuntime) -> Result<(), Fail> {
+    let text = "<http://e/s> <http://e/p> <http://e/o> .\n_:a <http://e/p> _:b .";
+    let quads = fed(rt.alloc(), text)?;
+    assert!(rt; quads == read_all(rt.alloc(), text.as_bytes(), LONGEST)?);
     Ok(())
 }
 

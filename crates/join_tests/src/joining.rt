@@ -1,9 +1,7 @@
 // Joins that were worked out by hand.
-ghost use Rattle.std.specs.Prelude.{◌≤◌};
+ghost use Rattle.std.specs.Prelude.{◌≡◌, ◌≤◌};
 
-use crate::pages::page_at;
-use crate::run::{NEWEST, OLDEST, ask_all, finished, sorted, started};
-use join_core::Answered;
+use crate::run::{NEWEST, OLDEST, Order, Seen, Setting, Way, finished, outs, same, sorted};
 use std::alloc::Global;
 use std::test::Fail;
 
@@ -97,16 +95,32 @@ static WORKED: [Worked; 8] = [
     },
 ];
 
+/// Fails where the join did not ask for so many pages, or found other rows.
+fn check_seen(alloc: Global, worked: &Worked, seen: &mut Seen) -> Result<(), Fail> {
+    let asks = seen.asked.len();
+    if asks != worked.asks {
+        return Err(Fail::new(format_args!("{asks} asks: {}", worked.query)));
+    }
+    same(sorted(alloc, &mut seen.rows)?, worked.rows)
+}
+
+fn check(alloc: Global, worked: &Worked, order: Order) -> Result<(), Fail> {
+    let setting = Setting {
+        data: worked.data,
+        page_size: worked.page_size,
+        query: worked.query,
+        window: 4,
+        order,
+    };
+    let mut seen = finished(alloc, &setting)?;
+    check_seen(alloc, worked, &mut seen)
+}
+
 #[test]
 fn worked_examples(rt: HostRuntime) -> Result<(), Fail> {
-    let alloc = rt.alloc();
     for worked in &WORKED {
-        for order in [OLDEST, NEWEST] {
-            let mut run = finished(alloc, worked.data, worked.page_size, worked.query, 4, order)?;
-            assert_eq!(rt; run.asked.len(), worked.asks, "{}", worked.query);
-            let rows = sorted(alloc, &mut run.rows)?;
-            assert_eq!(rt; rows.as_str(), worked.rows, "{}", worked.query);
-        }
+        check(rt.alloc(), worked, OLDEST)?;
+        check(rt.alloc(), worked, NEWEST)?;
     }
     Ok(())
 }
@@ -118,27 +132,58 @@ const FOUR_QUERY: &str =
 const FOUR_ROWS: &str =
     "<http://e/a> <http://e/c> \"C\" <http://e/c> \"C\" \n<http://e/b> <http://e/c> \"C\" <http://e/c> \"C\" \n";
 
+/// The four patterns, whose asks are answered in this order.
+fn four(order: Order) -> Setting<'static>
+    ensures { result.window ≡ 4 }
+{
+    Setting {
+        data: KNOWS,
+        page_size: 100,
+        query: FOUR_QUERY,
+        window: 4,
+        order,
+    }
+}
+
 #[test]
 fn four_asks_are_out_at_once(rt: HostRuntime) -> Result<(), Fail> {
-    let alloc = rt.alloc();
-    let mut run = started(alloc, KNOWS, 100, FOUR_QUERY, 4, OLDEST)?;
-    ask_all(alloc, &mut run, 100)?;
-    assert_eq!(rt; run.held.len(), 4);
+    assert_eq!(rt; outs(rt.alloc(), &four(OLDEST), Way::Asks)?, 4);
     Ok(())
+}
+
+/// The rows of the four patterns, where their asks are answered in this order.
+fn rows_in_order(alloc: Global, order: Order) -> Result<String, Fail> {
+    let mut seen = finished(alloc, &four(order))?;
+    sorted(alloc, &mut seen.rows)
 }
 
 #[test]
 fn answers_in_every_order_of_four_give_the_same_rows(rt: HostRuntime) -> Result<(), Fail> {
-    let alloc = rt.alloc();
-    for first in 0..4usize {
-        for second in 0..3usize {
-            for third in 0..2usize {
-                let order = [first, second, third, 0];
-                let mut run = finished(alloc, KNOWS, 100, FOUR_QUERY, 4, order)?;
-                let rows = sorted(alloc, &mut run.rows)?;
-                assert_eq!(rt; rows.as_str(), FOUR_ROWS, "{first} {second} {third}");
-            }
-        }
+    for number in 0..24usize {
+        let order = [number / 6, number / 2 % 3, number % 2, 0];
+        same(rows_in_order(rt.alloc(), order)?, FOUR_ROWS)?;
+    }
+    Ok(())
+}
+
+/// Adds a chain of three triples from one subject.
+fn add_chain(alloc: Global, number: u32, text: &mut String) -> Result<(), Fail> {
+    let number = number.to_string(alloc)?;
+    let n = number.as_str();
+    for part in [
+        "<http://e/a> <http://e/p> <http://e/b",
+        n,
+        "> .\n<http://e/b",
+        n,
+        "> <http://e/q> <http://e/c",
+        n,
+        "> .\n<http://e/c",
+        n,
+        "> <http://e/r> <http://e/d",
+        n,
+        "> .\n",
+    ] {
+        text.push_str(part)?;
     }
     Ok(())
 }
@@ -146,13 +191,8 @@ fn answers_in_every_order_of_four_give_the_same_rows(rt: HostRuntime) -> Result<
 /// Chains of three triples from one subject.
 fn chains(alloc: Global, count: u32) -> Result<String, Fail> {
     let mut text = String::new(alloc);
-    for i in 0..count {
-        let number = (u64::from(i) + 1).to_string(alloc)?;
-        let n = number.as_str();
-        let lines = format!(in alloc;
-            "<http://e/a> <http://e/p> <http://e/b{n}> .\n<http://e/b{n}> <http://e/q> <http://e/c{n}> .\n<http://e/c{n}> <http://e/r> <http://e/d{n}> .\n"
-        )?;
-        text.push_str(lines.as_str())?;
+    for number in 0..count {
+        add_chain(alloc, number.saturating_add(1), &mut text)?;
     }
     Ok(text)
 }
@@ -170,78 +210,80 @@ fn first_with(asked: &[String], text: &str) -> usize {
 const CHAIN_QUERY: &str =
     "SELECT * WHERE { <http://e/a> <http://e/p> ?x . ?x <http://e/q> ?y . ?y <http://e/r> ?z }";
 
-/// Asks, rows and the most open nodes of twenty chains in pages of five, and whether `c10` was asked
-/// for before `b11`.
+/// Asks, rows and the most open nodes of a join, and whether `c10` was asked for before `b11`.
+fn counts(seen: &Seen) -> (usize, usize, usize, bool) {
+    let deep = first_with(seen.asked.as_slice(), "%2Fc10&");
+    let shallow = first_with(seen.asked.as_slice(), "%2Fb11&");
+    (
+        seen.asked.len(),
+        seen.rows.len(),
+        seen.most_open,
+        deep < shallow,
+    )
+}
+
+/// The same of chains in pages of five.
+fn counts_of(alloc: Global, chains: &str, window: u32) -> Result<(usize, usize, usize, bool), Fail>
+    requires { 1 ≤ window }
+{
+    let setting = Setting {
+        data: chains,
+        page_size: 5,
+        query: CHAIN_QUERY,
+        window,
+        order: OLDEST,
+    };
+    let seen = finished(alloc, &setting)?;
+    Ok(counts(&seen))
+}
+
+/// The same of twenty chains.
 fn twenty(alloc: Global, window: u32) -> Result<(usize, usize, usize, bool), Fail>
     requires { 1 ≤ window }
 {
-    let data = chains(alloc, 20)?;
-    let run = finished(alloc, data.as_str(), 5, CHAIN_QUERY, window, OLDEST)?;
-    let deep = first_with(run.asked.as_slice(), "%2Fc10&");
-    let shallow = first_with(run.asked.as_slice(), "%2Fb11&");
-    Ok((
-        run.asked.len(),
-        run.rows.len(),
-        run.most_open,
-        deep < shallow,
-    ))
+    let chains = chains(alloc, 20)?;
+    counts_of(alloc, chains.as_str(), window)
 }
 
 // Three first pages, three further ones, two for each `b` and one for each `c`.
 #[test]
 fn the_deepest_node_is_started_first(rt: HostRuntime) -> Result<(), Fail> {
-    let alloc = rt.alloc();
-    let (asks, rows, most, deep_first) = twenty(alloc, 1)?;
-    assert_eq!(rt; (asks, rows), (66, 20));
-    assert!(rt; most <= 11);
-    assert!(rt; deep_first);
+    let (asks, rows, most, deep_first) = twenty(rt.alloc(), 1)?;
+    assert!(rt; asks == 66 && rows == 20 && most <= 11 && deep_first);
     Ok(())
 }
 
 #[test]
 fn a_window_of_two_starts_two_nodes(rt: HostRuntime) -> Result<(), Fail> {
-    let alloc = rt.alloc();
-    let (asks, rows, _most, deep_first) = twenty(alloc, 2)?;
-    assert_eq!(rt; (asks, rows), (66, 20));
-    assert!(rt; !deep_first);
+    let (asks, rows, _most, deep_first) = twenty(rt.alloc(), 2)?;
+    assert!(rt; asks == 66 && rows == 20 && !deep_first);
     Ok(())
 }
 
-/// Whether a join is done with one row, once its one ask was answered with its page.
-fn ended_by_a_row(alloc: Global) -> Result<bool, Fail> {
-    let query = "SELECT * WHERE { ?x <http://e/n> ?y }";
-    let mut run = started(alloc, KNOWS, 100, query, 1, OLDEST)?;
-    let Some(ask) = run.join.next_ask(alloc)? else {
-        return Err(Fail::new("no ask"));
-    };
-    let page = page_at(alloc, &run.server, &ask.address)?;
-    let answered = run.join.answer(alloc, ask.ticket, page)?;
-    let row = run.join.take_row();
-    Ok(answered == Answered::Taken && row.is_some() && run.join.is_done())
+/// A query of one pattern.
+fn one_pattern(data: &'static str, query: &'static str) -> Setting<'static>
+    ensures { result.window ≡ 1 }
+{
+    Setting {
+        data,
+        page_size: 100,
+        query,
+        window: 1,
+        order: OLDEST,
+    }
 }
 
 #[test]
 fn one_page_of_one_triple_gives_one_row(rt: HostRuntime) -> Result<(), Fail> {
-    assert!(rt; ended_by_a_row(rt.alloc())?);
+    let setting = one_pattern(KNOWS, "SELECT * WHERE { ?x <http://e/n> ?y }");
+    assert_eq!(rt; outs(rt.alloc(), &setting, Way::Row)?, 0);
     Ok(())
-}
-
-/// Whether a join is done without a row, once its one ask was answered with a page that has a triple
-/// but says that there is none.
-fn ended_by_count(alloc: Global) -> Result<bool, Fail> {
-    let data = "<http://e/a> <http://e/p> <http://e/b> .\n";
-    let mut run = started(alloc, data, 100, "SELECT * WHERE { ?s ?p ?o }", 1, OLDEST)?;
-    let Some(ask) = run.join.next_ask(alloc)? else {
-        return Err(Fail::new("no ask"));
-    };
-    let mut page = page_at(alloc, &run.server, &ask.address)?;
-    page.count = 0;
-    let answered = run.join.answer(alloc, ask.ticket, page)?;
-    Ok(answered == Answered::Taken && run.join.is_done())
 }
 
 #[test]
 fn a_count_of_0_ends_the_node(rt: HostRuntime) -> Result<(), Fail> {
-    assert!(rt; ended_by_count(rt.alloc())?);
+    let data = "<http://e/a> <http://e/p> <http://e/b> .\n";
+    let setting = one_pattern(data, "SELECT * WHERE { ?s ?p ?o }");
+    assert_eq!(rt; outs(rt.alloc(), &setting, Way::NoCount)?, 0);
     Ok(())
 }

@@ -34,45 +34,93 @@ pub fn quads_of(alloc: Global, text: &str) -> Result<Vec<Quad>, Fail>
     }
 }
 
-pub fn server_of(alloc: Global, text: &str, page_size: u64) -> Result<Server, Fail> {
+fn table_of(alloc: Global, text: &str) -> Result<Table, Fail> {
     let quads = quads_of(alloc, text)?;
-    let table = Table::build(alloc, quads.as_slice(), &Choice::Union, host(), 100000)?;
+    match Table::build(alloc, quads.as_slice(), &Choice::Union, host(), 100000) {
+        Ok(table) => Ok(table),
+        Err(_) => Err(Fail::new("no table")),
+    }
+}
+
+fn config_of(alloc: Global, page_size: u64) -> Result<Config, Fail> {
     let base = WebAddress::read(alloc, BASE)?;
     match Config::new(base, page_size) {
-        Some(config) => Ok(Server::new(alloc, table, config)?),
+        Some(config) => Ok(config),
         None => Err(Fail::new("no configuration")),
     }
 }
 
-/// All bytes that are pending, taken a piece at a time.
-fn drained(
+pub fn server_of(alloc: Global, text: &str, page_size: u64) -> Result<Server, Fail> {
+    let config = config_of(alloc, page_size)?;
+    let table = table_of(alloc, text)?;
+    Ok(Server::new(alloc, table, config)?)
+}
+
+/// Adds the bytes that are pending, and takes them.
+fn drain(
     connection: &mut Connection,
     server: &Server,
     out: &mut Vec<u8>,
 ) -> Result<(), OutOfMemory> {
+    connection.fill(server)?;
+    let n = connection.pending().len();
+    out.extend_from_slice(connection.pending())?;
+    connection.take(n);
+    Ok(())
+}
+
+/// Feeds a request, and takes all bytes of the answer, a piece at a time.
+fn converse(
+    connection: &mut Connection,
+    server: &Server,
+    request: &[u8],
+    out: &mut Vec<u8>,
+) -> Result<(), OutOfMemory> {
+    connection.feed(server, request)?;
     for _ in 0..20 {
-        connection.fill(server)?;
-        let n = connection.pending().len();
-        out.extend_from_slice(connection.pending())?;
-        connection.take(n);
+        drain(connection, server, out)?;
     }
     Ok(())
 }
 
-/// The body that the server gives for an address.
-fn body_at(alloc: Global, server: &Server, address: &WebAddress) -> Result<Bytes, Fail> {
+/// All bytes of the answer to a request.
+fn answer_to(
+    alloc: Global,
+    server: &Server,
+    request: &[u8],
+    out: &mut Vec<u8>,
+) -> Result<(), OutOfMemory> {
+    let mut connection = Connection::new(alloc);
+    converse(&mut connection, server, request, out)
+}
+
+/// What the server answers for an address.
+fn response_at(
+    alloc: Global,
+    server: &Server,
+    address: &WebAddress,
+    out: &mut Vec<u8>,
+) -> Result<(), OutOfMemory> {
     let mut request = Vec::new(alloc);
     write_request(address.authority(), address.target(), &mut request)?;
-    let mut connection = Connection::new(alloc);
-    connection.feed(server, request.as_slice())?;
-    let mut response = Vec::new(alloc);
-    drained(&mut connection, server, &mut response)?;
+    answer_to(alloc, server, request.as_slice(), out)
+}
+
+/// The body of a response.
+fn body_of(alloc: Global, response: &[u8]) -> Result<Bytes, Fail> {
     let mut feed = ReplyFeed::new(alloc, 1000000);
-    let _fed = feed.feed(response.as_slice())?;
+    let _fed = feed.feed(response)?;
     match feed.take() {
         Some(reply) => Ok(reply.body),
         None => Err(Fail::new("no reply")),
     }
+}
+
+/// The body that the server gives for an address.
+fn body_at(alloc: Global, server: &Server, address: &WebAddress) -> Result<Bytes, Fail> {
+    let mut response = Vec::new(alloc);
+    response_at(alloc, server, address, &mut response)?;
+    body_of(alloc, response.as_slice())
 }
 
 pub fn page_at(alloc: Global, server: &Server, address: &WebAddress) -> Result<Page, Fail> {

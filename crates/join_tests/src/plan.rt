@@ -100,26 +100,30 @@ fn extended(pattern: &Pattern, binding: &Binding, fact: &Fact) -> Option<Binding
     extended_place(pattern[2], &second, fact[2])
 }
 
+/// Adds a parameter behind a mark, where there is a term, and says which mark stands before the next.
+fn add_term(text: &mut String, mark: char, name: &str, term: Option<usize>) -> Result<char, Fail> {
+    let Some(term) = term else {
+        return Ok(mark);
+    };
+    text.push(mark)?;
+    text.push_str(name)?;
+    text.push_str(TERMS.get(term).map_or("", |texts| texts.1))?;
+    Ok('&')
+}
+
+/// Adds the parameters of three terms.
+fn add_terms(text: &mut String, fixed: &Fixed) -> Result<char, Fail> {
+    let mark = add_term(text, '?', "subject=", fixed[0])?;
+    let mark = add_term(text, mark, "predicate=", fixed[1])?;
+    add_term(text, mark, "object=", fixed[2])
+}
+
 /// The address of a page.
 fn address(alloc: Global, fixed: &Fixed, page: usize) -> Result<String, Fail> {
     let mut text = String::from_str(alloc, "http://localhost/data")?;
-    let mut mark = '?';
-    for (name, term) in [
-        ("subject=", fixed[0]),
-        ("predicate=", fixed[1]),
-        ("object=", fixed[2]),
-    ] {
-        if let Some(term) = term {
-            text.push(mark)?;
-            text.push_str(name)?;
-            text.push_str(TERMS.get(term).map_or("", |texts| texts.1))?;
-            mark = '&';
-        }
-    }
+    let mark = add_terms(&mut text, fixed)?;
     if page > 1 {
-        text.push(mark)?;
-        let number = format!(in alloc; "page={page}")?;
-        text.push_str(number.as_str())?;
+        return Ok(format!(in alloc; "{text}{mark}page={page}")?);
     }
     Ok(text)
 }
@@ -158,6 +162,38 @@ fn without(alloc: Global, rest: &[Pattern], place: usize) -> Result<Vec<Pattern>
     Ok(others)
 }
 
+/// Whether a triple may be each of the patterns.
+fn are_askable(binding: &Binding, rest: &[Pattern]) -> bool {
+    rest.iter()
+        .all(|pattern| is_askable(&fixed(pattern, binding)))
+}
+
+/// Notes the first pages of patterns.
+fn note_first(
+    alloc: Global,
+    binding: &Binding,
+    rest: &[Pattern],
+    asked: &mut Vec<String>,
+) -> Result<(), Fail> {
+    for pattern in rest {
+        asked.push(address(alloc, &fixed(pattern, binding), 1)?)?;
+    }
+    Ok(())
+}
+
+/// Notes the further pages of a pattern.
+fn note_further(
+    alloc: Global,
+    data: &Data,
+    fixed: &Fixed,
+    asked: &mut Vec<String>,
+) -> Result<(), Fail> {
+    for page in 0..further_pages(count(data, fixed), data.page_size) {
+        asked.push(address(alloc, fixed, page.saturating_add(2))?)?;
+    }
+    Ok(())
+}
+
 /// Notes the addresses that are asked for under a binding, for at most so many patterns.
 pub fn note_plan(
     alloc: Global,
@@ -167,27 +203,17 @@ pub fn note_plan(
     most: u32,
     asked: &mut Vec<String>,
 ) -> Result<(), Fail> {
-    if rest.is_empty() || most == 0 {
+    if most == 0 || !are_askable(binding, rest) {
         return Ok(());
-    }
-    for pattern in rest {
-        if !is_askable(&fixed(pattern, binding)) {
-            return Ok(());
-        }
-    }
-    for pattern in rest {
-        asked.push(address(alloc, &fixed(pattern, binding), 1)?)?;
     }
     let place = least(data, binding, rest);
     let Some(best) = rest.get(place) else {
         return Ok(());
     };
-    let fixed = fixed(best, binding);
-    for page in 0..further_pages(count(data, &fixed), data.page_size) {
-        asked.push(address(alloc, &fixed, page.saturating_add(2))?)?;
-    }
+    note_first(alloc, binding, rest, asked)?;
+    note_further(alloc, data, &fixed(best, binding), asked)?;
     let others = without(alloc, rest, place)?;
-    for fact in data.facts.iter() {
+    for fact in &data.facts {
         if let Some(next) = extended(best, binding, fact) {
             note_plan(alloc, data, &next, others.as_slice(), most - 1, asked)?;
         }

@@ -2,11 +2,12 @@
 ghost use Rattle.std.specs.Prelude.{◌≤◌, ◌<◌};
 
 use crate::pages::{quads_of, query_of};
-use crate::plan::{Data, Pattern, Place, note_plan, text_of};
-use crate::run::{finished, line, sorted};
-use bgp_core::solutions;
+use crate::plan::{Data, Fact, Pattern, Place, note_plan, text_of};
+use crate::run::{Order, Seen, Setting, finished, line, same, sorted};
+use bgp_core::{Row, solutions};
 use rand_core::utils::NextWord;
 use rand_pcg::Pcg32;
+use rdf_terms::Triple;
 use std::alloc::Global;
 use std::test::Fail;
 
@@ -19,18 +20,14 @@ fn below(generator: &mut Pcg32, most: u32) -> usize
 }
 
 /// Each triple of four terms that there can be, about every second time.
-fn random_data(alloc: Global, generator: &mut Pcg32, page_size: usize) -> Result<Data, Fail> {
+fn random_facts(alloc: Global, generator: &mut Pcg32) -> Result<Vec<Fact>, Fail> {
     let mut facts = Vec::new(alloc);
-    for subject in 0..3usize {
-        for predicate in 1..3usize {
-            for object in 0..4usize {
-                if below(generator, 2) == 0 {
-                    facts.push([subject, predicate, object])?;
-                }
-            }
+    for number in 0..24usize {
+        if below(generator, 2) == 0 {
+            facts.push([number / 8, 1 + number / 4 % 2, number % 4])?;
         }
     }
-    Ok(Data { facts, page_size })
+    Ok(facts)
 }
 
 /// One of three variables, or one of `most` terms from this one on.
@@ -44,65 +41,95 @@ fn random_place(generator: &mut Pcg32, first: usize, most: u32) -> Place
     }
 }
 
+fn random_pattern(generator: &mut Pcg32) -> Pattern {
+    [
+        random_place(generator, 0, 3),
+        random_place(generator, 1, 2),
+        random_place(generator, 0, 4),
+    ]
+}
+
 /// One to four patterns.
 fn random_patterns(alloc: Global, generator: &mut Pcg32) -> Result<Vec<Pattern>, Fail> {
     let mut patterns = Vec::new(alloc);
     for _ in 0..below(generator, 4) + 1 {
-        patterns.push([
-            random_place(generator, 0, 3),
-            random_place(generator, 1, 2),
-            random_place(generator, 0, 4),
-        ])?;
+        patterns.push(random_pattern(generator))?;
     }
     Ok(patterns)
 }
 
+fn add_fact(fact: &Fact, text: &mut String) -> Result<(), Fail> {
+    for term in fact {
+        text.push_str(text_of(*term))?;
+        text.push(' ')?;
+    }
+    text.push_str(".\n")?;
+    Ok(())
+}
+
 fn text_of_data(alloc: Global, data: &Data) -> Result<String, Fail> {
     let mut text = String::new(alloc);
-    for fact in data.facts.iter() {
-        for term in fact.iter() {
-            text.push_str(text_of(*term))?;
-            text.push(' ')?;
-        }
-        text.push_str(".\n")?;
+    for fact in &data.facts {
+        add_fact(fact, &mut text)?;
     }
     Ok(text)
 }
 
-const VARIABLES: [&str; 3] = ["?x ", "?y ", "?z "];
+const VARIABLES: [&str; 3] = ["?x", "?y", "?z"];
+
+/// The text of a place of a pattern.
+fn place_text(place: Place) -> &'static str {
+    match place {
+        Place::Term(term) => text_of(term),
+        Place::Variable(variable) => VARIABLES.get(variable).copied().unwrap_or(""),
+    }
+}
+
+fn add_pattern(pattern: &Pattern, text: &mut String) -> Result<(), Fail> {
+    for place in pattern {
+        text.push_str(place_text(*place))?;
+        text.push(' ')?;
+    }
+    text.push_str(". ")?;
+    Ok(())
+}
 
 fn text_of_query(alloc: Global, patterns: &[Pattern]) -> Result<String, Fail> {
     let mut text = String::from_str(alloc, "SELECT * WHERE { ")?;
     for pattern in patterns {
-        for place in pattern.iter() {
-            match place {
-                Place::Term(term) => {
-                    text.push_str(text_of(*term))?;
-                    text.push(' ')?;
-                }
-                Place::Variable(variable) => {
-                    text.push_str(VARIABLES.get(*variable).copied().unwrap_or(""))?;
-                }
-            }
-        }
-        text.push_str(". ")?;
+        add_pattern(pattern, &mut text)?;
     }
     text.push('}')?;
     Ok(text)
 }
 
-/// The lines of the solutions of a query over data, sorted.
-fn solved(alloc: Global, data: &str, query: &str) -> Result<String, Fail> {
+fn triples_of(alloc: Global, data: &str) -> Result<Vec<Triple>, Fail> {
+    let quads = quads_of(alloc, data)?;
     let mut triples = Vec::new(alloc);
-    for quad in quads_of(alloc, data)?.iter() {
+    for quad in &quads {
         triples.push(quad.triple.copy(alloc)?)?;
     }
+    Ok(triples)
+}
+
+fn rows_of(alloc: Global, data: &str, query: &str) -> Result<Vec<Row>, Fail> {
+    let triples = triples_of(alloc, data)?;
     let query = query_of(alloc, query)?;
-    let rows = solutions(alloc, triples.as_slice(), &query)?;
+    Ok(solutions(alloc, triples.as_slice(), &query)?)
+}
+
+fn lines_of(alloc: Global, rows: &[Row]) -> Result<Vec<String>, Fail> {
     let mut lines = Vec::new(alloc);
-    for row in &rows {
+    for row in rows {
         lines.push(line(alloc, row)?)?;
     }
+    Ok(lines)
+}
+
+/// The lines of the solutions of a query over data, sorted.
+fn solved(alloc: Global, data: &str, query: &str) -> Result<String, Fail> {
+    let rows = rows_of(alloc, data, query)?;
+    let mut lines = lines_of(alloc, rows.as_slice())?;
     sorted(alloc, &mut lines)
 }
 
@@ -113,39 +140,95 @@ fn planned(alloc: Global, data: &Data, patterns: &[Pattern]) -> Result<String, F
     sorted(alloc, &mut asked)
 }
 
+/// A query over data, drawn at random, with both as text, and the order in which its asks are answered.
+#[derive(Drop)]
+struct Drawn {
+    data: Data,
+    patterns: Vec<Pattern>,
+    text: String,
+    query: String,
+    order: Order,
+}
+
+fn random_order(generator: &mut Pcg32) -> Order {
+    [
+        below(generator, 4),
+        below(generator, 4),
+        below(generator, 4),
+        below(generator, 4),
+    ]
+}
+
+fn with_texts(
+    alloc: Global,
+    data: Data,
+    patterns: Vec<Pattern>,
+    order: Order,
+) -> Result<Drawn, Fail> {
+    let text = text_of_data(alloc, &data)?;
+    let query = text_of_query(alloc, patterns.as_slice())?;
+    Ok(Drawn {
+        data,
+        patterns,
+        text,
+        query,
+        order,
+    })
+}
+
+fn draw(alloc: Global, seed: u64) -> Result<Drawn, Fail> {
+    let mut generator = Pcg32::new(seed, 1);
+    let size = below(&mut generator, 4) + 1;
+    let facts = random_facts(alloc, &mut generator)?;
+    let patterns = random_patterns(alloc, &mut generator)?;
+    let order = random_order(&mut generator);
+    let data = Data {
+        facts,
+        page_size: size,
+    };
+    with_texts(alloc, data, patterns, order)
+}
+
+/// Fails where the join found other rows than the solutions.
+fn has_solutions(alloc: Global, drawn: &Drawn, seen: &mut Seen) -> Result<(), Fail> {
+    let wanted = solved(alloc, drawn.text.as_str(), drawn.query.as_str())?;
+    same(sorted(alloc, &mut seen.rows)?, wanted.as_str())
+}
+
+/// Fails where the join asked for other pages than those that are to be asked for.
+fn asked_the_plan(alloc: Global, drawn: &Drawn, seen: &mut Seen) -> Result<(), Fail> {
+    let wanted = planned(alloc, &drawn.data, drawn.patterns.as_slice())?;
+    same(sorted(alloc, &mut seen.asked)?, wanted.as_str())
+}
+
+fn check(alloc: Global, drawn: &Drawn, window: u32) -> Result<(), Fail>
+    requires { 1 ≤ window }
+{
+    let setting = Setting {
+        data: drawn.text.as_str(),
+        page_size: drawn.data.page_size as u64,
+        query: drawn.query.as_str(),
+        window,
+        order: drawn.order,
+    };
+    let mut seen = finished(alloc, &setting)?;
+    has_solutions(alloc, drawn, &mut seen)?;
+    asked_the_plan(alloc, drawn, &mut seen)
+}
+
+fn check_drawn(alloc: Global, seed: u64) -> Result<(), Fail> {
+    let drawn = draw(alloc, seed)?;
+    for window in 1..4u32 {
+        check(alloc, &drawn, window)?;
+    }
+    Ok(())
+}
+
 // Whatever the order in which the pages come, and however many nodes work at once.
 #[test]
 fn random_joins_are_the_solutions_and_ask_the_plan(rt: HostRuntime) -> Result<(), Fail> {
-    let alloc = rt.alloc();
     for seed in 0..60u64 {
-        let mut generator = Pcg32::new(seed, 1);
-        let size = below(&mut generator, 4) + 1;
-        let data = random_data(alloc, &mut generator, size)?;
-        let patterns = random_patterns(alloc, &mut generator)?;
-        let text = text_of_data(alloc, &data)?;
-        let query = text_of_query(alloc, patterns.as_slice())?;
-        let order = [
-            below(&mut generator, 4),
-            below(&mut generator, 4),
-            below(&mut generator, 4),
-            below(&mut generator, 4),
-        ];
-        for window in 1..4u32 {
-            let mut run = finished(
-                alloc,
-                text.as_str(),
-                size as u64,
-                query.as_str(),
-                window,
-                order,
-            )?;
-            let rows = sorted(alloc, &mut run.rows)?;
-            let asked = sorted(alloc, &mut run.asked)?;
-            let wanted = solved(alloc, text.as_str(), query.as_str())?;
-            assert_eq!(rt; rows.as_str(), wanted.as_str(), "{seed} {window}");
-            let plan = planned(alloc, &data, patterns.as_slice())?;
-            assert_eq!(rt; asked.as_str(), plan.as_str(), "{seed} {window}");
-        }
+        check_drawn(rt.alloc(), seed)?;
     }
     Ok(())
 }

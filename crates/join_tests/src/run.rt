@@ -7,7 +7,7 @@ use join_core::{Answered, Ask, Join};
 use nquads_text::canonical;
 use std::alloc::Global;
 use std::test::Fail;
-use template_fill::WebAddress;
+use template_fill::{Form, WebAddress};
 use tpf_server::Server;
 
 /// In which order asks are answered. The numbers are places among the asks that are out, the oldest of
@@ -19,90 +19,146 @@ pub const OLDEST: Order = [0; 4];
 
 pub const NEWEST: Order = [1000; 4];
 
-/// A join on its way: the server, the asks that are out, and what was seen so far.
+/// A query over the data of a server, whose pages have so many triples, and how its join goes.
+#[derive(Clone, Copy)]
+pub struct Setting<'a> {
+    pub data: &'a str,
+    pub page_size: u64,
+    pub query: &'a str,
+    pub window: u32,
+    pub order: Order,
+}
+
+/// How far a join goes.
+#[derive(Clone, Copy)]
+pub enum Way {
+    /// To its end.
+    Whole,
+    /// Until all that can be asked for at once was.
+    Asks,
+    /// Over the page of its one ask, which gives its one row.
+    Row,
+    /// Over the page of its one ask, which says that there is no triple, though it has one.
+    NoCount,
+}
+
+/// What was seen of a join: the addresses that were asked for, the lines of the rows that came, and how
+/// many nodes were open at most.
 #[derive(Drop)]
-pub struct Run {
-    pub server: Server,
-    pub join: Join,
-    pub held: Vec<Ask>,
-    order: Order,
-    answered: u32,
-    /// The addresses that were asked for.
+pub struct Seen {
     pub asked: Vec<String>,
-    /// The lines of the rows that came.
     pub rows: Vec<String>,
     pub most_open: usize,
+}
+
+/// A join on its way: the server, the asks that are out, and how many were answered.
+#[derive(Drop)]
+struct Run {
+    server: Server,
+    join: Join,
+    held: Vec<Ask>,
+    order: Order,
+    answered: u32,
+}
+
+/// Adds the term of a name in canonical form, with a space behind it.
+fn add_term(row: &Row, name: u32, bytes: &mut Vec<u8>) -> Result<(), Fail> {
+    match row.term(name) {
+        Some(term) => canonical(term, bytes)?,
+        None => bytes.push(b'-')?,
+    }
+    bytes.push(b' ')?;
+    Ok(())
+}
+
+/// Adds the terms of a row in canonical form, with a space behind each, in the order of the query's names.
+fn add_terms(row: &Row, bytes: &mut Vec<u8>) -> Result<(), Fail> {
+    for name in 0..row.len() {
+        match u32::try_from(name) {
+            Ok(name) => add_term(row, name, bytes)?,
+            Err(_) => return Err(Fail::new("a row that is too long")),
+        }
+    }
+    Ok(())
 }
 
 /// The terms of a row in canonical form, with a space behind each, in the order of the query's names.
 pub fn line(alloc: Global, row: &Row) -> Result<String, Fail> {
     let mut bytes = Vec::new(alloc);
-    for name in 0..row.len() {
-        let Ok(name) = u32::try_from(name) else {
-            return Err(Fail::new("a row that is too long"));
-        };
-        match row.term(name) {
-            Some(term) => canonical(term, &mut bytes)?,
-            None => bytes.push(b'-')?,
-        }
-        bytes.push(b' ')?;
+    add_terms(row, &mut bytes)?;
+    Ok(String::from_str(alloc, str::from_utf8(bytes.as_slice())?)?)
+}
+
+/// Adds lines, with a line feed behind each.
+fn add_lines(lines: &[String], all: &mut String) -> Result<(), Fail> {
+    for line in lines {
+        all.push_str(line.as_str())?;
+        all.push('\n')?;
     }
-    match str::from_utf8(bytes.as_slice()) {
-        Ok(text) => Ok(String::from_str(alloc, text)?),
-        Err(_) => Err(Fail::new("no text")),
-    }
+    Ok(())
 }
 
 /// Lines in ascending order, with a line feed behind each.
 pub fn sorted(alloc: Global, lines: &mut Vec<String>) -> Result<String, Fail> {
     lines.sort()?;
     let mut all = String::new(alloc);
-    for line in lines.iter() {
-        all.push_str(line.as_str())?;
-        all.push('\n')?;
-    }
+    add_lines(lines.as_slice(), &mut all)?;
     Ok(all)
 }
 
+/// Fails where a text is not the one that is wanted.
+pub fn same(text: String, wanted: &str) -> Result<(), Fail> {
+    if text.as_str() != wanted {
+        return Err(Fail::new(format_args!("wanted {wanted:?}, got {text:?}")));
+    }
+    Ok(())
+}
+
 /// Asks for the next page, if there is one now.
-fn ask_next(alloc: Global, run: &mut Run) -> Result<bool, Fail>
+fn ask_next(alloc: Global, run: &mut Run, seen: &mut Seen) -> Result<bool, Fail>
     requires { run.old.join.tickets < 2 ^ 64 - 1 }
     ensures { OnOk result (run.new.join.tickets ≤ run.old.join.tickets + 1) }
 {
     let Some(ask) = run.join.next_ask(alloc)? else {
         return Ok(false);
     };
-    run.asked
+    seen.asked
         .push(String::from_str(alloc, ask.address.text())?)?;
     run.held.push(ask)?;
     Ok(true)
 }
 
 /// Asks all that it can; more than so many pages at once are a fault.
-pub fn ask_all(alloc: Global, run: &mut Run, most: u32) -> Result<(), Fail>
+fn ask_all(alloc: Global, run: &mut Run, most: u32, seen: &mut Seen) -> Result<(), Fail>
     requires { run.old.join.tickets + most < 2 ^ 64 - 1 }
     ensures { OnOk result (run.new.join.tickets ≤ run.old.join.tickets + most) }
 {
     if most == 0 {
         return Err(Fail::new("too many asks at once"));
     }
-    if !ask_next(alloc, run)? {
+    if !ask_next(alloc, run, seen)? {
         return Ok(());
     }
-    ask_all(alloc, run, most - 1)
+    ask_all(alloc, run, most - 1, seen)
 }
 
-/// Answers one ask with its page, twice: the second time its ticket is a stranger's.
-fn answer(alloc: Global, run: &mut Run, ask: Ask) -> Result<(), Fail>
+/// Answers an ask with its page.
+fn answer_once(alloc: Global, run: &mut Run, ask: &Ask) -> Result<Answered, Fail>
     ensures { run.new.join.tickets ≡ run.old.join.tickets }
 {
     let page = page_at(alloc, &run.server, &ask.address)?;
-    let again = page_at(alloc, &run.server, &ask.address)?;
-    if run.join.answer(alloc, ask.ticket, page)? != Answered::Taken {
+    Ok(run.join.answer(alloc, ask.ticket, page)?)
+}
+
+/// Answers an ask with its page, twice: the second time its ticket is a stranger's.
+fn answer(alloc: Global, run: &mut Run, ask: &Ask) -> Result<(), Fail>
+    ensures { run.new.join.tickets ≡ run.old.join.tickets }
+{
+    if answer_once(alloc, run, ask)? != Answered::Taken {
         return Err(Fail::new("not taken"));
     }
     let open = run.join.open_rows();
-    if run.join.answer(alloc, ask.ticket, again)? != Answered::Stranger {
+    if answer_once(alloc, run, ask)? != Answered::Stranger {
         return Err(Fail::new("taken twice"));
     }
     if run.join.open_rows() != open {
@@ -112,17 +168,17 @@ fn answer(alloc: Global, run: &mut Run, ask: Ask) -> Result<(), Fail>
 }
 
 /// Takes the rows that wait, at most so many.
-fn take_rows(alloc: Global, run: &mut Run, most: u32) -> Result<(), Fail>
-    ensures { run.new.join.tickets ≡ run.old.join.tickets }
+fn take_rows(alloc: Global, join: &mut Join, most: u32, rows: &mut Vec<String>) -> Result<(), Fail>
+    ensures { join.new.tickets ≡ join.old.tickets }
 {
     if most == 0 {
         return Ok(());
     }
-    let Some(row) = run.join.take_row() else {
+    let Some(row) = join.take_row() else {
         return Ok(());
     };
-    run.rows.push(line(alloc, &row)?)?;
-    take_rows(alloc, run, most - 1)
+    rows.push(line(alloc, &row)?)?;
+    take_rows(alloc, join, most - 1, rows)
 }
 
 /// Takes out the ask that is answered next.
@@ -134,76 +190,154 @@ fn next_held(held: &mut Vec<Ask>, place: usize) -> Option<Ask> {
     Some(held.remove(place.min(last)))
 }
 
+/// Answers the ask that is next in the order, if one is out.
+fn answer_next(alloc: Global, run: &mut Run) -> Result<(), Fail>
+    ensures { run.new.join.tickets ≡ run.old.join.tickets }
+{
+    let place = run.order[(run.answered % 4) as usize];
+    run.answered = run.answered.wrapping_add(1);
+    match next_held(&mut run.held, place) {
+        Some(ask) => answer(alloc, run, &ask),
+        None => Ok(()),
+    }
+}
+
 /// One turn: it asks all that it can, answers one ask, and takes the rows.
-fn turn(alloc: Global, run: &mut Run) -> Result<(), Fail>
+fn turn(alloc: Global, run: &mut Run, seen: &mut Seen) -> Result<(), Fail>
     requires { run.old.join.tickets + 100 < 2 ^ 64 - 1 }
     ensures { OnOk result (run.new.join.tickets ≤ run.old.join.tickets + 100) }
 {
-    ask_all(alloc, run, 100)?;
-    run.most_open = run.most_open.max(run.join.open_rows());
-    let place = run.order[(run.answered % 4) as usize];
-    run.answered = run.answered.wrapping_add(1);
-    if let Some(ask) = next_held(&mut run.held, place) {
-        answer(alloc, run, ask)?;
-    }
-    take_rows(alloc, run, 1000)
-}
-
-/// A join of a query over a server of some data.
-pub fn started(
-    alloc: Global,
-    data: &str,
-    page_size: u64,
-    query: &str,
-    window: u32,
-    order: Order,
-) -> Result<Run, Fail>
-    requires { 1 ≤ window }
-    ensures { IfOk result (λ run. run.join.tickets ≡ 0) }
-{
-    let server = server_of(alloc, data, page_size)?;
-    let base = WebAddress::read(alloc, BASE)?;
-    let page = page_at(alloc, &server, &base)?;
-    let query = query_of(alloc, query)?;
-    let join = Join::new(alloc, &query, page.form, window)?;
-    Ok(Run {
-        server,
-        join,
-        held: Vec::new(alloc),
-        order,
-        answered: 0,
-        asked: Vec::new(alloc),
-        rows: Vec::new(alloc),
-        most_open: 0,
-    })
+    ask_all(alloc, run, 100, seen)?;
+    seen.most_open = seen.most_open.max(run.join.open_rows());
+    answer_next(alloc, run)?;
+    take_rows(alloc, &mut run.join, 1000, &mut seen.rows)
 }
 
 /// Goes on until the join is done, at most so many turns.
-fn go_on(alloc: Global, run: &mut Run, turns: u32) -> Result<(), Fail>
+fn go_on(alloc: Global, run: &mut Run, turns: u32, seen: &mut Seen) -> Result<(), Fail>
     requires { run.old.join.tickets + 100 * turns < 2 ^ 64 - 1 }
 {
     if turns == 0 {
         return Err(Fail::new("it is not done"));
     }
-    turn(alloc, run)?;
+    turn(alloc, run, seen)?;
     if run.join.is_done() {
         return Ok(());
     }
-    go_on(alloc, run, turns - 1)
+    go_on(alloc, run, turns - 1, seen)
 }
 
-/// Runs a join to its end.
-pub fn finished(
-    alloc: Global,
-    data: &str,
-    page_size: u64,
-    query: &str,
-    window: u32,
-    order: Order,
-) -> Result<Run, Fail>
-    requires { 1 ≤ window }
+/// Fails where the join is not done with one row, once its one ask was answered with its page.
+fn end_by_row(alloc: Global, run: &mut Run) -> Result<(), Fail>
+    requires { run.old.join.tickets < 2 ^ 64 - 1 }
 {
-    let mut run = started(alloc, data, page_size, query, window, order)?;
-    go_on(alloc, &mut run, 5000)?;
-    Ok(run)
+    let Some(ask) = run.join.next_ask(alloc)? else {
+        return Err(Fail::new("no ask"));
+    };
+    let page = page_at(alloc, &run.server, &ask.address)?;
+    let answered = run.join.answer(alloc, ask.ticket, page)?;
+    let row = run.join.take_row();
+    if answered != Answered::Taken || row.is_none() || !run.join.is_done() {
+        return Err(Fail::new("no end with a row"));
+    }
+    Ok(())
+}
+
+/// Answers an ask with its page, but for its count, which says that there is no triple.
+fn answer_without(alloc: Global, run: &mut Run, ask: &Ask) -> Result<Answered, Fail> {
+    let mut page = page_at(alloc, &run.server, &ask.address)?;
+    page.count = 0;
+    Ok(run.join.answer(alloc, ask.ticket, page)?)
+}
+
+/// Fails where the join is not done without a row, once its one ask was answered so.
+fn end_by_count(alloc: Global, run: &mut Run) -> Result<(), Fail>
+    requires { run.old.join.tickets < 2 ^ 64 - 1 }
+{
+    let Some(ask) = run.join.next_ask(alloc)? else {
+        return Err(Fail::new("no ask"));
+    };
+    if answer_without(alloc, run, &ask)? != Answered::Taken || !run.join.is_done() {
+        return Err(Fail::new("no end by the count"));
+    }
+    Ok(())
+}
+
+/// Goes a way, and says how many asks are out then.
+fn go(alloc: Global, run: &mut Run, way: Way, seen: &mut Seen) -> Result<usize, Fail>
+    requires { run.old.join.tickets ≡ 0 }
+{
+    match way {
+        Way::Whole => go_on(alloc, run, 5000, seen)?,
+        Way::Asks => ask_all(alloc, run, 100, seen)?,
+        Way::Row => end_by_row(alloc, run)?,
+        Way::NoCount => end_by_count(alloc, run)?,
+    }
+    Ok(run.held.len())
+}
+
+/// The form of the server's start page.
+fn form_of(alloc: Global, server: &Server) -> Result<Form, Fail> {
+    let base = WebAddress::read(alloc, BASE)?;
+    let page = page_at(alloc, server, &base)?;
+    Ok(page.form)
+}
+
+/// A join of a query over a server.
+fn join_over(alloc: Global, server: &Server, query: &str, window: u32) -> Result<Join, Fail>
+    requires { 1 ≤ window }
+    ensures { IfOk result (λ join. join.tickets ≡ 0) }
+{
+    let query = query_of(alloc, query)?;
+    let form = form_of(alloc, server)?;
+    Ok(Join::new(alloc, &query, form, window)?)
+}
+
+/// A join of a query over a server of its data.
+fn started(alloc: Global, setting: &Setting<'_>) -> Result<Run, Fail>
+    requires { 1 ≤ setting.now.window }
+    ensures { IfOk result (λ run. run.join.tickets ≡ 0) }
+{
+    let server = server_of(alloc, setting.data, setting.page_size)?;
+    let join = join_over(alloc, &server, setting.query, setting.window)?;
+    Ok(Run {
+        server,
+        join,
+        held: Vec::new(alloc),
+        order: setting.order,
+        answered: 0,
+    })
+}
+
+/// Goes a way with a join, and says how many asks are out then.
+fn play(alloc: Global, setting: &Setting<'_>, way: Way, seen: &mut Seen) -> Result<usize, Fail>
+    requires { 1 ≤ setting.now.window }
+{
+    let mut run = started(alloc, setting)?;
+    go(alloc, &mut run, way, seen)
+}
+
+fn nothing_seen(alloc: Global) -> Seen {
+    Seen {
+        asked: Vec::new(alloc),
+        rows: Vec::new(alloc),
+        most_open: 0,
+    }
+}
+
+/// Goes a way with a join, and says how many asks are out then.
+pub fn outs(alloc: Global, setting: &Setting<'_>, way: Way) -> Result<usize, Fail>
+    requires { 1 ≤ setting.now.window }
+{
+    let mut seen = nothing_seen(alloc);
+    play(alloc, setting, way, &mut seen)
+}
+
+/// Runs a join to its end, and says what was seen of it.
+pub fn finished(alloc: Global, setting: &Setting<'_>) -> Result<Seen, Fail>
+    requires { 1 ≤ setting.now.window }
+{
+    let mut seen = nothing_seen(alloc);
+    let _outs = play(alloc, setting, Way::Whole, &mut seen)?;
+    Ok(seen)
 }

@@ -1,19 +1,69 @@
 // Links that do what scripts say.
-use script_wire::Script;
+use script_wire::{Script, ScriptWire};
 use std::alloc::Global;
 use std::test::Fail;
-use tpf_base::Bytes;
+use tpf_base::{Bytes, Failing};
 
-/// A link on which these pieces come, and then the end or nothing more; a send takes so many bytes.
-pub fn script(alloc: Global, pieces: &[&str], ends: bool, most: usize) -> Result<Script, Fail> {
+/// What a peer does on a link.
+#[derive(Clone, Copy)]
+pub struct Link<'a> {
+    /// On how many links a byte has to be sent before the first piece comes.
+    pub after: u64,
+    /// What comes on it.
+    pub pieces: &'a [&'a str],
+    /// Whether the end comes behind them, or nothing more.
+    pub ends: bool,
+    /// How many bytes a send takes.
+    pub most: usize,
+}
+
+/// A link on which these pieces come, and then the end.
+pub const fn ending<'a>(pieces: &'a [&'a str]) -> Link<'a> {
+    Link {
+        after: 0,
+        pieces,
+        ends: true,
+        most: 65536,
+    }
+}
+
+/// A link on which these pieces come, and then nothing more.
+pub const fn staying<'a>(pieces: &'a [&'a str]) -> Link<'a> {
+    Link {
+        after: 0,
+        pieces,
+        ends: false,
+        most: 65536,
+    }
+}
+
+pub fn script(alloc: Global, link: &Link) -> Result<Script, Fail> {
     let mut bytes = Vec::new(alloc);
-    for piece in pieces {
+    for piece in link.pieces {
         bytes.push(Bytes::copy(alloc, piece.as_bytes())?)?;
     }
     Ok(Script {
-        after: 0,
+        after: link.after,
         pieces: bytes,
-        ends,
-        most,
+        ends: link.ends,
+        most: link.most,
     })
+}
+
+/// A wire with these links.
+pub fn wire_of(alloc: Global, links: &[Link], failing: Failing) -> Result<ScriptWire, Fail> {
+    let mut scripts = Vec::new(alloc);
+    for link in links {
+        scripts.push(script(alloc, link)?)?;
+    }
+    Ok(ScriptWire::new(alloc, scripts, failing))
+}
+
+/// What was sent on a link, and nothing where it was not given.
+pub fn sent(wire: &ScriptWire, link: usize) -> &[u8] {
+    if link < wire.links() {
+        wire.sent_on(link)
+    } else {
+        &[]
+    }
 }

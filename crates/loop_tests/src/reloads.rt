@@ -1,14 +1,15 @@
 // Data that are read again while links are served.
 use crate::fragments::{reloading, table_of, triples_in};
-use crate::links::script;
+use crate::links::{Link, ending, sent, wire_of};
 use connections::MemSupply;
 use fragment_server::FragmentConnection;
-use script_wire::{Script, ScriptWire};
+use script_wire::ScriptWire;
 use serve_loop::{Served, serve};
 use std::alloc::Global;
 use std::sync::Wait;
 use std::test::Fail;
 use tpf_base::{Accept, Failing};
+use triple_table::Table;
 
 const GET: &str = "GET /data HTTP/1.1\r\nHost: localhost\r\n\r\n";
 
@@ -19,31 +20,45 @@ const SECOND: &str =
 
 const FAILED: &str = "HTTP/1.1 500 Internal Server Error\r\n";
 
-/// Serves a thousand triples, a thousand a page, at the links of these scripts, until all have ended.
-/// At a reload it takes a table of two triples, which it has once.
-fn served<R: Wait>(rt: &R, alloc: Global, scripts: Vec<Script>) -> Result<ScriptWire, Fail> {
-    let links = scripts.len() as u64;
-    let mut wire = ScriptWire::new(alloc, scripts, Failing::Never);
+/// A supply that has a table of two triples, once.
+fn supply(alloc: Global) -> Result<MemSupply<Table>, Fail> {
+    let mut tables = Vec::new(alloc);
+    tables.push(table_of(alloc, 2)?)?;
+    Ok(MemSupply::new(tables, Failing::Never))
+}
+
+/// Serves a thousand triples, a thousand a page, at the links of a wire until so many connections have
+/// ended, with two triples at a reload. Whether it ends then, and none of them for want of memory.
+fn serve_reloading<R: Wait>(
+    rt: &R,
+    alloc: Global,
+    wire: &mut ScriptWire,
+    links: u64,
+) -> Result<bool, Fail> {
+    let mut server = reloading(alloc, 1000, 1000)?;
+    let mut supply = supply(alloc)?;
     if wire.listen("localhost", 80).is_err() {
         return Err(Fail::new("no door"));
     }
-    let mut server = reloading(alloc, 1000, 1000)?;
-    let mut tables = Vec::new(alloc);
-    tables.push(table_of(alloc, 2)?)?;
-    let mut supply = MemSupply::new(tables, Failing::Never);
+    let wanted = Served {
+        connections: links,
+        starved: 0,
+    };
     let ended = serve::<_, FragmentConnection, _, _>(
         rt,
         alloc,
         &mut server,
         &mut supply,
-        &mut wire,
+        wire,
         Some(links),
     );
-    let wanted = Served {
-        connections: links,
-        starved: 0,
-    };
-    if ended == Ok(wanted) && wire.links() as u64 == links {
+    Ok(ended == Ok(wanted))
+}
+
+/// Serves the same at these links until all have ended, and gives the wire.
+fn served<R: Wait>(rt: &R, alloc: Global, links: &[Link]) -> Result<ScriptWire, Fail> {
+    let mut wire = wire_of(alloc, links, Failing::Never)?;
+    if serve_reloading(rt, alloc, &mut wire, links.len() as u64)? && wire.links() == links.len() {
         Ok(wire)
     } else {
         Err(Fail::new("not all links were served"))
@@ -58,42 +73,57 @@ fn split<'a>(whole: &'a str, at: &str) -> Result<(&'a str, &'a str), Fail> {
     }
 }
 
+/// How many triples a page has, and whether it is of the first version and of the second.
+fn page(text: &str) -> (usize, bool, bool) {
+    (
+        triples_in(text),
+        text.contains("owl#versionInfo> \"1\" "),
+        text.contains("owl#versionInfo> \"2\" "),
+    )
+}
+
+/// The page in front of two reloads, and the one behind them. Between their answers stands nothing.
+fn pages_around<'a>(text: &'a str) -> Result<(&'a str, &'a str), Fail> {
+    let (first, rest) = split(text, SECOND)?;
+    let (between, last) = split(rest, FAILED)?;
+    if between.is_empty() {
+        Ok((first, last))
+    } else {
+        Err(Fail::new("something between the answers to two reloads"))
+    }
+}
+
 #[test]
 fn a_second_reload_has_no_table(rt: HostRuntime) -> Result<(), Fail> {
-    let alloc = rt.alloc();
-    let pieces = [GET, RELOAD, RELOAD, GET];
-    let mut scripts = Vec::new(alloc);
-    scripts.push(script(alloc, &pieces, true, 65536)?)?;
-    let wire = served(&rt, alloc, scripts)?;
-    if wire.links() < 1 {
-        return Err(Fail::new("no link"));
-    }
-    let (first, rest) = split(str::from_utf8(wire.sent_on(0))?, SECOND)?;
-    let (between, last) = split(rest, FAILED)?;
-    assert_eq!(rt; triples_in(first), 1000);
-    assert!(rt; first.contains("owl#versionInfo> \"1\" "));
-    assert_eq!(rt; between, "");
-    assert_eq!(rt; triples_in(last), 2);
-    assert!(rt; last.contains("owl#versionInfo> \"2\" "));
+    let links = [ending(&[GET, RELOAD, RELOAD, GET])];
+    let wire = served(&rt, rt.alloc(), &links)?;
+    let (first, last) = pages_around(str::from_utf8(sent(&wire, 0))?)?;
+    let pages = [page(first), page(last)];
+    assert_eq!(rt; pages, [(1000, true, false), (2, false, true)]);
     Ok(())
+}
+
+/// The page behind the answer to a reload, in front of which stands nothing.
+fn page_behind<'a>(text: &'a str) -> Result<&'a str, Fail> {
+    match text.strip_prefix(SECOND) {
+        Some(last) => Ok(last),
+        None => Err(Fail::new("no answer to a reload comes first")),
+    }
 }
 
 #[test]
 fn a_page_ends_under_the_version_that_it_began_with(rt: HostRuntime) -> Result<(), Fail> {
-    let alloc = rt.alloc();
-    let mut scripts = Vec::new(alloc);
-    scripts.push(script(alloc, &[GET], true, 1000)?)?;
-    scripts.push(script(alloc, &[RELOAD, GET], true, 65536)?)?;
-    let wire = served(&rt, alloc, scripts)?;
-    if wire.links() < 2 {
-        return Err(Fail::new("no links"));
-    }
-    let page = str::from_utf8(wire.sent_on(0))?;
-    assert_eq!(rt; triples_in(page), 1000);
-    assert!(rt; page.contains("owl#versionInfo> \"1\" "));
-    let (front, last) = split(str::from_utf8(wire.sent_on(1))?, SECOND)?;
-    assert_eq!(rt; front, "");
-    assert_eq!(rt; triples_in(last), 2);
-    assert!(rt; last.contains("owl#versionInfo> \"2\" "));
+    let links = [
+        Link {
+            most: 1000,
+            ..ending(&[GET])
+        },
+        ending(&[RELOAD, GET]),
+    ];
+    let wire = served(&rt, rt.alloc(), &links)?;
+    let first = str::from_utf8(sent(&wire, 0))?;
+    let last = page_behind(str::from_utf8(sent(&wire, 1))?)?;
+    let pages = [page(first), page(last)];
+    assert_eq!(rt; pages, [(1000, true, false), (2, false, true)]);
     Ok(())
 }

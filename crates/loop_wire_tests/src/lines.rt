@@ -2,51 +2,63 @@
 use crate::line::Line;
 use echo_server::{Echo, EchoServer};
 use loop_wire::LoopWire;
-use std::alloc::Global;
+use std::alloc::{AllocError, Global};
 use std::test::Fail;
-use tpf_base::{Dial, Failing, Fault, Wire};
+use tpf_base::{Dial, Failing, Fault, Ready, Wire};
 
-fn wire(alloc: Global, failing: Failing) -> LoopWire<Echo> {
-    LoopWire::new(alloc, EchoServer::new(7), 1, failing)
+/// How many bytes of a text are sent, whether these come back, and whether some calls stalled and some
+/// brought less than was there.
+fn echoed(alloc: Global, seed: u64, text: &[u8]) -> Result<(usize, bool, bool, bool), Fail> {
+    let mut line = Line::new(alloc, seed)?;
+    let sent = line.send_all(text);
+    let is_same = line.recv_all(alloc)?.as_slice() == text;
+    Ok((sent, is_same, line.stalls > 0, line.cuts > 0))
 }
 
-// With each seed some calls stall, and some bring less than is there.
-#[test]
-fn every_seed_brings_the_same_bytes(rt: HostRuntime) -> Result<(), Fail> {
-    let alloc = rt.alloc();
+/// 9000 bytes.
+fn long_text(alloc: Global) -> Result<Vec<u8>, AllocError> {
     let mut text = Vec::new(alloc);
     for i in 0..9000u32 {
         text.push((i % 251) as u8)?;
     }
+    Ok(text)
+}
+
+#[test]
+fn every_seed_brings_the_same_bytes(rt: HostRuntime) -> Result<(), Fail> {
+    let text = long_text(rt.alloc())?;
     for seed in 0..10 {
-        let mut line = Line::new(alloc, seed)?;
-        assert_eq!(rt; line.send_all(&text), 9000, "{seed}");
-        let got = line.recv_all(alloc)?;
-        assert_eq!(rt; got.as_slice(), text.as_slice(), "{seed}");
-        assert!(rt; line.stalls > 0, "{seed}");
-        assert!(rt; line.cuts > 0, "{seed}");
+        let got = echoed(rt.alloc(), seed, text.as_slice())?;
+        assert_eq!(rt; got, (9000, true, true, true), "{seed}");
     }
     Ok(())
 }
 
 #[test]
-fn a_dial_that_is_due_fails(rt: HostRuntime) -> Result<(), Fail> {
+fn a_dial_that_is_due_fails(rt: HostRuntime) {
     let alloc = rt.alloc();
     let mut wire: LoopWire<Echo> = LoopWire::new(alloc, EchoServer::new(7), 1, Failing::Dials(2));
     assert_eq!(rt; wire.dial("a", 80), Ok(0));
     assert_eq!(rt; wire.dial("b", 80), Err(Fault::Failed));
     assert_eq!(rt; wire.dial("c", 80), Ok(1));
     assert_eq!(rt; wire.links(), 2);
-    Ok(())
+}
+
+/// The answers of a wait, a dial and another wait.
+fn waits(
+    wire: &mut LoopWire<Echo>,
+) -> (
+    Result<Ready, Fault>,
+    Result<u64, Fault>,
+    Result<Ready, Fault>,
+) {
+    (wire.wait(), wire.dial("a", 80), wire.wait())
 }
 
 #[test]
-fn a_wait_with_no_ripe_link_fails(rt: HostRuntime) -> Result<(), Fail> {
-    let alloc = rt.alloc();
-    let mut wire = wire(alloc, Failing::Never);
-    assert_eq!(rt; wire.wait(), Err(Fault::Failed));
-    assert_eq!(rt; wire.dial("a", 80), Ok(0));
-    assert_eq!(rt; wire.wait(), Err(Fault::Failed));
+fn a_wait_with_no_ripe_link_fails(rt: HostRuntime) {
+    let mut wire = LoopWire::new(rt.alloc(), EchoServer::new(7), 1, Failing::Never);
+    let failed = Err(Fault::Failed);
+    assert_eq!(rt; waits(&mut wire), (failed, Ok(0), failed));
     assert_eq!(rt; wire.idle(), 0);
-    Ok(())
 }

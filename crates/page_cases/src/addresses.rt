@@ -1,6 +1,6 @@
 // Addresses.
 use crate::slots::slots_of;
-use case_rows::{Case, CaseFault};
+use case_rows::{Case, CaseFault, debug_text, truth_text, word_text};
 use std::alloc::Global;
 use template_fill::{AddressFault, WebAddress, page_address};
 use text_base::OutOfMemory;
@@ -22,7 +22,27 @@ pub fn address_of(
 /// The text of an address that a call gave.
 pub fn given(alloc: Global, address: Result<WebAddress, OutOfMemory>) -> Result<String, CaseFault> {
     match address {
-        Ok(address) => Ok(String::from_str(alloc, address.text())?),
+        Ok(address) => word_text(alloc, address.text()),
+        Err(_) => Err(CaseFault::OutOfMemory),
+    }
+}
+
+/// The normal form of an address, its authority, host, port and target.
+fn parts_text(alloc: Global, address: &WebAddress) -> Result<String, CaseFault> {
+    Ok(format!(in alloc;
+        "{} {} {} {} {}",
+        address.text(),
+        address.authority(),
+        address.host(),
+        address.port(),
+        address.target()
+    )?)
+}
+
+/// The same of its copy.
+fn copy_text(alloc: Global, address: &WebAddress) -> Result<String, CaseFault> {
+    match address.copy(alloc) {
+        Ok(copy) => parts_text(alloc, &copy),
         Err(_) => Err(CaseFault::OutOfMemory),
     }
 }
@@ -30,20 +50,9 @@ pub fn given(alloc: Global, address: Result<WebAddress, OutOfMemory>) -> Result<
 /// `text`: the normal form, the authority, the host, the port and the target of a copy of the address, or the fault.
 pub fn address(alloc: Global, case: &mut Case<'_>) -> Result<String, CaseFault> {
     let text = case.text(alloc, "text")?;
-    let found = match WebAddress::read(alloc, text.as_str()) {
-        Ok(found) => found,
-        Err(fault) => return Ok(format!(in alloc; "{fault:?}")?),
-    };
-    match found.copy(alloc) {
-        Ok(copy) => Ok(format!(in alloc;
-            "{} {} {} {} {}",
-            copy.text(),
-            copy.authority(),
-            copy.host(),
-            copy.port(),
-            copy.target()
-        )?),
-        Err(_) => Err(CaseFault::OutOfMemory),
+    match WebAddress::read(alloc, text.as_str()) {
+        Ok(found) => copy_text(alloc, &found),
+        Err(fault) => debug_text(alloc, &fault),
     }
 }
 
@@ -51,13 +60,23 @@ pub fn address(alloc: Global, case: &mut Case<'_>) -> Result<String, CaseFault> 
 pub fn same_authority(alloc: Global, case: &mut Case<'_>) -> Result<String, CaseFault> {
     let one = address_of(alloc, case, "one")?;
     let other = address_of(alloc, case, "other")?;
-    Ok(format!(in alloc; "{}", one.same_authority(&other))?)
+    truth_text(alloc, one.same_authority(&other))
+}
+
+/// `subject`, `predicate`, `object`: the address of the page with this number.
+fn page_at(
+    alloc: Global,
+    case: &mut Case<'_>,
+    base: &WebAddress,
+    page: u64,
+) -> Result<String, CaseFault> {
+    let slots = slots_of(alloc, case)?;
+    given(alloc, page_address(alloc, base, &slots, page))
 }
 
 /// `base`, `subject`, `predicate`, `object`, `page`: the address of the page.
 pub fn page(alloc: Global, case: &mut Case<'_>) -> Result<String, CaseFault> {
-    let base = address_of(alloc, case, "base")?;
-    let slots = slots_of(alloc, case)?;
     let page = case.number("page")?;
-    given(alloc, page_address(alloc, &base, &slots, page))
+    let base = address_of(alloc, case, "base")?;
+    page_at(alloc, case, &base, page)
 }

@@ -4,6 +4,7 @@
 
 mod addresses;
 mod controls;
+mod metadata;
 mod pages;
 mod slots;
 mod templates;
@@ -35,7 +36,7 @@ fn answer_below(alloc: Global, call: &str, case: &mut Case<'_>) -> Result<String
 impl Answers for Web {
     fn answer(&self, alloc: Global, call: &str, case: &mut Case<'_>) -> Result<String, CaseFault> {
         match call {
-            "metadata" => controls::metadata_lines(alloc, case),
+            "metadata" => metadata::metadata_lines(alloc, case),
             "read_back" => pages::read_back(alloc, case),
             "page" => pages::page(alloc, case),
             _ => answer_below(alloc, call, case),

@@ -1,58 +1,77 @@
 // Pages that are read.
 use crate::addresses::address_of;
-use crate::controls::lines_of;
-use case_rows::{Case, CaseFault};
+use crate::metadata::lines_of;
+use case_rows::{Case, CaseFault, bytes_text, debug_text, number_or_none, word_text};
 use control_reader::{Page, PageFault, read_page};
 use nquads_text::canonical;
-use rdf_terms::{Slot, Slots, Triple};
+use rdf_terms::{Slot, Slots, Term, Triple};
 use std::alloc::Global;
-use std::str;
-use template_fill::WebAddress;
+use template_fill::{Form, WebAddress};
 
-/// The version that a page says.
-fn version(alloc: Global, page: &Page) -> Result<String, CaseFault> {
-    match page.version {
-        Some(version) => Ok(format!(in alloc; "{version}")?),
-        None => Ok(String::from_str(alloc, "none")?),
+/// The next page.
+fn next_text(page: &Page) -> &str {
+    match &page.next {
+        Some(next) => next.text(),
+        None => "none",
     }
+}
+
+/// A number of triples, a count and a next page.
+fn told_numbers(
+    alloc: Global,
+    triples: usize,
+    count: u64,
+    next: &str,
+) -> Result<String, CaseFault> {
+    Ok(format!(in alloc; "{triples} {count} {next}")?)
 }
 
 /// The number of triples, the count and the next page.
 fn numbers(alloc: Global, page: &Page) -> Result<String, CaseFault> {
-    let next = match &page.next {
-        Some(next) => next.text(),
-        None => "none",
-    };
-    Ok(format!(in alloc; "{} {} {next}", page.triples.as_slice().len(), page.count)?)
+    let triples = page.triples.as_slice().len();
+    told_numbers(alloc, triples, page.count, next_text(page))
 }
 
-/// The names of the form, and the address that it gives where nothing is fixed.
-fn form(alloc: Global, page: &Page) -> Result<String, CaseFault> {
+/// The address that a form gives where nothing is fixed.
+fn free_address(alloc: Global, form: &Form) -> Result<WebAddress, CaseFault> {
     let free = Slots {
         subject: Slot::Any,
         predicate: Slot::Any,
         object: Slot::Any,
     };
-    let form = &page.form;
-    let Ok(address) = form.address(alloc, &free) else {
-        return Err(CaseFault::OutOfMemory);
-    };
-    let names = (
-        form.subject.as_str(),
-        form.predicate.as_str(),
-        form.object.as_str(),
-    );
-    Ok(format!(in alloc; "{} {} {} {}", names.0, names.1, names.2, address.text())?)
+    match form.address(alloc, &free) {
+        Ok(address) => Ok(address),
+        Err(_) => Err(CaseFault::OutOfMemory),
+    }
 }
 
-fn push_triple(triple: &Triple, out: &mut Vec<u8>) -> Result<(), CaseFault> {
-    for term in [&triple.subject, &triple.predicate, &triple.object] {
-        if canonical(term, out).is_err() {
-            return Err(CaseFault::OutOfMemory);
-        }
-        out.push(b' ')?;
+/// The names of a form, and an address.
+fn form_text(alloc: Global, form: &Form, address: &str) -> Result<String, CaseFault> {
+    let subject = form.subject.as_str();
+    let predicate = form.predicate.as_str();
+    let object = form.object.as_str();
+    Ok(format!(in alloc; "{subject} {predicate} {object} {address}")?)
+}
+
+/// The names of the form, and the address that it gives where nothing is fixed.
+fn form(alloc: Global, page: &Page) -> Result<String, CaseFault> {
+    let address = free_address(alloc, &page.form)?;
+    form_text(alloc, &page.form, address.text())
+}
+
+/// Appends a term in canonical text, with a blank behind it.
+fn push_term(term: &Term, out: &mut Vec<u8>) -> Result<(), CaseFault> {
+    if canonical(term, out).is_err() {
+        return Err(CaseFault::OutOfMemory);
     }
-    Ok(())
+    Ok(out.push(b' ')?)
+}
+
+/// Appends the terms of a triple.
+fn push_triple(triple: &Triple, out: &mut Vec<u8>) -> Result<(), CaseFault> {
+    push_term(&triple.subject, out)?;
+    push_term(&triple.predicate, out)?;
+    push_term(&triple.object, out)
 }
 
 /// The triples in their order.
@@ -61,18 +80,17 @@ fn triples(alloc: Global, page: &Page) -> Result<String, CaseFault> {
     for triple in page.triples.as_slice() {
         push_triple(triple, &mut out)?;
     }
-    let text = str::from_utf8(out.as_slice()).unwrap_or("no text");
-    Ok(String::from_str(alloc, text)?)
+    bytes_text(alloc, out.as_slice())
 }
 
 /// What is to be shown of a page.
 fn page_text(alloc: Global, page: &Page, show: &str) -> Result<String, CaseFault> {
     match show {
-        "version" => version(alloc, page),
+        "version" => number_or_none(alloc, page.version),
         "numbers" => numbers(alloc, page),
         "form" => form(alloc, page),
         "triples" => triples(alloc, page),
-        "fault" => Ok(String::from_str(alloc, "page")?),
+        "fault" => word_text(alloc, "page"),
         _ => Err(CaseFault::Row),
     }
 }
@@ -87,28 +105,47 @@ fn shown(
     match read_page(alloc, body, address) {
         Ok(page) => page_text(alloc, &page, show),
         Err(PageFault::OutOfMemory) => Err(CaseFault::OutOfMemory),
-        Err(fault) => Ok(format!(in alloc; "{fault:?}")?),
+        Err(fault) => debug_text(alloc, &fault),
     }
+}
+
+/// `address`, `show`: the same of a body.
+fn shown_of(alloc: Global, case: &mut Case<'_>, body: &[u8]) -> Result<String, CaseFault> {
+    let show = case.text(alloc, "show")?;
+    let address = address_of(alloc, case, "address")?;
+    shown(alloc, body, &address, show.as_str())
 }
 
 /// `address`, `body`, `show`: the fault, or what is to be shown of the page: its `version`, its `numbers` (of triples,
 /// the count, the next page), its `form`, its `triples`, or the word `page` for `fault`.
 pub fn page(alloc: Global, case: &mut Case<'_>) -> Result<String, CaseFault> {
-    let address = address_of(alloc, case, "address")?;
     let body = case.bytes(alloc, "body")?;
-    let show = case.text(alloc, "show")?;
-    shown(alloc, body.as_slice(), &address, show.as_str())
+    shown_of(alloc, case, body.as_slice())
+}
+
+/// Appends the metadata of the page of the row.
+fn push_lines(alloc: Global, case: &mut Case<'_>, body: &mut Vec<u8>) -> Result<(), CaseFault> {
+    let lines = lines_of(alloc, case)?;
+    Ok(body.extend_from_slice(lines.text.as_slice())?)
+}
+
+/// `behind`: appends the text behind the metadata.
+fn push_behind(alloc: Global, case: &mut Case<'_>, body: &mut Vec<u8>) -> Result<(), CaseFault> {
+    let behind = case.bytes(alloc, "behind")?;
+    Ok(body.extend_from_slice(behind.as_slice())?)
+}
+
+/// `before`, `behind`, and the page of the row: its metadata between these texts.
+fn body_of(alloc: Global, case: &mut Case<'_>) -> Result<Vec<u8>, CaseFault> {
+    let mut body = case.bytes(alloc, "before")?;
+    push_lines(alloc, case, &mut body)?;
+    push_behind(alloc, case, &mut body)?;
+    Ok(body)
 }
 
 /// `address`, `before`, `behind`, `show`, and the page of the row: what is to be shown where its metadata, between
 /// these texts, are read at the address.
 pub fn read_back(alloc: Global, case: &mut Case<'_>) -> Result<String, CaseFault> {
-    let address = address_of(alloc, case, "address")?;
-    let show = case.text(alloc, "show")?;
-    let mut body = case.bytes(alloc, "before")?;
-    let behind = case.bytes(alloc, "behind")?;
-    let lines = lines_of(alloc, case)?;
-    body.extend_from_slice(lines.text.as_slice())?;
-    body.extend_from_slice(behind.as_slice())?;
-    shown(alloc, body.as_slice(), &address, show.as_str())
+    let body = body_of(alloc, case)?;
+    shown_of(alloc, case, body.as_slice())
 }

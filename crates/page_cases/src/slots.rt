@@ -1,25 +1,37 @@
 // The slots of a fragment, by the explicit forms of their terms.
-ghost use Rattle.std.specs.Prelude.{IfOk};
+ghost use Rattle.std.specs.Prelude.{IfOk, OnOk};
 ghost use Rattle.rdf_terms.specs.Valid.{IsNotBlank};
 ghost use Rattle.template_fill.specs.Forms.{HasNoBlank, HasNoBlankSlot};
 
-use case_rows::{Case, CaseFault};
+use case_rows::{Case, CaseFault, debug_text, text_of_bytes, word_text};
 use nquads_text::canonical;
 use rdf_terms::{Slot, Slots, Term};
 use std::alloc::Global;
-use std::str;
 use template_fill::{ValueFault, explicit, read_explicit};
+
+/// A term in canonical text.
+fn canonical_text(alloc: Global, term: &Term) -> Result<String, CaseFault> {
+    let mut out = Vec::new(alloc);
+    if canonical(term, &mut out).is_err() {
+        return Err(CaseFault::OutOfMemory);
+    }
+    text_of_bytes(out)
+}
+
+/// Two texts with a blank between them.
+fn pair_text(alloc: Global, text: &str, form: &str) -> Result<String, CaseFault> {
+    Ok(format!(in alloc; "{text} {form}")?)
+}
 
 /// A term in canonical text, and its explicit form.
 fn term_text(alloc: Global, term: &Term) -> Result<String, CaseFault>
     requires { IsNotBlank term.now }
 {
-    let mut out = Vec::new(alloc);
-    let (Ok(()), Ok(form)) = (canonical(term, &mut out), explicit(alloc, term)) else {
-        return Err(CaseFault::OutOfMemory);
-    };
-    let text = str::from_utf8(out.as_slice()).unwrap_or("no text");
-    Ok(format!(in alloc; "{text} {}", form.as_str())?)
+    let text = canonical_text(alloc, term)?;
+    match explicit(alloc, term) {
+        Ok(form) => pair_text(alloc, text.as_str(), form.as_str()),
+        Err(_) => Err(CaseFault::OutOfMemory),
+    }
 }
 
 /// A slot without a blank node.
@@ -34,16 +46,31 @@ fn no_blank(slot: Slot) -> Result<Slot, CaseFault>
     }
 }
 
+/// The term of a slot in canonical text, and its explicit form.
+fn slot_text(alloc: Global, slot: Slot) -> Result<String, CaseFault> {
+    match no_blank(slot)? {
+        Slot::Any => word_text(alloc, "any"),
+        Slot::Fixed(term) => term_text(alloc, &term),
+    }
+}
+
 /// `text`: the slot that is read of it: its term's canonical text and its explicit form, or the fault.
 pub fn explicit_form(alloc: Global, case: &mut Case<'_>) -> Result<String, CaseFault> {
     let text = case.text(alloc, "text")?;
     match read_explicit(alloc, text.as_str()) {
+        Ok(slot) => slot_text(alloc, slot),
         Err(ValueFault::OutOfMemory) => Err(CaseFault::OutOfMemory),
-        Err(fault) => Ok(format!(in alloc; "{fault:?}")?),
-        Ok(slot) => match no_blank(slot)? {
-            Slot::Any => Ok(String::from_str(alloc, "any")?),
-            Slot::Fixed(term) => term_text(alloc, &term),
-        },
+        Err(fault) => debug_text(alloc, &fault),
+    }
+}
+
+/// The slot with this explicit form.
+fn slot_in(alloc: Global, text: &str) -> Result<Slot, CaseFault>
+    ensures { IfOk result HasNoBlankSlot }
+{
+    match read_explicit(alloc, text) {
+        Ok(slot) => no_blank(slot),
+        Err(_) => Err(CaseFault::Row),
     }
 }
 
@@ -51,22 +78,48 @@ pub fn explicit_form(alloc: Global, case: &mut Case<'_>) -> Result<String, CaseF
 fn slot_of(alloc: Global, case: &mut Case<'_>, member: &str) -> Result<Slot, CaseFault>
     ensures { IfOk result HasNoBlankSlot }
 {
-    let Some(text) = case.text_if(alloc, member)? else {
-        return Ok(Slot::Any);
-    };
-    match read_explicit(alloc, text.as_str()) {
-        Ok(slot) => no_blank(slot),
-        Err(_) => Err(CaseFault::Row),
+    match case.text_if(alloc, member)? {
+        Some(text) => slot_in(alloc, text.as_str()),
+        None => Ok(Slot::Any),
+    }
+}
+
+/// Sets a slot to the one of a member.
+fn set_slot(
+    alloc: Global,
+    case: &mut Case<'_>,
+    member: &str,
+    slot: &mut Slot,
+) -> Result<(), CaseFault>
+    ensures { OnOk result (HasNoBlankSlot slot.new) }
+{
+    *slot = slot_of(alloc, case, member)?;
+    Ok(())
+}
+
+/// `subject`, `predicate`, `object`: sets slots to those of the members.
+fn set_slots(alloc: Global, case: &mut Case<'_>, slots: &mut Slots) -> Result<(), CaseFault>
+    ensures { OnOk result (HasNoBlank slots.new) }
+{
+    set_slot(alloc, case, "subject", &mut slots.subject)?;
+    set_slot(alloc, case, "predicate", &mut slots.predicate)?;
+    set_slot(alloc, case, "object", &mut slots.object)
+}
+
+/// Slots of which none is fixed.
+fn free() -> Slots {
+    Slots {
+        subject: Slot::Any,
+        predicate: Slot::Any,
+        object: Slot::Any,
     }
 }
 
 /// `subject`, `predicate`, `object`: slots without a blank node.
-pub fn slots_of(alloc: Global, case: &mut Case<'_>) -> Result<Slots, CaseFault>
-    ensures { IfOk result HasNoBlank }
+pub fn slots_of(alloc: Global, case: &mut Case<'_>) -> Result<Box<Slots>, CaseFault>
+    ensures { IfOk result (λ b. HasNoBlank b.value) }
 {
-    Ok(Slots {
-        subject: slot_of(alloc, case, "subject")?,
-        predicate: slot_of(alloc, case, "predicate")?,
-        object: slot_of(alloc, case, "object")?,
-    })
+    let mut slots = Box::new(alloc, free())?;
+    set_slots(alloc, case, &mut slots)?;
+    Ok(slots)
 }

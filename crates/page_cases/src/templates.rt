@@ -1,32 +1,38 @@
 // Templates, and forms over them.
 use crate::addresses::given;
 use crate::slots::slots_of;
-use case_rows::{Case, CaseFault};
+use case_rows::{Case, CaseFault, truth_text, word_text};
 use std::alloc::Global;
 use template_fill::{Form, Template, TemplateFault, Value};
 use text_base::Text;
 
+/// A copy of a text.
+fn copied(alloc: Global, text: &str) -> Result<Text, CaseFault> {
+    Ok(Text::from_string(String::from_str(alloc, text)?))
+}
+
+/// Appends a value: a name, and its text.
+fn push_value(alloc: Global, pair: &[String], values: &mut Vec<Value>) -> Result<(), CaseFault> {
+    let [name, text] = pair else {
+        return Err(CaseFault::Row);
+    };
+    let name = copied(alloc, name.as_str())?;
+    let text = copied(alloc, text.as_str())?;
+    Ok(values.push(Value { name, text })?)
+}
+
 /// `values`: names, each followed by its text.
 fn values_of(alloc: Global, case: &mut Case<'_>) -> Result<Vec<Value>, CaseFault> {
+    let texts = case.texts(alloc, "values")?;
     let mut values = Vec::new(alloc);
-    let mut name = None;
-    for text in case.texts(alloc, "values")? {
-        match name {
-            None => name = Some(text),
-            Some(before) => {
-                values.push(Value {
-                    name: Text::from_string(before),
-                    text: Text::from_string(text),
-                })?;
-                name = None;
-            }
-        }
+    for pair in texts.as_slice().chunks(2) {
+        push_value(alloc, pair, &mut values)?;
     }
     Ok(values)
 }
 
 /// `template`: the template, or nothing for a text that is none.
-fn template_of(alloc: Global, case: &mut Case<'_>) -> Result<Option<Template>, CaseFault> {
+fn template_if(alloc: Global, case: &mut Case<'_>) -> Result<Option<Template>, CaseFault> {
     let text = case.text(alloc, "template")?;
     match Template::read(alloc, text.as_str()) {
         Ok(template) => Ok(Some(template)),
@@ -35,31 +41,52 @@ fn template_of(alloc: Global, case: &mut Case<'_>) -> Result<Option<Template>, C
     }
 }
 
+/// `template`: the template.
+fn template_of(alloc: Global, case: &mut Case<'_>) -> Result<Template, CaseFault> {
+    match template_if(alloc, case)? {
+        Some(template) => Ok(template),
+        None => Err(CaseFault::Row),
+    }
+}
+
 /// `template`, `values`: the expansion, or the fault.
 pub fn expand(alloc: Global, case: &mut Case<'_>) -> Result<String, CaseFault> {
     let values = values_of(alloc, case)?;
-    let Some(template) = template_of(alloc, case)? else {
-        return Ok(String::from_str(alloc, "BadTemplate")?);
-    };
-    given(alloc, template.expand(alloc, values.as_slice()))
+    match template_if(alloc, case)? {
+        Some(template) => given(alloc, template.expand(alloc, values.as_slice())),
+        None => word_text(alloc, "BadTemplate"),
+    }
 }
 
 /// `template`, `name`: whether the template has the name.
 pub fn names(alloc: Global, case: &mut Case<'_>) -> Result<String, CaseFault> {
-    let template = template_of(alloc, case)?.ok_or(CaseFault::Row)?;
     let name = case.text(alloc, "name")?;
-    Ok(format!(in alloc; "{}", template.names(name.as_str()))?)
+    let template = template_of(alloc, case)?;
+    truth_text(alloc, template.names(name.as_str()))
+}
+
+/// `template`: a form with the names `subject`, `predicate` and `object`.
+fn form_of(alloc: Global, case: &mut Case<'_>) -> Result<Form, CaseFault> {
+    let subject = copied(alloc, "subject")?;
+    let predicate = copied(alloc, "predicate")?;
+    let object = copied(alloc, "object")?;
+    let template = template_of(alloc, case)?;
+    Ok(Form {
+        template,
+        subject,
+        predicate,
+        object,
+    })
+}
+
+/// `subject`, `predicate`, `object`: the address that a form gives.
+fn address_of(alloc: Global, case: &mut Case<'_>, form: &Form) -> Result<String, CaseFault> {
+    let slots = slots_of(alloc, case)?;
+    given(alloc, form.address(alloc, &slots))
 }
 
 /// `template`, `subject`, `predicate`, `object`: the address that a form with these three names gives.
 pub fn form(alloc: Global, case: &mut Case<'_>) -> Result<String, CaseFault> {
-    let template = template_of(alloc, case)?.ok_or(CaseFault::Row)?;
-    let form = Form {
-        template,
-        subject: Text::from_string(String::from_str(alloc, "subject")?),
-        predicate: Text::from_string(String::from_str(alloc, "predicate")?),
-        object: Text::from_string(String::from_str(alloc, "object")?),
-    };
-    let slots = slots_of(alloc, case)?;
-    given(alloc, form.address(alloc, &slots))
+    let form = form_of(alloc, case)?;
+    address_of(alloc, case, &form)
 }

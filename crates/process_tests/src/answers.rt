@@ -2,8 +2,18 @@
 
 use std::{io, str};
 
-/// Prints an answer with rows, each row on a line of its own. The rows are sorted, since a query says
-/// nothing of their order.
+/// Prints what stands between the braces of rows, each on a line of its own, sorted, since a query says
+/// nothing of the order of its rows.
+fn show_rows<R: Print + AllocGlobal>(rt: &R, rows: &str) -> io::Result<()> {
+    let mut sorted: Vec<&str> = rows.split("},{").collect(rt.alloc())?;
+    sorted.sort_unstable();
+    for row in &sorted {
+        println!(rt; "{row}")?;
+    }
+    Ok(())
+}
+
+/// Prints an answer with rows, each row on a line of its own.
 pub fn show<R: Print + AllocGlobal>(rt: &R, answer: &[u8]) -> io::Result<()> {
     let Ok(text) = str::from_utf8(answer) else {
         return Err(io::Error::other("the answer is no text"));
@@ -14,11 +24,7 @@ pub fn show<R: Print + AllocGlobal>(rt: &R, answer: &[u8]) -> io::Result<()> {
     let Some((rows, end)) = rest.rsplit_once("}]") else {
         return Err(io::Error::other("the answer breaks off"));
     };
-    let mut sorted: Vec<&str> = rows.split("},{").collect(rt.alloc())?;
-    sorted.sort_unstable();
     println!(rt; "{head}")?;
-    for row in &sorted {
-        println!(rt; "{row}")?;
-    }
+    show_rows(rt, rows)?;
     print!(rt; "{end}")
 }

@@ -33,25 +33,39 @@ pub fn tell<R: Print>(rt: &R, who: &str, ended: &Output, wanted: i32) -> io::Res
     }
 }
 
-/// Asks a server the query of a file, one request at a time, and prints the answer.
+/// How a client ended that asked a server the query of a file, one request at a time.
+fn answer_to<R: Processes + Files + AllocGlobal>(
+    rt: &R,
+    base: &str,
+    query: &str,
+) -> io::Result<Output> {
+    let client = start(rt, &["query", base, query], &["--links", "1"])?;
+    client.wait_with_output(rt.alloc())
+}
+
+/// Asks a server the query of a file, and prints the answer.
 fn ask<R: Processes + Files + Print + AllocGlobal>(
     rt: &R,
     base: &str,
     query: &str,
 ) -> io::Result<()> {
-    let client = start(rt, &["query", base, query], &["--links", "1"])?;
-    let ended = client.wait_with_output(rt.alloc())?;
+    let ended = answer_to(rt, base, query)?;
     show(rt, ended.stdout.as_slice())?;
     tell(rt, "query", &ended, 0)
 }
 
-/// Has a server read its file again, and prints the body of what it answers.
-fn reload<R: Net + Print + AllocGlobal>(rt: &R, port: u16) -> io::Result<()> {
+/// Has a server read its file again, and gives its answer.
+fn answer_to_reload<R: Net + AllocGlobal>(rt: &R, port: u16) -> io::Result<String> {
     let mut stream = TcpStream::connect(rt, (Ipv4Addr::LOCALHOST, port))?;
     stream.write_all(
         b"POST /reload HTTP/1.1\r\nHost: localhost\r\nContent-Length: 0\r\nConnection: close\r\n\r\n",
     )?;
-    let answer = io::read_to_string(rt.alloc(), stream)?;
+    io::read_to_string(rt.alloc(), stream)
+}
+
+/// Has a server read its file again, and prints the body of what it answers.
+fn reload<R: Net + Print + AllocGlobal>(rt: &R, port: u16) -> io::Result<()> {
+    let answer = answer_to_reload(rt, port)?;
     match answer.as_str().split_once("\r\n\r\n") {
         Some((_, body)) => print!(rt; "reload: {body}"),
         None => Err(io::Error::other("the answer to a reload has no body")),
@@ -82,6 +96,13 @@ fn query<R: Processes + Files + Net + Print + AllocGlobal>(rt: &R) -> io::Result
     end(rt, server, asked)
 }
 
+/// Has a server serve the data of another file.
+fn serve_more<R: Files + Net + Print + AllocGlobal>(rt: &R, port: u16) -> io::Result<()> {
+    fs::copy(rt, "more_people.nq", "next.nq")?;
+    fs::rename(rt, "next.nq", "served.nq")?;
+    reload(rt, port)
+}
+
 /// A query, new data, a reload, and the query again.
 fn ask_around_a_reload<R: Processes + Files + Net + Print + AllocGlobal>(
     rt: &R,
@@ -89,9 +110,7 @@ fn ask_around_a_reload<R: Processes + Files + Net + Print + AllocGlobal>(
     port: u16,
 ) -> io::Result<()> {
     ask(rt, base, "friends.rq")?;
-    fs::copy(rt, "more_people.nq", "next.nq")?;
-    fs::rename(rt, "next.nq", "served.nq")?;
-    reload(rt, port)?;
+    serve_more(rt, port)?;
     ask(rt, base, "friends.rq")
 }
 
@@ -122,21 +141,38 @@ fn read_some<P: OpenProcess>(client: &mut Child<P>) -> io::Result<()> {
 /// Asks for all triples, and has the server read its file again when rows of the first page have come. The
 /// client can't have asked for the last page by then: its answer is longer than what a pipe holds, and
 /// nobody reads it until the reload is done.
+fn answer_across_a_reload<R: Processes + Files + Net + Print + AllocGlobal>(
+    rt: &R,
+    base: &str,
+    port: u16,
+) -> io::Result<Output> {
+    let mut client = start(rt, &["query", base, "all.rq"], &["--links", "1"])?;
+    read_some(&mut client)?;
+    reload(rt, port)?;
+    client.wait_with_output(rt.alloc())
+}
+
+/// Asks so, and prints whether the answer is whole.
 fn ask_across_a_reload<R: Processes + Files + Net + Print + AllocGlobal>(
     rt: &R,
     base: &str,
     port: u16,
 ) -> io::Result<()> {
-    let mut client = start(rt, &["query", base, "all.rq"], &["--links", "1"])?;
-    read_some(&mut client)?;
-    reload(rt, port)?;
-    let ended = client.wait_with_output(rt.alloc())?;
-    if ended.stdout.as_slice().ends_with(END_OF_ANSWER) {
-        println!(rt; "the answer is whole")?;
+    let ended = answer_across_a_reload(rt, base, port)?;
+    let whole = if ended.stdout.as_slice().ends_with(END_OF_ANSWER) {
+        "is whole"
     } else {
-        println!(rt; "the answer breaks off")?;
-    }
+        "breaks off"
+    };
+    println!(rt; "the answer {whole}")?;
     tell(rt, "query", &ended, 11)
+}
+
+/// Writes the file of a large data set.
+fn make_persons<R: Processes + Files + Print + AllocGlobal>(rt: &R) -> io::Result<()> {
+    let made = start(rt, &["make", "2000"], &[])?.wait_with_output(rt.alloc())?;
+    tell(rt, "make", &made, 0)?;
+    fs::write(rt, "persons.nq", &made.stdout)
 }
 
 /// A server whose data change while a query asks for them.
@@ -144,9 +180,7 @@ fn reload_between_pages<R: Processes + Files + Net + Print + AllocGlobal>(
     rt: &R,
 ) -> io::Result<()> {
     println!(rt; "a reload between two pages of a query")?;
-    let made = start(rt, &["make", "2000"], &[])?.wait_with_output(rt.alloc())?;
-    tell(rt, "make", &made, 0)?;
-    fs::write(rt, "persons.nq", &made.stdout)?;
+    make_persons(rt)?;
     let server = serve(
         rt,
         "persons.nq",

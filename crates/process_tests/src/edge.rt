@@ -25,20 +25,24 @@ const LONG: usize = 250_000;
 /// How many bytes come behind a head that is refused.
 const UNREAD: usize = 20_000;
 
-/// The lines of the large page, in the order of their literals.
-fn large_lines<R: AllocGlobal>(rt: &R) -> io::Result<String> {
+/// The end of a line of the large page.
+fn long_literal<R: AllocGlobal>(rt: &R) -> io::Result<String> {
     let mut long = String::new(rt.alloc());
     for _ in 0..LONG {
         long.push('x')?;
     }
+    long.push_str("\" .\n")?;
+    Ok(long)
+}
+
+/// The lines of the large page, in the order of their literals.
+fn large_lines<R: AllocGlobal>(rt: &R, long: &str) -> io::Result<String> {
     let mut text = String::new(rt.alloc());
     for line in 0..LINES {
         write!(
             text,
-            "<http://example.org/s> <http://example.org/p> \"{line:02}"
+            "<http://example.org/s> <http://example.org/p> \"{line:02}{long}"
         )?;
-        text.push_str(long.as_str())?;
-        text.push_str("\" .\n")?;
     }
     Ok(text)
 }
@@ -76,6 +80,16 @@ fn tell_answer<R: Print>(rt: &R, who: &str, answer: &str) -> io::Result<()> {
     }
 }
 
+/// Reads an answer to its end, and prints its first line.
+fn tell_whole<R: Print + AllocGlobal, S: Read>(
+    rt: &R,
+    who: &str,
+    stream: &mut S,
+) -> io::Result<()> {
+    let answer = read_whole(rt, stream)?;
+    tell_answer(rt, who, answer.as_str())
+}
+
 /// How many of the lines stand in an answer, in their order.
 fn count_lines(lines: &str, answer: &str) -> usize {
     let mut wanted = lines.lines();
@@ -91,15 +105,20 @@ fn count_lines(lines: &str, answer: &str) -> usize {
 }
 
 /// Asks for the large page, waits until the server can send no more, and reads it.
+fn large_answer<R: Net + Clock + AllocGlobal>(rt: &R, port: u16) -> io::Result<String> {
+    let mut late = connect(rt, port)?;
+    ask_last(&mut late, "GET", "/data")?;
+    thread::sleep(rt, Duration::from_millis(WAITS));
+    read_whole(rt, &mut late)
+}
+
+/// The same, and prints how many lines of the data came.
 fn read_late<R: Net + Clock + Print + AllocGlobal>(
     rt: &R,
     port: u16,
     lines: &str,
 ) -> io::Result<()> {
-    let mut late = connect(rt, port)?;
-    ask_last(&mut late, "GET", "/data")?;
-    thread::sleep(rt, Duration::from_millis(WAITS));
-    let answer = read_whole(rt, &mut late)?;
+    let answer = large_answer(rt, port)?;
     tell_answer(rt, "a reader that waits", answer.as_str())?;
     println!(rt;
         "lines of the data: {}",
@@ -107,17 +126,51 @@ fn read_late<R: Net + Clock + Print + AllocGlobal>(
     )
 }
 
+/// Asks on three connections at once, and then reads the answers.
+fn ask_three<R: Print + AllocGlobal, S: Read + Write>(
+    rt: &R,
+    reload: &mut S,
+    first: &mut S,
+    second: &mut S,
+) -> io::Result<()> {
+    ask_last(reload, "POST", "/reload")?;
+    ask_last(first, "HEAD", "/data")?;
+    ask_last(second, "HEAD", "/elsewhere")?;
+    tell_whole(rt, "a reload", reload)?;
+    tell_whole(rt, "beside it", first)?;
+    tell_whole(rt, "and", second)
+}
+
 /// Asks on two connections while the server reads its file again, so that it is told of both at once.
 fn ask_together<R: Net + Print + AllocGlobal>(rt: &R, port: u16) -> io::Result<()> {
     let mut reload = connect(rt, port)?;
     let mut first = connect(rt, port)?;
     let mut second = connect(rt, port)?;
-    ask_last(&mut reload, "POST", "/reload")?;
-    ask_last(&mut first, "HEAD", "/data")?;
-    ask_last(&mut second, "HEAD", "/elsewhere")?;
-    tell_answer(rt, "a reload", read_whole(rt, &mut reload)?.as_str())?;
-    tell_answer(rt, "beside it", read_whole(rt, &mut first)?.as_str())?;
-    tell_answer(rt, "and", read_whole(rt, &mut second)?.as_str())
+    ask_three(rt, &mut reload, &mut first, &mut second)
+}
+
+fn ask_late_and_together<R: Net + Clock + Print + AllocGlobal>(
+    rt: &R,
+    port: u16,
+    lines: &str,
+) -> io::Result<()> {
+    read_late(rt, port, lines)?;
+    ask_together(rt, port)
+}
+
+/// Serves the large page, and asks for it.
+fn serve_large<R: Processes + Files + Net + Clock + Print + AllocGlobal>(
+    rt: &R,
+    lines: &str,
+) -> io::Result<()> {
+    fs::write(rt, "large.nq", lines)?;
+    let server = serve(
+        rt,
+        "large.nq",
+        &["--reload", "/reload", "--stop-after", "4"],
+    )?;
+    let so_far = ask_late_and_together(rt, server.port, lines);
+    end(rt, server, so_far)
 }
 
 /// A page of five megabytes for a reader that waits first, and connections that ask at once.
@@ -125,19 +178,9 @@ pub fn large_page<R: Processes + Files + Net + Clock + Print + AllocGlobal>(
     rt: &R,
 ) -> io::Result<()> {
     println!(rt; "a page of some megabytes")?;
-    let lines = large_lines(rt)?;
-    fs::write(rt, "large.nq", lines.as_str())?;
-    let server = serve(
-        rt,
-        "large.nq",
-        &["--reload", "/reload", "--stop-after", "4"],
-    )?;
-    let port = server.port;
-    let mut so_far = read_late(rt, port, lines.as_str());
-    if so_far.is_ok() {
-        so_far = ask_together(rt, port);
-    }
-    end(rt, server, so_far)
+    let long = long_literal(rt)?;
+    let lines = large_lines(rt, long.as_str())?;
+    serve_large(rt, lines.as_str())
 }
 
 /// Leaves an answer unread, so that the system resets the connection.
@@ -158,19 +201,24 @@ fn send_no_head<R: AllocGlobal, S: Write>(rt: &R, stream: &mut S) -> io::Result<
     stream.write_all(&bytes)
 }
 
+/// Speaks on one of two connections what is no head, and asks on the other.
+fn speak_on_two<R: Print + AllocGlobal, S: Read + Write>(
+    rt: &R,
+    refused: &mut S,
+    kept: &mut S,
+) -> io::Result<()> {
+    send_no_head(rt, refused)?;
+    tell_whole(rt, "what is no head", refused)?;
+    ask_last(kept, "GET", "/data")?;
+    tell_whole(rt, "beside them", kept)
+}
+
 fn speak_on_three<R: Net + Print + AllocGlobal>(rt: &R, port: u16) -> io::Result<()> {
     let mut kept = connect(rt, port)?;
     let lost = connect(rt, port)?;
     let mut refused = connect(rt, port)?;
     reset(lost)?;
-    send_no_head(rt, &mut refused)?;
-    tell_answer(
-        rt,
-        "what is no head",
-        read_whole(rt, &mut refused)?.as_str(),
-    )?;
-    ask_last(&mut kept, "GET", "/data")?;
-    tell_answer(rt, "beside them", read_whole(rt, &mut kept)?.as_str())
+    speak_on_two(rt, &mut refused, &mut kept)
 }
 
 /// Three connections at once, of which one is reset and one refused.
@@ -183,39 +231,53 @@ pub fn three_connections<R: Processes + Files + Net + Print + AllocGlobal>(
     end(rt, server, so_far)
 }
 
+/// Asks for a page on a connection of its own, and prints the first line of the answer.
+fn ask_once<R: Net + Print + AllocGlobal>(
+    rt: &R,
+    who: &str,
+    port: u16,
+    method: &str,
+    path: &str,
+) -> io::Result<()> {
+    let mut stream = connect(rt, port)?;
+    ask_last(&mut stream, method, path)?;
+    tell_whole(rt, who, &mut stream)
+}
+
+/// Starts this program, waits for its end, and prints how it ended.
+fn run_to_end<R: Processes + Files + Print + AllocGlobal>(
+    rt: &R,
+    words: &[&str],
+    wanted: i32,
+) -> io::Result<()> {
+    let ended = start(rt, words, &[])?.wait_with_output(rt.alloc())?;
+    tell(rt, words.first().unwrap_or(&""), &ended, wanted)
+}
+
 /// A second server at an address that is taken.
 fn serve_twice<R: Processes + Files + Net + Print + AllocGlobal>(
     rt: &R,
     base: &str,
     port: u16,
 ) -> io::Result<()> {
-    let second = start(rt, &["serve", "people.nq", "--base", base], &[])?;
-    tell(rt, "serve", &second.wait_with_output(rt.alloc())?, 12)?;
-    let mut stream = connect(rt, port)?;
-    ask_last(&mut stream, "GET", "/data")?;
-    tell_answer(
-        rt,
-        "the first server",
-        read_whole(rt, &mut stream)?.as_str(),
-    )
+    run_to_end(rt, &["serve", "people.nq", "--base", base], 12)?;
+    ask_once(rt, "the first server", port, "GET", "/data")
+}
+
+/// A query to an address at which nobody listens.
+fn ask_nobody<R: Processes + Files + Net + Print + AllocGlobal>(rt: &R) -> io::Result<()> {
+    println!(rt; "a query to an address at which nobody listens")?;
+    let base = format!(in rt.alloc(); "http://127.0.0.1:{}/data", free_port(rt)?)?;
+    run_to_end(rt, &["query", base.as_str(), "friends.rq"], 5)
 }
 
 /// Addresses at which nobody listens, or another program does.
 pub fn addresses<R: Processes + Files + Net + Print + AllocGlobal>(rt: &R) -> io::Result<()> {
-    println!(rt; "a query to an address at which nobody listens")?;
-    let base = format!(in rt.alloc(); "http://127.0.0.1:{}/data", free_port(rt)?)?;
-    let client = start(rt, &["query", base.as_str(), "friends.rq"], &[])?;
-    tell(rt, "query", &client.wait_with_output(rt.alloc())?, 5)?;
+    ask_nobody(rt)?;
     println!(rt; "a server at an address that is taken")?;
     let server = serve(rt, "people.nq", &["--stop-after", "1"])?;
     let so_far = serve_twice(rt, server.base.as_str(), server.port);
     end(rt, server, so_far)
-}
-
-fn reload_once<R: Net + Print + AllocGlobal>(rt: &R, port: u16) -> io::Result<()> {
-    let mut stream = connect(rt, port)?;
-    ask_last(&mut stream, "POST", "/reload")?;
-    tell_answer(rt, "a reload", read_whole(rt, &mut stream)?.as_str())
 }
 
 /// A reload of what is no regular file, and can't be read again.
@@ -228,6 +290,6 @@ pub fn reload_of_no_file<R: Processes + Files + Net + Print + AllocGlobal>(
         "/dev/stdin",
         &["--reload", "/reload", "--stop-after", "1"],
     )?;
-    let so_far = reload_once(rt, server.port);
+    let so_far = ask_once(rt, "a reload", server.port, "POST", "/reload");
     end(rt, server, so_far)
 }

@@ -42,32 +42,48 @@ fn said(answer: Result<usize, Fault>) -> &'static str {
     }
 }
 
+/// Finds two files, and answers of reads: of the first, which was let go of, and three of the second.
+fn read_four<R: Files + AllocGlobal>(
+    shelf: &mut DiskShelf<R>,
+) -> Result<[Result<usize, Fault>; 4], Fault> {
+    let mut bytes = [0u8; 65536];
+    let first = shelf.find("people.nq")?;
+    let second = shelf.find("all.rq")?;
+    Ok([
+        shelf.read(first, &mut bytes),
+        shelf.read(second, &mut bytes),
+        shelf.read(second, &mut bytes),
+        shelf.read(second, &mut bytes),
+    ])
+}
+
 /// Reads of a file that was let go of, and of one that was read to its end.
 fn read_after<R: Files + Print + AllocGlobal>(rt: &R) -> io::Result<()> {
     let mut shelf = DiskShelf::new(rt);
-    let mut bytes = [0u8; 65536];
-    let Ok(first) = shelf.find("people.nq") else {
-        return Err(io::Error::other("a file was not found"));
+    let answers = match read_four(&mut shelf) {
+        Ok(answers) => answers,
+        Err(_) => return Err(io::Error::other("a file was not found")),
     };
-    let Ok(second) = shelf.find("all.rq") else {
-        return Err(io::Error::other("a file was not found"));
-    };
-    let let_go = shelf.read(first, &mut bytes);
-    let some = shelf.read(second, &mut bytes);
-    let end = shelf.read(second, &mut bytes);
-    let again = shelf.read(second, &mut bytes);
+    let [let_go, some, end, again] = answers;
     println!(rt; "let go of by the next find: {}", said(let_go))?;
     println!(rt; "the one found last: {}", said(some))?;
     println!(rt; "behind its bytes: {}", said(end))?;
     println!(rt; "and again: {}", said(again))
 }
 
+/// How often a file was found, and how many more files this process holds open then than before.
+fn find_and_count<R: Files + AllocGlobal + Clone + Drop>(rt: &R) -> io::Result<(usize, usize)> {
+    let before = open_files(rt)?;
+    let mut shelf = DiskShelf::new(rt);
+    let found = find_often(&mut shelf);
+    Ok((found, open_files(rt)?.saturating_sub(before)))
+}
+
 /// Finds and drops files, and prints how many of them were held open at most.
 pub fn found_and_dropped<R: Files + Print + AllocGlobal + Clone + Drop>(rt: &R) -> io::Result<()> {
     println!(rt; "files that are found and dropped")?;
-    let before = open_files(rt)?;
-    let mut shelf = DiskShelf::new(rt);
-    println!(rt; "found: {}", find_often(&mut shelf))?;
-    println!(rt; "held open: {}", open_files(rt)?.saturating_sub(before))?;
+    let (found, held) = find_and_count(rt)?;
+    println!(rt; "found: {found}")?;
+    println!(rt; "held open: {held}")?;
     read_after(rt)
 }

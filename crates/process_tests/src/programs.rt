@@ -20,11 +20,8 @@ pub fn start<R: Processes + Files + AllocGlobal>(
 ) -> io::Result<Child<R::Started>> {
     let program = env::current_exe(rt)?;
     let mut command = Command::new(rt.alloc(), program.as_path())?;
-    for word in words {
+    for word in words.iter().chain(options) {
         command.arg(*word)?;
-    }
-    for option in options {
-        command.arg(*option)?;
     }
     command
         .stdin(Stdio::null())

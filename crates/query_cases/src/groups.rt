@@ -1,17 +1,15 @@
 // Queries with groups.
-use crate::queries::{push_pattern, selected_text, text_from};
-use case_rows::{Case, CaseFault};
+use crate::queries::{bad_text, push_pattern, selected_text};
+use case_rows::{Case, CaseFault, text_of_bytes};
 use group_faults::GroupFault;
 use group_parser::{Asked, parse_asked, parse_group};
 use group_query::{GroupQuery, Patterns, Step};
-use query_grammar::groups::group_fault;
-use query_grammar::kind::Kind;
 use std::alloc::Global;
 
 /// A fault as text.
 fn fault_text(alloc: Global, fault: GroupFault) -> Result<String, CaseFault> {
     match fault {
-        GroupFault::Bad { at, why } => Ok(format!(in alloc; "{at} {why:?}")?),
+        GroupFault::Bad { at, why } => bad_text(alloc, at, &why),
         GroupFault::OutOfMemory => Err(CaseFault::OutOfMemory),
     }
 }
@@ -40,35 +38,65 @@ fn steps_text(alloc: Global, query: &GroupQuery) -> Result<String, CaseFault> {
     for step in query.steps() {
         push_step(alloc, step, &mut out)?;
     }
-    text_from(out)
+    text_of_bytes(out)
+}
+
+/// Numbers of steps, names and selected names, and whether each row stands once.
+fn numbers_text(
+    alloc: Global,
+    steps: usize,
+    names: usize,
+    selected: usize,
+    is_distinct: bool,
+) -> Result<String, CaseFault> {
+    Ok(format!(in alloc; "{steps} {names} {selected} {is_distinct}")?)
 }
 
 /// How many steps, names and selected names a query has, and whether each row stands once.
 fn counts_text(alloc: Global, query: &GroupQuery) -> Result<String, CaseFault> {
     let shown = query.shown();
-    Ok(format!(in alloc;
-        "{} {} {} {}",
-        query.steps().len(),
-        shown.names().len(),
+    let steps = query.steps().len();
+    let names = shown.names().len();
+    numbers_text(
+        alloc,
+        steps,
+        names,
         shown.selected().len(),
-        query.is_distinct()
-    )?)
+        query.is_distinct(),
+    )
+}
+
+/// What is to be shown of a query.
+fn query_text(alloc: Global, query: &GroupQuery, show: &str) -> Result<String, CaseFault> {
+    match show {
+        "counts" => counts_text(alloc, query),
+        "steps" => steps_text(alloc, query),
+        "selected" => selected_text(alloc, query.shown()),
+        _ => Err(CaseFault::Row),
+    }
 }
 
 /// `text`, `show`: the fault of a text, or what is to be shown of its query with groups: its `counts` of steps, names
 /// and selected names with whether each row stands once, its `steps`, or what is `selected`.
 pub fn group(alloc: Global, case: &mut Case<'_>) -> Result<String, CaseFault> {
-    let text = case.bytes(alloc, "text")?;
     let show = case.text(alloc, "show")?;
-    let query = match parse_group(alloc, text.as_slice()) {
-        Ok(query) => query,
-        Err(fault) => return fault_text(alloc, fault),
-    };
-    match show.as_str() {
-        "counts" => counts_text(alloc, &query),
-        "steps" => steps_text(alloc, &query),
-        "selected" => selected_text(alloc, query.shown()),
-        _ => Err(CaseFault::Row),
+    let text = case.bytes(alloc, "text")?;
+    match parse_group(alloc, text.as_slice()) {
+        Ok(query) => query_text(alloc, &query, show.as_str()),
+        Err(fault) => fault_text(alloc, fault),
+    }
+}
+
+/// A word and a number.
+fn counted_text(alloc: Global, word: &str, count: usize) -> Result<String, CaseFault> {
+    Ok(format!(in alloc; "{word} {count}")?)
+}
+
+/// `plain` with how many patterns, or `groups` with how many steps a query has.
+fn asked_text(alloc: Global, asked: &Asked) -> Result<String, CaseFault> {
+    match asked {
+        Asked::Plain(query) => counted_text(alloc, "plain", query.patterns().len()),
+        Asked::Groups(query) => counted_text(alloc, "groups", query.steps().len()),
     }
 }
 
@@ -76,16 +104,7 @@ pub fn group(alloc: Global, case: &mut Case<'_>) -> Result<String, CaseFault> {
 pub fn asked(alloc: Global, case: &mut Case<'_>) -> Result<String, CaseFault> {
     let text = case.bytes(alloc, "text")?;
     match parse_asked(alloc, text.as_slice()) {
-        Ok(Asked::Plain(query)) => Ok(format!(in alloc; "plain {}", query.patterns().len())?),
-        Ok(Asked::Groups(query)) => Ok(format!(in alloc; "groups {}", query.steps().len())?),
+        Ok(asked) => asked_text(alloc, &asked),
         Err(fault) => fault_text(alloc, fault),
-    }
-}
-
-/// The number of the first of these words with which they begin no query with groups, or `none`.
-pub fn grammar_text(alloc: Global, kinds: &[Kind]) -> Result<String, CaseFault> {
-    match group_fault(alloc, kinds)? {
-        Some(place) => Ok(format!(in alloc; "{place}")?),
-        None => Ok(String::from_str(alloc, "none")?),
     }
 }

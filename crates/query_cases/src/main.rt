@@ -23,7 +23,7 @@ impl Answers for Readers {
             "group_grammar" => words::group_grammar(alloc, case),
             "group" => groups::group(alloc, case),
             "asked" => groups::asked(alloc, case),
-            "word_text" => words::word_text(alloc, case),
+            "word_text" => words::said(alloc, case),
             _ => Err(CaseFault::Row),
         }
     }

@@ -1,9 +1,9 @@
 // Tokens, what they say, and the grammar over their kinds.
 ghost use Rattle.std.specs.Prelude.{◌≤◌, length, IfOk};
 
-use crate::groups::grammar_text;
-use case_rows::{Case, CaseFault};
+use case_rows::{Case, CaseFault, number_text, truth_text, word_text};
 use query_grammar::grammar::grammar_fault;
+use query_grammar::groups::group_fault;
 use query_grammar::kind::Kind;
 use query_tokens::piece::{Piece, PieceFault, pieces};
 use query_words::text::{
@@ -13,12 +13,11 @@ use query_words::word::{Value, Word, kinds_of, words_of};
 use std::alloc::Global;
 use text_base::{OutOfMemory, Text};
 
-/// `text`: the characters of a text, at most 262144.
-fn chars_of(alloc: Global, case: &mut Case<'_>) -> Result<Vec<char>, CaseFault>
+/// The characters of a text, at most 262144.
+fn chars_in(alloc: Global, text: &str) -> Result<Vec<char>, CaseFault>
     ensures { IfOk result (λ v. length v.items ≤ 262144) }
 {
-    let text = case.text(alloc, "text")?;
-    let Ok(chars) = decode(alloc, text.as_str()) else {
+    let Ok(chars) = decode(alloc, text) else {
         return Err(CaseFault::OutOfMemory);
     };
     if chars.len() > 262144 {
@@ -27,21 +26,39 @@ fn chars_of(alloc: Global, case: &mut Case<'_>) -> Result<Vec<char>, CaseFault>
     Ok(chars)
 }
 
+/// `text`: the characters of a text, at most 262144.
+fn chars_of(alloc: Global, case: &mut Case<'_>) -> Result<Vec<char>, CaseFault>
+    ensures { IfOk result (λ v. length v.items ≤ 262144) }
+{
+    let text = case.text(alloc, "text")?;
+    chars_in(alloc, text.as_str())
+}
+
+/// Appends a token: its kind, its first byte and the one past its last, its first character and how many it has.
+fn push_piece(alloc: Global, piece: &Piece, out: &mut String) -> Result<(), CaseFault> {
+    let Piece {
+        kind,
+        place,
+        len,
+        at,
+        to,
+    } = piece;
+    let told = format!(in alloc; "{kind:?} {at}-{to} {place}+{len};")?;
+    Ok(out.push_str(told.as_str())?)
+}
+
 /// The tokens, each with its kind, its first byte and the one past its last, its first character and how many it has.
 fn pieces_text(alloc: Global, pieces: &[Piece]) -> Result<String, CaseFault> {
     let mut out = String::new(alloc);
     for piece in pieces {
-        let Piece {
-            kind,
-            place,
-            len,
-            at,
-            to,
-        } = piece;
-        let told = format!(in alloc; "{kind:?} {at}-{to} {place}+{len};")?;
-        out.push_str(told.as_str())?;
+        push_piece(alloc, piece, &mut out)?;
     }
     Ok(out)
+}
+
+/// The place of a fault.
+fn fault_text(alloc: Global, at: usize) -> Result<String, CaseFault> {
+    Ok(format!(in alloc; "fault {at}")?)
 }
 
 /// `text`: the tokens of a text, or the place of the fault.
@@ -49,7 +66,7 @@ pub fn piece_places(alloc: Global, case: &mut Case<'_>) -> Result<String, CaseFa
     let chars = chars_of(alloc, case)?;
     match pieces(alloc, chars.as_slice()) {
         Ok(pieces) => pieces_text(alloc, pieces.as_slice()),
-        Err(PieceFault::At(at)) => Ok(format!(in alloc; "fault {at}")?),
+        Err(PieceFault::At(at)) => fault_text(alloc, at),
         Err(PieceFault::OutOfMemory) => Err(CaseFault::OutOfMemory),
     }
 }
@@ -69,17 +86,24 @@ fn words_in(alloc: Global, chars: &[char]) -> Result<Vec<Word>, CaseFault>
     }
 }
 
-/// `text`: the words of a text, and their kinds.
-fn words_and_kinds(
-    alloc: Global,
-    case: &mut Case<'_>,
-) -> Result<(Vec<Word>, Vec<Kind>), CaseFault> {
+/// `text`: the words of a text.
+fn words_in_text(alloc: Global, case: &mut Case<'_>) -> Result<Vec<Word>, CaseFault> {
     let chars = chars_of(alloc, case)?;
-    let words = words_in(alloc, chars.as_slice())?;
-    match kinds_of(alloc, words.as_slice()) {
-        Ok(kinds) => Ok((words, kinds)),
+    words_in(alloc, chars.as_slice())
+}
+
+/// The kinds of words.
+fn kinds_in(alloc: Global, words: &[Word]) -> Result<Vec<Kind>, CaseFault> {
+    match kinds_of(alloc, words) {
+        Ok(kinds) => Ok(kinds),
         Err(_) => Err(CaseFault::OutOfMemory),
     }
+}
+
+/// `text`: the kinds of the words of a text.
+fn kinds_in_text(alloc: Global, case: &mut Case<'_>) -> Result<Vec<Kind>, CaseFault> {
+    let words = words_in_text(alloc, case)?;
+    kinds_in(alloc, words.as_slice())
 }
 
 /// The text of a token that has one alone.
@@ -109,59 +133,85 @@ fn number_kind(value: &Value) -> &'static str {
     }
 }
 
-/// `text`: the words of a text, each with its kind, its first byte and what it says.
-pub fn words(alloc: Global, case: &mut Case<'_>) -> Result<String, CaseFault> {
-    let (words, kinds) = words_and_kinds(alloc, case)?;
-    let mut out = String::new(alloc);
-    for (word, kind) in words.iter().zip(&kinds) {
-        let number = number_kind(&word.value);
-        let told = format!(in alloc; "{kind:?}{number} {} {};", word.at, text_in(&word.value))?;
-        out.push_str(told.as_str())?;
-    }
+/// Appends a word: its kind, its first byte and what it says.
+fn push_word(alloc: Global, word: &Word, kind: &Kind, out: &mut String) -> Result<(), CaseFault> {
+    let number = number_kind(&word.value);
+    let text = text_in(&word.value);
+    let told = format!(in alloc; "{kind:?}{number} {} {text};", word.at)?;
+    Ok(out.push_str(told.as_str())?)
+}
+
+/// Words and their kinds.
+fn words_text(alloc: Global, words: &[Word], kinds: &[Kind]) -> Result<String, CaseFault> {
     if words.len() != kinds.len() {
         return Err(CaseFault::Differs);
+    }
+    let mut out = String::new(alloc);
+    for (word, kind) in words.iter().zip(kinds) {
+        push_word(alloc, word, kind, &mut out)?;
     }
     Ok(out)
 }
 
+/// `text`: the words of a text, each with its kind, its first byte and what it says.
+pub fn words(alloc: Global, case: &mut Case<'_>) -> Result<String, CaseFault> {
+    let words = words_in_text(alloc, case)?;
+    let kinds = kinds_in(alloc, words.as_slice())?;
+    words_text(alloc, words.as_slice(), kinds.as_slice())
+}
+
+/// The place of a fault, or `none`.
+fn place_text(alloc: Global, place: Option<usize>) -> Result<String, CaseFault> {
+    match place {
+        Some(place) => number_text(alloc, place as u64),
+        None => word_text(alloc, "none"),
+    }
+}
+
 /// `text`: the number of the first word with which the words of a text begin no query, or `none`.
 pub fn grammar(alloc: Global, case: &mut Case<'_>) -> Result<String, CaseFault> {
-    let (_, kinds) = words_and_kinds(alloc, case)?;
-    match grammar_fault(kinds.as_slice()) {
-        Some(place) => Ok(format!(in alloc; "{place}")?),
-        None => Ok(String::from_str(alloc, "none")?),
+    let kinds = kinds_in_text(alloc, case)?;
+    place_text(alloc, grammar_fault(kinds.as_slice()))
+}
+
+/// `text`: the number of the first word with which the words of a text begin no query with groups, or `none`.
+pub fn group_grammar(alloc: Global, case: &mut Case<'_>) -> Result<String, CaseFault> {
+    let kinds = kinds_in_text(alloc, case)?;
+    match group_fault(alloc, kinds.as_slice()) {
+        Ok(place) => place_text(alloc, place),
+        Err(_) => Err(CaseFault::OutOfMemory),
     }
 }
 
 /// The text that a call gave.
 fn given(alloc: Global, text: Result<Text, OutOfMemory>) -> Result<String, CaseFault> {
     match text {
-        Ok(text) => Ok(String::from_str(alloc, text.as_str())?),
+        Ok(text) => word_text(alloc, text.as_str()),
         Err(_) => Err(CaseFault::OutOfMemory),
+    }
+}
+
+/// What the characters of a token say, or whether they are a word.
+fn shown(alloc: Global, chars: &[char], show: &str) -> Result<String, CaseFault>
+    requires { length chars.now ≤ 262144 }
+{
+    match show {
+        "resolved" => given(alloc, resolved_text(alloc, chars)),
+        "prefix" => given(alloc, prefix_text(alloc, chars)),
+        "local" => given(alloc, local_text(alloc, chars)),
+        "all" => given(alloc, text_of(alloc, chars)),
+        "behind" => given(alloc, text_after_first(alloc, chars)),
+        "select" => truth_text(alloc, same_word(b"select", chars)),
+        "a" => truth_text(alloc, is_a(chars)),
+        _ => Err(CaseFault::Row),
     }
 }
 
 /// `text`, `show`: what the characters of a token say: `resolved` without its marks and escapes, the `prefix` and the
 /// `local` part of a name, `all` of them or those `behind` the first; whether they are the word `select` in any case,
 /// or the word `a`.
-pub fn word_text(alloc: Global, case: &mut Case<'_>) -> Result<String, CaseFault> {
+pub fn said(alloc: Global, case: &mut Case<'_>) -> Result<String, CaseFault> {
     let show = case.text(alloc, "show")?;
     let chars = chars_of(alloc, case)?;
-    let chars = chars.as_slice();
-    match show.as_str() {
-        "resolved" => given(alloc, resolved_text(alloc, chars)),
-        "prefix" => given(alloc, prefix_text(alloc, chars)),
-        "local" => given(alloc, local_text(alloc, chars)),
-        "all" => given(alloc, text_of(alloc, chars)),
-        "behind" => given(alloc, text_after_first(alloc, chars)),
-        "select" => Ok(format!(in alloc; "{}", same_word(b"select", chars))?),
-        "a" => Ok(format!(in alloc; "{}", is_a(chars))?),
-        _ => Err(CaseFault::Row),
-    }
-}
-
-/// `text`: the number of the first word with which the words of a text begin no query with groups, or `none`.
-pub fn group_grammar(alloc: Global, case: &mut Case<'_>) -> Result<String, CaseFault> {
-    let (_, kinds) = words_and_kinds(alloc, case)?;
-    grammar_text(alloc, kinds.as_slice())
+    shown(alloc, chars.as_slice(), show.as_str())
 }

@@ -1,6 +1,6 @@
 // How runs end, and what is shown of that.
-use crate::sent::{answers_in, targets_in};
-use case_rows::{Case, CaseFault};
+use crate::sent::{answers_in, order_in, targets_in};
+use case_rows::{Case, CaseFault, number_text, word_text};
 use std::alloc::Global;
 use std::str;
 use tpf_base::MemSink;
@@ -17,10 +17,31 @@ pub struct Outcome {
 }
 
 impl Outcome {
+    /// Before a run with this output and this standard error.
+    pub fn new(out: MemSink, err: MemSink) -> Outcome {
+        Outcome {
+            status: 0,
+            out,
+            err,
+            sent: None,
+        }
+    }
+
     /// Whether the run ended with this status, and said this on the standard error.
     pub fn says(&self, status: u8, line: &str) -> bool {
         self.status == status && self.err.taken() == line.as_bytes()
     }
+}
+
+/// What is to be shown of what was sent.
+#[derive(Drop)]
+enum Sent {
+    /// The targets of the requests.
+    Targets,
+    /// The answers.
+    Answers,
+    /// Which of two texts was sent first, and nothing where there are no two.
+    Order(Vec<String>),
 }
 
 /// What is to be shown of runs.
@@ -29,23 +50,49 @@ pub struct Show {
     is_sorted: bool,
     count: Option<String>,
     said: Vec<String>,
-    has_wire: Option<String>,
-    has_targets: bool,
-    has_answers: bool,
-    order: Vec<String>,
+    /// Whether a wire is left inside, where the row says it.
+    has_wire: Option<bool>,
+    sent: Sent,
+}
+
+/// `wire`: whether one is `left` inside, or `none`.
+fn has_wire_of(alloc: Global, case: &mut Case<'_>) -> Result<Option<bool>, CaseFault> {
+    let Some(word) = case.text_if(alloc, "wire")? else {
+        return Ok(None);
+    };
+    match word.as_str() {
+        "left" => Ok(Some(true)),
+        "none" => Ok(Some(false)),
+        _ => Err(CaseFault::Row),
+    }
+}
+
+/// `targets`, `answers`, `order`: what is to be shown of what was sent.
+fn sent_of(alloc: Global, case: &mut Case<'_>) -> Result<Sent, CaseFault> {
+    if case.flag("targets")? {
+        return Ok(Sent::Targets);
+    }
+    if case.flag("answers")? {
+        return Ok(Sent::Answers);
+    }
+    Ok(Sent::Order(case.texts(alloc, "order")?))
 }
 
 /// `sorted`, `count`, `said`, `wire`, `targets`, `answers`, `order`: what is to be shown of a run.
-pub fn show_of(alloc: Global, case: &mut Case<'_>) -> Result<Show, CaseFault> {
-    Ok(Show {
-        is_sorted: case.flag("sorted")?,
-        count: case.text_if(alloc, "count")?,
-        said: case.texts(alloc, "said")?,
-        has_wire: case.text_if(alloc, "wire")?,
-        has_targets: case.flag("targets")?,
-        has_answers: case.flag("answers")?,
-        order: case.texts(alloc, "order")?,
-    })
+pub fn show_of(alloc: Global, case: &mut Case<'_>) -> Result<Box<Show>, CaseFault> {
+    let is_sorted = case.flag("sorted")?;
+    let has_wire = has_wire_of(alloc, case)?;
+    let count = case.text_if(alloc, "count")?;
+    let said = case.texts(alloc, "said")?;
+    let sent = sent_of(alloc, case)?;
+    let show = Show {
+        is_sorted,
+        count,
+        said,
+        has_wire,
+        sent,
+    };
+    Ok(Box::new(alloc, show)?)
 }
 
 /// The text that was taken.
@@ -67,17 +114,19 @@ fn rows_in(text: &str) -> Option<(&str, &str)> {
     }
 }
 
-/// The text of a result with its rows in the order of their bytes.
-fn sorted(alloc: Global, text: &str) -> Result<String, CaseFault> {
-    let Some((front, rows)) = rows_in(text) else {
-        return Ok(String::from_str(alloc, text)?);
-    };
+/// The parts of rows, in the order of their bytes.
+fn sorted_parts(alloc: Global, rows: &str) -> Result<Vec<String>, CaseFault> {
     let mut parts = Vec::new(alloc);
     for row in rows.split("},{") {
-        parts.push(String::from_str(alloc, row)?)?;
+        parts.push(word_text(alloc, row)?)?;
     }
     parts.sort()?;
-    let mut out = String::from_str(alloc, front)?;
+    Ok(parts)
+}
+
+/// The text of a result with these rows.
+fn with_rows(alloc: Global, front: &str, parts: &[String]) -> Result<String, CaseFault> {
+    let mut out = word_text(alloc, front)?;
     for (i, row) in parts.iter().enumerate() {
         out.push_str(if i == 0 { "\"bindings\":[{" } else { "},{" })?;
         out.push_str(row.as_str())?;
@@ -86,69 +135,77 @@ fn sorted(alloc: Global, text: &str) -> Result<String, CaseFault> {
     Ok(out)
 }
 
+/// The text of a result with its rows in the order of their bytes.
+fn sorted(alloc: Global, text: &str) -> Result<String, CaseFault> {
+    let Some((front, rows)) = rows_in(text) else {
+        return word_text(alloc, text);
+    };
+    let parts = sorted_parts(alloc, rows)?;
+    with_rows(alloc, front, parts.as_slice())
+}
+
 /// How often a text stands in another.
 fn times(text: &str, part: &str) -> usize {
     text.split(part).count().saturating_sub(1)
 }
 
-/// Which of two texts stands first.
-fn order_of(text: &str, one: &str, other: &str) -> &'static str {
-    match (text.find(one), text.find(other)) {
-        (Some(first), Some(second)) => {
-            if first < second {
-                "in this order"
-            } else {
-                "in the other order"
-            }
-        }
-        _ => "not both",
-    }
+/// The status of a run, its output, its line on the standard error, and what it sent.
+fn run_text(
+    alloc: Global,
+    status: u8,
+    out: &str,
+    err: &str,
+    sent: &str,
+) -> Result<String, CaseFault> {
+    Ok(format!(in alloc; "{status} {out}| {err}{sent}")?)
 }
 
 impl Show {
     /// What is shown of the output.
-    fn output(&self, alloc: Global, text: &str) -> Result<String, CaseFault> {
+    fn output(&self, alloc: Global, taken: &[u8]) -> Result<String, CaseFault> {
+        let text = text_of(taken)?;
         if let Some(part) = &self.count {
-            return Ok(format!(in alloc; "{}", times(text, part.as_str()))?);
+            return number_text(alloc, times(text, part.as_str()) as u64);
         }
         if self.is_sorted {
             return sorted(alloc, text);
         }
-        Ok(String::from_str(alloc, text)?)
+        word_text(alloc, text)
     }
 
     /// What is shown of the standard error.
-    fn error(&self, alloc: Global, text: &str) -> Result<String, CaseFault> {
+    fn error(&self, alloc: Global, taken: &[u8]) -> Result<String, CaseFault> {
+        let text = text_of(taken)?;
         if let [front, end] = self.said.as_slice() {
             if text.starts_with(front.as_str()) && text.ends_with(end.as_str()) {
-                return Ok(String::from_str(alloc, "as said")?);
+                return word_text(alloc, "as said");
             }
         }
-        Ok(String::from_str(alloc, text)?)
+        word_text(alloc, text)
     }
 
     /// Whether a wire was left inside, or not, as the row says.
-    fn agrees(&self, has_wire: bool) -> bool {
-        match &self.has_wire {
-            Some(word) => word.as_str() == if has_wire { "left" } else { "none" },
+    fn agrees(&self, is_left: bool) -> bool {
+        match self.has_wire {
+            Some(has_wire) => has_wire == is_left,
             None => true,
         }
     }
 
     /// What is shown of what was sent: the targets of requests, the answers, or which of two texts comes first.
     fn traffic(&self, alloc: Global, sent: &str) -> Result<String, CaseFault> {
-        if self.has_targets {
-            return targets_in(alloc, sent);
+        match &self.sent {
+            Sent::Targets => targets_in(alloc, sent),
+            Sent::Answers => answers_in(alloc, sent),
+            Sent::Order(texts) => word_text(alloc, order_in(sent, texts.as_slice())),
         }
-        if self.has_answers {
-            return answers_in(alloc, sent);
-        }
-        match self.order.as_slice() {
-            [one, other] => Ok(String::from_str(
-                alloc,
-                order_of(sent, one.as_str(), other.as_str()),
-            )?),
-            _ => Ok(String::new(alloc)),
+    }
+
+    /// The same, where there is a wire.
+    fn sent(&self, alloc: Global, outcome: &Outcome) -> Result<String, CaseFault> {
+        match &outcome.sent {
+            Some(sent) => self.traffic(alloc, sent.as_str()),
+            None => Ok(String::new(alloc)),
         }
     }
 
@@ -157,12 +214,15 @@ impl Show {
         if !self.agrees(outcome.sent.is_some()) {
             return Err(CaseFault::Differs);
         }
-        let out = self.output(alloc, text_of(outcome.out.taken())?)?;
-        let err = self.error(alloc, text_of(outcome.err.taken())?)?;
-        let sent = match &outcome.sent {
-            Some(sent) => self.traffic(alloc, sent.as_str())?,
-            None => String::new(alloc),
-        };
-        Ok(format!(in alloc; "{} {out}| {err}{sent}", outcome.status)?)
+        let out = self.output(alloc, outcome.out.taken())?;
+        let err = self.error(alloc, outcome.err.taken())?;
+        let sent = self.sent(alloc, outcome)?;
+        run_text(
+            alloc,
+            outcome.status,
+            out.as_str(),
+            err.as_str(),
+            sent.as_str(),
+        )
     }
 }

@@ -66,6 +66,16 @@ fn targets_of<'a>(alloc: Global, sent: &'a str) -> Result<Vec<&'a str>, CaseFaul
     Ok(targets)
 }
 
+/// Targets with a blank between each two.
+fn targets_text(alloc: Global, targets: &[&str]) -> Result<String, CaseFault> {
+    let mut out = String::new(alloc);
+    for (i, target) in targets.iter().enumerate() {
+        out.push_str(if i == 0 { "" } else { " " })?;
+        out.push_str(target)?;
+    }
+    Ok(out)
+}
+
 /// The targets of the requests that were sent, with a blank between each two: the first one, and the others in the
 /// order of their bytes.
 pub fn targets_in(alloc: Global, sent: &str) -> Result<String, CaseFault> {
@@ -73,12 +83,29 @@ pub fn targets_in(alloc: Global, sent: &str) -> Result<String, CaseFault> {
     if targets.len() > 1 {
         targets[1..].sort_unstable();
     }
-    let mut out = String::new(alloc);
-    for (i, target) in targets.iter().enumerate() {
-        out.push_str(if i == 0 { "" } else { " " })?;
-        out.push_str(target)?;
+    targets_text(alloc, targets.as_slice())
+}
+
+/// Which of two texts stands first.
+fn order_of(text: &str, one: &str, other: &str) -> &'static str {
+    match (text.find(one), text.find(other)) {
+        (Some(first), Some(second)) => {
+            if first < second {
+                "in this order"
+            } else {
+                "in the other order"
+            }
+        }
+        _ => "not both",
     }
-    Ok(out)
+}
+
+/// Which of two texts was sent first, and nothing where there are no two.
+pub fn order_in(sent: &str, texts: &[String]) -> &'static str {
+    match texts {
+        [one, other] => order_of(sent, one.as_str(), other.as_str()),
+        _ => "",
+    }
 }
 
 /// What stands in a text between two others.
@@ -92,21 +119,34 @@ fn between<'a>(text: &'a str, front: &str, end: &str) -> Option<&'a str> {
     }
 }
 
-/// Appends an answer: its status, and of a page its count and its version, else the text of its body.
+/// The status of a page, its count and its version.
+fn page_text(alloc: Global, status: &str, count: &str, version: &str) -> Result<String, CaseFault> {
+    Ok(format!(in alloc; "{status} count {count} version {version}")?)
+}
+
+/// A status, and the text of a body.
+fn body_text(alloc: Global, status: &str, body: &str) -> Result<String, CaseFault> {
+    Ok(format!(in alloc; "{status} {body}")?)
+}
+
+/// An answer: its status, and of a page its count and its version, else the text of its body.
+fn answer_text(alloc: Global, head: &str, body: &str) -> Result<String, CaseFault> {
+    let status = head.split_once(' ').unwrap_or((head, "")).0;
+    let count = between(body, "totalItems> \"", "\"");
+    let version = between(body, "versionInfo> \"", "\"");
+    match (count, version) {
+        (Some(count), Some(version)) => page_text(alloc, status, count, version),
+        _ => body_text(alloc, status, body.trim_end()),
+    }
+}
+
+/// Appends an answer.
 fn push_answer(alloc: Global, answer: &str, out: &mut String) -> Result<(), CaseFault> {
     let Some((head, body)) = answer.split_once("\r\n\r\n") else {
         return Err(CaseFault::Row);
     };
-    let status = head.split_once(' ').unwrap_or((head, "")).0;
-    let count = between(body, "totalItems> \"", "\"");
-    let version = between(body, "versionInfo> \"", "\"");
-    let shown = match (count, version) {
-        (Some(count), Some(version)) => format!(in alloc;
-            "{status} count {count} version {version}"
-        )?,
-        _ => format!(in alloc; "{status} {}", body.trim_end())?,
-    };
-    Ok(out.push_str(shown.as_str())?)
+    let text = answer_text(alloc, head, body)?;
+    Ok(out.push_str(text.as_str())?)
 }
 
 /// Appends the answers on a link, with a comma between each two.
@@ -118,14 +158,19 @@ fn push_answers(alloc: Global, text: &str, out: &mut String) -> Result<(), CaseF
     Ok(())
 }
 
+/// Appends the answers on a link, in brackets.
+fn push_link(alloc: Global, text: &str, out: &mut String) -> Result<(), CaseFault> {
+    out.push('[')?;
+    push_answers(alloc, text, out)?;
+    Ok(out.push(']')?)
+}
+
 /// The answers on each link, which stand in brackets.
 pub fn answers_in(alloc: Global, sent: &str) -> Result<String, CaseFault> {
     let mut out = String::new(alloc);
     for text in sent.split(END) {
         if !text.is_empty() {
-            out.push('[')?;
-            push_answers(alloc, text, &mut out)?;
-            out.push(']')?;
+            push_link(alloc, text, &mut out)?;
         }
     }
     Ok(out)

@@ -1,6 +1,7 @@
 //! Cases of `tpf_server`: conversations over one connection. The rows stand in `data/`.
 #![tactic(auto)]
 
+mod connections;
 mod conversations;
 mod servers;
 

@@ -13,16 +13,20 @@ use text_base::Text;
 use tpf_server::Server;
 use triple_table::{Choice, Table};
 
+/// The longest canonical text of a term.
+const LONGEST: u64 = 262144;
+
 fn host() -> &'static str
     ensures { IsAuthority result.now }
 {
     "localhost"
 }
 
+/// The quads of N-Quads text.
 fn quads_of(alloc: Global, text: &str) -> Result<Vec<Quad>, CaseFault>
     ensures { IfOk result (λ v. All IsRdfQuad v.items) }
 {
-    match read_all(alloc, text.as_bytes(), 1000) {
+    match read_all(alloc, text.as_bytes(), LONGEST as usize) {
         Ok(quads) => Ok(quads),
         Err(_) => Err(CaseFault::Row),
     }
@@ -51,8 +55,8 @@ fn config_of(alloc: Global, page: u64) -> Result<Config, CaseFault> {
 
 /// A server of N-Quads text.
 pub fn server_of(alloc: Global, data: &str, page: u64) -> Result<Server, CaseFault> {
-    let table = table_of(alloc, data)?;
     let config = config_of(alloc, page)?;
+    let table = table_of(alloc, data)?;
     match Server::new(alloc, table, config) {
         Ok(server) => Ok(server),
         Err(_) => Err(CaseFault::OutOfMemory),

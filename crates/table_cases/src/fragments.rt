@@ -1,8 +1,8 @@
 // Fragments and their pages.
 ghost use Rattle.std.specs.Prelude.{◌≡◌, ◌<◌, ℕ};
 
-use crate::tables::{quads_of, table_of};
-use case_rows::{Case, CaseFault};
+use crate::tables::table_of;
+use case_rows::{Case, CaseFault, numbers_text, word_text};
 use fragment_pages::page;
 use rdf_terms::{Slot, Slots};
 use std::alloc::Global;
@@ -23,41 +23,90 @@ fn slot_of(alloc: Global, case: &mut Case<'_>, member: &str) -> Result<Slot, Cas
     }
 }
 
-/// `subject`, `predicate`, `object`: slots.
-fn slots_of(alloc: Global, case: &mut Case<'_>) -> Result<Slots, CaseFault> {
-    Ok(Slots {
-        subject: slot_of(alloc, case, "subject")?,
-        predicate: slot_of(alloc, case, "predicate")?,
-        object: slot_of(alloc, case, "object")?,
-    })
+/// Sets a slot to the one of a member.
+fn set_slot(
+    alloc: Global,
+    case: &mut Case<'_>,
+    member: &str,
+    slot: &mut Slot,
+) -> Result<(), CaseFault> {
+    *slot = slot_of(alloc, case, member)?;
+    Ok(())
 }
 
-/// How many triples a page of three has, with the count and the last page.
-fn sizes<L: Ledger>(table: &Table, slots: &Slots, k: u64, blank: Blank) -> Option<(usize, u64, u64)>
+/// `subject`, `predicate`, `object`: sets slots to those of the members.
+fn set_slots(alloc: Global, case: &mut Case<'_>, slots: &mut Slots) -> Result<(), CaseFault> {
+    set_slot(alloc, case, "subject", &mut slots.subject)?;
+    set_slot(alloc, case, "predicate", &mut slots.predicate)?;
+    set_slot(alloc, case, "object", &mut slots.object)
+}
+
+/// Slots of which none is fixed.
+fn free() -> Slots {
+    Slots {
+        subject: Slot::Any,
+        predicate: Slot::Any,
+        object: Slot::Any,
+    }
+}
+
+/// `subject`, `predicate`, `object`: slots.
+fn slots_of(alloc: Global, case: &mut Case<'_>) -> Result<Box<Slots>, CaseFault> {
+    let mut slots = Box::new(alloc, free())?;
+    set_slots(alloc, case, &mut slots)?;
+    Ok(slots)
+}
+
+/// How many triples a page of three has, how many its fragment, and the number of the last page.
+fn sizes<L: Ledger>(
+    table: &Table,
+    slots: &Slots,
+    number: u64,
+    steps: &mut Steps<L>,
+) -> Option<[u64; 3]> {
+    match page(table, slots, number, 3, steps) {
+        Some(view) => Some([(view.to - view.from) as u64, view.count, view.last]),
+        None => None,
+    }
+}
+
+/// The same over a new counter.
+fn sizes_from<L: Ledger>(
+    table: &Table,
+    slots: &Slots,
+    number: u64,
+    blank: Blank,
+) -> Option<[u64; 3]>
     requires name { blank.name ≡ L.name }
     requires parts { blank.parts ≡ L.parts }
     requires some { 0 < blank.parts }
 {
     let mut steps: Steps<L> = Steps::new(blank);
-    match page(table, slots, k, 3, &mut steps) {
-        Some(view) => Some((view.to - view.from, view.count, view.last)),
-        None => None,
-    }
+    sizes(table, slots, number, &mut steps)
 }
 
-fn sizes_of(table: &Table, slots: &Slots, k: u64) -> Option<(usize, u64, u64)> {
-    sizes::<Brand>(table, slots, k, Blank::new(1))
+fn sizes_of(table: &Table, slots: &Slots, number: u64) -> Option<[u64; 3]> {
+    sizes_from::<Brand>(table, slots, number, Blank::new(1))
+}
+
+/// `data`: the same of its table of all graphs.
+fn sizes_in(
+    alloc: Global,
+    case: &mut Case<'_>,
+    slots: &Slots,
+    number: u64,
+) -> Result<Option<[u64; 3]>, CaseFault> {
+    let table = table_of(alloc, case)?;
+    Ok(sizes_of(&table, slots, number))
 }
 
 /// `data`, `subject`, `predicate`, `object`, `page`: how many triples the page of three has, how many the fragment, and
 /// the number of the last page; `none`, where there is no such page.
 pub fn page_sizes(alloc: Global, case: &mut Case<'_>) -> Result<String, CaseFault> {
-    let quads = quads_of(alloc, case)?;
-    let table = table_of(alloc, quads.as_slice())?;
+    let number = case.number("page")?;
     let slots = slots_of(alloc, case)?;
-    let page = case.number("page")?;
-    match sizes_of(&table, &slots, page) {
-        Some((triples, count, last)) => Ok(format!(in alloc; "{triples} {count} {last}")?),
-        None => Ok(String::from_str(alloc, "none")?),
+    match sizes_in(alloc, case, &slots, number)? {
+        Some(sizes) => numbers_text(alloc, &sizes),
+        None => word_text(alloc, "none"),
     }
 }

@@ -1,15 +1,13 @@
 // Generated data: the text that is written, and what is left at a fault.
-use case_rows::{Case, CaseFault};
+use case_rows::{Case, CaseFault, number_text, word_text};
 use generated_data::write_generated;
 use std::alloc::Global;
 use std::str;
 use tpf_base::{Failing, Fault, MemSink};
 
-/// The data of so many persons over a sink that fails so, and how their writing ended.
-fn written(alloc: Global, persons: u32, failing: Failing) -> (Result<(), Fault>, MemSink) {
-    let mut sink = MemSink::new(alloc, failing);
-    let result = write_generated(alloc, persons, &mut sink);
-    (result, sink)
+/// Writes the data of so many persons.
+fn write(alloc: Global, persons: u32, sink: &mut MemSink) -> Result<(), Fault> {
+    write_generated(alloc, persons, sink)
 }
 
 /// `persons`: how many persons.
@@ -22,10 +20,20 @@ fn persons_of(case: &mut Case<'_>) -> Result<u32, CaseFault> {
 
 /// The whole text of so many persons.
 fn whole(alloc: Global, persons: u32) -> Result<MemSink, CaseFault> {
-    let (result, sink) = written(alloc, persons, Failing::Never);
-    match result {
+    let mut sink = MemSink::new(alloc, Failing::Never);
+    match write(alloc, persons, &mut sink) {
         Ok(()) => Ok(sink),
         Err(_) => Err(CaseFault::Differs),
+    }
+}
+
+/// A text, or how many lines it has.
+fn shown(alloc: Global, taken: &[u8], show: &str) -> Result<String, CaseFault> {
+    let text = str::from_utf8(taken).unwrap_or("no text");
+    match show {
+        "text" => word_text(alloc, text),
+        "lines" => number_text(alloc, text.lines().count() as u64),
+        _ => Err(CaseFault::Row),
     }
 }
 
@@ -34,12 +42,25 @@ pub fn generated(alloc: Global, case: &mut Case<'_>) -> Result<String, CaseFault
     let persons = persons_of(case)?;
     let show = case.text(alloc, "show")?;
     let sink = whole(alloc, persons)?;
-    let text = str::from_utf8(sink.taken()).unwrap_or("no text");
-    match show.as_str() {
-        "text" => Ok(String::from_str(alloc, text)?),
-        "lines" => Ok(format!(in alloc; "{}", text.lines().count())?),
-        _ => Err(CaseFault::Row),
+    shown(alloc, sink.taken(), show.as_str())
+}
+
+/// Whether writing over a sink that takes so many bytes fails, and leaves the front of the text that it takes.
+fn is_cut(alloc: Global, persons: u32, most: usize, whole: &[u8]) -> bool {
+    let mut sink = MemSink::new(alloc, Failing::AfterBytes(most as u64));
+    let result = write(alloc, persons, &mut sink);
+    let taken = sink.taken();
+    result == Err(Fault::Failed) && taken.len() == most && whole.starts_with(taken)
+}
+
+/// Over how many sinks, which take fewer bytes than the whole text has, writing does so.
+fn cuts(alloc: Global, persons: u32, whole: &[u8]) -> Result<usize, CaseFault> {
+    for most in 0..whole.len() {
+        if !is_cut(alloc, persons, most, whole) {
+            return Err(CaseFault::Differs);
+        }
     }
+    Ok(whole.len())
 }
 
 /// `persons`: over how many sinks, which take so many bytes and then fail, writing fails and leaves the front of the
@@ -47,23 +68,19 @@ pub fn generated(alloc: Global, case: &mut Case<'_>) -> Result<String, CaseFault
 pub fn cut(alloc: Global, case: &mut Case<'_>) -> Result<String, CaseFault> {
     let persons = persons_of(case)?;
     let whole = whole(alloc, persons)?;
-    let whole = whole.taken();
-    let mut cuts = 0u64;
-    for most in 0..whole.len() {
-        let (result, sink) = written(alloc, persons, Failing::AfterBytes(most as u64));
-        if result != Err(Fault::Failed) || sink.taken() != &whole[..most] {
-            return Err(CaseFault::Differs);
-        }
-        cuts = cuts.saturating_add(1);
-    }
-    Ok(format!(in alloc; "{cuts}")?)
+    number_text(alloc, cuts(alloc, persons, whole.taken())? as u64)
+}
+
+/// A sink whose call with this number fails.
+fn failing_at(alloc: Global, call: u64) -> Result<MemSink, CaseFault> {
+    let calls = Vec::from_slice(alloc, &[call])?;
+    Ok(MemSink::new(alloc, Failing::At(calls)))
 }
 
 /// Whether a sink whose call with this number fails has the whole text, or a front of it where writing fails.
 fn is_front(alloc: Global, persons: u32, call: u64, whole: &[u8]) -> Result<bool, CaseFault> {
-    let mut calls = Vec::new(alloc);
-    calls.push(call)?;
-    let (result, sink) = written(alloc, persons, Failing::At(calls));
+    let mut sink = failing_at(alloc, call)?;
+    let result = write(alloc, persons, &mut sink);
     let taken = sink.taken();
     match result {
         Ok(()) => Ok(taken == whole),
@@ -72,16 +89,22 @@ fn is_front(alloc: Global, persons: u32, call: u64, whole: &[u8]) -> Result<bool
     }
 }
 
+/// Fails where one of the first so many sinks has anything else.
+fn are_fronts(alloc: Global, persons: u32, most: u64, whole: &[u8]) -> Result<(), CaseFault> {
+    for call in 0..most {
+        if !is_front(alloc, persons, call.saturating_add(1), whole)? {
+            return Err(CaseFault::Differs);
+        }
+    }
+    Ok(())
+}
+
 /// `persons`, `calls`: over how many sinks, of which the first call fails, the second, and so on, writing succeeds with
 /// the whole text, or fails and leaves a front of it.
 pub fn calls(alloc: Global, case: &mut Case<'_>) -> Result<String, CaseFault> {
     let persons = persons_of(case)?;
     let most = case.number("calls")?;
     let whole = whole(alloc, persons)?;
-    for call in 0..most {
-        if !is_front(alloc, persons, call.saturating_add(1), whole.taken())? {
-            return Err(CaseFault::Differs);
-        }
-    }
-    Ok(format!(in alloc; "{most}")?)
+    are_fronts(alloc, persons, most, whole.taken())?;
+    number_text(alloc, most)
 }

@@ -17,12 +17,12 @@ impl Answers for Data {
         match call {
             "served" => tables::triples(alloc, case),
             "table" => tables::size(alloc, case),
-            "id" => tables::id(alloc, case),
-            "count" => tables::count(alloc, case),
-            "page" => fragments::page_sizes(alloc, case),
             "generated" => generated::generated(alloc, case),
             "generated_cut" => generated::cut(alloc, case),
             "generated_calls" => generated::calls(alloc, case),
+            "id" => tables::id(alloc, case),
+            "count" => tables::count(alloc, case),
+            "page" => fragments::page_sizes(alloc, case),
             _ => Err(CaseFault::Row),
         }
     }

@@ -2,27 +2,40 @@
 ghost use Rattle.std.specs.Prelude.{◌<◌, length};
 
 use crate::terms::term_of;
-use case_rows::{Case, CaseFault};
+use case_rows::{Case, CaseFault, push_number, truth_text};
 use rdf_terms::{Slot, Slots, Term, TermBook, Triple};
 use std::alloc::Global;
+use std::cmp::Ordering;
+
+/// Appends the term of a row.
+fn push_term(alloc: Global, row: &mut Case<'_>, terms: &mut Vec<Term>) -> Result<(), CaseFault> {
+    let term = term_of(alloc, row)?;
+    terms.push(term)?;
+    row.end()
+}
 
 /// `terms`: terms.
 fn terms_of(alloc: Global, case: &mut Case<'_>) -> Result<Vec<Term>, CaseFault> {
+    let mut rows = case.list(alloc, "terms")?;
     let mut terms = Vec::new(alloc);
-    for mut row in case.list(alloc, "terms")? {
-        terms.push(term_of(alloc, &mut row)?)?;
-        row.end()?;
+    for row in rows.iter_mut() {
+        push_term(alloc, row, &mut terms)?;
     }
     Ok(terms)
+}
+
+/// How one value stands to another, and whether they are the same.
+fn order_text(alloc: Global, order: Ordering, is_same: bool) -> Result<String, CaseFault> {
+    Ok(format!(in alloc; "{order:?} {is_same}")?)
 }
 
 /// `terms`: how the first of two terms stands to the second, and whether they are the same.
 pub fn compare(alloc: Global, case: &mut Case<'_>) -> Result<String, CaseFault> {
     let terms = terms_of(alloc, case)?;
-    let [one, other] = terms.as_slice() else {
-        return Err(CaseFault::Row);
-    };
-    Ok(format!(in alloc; "{:?} {}", one.cmp(other), one.same(other))?)
+    match terms.as_slice() {
+        [one, other] => order_text(alloc, one.cmp(other), one.same(other)),
+        _ => Err(CaseFault::Row),
+    }
 }
 
 /// Whether a term stands to each of these as its place to theirs.
@@ -35,54 +48,87 @@ fn is_at(terms: &[Term], place: usize, term: &Term) -> bool {
     true
 }
 
+/// The place of the first term that does not stand to the others as its place to theirs.
+fn first_not_at(terms: &[Term]) -> Option<usize> {
+    for (place, term) in terms.iter().enumerate() {
+        if !is_at(terms, place, term) {
+            return Some(place);
+        }
+    }
+    None
+}
+
+/// How many terms are in ascending order, or the place of the first that is not.
+fn ascending_text(alloc: Global, count: usize, not_at: Option<usize>) -> Result<String, CaseFault> {
+    match not_at {
+        Some(place) => Ok(format!(in alloc; "not at {place}")?),
+        None => Ok(format!(in alloc; "{count} ascending")?),
+    }
+}
+
 /// `terms`: how many terms there are, where they are in ascending order, or the place of the first that is not.
 pub fn ascending(alloc: Global, case: &mut Case<'_>) -> Result<String, CaseFault> {
     let terms = terms_of(alloc, case)?;
-    for (place, term) in terms.iter().enumerate() {
-        if !is_at(terms.as_slice(), place, term) {
-            return Ok(format!(in alloc; "not at {place}")?);
-        }
+    ascending_text(alloc, terms.len(), first_not_at(terms.as_slice()))
+}
+
+/// The last of terms, which is taken off.
+fn last_of(alloc: Global, terms: &mut Vec<Term>) -> Result<Box<Term>, CaseFault> {
+    match terms.pop() {
+        Some(term) => Ok(Box::new(alloc, term)?),
+        None => Err(CaseFault::Row),
     }
-    Ok(format!(in alloc; "{} ascending", terms.len())?)
 }
 
 /// The triple of three terms.
-fn triple_of(terms: Vec<Term>) -> Result<Triple, CaseFault> {
-    let mut terms = terms.into_iter();
-    let (Some(subject), Some(predicate), Some(object)) = (terms.next(), terms.next(), terms.next())
-    else {
-        return Err(CaseFault::Row);
+fn triple_of(alloc: Global, terms: &mut Vec<Term>) -> Result<Box<Triple>, CaseFault> {
+    let object = last_of(alloc, terms)?;
+    let predicate = last_of(alloc, terms)?;
+    let subject = last_of(alloc, terms)?;
+    let triple = Triple {
+        subject: Box::into_inner(subject),
+        predicate: Box::into_inner(predicate),
+        object: Box::into_inner(object),
     };
-    Ok(Triple {
-        subject,
-        predicate,
-        object,
-    })
+    Ok(Box::new(alloc, triple)?)
 }
 
-/// `one`, `other`: how a triple stands to another, and whether they are the same. Each is a row of `terms`.
-pub fn triples(alloc: Global, case: &mut Case<'_>) -> Result<String, CaseFault> {
-    let mut triples = Vec::new(alloc);
-    for mut row in case.list(alloc, "triples")? {
-        triples.push(triple_of(terms_of(alloc, &mut row)?)?)?;
-        row.end()?;
+/// `terms`: the triple of the terms.
+fn triple_in(alloc: Global, case: &mut Case<'_>) -> Result<Box<Triple>, CaseFault> {
+    let mut terms = terms_of(alloc, case)?;
+    if terms.len() != 3 {
+        return Err(CaseFault::Row);
     }
-    let [one, other] = triples.as_slice() else {
-        return Err(CaseFault::Row);
-    };
-    Ok(format!(in alloc; "{:?} {}", one.cmp(other), one.same(other))?)
+    triple_of(alloc, &mut terms)
 }
 
-/// Whether a copy of slots of which the predicate alone is fixed matches a triple.
-fn predicate_matches(alloc: Global, predicate: Term, triple: &Triple) -> Result<bool, CaseFault> {
-    let slots = Slots {
-        subject: Slot::Any,
-        predicate: Slot::Fixed(predicate),
-        object: Slot::Any,
-    };
-    match slots.copy(alloc) {
-        Ok(copy) => Ok(copy.matches(triple)),
-        Err(_) => Err(CaseFault::OutOfMemory),
+/// Appends the triple of a row.
+fn push_triple(
+    alloc: Global,
+    row: &mut Case<'_>,
+    triples: &mut Vec<Triple>,
+) -> Result<(), CaseFault> {
+    let triple = triple_in(alloc, row)?;
+    triples.push(Box::into_inner(triple))?;
+    row.end()
+}
+
+/// `triples`: triples, each of which is a row of `terms`.
+fn triples_of(alloc: Global, case: &mut Case<'_>) -> Result<Vec<Triple>, CaseFault> {
+    let mut rows = case.list(alloc, "triples")?;
+    let mut triples = Vec::new(alloc);
+    for row in rows.iter_mut() {
+        push_triple(alloc, row, &mut triples)?;
+    }
+    Ok(triples)
+}
+
+/// `triples`: how the first of two triples stands to the second, and whether they are the same.
+pub fn triples(alloc: Global, case: &mut Case<'_>) -> Result<String, CaseFault> {
+    let triples = triples_of(alloc, case)?;
+    match triples.as_slice() {
+        [one, other] => order_text(alloc, one.cmp(other), one.same(other)),
+        _ => Err(CaseFault::Row),
     }
 }
 
@@ -95,11 +141,54 @@ fn predicate_of(alloc: Global, case: &mut Case<'_>) -> Result<Term, CaseFault> {
     }
 }
 
+/// Slots of which the predicate alone is fixed.
+fn with_predicate(predicate: Term) -> Slots {
+    Slots {
+        subject: Slot::Any,
+        predicate: Slot::Fixed(predicate),
+        object: Slot::Any,
+    }
+}
+
+/// `predicate`: slots of which the predicate alone is fixed.
+fn slots_of(alloc: Global, case: &mut Case<'_>) -> Result<Box<Slots>, CaseFault> {
+    let predicate = predicate_of(alloc, case)?;
+    Ok(Box::new(alloc, with_predicate(predicate))?)
+}
+
+/// A copy of slots.
+fn copy_of(alloc: Global, slots: &Slots) -> Result<Box<Slots>, CaseFault> {
+    match slots.copy(alloc) {
+        Ok(copy) => Ok(Box::new(alloc, copy)?),
+        Err(_) => Err(CaseFault::OutOfMemory),
+    }
+}
+
+/// Whether a copy of slots matches a triple.
+fn copy_matches(alloc: Global, slots: &Slots, triple: &Triple) -> Result<bool, CaseFault> {
+    let copy = copy_of(alloc, slots)?;
+    Ok(copy.matches(triple))
+}
+
+/// `predicate`: whether slots of which the predicate alone is fixed match a triple.
+fn predicate_matches(
+    alloc: Global,
+    case: &mut Case<'_>,
+    triple: &Triple,
+) -> Result<bool, CaseFault> {
+    let slots = slots_of(alloc, case)?;
+    copy_matches(alloc, &slots, triple)
+}
+
+/// `terms`, `predicate`: the same of the triple of the terms.
+fn is_match(alloc: Global, case: &mut Case<'_>) -> Result<bool, CaseFault> {
+    let triple = triple_in(alloc, case)?;
+    predicate_matches(alloc, case, &triple)
+}
+
 /// `terms`, `predicate`: whether slots of which the predicate alone is fixed match the triple of the terms.
 pub fn matches(alloc: Global, case: &mut Case<'_>) -> Result<String, CaseFault> {
-    let triple = triple_of(terms_of(alloc, case)?)?;
-    let is_match = predicate_matches(alloc, predicate_of(alloc, case)?, &triple)?;
-    Ok(format!(in alloc; "{is_match}")?)
+    truth_text(alloc, is_match(alloc, case)?)
 }
 
 /// The id of a term, which is found and read under it again.
@@ -115,17 +204,44 @@ fn interned(book: &mut TermBook, term: &Term) -> Result<u32, CaseFault>
     Ok(id)
 }
 
+/// Appends the id of a term.
+fn push_id(
+    alloc: Global,
+    book: &mut TermBook,
+    term: &Term,
+    out: &mut String,
+) -> Result<(), CaseFault> {
+    if book.len() >= 1000 {
+        return Err(CaseFault::Row);
+    }
+    let id = interned(book, term)?;
+    push_number(alloc, id as u64, out)?;
+    Ok(out.push(' ')?)
+}
+
+/// The ids that a book gives terms one after another.
+fn ids_text(alloc: Global, book: &mut TermBook, terms: &[Term]) -> Result<String, CaseFault> {
+    let mut out = String::new(alloc);
+    for term in terms {
+        push_id(alloc, book, term, &mut out)?;
+    }
+    Ok(out)
+}
+
+/// Ids, and how many terms a book has.
+fn book_text(alloc: Global, ids: &str, count: usize) -> Result<String, CaseFault> {
+    Ok(format!(in alloc; "{ids}of {count}")?)
+}
+
+/// The ids that a new book gives terms, and how many it has then.
+fn booked(alloc: Global, terms: &[Term]) -> Result<String, CaseFault> {
+    let mut book = TermBook::new(alloc);
+    let ids = ids_text(alloc, &mut book, terms)?;
+    book_text(alloc, ids.as_str(), book.len())
+}
+
 /// `terms`: the ids that a book gives them one after another, and how many it has then.
 pub fn book(alloc: Global, case: &mut Case<'_>) -> Result<String, CaseFault> {
-    let mut book = TermBook::new(alloc);
-    let mut out = String::new(alloc);
-    for term in &terms_of(alloc, case)? {
-        if book.len() >= 1000 {
-            return Err(CaseFault::Row);
-        }
-        let id = interned(&mut book, term)?;
-        out.push_str(id.to_string(alloc)?.as_str())?;
-        out.push(' ')?;
-    }
-    Ok(format!(in alloc; "{out}of {}", book.len())?)
+    let terms = terms_of(alloc, case)?;
+    booked(alloc, terms.as_slice())
 }

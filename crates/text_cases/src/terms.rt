@@ -1,5 +1,5 @@
 // Terms and their texts.
-use case_rows::{Case, CaseFault};
+use case_rows::{Case, CaseFault, debug_text, text_of_bytes, truth_text, word_text};
 use nquads_text::canonical;
 use rdf_terms::{
     Kind, Term, TermFault, has_scheme, is_datatype, is_iri, is_iri_byte, is_label, is_label_char,
@@ -19,12 +19,23 @@ fn made(alloc: Global, class: &str, text: &str, kind: &str) -> Result<Term, Term
     }
 }
 
-/// `class`, `text`, `kind` (the tag or the datatype): the term, or its fault.
-pub fn made_of(alloc: Global, case: &mut Case<'_>) -> Result<Result<Term, TermFault>, CaseFault> {
-    let class = case.text(alloc, "class")?;
+/// `text`, `kind`: the term of a class, or its fault.
+fn made_in(
+    alloc: Global,
+    case: &mut Case<'_>,
+    class: &str,
+) -> Result<Result<Term, TermFault>, CaseFault> {
     let text = case.text(alloc, "text")?;
-    let kind = case.text_if(alloc, "kind")?.unwrap_or(String::new(alloc));
-    Ok(made(alloc, class.as_str(), text.as_str(), kind.as_str()))
+    match case.text_if(alloc, "kind")? {
+        Some(kind) => Ok(made(alloc, class, text.as_str(), kind.as_str())),
+        None => Ok(made(alloc, class, text.as_str(), "")),
+    }
+}
+
+/// `class`, `text`, `kind` (the tag or the datatype): the term, or its fault.
+fn made_of(alloc: Global, case: &mut Case<'_>) -> Result<Result<Term, TermFault>, CaseFault> {
+    let class = case.text(alloc, "class")?;
+    made_in(alloc, case, class.as_str())
 }
 
 /// The same, where it is a term.
@@ -47,19 +58,35 @@ fn suffix(term: &Term) -> &str {
     }
 }
 
+/// Whether the copy of a term is the same term.
+fn is_copied(alloc: Global, term: &Term) -> Result<bool, CaseFault> {
+    match term.copy(alloc) {
+        Ok(copy) => Ok(copy.same(term)),
+        Err(_) => Err(CaseFault::OutOfMemory),
+    }
+}
+
+/// A term in canonical text.
+fn canonical_text(alloc: Global, term: &Term) -> Result<String, CaseFault> {
+    let mut out = Vec::new(alloc);
+    if canonical(term, &mut out).is_err() {
+        return Err(CaseFault::OutOfMemory);
+    }
+    text_of_bytes(out)
+}
+
+/// Two texts with a blank between them.
+fn pair_text(alloc: Global, text: &str, suffix: &str) -> Result<String, CaseFault> {
+    Ok(format!(in alloc; "{text} {suffix}")?)
+}
+
 /// A term in canonical text, and its tag or datatype. Its copy is the same term.
 fn term_text(alloc: Global, term: &Term) -> Result<String, CaseFault> {
-    let mut out = Vec::new(alloc);
-    let (Ok(()), Ok(copy)) = (canonical(term, &mut out), term.copy(alloc)) else {
-        return Err(CaseFault::OutOfMemory);
-    };
-    if !copy.same(term) {
+    if !is_copied(alloc, term)? {
         return Err(CaseFault::Differs);
     }
-    match String::from_utf8(out) {
-        Ok(text) => Ok(format!(in alloc; "{text} {}", suffix(term))?),
-        Err(_) => Err(CaseFault::Row),
-    }
+    let text = canonical_text(alloc, term)?;
+    pair_text(alloc, text.as_str(), suffix(term))
 }
 
 /// `class`, `text`, `kind`: the canonical text of the term and its tag or datatype, or the fault.
@@ -67,7 +94,19 @@ pub fn term(alloc: Global, case: &mut Case<'_>) -> Result<String, CaseFault> {
     match made_of(alloc, case)? {
         Ok(term) => term_text(alloc, &term),
         Err(TermFault::OutOfMemory) => Err(CaseFault::OutOfMemory),
-        Err(fault) => Ok(format!(in alloc; "{fault:?}")?),
+        Err(fault) => debug_text(alloc, &fault),
+    }
+}
+
+/// Whether the first character of a text is what the word says.
+fn is_said_of_first(word: &str, text: &str) -> Option<bool> {
+    let byte = *text.as_bytes().first()?;
+    let first = text.chars().next()?;
+    match word {
+        "iri_byte" => Some(is_iri_byte(byte)),
+        "label_start" => Some(is_label_start(first)),
+        "label_char" => Some(is_label_char(first)),
+        _ => None,
     }
 }
 
@@ -81,10 +120,7 @@ fn is_said(word: &str, text: &str) -> Option<bool> {
         "xsd_string" => Some(is_xsd_string(text)),
         "lang_string" => Some(is_lang_string(text)),
         "scheme" => Some(has_scheme(text.as_bytes())),
-        "iri_byte" => Some(is_iri_byte(*text.as_bytes().first()?)),
-        "label_start" => Some(is_label_start(text.chars().next()?)),
-        "label_char" => Some(is_label_char(text.chars().next()?)),
-        _ => None,
+        _ => is_said_of_first(word, text),
     }
 }
 
@@ -92,15 +128,17 @@ fn is_said(word: &str, text: &str) -> Option<bool> {
 pub fn is(alloc: Global, case: &mut Case<'_>) -> Result<String, CaseFault> {
     let word = case.text(alloc, "what")?;
     let text = case.text(alloc, "text")?;
-    let said = is_said(word.as_str(), text.as_str()).ok_or(CaseFault::Row)?;
-    Ok(format!(in alloc; "{said}")?)
+    match is_said(word.as_str(), text.as_str()) {
+        Some(said) => truth_text(alloc, said),
+        None => Err(CaseFault::Row),
+    }
 }
 
 /// `text`: the text in lower case.
 pub fn lower_case(alloc: Global, case: &mut Case<'_>) -> Result<String, CaseFault> {
     let text = case.text(alloc, "text")?;
     match lowered(alloc, text.as_str()) {
-        Ok(lowered) => Ok(String::from_str(alloc, lowered.as_str())?),
+        Ok(lowered) => word_text(alloc, lowered.as_str()),
         Err(_) => Err(CaseFault::OutOfMemory),
     }
 }
