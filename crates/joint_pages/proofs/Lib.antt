@@ -1,0 +1,5 @@
+pub mod News
+pub mod Takings
+pub mod Places
+pub mod Matching
+pub mod Truth

@@ -1,0 +1,5 @@
+pub mod Parts
+pub mod Gatherings
+pub mod Joined
+pub mod Joining
+pub mod Truths
