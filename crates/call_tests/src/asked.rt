@@ -125,8 +125,33 @@ pub fn ask<R: Wait, W: Dial>(
     requires some { 1 ≤ options.now.links }
     requires few { options.now.links ≤ 256 }
 {
+    ask_at(
+        rt,
+        alloc,
+        "http://localhost/data",
+        text,
+        options,
+        wire,
+        fails,
+    )
+}
+
+/// Asks a query of the server with this base.
+pub fn ask_at<R: Wait, W: Dial>(
+    rt: &R,
+    alloc: Global,
+    base: &str,
+    text: &str,
+    options: &Options,
+    wire: &mut W,
+    fails: Failing,
+) -> Result<Came, Fail>
+    requires window { 1 ≤ options.now.window }
+    requires some { 1 ≤ options.now.links }
+    requires few { options.now.links ≤ 256 }
+{
     let asked = query_of(alloc, text)?;
-    let start = WebAddress::read(alloc, "http://localhost/data")?;
+    let start = WebAddress::read(alloc, base)?;
     let mut out = MemSink::new(alloc, fails);
     let ended = query(rt, alloc, &asked, &start, options, wire, &mut out);
     let told = told(alloc, &ended)?;

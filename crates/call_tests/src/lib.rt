@@ -1,4 +1,4 @@
-//! Tests of the client's calls: whole queries over scripts of replies, and over a server in one process whose wire fails.
+//! Tests of the client's calls: whole queries over scripts of replies, over a server in one process whose wire fails, and over several.
 #![tactic(auto)]
 
 #[cfg(test)]
@@ -11,5 +11,7 @@ mod hostile;
 mod replies;
 #[cfg(test)]
 mod servers;
+#[cfg(test)]
+mod several;
 #[cfg(test)]
 mod windows;

@@ -1,4 +1,4 @@
-// A server in one process.
+// Servers in one process.
 ghost use Rattle.std.specs.Prelude.{All, IfOk};
 ghost use Rattle.rdf_terms.specs.Triples.{IsRdfQuad};
 ghost use Rattle.tpf_base.specs.Addresses.{IsAuthority};
@@ -36,8 +36,8 @@ fn table_of(alloc: Global, data: &str) -> Result<Table, Fail> {
     }
 }
 
-fn config_of(alloc: Global, page_size: u64) -> Result<Config, Fail> {
-    let base = WebAddress::read(alloc, "http://localhost/data")?;
+fn config_of(alloc: Global, base: &str, page_size: u64) -> Result<Config, Fail> {
+    let base = WebAddress::read(alloc, base)?;
     match Config::new(base, page_size) {
         Some(config) => Ok(config),
         None => Err(Fail::new("no configuration")),
@@ -46,7 +46,17 @@ fn config_of(alloc: Global, page_size: u64) -> Result<Config, Fail> {
 
 /// A server of N-Quads text with the base `http://localhost/data`, with so many triples a page.
 pub fn server_of(alloc: Global, data: &str, page_size: u64) -> Result<FragmentServer, Fail> {
-    let config = config_of(alloc, page_size)?;
+    server_at(alloc, "http://localhost/data", data, page_size)
+}
+
+/// A server of N-Quads text with this base, with so many triples a page.
+pub fn server_at(
+    alloc: Global,
+    base: &str,
+    data: &str,
+    page_size: u64,
+) -> Result<FragmentServer, Fail> {
+    let config = config_of(alloc, base, page_size)?;
     let table = table_of(alloc, data)?;
     Ok(FragmentServer::new(Server::new(alloc, table, config)?))
 }

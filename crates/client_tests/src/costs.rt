@@ -43,11 +43,11 @@ fn scripts(alloc: Global, held: usize) -> Result<Vec<Script>, Fail> {
 
 /// A wire with a link for each ask. The first links, as many as are told, hold their replies until each
 /// link had a byte sent. The call after as many as the asks may cost fails.
-fn wire_of(alloc: Global, held: usize) -> Result<ScriptWire, Fail> {
+fn wire_of(alloc: Global, held: usize) -> Result<Box<ScriptWire>, Fail> {
     let mut calls = Vec::new(alloc);
     calls.push(CALLS * ASKS as u64 + 1)?;
     let scripts = scripts(alloc, held)?;
-    Ok(ScriptWire::new(alloc, scripts, Failing::At(calls)))
+    Ok(Box::new(alloc, ScriptWire::new(alloc, scripts, Failing::At(calls)))?)
 }
 
 /// A pool that holds the asks, of which at most so many are in flight.

@@ -46,14 +46,14 @@ fn failing_wire(
     ends: bool,
     most: usize,
     failing: Failing,
-) -> Result<ScriptWire, Fail> {
+) -> Result<Box<ScriptWire>, Fail> {
     let mut scripts = Vec::new(alloc);
     scripts.push(script(alloc, pieces, ends, most)?)?;
-    Ok(ScriptWire::new(alloc, scripts, failing))
+    Ok(Box::new(alloc, ScriptWire::new(alloc, scripts, failing))?)
 }
 
 /// A wire with one link on which these pieces come.
-fn wire(alloc: Global, pieces: &[&[u8]], ends: bool, most: usize) -> Result<ScriptWire, Fail> {
+fn wire(alloc: Global, pieces: &[&[u8]], ends: bool, most: usize) -> Result<Box<ScriptWire>, Fail> {
     failing_wire(alloc, pieces, ends, most, Failing::Never)
 }
 

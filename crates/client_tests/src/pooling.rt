@@ -95,10 +95,10 @@ fn numbers(alloc: Global, words: &str) -> Result<Vec<u64>, Fail> {
     Ok(numbers)
 }
 
-fn wire_of(alloc: Global, case: &Case) -> Result<ScriptWire, Fail> {
+fn wire_of(alloc: Global, case: &Case) -> Result<Box<ScriptWire>, Fail> {
     let calls = numbers(alloc, case.failing)?;
     let scripts = scripts(alloc, case.wire)?;
-    Ok(ScriptWire::new(alloc, scripts, Failing::At(calls)))
+    Ok(Box::new(alloc, ScriptWire::new(alloc, scripts, Failing::At(calls)))?)
 }
 
 /// A pool that holds the asks.

@@ -41,7 +41,7 @@ rose-up x y n m r h i = omega (arith, r, h, i)
 still-below : (k n m : ℕ) → k < n → m ≡ n → k < m
 still-below k n m l e = omega (arith, l, e)
 
-distinct-after : (allows : List ℕ → ℕ → List ℕ → List ℕ → Type 0) (events : List Event) (p q : Pooled) (v w : WireState) → (p.fault ≡ None → AreDistinct (held p)) → Travels allows events p q v w → q.fault ≡ None → AreDistinct (held q)
+pub distinct-after : (allows : List ℕ → ℕ → List ℕ → List ℕ → Type 0) (events : List Event) (p q : Pooled) (v w : WireState) → (p.fault ≡ None → AreDistinct (held p)) → Travels allows events p q v w → q.fault ≡ None → AreDistinct (held q)
 distinct-after allows [] p q v w d t none = subst (λ (x : Pooled). AreDistinct (held x)) (sym t.0) (d (ap (λ (x : Pooled). x.fault) (sym t.0) ∙ none))
 distinct-after allows (event ∷ events) p q v w d t none = distinct-after allows events t.0.pool q t.0.wire w t.1.distinct t.2 none
 

@@ -1,12 +1,10 @@
 -- What stands at each exit of a call: its links, what was sent on them, and how many requests it made.
-use Rattle.std.proofs.Common.{ℕ, ◌≡◌, ◌≤◌, ◌<◌, ◌+◌, ◌*◌, ◌^◌, List, map, length, Option, Some, refl, sym, subst, ◌∙◌, arith}
+use Rattle.std.proofs.Common.{ℕ, ◌≡◌, ◌≤◌, ◌<◌, ◌+◌, ◌*◌, ◌^◌, List, map, length, Option, refl, sym, subst, ◌∙◌, arith}
 use Rattle.std.proofs.Math.Nat.{mul-le-mul_left}
 use Rattle.std.specs.Prelude.{Result, Ok, Err, IfOk, IfErr}
-use Rattle.rdf_terms.specs.declared.term.Triple.{Triple}
 use Rattle.tpf_base.specs.Addresses.{Address}
 use Rattle.tpf_base.specs.Causes.{RoseBy}
 use Rattle.tpf_base.specs.Links.{WireState}
-use Rattle.template_fill.specs.Metadata.{Config}
 use Rattle.bgp_core.specs.Queries.{QueryData}
 use Rattle.bgp_core.specs.Solutions.{Places}
 use Rattle.request_pool.specs.Pools.{Pooled}
@@ -18,16 +16,18 @@ use Rattle.tpf_client.specs.declared.fault.ClientFault.{ClientFault}
 use Rattle.tpf_client.specs.Traffic.{Event, IsLawful}
 use Rattle.tpf_client.specs.Turns.{asked_in, address_of}
 use Rattle.tpf_client.specs.Calls.{Ran, Returns, WritesSome, RunsPool, StartsFew}
-use Rattle.tpf_client.specs.Honest.{Laws, IsHonestWire}
-use Rattle.tpf_client.specs.Requests.{TrafficLaws, AreClosed, AreDialledFor, OthersStay, MovesOn, DialsAtMost, GivesAtMost, addresses_of, tries_of, AnswersAll, RequestsAreTries, DialsAreTries}
+use Rattle.tpf_client.specs.Offers.{Offer}
+use Rattle.tpf_client.specs.Honest.{Laws}
+use Rattle.tpf_client.specs.Requests.{TrafficLaws, AreClosed, AreDialledFor, OthersStay, MovesOn, DialsAtMost, GivesAtMost, tries_of, AnswersAll, RequestsAreTries, DialsAreTries}
 use Rattle.tpf_client.specs.Plans.{SendsAsked, AsksPlan, StaysUnprovoked}
 use Rattle.tpf_client.specs.Acts.{WithCause}
 use Rattle.tpf_client.proofs.Answering.{all-answered}
 use Rattle.tpf_client.proofs.Endings.{travels-onward, same-bounds}
 use Rattle.tpf_client.proofs.Known.{Exit, exit-of, begun}
+use Rattle.tpf_client.proofs.Covered.{Covered, served-at}
+use Rattle.tpf_client.proofs.Sparing.{spares-so}
 use Rattle.tpf_client.proofs.Planned.{RunOf, least-started, returns-run, some-run, PlannedRun, ExplainedRun, WholeRun, returns-whole, some-explained, few-asked, all-counted}
 use Rattle.tpf_client.proofs.Sent.{sends-asked, sends-so}
-use Rattle.tpf_client.proofs.Sparing.{spares-so}
 use Rattle.tpf_client.proofs.Shutting.{if-err-from, either-way, returns-so, writes-some-so, ran-closed}
 
 -- what holds at each exit, whatever the call answers
@@ -112,55 +112,55 @@ module _ (laws : Laws) (traffic : TrafficLaws) (allows : List ℕ → ℕ → Li
         };
       }
 
-  -- ---- over an honest wire
+  -- ---- over an offer
 
-  module _ (history : List (List Triple)) (config : Config) (honest : IsHonestWire allows history config since) (limit : options.max_body < 2 ^ 64) (q : QueryData) where
+  module _ (offer : Offer) (q : QueryData) (covered : Covered offer allows options since now start q) where
     few-tries : (asked started most : ℕ) → started ≤ (options.retries + 1) * asked → asked ≤ most → started ≤ (options.retries + 1) * most
     few-tries asked started most a b = at-most started ((options.retries + 1) * asked) ((options.retries + 1) * most) a (mul-le-mul_left (options.retries + 1) b)
 
-    -- the requests of a run are tries of the addresses of its version
-    started-tries : (x : PlannedRun allows history config options since now start q) → x.run.pool.started ≤ tries_of options (addresses_of history config q start x.version)
-    started-tries x = few-tries (length (asked_in x.run.events)) x.run.pool.started (length (addresses_of history config q start x.version)) (exit x.run).few (few-asked history config q start (asked_in x.run.events) x.version x.of_plan)
+    -- the requests of a run are tries of the addresses of its choice
+    started-tries : (x : PlannedRun allows offer options since now start) → x.run.pool.started ≤ tries_of options (offer.addresses x.choice)
+    started-tries x = few-tries (length (asked_in x.run.events)) x.run.pool.started (length (offer.addresses x.choice)) (exit x.run).few (few-asked offer (asked_in x.run.events) x.choice x.of_plan)
 
-    pub dials-so : PlannedRun allows history config options since now start q → DialsAreTries history config options q start since now
+    pub dials-so : PlannedRun allows offer options since now start → DialsAreTries offer options since now
     dials-so x = record {
-      version = x.version;
-      is_version = x.of_plan.is_version;
-      few = more-than now.dials since.dials x.run.pool.started (tries_of options (addresses_of history config q start x.version)) (exit x.run).dials (started-tries x);
+      choice = x.choice;
+      is_choice = x.of_plan.is_choice;
+      few = more-than now.dials since.dials x.run.pool.started (tries_of options (offer.addresses x.choice)) (exit x.run).dials (started-tries x);
     }
 
-    pub dials-version : (x : PlannedRun allows history config options since now start q) → (dials-so x).version ≡ x.version
+    pub dials-choice : (x : PlannedRun allows offer options since now start) → (dials-so x).choice ≡ x.choice
     unfolding dials-so
-    dials-version x = refl
+    dials-choice x = refl
 
-    unfoldable pub asks-plan : PlannedRun allows history config options since now start q → AsksPlan history config q start since now
+    unfoldable pub asks-plan : PlannedRun allows offer options since now start → AsksPlan offer since now
     asks-plan x = record {
-      version = x.version;
-      is_version = x.of_plan.is_version;
+      choice = x.choice;
+      is_choice = x.of_plan.is_choice;
       asked = map address_of (asked_in x.run.events);
       rest = x.of_plan.rest;
       plan_is = x.of_plan.plan_is;
       sent = sends-asked laws traffic allows options since now lawful start x.run;
     }
 
-    pub requests-so : (report : Report) → WholeRun allows history config options since now start q report → RequestsAreTries history config options q start report
+    pub requests-so : (report : Report) → WholeRun allows offer options since now start report → RequestsAreTries offer options report
     requests-so report x =
         let run = x.planned.run in
-        let addresses = addresses_of history config q start x.planned.version in
-        let total = all-counted history config q start (asked_in run.events) x.planned.version x.planned.of_plan x.none_left in
+        let addresses = offer.addresses x.planned.choice in
+        let total = all-counted offer (asked_in run.events) x.planned.choice x.planned.of_plan x.none_left in
         let least = least-started traffic allows options since now lawful start run x.no_fault x.none_held in
         let same = x.requests in
         record {
-          version = x.planned.version;
-          is_version = x.planned.of_plan.is_version;
+          choice = x.planned.choice;
+          is_choice = x.planned.of_plan.is_choice;
           is_reported = x.is_reported;
           each = omega (arith, total, least, same);
           few = subst (λ (n : ℕ). n ≤ tries_of options addresses) (sym same) (started-tries x.planned);
         }
 
-    pub unprovoked-so : 1 ≤ options.links → PlannedRun allows history config options since now start q → StaysUnprovoked options since now
-    unprovoked-so some x = λ steady none few.
-        spares-so laws traffic allows options since lawful start history config honest limit (omega (arith, some)) steady few now x.run.events x.run.pool none x.run.asks x.run.runs
+    pub unprovoked-so : options.max_body < 2 ^ 64 → 1 ≤ options.links → PlannedRun allows offer options since now start → StaysUnprovoked options since now
+    unprovoked-so limit some x = λ steady none few.
+        spares-so laws traffic allows options since lawful start covered.tells (served-at offer allows options since now start q covered) limit (omega (arith, some)) steady few now x.run.events x.run.pool none x.run.asks x.run.runs
 
 -- ---- a call: what its body came to, after which its links were closed
 
@@ -184,22 +184,22 @@ module _ (allows : List ℕ → ℕ → List ℕ → List ℕ → Type 0) (optio
       either-way result P (λ fault. WritesSome Body q start options.budget fault t u) (RunOf allows options start since now) ok err
       (λ x p. let r = f x p in returns-run allows options since now start q r.0 r.1 (called r.0 r.1 r.2)) (λ fault w. some-run allows options since now start q fault t u (called-some fault t u w))
 
-  module _ (laws : Laws) (lawful : IsLawful allows since) (history : List (List Triple)) (config : Config) (honest : IsHonestWire allows history config since) (limit : options.max_body < 2 ^ 64) where
-    pub at-whole : (report : Report) (rows : List Places) → Returns Body q start report rows → WholeRun allows history config options since now start q report
-    at-whole report rows r = returns-whole laws allows history config options since now honest lawful limit start q report rows (called report rows r)
+  module _ (offer : Offer) (covered : Covered offer allows options since now start q) where
+    pub at-whole : (report : Report) (rows : List Places) → Returns Body q start report rows → WholeRun allows offer options since now start report
+    at-whole report rows r = returns-whole allows offer options since now start q covered report rows (called report rows r)
 
-    pub at-explained : (fault : ClientFault) (t u : Option (List ℕ)) → WritesSome Body q start options.budget fault t u → ExplainedRun allows history config options since now start q fault
-    at-explained fault t u w = some-explained laws allows history config options since now honest lawful limit start q fault t u (called-some fault t u w)
+    pub at-explained : (fault : ClientFault) (t u : Option (List ℕ)) → WritesSome Body q start options.budget fault t u → ExplainedRun allows offer options since now start fault
+    at-explained fault t u w = some-explained allows offer options since now start q covered fault t u (called-some fault t u w)
 
     pub at-planned : {A : Type 0} (result : Result A ClientFault) (P : A → Type 0) (t u : Option (List ℕ)) → IfOk result P → IfErr result (λ fault. WritesSome Body q start options.budget fault t u)
-        → ((x : A) → P x → (report : Report) × (rows : List Places) × Returns Body q start report rows) → PlannedRun allows history config options since now start q
+        → ((x : A) → P x → (report : Report) × (rows : List Places) × Returns Body q start report rows) → PlannedRun allows offer options since now start
     at-planned result P t u ok err f =
-        either-way result P (λ fault. WritesSome Body q start options.budget fault t u) (PlannedRun allows history config options since now start q) ok err
+        either-way result P (λ fault. WritesSome Body q start options.budget fault t u) (PlannedRun allows offer options since now start) ok err
         (λ x p. let r = f x p in (at-whole r.0 r.1 r.2).planned) (λ fault w. (at-explained fault t u w).planned)
 
-    -- at Ok its version is the one that is reported
+    -- at Ok its choice is the one that is reported
     pub told-planned : {A : Type 0} (result : Result A ClientFault) (P : A → Type 0) (told : A → Report) (t u : Option (List ℕ)) (ok : IfOk result P) (err : IfErr result (λ fault. WritesSome Body q start options.budget fault t u))
-        (f : (x : A) → P x → (rows : List Places) × Returns Body q start (told x) rows) → IfOk result (λ x. (told x).version ≡ Some (at-planned result P t u ok err (λ x p. (told x, (f x p).0, (f x p).1))).version)
+        (f : (x : A) → P x → (rows : List Places) × Returns Body q start (told x) rows) → IfOk result (λ x. offer.IsReported (at-planned result P t u ok err (λ x p. (told x, (f x p).0, (f x p).1))).choice (told x).version)
     unfolding at-planned either-way
     told-planned (Ok x) P told t u ok err f = (at-whole (told x) (f x ok).0 (f x ok).1).is_reported
     told-planned (Err fault) P told t u ok err f = tt
@@ -207,11 +207,11 @@ module _ (allows : List ℕ → ℕ → List ℕ → List ℕ → Type 0) (optio
     -- at a fault the run is the one that explains it
     pub explained-planned : {A : Type 0} (result : Result A ClientFault) (P : A → Type 0) (t u : Option (List ℕ)) (ok : IfOk result P) (err : IfErr result (λ fault. WritesSome Body q start options.budget fault t u))
         (f : (x : A) → P x → (report : Report) × (rows : List Places) × Returns Body q start report rows)
-        (cause : ClientFault → Type 0) (because : (fault : ClientFault) → ExplainedRun allows history config options since now start q fault → cause fault) (holds : ℕ → (fault : ClientFault) → cause fault → Type 0)
-        → ((fault : ClientFault) (x : ExplainedRun allows history config options since now start q fault) → holds x.planned.version fault (because fault x))
-        → WithCause result cause (if-err-from result (λ fault. ExplainedRun allows history config options since now start q fault) cause
-        (if-err-from result (λ fault. WritesSome Body q start options.budget fault t u) (λ fault. ExplainedRun allows history config options since now start q fault) err (λ fault w. at-explained fault t u w)) because)
-        (holds (at-planned result P t u ok err f).version)
+        (cause : ClientFault → Type 0) (because : (fault : ClientFault) → ExplainedRun allows offer options since now start fault → cause fault) (holds : offer.Choice → (fault : ClientFault) → cause fault → Type 0)
+        → ((fault : ClientFault) (x : ExplainedRun allows offer options since now start fault) → holds x.planned.choice fault (because fault x))
+        → WithCause result cause (if-err-from result (λ fault. ExplainedRun allows offer options since now start fault) cause
+        (if-err-from result (λ fault. WritesSome Body q start options.budget fault t u) (λ fault. ExplainedRun allows offer options since now start fault) err (λ fault w. at-explained fault t u w)) because)
+        (holds (at-planned result P t u ok err f).choice)
     unfolding at-planned either-way if-err-from
     explained-planned (Ok x) P t u ok err f cause because holds all = tt
     explained-planned (Err fault) P t u ok err f cause because holds all = all fault (at-explained fault t u err)

@@ -1,10 +1,8 @@
--- Over an honest wire the text is that of the solutions over the version of the start page.
-use Rattle.bgp_core.specs.Solutions.{Places}
-use Rattle.std.proofs.Common.{ℕ, ◌≡◌, ◌<◌, ◌^◌, ◌++◌, ◌&&◌, Bool, true, false, List, [], ◌∷◌, Option, Some, refl, sym, ap, subst, ◌∙◌, arith}
+-- Over an honest wire to one server the pages that came are those of the version of the start page, which is served.
+use Rattle.std.proofs.Common.{ℕ, ◌≡◌, ◌<◌, ◌^◌, ◌++◌, ◌&&◌, Bool, true, false, List, [], ◌∷◌, Some, refl, sym, ap, subst, ◌∙◌, arith}
 use Rattle.std.specs.Str.{bytes_eq}
 use Rattle.std.proofs.lemmas.Slice.Eq.{bytes_eq-Decides}
 use Rattle.std.specs.List.{AllByRecursion}
-use Rattle.std.proofs.lemmas.List.Sorted.{IsPermutation-refl}
 use Rattle.rdf_terms.specs.declared.term.Triple.{Triple}
 use Rattle.tpf_base.specs.Addresses.{Address, authority_text, authority_of}
 use Rattle.tpf_base.specs.Marks.{Served}
@@ -13,22 +11,18 @@ use Rattle.template_fill.specs.Metadata.{Config}
 use Rattle.template_fill.specs.Bodies.{version_of}
 use Rattle.template_fill.specs.Answered.{is_answered}
 use Rattle.template_fill.specs.Templates.{Template}
-use Rattle.bgp_core.specs.Queries.{QueryData}
 use Rattle.request_pool.specs.Pools.{Pooled, empty_pool}
 use Rattle.pool_laws.specs.Answers.{IsBodyOf}
 use Rattle.plan_laws.specs.Servers.{server_world}
 use Rattle.tpf_client.specs.declared.options.Options.{Options}
-use Rattle.tpf_client.specs.declared.options.Report.{Report}
-use Rattle.tpf_client.specs.declared.fault.ClientFault.{ClientFault}
 use Rattle.tpf_client.specs.Traffic.{Event, Came, EndsWith, IsLawful}
 use Rattle.tpf_client.specs.Starts.{start_ask}
-use Rattle.tpf_client.specs.Calls.{WritesAll, WritesSome, Before, Behind, AtEnd, RunsPool, ReadsStart, IsWorldOf, solutions_of, Returns}
-use Rattle.tpf_client.specs.Requests.{is_served}
-use Rattle.tpf_client.specs.Honest.{Laws, IsHonestWire, IsAnswer, IsVersionOf, WritesSolutions, WritesSolutionsFront, IsSolutions}
+use Rattle.tpf_client.specs.Calls.{RunsPool, ReadsStart, IsWorldOf}
+use Rattle.tpf_client.specs.Offers.{IsVersionOf}
+use Rattle.tpf_client.specs.Honest.{Laws, IsHonestWire, IsAnswer}
 use Rattle.tpf_client.proofs.Distinct.{none-distinct}
 use Rattle.tpf_client.proofs.Honesty.{Keeps, all-answers}
 use Rattle.tpf_client.proofs.Truth.{IsServedStart, start-served, start-world}
-use Rattle.tpf_client.proofs.Texts.{same-written, rows-more}
 
 both-true : (a b : Bool) → a ≡ true → b ≡ true → (a && b) ≡ true
 both-true true true e f = refl
@@ -74,8 +68,8 @@ module _ (laws : Laws) (allows : List ℕ → ℕ → List ℕ → List ℕ → 
   same-port m n h g e f = ap (λ (x : List ℕ). authority_text x m) e ∙ ap (λ (k : ℕ). authority_text g k) f
 
   -- the version of the start page has the whole plan to ask for
-  pub start-is-served : (first later : List Event) (pool : Pooled) (version : ℕ) → RunsPool allows options since now (first ++ later) pool → (reads : ReadsStart start first) → reads.page.version ≡ Some version → is_served history config start version ≡ true
-  unfolding is_served
+  pub start-is-served : (first later : List Event) (pool : Pooled) (version : ℕ) → RunsPool allows options since now (first ++ later) pool → (reads : ReadsStart start first) → reads.page.version ≡ Some version
+      → (is_answered history (Served version) config start && bytes_eq (authority_of start) (authority_of config.base)) ≡ true
   start-is-served first later pool version r reads told =
       let s = served-of first later pool version r reads told in
       let base : reads.page.form.template.start ≡ config.base = ap (λ (t : Template). t.start) s.form.template in
@@ -92,60 +86,5 @@ module _ (laws : Laws) (allows : List ℕ → ℕ → List ℕ → List ℕ → 
       let b : IsBodyOf history config start reads.reply.body = answer-last history config (Came (start_ask start) reads.reply) first reads.last (answers-front history config first later all) in
       start-world laws.given laws.answered laws.only laws.worlds laws.forms laws.pages laws.kept laws.addresses history config honest.is_history honest.is_config start reads.reply.body reads.page later honest.few b reads.taken (answers-behind history config first later all)
 
-  pub solutions-written : (q : QueryData) (report : Report) (t u : Option (List ℕ)) → WritesAll (RunsPool allows options since now) q start report t u → WritesSolutions history q report.version report.rows t u
-  solutions-written q report t u w =
-      let r = w.returns in
-      let v = world-of r.first r.later r.pool r.runs r.reads in
-      let g = r.gives (server_world (version_of history v.0) config) v.3 in
-      record {
-        version = v.0;
-        is_version = v.1;
-        is_reported = r.is_version ∙ v.2;
-        rows = w.rows;
-        rows_are = g.rows_are;
-        text = w.text;
-        count = r.count;
-      }
-
-  pub solutions-given : (q : QueryData) (report : Report) (rows : List Places) → Returns (RunsPool allows options since now) q start report rows → IsSolutions history q report.version rows
-  solutions-given q report rows r =
-      let v = world-of r.first r.later r.pool r.runs r.reads in
-      let g = r.gives (server_world (version_of history v.0) config) v.3 in
-      record {
-        version = v.0;
-        is_version = v.1;
-        is_reported = r.is_version ∙ v.2;
-        rows_are = g.rows_are;
-      }
-
   pub first-version : IsVersionOf history 1
   first-version = record { low = omega arith; high = honest.is_history.low }
-
-  pub front-written : (q : QueryData) (budget : ℕ) (fault : ClientFault) (t u : Option (List ℕ)) → WritesSome (RunsPool allows options since now) q start budget fault t u → WritesSolutionsFront history q t u
-  front-written q budget fault t u (Before b) = record {
-    version = 1;
-    is_version = first-version;
-    rows = solutions_of (version_of history 1) q;
-    rows_are = IsPermutation-refl (solutions_of (version_of history 1) q);
-    text = same-written _ t u b.nothing;
-  }
-  front-written q budget fault t u (Behind b) =
-      let v = world-of b.first b.later b.pool b.runs b.reads in
-      let g = b.gives (server_world (version_of history v.0) config) v.3 in
-      record {
-        version = v.0;
-        is_version = v.1;
-        rows = b.rows ++ g.more;
-        rows_are = g.rows_are;
-        text = rows-more q b.rows g.more t u laws.pieces laws.goes_on b.text;
-      }
-  front-written q budget fault t u (AtEnd b) =
-      let v = world-of b.first b.later b.pool b.runs b.reads in
-      let g = b.gives (server_world (version_of history v.0) config) v.3 in
-      record {
-        version = v.0;
-        is_version = v.1;
-        rows = b.rows;
-        rows_are = g.rows_are;
-        text = b.text;
-      }

@@ -1,115 +1,175 @@
--- Why a call fails over an honest wire.
+-- Why a call that is covered by an offer fails.
 use Rattle.std.proofs.Common.{ℕ, ◌≡◌, ◌<◌, ◌^◌, List, length, Option, Some, refl, sym, ap, subst, ◌∙◌}
-use Rattle.rdf_terms.specs.declared.term.Triple.{Triple}
+use Rattle.std.specs.List.{Contains}
+use Rattle.std.proofs.lemmas.List.Sorted.{IsPermutation-sym, Contains-permutation}
+use Rattle.list_laws.proofs.Members.{at_head}
 use Rattle.tpf_base.specs.Addresses.{Address}
 use Rattle.tpf_base.specs.Links.{WireState}
 use Rattle.tpf_base.specs.Marks.{version_at}
+use Rattle.http_wire.specs.declared.message.Reply.{Reply}
 use Rattle.http_wire.specs.declared.message.ReplyFault.{ReplyFault}
+use Rattle.template_fill.specs.Authorities.{ShareAuthority}
+use Rattle.template_fill.specs.Configurations.{IsConfig, IsHistory}
 use Rattle.template_fill.specs.HttpAnswer.{Answer}
-use Rattle.template_fill.specs.Metadata.{Config}
+use Rattle.template_fill.specs.Responses.{answering, IsHonestAt}
 use Rattle.fragment_page.specs.declared.page.PageFault.{PageFault}
 use Rattle.control_reader.specs.Takes.{Takes, Faults}
 use Rattle.bgp_core.specs.Queries.{QueryData}
 use Rattle.request_pool.specs.declared.fault.PoolFault.TheVariants as pool
-use Rattle.pool_laws.specs.Answers.{IsBodyOf, IsTooLong, HasLongBody}
+use Rattle.request_pool.specs.Pools.{Ask, held}
+use Rattle.pool_laws.specs.Answers.{IsBodyOf, Brings, IsTooLong, HasLongBody}
 use Rattle.tpf_client.specs.declared.options.Options.{Options}
 use Rattle.tpf_client.specs.declared.fault.ClientFault.{ClientFault}
 use Rattle.tpf_client.specs.declared.fault.ClientFault.TheVariants as faults
-use Rattle.tpf_client.specs.Traffic.{Came, Broke, IsLawful, without_fault, Comes, Breaks}
+use Rattle.tpf_client.specs.Traffic.{Came, Broke, EndsWith, IsLawful, without_fault, Comes, Breaks}
 use Rattle.tpf_client.specs.Turns.{asked_in}
-use Rattle.tpf_client.specs.Honest.{Laws, IsHonestWire}
-use Rattle.tpf_client.specs.Requests.{TrafficLaws, addresses_of}
+use Rattle.tpf_client.specs.Offers.{Publisher, Offer}
+use Rattle.tpf_client.specs.Honest.{Laws}
+use Rattle.tpf_client.specs.Requests.{TrafficLaws}
 use Rattle.tpf_client.specs.Causes.{IsNoPage, IsChanged}
-use Rattle.tpf_client.specs.Plans.{IsAnswered, IsReadByAll, RefusesLong, MissesPage, TellsVersions, IsHonestCause, answer_at}
+use Rattle.tpf_client.specs.Plans.{AtEach, IsAnswered, IsReadByAll, RefusesLong, MissesPage, ChangesVersion, IsHonestCause, answer_at}
 use Rattle.tpf_client.specs.Acts.{IsHonestCauseOf}
 use Rattle.tpf_client.proofs.Endings.{ending, lost-in}
-use Rattle.tpf_client.proofs.Headline.{all-of, answer-last}
-use Rattle.tpf_client.proofs.Known.{knows-so}
-use Rattle.tpf_client.proofs.Planned.{ExplainedRun, at-member, in-plan}
+use Rattle.tpf_client.proofs.Caused.{distinct-after}
+use Rattle.tpf_client.proofs.Distinct.{one-ask, none-distinct}
+use Rattle.tpf_client.proofs.Known.{begun, knows-so}
+use Rattle.tpf_client.proofs.Covered.{Covered}
+use Rattle.tpf_client.proofs.Planned.{RunOf, ExplainedRun, at-member, in-plan}
 use Rattle.tpf_client.proofs.Rises.{tells-on, small-limit}
 use Rattle.tpf_client.proofs.Truth.{ReadsVersion, reads}
 
-module _ (laws : Laws) (traffic : TrafficLaws) (allows : List ℕ → ℕ → List ℕ → List ℕ → Type 0) (options : Options) (since now : WireState) (lawful : IsLawful allows since) (start : Address)
-    (history : List (List Triple)) (config : Config) (honest : IsHonestWire allows history config since) (limit : options.max_body < 2 ^ 64) (q : QueryData) where
+-- the body of a reply is that of an answer by a server that stands at its address
+record AnswersFrom (offer : Offer) (ask : Ask) (reply : Reply) : Type 0 where
+  server : Publisher
+  stands : offer.StandsAt ask.address server
+  is_history : IsHistory server.history
+  is_config : IsConfig server.config
+  body : IsBodyOf server.history server.config ask.address reply.body
+
+module _ (laws : Laws) (traffic : TrafficLaws) (allows : List ℕ → ℕ → List ℕ → List ℕ → Type 0) (options : Options) (since now : WireState) (lawful : IsLawful allows since) (limit : options.max_body < 2 ^ 64) (start : Address)
+    (offer : Offer) (q : QueryData) (covered : Covered offer allows options since now start q) where
   abbrev Run : ClientFault → Type 0
-  Run fault = ExplainedRun allows history config options since now start q fault
+  Run fault = ExplainedRun allows offer options since now start fault
+
+  -- an ask of the call has the authority of the start
+  own-ask : (run : RunOf allows options start since now) (ask : Ask) → Contains (asked_in run.events) ask → ShareAuthority start ask.address
+  own-ask run ask c = at-member (λ (a : Ask). ShareAuthority start a.address) (asked_in run.events) ask run.asks c
 
   -- a refused reply
-  refuses : (fault : ReplyFault) (received : List ℕ) → Run (faults.Reply fault received) → RefusesLong history config options q start fault received
+  refuses : (fault : ReplyFault) (received : List ℕ) → Run (faults.Reply fault received) → RefusesLong offer options fault received
   refuses fault received x =
       let run = x.planned.run in
-      let version = x.planned.version in
+      let choice = x.planned.choice in
       let e = ending laws traffic allows options since now lawful start run.events (Broke (pool.Reply fault received)) run.pool x.explains run.runs run.asks in
       let h : Breaks (pool.Reply fault received) e.mid run.pool e.between run.runs.between = e.last.happens in
-      let tells = tells-on laws traffic allows options since lawful start history config honest limit (length (asked_in run.events)) run.pool run.runs.between
+      let tells = tells-on allows options since start covered.tells (length (asked_in run.events)) run.pool run.runs.between
       (knows-so laws traffic start options allows since lawful run.events run.pool run.runs.between run.asks run.runs.travels) e.last.lawful in
-      let small = small-limit laws traffic allows options since lawful start history config honest limit e.mid.limit e.limit in
+      let small = small-limit options limit e.mid.limit e.limit in
       let t : IsTooLong allows fault received e.mid (without_fault run.pool) e.between run.runs.between =
       e.last.lawful.refused fault received e.mid (without_fault run.pool) e.between e.given e.suits e.knows.answers small tells h.steps in
       let ask = t.refused.loses.ask in
-      let inside = in-plan history config q start (asked_in run.events) version x.planned.of_plan ask
-      (lost-in laws traffic allows options since now lawful start run.events (Broke (pool.Reply fault received)) run.pool run.runs e (without_fault run.pool) ask h.had_none t.refused.loses.others) in
+      let asked = lost-in laws traffic allows options since now lawful start run.events (Broke (pool.Reply fault received)) run.pool run.runs e (without_fault run.pool) ask h.had_none t.refused.loses.others in
+      let inside = in-plan offer (asked_in run.events) choice x.planned.of_plan ask asked in
+      let s = covered.stands ask.address (own-ask run ask asked) in
       record {
-        version = version;
-        is_version = x.planned.of_plan.is_version;
+        choice = choice;
+        is_choice = x.planned.of_plan.is_choice;
         too_long = λ all.
-            let a = at-member (IsAnswered history config) (addresses_of history config q start version) ask.address all inside in
-            t.too_long history config (honest.is_honest ask.address.host ask.address.port) a.short a.answered;
+            let a = at-member (AtEach offer IsAnswered) (offer.addresses choice) ask.address all inside s.server s.stands in
+            t.too_long s.server.history s.server.config s.is_honest a.short a.answered;
         long = λ all.
-            let a = at-member (IsAnswered history config) (addresses_of history config q start version) ask.address all inside in
+            let a = at-member (AtEach offer IsAnswered) (offer.addresses choice) ask.address all inside s.server s.stands in
             record {
               address = ask.address;
               is_asked = inside;
-              long = subst (λ (n : ℕ). HasLongBody history config n ask.address received) e.limit (t.long history config (honest.is_honest ask.address.host ask.address.port) a.short a.answered);
+              server = s.server;
+              stands = s.stands;
+              long = subst (λ (n : ℕ). HasLongBody s.server.history s.server.config n ask.address received) e.limit (t.long s.server.history s.server.config s.is_honest a.short a.answered);
             };
       }
 
   -- ---- a body
 
   -- a body of an answer that each version gives as a page has no fault
-  no-fault : (address : Address) (reply body : List ℕ) (fault : PageFault) → IsBodyOf history config address reply → reply ≡ body → IsReadByAll history config address → Faults body address fault → ⊥
-  no-fault address reply body fault b same all why =
+  no-fault : (server : Publisher) (address : Address) (reply body : List ℕ) (fault : PageFault) → IsBodyOf server.history server.config address reply → reply ≡ body → IsReadByAll server address → Faults body address fault → ⊥
+  no-fault server address reply body fault b same all why =
       let version = version_at b.mark in
       let page = all version (record { low = b.version.low; high = b.version.high }) (sym (ap (λ (a : Answer). a.status) b.served) ∙ b.status) in
-      let is : (answer_at history config version address).body ≡ body = sym (ap (λ (a : Answer). a.body) b.served) ∙ (sym b.body_is ∙ same) in
+      let is : (answer_at server version address).body ≡ body = sym (ap (λ (a : Answer). a.body) b.served) ∙ (sym b.body_is ∙ same) in
       laws.never_both body address page.0 fault (subst (λ (l : List ℕ). Takes l address page.0) is page.1) why
 
-  misses : (fault : PageFault) (body : List ℕ) → Run (faults.Page fault body) → MissesPage history config q start
+  -- the ask of the reply that came last was put in the call
+  came-asked : (run : RunOf allows options start since now) (ask : Ask) (reply : Reply) → EndsWith (Came ask reply) run.events → Contains (asked_in run.events) ask
+  came-asked run ask reply last =
+      let e = ending laws traffic allows options since now lawful start run.events (Came ask reply) run.pool last run.runs run.asks in
+      let h : Comes ask reply e.mid run.pool e.between run.runs.between = e.last.happens in
+      lost-in laws traffic allows options since now lawful start run.events (Came ask reply) run.pool run.runs e run.pool ask h.had_none h.others
+
+  -- the body of that reply is the one of an answer by a server that stands at its address
+  answer-from : (run : RunOf allows options start since now) (ask : Ask) (reply : Reply) → EndsWith (Came ask reply) run.events → AnswersFrom offer ask reply
+  answer-from run ask reply last =
+      let e = ending laws traffic allows options since now lawful start run.events (Came ask reply) run.pool last run.runs run.asks in
+      let h : Comes ask reply e.mid run.pool e.between run.runs.between = e.last.happens in
+      let tells = tells-on allows options since start covered.tells (length (asked_in run.events)) run.pool run.runs.between
+      (knows-so laws traffic start options allows since lawful run.events run.pool run.runs.between run.asks run.runs.travels) e.last.lawful in
+      let small = small-limit options limit e.mid.limit e.limit in
+      let b : Brings allows ask.ticket reply e.mid run.pool = e.last.lawful.replies ask.ticket reply e.mid run.pool e.between e.given e.suits e.knows.answers small tells h.steps in
+      let theirs : Contains (held e.mid) b.hands.ask = Contains-permutation _ _ b.hands.ask (IsPermutation-sym _ _ b.hands.others) (at_head b.hands.ask (held run.pool)) in
+      let mine : Contains (held e.mid) ask = Contains-permutation _ _ ask (IsPermutation-sym _ _ h.others) (at_head ask (held run.pool)) in
+      let distinct = distinct-after allows e.before (begun options) e.mid since e.between (λ none. none-distinct) e.first h.had_none in
+      let same : b.hands.ask ≡ ask = one-ask (held e.mid) b.hands.ask ask distinct theirs mine b.hands.is_ticket in
+      let s = covered.stands ask.address (own-ask run ask (came-asked run ask reply last)) in
+      record {
+        server = s.server;
+        stands = s.stands;
+        is_history = s.is_history;
+        is_config = s.is_config;
+        body = subst (λ (a : Ask). IsBodyOf s.server.history s.server.config a.address reply.body) same
+            (b.body s.server.history s.server.config (subst (λ (a : Ask). IsHonestAt allows a.address.host a.address.port (answering s.server.history s.server.config)) (sym same) s.is_honest));
+      }
+
+  misses : (fault : PageFault) (body : List ℕ) → Run (faults.Page fault body) → MissesPage offer
   misses fault body x =
       let run = x.planned.run in
-      let version = x.planned.version in
+      let choice = x.planned.choice in
       let n : IsNoPage fault body run.events = x.explains in
-      let e = ending laws traffic allows options since now lawful start run.events (Came n.ask n.reply) run.pool n.last run.runs run.asks in
-      let h : Comes n.ask n.reply e.mid run.pool e.between run.runs.between = e.last.happens in
-      let inside = in-plan history config q start (asked_in run.events) version x.planned.of_plan n.ask
-      (lost-in laws traffic allows options since now lawful start run.events (Came n.ask n.reply) run.pool run.runs e run.pool n.ask h.had_none h.others) in
-      let b : IsBodyOf history config n.ask.address n.reply.body = answer-last history config (Came n.ask n.reply) run.events n.last (all-of laws allows history config options since now honest lawful limit start run.events run.pool run.runs) in
+      let inside = in-plan offer (asked_in run.events) choice x.planned.of_plan n.ask (came-asked run n.ask n.reply n.last) in
+      let s = answer-from run n.ask n.reply n.last in
       record {
-        version = version;
-        is_version = x.planned.of_plan.is_version;
-        unread = λ all. no-fault n.ask.address n.reply.body body fault b n.body_is (at-member (IsReadByAll history config) (addresses_of history config q start version) n.ask.address all inside) n.why;
+        choice = choice;
+        is_choice = x.planned.of_plan.is_choice;
+        unread = λ all. no-fault s.server n.ask.address n.reply.body body fault s.body n.body_is (at-member (AtEach offer IsReadByAll) (offer.addresses choice) n.ask.address all inside s.server s.stands) n.why;
       }
 
   -- ---- a version
 
-  changes : (first other : Option ℕ) → Run (faults.Changed first other) → TellsVersions history first other
+  changes : (first other : Option ℕ) → Run (faults.Changed first other) → ChangesVersion offer first other
   changes first other x =
       let run = x.planned.run in
       let c : IsChanged first other run.events = x.explains.1 in
-      let b : IsBodyOf history config c.ask.address c.reply.body = answer-last history config (Came c.ask c.reply) run.events c.last (all-of laws allows history config options since now honest lawful limit start run.events run.pool run.runs) in
-      let r : ReadsVersion laws.given laws.answered laws.only laws.worlds laws.forms laws.pages laws.kept laws.addresses history config honest.is_history honest.is_config c.page (version_at b.mark) =
-      reads laws.given laws.answered laws.only laws.worlds laws.forms laws.pages laws.kept laws.addresses history config honest.is_history honest.is_config c.ask.address c.reply.body c.page b c.taken in
+      let s = answer-from run c.ask c.reply c.last in
+      let r : ReadsVersion laws.given laws.answered laws.only laws.worlds laws.forms laws.pages laws.kept laws.addresses s.server.history s.server.config s.is_history s.is_config c.page (version_at s.body.mark) =
+      reads laws.given laws.answered laws.only laws.worlds laws.forms laws.pages laws.kept laws.addresses s.server.history s.server.config s.is_history s.is_config c.ask.address c.reply.body c.page s.body c.taken in
+      let own = own-ask run c.ask (came-asked run c.ask c.reply c.last) in
       record {
-        one = x.planned.version;
-        two = version_at b.mark;
-        is_first = x.explains.0;
-        is_other = sym c.version ∙ r.told;
-        is_one = x.planned.of_plan.is_version;
-        is_two = r.is_version;
-        differ = λ same. c.differs (x.explains.0 ∙ (ap (λ (n : ℕ). Some n) same ∙ (sym r.told ∙ c.version)));
+        choice = x.planned.choice;
+        is_choice = x.planned.of_plan.is_choice;
+        address = c.ask.address;
+        server = s.server;
+        stands = s.stands;
+        versions = record {
+          one = x.version;
+          two = version_at s.body.mark;
+          is_first = x.explains.0;
+          is_other = sym c.version ∙ r.told;
+          is_one = covered.numbers x.planned.choice x.planned.of_plan.is_choice c.ask.address s.server x.version s.stands (x.has c.ask.address own);
+          is_two = r.is_version;
+          differ = λ same. c.differs (x.explains.0 ∙ (ap (λ (n : ℕ). Some n) same ∙ (sym r.told ∙ c.version)));
+        };
+        is_chosen = x.has c.ask.address own;
       }
 
-  pub honest-cause : (fault : ClientFault) → Run fault → IsHonestCause history config options q start fault
+  pub honest-cause : (fault : ClientFault) → Run fault → IsHonestCause offer options fault
   honest-cause faults.Exchange x = tt
   honest-cause faults.Stalled x = tt
   honest-cause (faults.Cut received) x = tt
@@ -120,8 +180,8 @@ module _ (laws : Laws) (traffic : TrafficLaws) (allows : List ℕ → ℕ → Li
   honest-cause faults.Sink x = tt
   honest-cause faults.OutOfMemory x = tt
 
-  -- it is said of the version of the run
-  pub honest-cause-of : (fault : ClientFault) (x : Run fault) → IsHonestCauseOf history config options q start x.planned.version fault (honest-cause fault x)
+  -- it is said of the choice of the run
+  pub honest-cause-of : (fault : ClientFault) (x : Run fault) → IsHonestCauseOf offer options x.planned.choice fault (honest-cause fault x)
   unfolding honest-cause refuses misses changes
   honest-cause-of faults.Exchange x = tt
   honest-cause-of faults.Stalled x = tt

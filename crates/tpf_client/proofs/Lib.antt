@@ -19,6 +19,7 @@ pub mod Honesty
 pub mod Truth
 pub mod Texts
 pub mod Joining
+pub mod Covered
 pub mod Headline
 pub mod Received
 pub mod Endings
@@ -27,6 +28,7 @@ pub mod Planned
 pub mod Sent
 pub mod Rises
 pub mod Sparing
+pub mod Serving
 pub mod HonestCauses
 pub mod LivelyCauses
 pub mod Requested

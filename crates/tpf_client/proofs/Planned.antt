@@ -1,5 +1,5 @@
--- The run of a call, and what it asked for: the start, and a part of the plan over one of the versions.
-use Rattle.std.proofs.Common.{ℕ, ◌≡◌, ◌≤◌, ◌<◌, ◌^◌, ◌++◌, Bool, true, if◌then◌else◌, List, [], ◌∷◌, map, length, Option, Some, None, refl, sym, ap, subst, ◌∙◌, inl, inr, arith, append-nil}
+-- The run of a call, and what it asked for: a part of what one choice of its offer has to ask for.
+use Rattle.std.proofs.Common.{ℕ, ◌≡◌, ◌≤◌, ◌++◌, List, [], ◌∷◌, map, length, Option, Some, None, refl, sym, ap, subst, ◌∙◌, inl, inr, arith, append-nil}
 use Rattle.std.specs.Prelude.{◌⊎◌}
 use Rattle.std.specs.List.{AllByRecursion, Contains}
 use Rattle.std.specs.List.Sorted.{IsPermutation}
@@ -7,17 +7,15 @@ use Rattle.std.proofs.lemmas.List.{length-append, length-map}
 use Rattle.std.proofs.lemmas.List.Elements.{All-contains, All-from_recursion, Contains-append_left}
 use Rattle.std.proofs.lemmas.List.Sorted.{IsPermutation-refl, IsPermutation-sym, IsPermutation-cons, Contains-permutation, length_permutation}
 use Rattle.list_laws.proofs.Members.{Contains-map}
-use Rattle.rdf_terms.specs.declared.term.Triple.{Triple}
 use Rattle.tpf_base.specs.Addresses.{Address}
 use Rattle.tpf_base.specs.Links.{WireState}
-use Rattle.template_fill.specs.Metadata.{Config}
-use Rattle.template_fill.specs.Bodies.{version_of}
+use Rattle.template_fill.specs.Authorities.{ShareAuthority}
 use Rattle.bgp_core.specs.Queries.{QueryData}
 use Rattle.bgp_core.specs.Solutions.{Places}
 use Rattle.request_pool.specs.Pools.{Pooled, Ask, held}
 use Rattle.request_pool.specs.Owned.{SuitsWire}
 use Rattle.join_core.specs.Nodes.{plan}
-use Rattle.plan_laws.specs.Servers.{server_world}
+use Rattle.join_core.specs.Worlds.{World}
 use Rattle.tpf_client.specs.declared.options.Options.{Options}
 use Rattle.tpf_client.specs.declared.options.Report.{Report}
 use Rattle.tpf_client.specs.declared.fault.ClientFault.{ClientFault}
@@ -25,14 +23,14 @@ use Rattle.tpf_client.specs.Traffic.{Event, IsLawful}
 use Rattle.tpf_client.specs.Causes.{Explains}
 use Rattle.tpf_client.specs.Turns.{AsksAt, asked_in, address_of}
 use Rattle.tpf_client.specs.Starts.{start_ask}
-use Rattle.tpf_client.specs.Calls.{Returns, WritesSome, Before, Behind, AtEnd, RunsPool, no_names_bound}
-use Rattle.tpf_client.specs.Honest.{Laws, IsHonestWire, IsVersionOf}
-use Rattle.tpf_client.specs.Requests.{TrafficLaws, is_served, addresses_of}
+use Rattle.tpf_client.specs.Calls.{Returns, WritesSome, Before, Behind, AtEnd, RunsPool, ReadsStart, no_names_bound}
+use Rattle.tpf_client.specs.Offers.{Offer}
+use Rattle.tpf_client.specs.Requests.{TrafficLaws}
 use Rattle.tpf_client.proofs.Accounting.{asked-append}
 use Rattle.tpf_client.proofs.Homes.{start-alone}
 use Rattle.tpf_client.proofs.Going.{explains-later}
 use Rattle.tpf_client.proofs.Fewest.{fewest}
-use Rattle.tpf_client.proofs.Headline.{start-is-served, world-of, first-version}
+use Rattle.tpf_client.proofs.Covered.{SomeChoice, ChoiceBehind, Covered}
 use Rattle.tpf_client.proofs.Known.{begun}
 
 -- what holds of all holds of each
@@ -67,148 +65,149 @@ module _ (traffic : TrafficLaws) (allows : List ℕ → ℕ → List ℕ → Lis
   least-started run none empty =
       fewest traffic.puts_few traffic.steps_few traffic.tries allows run.events (begun options) run.pool since run.runs.between lawful.given begun-suits (traffic.empty_few options.links options.retries options.budget options.max_body) refl run.runs.travels none empty
 
--- ---- over an honest wire
+-- ---- over an offer
 
-module _ (history : List (List Triple)) (config : Config) (q : QueryData) (start : Address) where
-  abbrev whole-at : ℕ → List Address
-  whole-at version = plan (server_world (version_of history version) config) q.patterns (no_names_bound q)
-
-  -- behind the start, where that is served
-  abbrev plan-at : ℕ → List Address
-  plan-at version = if is_served history config start version then whole-at version else []
-
-  served-plan : (version : ℕ) → is_served history config start version ≡ true → whole-at version ≡ plan-at version
-  served-plan version e = sym (ap (λ (b : Bool). if b then whole-at version else []) e)
-
-  -- the asks are for the start and a part of the plan of this version
-  pub record OfPlan (asked : List Ask) (version : ℕ) : Type 0 where
-    pub is_version : IsVersionOf history version
+module _ (offer : Offer) where
+  -- the asks are for a part of what this choice has to ask for
+  pub record OfPlan (asked : List Ask) (choice : offer.Choice) : Type 0 where
+    pub is_choice : offer.IsChoice choice
     pub rest : List Address
-    pub plan_is : IsPermutation (addresses_of history config q start version) (map address_of asked ++ rest)
+    pub plan_is : IsPermutation (offer.addresses choice) (map address_of asked ++ rest)
 
   -- what was asked is one of these addresses
-  pub in-plan : (asked : List Ask) (version : ℕ) → OfPlan asked version → (ask : Ask) → Contains asked ask → Contains (addresses_of history config q start version) ask.address
-  in-plan asked version o ask c =
-      Contains-permutation (map address_of asked ++ o.rest) (addresses_of history config q start version) ask.address (IsPermutation-sym (addresses_of history config q start version) (map address_of asked ++ o.rest) o.plan_is)
+  pub in-plan : (asked : List Ask) (choice : offer.Choice) → OfPlan asked choice → (ask : Ask) → Contains asked ask → Contains (offer.addresses choice) ask.address
+  in-plan asked choice o ask c =
+      Contains-permutation (map address_of asked ++ o.rest) (offer.addresses choice) ask.address (IsPermutation-sym (offer.addresses choice) (map address_of asked ++ o.rest) o.plan_is)
       (Contains-append_left (map address_of asked) o.rest ask.address (Contains-map address_of asked ask c))
 
   -- there are no more asks than addresses, and as many where none is left
-  pub few-asked : (asked : List Ask) (version : ℕ) → OfPlan asked version → length asked ≤ length (addresses_of history config q start version)
-  few-asked asked version o =
-      let a : length (map address_of asked ++ o.rest) ≡ length (addresses_of history config q start version) = length_permutation (addresses_of history config q start version) (map address_of asked ++ o.rest) o.plan_is in
+  pub few-asked : (asked : List Ask) (choice : offer.Choice) → OfPlan asked choice → length asked ≤ length (offer.addresses choice)
+  few-asked asked choice o =
+      let a : length (map address_of asked ++ o.rest) ≡ length (offer.addresses choice) = length_permutation (offer.addresses choice) (map address_of asked ++ o.rest) o.plan_is in
       let b = length-append (map address_of asked) o.rest in
       let c = length-map asked address_of in
       omega (arith, a, b, c)
 
-  pub all-counted : (asked : List Ask) (version : ℕ) → (o : OfPlan asked version) → o.rest ≡ [] → length asked ≡ length (addresses_of history config q start version)
-  all-counted asked version o none =
-      let a : length (map address_of asked ++ o.rest) ≡ length (addresses_of history config q start version) = length_permutation (addresses_of history config q start version) (map address_of asked ++ o.rest) o.plan_is in
+  pub all-counted : (asked : List Ask) (choice : offer.Choice) → (o : OfPlan asked choice) → o.rest ≡ [] → length asked ≡ length (offer.addresses choice)
+  all-counted asked choice o none =
+      let a : length (map address_of asked ++ o.rest) ≡ length (offer.addresses choice) = length_permutation (offer.addresses choice) (map address_of asked ++ o.rest) o.plan_is in
       let b = length-append (map address_of asked) o.rest in
       let c = length-map asked address_of in
       let d : length o.rest ≡ length {A = Address} [] = ap (λ (l : List Address). length l) none in
       let e : length {A = Address} [] ≡ 0 = refl in
       omega (arith, a, b, c, d, e)
 
-  -- the start alone, or nothing
-  alone-plan : (events : List Event) → IsVersionOf history 1 → (asked_in events ≡ start_ask start ∷ []) ⊎ (asked_in events ≡ []) → OfPlan (asked_in events) 1
-  alone-plan events v (inl e) = record {
-    is_version = v;
-    rest = plan-at 1;
-    plan_is = subst (λ (l : List Ask). IsPermutation (start ∷ plan-at 1) (map address_of l ++ plan-at 1)) (sym e) (IsPermutation-refl (start ∷ plan-at 1));
-  }
-  alone-plan events v (inr e) = record {
-    is_version = v;
-    rest = start ∷ plan-at 1;
-    plan_is = subst (λ (l : List Ask). IsPermutation (start ∷ plan-at 1) (map address_of l ++ start ∷ plan-at 1)) (sym e) (IsPermutation-refl (start ∷ plan-at 1));
-  }
+  module _ (q : QueryData) (start : Address) where
+    -- the start alone, or nothing
+    alone-plan : (s : SomeChoice offer start) (events : List Event) → (asked_in events ≡ start_ask start ∷ []) ⊎ (asked_in events ≡ []) → OfPlan (asked_in events) s.choice
+    alone-plan s events (inl e) = record {
+      is_choice = s.is_choice;
+      rest = s.rest;
+      plan_is = subst (λ (l : List Address). IsPermutation l (map address_of (asked_in events) ++ s.rest)) s.addresses
+          (subst (λ (l : List Ask). IsPermutation (start ∷ s.rest) (map address_of l ++ s.rest)) (sym e) (IsPermutation-refl (start ∷ s.rest)));
+    }
+    alone-plan s events (inr e) = record {
+      is_choice = s.is_choice;
+      rest = start ∷ s.rest;
+      plan_is = subst (λ (l : List Address). IsPermutation l (map address_of (asked_in events) ++ start ∷ s.rest)) s.addresses
+          (subst (λ (l : List Ask). IsPermutation (start ∷ s.rest) (map address_of l ++ start ∷ s.rest)) (sym e) (IsPermutation-refl (start ∷ s.rest)));
+    }
 
-  -- the start, and these behind it
-  behind-plan : (first later : List Event) (version : ℕ) (rest : List Address) → IsVersionOf history version → is_served history config start version ≡ true → asked_in first ≡ start_ask start ∷ [] → IsPermutation (whole-at version) (map address_of (asked_in later) ++ rest) → OfPlan (asked_in (first ++ later)) version
-  behind-plan first later version rest v s e whole =
-      let p : IsPermutation (plan-at version) (map address_of (asked_in later) ++ rest) = subst (λ (l : List Address). IsPermutation l (map address_of (asked_in later) ++ rest)) (served-plan version s) whole in
-      let asks : asked_in (first ++ later) ≡ start_ask start ∷ asked_in later = asked-append first later ∙ ap (λ (l : List Ask). l ++ asked_in later) e in
-      record {
-        is_version = v;
-        rest = rest;
-        plan_is = subst (λ (l : List Ask). IsPermutation (start ∷ plan-at version) (map address_of l ++ rest)) (sym asks) (IsPermutation-cons start (plan-at version) (map address_of (asked_in later) ++ rest) p);
-      }
+    abbrev plan-of : World → List Address
+    plan-of world = plan world q.patterns (no_names_bound q)
 
-  whole-plan : (first later : List Event) (version : ℕ) → IsVersionOf history version → is_served history config start version ≡ true → asked_in first ≡ start_ask start ∷ [] → IsPermutation (whole-at version) (map address_of (asked_in later)) → OfPlan (asked_in (first ++ later)) version
-  whole-plan first later version v s e p =
-      behind-plan first later version [] v s e (subst (λ (l : List Address). IsPermutation (whole-at version) l) (sym (append-nil (map address_of (asked_in later)))) p)
+    -- the start, and these behind it
+    behind-plan : (first later : List Event) (reads : ReadsStart start first) (c : ChoiceBehind offer q start first later reads) (rest : List Address) → IsPermutation (plan-of c.world) (map address_of (asked_in later) ++ rest) → OfPlan (asked_in (first ++ later)) c.choice
+    behind-plan first later reads c rest p =
+        let asks : asked_in (first ++ later) ≡ start_ask start ∷ asked_in later = asked-append first later ∙ ap (λ (l : List Ask). l ++ asked_in later) reads.asked in
+        record {
+          is_choice = c.is_choice;
+          rest = rest;
+          plan_is = subst (λ (l : List Address). IsPermutation l (map address_of (asked_in (first ++ later)) ++ rest)) c.addresses
+              (subst (λ (l : List Ask). IsPermutation (start ∷ plan-of c.world) (map address_of l ++ rest)) (sym asks) (IsPermutation-cons start (plan-of c.world) (map address_of (asked_in later) ++ rest) p));
+        }
 
--- ---- runs over an honest wire
+    whole-plan : (first later : List Event) (reads : ReadsStart start first) (c : ChoiceBehind offer q start first later reads) → IsPermutation (plan-of c.world) (map address_of (asked_in later)) → OfPlan (asked_in (first ++ later)) c.choice
+    whole-plan first later reads c p =
+        behind-plan first later reads c [] (subst (λ (l : List Address). IsPermutation (plan-of c.world) l) (sym (append-nil (map address_of (asked_in later)))) p)
 
-module _ (allows : List ℕ → ℕ → List ℕ → List ℕ → Type 0) (history : List (List Triple)) (config : Config) (options : Options) (since now : WireState) (start : Address) (q : QueryData) where
-  -- a run that asked for a part of the plan of a version
+-- ---- runs
+
+module _ (allows : List ℕ → ℕ → List ℕ → List ℕ → Type 0) (offer : Offer) (options : Options) (since now : WireState) (start : Address) where
+  -- a run that asked for a part of what a choice has to ask for
   pub record PlannedRun : Type 0 where
     pub run : RunOf allows options start since now
-    pub version : ℕ
-    pub of_plan : OfPlan history config q start (asked_in run.events) version
+    pub choice : offer.Choice
+    pub of_plan : OfPlan offer (asked_in run.events) choice
 
-  -- a run that ended with a fault; where the start page was read, that is its version
+  -- a run that ended with a fault, by the version that the choice has at the addresses of the call
   pub record ExplainedRun (fault : ClientFault) : Type 0 where
     pub planned : PlannedRun
-    pub explains : Explains (Some planned.version) options.budget fault planned.run.events
+    pub version : ℕ
+    pub has : (address : Address) → ShareAuthority start address → offer.HasVersion planned.choice address version
+    pub explains : Explains (Some version) options.budget fault planned.run.events
 
-  -- a run that asked for the whole plan of the version that is reported, and was answered
+  -- a run that asked for all that the choice has to ask for that is reported, and was answered
   pub record WholeRun (report : Report) : Type 0 where
     pub planned : PlannedRun
     pub none_left : planned.of_plan.rest ≡ []
     pub none_held : held planned.run.pool ≡ []
     pub no_fault : planned.run.pool.fault ≡ None
-    pub is_reported : report.version ≡ Some planned.version
+    pub is_reported : offer.IsReported planned.choice report.version
     pub requests : report.requests ≡ planned.run.pool.started
 
-module _ (laws : Laws) (allows : List ℕ → ℕ → List ℕ → List ℕ → Type 0) (history : List (List Triple)) (config : Config) (options : Options) (since now : WireState) (honest : IsHonestWire allows history config since) (lawful : IsLawful allows since) (limit : options.max_body < 2 ^ 64) (start : Address) (q : QueryData) where
-  pub returns-whole : (report : Report) (rows : List Places) → Returns (RunsPool allows options since now) q start report rows → WholeRun allows history config options since now start q report
+module _ (allows : List ℕ → ℕ → List ℕ → List ℕ → Type 0) (offer : Offer) (options : Options) (since now : WireState) (start : Address) (q : QueryData) (covered : Covered offer allows options since now start q) where
+  pub returns-whole : (report : Report) (rows : List Places) → Returns (RunsPool allows options since now) q start report rows → WholeRun allows offer options since now start report
   unfolding whole-plan behind-plan
   returns-whole report rows r =
-      let v = world-of laws allows history config options since now honest lawful limit start r.first r.later r.pool r.runs r.reads in
-      let g = r.gives (server_world (version_of history v.0) config) v.3 in
-      let s = start-is-served laws allows history config options since now honest lawful limit start r.first r.later r.pool v.0 r.runs r.reads v.2 in
+      let c = covered.behind r.first r.later r.pool r.runs r.reads in
+      let g = r.gives c.world c.is_world in
       record {
-        planned = record { run = returns-run allows options since now start q report rows r; version = v.0; of_plan = whole-plan history config q start r.first r.later v.0 v.1 s r.reads.asked g.plan_is };
+        planned = record { run = returns-run allows options since now start q report rows r; choice = c.choice; of_plan = whole-plan offer q start r.first r.later r.reads c g.plan_is };
         none_left = refl;
         none_held = r.none_held;
         no_fault = r.no_fault;
-        is_reported = r.is_version ∙ v.2;
+        is_reported = subst (λ (v : Option ℕ). offer.IsReported c.choice v) (sym r.is_version) c.is_reported;
         requests = r.requests;
       }
 
   told-by : (told : Option ℕ) (version : ℕ) (fault : ClientFault) (first later : List Event) → told ≡ Some version → Explains told options.budget fault later → Explains (Some version) options.budget fault (first ++ later)
   told-by told version fault first later e x = explains-later (Some version) options.budget fault first later (subst (λ (o : Option ℕ). Explains o options.budget fault later) e x)
 
-  pub some-explained : (fault : ClientFault) (t u : Option (List ℕ)) → WritesSome (RunsPool allows options since now) q start options.budget fault t u → ExplainedRun allows history config options since now start q fault
+  pub some-explained : (fault : ClientFault) (t u : Option (List ℕ)) → WritesSome (RunsPool allows options since now) q start options.budget fault t u → ExplainedRun allows offer options since now start fault
   some-explained fault t u (Before b) = record {
     planned = record {
       run = record { events = b.events; pool = b.pool; runs = b.runs; asks = start-alone start b.events b.asked };
-      version = 1;
-      of_plan = alone-plan history config q start b.events (first-version laws allows history config options since now honest lawful limit start) b.asked;
+      choice = covered.begins.choice;
+      of_plan = alone-plan offer q start covered.begins b.events b.asked;
     };
-    explains = b.explains (Some 1);
+    version = covered.begins.version;
+    has = covered.begins.has;
+    explains = b.explains (Some covered.begins.version);
   }
   some-explained fault t u (Behind b) =
-      let v = world-of laws allows history config options since now honest lawful limit start b.first b.later b.pool b.runs b.reads in
-      let g = b.gives (server_world (version_of history v.0) config) v.3 in
-      let s = start-is-served laws allows history config options since now honest lawful limit start b.first b.later b.pool v.0 b.runs b.reads v.2 in
+      let c = covered.behind b.first b.later b.pool b.runs b.reads in
+      let g = b.gives c.world c.is_world in
       record {
         planned = record {
           run = record { events = b.first ++ b.later; pool = b.pool; runs = b.runs; asks = b.asks };
-          version = v.0;
-          of_plan = behind-plan history config q start b.first b.later v.0 g.rest v.1 s b.reads.asked g.plan_is;
+          choice = c.choice;
+          of_plan = behind-plan offer q start b.first b.later b.reads c g.rest g.plan_is;
         };
-        explains = told-by b.reads.page.version v.0 fault b.first b.later v.2 b.explains;
+        version = c.version;
+        has = c.has;
+        explains = told-by b.reads.page.version c.version fault b.first b.later c.told b.explains;
       }
   some-explained fault t u (AtEnd b) =
-      let v = world-of laws allows history config options since now honest lawful limit start b.first b.later b.pool b.runs b.reads in
-      let g = b.gives (server_world (version_of history v.0) config) v.3 in
-      let s = start-is-served laws allows history config options since now honest lawful limit start b.first b.later b.pool v.0 b.runs b.reads v.2 in
+      let c = covered.behind b.first b.later b.pool b.runs b.reads in
+      let g = b.gives c.world c.is_world in
       record {
         planned = record {
           run = record { events = b.first ++ b.later; pool = b.pool; runs = b.runs; asks = b.asks };
-          version = v.0;
-          of_plan = whole-plan history config q start b.first b.later v.0 v.1 s b.reads.asked g.plan_is;
+          choice = c.choice;
+          of_plan = whole-plan offer q start b.first b.later b.reads c g.plan_is;
         };
-        explains = told-by b.reads.page.version v.0 fault b.first b.later v.2 b.explains;
+        version = c.version;
+        has = c.has;
+        explains = told-by b.reads.page.version c.version fault b.first b.later c.told b.explains;
       }

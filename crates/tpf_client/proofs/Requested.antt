@@ -5,11 +5,9 @@ use Rattle.std.specs.Prelude.{Ok, Err}
 use Rattle.std.proofs.lemmas.List.{map-append}
 use Rattle.std.proofs.lemmas.List.Sums.{sum_by-cons, sum_by-append}
 use Rattle.std.proofs.lemmas.List.Sorted.{sum_by-IsPermutation}
-use Rattle.rdf_terms.specs.declared.term.Triple.{Triple}
 use Rattle.tpf_base.specs.Addresses.{Address}
 use Rattle.tpf_base.specs.Links.{WireState}
 use Rattle.template_fill.specs.Authorities.{ShareAuthority}
-use Rattle.template_fill.specs.Metadata.{Config}
 use Rattle.bgp_core.specs.Queries.{QueryData}
 use Rattle.request_pool.specs.Pools.{Pooled, Ask, held}
 use Rattle.pool_laws.specs.Requested.{LastRequest, NoneWhole, Unanswered, Replied, LinkRequests, TellsRequests, RequestedSince, AnsweredSince, SentByRises, addresses_of as links_addresses, last_whole, last_answered, whole_requests, whole_answers, over_links, count_sent, count_answered, any}
@@ -18,12 +16,14 @@ use Rattle.tpf_client.specs.declared.options.Options.{Options}
 use Rattle.tpf_client.specs.declared.options.Report.{Report}
 use Rattle.tpf_client.specs.Traffic.{IsLawful, without_fault}
 use Rattle.tpf_client.specs.Turns.{asked_in, address_of}
-use Rattle.tpf_client.specs.Honest.{Laws, IsHonestWire}
-use Rattle.tpf_client.specs.Requests.{TrafficLaws, addresses_of}
+use Rattle.tpf_client.specs.Offers.{Offer}
+use Rattle.tpf_client.specs.Honest.{Laws}
+use Rattle.tpf_client.specs.Requests.{TrafficLaws}
 use Rattle.tpf_client.specs.Requested.{CallRequests, RequestsPlan, AnswersPlan}
 use Rattle.tpf_client.proofs.Keeping.{IsKeptWith, not-some, with-asks}
 use Rattle.tpf_client.proofs.Known.{begun, begun-between}
 use Rattle.tpf_client.proofs.Endings.{same-pool}
+use Rattle.tpf_client.proofs.Covered.{Covered}
 use Rattle.tpf_client.proofs.Planned.{RunOf, OfPlan, PlannedRun, WholeRun, few-asked}
 use Rattle.tpf_client.proofs.LivelyCauses.{rises-of, no-rises}
 
@@ -91,17 +91,17 @@ few-of k m n most sent h e l =
     let b = mul-le-mul_left (m + 1) l in
     omega (arith, a, b)
 
-module _ (history : List (List Triple)) (config : Config) (q : QueryData) (start : Address) where
-  asked-count : (test : Address → Bool) (asked : List Ask) (version : ℕ) (o : OfPlan history config q start asked version) → count_by test (addresses_of history config q start version) ≡ count_by test (map address_of asked) + count_by test o.rest
-  asked-count test asked version o =
-      sym (sum_by-IsPermutation (λ (y : Address). cond (test y) 1 0) (addresses_of history config q start version) (map address_of asked ++ o.rest) o.plan_is) ∙ count-append test (map address_of asked) o.rest
+module _ (offer : Offer) where
+  asked-count : (test : Address → Bool) (asked : List Ask) (choice : offer.Choice) (o : OfPlan offer asked choice) → count_by test (offer.addresses choice) ≡ count_by test (map address_of asked) + count_by test o.rest
+  asked-count test asked choice o =
+      sym (sum_by-IsPermutation (λ (y : Address). cond (test y) 1 0) (offer.addresses choice) (map address_of asked ++ o.rest) o.plan_is) ∙ count-append test (map address_of asked) o.rest
 
-  few-count : (test : Address → Bool) (asked : List Ask) (version : ℕ) → OfPlan history config q start asked version → count_by test (map address_of asked) ≤ count_by test (addresses_of history config q start version)
-  few-count test asked version o = let a = asked-count test asked version o in omega (arith, a)
+  few-count : (test : Address → Bool) (asked : List Ask) (choice : offer.Choice) → OfPlan offer asked choice → count_by test (map address_of asked) ≤ count_by test (offer.addresses choice)
+  few-count test asked choice o = let a = asked-count test asked choice o in omega (arith, a)
 
-  whole-count : (test : Address → Bool) (asked : List Ask) (version : ℕ) (o : OfPlan history config q start asked version) → o.rest ≡ [] → count_by test (addresses_of history config q start version) ≡ count_by test (map address_of asked)
-  whole-count test asked version o none =
-      let a = asked-count test asked version o in
+  whole-count : (test : Address → Bool) (asked : List Ask) (choice : offer.Choice) (o : OfPlan offer asked choice) → o.rest ≡ [] → count_by test (offer.addresses choice) ≡ count_by test (map address_of asked)
+  whole-count test asked choice o none =
+      let a = asked-count test asked choice o in
       let b : count_by test o.rest ≡ count_by test [] = ap (λ (l : List Address). count_by test l) none in
       omega (arith, a, b)
 
@@ -151,11 +151,11 @@ module _ (laws : Laws) (traffic : TrafficLaws) (allows : List ℕ → ℕ → Li
       (λ e. traffic.empty_answered options.links options.retries options.budget options.max_body since) run.runs.travels in
       traffic.closing_answered (map address_of (asked_in run.events)) since run.pool (shut run.pool) run.runs.between now (i none) empty refl run.runs.closes
 
-  module _ (history : List (List Triple)) (config : Config) (honest : IsHonestWire allows history config since) (limit : options.max_body < 2 ^ 64) (q : QueryData) where
-    abbrev addresses : PlannedRun allows history config options since now start q → List Address
-    addresses x = addresses_of history config q start x.version
+  module _ (limit : options.max_body < 2 ^ 64) (offer : Offer) (q : QueryData) (covered : Covered offer allows options since now start q) where
+    abbrev addresses : PlannedRun allows offer options since now start → List Address
+    addresses x = offer.addresses x.choice
 
-    call-requests : (x : PlannedRun allows history config options since now start q) → RequestedSince (map address_of (asked_in x.run.events)) since (shut x.run.pool) now → CallRequests options (addresses x) since now
+    call-requests : (x : PlannedRun allows offer options since now start) → RequestedSince (map address_of (asked_in x.run.events)) since (shut x.run.pool) now → CallRequests options (addresses x) since now
     call-requests x h =
         let bounds = same-pool laws traffic allows options since now lawful start x.run.events x.run.pool x.run.asks x.run.runs in
         let same : x.run.pool.limit ≡ options.max_body = ap (λ (p : Pooled). p.limit) bounds in
@@ -164,45 +164,45 @@ module _ (laws : Laws) (traffic : TrafficLaws) (allows : List ℕ → ℕ → Li
           told = λ k low high. subst (λ (n : ℕ). TellsRequests n (now.links k) (h.requests k)) same (h.given k low high);
           few = λ test.
               few-of x.run.pool.retries options.retries (count_by test (map address_of (asked_in x.run.events))) (count_by test (addresses x)) (count_sent test h.requests since now)
-              (traffic.few_requested (map address_of (asked_in x.run.events)) since (shut x.run.pool) now h test) (ap (λ (p : Pooled). p.retries) bounds) (few-count history config q start test (asked_in x.run.events) x.version x.of_plan);
+              (traffic.few_requested (map address_of (asked_in x.run.events)) since (shut x.run.pool) now h test) (ap (λ (p : Pooled). p.retries) bounds) (few-count offer test (asked_in x.run.events) x.choice x.of_plan);
         }
 
     -- where failures are rises
-    by-rises : (x : PlannedRun allows history config options since now start q) (h : RequestedSince (map address_of (asked_in x.run.events)) since (shut x.run.pool) now) → since.nature.lively ≡ true
+    by-rises : (x : PlannedRun allows offer options since now start) (h : RequestedSince (map address_of (asked_in x.run.events)) since (shut x.run.pool) now) → since.nature.lively ≡ true
         → SentByRises since.faults (length (addresses x)) (count_sent any h.requests since now) now.faults
     by-rises x h alive =
-        let i = rises-of laws traffic allows options since now lawful start history config honest limit q alive x in
+        let i = rises-of laws traffic allows options since now lawful limit start offer q covered alive x in
         let closes = x.run.runs.closes.faults in
-        let later = i.rose.later in
-        let few = i.rose.few in
-        let all = i.rose.all in
+        let later = i.later in
+        let few = i.few in
+        let all = i.all in
         let shut-rose : FailuresRose since.faults (length (asked_in x.run.events)) (shut x.run.pool) now = record {
           later = omega (arith, later, closes);
           waiting = tt;
           flying = tt;
-          failures = i.rose.failures;
+          failures = i.failures;
           all = omega (arith, all, closes);
           few = omega (arith, few);
         } in
         let s = traffic.rises_requested (map address_of (asked_in x.run.events)) since since.faults (length (asked_in x.run.events)) (shut x.run.pool) now h shut-rose in
-        let most = few-asked history config q start (asked_in x.run.events) x.version x.of_plan in
+        let most = few-asked offer (asked_in x.run.events) x.choice x.of_plan in
         let sum = s.few in
         record { failures = s.failures; all = s.all; few = omega (arith, sum, most) }
 
-    pub requests-plan : PlannedRun allows history config options since now start q → RequestsPlan history config options q start since now
+    pub requests-plan : PlannedRun allows offer options since now start → RequestsPlan offer options since now
     unfolding call-requests
     requests-plan x =
         let h = requested-so x.run in
-        record { version = x.version; is_version = x.of_plan.is_version; requests = call-requests x h; rises = λ alive. by-rises x h alive }
+        record { choice = x.choice; is_choice = x.of_plan.is_choice; requests = call-requests x h; rises = λ alive. by-rises x h alive }
 
-    pub requests-version : (x : PlannedRun allows history config options since now start q) → (requests-plan x).version ≡ x.version
+    pub requests-choice : (x : PlannedRun allows offer options since now start) → (requests-plan x).choice ≡ x.choice
     unfolding requests-plan
-    requests-version x = refl
+    requests-choice x = refl
 
     at-most : (all most n : ℕ) → all ≤ most + n → n ≡ 0 → all ≤ most
     at-most all most n h z = omega (arith, h, z)
 
-    pub answers-plan : (report : Report) → WholeRun allows history config options since now start q report → AnswersPlan history config options q start report since now
+    pub answers-plan : (report : Report) → WholeRun allows offer options since now start report → AnswersPlan offer options report since now
     unfolding call-requests
     answers-plan report w =
         let x = w.planned in
@@ -210,12 +210,12 @@ module _ (laws : Laws) (traffic : TrafficLaws) (allows : List ℕ → ℕ → Li
         let a = answered-so x.run w.no_fault w.none_held in
         let h = a.requested in
         let enough : (test : Address → Bool) → count_by test (addresses x) ≤ count_answered test h.requests since now =
-        λ test. subst (λ (n : ℕ). n ≤ count_answered test h.requests since now) (sym (whole-count history config q start test (asked_in x.run.events) x.version x.of_plan w.none_left)) (traffic.all_answered asked since (shut x.run.pool) now a refl test) in
+        λ test. subst (λ (n : ℕ). n ≤ count_answered test h.requests since now) (sym (whole-count offer test (asked_in x.run.events) x.choice x.of_plan w.none_left)) (traffic.all_answered asked since (shut x.run.pool) now a refl test) in
         let sent : (test : Address → Bool) → count_by test (addresses x) ≤ count_sent test h.requests since now =
         λ test. let b = enough test in let c = all-answers test h.requests since now in omega (arith, b, c) in
         record {
-          version = x.version;
-          is_version = x.of_plan.is_version;
+          choice = x.choice;
+          is_choice = x.of_plan.is_choice;
           is_reported = w.is_reported;
           requests = call-requests x h;
           answered = enough;

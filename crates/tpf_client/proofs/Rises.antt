@@ -1,48 +1,47 @@
--- Over honest and lively wires each failure of an ask is a rise of the wire's faults.
+-- Over lively wires to servers each failure of an ask is a rise of the wire's faults.
 use Rattle.std.proofs.Common.{ℕ, ◌≡◌, ◌<◌, ◌+◌, ◌^◌, List, [], ◌∷◌, length, true, sym, ap, subst, ◌∙◌, arith}
 use Rattle.std.specs.Prelude.{Result, Ok, Err}
 use Rattle.std.specs.List.{AllByRecursion}
-use Rattle.rdf_terms.specs.declared.term.Triple.{Triple}
 use Rattle.tpf_base.specs.Addresses.{Address}
-use Rattle.tpf_base.specs.Links.{Nature, WireState}
+use Rattle.tpf_base.specs.Links.{All, Nature, WireState}
 use Rattle.template_fill.specs.Authorities.{ShareAuthority}
-use Rattle.template_fill.specs.Metadata.{Config}
 use Rattle.request_pool.specs.declared.fault.PoolFault.{PoolFault}
 use Rattle.request_pool.specs.declared.fault.Stepped.{Stepped}
 use Rattle.request_pool.specs.Pools.{Pooled, Ask, held}
 use Rattle.request_pool.specs.Steps.{StepsTo}
 use Rattle.pool_laws.specs.Answers.{TellsAll}
-use Rattle.pool_laws.specs.Rising.{IsServed, FailuresRose, StepRose, EndsByRises}
+use Rattle.pool_laws.specs.Rising.{IsServedBySome, FailuresRose, StepRose, EndsByRises}
 use Rattle.tpf_client.specs.declared.options.Options.{Options}
 use Rattle.tpf_client.specs.Traffic.{Event, Broke, Travels, EndsWith, IsLawful, without_fault, Breaks}
 use Rattle.tpf_client.specs.Turns.{asked_in}
 use Rattle.tpf_client.specs.Calls.{RunsPool}
-use Rattle.tpf_client.specs.Honest.{Laws, IsHonestWire}
+use Rattle.tpf_client.specs.Honest.{Laws}
 use Rattle.tpf_client.specs.Requests.{TrafficLaws}
 use Rattle.tpf_client.proofs.Homes.{all-so, asks-front}
 use Rattle.tpf_client.proofs.Keeping.{IsKeptBy, Taken, taken, between-after, by-events}
 use Rattle.tpf_client.proofs.Known.{Knows, begun, begun-knows, begun-between, knows-put, knows-step, knows-fault}
 use Rattle.tpf_client.proofs.Endings.{ending}
 
+-- the wire tells all at each moment, where it did at first
+pub tells-on : (allows : List ℕ → ℕ → List ℕ → List ℕ → Type 0) (options : Options) (since : WireState) (start : Address) → since.nature.tells ≡ All → (n : ℕ) (p : Pooled) (w : WireState) → Knows start since (options.retries + 1) n p w → IsLawful allows w → TellsAll allows w
+tells-on allows options since start all n p w k l = record { all = ap (λ (x : Nature). x.tells) k.owns.gives.nature ∙ all; told = l.told; received = l.received; owed = l.owed }
+
+pub small-limit : (options : Options) → options.max_body < 2 ^ 64 → (n : ℕ) → n ≡ options.max_body → n < 2 ^ 64
+small-limit options limit n e = omega (arith, e, limit)
+
 -- an ask for the authority of the start
 abbrev pub IsOwn : Address → Ask → Type 0
 IsOwn start ask = ShareAuthority start ask.address
 
+-- over a wire that tells all, some server answers at each address with the authority of the start
+abbrev pub IsServedAt : (List ℕ → ℕ → List ℕ → List ℕ → Type 0) → Address → Type 0
+IsServedAt allows start = (address : Address) → ShareAuthority start address → IsServedBySome allows address
+
 module _ (laws : Laws) (traffic : TrafficLaws) (allows : List ℕ → ℕ → List ℕ → List ℕ → Type 0) (options : Options) (since : WireState) (lawful : IsLawful allows since) (start : Address)
-    (history : List (List Triple)) (config : Config) (honest : IsHonestWire allows history config since) (limit : options.max_body < 2 ^ 64) where
-  served : (ask : Ask) → IsOwn start ask → IsServed allows history config ask.address
-  served ask h = record { honest = honest.is_honest ask.address.host ask.address.port }
-
+    (all : since.nature.tells ≡ All) (served : IsServedAt allows start) (limit : options.max_body < 2 ^ 64) where
   -- those that are held are served
-  pub all-served : (p : Pooled) → AllByRecursion (IsOwn start) (held p) → AllByRecursion (λ ask. IsServed allows history config ask.address) (held p)
-  all-served p a = all-so (IsOwn start) (λ (ask : Ask). IsServed allows history config ask.address) served (held p) a
-
-  -- the wire tells all at each moment
-  pub tells-on : (n : ℕ) (p : Pooled) (w : WireState) → Knows start since (options.retries + 1) n p w → IsLawful allows w → TellsAll allows w
-  tells-on n p w k l = record { all = ap (λ (x : Nature). x.tells) k.owns.gives.nature ∙ honest.tells; told = l.told; received = l.received; owed = l.owed }
-
-  pub small-limit : (n : ℕ) → n ≡ options.max_body → n < 2 ^ 64
-  small-limit n e = omega (arith, e, limit)
+  pub all-served : (p : Pooled) → AllByRecursion (IsOwn start) (held p) → AllByRecursion (λ ask. IsServedBySome allows ask.address) (held p)
+  all-served p a = all-so (IsOwn start) (λ (ask : Ask). IsServedBySome allows ask.address) (λ ask own. served ask.address own) (held p) a
 
   -- what is known after so many asks, and that failures are rises
   pub record Rises (n : ℕ) (p : Pooled) (v : WireState) : Type 0 where
@@ -56,7 +55,7 @@ module _ (laws : Laws) (traffic : TrafficLaws) (allows : List ℕ → ℕ → Li
     step-rose : (n : ℕ) (result : Result Stepped PoolFault) (p r q : Pooled) (v w : WireState) → Taken allows (begun options) (IsOwn start) p r v w → Rises n p v → StepsTo result p q v w → StepRose result since.faults n p q w
     step-rose n result p r q v w at i t =
         let after = knows-step laws traffic start since (options.retries + 1) (omega arith) n result p q v w at.given at.suits i.knows t in
-        at.lawful.rises history config since.faults n result p q v at.given at.suits i.knows.answers (small-limit p.limit (ap (λ (x : Pooled). x.limit) at.bounds)) (tells-on n q w after at.lawful) (few-idle n q w after at.lawful) (all-served p at.are) i.rose t
+        at.lawful.rises since.faults n result p q v at.given at.suits i.knows.answers (small-limit options limit p.limit (ap (λ (x : Pooled). x.limit) at.bounds)) (tells-on allows options since start all n q w after at.lawful) (few-idle n q w after at.lawful) (all-served p at.are) i.rose t
 
     rises-kept : IsKeptBy allows (begun options) (IsOwn start) Rises
     rises-kept = record {

@@ -1,27 +1,25 @@
--- Over honest and steady wires no fault is provoked.
+-- Over steady wires to servers no fault is provoked.
 use Rattle.std.proofs.Common.{ℕ, ◌≡◌, ◌≤◌, ◌<◌, ◌+◌, ◌^◌, List, [], ◌∷◌, map, true, None, refl, ap, ◌∙◌, ⊎_elim, arith}
 use Rattle.std.specs.Prelude.{Result, Ok, Err}
 use Rattle.std.specs.List.{AllByRecursion}
-use Rattle.rdf_terms.specs.declared.term.Triple.{Triple}
 use Rattle.tpf_base.specs.Addresses.{Address}
-use Rattle.tpf_base.specs.Links.{Nature, WireState}
-use Rattle.template_fill.specs.Metadata.{Config}
+use Rattle.tpf_base.specs.Links.{All, Nature, WireState}
 use Rattle.request_pool.specs.declared.fault.PoolFault.{PoolFault}
 use Rattle.request_pool.specs.declared.fault.Stepped.{Stepped}
 use Rattle.request_pool.specs.Pools.{Pooled, Ask, held}
 use Rattle.request_pool.specs.Steps.{StepsTo}
 use Rattle.pool_laws.specs.Provoking.{WaitsReady, SparesWire, HasHung, StepSpares}
-use Rattle.pool_laws.specs.Rising.{IsServed}
+use Rattle.pool_laws.specs.Rising.{IsServedBySome}
 use Rattle.tpf_client.specs.declared.options.Options.{Options}
 use Rattle.tpf_client.specs.Traffic.{Event, IsLawful, without_fault}
 use Rattle.tpf_client.specs.Turns.{asked_in}
 use Rattle.tpf_client.specs.Calls.{RunsPool}
-use Rattle.tpf_client.specs.Honest.{Laws, IsHonestWire}
+use Rattle.tpf_client.specs.Honest.{Laws}
 use Rattle.tpf_client.specs.Requests.{TrafficLaws}
 use Rattle.tpf_client.specs.Plans.{NoneOpen}
 use Rattle.tpf_client.proofs.Keeping.{IsKeptBy, Taken, not-some, by-events}
 use Rattle.tpf_client.proofs.Known.{Knows, begun, begun-knows, begun-between, knows-put, knows-step, knows-fault}
-use Rattle.tpf_client.proofs.Rises.{IsOwn, all-served, tells-on, small-limit}
+use Rattle.tpf_client.proofs.Rises.{IsOwn, IsServedAt, all-served, tells-on, small-limit}
 
 all-addresses : (P : Address → Type 0) (asks : List Ask) → AllByRecursion (λ ask. P ask.address) asks → AllByRecursion P (map (λ (ask : Ask). ask.address) asks)
 all-addresses P [] a = tt
@@ -34,7 +32,7 @@ few-given : (given since started budget most : ℕ) → given ≤ since + starte
 few-given given since started budget most g s e f = omega (arith, g, s, e, f)
 
 module _ (laws : Laws) (traffic : TrafficLaws) (allows : List ℕ → ℕ → List ℕ → List ℕ → Type 0) (options : Options) (since : WireState) (lawful : IsLawful allows since) (start : Address)
-    (history : List (List Triple)) (config : Config) (honest : IsHonestWire allows history config since) (limit : options.max_body < 2 ^ 64) (some : 0 < options.links) (steady : since.nature.steady ≡ true) (few : since.given + options.budget < 2 ^ 63) where
+    (all : since.nature.tells ≡ All) (served : IsServedAt allows start) (limit : options.max_body < 2 ^ 64) (some : 0 < options.links) (steady : since.nature.steady ≡ true) (few : since.given + options.budget < 2 ^ 63) where
   -- what is known after so many asks, that something moves before the next wait, and that no fault was provoked
   record Spares (n : ℕ) (p : Pooled) (v : WireState) : Type 0 where
     knows : Knows start since (options.retries + 1) n p v
@@ -43,9 +41,9 @@ module _ (laws : Laws) (traffic : TrafficLaws) (allows : List ℕ → ℕ → Li
 
   not-hung : (n : ℕ) (p r q : Pooled) (v w : WireState) → Taken allows (begun options) (IsOwn start) p r v w → Knows start since (options.retries + 1) n q w → HasHung (map (λ (ask : Ask). ask.address) (held p)) p.limit w → ⊥
   not-hung n p r q v w at k h =
-      at.lawful.hang history config p.limit (map (λ (ask : Ask). ask.address) (held p)) (small-limit laws traffic allows options since lawful start history config honest limit p.limit (ap (λ (x : Pooled). x.limit) at.bounds))
-      (tells-on laws traffic allows options since lawful start history config honest limit n q w k at.lawful)
-      (all-addresses (IsServed allows history config) (held p) (all-served laws traffic allows options since lawful start history config honest limit p at.are)) h
+      at.lawful.hang p.limit (map (λ (ask : Ask). ask.address) (held p)) (small-limit options limit p.limit (ap (λ (x : Pooled). x.limit) at.bounds))
+      (tells-on allows options since start all n q w k at.lawful)
+      (all-addresses (IsServedBySome allows) (held p) (all-served laws traffic allows options since lawful start all served limit p at.are)) h
 
   some-links : (n : ℕ) → n ≡ options.links → 0 < n
   some-links n e = omega (arith, e, some)

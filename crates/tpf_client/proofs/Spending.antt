@@ -3,12 +3,10 @@ use Rattle.std.proofs.Common.{ℕ, ◌≡◌, ◌≢◌, ◌≤◌, ◌<◌, ◌
 use Rattle.std.proofs.Math.Nat.{mul-le-mul_left}
 use Rattle.std.specs.Prelude.{Result, Ok, Err}
 use Rattle.std.proofs.lemmas.List.{length-map}
-use Rattle.rdf_terms.specs.declared.term.Triple.{Triple}
 use Rattle.tpf_base.specs.Addresses.{Address}
 use Rattle.tpf_base.specs.Causes.{RoseBy}
 use Rattle.tpf_base.specs.Links.{WireState}
 use Rattle.template_fill.specs.Authorities.{ShareAuthority}
-use Rattle.template_fill.specs.Metadata.{Config}
 use Rattle.bgp_core.specs.Queries.{QueryData}
 use Rattle.bgp_core.specs.Solutions.{Places}
 use Rattle.request_pool.specs.declared.fault.PoolFault.{PoolFault}
@@ -25,8 +23,9 @@ use Rattle.tpf_client.specs.Traffic.{Event, Broke, EndsWith, IsLawful, without_f
 use Rattle.tpf_client.specs.Causes.{Explains}
 use Rattle.tpf_client.specs.Turns.{AsksAt, asked_in, address_of}
 use Rattle.tpf_client.specs.Calls.{Returns, WritesSome, RunsPool}
+use Rattle.tpf_client.specs.Offers.{Offer}
 use Rattle.tpf_client.specs.Honest.{Laws}
-use Rattle.tpf_client.specs.Requests.{TrafficLaws, addresses_of, tries_of}
+use Rattle.tpf_client.specs.Requests.{TrafficLaws, tries_of}
 use Rattle.tpf_client.specs.Failing.{ForBudget, Spends, SpendsRequests, SpendsTries, SpendsPlan}
 use Rattle.tpf_client.proofs.Caused.{CausedRun, some-caused}
 use Rattle.tpf_client.proofs.Homes.{asks-front}
@@ -223,21 +222,21 @@ module _ (laws : Laws) (traffic : TrafficLaws) (allows : List ℕ → ℕ → Li
     pub fault-tries : ForBudget (SpendsTries allows options start since now) fault
     fault-tries = spends-tries fault caused.version caused.run.events caused.run.pool caused.explains caused.run.runs caused.run.asks
 
-  -- ---- over an honest wire
+  -- ---- over an offer
 
-  module _ (history : List (List Triple)) (config : Config) (q : QueryData) where
+  module _ (offer : Offer) where
     abbrev Run : ClientFault → Type 0
-    Run fault = ExplainedRun allows history config options since now start q fault
+    Run fault = ExplainedRun allows offer options since now start fault
 
-    plan-of : (n : ℕ) → Run (faults.Budget n) → SpendsPlan history config options q start
+    plan-of : (n : ℕ) → Run (faults.Budget n) → SpendsPlan offer options
     plan-of n x =
         let run = x.planned.run in
-        let version = x.planned.version in
+        let choice = x.planned.choice in
         let low : options.budget < (options.retries + 1) * length (asked_in run.events) = few-tries run.events run.pool x.explains.1 run.runs run.asks in
-        let times = mul-le-mul_left (options.retries + 1) (few-asked history config q start (asked_in run.events) version x.planned.of_plan) in
-        record { version = version; is_version = x.planned.of_plan.is_version; tries = less-than options.budget ((options.retries + 1) * length (asked_in run.events)) (tries_of options (addresses_of history config q start version)) low times }
+        let times = mul-le-mul_left (options.retries + 1) (few-asked offer (asked_in run.events) choice x.planned.of_plan) in
+        record { choice = choice; is_choice = x.planned.of_plan.is_choice; tries = less-than options.budget ((options.retries + 1) * length (asked_in run.events)) (tries_of options (offer.addresses choice)) low times }
 
-    pub plan-spent : (fault : ClientFault) → Run fault → ForBudget (SpendsPlan history config options q start) fault
+    pub plan-spent : (fault : ClientFault) → Run fault → ForBudget (SpendsPlan offer options) fault
     plan-spent faults.Exchange x = tt
     plan-spent faults.Stalled x = tt
     plan-spent (faults.Cut received) x = tt

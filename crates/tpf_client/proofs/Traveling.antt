@@ -1,17 +1,15 @@
 -- Events, one after another.
 use Rattle.std.proofs.Common.{ℕ, ◌++◌, List, [], ◌∷◌, map, refl, sym, subst}
 use Rattle.std.specs.List.{AllByRecursion}
-use Rattle.rdf_terms.specs.declared.term.Triple.{Triple}
 use Rattle.tpf_base.specs.Addresses.{Address}
 use Rattle.tpf_base.specs.Links.{WireState, SameAllowed}
-use Rattle.template_fill.specs.Metadata.{Config}
 use Rattle.template_fill.specs.Responses.{Answering, answering, IsHonestAt}
 use Rattle.http_wire.specs.declared.message.ReplyFault.{ReplyFault}
 use Rattle.request_pool.specs.Pools.{Pooled, Ask, held}
 use Rattle.request_pool.specs.Owned.{SuitsWire}
 use Rattle.http_wire.specs.declared.message.Reply.{Reply}
 use Rattle.pool_laws.specs.Answers.{TellsAll, Brings, IsTooLong}
-use Rattle.pool_laws.specs.Rising.{IsServed}
+use Rattle.pool_laws.specs.Rising.{IsServedBySome}
 use Rattle.tpf_client.specs.Traffic.{Event, Asked, Waited, Moves, Travels, IsLawful}
 use Rattle.tpf_client.specs.Asking.{PutsAll, AreWaits}
 
@@ -44,12 +42,12 @@ brings-allowed old new ticket reply p q same b = record {
   body = λ history config honest. b.body history config (honest-allowed old new (answering history config) b.hands.ask.address.host b.hands.ask.address.port same honest);
 }
 
-served-allowed : (old new : List ℕ → ℕ → List ℕ → List ℕ → Type 0) (history : List (List Triple)) (config : Config) (address : Address) → SameAllowed old new → IsServed old history config address → IsServed new history config address
-served-allowed old new history config address same s = record { honest = honest-allowed old new (answering history config) address.host address.port same s.honest }
+served-allowed : (old new : List ℕ → ℕ → List ℕ → List ℕ → Type 0) (address : Address) → SameAllowed old new → IsServedBySome old address → IsServedBySome new address
+served-allowed old new address same s = record { history = s.history; config = s.config; honest = honest-allowed old new (answering s.history s.config) address.host address.port same s.honest }
 
-all-served : {X : Type 0} (f : X → Address) (old new : List ℕ → ℕ → List ℕ → List ℕ → Type 0) (history : List (List Triple)) (config : Config) (xs : List X) → SameAllowed old new → AllByRecursion (λ x. IsServed old history config (f x)) xs → AllByRecursion (λ x. IsServed new history config (f x)) xs
-all-served {X} f old new history config [] same a = tt
-all-served {X} f old new history config (x ∷ xs) same a = (served-allowed old new history config (f x) same a.0, all-served f old new history config xs same a.1)
+all-served : {X : Type 0} (f : X → Address) (old new : List ℕ → ℕ → List ℕ → List ℕ → Type 0) (xs : List X) → SameAllowed old new → AllByRecursion (λ x. IsServedBySome old (f x)) xs → AllByRecursion (λ x. IsServedBySome new (f x)) xs
+all-served {X} f old new [] same a = tt
+all-served {X} f old new (x ∷ xs) same a = (served-allowed old new (f x) same a.0, all-served f old new xs same a.1)
 
 too-long-allowed : (old new : List ℕ → ℕ → List ℕ → List ℕ → Type 0) (fault : ReplyFault) (received : List ℕ) (p q : Pooled) (v w : WireState) → SameAllowed old new → IsTooLong new fault received p q v w → IsTooLong old fault received p q v w
 too-long-allowed old new fault received p q v w same t = record {
@@ -69,10 +67,10 @@ lawful-allowed old new w same l = record {
       brings-allowed old new ticket reply p q same (l.replies ticket reply p q before given suits answers limit (tells-allowed old new w same tells) steps);
   refused = λ fault received p q before given suits answers limit tells steps.
       too-long-allowed old new fault received p q before w same (l.refused fault received p q before given suits answers limit (tells-allowed old new w same tells) steps);
-  rises = λ history config before asked result p q wire given suits answers limit tells few served rose steps.
-      l.rises history config before asked result p q wire given suits answers limit (tells-allowed old new w same tells) few (all-served (λ (ask : Ask). ask.address) old new history config (held p) same served) rose steps;
-  hang = λ history config limit asked small tells served hung.
-      l.hang history config limit asked small (tells-allowed old new w same tells) (all-served (λ (address : Address). address) old new history config asked same served) hung;
+  rises = λ before asked result p q wire given suits answers limit tells few served rose steps.
+      l.rises before asked result p q wire given suits answers limit (tells-allowed old new w same tells) few (all-served (λ (ask : Ask). ask.address) old new (held p) same served) rose steps;
+  hang = λ limit asked small tells served hung.
+      l.hang limit asked small (tells-allowed old new w same tells) (all-served (λ (address : Address). address) old new asked same served) hung;
 }
 
 moves-allowed : (old new : List ℕ → ℕ → List ℕ → List ℕ → Type 0) (event : Event) (p q : Pooled) (v w : WireState) → SameAllowed old new → Moves new event p q v w → Moves old event p q v w

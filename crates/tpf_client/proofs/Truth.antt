@@ -23,7 +23,8 @@ use Rattle.plan_laws.specs.Servers.{server_world, ServersAreWorlds, ServersHaveF
 use Rattle.tpf_client.specs.Traffic.{Event, Asked, Came, Waited, Broke}
 use Rattle.tpf_client.specs.Turns.{AreTrue, IsTrueReply}
 use Rattle.tpf_client.specs.Calls.{IsWorldOf}
-use Rattle.tpf_client.specs.Honest.{IsAnswer, IsVersionOf}
+use Rattle.tpf_client.specs.Offers.{IsVersionOf}
+use Rattle.tpf_client.specs.Honest.{IsAnswer}
 
 module _ (given : PagesAreGiven) (answered : AnsweredGivePages) (only : NothingElseIsRead) (worlds : ServersAreWorlds) (forms : ServersHaveForms) (pages : ServersPagesAreTrue) (kept : AskableAreKept) (addresses : PagesAreAddresses)
     (history : List (List Triple)) (config : Config) (is_history : IsHistory history) (is_config : IsConfig config) where

@@ -197,12 +197,12 @@ pub record RanFew (allows : List ℕ → ℕ → List ℕ → List ℕ → Type 
 abbrev pub most_asked : Options → QueryData → ℕ
 most_asked options q = max 1 (length q.patterns * options.window)
 
--- The events of a call, in which no more asks wait at any moment.
-pub record AsksFew (allows : List ℕ → ℕ → List ℕ → List ℕ → Type 0) (options : Options) (q : QueryData) (since now : WireState) : Type 0 where
+-- The events of a call, in which no more asks wait at any moment than the most.
+pub record AsksFew (allows : List ℕ → ℕ → List ℕ → List ℕ → Type 0) (options : Options) (most : ℕ) (since now : WireState) : Type 0 where
   pub events : List Event
   pub pool : Pooled
   pub runs : RunsPool allows options since now events pool
-  pub few : WaitFew (most_asked options q) 0 events
+  pub few : WaitFew most 0 events
 
 -- ---- behind a start page
 

@@ -1,11 +1,8 @@
 -- Why a call failed too often, and what its requests were spent for, whatever the other ends of its wire answer.
 use Rattle.std.specs.Prelude.{ℕ, ◌≡◌, ◌≤◌, ◌<◌, ◌+◌, ◌-◌, ◌*◌, List, length}
-use Rattle.rdf_terms.specs.declared.term.Triple.{Triple}
 use Rattle.tpf_base.specs.Addresses.{Address}
 use Rattle.tpf_base.specs.Causes.{RoseBy}
 use Rattle.tpf_base.specs.Links.{WireState}
-use Rattle.template_fill.specs.Metadata.{Config}
-use Rattle.bgp_core.specs.Queries.{QueryData}
 use Rattle.request_pool.specs.Pools.{Pooled}
 use Rattle.pool_laws.specs.Failing.{FailsBy, ended_links}
 use Rattle.pool_laws.specs.Requested.{LinkRequests, TellsRequests, count_sent, count_answered, any}
@@ -15,8 +12,8 @@ use Rattle.tpf_client.specs.declared.fault.ClientFault.TheVariants as faults
 use Rattle.tpf_client.specs.Traffic.{Event}
 use Rattle.tpf_client.specs.Turns.{AsksAt, asked_in}
 use Rattle.tpf_client.specs.Calls.{RunsPool}
-use Rattle.tpf_client.specs.Honest.{IsVersionOf}
-use Rattle.tpf_client.specs.Requests.{addresses_of, tries_of}
+use Rattle.tpf_client.specs.Offers.{Offer}
+use Rattle.tpf_client.specs.Requests.{tries_of}
 
 -- ---- failures
 
@@ -68,8 +65,8 @@ pub record SpendsTries (allows : List ℕ → ℕ → List ℕ → List ℕ → 
   pub spent : pool.started ≡ options.budget
   pub tries : options.budget < (options.retries + 1) * length (asked_in events)
 
--- The budget is less than the addresses that one of the versions has to ask for may need requests.
-pub record SpendsPlan (history : List (List Triple)) (config : Config) (options : Options) (q : QueryData) (start : Address) : Type 0 where
-  pub version : ℕ
-  pub is_version : IsVersionOf history version
-  pub tries : options.budget < tries_of options (addresses_of history config q start version)
+-- The budget is less than the addresses that one of the choices has to ask for may need requests.
+pub record SpendsPlan (offer : Offer) (options : Options) : Type 0 where
+  pub choice : offer.Choice
+  pub is_choice : offer.IsChoice choice
+  pub tries : options.budget < tries_of options (offer.addresses choice)

@@ -1,5 +1,5 @@
 -- Over wires whose other ends answer as a server does, over numbered versions of data.
-use Rattle.std.specs.Prelude.{ℕ, ◌≡◌, ◌≤◌, ◌<◌, ◌^◌, List, length, Option, Some}
+use Rattle.std.specs.Prelude.{ℕ, ◌≡◌, ◌<◌, ◌^◌, List, length, Option}
 use Rattle.std.specs.Io.KnownBytes.{Appends}
 use Rattle.std.specs.List.Sorted.{IsPermutation}
 use Rattle.rdf_terms.specs.declared.term.Triple.{Triple}
@@ -23,7 +23,7 @@ use Rattle.pool_laws.specs.Following.{EmptyPoolsFollow, PutsFollow, StepsFollow,
 use Rattle.pool_laws.specs.Answers.{IsBodyOf}
 use Rattle.plan_laws.specs.Servers.{ServersAreWorlds, ServersHaveForms, ServersPagesAreTrue}
 use Rattle.tpf_client.specs.Traffic.{Event, Asked, Came, Waited, Broke}
-use Rattle.tpf_client.specs.Calls.{solutions_of}
+use Rattle.tpf_client.specs.Offers.{Offer}
 
 -- A wire that tells all and whose other ends answer, on every link, as a server of this history and configuration does. Each version has fewer triples than a page can count.
 pub record IsHonestWire (allows : List ℕ → ℕ → List ℕ → List ℕ → Type 0) (history : List (List Triple)) (config : Config) (wire : WireState) : Type 0 where
@@ -40,34 +40,29 @@ IsAnswer history config (Came ask reply) = IsBodyOf history config ask.address r
 IsAnswer history config Waited = Unit {0}
 IsAnswer history config (Broke fault) = Unit {0}
 
--- the number of one of the versions
-pub record IsVersionOf (history : List (List Triple)) (version : ℕ) : Type 0 where
-  pub low : 1 ≤ version
-  pub high : version ≤ length history
-
--- The text of some ordering of the query's solutions over one version, the one that is reported, was written whole.
-pub record WritesSolutions (history : List (List Triple)) (q : QueryData) (reported : Option ℕ) (n : ℕ) (taken taken' : Option (List ℕ)) : Type 0 where
-  pub version : ℕ
-  pub is_version : IsVersionOf history version
-  pub is_reported : reported ≡ Some version
+-- The text of some ordering of the rows of one choice, the one that is reported, was written whole.
+pub record WritesSolutions (offer : Offer) (q : QueryData) (reported : Option ℕ) (n : ℕ) (taken taken' : Option (List ℕ)) : Type 0 where
+  pub choice : offer.Choice
+  pub is_choice : offer.IsChoice choice
+  pub is_reported : offer.IsReported choice reported
   pub rows : List Places
-  pub rows_are : IsPermutation (solutions_of (version_of history version) q) rows
+  pub rows_are : IsPermutation (offer.rows choice) rows
   pub text : Appends taken taken' (result_text q rows)
   pub count : n ≡ counted_by (length rows) 0
 
--- The rows are the solutions over one version, the one that is reported, in some order.
-pub record IsSolutions (history : List (List Triple)) (q : QueryData) (reported : Option ℕ) (rows : List Places) : Type 0 where
-  pub version : ℕ
-  pub is_version : IsVersionOf history version
-  pub is_reported : reported ≡ Some version
-  pub rows_are : IsPermutation (solutions_of (version_of history version) q) rows
+-- The rows are those of one choice, the one that is reported, in some order.
+pub record IsSolutions (offer : Offer) (reported : Option ℕ) (rows : List Places) : Type 0 where
+  pub choice : offer.Choice
+  pub is_choice : offer.IsChoice choice
+  pub is_reported : offer.IsReported choice reported
+  pub rows_are : IsPermutation (offer.rows choice) rows
 
 -- A front of such a text was written.
-pub record WritesSolutionsFront (history : List (List Triple)) (q : QueryData) (taken taken' : Option (List ℕ)) : Type 0 where
-  pub version : ℕ
-  pub is_version : IsVersionOf history version
+pub record WritesSolutionsFront (offer : Offer) (q : QueryData) (taken taken' : Option (List ℕ)) : Type 0 where
+  pub choice : offer.Choice
+  pub is_choice : offer.IsChoice choice
   pub rows : List Places
-  pub rows_are : IsPermutation (solutions_of (version_of history version) q) rows
+  pub rows_are : IsPermutation (offer.rows choice) rows
   pub text : AppendsPrefix taken taken' (result_text q rows)
 
 -- ---- the laws on which the solutions rest

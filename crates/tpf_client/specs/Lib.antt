@@ -8,7 +8,9 @@ pub mod Starts
 pub mod Turns
 pub mod Calls
 pub mod Shown
+pub mod Offers
 pub mod Honest
+pub mod Ends
 pub mod Requests
 pub mod Plans
 pub mod Requested

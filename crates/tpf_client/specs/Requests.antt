@@ -1,15 +1,9 @@
 -- What a call does on its wire: the links that are given in it, and how many requests it makes.
-use Rattle.std.specs.Prelude.{ℕ, ◌≡◌, ◌≤◌, ◌<◌, ◌+◌, ◌*◌, ◌&&◌, Bool, false, List, [], ◌∷◌, length, Some, bytes_eq, if◌then◌else◌}
+use Rattle.std.specs.Prelude.{ℕ, ◌≡◌, ◌≤◌, ◌<◌, ◌+◌, ◌*◌, false, List, length}
 use Rattle.std.specs.List.Sorted.{IsPermutation}
-use Rattle.rdf_terms.specs.declared.term.Triple.{Triple}
-use Rattle.tpf_base.specs.Addresses.{Address, authority_of}
+use Rattle.tpf_base.specs.Addresses.{Address}
 use Rattle.tpf_base.specs.Causes.{RoseBy}
 use Rattle.tpf_base.specs.Links.{WireState, told_by}
-use Rattle.tpf_base.specs.Marks.{Served}
-use Rattle.template_fill.specs.Metadata.{Config}
-use Rattle.template_fill.specs.Answered.{is_answered}
-use Rattle.template_fill.specs.Bodies.{version_of}
-use Rattle.bgp_core.specs.Queries.{QueryData}
 use Rattle.pool_laws.specs.Owning.{IsAsBefore, EmptyPoolsOwn, PutsOwn, FaultsOwn, StepsOwn, ClosingCloses}
 use Rattle.pool_laws.specs.Counting.{EmptyPoolsFewFailed, PutsFewFailed, StepsFewFailed, StepsCountTries, EmptyPoolsDial, PutsDial, FaultsDial, StepsDial}
 use Rattle.pool_laws.specs.Causes.{RepliesAreRead, FaultsHaveCauses}
@@ -20,14 +14,12 @@ use Rattle.pool_laws.specs.Spending.{EmptyPoolsSpend, PutsSpend, FaultsSpend, St
 use Rattle.pool_laws.specs.Provoking.{EmptyPoolsReady, PutsReady, StepsSpare}
 use Rattle.pool_laws.specs.Requested.{EmptyPoolsRequested, PutsRequested, FaultsRequested, StepsRequested, ClosingRequested, RequestsAreFew, RequestsAreRises, EmptyPoolsAnswered, PutsAnswered, StepsAnswered, ClosingAnswered, AsksAreAnswered}
 use Rattle.request_pool.specs.Pools.{Pooled}
-use Rattle.join_core.specs.Nodes.{plan}
-use Rattle.plan_laws.specs.Servers.{server_world}
 use Rattle.tpf_client.specs.declared.options.Options.{Options}
 use Rattle.tpf_client.specs.declared.options.Report.{Report}
 use Rattle.tpf_client.specs.Traffic.{Event}
 use Rattle.tpf_client.specs.Turns.{AsksAt, asked_in, answered_in}
-use Rattle.tpf_client.specs.Calls.{RunsPool, no_names_bound}
-use Rattle.tpf_client.specs.Honest.{IsVersionOf}
+use Rattle.tpf_client.specs.Calls.{RunsPool}
+use Rattle.tpf_client.specs.Offers.{Offer}
 
 -- ---- links
 
@@ -73,31 +65,23 @@ DialsAtMost n since now = now.dials ≤ since.dials + n
 abbrev pub GivesAtMost : ℕ → WireState → WireState → Type 0
 GivesAtMost n since now = now.given ≤ since.given + n
 
--- a version answers the start with the status 200, as a server of its authority
-unfoldable pub is_served : List (List Triple) → Config → Address → ℕ → Bool
-is_served history config start version = is_answered history (Served version) config start && bytes_eq (authority_of start) (authority_of config.base)
-
--- the addresses that a query asks for over one version of the data: the start, and, where it is served, the plan of its join
-abbrev pub addresses_of : List (List Triple) → Config → QueryData → Address → ℕ → List Address
-addresses_of history config q start version = start ∷ (if is_served history config start version then plan (server_world (version_of history version) config) q.patterns (no_names_bound q) else [])
-
 -- how many requests these addresses may need: one each, and as many more as it may be asked again
 abbrev pub tries_of : Options → List Address → ℕ
 tries_of options addresses = (options.retries + 1) * length addresses
 
--- As many requests were started as the version that is reported has addresses to ask for, or more, and no more than these may need.
-pub record RequestsAreTries (history : List (List Triple)) (config : Config) (options : Options) (q : QueryData) (start : Address) (report : Report) : Type 0 where
-  pub version : ℕ
-  pub is_version : IsVersionOf history version
-  pub is_reported : report.version ≡ Some version
-  pub each : length (addresses_of history config q start version) ≤ report.requests
-  pub few : report.requests ≤ tries_of options (addresses_of history config q start version)
+-- As many requests were started as the choice that is reported has addresses to ask for, or more, and no more than these may need.
+pub record RequestsAreTries (offer : Offer) (options : Options) (report : Report) : Type 0 where
+  pub choice : offer.Choice
+  pub is_choice : offer.IsChoice choice
+  pub is_reported : offer.IsReported choice report.version
+  pub each : length (offer.addresses choice) ≤ report.requests
+  pub few : report.requests ≤ tries_of options (offer.addresses choice)
 
--- No more dials were made than the addresses of one of the versions may need requests.
-pub record DialsAreTries (history : List (List Triple)) (config : Config) (options : Options) (q : QueryData) (start : Address) (since now : WireState) : Type 0 where
-  pub version : ℕ
-  pub is_version : IsVersionOf history version
-  pub few : DialsAtMost (tries_of options (addresses_of history config q start version)) since now
+-- No more dials were made than the addresses of one of the choices may need requests.
+pub record DialsAreTries (offer : Offer) (options : Options) (since now : WireState) : Type 0 where
+  pub choice : offer.Choice
+  pub is_choice : offer.IsChoice choice
+  pub few : DialsAtMost (tries_of options (offer.addresses choice)) since now
 
 -- ---- the laws on which this rests
 

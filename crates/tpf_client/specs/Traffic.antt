@@ -11,8 +11,8 @@ use Rattle.request_pool.specs.Pools.{Pooled, Ask, held, bounds_of}
 use Rattle.request_pool.specs.Owned.{SuitsWire}
 use Rattle.request_pool.specs.Steps.{StepsTo}
 use Rattle.pool_laws.specs.Answers.{RepliesAreAnswers, RefusalsAreTooLong}
-use Rattle.pool_laws.specs.Rising.{StepsRose}
-use Rattle.pool_laws.specs.Provoking.{NoneHang}
+use Rattle.pool_laws.specs.Rising.{StepsRoseBySome}
+use Rattle.pool_laws.specs.Provoking.{NoneHangBySome}
 
 -- an ask was put; the whole reply to one came; nothing came in a step; or a step ended with a fault
 pub data Event : Type 0 where
@@ -76,8 +76,8 @@ pub record IsLawful (allows : List ℕ → ℕ → List ℕ → List ℕ → Typ
   pub lively : IsLively wire
   pub replies : RepliesAreAnswers allows wire
   pub refused : RefusalsAreTooLong allows wire
-  pub rises : StepsRose allows wire
-  pub hang : NoneHang allows wire
+  pub rises : StepsRoseBySome allows wire
+  pub hang : NoneHangBySome allows wire
 
 -- An event, and what holds after it: the pool suits the wire, its tickets differ, unless it ended, and its bounds are as before.
 pub record Moves (allows : List ℕ → ℕ → List ℕ → List ℕ → Type 0) (event : Event) (old new : Pooled) (wire wire' : WireState) : Type 0 where

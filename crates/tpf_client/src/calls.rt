@@ -14,6 +14,8 @@ ghost use Rattle.tpf_client.specs.Calls.{Joins, JoinsSome, GathersRest, WritesRe
 ghost use Rattle.tpf_client.specs.Causes.{IsLocal};
 ghost use Rattle.tpf_client.specs.Sinks.{LeavesSink};
 ghost use Rattle.tpf_client.specs.Shown.{ShowsGiven, ShowsRest};
+ghost use Rattle.tpf_client.specs.Offers.{publisher, server_offer};
+ghost use Rattle.tpf_client.specs.Ends.{server_ends};
 ghost use Rattle.tpf_client.specs.Honest.{Laws, IsSolutions, WritesSolutions, WritesSolutionsFront};
 ghost use Rattle.tpf_client.specs.Requests.{TrafficLaws};
 ghost use Rattle.tpf_client.specs.Plans.{OverHonest, RisesFew, PlanFits, MayStill};
@@ -289,11 +291,11 @@ pub fn query<R: Wait, W: Dial, K: Sink>(
     ensures err { IfErr result (λ fault. WritesSome (RunsPool (W.allows wire.old) options.now (W.state wire.old) (W.state wire.new)) query.now start.now options.now.budget fault (K.state out.old).taken (K.state out.new).taken) }
     ensures shown { IfErr result (λ fault. (some : WritesSome (RunsPool (W.allows wire.old) options.now (W.state wire.old) (W.state wire.new)) query.now start.now options.now.budget fault (K.state out.old).taken (K.state out.new).taken)
         × ShowsGiven (RunsPool (W.allows wire.old) options.now (W.state wire.old) (W.state wire.new)) query.now start.now options.now.budget fault (K.state out.old).faults (K.state out.new).faults (K.state out.old).taken (K.state out.new).taken some) }
-    ensures headline { OverHonest (W.allows wire.old) (W.state wire.old) (λ history config. IfOk result (λ report. WritesSolutions history query.now report.version report.rows (K.state out.old).taken (K.state out.new).taken)) }
-    ensures prefix { OverHonest (W.allows wire.old) (W.state wire.old) (λ history config. OnErr result (WritesSolutionsFront history query.now (K.state out.old).taken (K.state out.new).taken)) }
-    ensures acts { ActsOnWire (W.allows wire.old) options.now start.now query.now result (λ report. report) (W.state wire.old) (W.state wire.new) }
+    ensures headline { OverHonest (W.allows wire.old) (W.state wire.old) (λ history config. IfOk result (λ report. WritesSolutions (server_offer (publisher history config) query.now start.now) query.now report.version report.rows (K.state out.old).taken (K.state out.new).taken)) }
+    ensures prefix { OverHonest (W.allows wire.old) (W.state wire.old) (λ history config. OnErr result (WritesSolutionsFront (server_offer (publisher history config) query.now start.now) query.now (K.state out.old).taken (K.state out.new).taken)) }
+    ensures acts { ActsOnWire (W.allows wire.old) (server_ends query.now start.now) options.now start.now (most_asked options.now query.now) result (λ report. report) (W.state wire.old) (W.state wire.new) }
     ensures complete { OverHonest (W.allows wire.old) (W.state wire.old) (λ history config. (W.state wire.old).nature.lively ≡ true → (rise : ℕ) → RisesFew options.now rise (W.state wire.old) (W.state wire.new)
-        → PlanFits history config options.now query.now start.now rise → (Rose (K.state out.old).faults (K.state out.new).faults → ⊥) → IfErr result (MayStill history)) }
+        → PlanFits (server_offer (publisher history config) query.now start.now) options.now rise → (Rose (K.state out.old).faults (K.state out.new).faults → ⊥) → IfErr result (MayStill (server_offer (publisher history config) query.now start.now))) }
     ensures sink { LeavesSink (K.state out.old) (K.state out.new) result }
     ensures allowed { SameAllowed (W.allows wire.old) (W.allows wire.new) }
 {
@@ -407,10 +409,10 @@ pub fn collect<R: Wait, W: Dial>(
     requires few { options.now.links ≤ 256 }
     ensures ok { IfOk result (λ r. Returns (RunsPool (W.allows wire.old) options.now (W.state wire.old) (W.state wire.new)) query.now start.now r.1 r.0.items) }
     ensures err { IfErr result (λ fault. WritesSome (RunsPool (W.allows wire.old) options.now (W.state wire.old) (W.state wire.new)) query.now start.now options.now.budget fault None None) }
-    ensures headline { OverHonest (W.allows wire.old) (W.state wire.old) (λ history config. IfOk result (λ r. IsSolutions history query.now r.1.version r.0.items)) }
-    ensures acts { ActsOnWire (W.allows wire.old) options.now start.now query.now result (λ r. r.1) (W.state wire.old) (W.state wire.new) }
+    ensures headline { OverHonest (W.allows wire.old) (W.state wire.old) (λ history config. IfOk result (λ r. IsSolutions (server_offer (publisher history config) query.now start.now) r.1.version r.0.items)) }
+    ensures acts { ActsOnWire (W.allows wire.old) (server_ends query.now start.now) options.now start.now (most_asked options.now query.now) result (λ r. r.1) (W.state wire.old) (W.state wire.new) }
     ensures complete { OverHonest (W.allows wire.old) (W.state wire.old) (λ history config. (W.state wire.old).nature.lively ≡ true → (rise : ℕ) → RisesFew options.now rise (W.state wire.old) (W.state wire.new)
-        → PlanFits history config options.now query.now start.now rise → IfErr result (MayStill history)) }
+        → PlanFits (server_offer (publisher history config) query.now start.now) options.now rise → IfErr result (MayStill (server_offer (publisher history config) query.now start.now))) }
     ensures sink { IsErrOf result ClientFault.Sink → ⊥ }
     ensures allowed { SameAllowed (W.allows wire.old) (W.allows wire.new) }
 {

@@ -9,6 +9,6 @@ returns g c = record {
   lively = g.met.W.Wire.is_lively c.args.wire.now;
   replies = c.a_reply_is_an_answer.ensures.replies;
   refused = c.a_reply_is_an_answer.ensures.refused;
-  rises = c.failures_are_rises.ensures.step;
-  hang = c.steps_provoke_nothing.ensures.hang;
+  rises = c.failures_are_rises.ensures.step_by_some;
+  hang = c.steps_provoke_nothing.ensures.hang_by_some;
 }

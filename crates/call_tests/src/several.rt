@@ -1,0 +1,53 @@
+// Several servers in one process, each with data of its own.
+use crate::asked::{OPTIONS, ask_at, same};
+use crate::servers::server_at;
+use fragment_server::FragmentConnection;
+use loop_wire::{LoopWire, Several};
+use std::alloc::Global;
+use std::sync::Wait;
+use std::test::Fail;
+use tpf_base::Failing;
+
+const ONE_TRIPLE: &str = "<http://e/a> <http://e/k> \"one\" .
+";
+
+const TWO_TRIPLES: &str = "<http://e/a> <http://e/k> \"two\" .
+<http://e/b> <http://e/k> \"two\" .
+";
+
+/// A wire to a server at `a` and another at port 81 of the same host.
+fn wire_of(alloc: Global) -> Result<LoopWire<FragmentConnection, Several>, Fail> {
+    let mut servers = Vec::new(alloc);
+    servers.push(server_at(alloc, "http://a/data", ONE_TRIPLE, 100)?)?;
+    servers.push(server_at(alloc, "http://a:81/data", TWO_TRIPLES, 100)?)?;
+    Ok(LoopWire::to_servers(alloc, servers, 1, Failing::Never))
+}
+
+/// Fails where a query of the data at a base does not tell this.
+fn check<R: Wait>(
+    rt: &R,
+    alloc: Global,
+    wire: &mut LoopWire<FragmentConnection, Several>,
+    base: &str,
+    wanted: &str,
+) -> Result<(), Fail> {
+    let query = "SELECT * WHERE { ?x <http://e/k> ?y }";
+    let came = ask_at(rt, alloc, base, query, &OPTIONS, wire, Failing::Never)?;
+    same(came.told.as_str(), wanted)
+}
+
+#[test]
+fn each_server_answers_with_its_own_data(rt: HostRuntime) -> Result<(), Fail> {
+    let alloc = rt.alloc();
+    let mut wire = wire_of(alloc)?;
+    let asked = [
+        ("http://a:81/data", "2 requests, 2 rows, version 1"),
+        ("http://a/data", "2 requests, 1 rows, version 1"),
+        ("http://b/data", "exchange"),
+        ("http://a:82/data", "exchange"),
+    ];
+    for (base, wanted) in asked {
+        check(&rt, alloc, &mut wire, base, wanted)?;
+    }
+    Ok(())
+}

@@ -1,0 +1,127 @@
+-- A call that is covered by an offer: whatever came over its wire, there is a choice that it is of. What the call gave follows from this alone.
+use Rattle.std.proofs.Common.{ℕ, ◌≡◌, ◌++◌, List, ◌∷◌, Option, Some, sym, subst}
+use Rattle.std.specs.List.Sorted.{IsPermutation}
+use Rattle.std.proofs.lemmas.List.Sorted.{IsPermutation-refl}
+use Rattle.tpf_base.specs.Addresses.{Address}
+use Rattle.tpf_base.specs.Links.{All, WireState}
+use Rattle.template_fill.specs.Authorities.{ShareAuthority}
+use Rattle.template_fill.specs.Configurations.{IsConfig, IsHistory}
+use Rattle.template_fill.specs.Responses.{answering, IsHonestAt}
+use Rattle.bgp_core.specs.Queries.{QueryData}
+use Rattle.bgp_core.specs.Solutions.{Places}
+use Rattle.result_json.specs.Pieces.{PiecesMakeTheText, RowsGoOn}
+use Rattle.request_pool.specs.Pools.{Pooled}
+use Rattle.pool_laws.specs.Rising.{IsServedBySome}
+use Rattle.join_core.specs.Nodes.{plan}
+use Rattle.join_core.specs.Worlds.{World}
+use Rattle.tpf_client.specs.declared.options.Options.{Options}
+use Rattle.tpf_client.specs.declared.options.Report.{Report}
+use Rattle.tpf_client.specs.declared.fault.ClientFault.{ClientFault}
+use Rattle.tpf_client.specs.Traffic.{Event}
+use Rattle.tpf_client.specs.Calls.{WritesAll, WritesSome, Before, Behind, AtEnd, RunsPool, ReadsStart, IsWorldOf, Returns, solutions_of, no_names_bound}
+use Rattle.tpf_client.specs.Offers.{Publisher, IsVersionOf, Offer}
+use Rattle.tpf_client.specs.Honest.{WritesSolutions, WritesSolutionsFront, IsSolutions}
+use Rattle.tpf_client.proofs.Texts.{same-written, rows-more}
+
+-- some choice, which asks for the start first
+pub record SomeChoice (offer : Offer) (start : Address) : Type 0 where
+  pub choice : offer.Choice
+  pub is_choice : offer.IsChoice choice
+  pub version : ℕ
+  pub has : (address : Address) → ShareAuthority start address → offer.HasVersion choice address version
+  pub rest : List Address
+  pub addresses : start ∷ rest ≡ offer.addresses choice
+
+-- The choice of which a start page and the replies behind it are: it has the version that the page told, and a world for which all pages that came are true has its rows and its addresses.
+pub record ChoiceBehind (offer : Offer) (q : QueryData) (start : Address) (first later : List Event) (reads : ReadsStart start first) : Type 0 where
+  pub choice : offer.Choice
+  pub is_choice : offer.IsChoice choice
+  pub version : ℕ
+  pub told : reads.page.version ≡ Some version
+  pub is_reported : offer.IsReported choice reads.page.version
+  pub has : (address : Address) → ShareAuthority start address → offer.HasVersion choice address version
+  pub world : World
+  pub is_world : IsWorldOf world reads.page.form reads.page.version later
+  pub rows : solutions_of world.triples q ≡ offer.rows choice
+  pub addresses : start ∷ plan world q.patterns (no_names_bound q) ≡ offer.addresses choice
+
+-- a server that stands at an address, where the other end answers as it does
+pub record StandsThere (allows : List ℕ → ℕ → List ℕ → List ℕ → Type 0) (offer : Offer) (address : Address) : Type 0 where
+  pub server : Publisher
+  pub stands : offer.StandsAt address server
+  pub is_history : IsHistory server.history
+  pub is_config : IsConfig server.config
+  pub is_honest : IsHonestAt allows address.host address.port (answering server.history server.config)
+
+-- A call is covered by an offer: the wire tells all; there is a choice before a start page was read, and behind each; some server stands at each address with the authority of the start and answers there as it does; and the version that a choice has at an address is one of the server's.
+pub record Covered (offer : Offer) (allows : List ℕ → ℕ → List ℕ → List ℕ → Type 0) (options : Options) (since now : WireState) (start : Address) (q : QueryData) : Type 0 where
+  pub tells : since.nature.tells ≡ All
+  pub begins : SomeChoice offer start
+  pub behind : (first later : List Event) (pool : Pooled) → RunsPool allows options since now (first ++ later) pool → (reads : ReadsStart start first) → ChoiceBehind offer q start first later reads
+  pub stands : (address : Address) → ShareAuthority start address → StandsThere allows offer address
+  pub numbers : (choice : offer.Choice) → offer.IsChoice choice → (address : Address) (server : Publisher) (version : ℕ) → offer.StandsAt address server → offer.HasVersion choice address version → IsVersionOf server.history version
+
+-- some server answers at each address with the authority of the start
+pub served-at : (offer : Offer) (allows : List ℕ → ℕ → List ℕ → List ℕ → Type 0) (options : Options) (since now : WireState) (start : Address) (q : QueryData) → Covered offer allows options since now start q
+    → (address : Address) → ShareAuthority start address → IsServedBySome allows address
+served-at offer allows options since now start q covered address own =
+    let s = covered.stands address own in
+    record { history = s.server.history; config = s.server.config; honest = s.is_honest }
+
+-- ---- the rows
+
+module _ (offer : Offer) (allows : List ℕ → ℕ → List ℕ → List ℕ → Type 0) (options : Options) (since now : WireState) (start : Address) (q : QueryData) (covered : Covered offer allows options since now start q) where
+  pub solutions-written : (report : Report) (t u : Option (List ℕ)) → WritesAll (RunsPool allows options since now) q start report t u → WritesSolutions offer q report.version report.rows t u
+  solutions-written report t u w =
+      let r = w.returns in
+      let c = covered.behind r.first r.later r.pool r.runs r.reads in
+      let g = r.gives c.world c.is_world in
+      record {
+        choice = c.choice;
+        is_choice = c.is_choice;
+        is_reported = subst (λ (v : Option ℕ). offer.IsReported c.choice v) (sym r.is_version) c.is_reported;
+        rows = w.rows;
+        rows_are = subst (λ (l : List Places). IsPermutation l w.rows) c.rows g.rows_are;
+        text = w.text;
+        count = r.count;
+      }
+
+  pub solutions-given : (report : Report) (rows : List Places) → Returns (RunsPool allows options since now) q start report rows → IsSolutions offer report.version rows
+  solutions-given report rows r =
+      let c = covered.behind r.first r.later r.pool r.runs r.reads in
+      let g = r.gives c.world c.is_world in
+      record {
+        choice = c.choice;
+        is_choice = c.is_choice;
+        is_reported = subst (λ (v : Option ℕ). offer.IsReported c.choice v) (sym r.is_version) c.is_reported;
+        rows_are = subst (λ (l : List Places). IsPermutation l rows) c.rows g.rows_are;
+      }
+
+  pub front-written : PiecesMakeTheText → RowsGoOn → (budget : ℕ) (fault : ClientFault) (t u : Option (List ℕ)) → WritesSome (RunsPool allows options since now) q start budget fault t u → WritesSolutionsFront offer q t u
+  front-written pieces goes_on budget fault t u (Before b) = record {
+    choice = covered.begins.choice;
+    is_choice = covered.begins.is_choice;
+    rows = offer.rows covered.begins.choice;
+    rows_are = IsPermutation-refl (offer.rows covered.begins.choice);
+    text = same-written _ t u b.nothing;
+  }
+  front-written pieces goes_on budget fault t u (Behind b) =
+      let c = covered.behind b.first b.later b.pool b.runs b.reads in
+      let g = b.gives c.world c.is_world in
+      record {
+        choice = c.choice;
+        is_choice = c.is_choice;
+        rows = b.rows ++ g.more;
+        rows_are = subst (λ (l : List Places). IsPermutation l (b.rows ++ g.more)) c.rows g.rows_are;
+        text = rows-more q b.rows g.more t u pieces goes_on b.text;
+      }
+  front-written pieces goes_on budget fault t u (AtEnd b) =
+      let c = covered.behind b.first b.later b.pool b.runs b.reads in
+      let g = b.gives c.world c.is_world in
+      record {
+        choice = c.choice;
+        is_choice = c.is_choice;
+        rows = b.rows;
+        rows_are = subst (λ (l : List Places). IsPermutation l b.rows) c.rows g.rows_are;
+        text = b.text;
+      }

@@ -1,0 +1,76 @@
+-- A call over an honest wire to one server is covered by what that server offers.
+use Rattle.std.proofs.Common.{ℕ, ◌≡◌, ◌<◌, ◌^◌, ◌++◌, ◌&&◌, Bool, true, if◌then◌else◌, List, [], ◌∷◌, refl, sym, ap, subst}
+use Rattle.std.specs.Str.{bytes_eq}
+use Rattle.tpf_base.specs.Addresses.{Address, authority_of}
+use Rattle.tpf_base.specs.Links.{WireState}
+use Rattle.tpf_base.specs.Marks.{Served}
+use Rattle.template_fill.specs.Bodies.{version_of}
+use Rattle.template_fill.specs.Answered.{is_answered}
+use Rattle.bgp_core.specs.Queries.{QueryData}
+use Rattle.request_pool.specs.Pools.{Pooled}
+use Rattle.join_core.specs.Nodes.{plan}
+use Rattle.plan_laws.specs.Servers.{server_world}
+use Rattle.tpf_client.specs.declared.options.Options.{Options}
+use Rattle.tpf_client.specs.Traffic.{Event, IsLawful}
+use Rattle.tpf_client.specs.Calls.{RunsPool, ReadsStart, no_names_bound}
+use Rattle.tpf_client.specs.Offers.{Publisher, IsVersionOf, is_served, addresses_of, server_offer}
+use Rattle.tpf_client.specs.Honest.{Laws, IsHonestWire}
+use Rattle.tpf_client.specs.Plans.{AtEach}
+use Rattle.tpf_client.proofs.Covered.{SomeChoice, ChoiceBehind, Covered}
+use Rattle.tpf_client.proofs.Headline.{start-is-served, world-of, first-version}
+
+module _ (laws : Laws) (allows : List ℕ → ℕ → List ℕ → List ℕ → Type 0) (options : Options) (since now : WireState) (lawful : IsLawful allows since) (limit : options.max_body < 2 ^ 64)
+    (p : Publisher) (honest : IsHonestWire allows p.history p.config since) (start : Address) (q : QueryData) where
+  abbrev whole : ℕ → List Address
+  whole version = plan (server_world (version_of p.history version) p.config) q.patterns (no_names_bound q)
+
+  abbrev rest : ℕ → List Address
+  rest version = if is_served p start version then whole version else []
+
+  is-served : (version : ℕ) → (is_answered p.history (Served version) p.config start && bytes_eq (authority_of start) (authority_of p.config.base)) ≡ true → is_served p start version ≡ true
+  unfolding is_served
+  is-served version e = e
+
+  served-whole : (version : ℕ) → is_served p start version ≡ true → start ∷ whole version ≡ addresses_of p q start version
+  served-whole version e = ap (λ (l : List Address). start ∷ l) (sym (ap (λ (b : Bool). if b then whole version else []) e))
+
+  first-choice : SomeChoice (server_offer p q start) start
+  first-choice = record {
+    choice = 1;
+    is_choice = first-version laws allows p.history p.config options since now honest lawful limit start;
+    version = 1;
+    has = λ address own. refl;
+    rest = rest 1;
+    addresses = refl;
+  }
+
+  choice-behind : (first later : List Event) (pool : Pooled) → RunsPool allows options since now (first ++ later) pool → (reads : ReadsStart start first) → ChoiceBehind (server_offer p q start) q start first later reads
+  choice-behind first later pool r reads =
+      let v = world-of laws allows p.history p.config options since now honest lawful limit start first later pool r reads in
+      record {
+        choice = v.0;
+        is_choice = v.1;
+        version = v.0;
+        told = v.2;
+        is_reported = v.2;
+        has = λ address own. refl;
+        world = server_world (version_of p.history v.0) p.config;
+        is_world = v.3;
+        rows = refl;
+        addresses = served-whole v.0 (is-served v.0 (start-is-served laws allows p.history p.config options since now honest lawful limit start first later pool v.0 r reads v.2));
+      }
+
+  pub server-covered : Covered (server_offer p q start) allows options since now start q
+  server-covered = record {
+    tells = honest.tells;
+    begins = first-choice;
+    behind = choice-behind;
+    stands = λ address own. record { server = p; stands = refl; is_history = honest.is_history; is_config = honest.is_config; is_honest = honest.is_honest address.host address.port };
+    numbers = λ choice is address server version stands has.
+        subst (λ (s : Publisher). IsVersionOf s.history version) (sym stands) (subst (λ (n : ℕ). IsVersionOf p.history n) (sym has) is);
+  }
+
+-- ---- what holds of the one server holds at each address of each server that stands there
+
+pub at-server : (p : Publisher) (q : QueryData) (start : Address) (holds : Publisher → Address → Type 0) (address : Address) → holds p address → AtEach (server_offer p q start) holds address
+at-server p q start holds address h = λ server stands. subst (λ (s : Publisher). holds s address) (sym stands) h

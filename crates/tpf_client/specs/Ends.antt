@@ -1,0 +1,57 @@
+-- Who holds what is offered to a call, and what it is for a wire to have them at its other ends.
+use Rattle.std.specs.Prelude.{ℕ, ◌≡◌, ◌<◌, ◌^◌, true, List, length}
+use Rattle.std.specs.List.{AllZip}
+use Rattle.tpf_base.specs.Addresses.{Address}
+use Rattle.tpf_base.specs.Links.{All, WireState}
+use Rattle.template_fill.specs.Bodies.{version_of}
+use Rattle.template_fill.specs.Configurations.{IsConfig, IsHistory}
+use Rattle.template_fill.specs.Responses.{answering, IsHonestAt}
+use Rattle.bgp_core.specs.Queries.{QueryData}
+use Rattle.tpf_client.specs.Offers.{Publisher, Offer, server_offer, servers_offer}
+use Rattle.tpf_client.specs.Honest.{IsHonestWire}
+
+-- What a call is spoken of over: who may hold the data, what it is for a wire to have them at its other ends, and what they offer to the call.
+pub record Ends : Type 1 where
+  pub Holder : Type 0
+  pub AreHonest : (List ℕ → ℕ → List ℕ → List ℕ → Type 0) → Holder → WireState → Type 0
+  pub offer : Holder → Offer
+
+-- over a wire that has them at its other ends
+abbrev pub OverEnds : (ends : Ends) → (List ℕ → ℕ → List ℕ → List ℕ → Type 0) → WireState → (ends.Holder → Type 0) → Type 0
+OverEnds ends allows since holds = (holder : ends.Holder) → ends.AreHonest allows holder since → holds holder
+
+-- and on which never 1000 waits follow one another
+abbrev pub OverLivelyEnds : (ends : Ends) → (List ℕ → ℕ → List ℕ → List ℕ → Type 0) → WireState → (ends.Holder → Type 0) → Type 0
+OverLivelyEnds ends allows since holds = (holder : ends.Holder) → ends.AreHonest allows holder since → since.nature.lively ≡ true → holds holder
+
+-- ---- one server
+
+-- one server at every address, with this offer: that of one query, or of the blocks of one
+abbrev pub publisher_ends : (Publisher → Offer) → Ends
+publisher_ends offer = record { Holder = Publisher; AreHonest = λ allows p wire. IsHonestWire allows p.history p.config wire; offer = offer }
+
+-- one server, of which one query is asked from a start
+abbrev pub server_ends : QueryData → Address → Ends
+server_ends q start = publisher_ends (λ p. server_offer p q start)
+
+-- ---- several servers
+
+-- A history and a configuration, each version of which has fewer triples than a page can count.
+pub record IsPublisher (p : Publisher) : Type 0 where
+  pub is_history : IsHistory p.history
+  pub is_config : IsConfig p.config
+  pub few : (version : ℕ) → length (version_of p.history version) < 2 ^ 64
+
+-- the other end at the host and the port of an address answers as a server of these does
+pub record AnswersAs (allows : List ℕ → ℕ → List ℕ → List ℕ → Type 0) (address : Address) (p : Publisher) : Type 0 where
+  pub is_publisher : IsPublisher p
+  pub is_honest : IsHonestAt allows address.host address.port (answering p.history p.config)
+
+-- A wire that tells all: the other end at the host and port of each start answers as the server of the publisher at its place does. Of other hosts and ports nothing is said.
+pub record AreHonestServers (allows : List ℕ → ℕ → List ℕ → List ℕ → Type 0) (starts : List Address) (publishers : List Publisher) (wire : WireState) : Type 0 where
+  pub tells : wire.nature.tells ≡ All
+  pub servers : AllZip (AnswersAs allows) starts publishers
+
+-- several servers, of which one query is asked
+abbrev pub servers_ends : QueryData → List Address → Ends
+servers_ends q starts = record { Holder = List Publisher; AreHonest = λ allows publishers wire. AreHonestServers allows starts publishers wire; offer = λ publishers. servers_offer publishers q starts }
