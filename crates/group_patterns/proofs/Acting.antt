@@ -1,6 +1,7 @@
 -- What the call of a query with groups did on its wire.
-use Rattle.std.proofs.Common.{ℕ, ◌≡◌, ◌≤◌, ◌+◌, ◌-◌, ◌++◌, true, List, [], ◌∷◌, refl, sym, ap, subst, ◌∙◌, arith}
+use Rattle.std.proofs.Common.{ℕ, ◌≡◌, ◌≤◌, ◌+◌, ◌-◌, ◌++◌, true, List, [], ◌∷◌, None, refl, sym, ap, subst, ◌∙◌, arith, append-nil}
 use Rattle.std.specs.Prelude.{Result, Ok, Err, IfOk, IfErr, IsErrOf}
+use Rattle.list_laws.proofs.Each.{all_so}
 use Rattle.rdf_terms.specs.declared.term.Triple.{Triple}
 use Rattle.tpf_base.specs.Addresses.{Address}
 use Rattle.tpf_base.specs.Causes.{Rose}
@@ -8,33 +9,32 @@ use Rattle.tpf_base.specs.Links.{WireState, Nature}
 use Rattle.template_fill.specs.Metadata.{Config}
 use Rattle.bgp_core.specs.declared.pattern.Pattern.{Pattern}
 use Rattle.pool_laws.specs.Provoking.{SparesWire}
-use Rattle.group_query.specs.Trees.{GroupData, group_tree, blocks_of, block_query}
+use Rattle.group_query.specs.Trees.{GroupData, group_tree, blocks_of}
 use Rattle.tpf_client.specs.declared.options.Options.{Options}
 use Rattle.tpf_client.specs.declared.options.Report.{Report}
 use Rattle.tpf_client.specs.declared.fault.ClientFault.{ClientFault}
 use Rattle.tpf_client.specs.declared.fault.ClientFault.TheVariants as faults
 use Rattle.tpf_client.specs.Honest.{IsHonestWire}
+use Rattle.tpf_client.specs.Offers.{Publisher, publisher}
 use Rattle.tpf_client.specs.Requests.{DialsAtMost, GivesAtMost}
 use Rattle.tpf_client.specs.Plans.{StaysUnprovoked}
+use Rattle.tpf_client.specs.Failing.{IsFailedOften, ForBudget, Spends, SpendsRequests}
+use Rattle.tpf_client.specs.Acts.{ActsByPlan}
 use Rattle.group_patterns.specs.Acts.{ActsOnGroups}
-use Rattle.group_patterns.specs.Blocks.{BlockRows, requests_of, left_by, GivesAll, Stops, InBlock, IsSpent, Differs, IsLacking, IsUnwritten, AsksAll, AsksSome}
-use Rattle.group_patterns.proofs.Wires.{Onward, onward-none, onward-then, onward-more, row-onward, end-onward, chain-onward, chain-within, honest-then, spares-none, spares-then, Spared, chain-spares}
-use Rattle.group_patterns.proofs.Causes.{cause-of, honest-cause-of, lively-cause-of}
+use Rattle.group_patterns.specs.Blocks.{BlockRows, requests_of, version_told, left_by, GivesAll, of_block, Stops, InBlock, IsSpent, Differs, IsLacking, IsUnwritten, AsksAll, AsksSome}
+use Rattle.group_patterns.specs.Plans.{plan_over, AreVersions, IsToldByAll, group_ends, StartedByBlocks}
+use Rattle.group_patterns.proofs.Wires.{Onward, onward-then, onward-more, chain-onward, chain-within, honest-then, spares-none, spares-then, Spared, chain-spares}
+use Rattle.group_patterns.proofs.Parts.{AnsweredFor, spends-both, fails-later}
+use Rattle.group_patterns.proofs.Planned.{TellEach, told-by-all, ChainDone, chain-done, chain-paid, chain-started}
+use Rattle.group_patterns.proofs.Stopped.{for-block, stops-onward, CountedOver, EndDone, end-done}
+use Rattle.group_patterns.proofs.Causes.{cause-of, honest-cause-of}
 
 module _ (allows : List ℕ → ℕ → List ℕ → List ℕ → Type 0) (options : Options) (start : Address) (names : List (List ℕ)) where
-  stops-onward : (done : List BlockRows) (rest : List (List Pattern)) (fault : ClientFault) (u w : WireState) → Stops allows options start names done rest fault u w → Onward start (options.budget - requests_of done) u w
-  stops-onward done rest fault u w (InBlock ps more own r e ends) = end-onward allows options start names (block_query names ps) (left_by options done) own u w ends
-  stops-onward done rest fault u w (IsSpent ps more r spent e is) = subst (Onward start (options.budget - requests_of done) u) (sym is) (onward-more start 0 (options.budget - requests_of done) u u (omega arith) (onward-none start u))
-  stops-onward done rest fault u w (Differs ps more first later b r d ne e gives) =
-      onward-more start b.report.requests (options.budget - requests_of done) u w gives.acts.within (row-onward allows options start names (block_query names ps) (left_by options done) b u w gives)
-  stops-onward done rest fault u w (IsLacking e is) = subst (Onward start (options.budget - requests_of done) u) (sym is) (onward-more start 0 (options.budget - requests_of done) u u (omega arith) (onward-none start u))
-  stops-onward done rest fault u w (IsUnwritten r e is) = subst (Onward start (options.budget - requests_of done) u) (sym is) (onward-more start 0 (options.budget - requests_of done) u u (omega arith) (onward-none start u))
-
   some-onward : (blocks : List (List Pattern)) (fault : ClientFault) (u w : WireState) → AsksSome allows options start names blocks fault u w → Onward start options.budget u w
   some-onward blocks fault u w s =
       let within = chain-within allows options start names options.budget s.asked s.done u s.between s.gives in
       onward-more start (requests_of s.done + (options.budget - requests_of s.done)) options.budget u w (omega (arith, within))
-      (onward-then start (requests_of s.done) (options.budget - requests_of s.done) u s.between w (chain-onward allows options start names options.budget s.asked s.done u s.between s.gives) (stops-onward s.done s.rest fault s.between w s.stops))
+      (onward-then start (requests_of s.done) (options.budget - requests_of s.done) u s.between w (chain-onward allows options start names options.budget s.asked s.done u s.between s.gives) (stops-onward allows options start names s.done s.rest fault s.between w s.stops))
 
   -- ---- no block
 
@@ -68,9 +68,9 @@ module _ (allows : List ℕ → ℕ → List ℕ → List ℕ → Type 0) (optio
   module _ (history : List (List Triple)) (config : Config) where
     stops-spares : (done : List BlockRows) (rest : List (List Pattern)) (fault : ClientFault) (u v w : WireState) → IsHonestWire allows history config v → v.nature.steady ≡ true → Spared allows options start names history config u v (options.budget - requests_of done)
         → Stops allows options start names done rest fault v w → SparesWire v w
-    stops-spares done rest fault u v w honest steady s (InBlock ps more own r e ends) = ends.acts.unprovoked history config honest steady s.none s.few
+    stops-spares done rest fault u v w honest steady s (InBlock ps more own r e ends) = ends.acts.plan.unprovoked (publisher history config) honest steady s.none s.few
     stops-spares done rest fault u v w honest steady s (IsSpent ps more r spent e is) = subst (SparesWire v) (sym is) (spares-none v)
-    stops-spares done rest fault u v w honest steady s (Differs ps more first later b r d ne e gives) = gives.acts.unprovoked history config honest steady s.none s.few
+    stops-spares done rest fault u v w honest steady s (Differs ps more first later b r d ne e gives) = gives.acts.plan.unprovoked (publisher history config) honest steady s.none s.few
     stops-spares done rest fault u v w honest steady s (IsLacking e is) = subst (SparesWire v) (sym is) (spares-none v)
     stops-spares done rest fault u v w honest steady s (IsUnwritten r e is) = subst (SparesWire v) (sym is) (spares-none v)
 
@@ -83,6 +83,202 @@ module _ (allows : List ℕ → ℕ → List ℕ → List ℕ → Type 0) (optio
         let on = chain-onward allows options start names options.budget s.asked s.done u s.between s.gives in
         spares-then u s.between w on.moves before.spares
         (stops-spares s.done s.rest fault u s.between w (honest-then allows history config u s.between on.moves honest) (ap (λ (x : Nature). x.steady) on.moves.nature ∙ steady) before s.stops)
+
+-- ---- whatever the other ends answer, at a fault
+
+module _ (allows : List ℕ → ℕ → List ℕ → List ℕ → Type 0) (options : Options) (start : Address) (names : List (List ℕ)) (blocks : List (List Pattern)) (fault : ClientFault) (since now : WireState) (s : AsksSome allows options start names blocks fault since now) where
+  abbrev front : Onward start (requests_of s.done) since s.between
+  front = chain-onward allows options start names options.budget s.asked s.done since s.between s.gives
+
+  abbrev back : Onward start (options.budget - requests_of s.done) s.between now
+  back = stops-onward allows options start names s.done s.rest fault s.between now s.stops
+
+  -- the failures of the block at which it stopped
+  block-failed : (own : ClientFault) → IsFailedOften (left_by options s.done) s.between now own → IsFailedOften options since now (of_block options.budget own)
+  block-failed faults.Exchange h = fails-later start (requests_of s.done) (options.budget - requests_of s.done) since s.between now front back (options.retries + 1) h
+  block-failed faults.Stalled h = h
+  block-failed (faults.Cut received) h = fails-later start (requests_of s.done) (options.budget - requests_of s.done) since s.between now front back (options.retries + 1) h
+  block-failed (faults.Reply why received) h = tt
+  block-failed (faults.Page why body) h = tt
+  block-failed (faults.Changed first other) h = tt
+  block-failed (faults.Budget n) h = tt
+  block-failed faults.Sink h = tt
+  block-failed faults.OutOfMemory h = tt
+
+  some-failed : since.nature.lively ≡ true → IsFailedOften options since now fault
+  some-failed alive = by s.stops
+    where
+      by : Stops allows options start names s.done s.rest fault s.between now → IsFailedOften options since now fault
+      by (InBlock ps more own r e ends) = subst (IsFailedOften options since now) (sym e) (block-failed own (ends.acts.failed_often (ap (λ (x : Nature). x.lively) front.moves.nature ∙ alive)))
+      by (IsSpent ps more r spent e is) = subst (IsFailedOften options since now) (sym e) tt
+      by (Differs ps more first later b r d ne e gives) = subst (IsFailedOften options since now) (sym e) tt
+      by (IsLacking e is) = subst (IsFailedOften options since now) (sym e) tt
+      by (IsUnwritten r e is) = subst (IsFailedOften options since now) (sym e) tt
+
+  paid-before : Spends options.max_body (requests_of s.done) since s.between
+  paid-before = chain-paid allows options start names options.budget s.asked s.done since s.between s.gives
+
+  -- what the blocks before it and the rest of the budget paid for
+  all-spent : Spends options.max_body (options.budget - requests_of s.done) s.between now → SpendsRequests options since now
+  all-spent more =
+      let within = chain-within allows options start names options.budget s.asked s.done since s.between s.gives in
+      let whole : requests_of s.done + (options.budget - requests_of s.done) ≡ options.budget = omega (arith, within) in
+      subst (λ (n : ℕ). Spends options.max_body n since now) whole
+      (spends-both start (requests_of s.done) (options.budget - requests_of s.done) since s.between now front back options.max_body (requests_of s.done) (options.budget - requests_of s.done) paid-before more)
+
+  some-spent : ForBudget (SpendsRequests options since now) fault
+  some-spent = by s.stops
+    where
+      by : Stops allows options start names s.done s.rest fault s.between now → ForBudget (SpendsRequests options since now) fault
+      by (InBlock ps more own r e ends) =
+          subst (ForBudget (SpendsRequests options since now)) (sym e)
+          (for-block (SpendsRequests (left_by options s.done) s.between now) (SpendsRequests options since now) options.budget own (λ h. all-spent h) ends.acts.spent_requests)
+      by (IsSpent ps more r spent e is) =
+          subst (ForBudget (SpendsRequests options since now)) (sym e)
+          (subst (λ (n : ℕ). Spends options.max_body n since now) spent (subst (λ (x : WireState). Spends options.max_body (requests_of s.done) since x) (sym is) paid-before))
+      by (Differs ps more first later b r d ne e gives) = subst (ForBudget (SpendsRequests options since now)) (sym e) tt
+      by (IsLacking e is) = subst (ForBudget (SpendsRequests options since now)) (sym e) tt
+      by (IsUnwritten r e is) = subst (ForBudget (SpendsRequests options since now)) (sym e) tt
+
+-- ---- all of it
+
+none-told : (bs : List BlockRows) (vs : List ℕ) → TellEach bs vs → vs ≡ [] → version_told bs ≡ None
+none-told [] vs t e = refl
+none-told (b ∷ bs) [] t e = absurd t
+none-told (b ∷ bs) (v ∷ vs) t e = cc
+
+module _ (allows : List ℕ → ℕ → List ℕ → List ℕ → Type 0) (options : Options) (start : Address) (g : GroupData) (since now : WireState) where
+  module _ (report : Report) (a : AsksAll allows options start g.names (blocks_of (group_tree g)) report since now) where
+    abbrev spent-by : Onward start (requests_of a.done) since now
+    spent-by = chain-onward allows options start g.names options.budget (blocks_of (group_tree g)) a.done since now a.gives
+
+    module _ (p : Publisher) (honest : IsHonestWire allows p.history p.config since) where
+      abbrev chain : ChainDone p allows options start g.names (blocks_of (group_tree g)) a.done since now
+      chain = chain-done p allows options start g.names options.budget (blocks_of (group_tree g)) a.done since now a.gives honest
+
+      abbrev are-versions : AreVersions p.history g chain.versions
+      are-versions = record { each = chain.each; count = chain.count }
+
+      told-all : IsToldByAll chain.versions report.version
+      told-all = record {
+        each = told-by-all report.version a.done chain.versions chain.told
+            (all_so (λ (b : BlockRows). b.report.version ≡ version_told a.done) (λ (b : BlockRows). b.report.version ≡ report.version) (λ b e. e ∙ sym a.version) a.done a.one_version);
+        none = λ e. a.version ∙ none-told a.done chain.versions chain.told e;
+      }
+
+      answered-all : AnsweredFor options (plan_over p g start chain.versions) report.requests since now
+      answered-all = subst (λ (n : ℕ). AnsweredFor options (plan_over p g start chain.versions) n since now) (sym a.requests) chain.answered
+
+      counted-all : since.nature.lively ≡ true → CountedOver p allows options start g chain.versions since now
+      counted-all alive =
+          let k = chain.answered.paced alive in
+          let f = k.few in
+          let d = spent-by.dials in
+          let h = spent-by.given in
+          record {
+            rises = k.rises;
+            rose = k.rose;
+            started = requests_of a.done;
+            is_started = record {
+              asked = blocks_of (group_tree g);
+              rest = [];
+              blocks_are = sym (append-nil (blocks_of (group_tree g)));
+              turns = chain-started allows options start g.names options.budget (blocks_of (group_tree g)) a.done since now a.gives;
+            };
+            few = f;
+            dials = omega (arith, f, d);
+            given = omega (arith, f, h);
+          }
+
+    plan-ok : ActsByPlan allows (group_ends g start) (StartedByBlocks allows options g since now) options (Ok report) (λ told. told) since now
+    plan-ok = record {
+      requests = λ p honest.
+          let k = answered-all p honest in
+          record { choice = (chain p honest).versions; is_choice = are-versions p honest; is_reported = told-all p honest; each = k.each; few = k.most };
+      planned = λ p honest. record { choice = (chain p honest).versions; is_choice = are-versions p honest; few = (chain p honest).done.tries };
+      asked = λ p honest.
+          let d = (chain p honest).done in
+          record { choice = (chain p honest).versions; is_choice = are-versions p honest; asked = d.asked; rest = d.rest; plan_is = d.plan_is; sent = d.sent };
+      requested = λ p honest.
+          let r = (chain p honest).done.requested in
+          record { choice = (chain p honest).versions; is_choice = are-versions p honest; requests = record { on = r.on; told = r.told; few = r.few }; rises = r.rises };
+      replied = λ p honest.
+          let r = (answered-all p honest).replied in
+          record {
+            choice = (chain p honest).versions;
+            is_choice = are-versions p honest;
+            is_reported = told-all p honest;
+            requests = record { on = r.on; told = r.told; few = r.few };
+            answered = r.answered;
+            exact = r.exact;
+          };
+      honest_cause = λ p honest. tt;
+      counted = λ p honest alive.
+          let k = counted-all p honest alive in
+          record {
+            choice = (chain p honest).versions;
+            is_choice = are-versions p honest;
+            rises = k.rises;
+            rose = k.rose;
+            started = k.started;
+            is_started = k.is_started;
+            few = k.few;
+            dials = k.dials;
+            given = k.given;
+          };
+      paced = λ p honest alive.
+          let k = answered-all p honest in
+          let r = k.paced alive in
+          record { choice = (chain p honest).versions; is_choice = are-versions p honest; is_reported = told-all p honest; each = k.each; rises = r.rises; rose = r.rose; few = r.few; exact = r.exact };
+      lively_cause = λ p honest alive. tt;
+      one_plan = λ p honest. record { requested_is = refl; planned_is = refl };
+      one_count = λ p honest alive. refl;
+      one_cause = λ p honest. tt;
+      one_lively_cause = λ p honest alive. tt;
+      is_told = λ p honest. told-all p honest;
+      spent_plan = λ p honest. tt;
+      unprovoked = λ p honest. all-spares allows options start g.names p.history p.config (blocks_of (group_tree g)) a.done since now a.gives honest;
+    }
+
+  module _ (fault : ClientFault) (a : AsksSome allows options start g.names (blocks_of (group_tree g)) fault since now) where
+    ended : (p : Publisher) → IsHonestWire allows p.history p.config since → EndDone p allows options start g fault since now
+    ended p honest = end-done p allows options start g fault since now honest a (chain-done p allows options start g.names options.budget a.asked a.done since a.between a.gives honest)
+
+    plan-err : ActsByPlan allows (group_ends g start) (StartedByBlocks allows options g since now) options (Err fault) (λ (told : Report). told) since now
+    plan-err = record {
+      requests = λ p honest. tt;
+      planned = λ p honest. record { choice = (ended p honest).versions; is_choice = (ended p honest).are_versions; few = (ended p honest).done.tries };
+      asked = λ p honest.
+          let d = (ended p honest).done in
+          record { choice = (ended p honest).versions; is_choice = (ended p honest).are_versions; asked = d.asked; rest = d.rest; plan_is = d.plan_is; sent = d.sent };
+      requested = λ p honest.
+          let r = (ended p honest).done.requested in
+          record { choice = (ended p honest).versions; is_choice = (ended p honest).are_versions; requests = record { on = r.on; told = r.told; few = r.few }; rises = r.rises };
+      replied = λ p honest. tt;
+      honest_cause = λ p honest. (ended p honest).cause.0;
+      counted = λ p honest alive.
+          let k = (ended p honest).counted alive in
+          record {
+            choice = (ended p honest).versions;
+            is_choice = (ended p honest).are_versions;
+            rises = k.rises;
+            rose = k.rose;
+            started = k.started;
+            is_started = k.is_started;
+            few = k.few;
+            dials = k.dials;
+            given = k.given;
+          };
+      paced = λ p honest alive. tt;
+      lively_cause = λ p honest alive. ((ended p honest).lively alive).0;
+      one_plan = λ p honest. record { requested_is = refl; planned_is = refl };
+      one_count = λ p honest alive. refl;
+      one_cause = λ p honest. (ended p honest).cause.1;
+      one_lively_cause = λ p honest alive. ((ended p honest).lively alive).1;
+      is_told = λ p honest. tt;
+      spent_plan = λ p honest. (ended p honest).spent;
+      unprovoked = λ p honest. some-spares allows options start g.names p.history p.config (blocks_of (group_tree g)) fault since now a honest;
+    }
 
 module _ (allows : List ℕ → ℕ → List ℕ → List ℕ → Type 0) (options : Options) (start : Address) (g : GroupData) (since now : WireState) (before after : ℕ) where
   acts-ok : (report : Report) → AsksAll allows options start g.names (blocks_of (group_tree g)) report since now → ActsOnGroups allows options start g (Ok report) since now before after
@@ -101,13 +297,15 @@ module _ (allows : List ℕ → ℕ → List ℕ → List ℕ → Type 0) (optio
         within = subst (λ (n : ℕ). n ≤ options.budget) (sym a.requests) within;
         dialled = subst (λ (n : ℕ). DialsAtMost n since now) (sym a.requests) on.dials;
         linked = subst (λ (n : ℕ). GivesAtMost n since now) (sym a.requests) on.given;
+        paid = subst (λ (n : ℕ). Spends options.max_body n since now) (sym a.requests) (chain-paid allows options start g.names options.budget (blocks_of (group_tree g)) a.done since now a.gives);
         blocks = a;
         stops = tt;
         no_block = λ none. chain-nothing allows options start g.names options.budget (blocks_of (group_tree g)) a.done since now none a.gives;
+        plan = plan-ok allows options start g since now report a;
         cause = tt;
         honest_cause = λ history config honest. tt;
-        lively_cause = λ history config honest alive. tt;
-        unprovoked = λ history config honest. all-spares allows options start g.names history config (blocks_of (group_tree g)) a.done since now a.gives honest;
+        failed_often = λ alive. tt;
+        spent_requests = tt;
       }
 
   acts-err : (fault : ClientFault) → (fault ≡ faults.Sink → Rose before after) → AsksSome allows options start g.names (blocks_of (group_tree g)) fault since now → ActsOnGroups allows options start g (Err fault) since now before after
@@ -123,13 +321,15 @@ module _ (allows : List ℕ → ℕ → List ℕ → List ℕ → Type 0) (optio
         within = tt;
         dialled = tt;
         linked = tt;
+        paid = tt;
         blocks = tt;
         stops = a;
         no_block = λ none. some-nothing allows options start g.names (blocks_of (group_tree g)) fault since now a none;
+        plan = plan-err allows options start g since now fault a;
         cause = cause-of allows options start g.names (blocks_of (group_tree g)) fault since now before after sunk a;
         honest_cause = λ history config honest. honest-cause-of allows options start g fault since now history config honest a;
-        lively_cause = λ history config honest alive. lively-cause-of allows options start g fault since now history config honest alive a;
-        unprovoked = λ history config honest. some-spares allows options start g.names history config (blocks_of (group_tree g)) fault since now a honest;
+        failed_often = λ alive. some-failed allows options start g.names (blocks_of (group_tree g)) fault since now a alive;
+        spent_requests = some-spent allows options start g.names (blocks_of (group_tree g)) fault since now a;
       }
 
   pub acts-on-groups : (result : Result Report ClientFault) → (IsErrOf result faults.Sink → Rose before after) → IfOk result (λ report. AsksAll allows options start g.names (blocks_of (group_tree g)) report since now)

@@ -14,13 +14,15 @@ use Rattle.tpf_client.specs.declared.options.Report.{Report}
 use Rattle.tpf_client.specs.declared.fault.ClientFault.{ClientFault}
 use Rattle.tpf_client.specs.declared.fault.ClientFault.TheVariants as faults
 use Rattle.tpf_client.specs.Traffic.{Event}
-use Rattle.tpf_client.specs.Calls.{RunsPool, StartsFew, AsksFew, IsSpent, IsReceived, IsCutShort, IsRefusedReply, IsReplyBody, IsNoPageOf, IsOtherVersion, IsCause}
+use Rattle.tpf_client.specs.Calls.{RunsPool, StartsFew, AsksFew, most_asked, IsSpent, IsReceived, IsCutShort, IsRefusedReply, IsReplyBody, IsNoPageOf, IsOtherVersion, IsCause}
 use Rattle.tpf_client.specs.Honest.{IsHonestWire}
+use Rattle.tpf_client.specs.Offers.{Publisher, Offer, server_offer}
+use Rattle.tpf_client.specs.Ends.{server_ends}
 use Rattle.tpf_client.specs.Requests.{AnswersAll, DialsAtMost, GivesAtMost, RequestsAreTries}
 use Rattle.tpf_client.specs.Requested.{AnswersPlan}
-use Rattle.tpf_client.specs.Plans.{SendsAsked, CountsRises, PacesRequests, IsHonestCause, IsLivelyCause}
+use Rattle.tpf_client.specs.Plans.{SendsAsked, StartedIn, CountsRises, PacesRequests, IsHonestCause, IsLivelyCause}
 use Rattle.tpf_client.specs.Failing.{IsFailedOften, ForBudget, Spends, SpendsRequests, SpendsTries, SpendsPlan}
-use Rattle.tpf_client.specs.Acts.{WithCause, IsHonestCauseOf, IsLivelyCauseOf, ActsOnWire}
+use Rattle.tpf_client.specs.Acts.{WithCause, IsHonestCauseOf, IsLivelyCauseOf, ActsByPlan, ActsOnWire}
 use Rattle.tpf_client.proofs.Traveling.{travels-allowed}
 use Rattle.group_patterns.specs.Blocks.{BlockRows, GivesRows, EndsBlock}
 
@@ -68,8 +70,8 @@ module _ (old new : List ℕ → ℕ → List ℕ → List ℕ → Type 0) (same
     started-so : StartsFew new options since now → StartsFew old options since now
     started-so s = record { events = s.events; pool = s.pool; runs = runs-so s.events s.pool s.runs; few = s.few }
 
-    waiting-so : (q : QueryData) → AsksFew new options q since now → AsksFew old options q since now
-    waiting-so q s = record { events = s.events; pool = s.pool; runs = runs-so s.events s.pool s.runs; few = s.few }
+    waiting-so : (most : ℕ) → AsksFew new options most since now → AsksFew old options most since now
+    waiting-so most s = record { events = s.events; pool = s.pool; runs = runs-so s.events s.pool s.runs; few = s.few }
 
     sent-so : (start : Address) → SendsAsked new options start since now → SendsAsked old options start since now
     sent-so start s = record { events = s.events; pool = s.pool; runs = runs-so s.events s.pool s.runs; asks = s.asks; sent = s.sent }
@@ -77,8 +79,21 @@ module _ (old new : List ℕ → ℕ → List ℕ → List ℕ → Type 0) (same
     answered-so : (start : Address) (requests : ℕ) → AnswersAll new options start requests since now → AnswersAll old options start requests since now
     answered-so start requests s = record { events = s.events; pool = s.pool; runs = runs-so s.events s.pool s.runs; asks = s.asks; answered = s.answered; started = s.started; few = s.few; each = s.each }
 
-    abbrev counted-so : (history : List (List Triple)) (config : Config) (q : QueryData) (start : Address) → CountsRises new history config options q start since now → CountsRises old history config options q start since now
-    counted-so history config q start s = record { events = s.events; pool = s.pool; runs = runs-so s.events s.pool s.runs; version = s.version; is_version = s.is_version; rises = s.rises; rose = s.rose; started = s.started; dials = s.dials; given = s.given }
+    begun-so : (n : ℕ) → StartedIn new options since now n → StartedIn old options since now n
+    begun-so n s = record { events = s.events; pool = s.pool; runs = runs-so s.events s.pool s.runs; is_started = s.is_started }
+
+    abbrev counted-so : (offer : Offer) → CountsRises (StartedIn new options since now) offer since now → CountsRises (StartedIn old options since now) offer since now
+    counted-so offer s = record {
+      choice = s.choice;
+      is_choice = s.is_choice;
+      rises = s.rises;
+      rose = s.rose;
+      started = s.started;
+      is_started = begun-so s.started s.is_started;
+      few = s.few;
+      dials = s.dials;
+      given = s.given;
+    }
 
     tries-so : (start : Address) → SpendsTries new options start since now → SpendsTries old options start since now
     tries-so start s = record { events = s.events; pool = s.pool; runs = runs-so s.events s.pool s.runs; asks = s.asks; spent = s.spent; tries = s.tries }
@@ -130,12 +145,35 @@ module _ (old new : List ℕ → ℕ → List ℕ → List ℕ → Type 0) (same
 
     -- ---- all of it
 
-    module _ (start : Address) (q : QueryData) {A : Type 0} (told : A → Report) (r : Result A ClientFault) (a : ActsOnWire new options start q r told since now) where
-      module _ (history : List (List Triple)) (config : Config) (honest : IsHonestWire old history config since) where
-        abbrev by : IsHonestWire new history config since
-        by = honest-so history config since honest
+    module _ (start : Address) (q : QueryData) {A : Type 0} (told : A → Report) (r : Result A ClientFault) (a : ActsOnWire new (server_ends q start) options start (most_asked options q) r told since now) where
+      module _ (p : Publisher) (honest : IsHonestWire old p.history p.config since) where
+        abbrev by : IsHonestWire new p.history p.config since
+        by = honest-so p.history p.config since honest
 
-      pub acts-so : ActsOnWire old options start q (reported told r) (λ report. report) since now
+      abbrev offer-of : Publisher → Offer
+      offer-of p = server_offer p q start
+
+      abbrev plan-so : ActsByPlan old (server_ends q start) (StartedIn old options since now) options (reported told r) (λ report. report) since now
+      plan-so = record {
+        requests = λ p honest. if-told told r (λ report. RequestsAreTries (offer-of p) options report) (λ report. RequestsAreTries (offer-of p) options report) (λ report s. s) (a.plan.requests p (by p honest));
+        planned = λ p honest. a.plan.planned p (by p honest);
+        asked = λ p honest. a.plan.asked p (by p honest);
+        requested = λ p honest. a.plan.requested p (by p honest);
+        replied = λ p honest. if-told told r (λ report. AnswersPlan (offer-of p) options report since now) (λ report. AnswersPlan (offer-of p) options report since now) (λ report s. s) (a.plan.replied p (by p honest));
+        honest_cause = λ p honest. ended told r (IsHonestCause (offer-of p) options) (a.plan.honest_cause p (by p honest));
+        counted = λ p honest alive. counted-so (offer-of p) (a.plan.counted p (by p honest) alive);
+        paced = λ p honest alive. if-told told r (λ report. PacesRequests (offer-of p) report since now) (λ report. PacesRequests (offer-of p) report since now) (λ report s. s) (a.plan.paced p (by p honest) alive);
+        lively_cause = λ p honest alive. ended told r (IsLivelyCause (offer-of p) options since now) (a.plan.lively_cause p (by p honest) alive);
+        one_plan = λ p honest. a.plan.one_plan p (by p honest);
+        one_count = λ p honest alive. a.plan.one_count p (by p honest) alive;
+        one_cause = λ p honest. with-cause told r (IsHonestCause (offer-of p) options) (a.plan.honest_cause p (by p honest)) (IsHonestCauseOf (offer-of p) options (a.plan.asked p (by p honest)).choice) (a.plan.one_cause p (by p honest));
+        one_lively_cause = λ p honest alive. with-cause told r (IsLivelyCause (offer-of p) options since now) (a.plan.lively_cause p (by p honest) alive) (IsLivelyCauseOf (offer-of p) options since now (a.plan.asked p (by p honest)).choice) (a.plan.one_lively_cause p (by p honest) alive);
+        is_told = λ p honest. if-told told r (λ report. report.version ≡ Some (a.plan.asked p (by p honest)).choice) (λ report. report.version ≡ Some (a.plan.asked p (by p honest)).choice) (λ report s. s) (a.plan.is_told p (by p honest));
+        spent_plan = λ p honest. ended told r (ForBudget (SpendsPlan (offer-of p) options)) (a.plan.spent_plan p (by p honest));
+        unprovoked = λ p honest. a.plan.unprovoked p (by p honest);
+      }
+
+      pub acts-so : ActsOnWire old (server_ends q start) options start (most_asked options q) (reported told r) (λ report. report) since now
       acts-so = record {
         closed = a.closed;
         peers = a.peers;
@@ -144,7 +182,7 @@ module _ (old new : List ℕ → ℕ → List ℕ → List ℕ → Type 0) (same
         dials = a.dials;
         given = a.given;
         started = started-so a.started;
-        waiting = waiting-so q a.waiting;
+        waiting = waiting-so (most_asked options q) a.waiting;
         sent = sent-so start a.sent;
         cause = if-ended told r (IsCause new options since now) (IsCause old options since now) cause-so a.cause;
         answered = if-told told r (λ report. AnswersAll new options start report.requests since now) (λ report. AnswersAll old options start report.requests since now) (λ report s. answered-so start report.requests s) a.answered;
@@ -152,25 +190,10 @@ module _ (old new : List ℕ → ℕ → List ℕ → List ℕ → Type 0) (same
         dialled = if-told told r (λ report. DialsAtMost report.requests since now) (λ report. DialsAtMost report.requests since now) (λ report s. s) a.dialled;
         linked = if-told told r (λ report. GivesAtMost report.requests since now) (λ report. GivesAtMost report.requests since now) (λ report s. s) a.linked;
         paid = if-told told r (λ report. Spends options.max_body report.requests since now) (λ report. Spends options.max_body report.requests since now) (λ report s. s) a.paid;
-        requests = λ history config honest. if-told told r (λ report. RequestsAreTries history config options q start report) (λ report. RequestsAreTries history config options q start report) (λ report s. s) (a.requests history config (by history config honest));
-        planned = λ history config honest. a.planned history config (by history config honest);
-        asked = λ history config honest. a.asked history config (by history config honest);
-        requested = λ history config honest. a.requested history config (by history config honest);
-        replied = λ history config honest. if-told told r (λ report. AnswersPlan history config options q start report since now) (λ report. AnswersPlan history config options q start report since now) (λ report s. s) (a.replied history config (by history config honest));
-        honest_cause = λ history config honest. ended told r (IsHonestCause history config options q start) (a.honest_cause history config (by history config honest));
-        counted = λ history config honest alive. counted-so history config q start (a.counted history config (by history config honest) alive);
-        paced = λ history config honest alive. if-told told r (λ report. PacesRequests history config q start report since now) (λ report. PacesRequests history config q start report since now) (λ report s. s) (a.paced history config (by history config honest) alive);
-        lively_cause = λ history config honest alive. ended told r (IsLivelyCause history config options q start since now) (a.lively_cause history config (by history config honest) alive);
-        one_plan = λ history config honest. a.one_plan history config (by history config honest);
-        one_count = λ history config honest alive. a.one_count history config (by history config honest) alive;
-        one_cause = λ history config honest. with-cause told r (IsHonestCause history config options q start) (a.honest_cause history config (by history config honest)) (IsHonestCauseOf history config options q start (a.asked history config (by history config honest)).version) (a.one_cause history config (by history config honest));
-        one_lively_cause = λ history config honest alive. with-cause told r (IsLivelyCause history config options q start since now) (a.lively_cause history config (by history config honest) alive) (IsLivelyCauseOf history config options q start since now (a.asked history config (by history config honest)).version) (a.one_lively_cause history config (by history config honest) alive);
-        is_told = λ history config honest. if-told told r (λ report. report.version ≡ Some (a.asked history config (by history config honest)).version) (λ report. report.version ≡ Some (a.asked history config (by history config honest)).version) (λ report s. s) (a.is_told history config (by history config honest));
+        plan = plan-so;
         failed_often = λ alive. ended told r (IsFailedOften options since now) (a.failed_often alive);
         spent_requests = ended told r (ForBudget (SpendsRequests options since now)) a.spent_requests;
         spent_tries = if-ended told r (ForBudget (SpendsTries new options start since now)) (ForBudget (SpendsTries old options start since now)) (spent-so start) a.spent_tries;
-        spent_plan = λ history config honest. ended told r (ForBudget (SpendsPlan history config options q start)) (a.spent_plan history config (by history config honest));
-        unprovoked = λ history config honest. a.unprovoked history config (by history config honest);
       }
 
   -- ---- a block

@@ -37,11 +37,6 @@ pub only-lacking : {T : Type 0} (r : Result T ClientFault) → IfErr r (λ fault
 only-lacking {T} (Ok x) e h = let t : ◌≡◌ {A = Result T ClientFault} (Ok x) (Err faults.Sink) = h in cc
 only-lacking (Err fault) e h = lacking-no-sink fault e h
 
--- where the sink did not fail the fault is not its
-pub not-sunk : {T : Type 0} (S : Type 0) (r : Result T ClientFault) → (IsErrOf r faults.Sink → S) → (S → ⊥) → IfErr r (λ fault. fault ≡ faults.Sink → ⊥)
-not-sunk S (Ok x) f none = tt
-not-sunk {T} S (Err fault) f none = λ e. none (f (ap (λ (z : ClientFault). let r : Result T ClientFault = Err z in r) e))
-
 module _ (allows : List ℕ → ℕ → List ℕ → List ℕ → Type 0) (options : Options) (start : Address) (g : GroupData) (u w : WireState) (t t' : Option (List ℕ)) where
   pub none-shown : (fault : ClientFault) → AsksSome allows options start g.names (blocks_of (group_tree g)) fault u w → t' ≡ t → WritesGatheredFront allows options start g fault u w t t'
   none-shown fault a e = record { asks = a; text = inl e }

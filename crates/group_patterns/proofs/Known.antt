@@ -20,7 +20,8 @@ use Rattle.group_rows.specs.Gathering.{gathered_answers, AreSolutions, Solutions
 use Rattle.tpf_client.specs.declared.options.Options.{Options}
 use Rattle.tpf_client.specs.declared.options.Report.{Report}
 use Rattle.tpf_client.specs.declared.fault.ClientFault.{ClientFault}
-use Rattle.tpf_client.specs.Honest.{IsHonestWire, IsVersionOf}
+use Rattle.tpf_client.specs.Honest.{IsHonestWire}
+use Rattle.tpf_client.specs.Offers.{IsVersionOf}
 use Rattle.tpf_client.proofs.Texts.{same-written}
 use Rattle.group_patterns.specs.Blocks.{BlockRows, rows_of, version_told, TellOneVersion, with_budget, GivesRows, GivesAll}
 use Rattle.group_patterns.specs.Texts.{WritesGroup, WritesGroupPrefix, WritesGathered, WritesGatheredFront, IsReported, WritesGroupAnswers, WritesGroupAnswersFront}
@@ -75,10 +76,10 @@ module _ (allows : List ℕ → ℕ → List ℕ → List ℕ → Type 0) (optio
   chain-known left (ps ∷ pss) (b ∷ bs) u w g one honest =
       let s = g.1.solutions history config honest in
       record {
-        version = s.version;
-        is_version = s.is_version;
+        version = s.choice;
+        is_version = s.is_choice;
         told = inl s.is_reported;
-        are = all-known left (ps ∷ pss) (b ∷ bs) s.version u w g honest (all_so (λ (x : BlockRows). x.report.version ≡ b.report.version) (λ (x : BlockRows). x.report.version ≡ Some s.version) (λ x e. e ∙ s.is_reported) (b ∷ bs) one);
+        are = all-known left (ps ∷ pss) (b ∷ bs) s.choice u w g honest (all_so (λ (x : BlockRows). x.report.version ≡ b.report.version) (λ (x : BlockRows). x.report.version ≡ Some s.choice) (λ x e. e ∙ s.is_reported) (b ∷ bs) one);
       }
 
 is-reported : (g : GroupData) (reported told : Option ℕ) (version : ℕ) → reported ≡ told → (told ≡ Some version) ⊎ ((blocks_of (group_tree g) ≡ []) × (told ≡ None)) → IsReported g reported version

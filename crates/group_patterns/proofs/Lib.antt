@@ -2,9 +2,12 @@ mod Allowed
 mod Chains
 mod Steps
 mod Wires
+mod LinkCounts
+mod Parts
+mod Planned
+mod Stopped
 mod Known
 mod Causes
-mod Completing
 mod Acting
 mod Writing
 mod Progressing

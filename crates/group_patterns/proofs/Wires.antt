@@ -14,13 +14,14 @@ use Rattle.group_query.specs.Trees.{block_query}
 use Rattle.tpf_client.specs.declared.options.Options.{Options}
 use Rattle.tpf_client.specs.declared.fault.ClientFault.{ClientFault}
 use Rattle.tpf_client.specs.Honest.{IsHonestWire}
+use Rattle.tpf_client.specs.Offers.{publisher}
 use Rattle.tpf_client.specs.Requests.{AreClosed, AreDialledFor, OthersStay, MovesOn, DialsAtMost, GivesAtMost}
 use Rattle.tpf_client.specs.Plans.{NoneOpen}
 use Rattle.group_patterns.specs.Blocks.{BlockRows, requests_of, with_budget, GivesRows, GivesAll, EndsBlock}
 
 -- ---- one link
 
-stays-closed : (a b : Link) → IsAsBefore a b → a.is_open ≡ false → b ≡ a
+pub stays-closed : (a b : Link) → IsAsBefore a b → a.is_open ≡ false → b ≡ a
 stays-closed a b (Same e) closed = e
 stays-closed a b (Woken o e) closed = absurd (true≢false (sym o ∙ closed))
 
@@ -204,7 +205,7 @@ module _ (allows : List ℕ → ℕ → List ℕ → List ℕ → Type 0) (optio
       (none-open start b.report.requests u g.0 on none r.alone) (omega (arith, few, given, within)) in
       let last = more.few in
       record {
-        spares = spares-then u g.0 w on.moves (r.acts.unprovoked history config honest steady none few) more.spares;
+        spares = spares-then u g.0 w on.moves (r.acts.plan.unprovoked (publisher history config) honest steady none few) more.spares;
         none = more.none;
         few = omega (arith, last);
       }

@@ -17,9 +17,12 @@ use Rattle.tpf_client.specs.declared.options.Report.{Report}
 use Rattle.tpf_client.specs.declared.fault.ClientFault.{ClientFault}
 use Rattle.tpf_client.specs.declared.fault.ClientFault.TheVariants as faults
 use Rattle.tpf_client.specs.Requests.{AreClosed, AreDialledFor, OthersStay, MovesOn, DialsAtMost, GivesAtMost}
-use Rattle.tpf_client.specs.Plans.{OverHonest, OverLively, StaysUnprovoked}
+use Rattle.tpf_client.specs.Offers.{publisher}
+use Rattle.tpf_client.specs.Plans.{OverHonest}
+use Rattle.tpf_client.specs.Failing.{IsFailedOften, ForBudget, Spends, SpendsRequests}
+use Rattle.tpf_client.specs.Acts.{ActsByPlan}
 use Rattle.group_patterns.specs.Blocks.{AsksAll, AsksSome}
-use Rattle.group_patterns.specs.Plans.{IsHonestGroupCause, IsLivelyGroupCause}
+use Rattle.group_patterns.specs.Plans.{group_ends, StartedByBlocks, IsHonestGroupCause}
 
 -- ---- causes
 
@@ -69,9 +72,10 @@ IsGroupCause options since now before after faults.OutOfMemory = Unit {0}
 -- ---- the wire
 
 -- What a call did on its wire, and why it ended as it did; `before` and `after` count the faults of its sink.
--- Links: all are closed at the end, each was dialled for the authority of the start, and no other link is touched; the budget bounds the dials and the links of all blocks together, and at Ok the requests that are reported do.
+-- Links: all are closed at the end, each was dialled for the authority of the start, and no other link is touched; the budget bounds the dials and the links of all blocks together, and at Ok the requests that are reported do, each of which is paid for by a link, by a whole request that was answered, or by a rise of the wire's faults.
 -- Blocks: at Ok each was asked once, one after another, with what those before it left of the budget, and did on the wire what the call for one query does; at a fault some were. Without a block the wire is as before.
--- Faults: what each shows of the wire, over honest ends, and over lively ones, where the plan is that of all blocks; none was provoked over a steady wire.
+-- Plan: what was asked, requested and answered by all blocks together is what was offered, one block after another, as it is for one query.
+-- Faults: what each shows of the wire, over honest ends, over lively ones, and of the requests where the budget was spent.
 pub record ActsOnGroups (allows : List ℕ → ℕ → List ℕ → List ℕ → Type 0) (options : Options) (start : Address) (g : GroupData) (result : Result Report ClientFault) (since now : WireState) (before after : ℕ) : Type 0 where
   pub closed : AreClosed since now
   pub peers : AreDialledFor start since now
@@ -82,10 +86,12 @@ pub record ActsOnGroups (allows : List ℕ → ℕ → List ℕ → List ℕ →
   pub within : IfOk result (λ report. report.requests ≤ options.budget)
   pub dialled : IfOk result (λ report. DialsAtMost report.requests since now)
   pub linked : IfOk result (λ report. GivesAtMost report.requests since now)
+  pub paid : IfOk result (λ report. Spends options.max_body report.requests since now)
   pub blocks : IfOk result (λ report. AsksAll allows options start g.names (blocks_of (group_tree g)) report since now)
   pub stops : IfErr result (λ fault. AsksSome allows options start g.names (blocks_of (group_tree g)) fault since now)
   pub no_block : blocks_of (group_tree g) ≡ [] → now ≡ since
+  pub plan : ActsByPlan allows (group_ends g start) (StartedByBlocks allows options g since now) options result (λ report. report) since now
   pub cause : IfErr result (IsGroupCause options since now before after)
-  pub honest_cause : OverHonest allows since (λ history config. IfErr result (IsHonestGroupCause history config options g start))
-  pub lively_cause : OverLively allows since (λ history config. IfErr result (IsLivelyGroupCause history config options g start since now))
-  pub unprovoked : OverHonest allows since (λ history config. StaysUnprovoked options since now)
+  pub honest_cause : OverHonest allows since (λ history config. IfErr result (IsHonestGroupCause (publisher history config) options g start))
+  pub failed_often : since.nature.lively ≡ true → IfErr result (IsFailedOften options since now)
+  pub spent_requests : IfErr result (ForBudget (SpendsRequests options since now))

@@ -1,34 +1,36 @@
--- What a query with groups asks a server for, the plans of its blocks one after another, and what its faults show of them.
-use Rattle.std.specs.Prelude.{ℕ, ◌≡◌, ◌≤◌, ◌<◌, ◌+◌, ◌++◌, List, [], ◌∷◌, length}
-use Rattle.std.specs.List.{flat_map, AllByRecursion}
+-- What a query with groups asks a server for, the plans of its blocks one after another, and what the server offers to it.
+use Rattle.std.specs.Prelude.{ℕ, ◌≡◌, ◌+◌, ◌-◌, ◌++◌, List, [], ◌∷◌, length, Option, Some, None}
+use Rattle.std.specs.List.{flat_map, AllByRecursion, Contains}
 use Rattle.rdf_terms.specs.declared.term.Triple.{Triple}
 use Rattle.tpf_base.specs.Addresses.{Address}
-use Rattle.tpf_base.specs.Causes.{RoseBy}
 use Rattle.tpf_base.specs.Links.{WireState}
-use Rattle.template_fill.specs.Metadata.{Config}
+use Rattle.template_fill.specs.Bodies.{version_of}
 use Rattle.http_wire.specs.declared.message.ReplyFault.{ReplyFault}
 use Rattle.http_wire.specs.declared.message.ReplyFault.TheVariants as refusals
 use Rattle.bgp_core.specs.declared.pattern.Pattern.{Pattern}
+use Rattle.bgp_core.specs.Solutions.{Places}
 use Rattle.group_query.specs.Trees.{GroupData, group_tree, blocks_of, block_query}
+use Rattle.group_rows.specs.Gathering.{gathered_answers}
 use Rattle.tpf_client.specs.declared.options.Options.{Options}
 use Rattle.tpf_client.specs.declared.fault.ClientFault.{ClientFault}
 use Rattle.tpf_client.specs.declared.fault.ClientFault.TheVariants as faults
-use Rattle.tpf_client.specs.Honest.{IsVersionOf}
-use Rattle.tpf_client.specs.Requests.{addresses_of}
-use Rattle.tpf_client.specs.Plans.{IsFit, IsAnswered, IsReadByAll, HasLongPage, TellsVersions}
+use Rattle.tpf_client.specs.Calls.{solutions_of}
+use Rattle.tpf_client.specs.Offers.{Publisher, Offer, IsVersionOf, addresses_of}
+use Rattle.tpf_client.specs.Ends.{Ends, publisher_ends}
+use Rattle.tpf_client.specs.Plans.{AtEach, IsAnswered, IsReadByAll, HasLongPage, TellsVersions, StartedIn}
+use Rattle.group_patterns.specs.Blocks.{with_budget}
 
 -- ---- the plan
 
 -- the addresses that blocks ask for, each over a version of its own
-abbrev pub plans_over : List (List Triple) → Config → Address → List (List ℕ) → List (List Pattern) → List ℕ → List Address
-plans_over history config start names [] versions = []
-plans_over history config start names (ps ∷ pss) [] = []
-plans_over history config start names (ps ∷ pss) (version ∷ versions) =
-    addresses_of history config (block_query names ps) start version ++ plans_over history config start names pss versions
+abbrev pub plans_over : Publisher → Address → List (List ℕ) → List (List Pattern) → List ℕ → List Address
+plans_over p start names [] versions = []
+plans_over p start names (ps ∷ pss) [] = []
+plans_over p start names (ps ∷ pss) (version ∷ versions) = addresses_of p (block_query names ps) start version ++ plans_over p start names pss versions
 
 -- the addresses that a query with groups asks for over one version of the data: those of each block, in the order in which the blocks are written
-abbrev pub group_plan : List (List Triple) → Config → GroupData → Address → ℕ → List Address
-group_plan history config g start version = flat_map (λ ps. addresses_of history config (block_query g.names ps) start version) (blocks_of (group_tree g))
+abbrev pub group_plan : Publisher → GroupData → Address → ℕ → List Address
+group_plan p g start version = flat_map (λ ps. addresses_of p (block_query g.names ps) start version) (blocks_of (group_tree g))
 
 -- a version of the data for each block
 pub record AreVersions (history : List (List Triple)) (g : GroupData) (versions : List ℕ) : Type 0 where
@@ -36,69 +38,78 @@ pub record AreVersions (history : List (List Triple)) (g : GroupData) (versions 
   pub count : length versions ≡ length (blocks_of (group_tree g))
 
 -- the plan where each block is asked over its version; where all are one version, this is the group's plan over it
-abbrev pub plan_over : List (List Triple) → Config → GroupData → Address → List ℕ → List Address
-plan_over history config g start versions = plans_over history config start g.names (blocks_of (group_tree g)) versions
+abbrev pub plan_over : Publisher → GroupData → Address → List ℕ → List Address
+plan_over p g start versions = plans_over p start g.names (blocks_of (group_tree g)) versions
+
+-- ---- the offer
+
+-- the solutions of blocks, each over a version of its own
+abbrev pub rows_over : List (List Triple) → List (List ℕ) → List (List Pattern) → List ℕ → List (List Places)
+rows_over history names [] versions = []
+rows_over history names (ps ∷ pss) [] = []
+rows_over history names (ps ∷ pss) (version ∷ versions) = solutions_of (version_of history version) (block_query names ps) ∷ rows_over history names pss versions
+
+-- each block told the version that is reported; without a block none is
+pub record IsToldByAll (versions : List ℕ) (reported : Option ℕ) : Type 0 where
+  pub each : AllByRecursion (λ version. reported ≡ Some version) versions
+  pub none : versions ≡ [] → reported ≡ None
+
+-- What a server offers to a query with groups. A choice is a version for each block, and a report tells of one where it tells each of them; all that the blocks have to ask for is asked for, block after block.
+abbrev pub group_offer : Publisher → GroupData → Address → Offer
+group_offer p g start = record {
+  Choice = List ℕ;
+  IsChoice = AreVersions p.history g;
+  IsReported = IsToldByAll;
+  rows = λ versions. gathered_answers g (rows_over p.history g.names (blocks_of (group_tree g)) versions);
+  addresses = plan_over p g start;
+  StandsAt = λ address server. server ≡ p;
+  HasVersion = λ versions address told. Contains versions told;
+}
+
+-- one server, of which the blocks of a query are asked
+abbrev pub group_ends : GroupData → Address → Ends
+group_ends g start = publisher_ends (λ p. group_offer p g start)
+
+-- ---- how many requests were started
+
+-- the calls for these blocks, one after another, each with what those before it left of the budget: so many requests were started in all
+abbrev pub StartedInTurn : (List ℕ → ℕ → List ℕ → List ℕ → Type 0) → Options → ℕ → List (List Pattern) → WireState → WireState → ℕ → Type 0
+StartedInTurn allows options left [] since now started = (now ≡ since) × (started ≡ 0)
+StartedInTurn allows options left (ps ∷ pss) since now started = (mid : WireState) × (own : ℕ) × (more : ℕ)
+    × StartedIn allows (with_budget options left) since mid own × StartedInTurn allows options (left - own) pss mid now more × (started ≡ own + more)
+
+-- the calls for some of the blocks, from the first one on
+pub record StartedByBlocks (allows : List ℕ → ℕ → List ℕ → List ℕ → Type 0) (options : Options) (g : GroupData) (since now : WireState) (started : ℕ) : Type 0 where
+  pub asked : List (List Pattern)
+  pub rest : List (List Pattern)
+  pub blocks_are : blocks_of (group_tree g) ≡ asked ++ rest
+  pub turns : StartedInTurn allows options options.budget asked since now started
+
+-- ---- causes over an honest wire, where all blocks are asked over one version
 
 -- this is said of the group's plan over one of the versions
-pub record OverOne (history : List (List Triple)) (config : Config) (g : GroupData) (start : Address) (says : List Address → Type 0) : Type 0 where
+pub record OverOne (p : Publisher) (g : GroupData) (start : Address) (says : List Address → Type 0) : Type 0 where
   pub version : ℕ
-  pub is_version : IsVersionOf history version
-  pub holds : says (group_plan history config g start version)
-
--- this is said of the plan over some versions of the blocks
-pub record OverSome (history : List (List Triple)) (config : Config) (g : GroupData) (start : Address) (says : List Address → Type 0) : Type 0 where
-  pub versions : List ℕ
-  pub are_versions : AreVersions history g versions
-  pub holds : says (plan_over history config g start versions)
-
--- this is said of the plan over all versions of the blocks
-abbrev pub OverEach : List (List Triple) → Config → GroupData → Address → (List Address → Type 0) → Type 0
-OverEach history config g start says = (versions : List ℕ) → AreVersions history g versions → says (plan_over history config g start versions)
-
--- ---- causes over an honest wire
+  pub is_version : IsVersionOf p.history version
+  pub holds : says (group_plan p g start version)
 
 -- Where all these addresses are answered, the reply is too long.
-pub record RefusesOf (history : List (List Triple)) (config : Config) (options : Options) (fault : ReplyFault) (received : List ℕ) (addresses : List Address) : Type 0 where
-  pub too_long : AllByRecursion (IsAnswered history config) addresses → fault ≡ refusals.TooLong
-  pub long : AllByRecursion (IsAnswered history config) addresses → HasLongPage history config options.max_body addresses received
+pub record RefusesOf (offer : Offer) (options : Options) (fault : ReplyFault) (received : List ℕ) (addresses : List Address) : Type 0 where
+  pub too_long : AllByRecursion (AtEach offer IsAnswered) addresses → fault ≡ refusals.TooLong
+  pub long : AllByRecursion (AtEach offer IsAnswered) addresses → HasLongPage offer options.max_body addresses received
 
 -- not all these addresses are read as pages
-abbrev pub MissesOf : List (List Triple) → Config → List Address → Type 0
-MissesOf history config addresses = AllByRecursion (IsReadByAll history config) addresses → ⊥
+abbrev pub MissesOf : Offer → List Address → Type 0
+MissesOf offer addresses = AllByRecursion (AtEach offer IsReadByAll) addresses → ⊥
 
 -- A reply is refused only as too long, where the addresses are answered; a body is no page only where one is not read so; and versions differ only where there are two.
-abbrev pub IsHonestGroupCause : List (List Triple) → Config → Options → GroupData → Address → ClientFault → Type 0
-IsHonestGroupCause history config options g start faults.Exchange = Unit {0}
-IsHonestGroupCause history config options g start faults.Stalled = Unit {0}
-IsHonestGroupCause history config options g start (faults.Cut received) = Unit {0}
-IsHonestGroupCause history config options g start (faults.Reply fault received) = OverOne history config g start (RefusesOf history config options fault received)
-IsHonestGroupCause history config options g start (faults.Page fault body) = OverOne history config g start (MissesOf history config)
-IsHonestGroupCause history config options g start (faults.Changed first other) = TellsVersions history first other
-IsHonestGroupCause history config options g start (faults.Budget n) = Unit {0}
-IsHonestGroupCause history config options g start faults.Sink = Unit {0}
-IsHonestGroupCause history config options g start faults.OutOfMemory = Unit {0}
-
--- these addresses and the rises of the wire's faults are together more than the budget
-pub record OverrunsOf (options : Options) (since now : WireState) (addresses : List Address) : Type 0 where
-  pub rises : ℕ
-  pub rose : RoseBy rises since.faults now.faults
-  pub over : options.budget < length addresses + rises
-
--- Over a lively wire: a request failed too often only where the wire's faults rose at least once more than it may be asked again, and never for a stall; and the budget is spent only on the plan and on failures.
-abbrev pub IsLivelyGroupCause : List (List Triple) → Config → Options → GroupData → Address → WireState → WireState → ClientFault → Type 0
-IsLivelyGroupCause history config options g start since now faults.Exchange = RoseBy (options.retries + 1) since.faults now.faults
-IsLivelyGroupCause history config options g start since now faults.Stalled = ⊥
-IsLivelyGroupCause history config options g start since now (faults.Cut received) = RoseBy (options.retries + 1) since.faults now.faults
-IsLivelyGroupCause history config options g start since now (faults.Reply fault received) = Unit {0}
-IsLivelyGroupCause history config options g start since now (faults.Page fault body) = Unit {0}
-IsLivelyGroupCause history config options g start since now (faults.Changed first other) = Unit {0}
-IsLivelyGroupCause history config options g start since now (faults.Budget n) = OverSome history config g start (OverrunsOf options since now)
-IsLivelyGroupCause history config options g start since now faults.Sink = Unit {0}
-IsLivelyGroupCause history config options g start since now faults.OutOfMemory = Unit {0}
-
--- ---- completeness
-
--- A query with groups fits: all that it asks for over each of the versions is answered with pages of at most so many bytes, and, whatever versions its blocks see, so many more requests than its plan has are within the budget.
-pub record GroupFits (history : List (List Triple)) (config : Config) (options : Options) (g : GroupData) (start : Address) (more : ℕ) : Type 0 where
-  pub fit : (version : ℕ) → IsVersionOf history version → AllByRecursion (IsFit history config options.max_body) (group_plan history config g start version)
-  pub within : OverEach history config g start (λ addresses. length addresses + more ≤ options.budget)
+abbrev pub IsHonestGroupCause : Publisher → Options → GroupData → Address → ClientFault → Type 0
+IsHonestGroupCause p options g start faults.Exchange = Unit {0}
+IsHonestGroupCause p options g start faults.Stalled = Unit {0}
+IsHonestGroupCause p options g start (faults.Cut received) = Unit {0}
+IsHonestGroupCause p options g start (faults.Reply fault received) = OverOne p g start (RefusesOf (group_offer p g start) options fault received)
+IsHonestGroupCause p options g start (faults.Page fault body) = OverOne p g start (MissesOf (group_offer p g start))
+IsHonestGroupCause p options g start (faults.Changed first other) = TellsVersions p.history first other
+IsHonestGroupCause p options g start (faults.Budget n) = Unit {0}
+IsHonestGroupCause p options g start faults.Sink = Unit {0}
+IsHonestGroupCause p options g start faults.OutOfMemory = Unit {0}

@@ -16,7 +16,7 @@ use Rattle.group_rows.specs.Gathering.{gathered_answers}
 use Rattle.tpf_client.specs.declared.options.Options.{Options}
 use Rattle.tpf_client.specs.declared.options.Report.{Report}
 use Rattle.tpf_client.specs.declared.fault.ClientFault.{ClientFault}
-use Rattle.tpf_client.specs.Honest.{IsVersionOf}
+use Rattle.tpf_client.specs.Offers.{IsVersionOf}
 use Rattle.group_patterns.specs.Blocks.{rows_of, AsksAll, AsksSome}
 
 -- the text of a result with so many rows was written whole

@@ -4,7 +4,7 @@ ghost use Rattle.std.specs.List.{AllByRecursion};
 ghost use Rattle.tpf_base.specs.Links.{SameAllowed};
 ghost use Rattle.bgp_core.specs.Queries.{IsPatternOf};
 ghost use Rattle.group_patterns.specs.Blocks.{AsksSome};
-ghost use Rattle.group_patterns.specs.Asking.{no_progress, Keeps, KeepsNot, AsksBlock, BlockEnds, AsksStep, StepEnds, AsksBlocks, BlocksFit, block_in, blocks_in};
+ghost use Rattle.group_patterns.specs.Asking.{SuitsCalls, no_progress, Keeps, KeepsNot, AsksBlock, BlockEnds, AsksStep, StepEnds, AsksBlocks, BlocksFit, block_in, blocks_in};
 
 use crate::block::{collect_block, patterns_of};
 use crate::fault::of_block;
@@ -106,9 +106,7 @@ impl Asking {
         options: &Options,
         wire: &mut W,
     ) -> Result<(), ClientFault>
-        requires window { 1 ≤ options.now.window }
-        requires some { 1 ≤ options.now.links }
-        requires few { options.now.links ≤ 256 }
+        requires bounds { SuitsCalls options.now }
         requires fit { AllByRecursion (IsPatternOf (length names.now)) patterns.now }
         ensures ok { OnOk result (AsksBlock (W.allows wire.old) options.now start.now names.now patterns.now self.old self.new (W.state wire.old) (W.state wire.new)) }
         ensures err { IfErr result (λ fault. BlockEnds (W.allows wire.old) options.now start.now names.now patterns.now self.old fault (W.state wire.old) (W.state wire.new)) }
@@ -142,9 +140,7 @@ impl Asking {
         options: &Options,
         wire: &mut W,
     ) -> Result<(), ClientFault>
-        requires window { 1 ≤ options.now.window }
-        requires some { 1 ≤ options.now.links }
-        requires few { options.now.links ≤ 256 }
+        requires bounds { SuitsCalls options.now }
         requires fit { BlocksFit (length names.now) (block_in step.now) }
         ensures ok { OnOk result (AsksStep (W.allows wire.old) options.now start.now names.now (block_in step.now) self.old self.new (W.state wire.old) (W.state wire.new)) }
         ensures err { IfErr result (λ fault. StepEnds (W.allows wire.old) options.now start.now names.now (block_in step.now) self.old fault (W.state wire.old) (W.state wire.new)) }
@@ -168,9 +164,7 @@ impl Asking {
         options: &Options,
         wire: &mut W,
     ) -> Result<(), ClientFault>
-        requires window { 1 ≤ options.now.window }
-        requires some { 1 ≤ options.now.links }
-        requires few { options.now.links ≤ 256 }
+        requires bounds { SuitsCalls options.now }
         requires fresh { self.old ≡ no_progress options.now.budget }
         requires fit { BlocksFit (length names.now) (blocks_in steps.now) }
         ensures ok { OnOk result (AsksBlocks (W.allows wire.old) options.now start.now names.now (blocks_in steps.now) self.new (W.state wire.old) (W.state wire.new)) }

@@ -5,7 +5,7 @@ ghost use Rattle.tpf_base.specs.Links.{SameAllowed};
 ghost use Rattle.bgp_core.specs.Queries.{IsPatternOf};
 ghost use Rattle.group_query.specs.Trees.{block_query};
 ghost use Rattle.group_patterns.specs.Blocks.{BlockRows, GivesRows};
-ghost use Rattle.group_patterns.specs.Asking.{CallEnds, block_in};
+ghost use Rattle.group_patterns.specs.Asking.{SuitsCalls, CallEnds, block_in};
 
 use bgp_core::{Pattern, Query, Row, copy_patterns};
 use group_query::Step;
@@ -60,9 +60,7 @@ pub(crate) fn collect_block<R: Wait, W: Dial>(
     options: &Options,
     wire: &mut W,
 ) -> Result<(Vec<Row>, Report), ClientFault>
-    requires window { 1 ≤ options.now.window }
-    requires some { 1 ≤ options.now.links }
-    requires few { options.now.links ≤ 256 }
+    requires bounds { SuitsCalls options.now }
     requires left { 1 ≤ options.now.budget }
     requires fit { AllByRecursion (IsPatternOf (length names.now)) patterns.now }
     ensures ok { IfOk result (λ r. GivesRows (W.allows wire.old) options.now start.now (block_query names.now patterns.now) (record { report = r.1; rows = r.0.items }) (W.state wire.old) (W.state wire.new)) }

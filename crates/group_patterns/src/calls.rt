@@ -5,12 +5,13 @@ ghost use Rattle.tpf_base.specs.Causes.{Rose};
 ghost use Rattle.tpf_base.specs.Links.{SameAllowed};
 ghost use Rattle.group_query.specs.Trees.{blocks_of, group_tree};
 ghost use Rattle.row_algebra.specs.Algebra.{HaveWidth};
-ghost use Rattle.tpf_client.specs.Plans.{OverHonest, RisesFew, MayStill};
+ghost use Rattle.tpf_client.specs.Offers.{publisher};
+ghost use Rattle.tpf_client.specs.Plans.{OverHonest, PlanFits, RisesFew, MayStill};
 ghost use Rattle.tpf_client.specs.Sinks.{LeavesSink};
 ghost use Rattle.group_patterns.specs.Acts.{ActsOnGroups};
-ghost use Rattle.group_patterns.specs.Asking.{AsksBlocks, PutsTogether, Gathers};
+ghost use Rattle.group_patterns.specs.Asking.{SuitsCalls, AsksBlocks, PutsTogether, Gathers};
 ghost use Rattle.group_patterns.specs.Blocks.{AsksSome};
-ghost use Rattle.group_patterns.specs.Plans.{GroupFits};
+ghost use Rattle.group_patterns.specs.Plans.{group_offer};
 ghost use Rattle.group_patterns.specs.Texts.{WritesGroup, WritesGroupPrefix, WritesGathered, WritesGatheredFront, WritesGroupAnswers, WritesGroupAnswersFront};
 
 use crate::asking::Asking;
@@ -33,9 +34,7 @@ fn ask_blocks<R: Wait, W: Dial>(
     options: &Options,
     wire: &mut W,
 ) -> Result<Asking, ClientFault>
-    requires window { 1 ≤ options.now.window }
-    requires some { 1 ≤ options.now.links }
-    requires few { options.now.links ≤ 256 }
+    requires bounds { SuitsCalls options.now }
     ensures ok { IfOk result (λ asking. AsksBlocks (W.allows wire.old) options.now start.now query.now.names (blocks_of (group_tree query.now)) asking (W.state wire.old) (W.state wire.new)) }
     ensures err { IfErr result (λ fault. AsksSome (W.allows wire.old) options.now start.now query.now.names (blocks_of (group_tree query.now)) fault (W.state wire.old) (W.state wire.new)) }
     ensures sink { IsErrOf result ClientFault.Sink → ⊥ }
@@ -85,9 +84,7 @@ fn gather<R: Wait, W: Dial>(
     options: &Options,
     wire: &mut W,
 ) -> Result<(Vec<Row>, Report), ClientFault>
-    requires window { 1 ≤ options.now.window }
-    requires some { 1 ≤ options.now.links }
-    requires few { options.now.links ≤ 256 }
+    requires bounds { SuitsCalls options.now }
     ensures ok { IfOk result (λ r. Gathers (W.allows wire.old) options.now start.now query.now r.1 r.0.items (W.state wire.old) (W.state wire.new)) }
     ensures err { IfErr result (λ fault. AsksSome (W.allows wire.old) options.now start.now query.now.names (blocks_of (group_tree query.now)) fault (W.state wire.old) (W.state wire.new)) }
     ensures sink { IsErrOf result ClientFault.Sink → ⊥ }
@@ -109,9 +106,7 @@ fn write_answers<R: Wait, W: Dial, K: Sink>(
     wire: &mut W,
     out: &mut K,
 ) -> Result<Report, ClientFault>
-    requires window { 1 ≤ options.now.window }
-    requires some { 1 ≤ options.now.links }
-    requires few { options.now.links ≤ 256 }
+    requires bounds { SuitsCalls options.now }
     ensures ok { IfOk result (λ report. WritesGathered (W.allows wire.old) options.now start.now query.now report (W.state wire.old) (W.state wire.new) (K.state out.old).taken (K.state out.new).taken) }
     ensures err { IfErr result (λ fault. WritesGatheredFront (W.allows wire.old) options.now start.now query.now fault (W.state wire.old) (W.state wire.new) (K.state out.old).taken (K.state out.new).taken) }
     ensures sink { LeavesSink (K.state out.old) (K.state out.new) result }
@@ -165,7 +160,7 @@ pub fn answer<R: Wait, W: Dial, K: Sink>(
     ensures prefix { OverHonest (W.allows wire.old) (W.state wire.old) (λ history config. OnErr result (WritesGroupAnswersFront history query.now (K.state out.old).taken (K.state out.new).taken)) }
     ensures acts { ActsOnGroups (W.allows wire.old) options.now start.now query.now result (W.state wire.old) (W.state wire.new) (K.state out.old).faults (K.state out.new).faults }
     ensures complete { OverHonest (W.allows wire.old) (W.state wire.old) (λ history config. (W.state wire.old).nature.lively ≡ true → (rise : ℕ) → RisesFew options.now rise (W.state wire.old) (W.state wire.new)
-        → GroupFits history config options.now query.now start.now rise → (Rose (K.state out.old).faults (K.state out.new).faults → ⊥) → IfErr result (MayStill history)) }
+        → PlanFits (group_offer (publisher history config) query.now start.now) options.now rise → (Rose (K.state out.old).faults (K.state out.new).faults → ⊥) → IfErr result (MayStill (group_offer (publisher history config) query.now start.now))) }
     ensures sink { LeavesSink (K.state out.old) (K.state out.new) result }
     ensures allowed { SameAllowed (W.allows wire.old) (W.allows wire.new) }
 {

@@ -1,11 +1,14 @@
 -- What the call promises, from what it wrote and what it asked.
+use Rattle.tpf_client.specs.Offers.{publisher}
 use Rattle.tpf_client.proofs.Shutting.{if-ok-from, if-err-from, on-err-of}
+use Rattle.tpf_client.proofs.Completing.{completes}
+use Rattle.group_patterns.specs.Plans.{group_offer}
 use Rattle.group_patterns.proofs.Known.{group-written, prefix-written, answers-written, front-written}
 use Rattle.group_patterns.proofs.Acting.{acts-on-groups}
-use Rattle.group_patterns.proofs.Completing.{completes}
-use Rattle.group_patterns.proofs.Causes.{honest-cause-of, lively-cause-of}
-use Rattle.group_patterns.proofs.Ending.{not-sunk}
 use Rattle.group_patterns.proofs.calls.answer.Goals as goal
+
+pub write_answers-requires : goal.write_answers-requires
+write_answers-requires g c = record { bounds = record { window = c.requires.window; some = c.requires.some; few = c.requires.few } }
 
 pub returns-clause-whole : goal.returns-clause-whole
 returns-clause-whole g c = if-ok-from c.write_answers.result _ _ c.write_answers.ensures.ok (λ report w. group-written (g.W.Wire.allows c.args.wire.now) c.args.options.now c.args.start.now c.args.query.now report (g.W.Wire.state c.args.wire.now) (g.W.Wire.state c.write_answers.new.wire) _ _ w)
@@ -29,7 +32,6 @@ returns-clause-acts g c =
 
 pub returns-clause-complete : goal.returns-clause-complete
 returns-clause-complete g c = λ history config honest alive rise few fits none.
-    completes history config c.args.options.now c.args.query.now c.args.start.now (g.W.Wire.state c.args.wire.now) (g.W.Wire.state c.write_answers.new.wire) rise few fits c.write_answers.result
-    (if-err-from c.write_answers.result _ _ c.write_answers.ensures.err (λ fault w. honest-cause-of (g.W.Wire.allows c.args.wire.now) c.args.options.now c.args.start.now c.args.query.now fault (g.W.Wire.state c.args.wire.now) (g.W.Wire.state c.write_answers.new.wire) history config honest w.asks))
-    (if-err-from c.write_answers.result _ _ c.write_answers.ensures.err (λ fault w. lively-cause-of (g.W.Wire.allows c.args.wire.now) c.args.options.now c.args.start.now c.args.query.now fault (g.W.Wire.state c.args.wire.now) (g.W.Wire.state c.write_answers.new.wire) history config honest alive w.asks))
-    (not-sunk _ c.write_answers.result c.write_answers.ensures.sink.sink none)
+    let acts = returns-clause-acts g c in
+    completes (group_offer (publisher history config) c.args.query.now c.args.start.now) c.args.options.now (g.W.Wire.state c.args.wire.now) (g.W.Wire.state c.write_answers.new.wire) rise few fits c.write_answers.result
+    (acts.plan.honest_cause (publisher history config) honest) (acts.plan.lively_cause (publisher history config) honest alive) (λ e. none (c.write_answers.ensures.sink.sink e))
