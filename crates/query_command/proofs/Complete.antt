@@ -1,5 +1,5 @@
 -- Where none of the causes is there, a command succeeds, or memory is wanting.
-use Rattle.std.proofs.Common.{ℕ, ◌≡◌, ◌≤◌, ◌<◌, ◌^◌, [], ◌∷◌, List, length, Option, None, Result, Ok, Err, IfOk, IfErr, codes, refl, sym, subst, ◌∙◌}
+use Rattle.std.proofs.Common.{ℕ, ◌≡◌, ◌≤◌, ◌<◌, ◌^◌, [], ◌∷◌, List, length, Option, None, Result, Ok, Err, IfOk, IfErr, codes, refl, sym, subst}
 use Rattle.std.specs.List.{AllByRecursion}
 use Rattle.tpf_base.specs.Addresses.{Address, address_text}
 use Rattle.tpf_base.specs.Links.{WireState}
@@ -12,7 +12,8 @@ use Rattle.plan_laws.specs.Fitting.{PlansAreRead, StartsAreRead}
 use Rattle.tpf_client.specs.declared.options.Options.{Options}
 use Rattle.tpf_client.specs.declared.fault.ClientFault.{ClientFault}
 use Rattle.tpf_client.specs.declared.fault.ClientFault.TheVariants as clients
-use Rattle.tpf_client.specs.Plans.{MayStill, TellsVersions}
+use Rattle.tpf_client.specs.Offers.{Offer, publisher, server_offer}
+use Rattle.tpf_client.specs.Plans.{MayStill, ChangesVersion}
 use Rattle.data_files.proofs.Outcomes.{one_query}
 use Rattle.query_command.specs.Limits.{QueriesAreAskable}
 use Rattle.tpf_base.specs.Causes.{Rose}
@@ -35,11 +36,11 @@ use Rattle.query_command.specs.Files.{FailsByFile, ReadsLocally, KeepsOutput}
 use Rattle.query_command.specs.Answers.{Answers, GivesAnswer, AskCause, AnswersSome, FitsOver, OfQuery, IsWanting, IsClientWanting, SucceedsOver, AsksServer}
 use Rattle.query_command.specs.Generated.{usual_options, GeneratedAnswers, GeneratedCause}
 use Rattle.query_command.specs.Loops.{LocalView, LocalAnswers, LocalCause, GivesData, local_config}
-use Rattle.query_command.specs.Plans.{SendsInside, RequestsInside, MayFail, RepliesGenerated, EndsCounted, SendsLocally, RequestsLocally, RepliesLocally, EndsByPlan, SucceedsByPlan, OfGenerated, PlanIsWithin, EndsFile, EndsGenerated, HonestFile, HonestGenerated}
+use Rattle.query_command.specs.Plans.{plan_of, offer_of, SendsInside, RequestsInside, MayFail, RepliesGenerated, EndsCounted, SendsLocally, RequestsLocally, RepliesLocally, EndsByPlan, SucceedsByPlan, OfGenerated, PlanIsWithin, EndsFile, EndsGenerated, HonestFile, HonestGenerated}
 use Rattle.query_command.specs.Commands.{AsksFile, AsksGenerated}
 use Rattle.query_command.proofs.Reading.{gives_answer, gives_data, gives_query_of}
 use Rattle.query_command.proofs.Counting.{gives_counts}
-use Rattle.query_command.proofs.Fitting.{one_version, plan_fits}
+use Rattle.query_command.proofs.Fitting.{one_server, plan_fits}
 use Rattle.query_command.proofs.Planned.{is_memory}
 
 -- data that are served have no fault
@@ -65,7 +66,7 @@ module _ (shelf shelf' : ShelfState) (view : LocalView) (inside : Option (Looped
   local_complete (Err (faults.Data fault)) cause data_exact query_exact ends quiet fine = λ small files is triples q serves holds within. data_memory triples fault (data_exact quiet files is (served triples) serves)
   local_complete (Err (faults.Query fault)) cause data_exact query_exact ends quiet fine = λ small files is triples q serves holds within. query_memory q fault (query_exact quiet files is (reads q) holds)
   local_complete (Err (faults.Client fault)) cause data_exact query_exact ends quiet fine = λ small files is triples q serves holds within.
-      is_memory view.fail_every view.options triples (local_config view.page_size) q fault within (λ e. fine (cause.1.loops.says.writes.sink e)) (ends small files is triples q serves holds)
+      is_memory view.fail_every view.options triples (local_config view.page_size) (offer_of triples (local_config view.page_size) q) (λ address server e. e) (plan_of triples (local_config view.page_size) q) fault within (λ e. fine (cause.1.loops.says.writes.sink e)) (ends small files is triples q serves holds)
 
 module _ (shelf shelf' : ShelfState) (persons : ℕ) (name : List ℕ) (inside : Option (Looped FragmentServer)) where
   pub generated_complete : (result : Result Counts AnswerFault) → IfErr result (GeneratedCause shelf shelf' persons name inside)
@@ -76,23 +77,20 @@ module _ (shelf shelf' : ShelfState) (persons : ℕ) (name : List ℕ) (inside :
   generated_complete (Err (faults.Data fault)) cause exact ends quiet = λ files is triples q serves holds within. cause.0
   generated_complete (Err (faults.Query fault)) cause exact ends quiet = λ files is triples q serves holds within. query_memory q fault (exact quiet files is (reads q) holds)
   generated_complete (Err (faults.Client fault)) cause exact ends quiet = λ files is triples q serves holds within.
-      is_memory 0 usual_options triples (local_config 100) q fault within cause.0 (ends files is triples q serves holds)
+      is_memory 0 usual_options triples (local_config 100) (offer_of triples (local_config 100) q) (λ address server e. e) (plan_of triples (local_config 100) q) fault within cause.0 (ends files is triples q serves holds)
 
 -- ---- over a wire to a server elsewhere
 
-pub one_told : (triples : List Triple) (first other : Option ℕ) → TellsVersions (triples ∷ []) first other → ⊥
-one_told triples first other t = t.differ (sym (one_version triples t.one t.is_one) ∙ one_version triples t.two t.is_two)
-
-pub still_memory : (triples : List Triple) (fault : ClientFault) → MayStill (triples ∷ []) fault → fault ≡ clients.OutOfMemory
-still_memory triples clients.Exchange h = absurd h
-still_memory triples clients.Stalled h = absurd h
-still_memory triples (clients.Cut received) h = absurd h
-still_memory triples (clients.Reply fault received) h = absurd h
-still_memory triples (clients.Page fault body) h = absurd h
-still_memory triples (clients.Changed first other) h = absurd (one_told triples first other h)
-still_memory triples (clients.Budget n) h = absurd h
-still_memory triples clients.Sink h = absurd h
-still_memory triples clients.OutOfMemory h = refl
+pub still_memory : (offer : Offer) → ((first other : Option ℕ) → ChangesVersion offer first other → ⊥) → (fault : ClientFault) → MayStill offer fault → fault ≡ clients.OutOfMemory
+still_memory offer one clients.Exchange h = absurd h
+still_memory offer one clients.Stalled h = absurd h
+still_memory offer one (clients.Cut received) h = absurd h
+still_memory offer one (clients.Reply fault received) h = absurd h
+still_memory offer one (clients.Page fault body) h = absurd h
+still_memory offer one (clients.Changed first other) h = absurd (one first other h)
+still_memory offer one (clients.Budget n) h = absurd h
+still_memory offer one clients.Sink h = absurd h
+still_memory offer one clients.OutOfMemory h = refl
 
 same_query : (one other : QueryData) → reads one ≡ reads other → one ≡ other
 same_query one other e = cc
@@ -104,7 +102,7 @@ module _ (told : Option Files) (name : List ℕ) (allows : List ℕ → ℕ → 
   asked_complete plans starts gives askable fault a valid short fine = λ files is q holds triples config fits.
       let same : q ≡ a.q = same_query q a.q (one_query files name (reads q) (reads a.q) holds (a.is_read.tells files is)) in
       let own : FitsOver allows a.q start options triples config old new = subst (λ (x : QueryData). FitsOver allows x start options triples config old new) same fits in
-      still_memory triples fault (a.writes.complete (triples ∷ []) config own.honest own.lively own.rise own.rises (plan_fits plans starts gives allows a.q start options triples config old new (askable files name a.q (a.is_read.tells files is) valid) short own) fine)
+      still_memory (server_offer (publisher (triples ∷ []) config) a.q start) (one_server triples config a.q start) fault (a.writes.complete (triples ∷ []) config own.honest own.lively own.rise own.rises (plan_fits plans starts gives allows a.q start options triples config old new (askable files name a.q (a.is_read.tells files is) valid) short own) fine)
 
 module _ (shelf shelf' : ShelfState) (name : List ℕ) (allows : List ℕ → ℕ → List ℕ → List ℕ → Type 0) (start : Address) (options : Options) (wire wire' : WireState) (out out' : SinkState) where
   query_complete : (result : Result Report AnswerFault) → IfErr result (AskCause shelf shelf' name allows start options wire wire' out out') → QueryDecides shelf shelf' name (λ outcome. GivesAnswer outcome result)

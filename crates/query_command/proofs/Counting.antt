@@ -1,5 +1,5 @@
 -- What a call over the wire to the server of generated data says.
-use Rattle.std.proofs.Common.{ℕ, ◌≡◌, ◌≢◌, ◌≤◌, ◌<◌, ◌^◌, [], ◌∷◌, List, length, codes, Option, None, Some, Result, Ok, Err, IfOk, IfErr, refl, sym, ap, subst, ◌∙◌, arith}
+use Rattle.std.proofs.Common.{ℕ, ◌≡◌, ◌≢◌, ◌≤◌, ◌<◌, ◌^◌, List, length, codes, Option, None, Some, Result, Ok, Err, IfOk, IfErr, refl, sym, ap, subst, ◌∙◌, arith}
 use Rattle.std.specs.List.{AllByRecursion}
 use Rattle.rdf_terms.specs.declared.term.Triple.{Triple}
 use Rattle.template_fill.specs.Metadata.{Config}
@@ -35,7 +35,7 @@ use Rattle.query_command.specs.Answers.{WritesOver, FailsOver, IsReading, GivesA
 use Rattle.query_command.specs.Generated.{usual_options, CountsQuery, LoopsGenerated, AsksOver, FailsOn, FailsFileOver, GeneratedAnswers, GeneratedCause}
 use Rattle.query_command.specs.Limits.{GeneratedAreServable, QueriesAreAskable}
 use Rattle.tpf_client.specs.Requested.{AnswersPlan}
-use Rattle.query_command.specs.Plans.{SendsPlan, SendsInside, BoundsRequests, RequestsInside, RepliesRows, RepliedGenerated, MayEnd, EndsOver, OfGenerated}
+use Rattle.query_command.specs.Plans.{offer_of, SendsPlan, SendsInside, BoundsRequests, RequestsInside, RepliesRows, RepliedGenerated, MayEnd, EndsOver, OfGenerated}
 use Rattle.query_command.specs.Loops.{LoopsServer, LeavesHonest, WritesAnswer, local_base, local_config, allows_of, wire_of, begun}
 
 -- the served data are one list
@@ -74,12 +74,12 @@ module _ (server : FragmentServer) (persons : ℕ) (starts : StartsGenerated per
     }
 
     -- what was answered
-    pub replies_rows : (report : Report) → LoopsServer server 0 0 inside (λ old new. AnswersPlan ((serving server).data_set ∷ []) (serving server).config options q local_base report (wire_of old) (wire_of new))
+    pub replies_rows : (report : Report) → LoopsServer server 0 0 inside (λ old new. AnswersPlan (offer_of (serving server).data_set (serving server).config q) options report (wire_of old) (wire_of new))
         → LoopsServer server 0 0 inside (RepliesRows (serving server).data_set (serving server).config q report.rows)
     replies_rows report l = record {
       after = l.after;
       is_inside = l.is_inside;
-      says = (report, refl, subst (λ (o : Options). AnswersPlan ((serving server).data_set ∷ []) (serving server).config o q local_base report (wire_of (begun server 0 0)) (wire_of l.after)) is l.says);
+      says = (report, refl, subst (λ (o : Options). AnswersPlan (offer_of (serving server).data_set (serving server).config q) o report (wire_of (begun server 0 0)) (wire_of l.after)) is l.says);
     }
 
     -- how often it was sent

@@ -13,12 +13,12 @@ use Rattle.template_fill.specs.Answered.{address_answer, is_answered, AnsweredGi
 use Rattle.control_reader.specs.Takes.{Takes}
 use Rattle.bgp_core.specs.Queries.{QueryData}
 use Rattle.plan_laws.specs.Fitting.{IsRead, AreServable, IsAskable, IsServable, PlansAreRead, BasesAreRead, StartsAreRead}
-use Rattle.tpf_client.specs.Honest.{IsVersionOf}
-use Rattle.tpf_client.specs.Requests.{is_served, addresses_of}
+use Rattle.tpf_client.specs.Offers.{Publisher, IsVersionOf, publisher, is_served, addresses_of, server_offer}
 use Rattle.tpf_client.specs.declared.options.Options.{Options}
-use Rattle.tpf_client.specs.Plans.{IsAnswered, IsReadByAll, IsSmallByAll, IsFit, PlanFits, answer_at}
+use Rattle.tpf_client.specs.Plans.{AtEach, TellsVersions, ChangesVersion, IsAnswered, IsReadByAll, IsSmallByAll, IsFit, PlanFits, answer_at}
+use Rattle.tpf_client.proofs.Serving.{at-server}
 use Rattle.query_command.specs.Loops.{local_base}
-use Rattle.query_command.specs.Plans.{plan_of}
+use Rattle.query_command.specs.Plans.{plan_of, offer_of}
 use Rattle.query_command.specs.Answers.{FitsOver}
 
 pub one_version : (triples : List Triple) (version : ℕ) → IsVersionOf (triples ∷ []) version → 1 ≡ version
@@ -27,10 +27,17 @@ one_version triples version is = same version is.low is.high
     same : (n : ℕ) → 1 ≤ n → n ≤ 1 → 1 ≡ n
     same n a b = omega (arith, a, b)
 
+-- no two versions of one data set are told
+pub one_told : (triples : List Triple) (first other : Option ℕ) → TellsVersions (triples ∷ []) first other → ⊥
+one_told triples first other t = t.differ (sym (one_version triples t.one t.is_one) ∙ one_version triples t.two t.is_two)
+
+pub one_server : (triples : List Triple) (config : Config) (q : QueryData) (start : Address) (first other : Option ℕ) → ChangesVersion (server_offer (publisher (triples ∷ []) config) q start) first other → ⊥
+one_server triples config q start first other c = one_told triples first other (subst (λ (p : Publisher). TellsVersions p.history first other) c.stands c.versions)
+
 -- what holds of the addresses at the one version holds of those at each
 pub at_version : (triples : List Triple) (config : Config) (q : QueryData) (start : Address) (P : List Address → Type 0) (version : ℕ) → IsVersionOf (triples ∷ []) version
-    → P (addresses_of (triples ∷ []) config q start 1) → P (addresses_of (triples ∷ []) config q start version)
-at_version triples config q start P version is h = subst (λ (v : ℕ). P (addresses_of (triples ∷ []) config q start v)) (one_version triples version is) h
+    → P (addresses_of (publisher (triples ∷ []) config) q start 1) → P (addresses_of (publisher (triples ∷ []) config) q start version)
+at_version triples config q start P version is h = subst (λ (v : ℕ). P (addresses_of (publisher (triples ∷ []) config) q start v)) (one_version triples version is) h
 
 pub all_weaker : (P Q : Address → Type 0) → ((address : Address) → P address → Q address) → (list : List Address) → AllByRecursion P list → AllByRecursion Q list
 all_weaker P Q f [] h = tt
@@ -48,25 +55,36 @@ module _ (triples : List Triple) (config : Config) where
   abbrev Reads : Address → Type 0
   Reads = IsRead (triples ∷ []) (Served 1) config
 
-  status_at : (address : Address) → Reads address → (version : ℕ) → 1 ≡ version → (answer_at (triples ∷ []) config version address).status ≡ 200
-  status_at address r version is = subst (λ (v : ℕ). (answer_at (triples ∷ []) config v address).status ≡ 200) is (is_200 (address_answer (triples ∷ []) (Served 1) config address).status r.answered)
+  status_at : (address : Address) → Reads address → (version : ℕ) → 1 ≡ version → (answer_at (publisher (triples ∷ []) config) version address).status ≡ 200
+  status_at address r version is = subst (λ (v : ℕ). (answer_at (publisher (triples ∷ []) config) v address).status ≡ 200) is (is_200 (address_answer (triples ∷ []) (Served 1) config address).status r.answered)
 
-  pub answered_of : (address : Address) → Reads address → IsAnswered (triples ∷ []) config address
+  pub answered_of : (address : Address) → Reads address → IsAnswered (publisher (triples ∷ []) config) address
   answered_of address r = record {
     short = r.short;
     answered = λ version low high. status_at address r version (one_version triples version (record { low = low; high = high }));
   }
 
-  pub read_by_all : (address : Address) → Reads address → IsReadByAll (triples ∷ []) config address
+  pub read_by_all : (address : Address) → Reads address → IsReadByAll (publisher (triples ∷ []) config) address
   read_by_all address r = λ version is status.
-      (r.page, subst (λ (v : ℕ). Takes (answer_at (triples ∷ []) config v address).body address r.page) (one_version triples version is) r.taken)
+      (r.page, subst (λ (v : ℕ). Takes (answer_at (publisher (triples ∷ []) config) v address).body address r.page) (one_version triples version is) r.taken)
 
   module _ (q : QueryData) (reads : AllByRecursion Reads (plan_of triples config q)) where
-    pub all_answered : (version : ℕ) → IsVersionOf (triples ∷ []) version → AllByRecursion (IsAnswered (triples ∷ []) config) (addresses_of (triples ∷ []) config q local_base version)
-    all_answered version is = at_version triples config q local_base (AllByRecursion (IsAnswered (triples ∷ []) config)) version is (all_weaker Reads (IsAnswered (triples ∷ []) config) answered_of (plan_of triples config q) reads)
+    -- by each server that stands at an address, which is the one
+    abbrev EachAnswers : Address → Type 0
+    EachAnswers = AtEach (offer_of triples config q) IsAnswered
 
-    pub all_read : (version : ℕ) → IsVersionOf (triples ∷ []) version → AllByRecursion (IsReadByAll (triples ∷ []) config) (addresses_of (triples ∷ []) config q local_base version)
-    all_read version is = at_version triples config q local_base (AllByRecursion (IsReadByAll (triples ∷ []) config)) version is (all_weaker Reads (IsReadByAll (triples ∷ []) config) read_by_all (plan_of triples config q) reads)
+    abbrev EachReads : Address → Type 0
+    EachReads = AtEach (offer_of triples config q) IsReadByAll
+
+    pub all_answered : (version : ℕ) → IsVersionOf (triples ∷ []) version → AllByRecursion (AtEach (offer_of triples config q) IsAnswered) (addresses_of (publisher (triples ∷ []) config) q local_base version)
+    all_answered version is =
+        at_version triples config q local_base (AllByRecursion EachAnswers) version is
+        (all_weaker Reads EachAnswers (λ address r. at-server (publisher (triples ∷ []) config) q local_base IsAnswered address (answered_of address r)) (plan_of triples config q) reads)
+
+    pub all_read : (version : ℕ) → IsVersionOf (triples ∷ []) version → AllByRecursion (AtEach (offer_of triples config q) IsReadByAll) (addresses_of (publisher (triples ∷ []) config) q local_base version)
+    all_read version is =
+        at_version triples config q local_base (AllByRecursion EachReads) version is
+        (all_weaker Reads EachReads (λ address r. at-server (publisher (triples ∷ []) config) q local_base IsReadByAll address (read_by_all address r)) (plan_of triples config q) reads)
 
 base_short : (base : Address) → base ≡ local_base → length (address_text base) ≤ 65536
 base_short base is = subst (λ (b : Address). length (address_text b) ≤ 65536) (sym is) (lit≤ tt)
@@ -83,13 +101,13 @@ plan_is_read plans bases triples config q base valid is_config servable askable 
       base = base_short config.base base;
     } in (
       subst (IsRead (triples ∷ []) (Served 1) config) base (bases (triples ∷ []) (Served 1) config s),
-      if_all (IsRead (triples ∷ []) (Served 1) config) (is_served (triples ∷ []) config local_base 1) _ (plans (triples ∷ []) (Served 1) config q.patterns (length q.names) s askable),
+      if_all (IsRead (triples ∷ []) (Served 1) config) (is_served (publisher (triples ∷ []) config) local_base 1) _ (plans (triples ∷ []) (Served 1) config q.patterns (length q.names) s askable),
     )
 
 -- ---- over a wire to a server elsewhere
 
 module _ (triples : List Triple) (config : Config) (most : ℕ) where
-  pub fits : (list : List Address) → AllByRecursion (IsRead (triples ∷ []) (Served 1) config) list → AllByRecursion (IsSmallByAll (triples ∷ []) config most) list → AllByRecursion (IsFit (triples ∷ []) config most) list
+  pub fits : (list : List Address) → AllByRecursion (IsRead (triples ∷ []) (Served 1) config) list → AllByRecursion (IsSmallByAll most (publisher (triples ∷ []) config)) list → AllByRecursion (IsFit most (publisher (triples ∷ []) config)) list
   fits [] r s = tt
   fits (address ∷ list) r s = (record { is_answered = answered_of triples config address r.0; is_read = read_by_all triples config address r.0; is_small = s.0 }, fits list r.1 s.1)
 
@@ -122,7 +140,7 @@ target_of_start start few = omega (arith, few, text_length start)
 -- the plan from a start that is answered is read
 pub start_plan_is_read : PlansAreRead → StartsAreRead → AnsweredGivePages → (triples : List Triple) (config : Config) (start : Address) (q : QueryData) → IsHistory (triples ∷ []) → IsConfig config → AreServable triples
     → authority_of start ≡ authority_of config.base → is_answered (triples ∷ []) (Served 1) config start ≡ true → length (address_text start) ≤ 65536
-    → AllByRecursion IsAskable q.patterns → AllByRecursion (IsRead (triples ∷ []) (Served 1) config) (addresses_of (triples ∷ []) config q start 1)
+    → AllByRecursion IsAskable q.patterns → AllByRecursion (IsRead (triples ∷ []) (Served 1) config) (addresses_of (publisher (triples ∷ []) config) q start 1)
 start_plan_is_read plans starts gives triples config start q is_history is_config servable authority answered text askable =
     let s : IsServable (triples ∷ []) (Served 1) config = record {
       is_history = is_history;
@@ -132,14 +150,17 @@ start_plan_is_read plans starts gives triples config start q is_history is_confi
       base = base_of_start config.base start is_config.no_query authority ((gives (triples ∷ []) (Served 1) config start).0 answered).gives.asks.path text;
     } in (
       starts (triples ∷ []) (Served 1) config start s authority (target_of_start start text) answered,
-      if_all (IsRead (triples ∷ []) (Served 1) config) (is_served (triples ∷ []) config start 1) _ (plans (triples ∷ []) (Served 1) config q.patterns (length q.names) s askable),
+      if_all (IsRead (triples ∷ []) (Served 1) config) (is_served (publisher (triples ∷ []) config) start 1) _ (plans (triples ∷ []) (Served 1) config q.patterns (length q.names) s askable),
     )
 
 pub plan_fits : PlansAreRead → StartsAreRead → AnsweredGivePages → (allows : List ℕ → ℕ → List ℕ → List ℕ → Type 0) (q : QueryData) (start : Address) (options : Options) (triples : List Triple) (config : Config) (old new : WireState)
-    → AllByRecursion IsAskable q.patterns → length (address_text start) ≤ 65536 → (f : FitsOver allows q start options triples config old new) → PlanFits (triples ∷ []) config options q start f.rise
+    → AllByRecursion IsAskable q.patterns → length (address_text start) ≤ 65536 → (f : FitsOver allows q start options triples config old new) → PlanFits (server_offer (publisher (triples ∷ []) config) q start) options f.rise
 plan_fits plans starts gives allows q start options triples config old new askable text f =
     let reads = start_plan_is_read plans starts gives triples config start q f.honest.is_history f.honest.is_config f.servable f.authority f.answered text askable in
+    let offer = server_offer (publisher (triples ∷ []) config) q start in
+    let all = all_weaker (IsFit options.max_body (publisher (triples ∷ []) config)) (AtEach offer (IsFit options.max_body)) (at-server (publisher (triples ∷ []) config) q start (IsFit options.max_body))
+    (addresses_of (publisher (triples ∷ []) config) q start 1) (fits triples config options.max_body (addresses_of (publisher (triples ∷ []) config) q start 1) reads f.small) in
     record {
-      fit = λ version is. at_version triples config q start (AllByRecursion (IsFit (triples ∷ []) config options.max_body)) version is (fits triples config options.max_body (addresses_of (triples ∷ []) config q start 1) reads f.small);
+      fit = λ version is. at_version triples config q start (AllByRecursion (AtEach offer (IsFit options.max_body))) version is all;
       within = λ version is. at_version triples config q start (λ (list : List Address). length list + f.rise ≤ options.budget) version is f.within;
     }

@@ -16,6 +16,8 @@ use Rattle.loop_wire.specs.Looped.{Looped}
 use Rattle.fragment_server.specs.declared.server.FragmentServer.{FragmentServer}
 use Rattle.generated_server.specs.Starts.{StartsGenerated}
 use Rattle.plan_laws.specs.Fitting.{AreServable, PlansAreRead, StartsAreRead}
+use Rattle.group_patterns.specs.Plans.{group_offer}
+use Rattle.tpf_client.specs.Offers.{publisher}
 use Rattle.tpf_client.specs.declared.options.Options.{Options}
 use Rattle.tpf_client.specs.declared.options.Report.{Report}
 use Rattle.tpf_client.specs.declared.fault.ClientFault.{ClientFault}
@@ -31,11 +33,11 @@ use Rattle.query_command.specs.Files.{FailsByFile, ReadsLocally}
 use Rattle.query_command.specs.Limits.{FilesAreServable, GeneratedAreServable, GroupsAreAskable}
 use Rattle.query_command.specs.Loops.{LocalView, IsServing, local_config}
 use Rattle.query_command.specs.Generated.{usual_options}
-use Rattle.query_command.specs.Groups.{AsksServerGroups, AsksFileGroups, AsksGeneratedGroups, CountsGroup, WritesGroupAnswer}
+use Rattle.query_command.specs.Groups.{group_plan_of, group_offer_of, AsksServerGroups, AsksFileGroups, AsksGeneratedGroups, CountsGroup, WritesGroupAnswer}
 use Rattle.query_command.specs.Over.{AreValidBlocks, AreAskableBlocks, AsksGroups, AsksGeneratedOver}
 use Rattle.query_command.proofs.Complete.{still_memory}
-use Rattle.query_command.proofs.GroupPlans.{group_fits}
-use Rattle.query_command.proofs.GroupPlanned.{is_group_memory}
+use Rattle.query_command.proofs.GroupPlans.{group_fits, one_group_server}
+use Rattle.query_command.proofs.Planned.{is_memory}
 use Rattle.query_command.proofs.GroupLooping.{Called, wrote, failed}
 
 -- ---- what was read
@@ -72,7 +74,9 @@ module _ (shelf shelf' : ShelfState) (view : LocalView) (server : FragmentServer
       record { server = server; starts = starts; loops = a.answers },
     );
     cause = tt;
-    ends = λ small. tt;
+    asked = record { server = server; starts = starts; loops = a.asked };
+    replied = record { server = server; starts = starts; loops = a.replied };
+    ends = λ small. record { server = server; starts = starts; loops = a.counted small };
     complete = λ small fine. tt;
     honest = record { server = server; starts = starts; loops = a.honest };
     reads = named;
@@ -89,6 +93,8 @@ module _ (shelf shelf' : ShelfState) (view : LocalView) (server : FragmentServer
       record { triples = (serving server).data_set; is_served = starts.data_set; writes = a.front },
       record { server = server; starts = starts; loops = a.cause },
     );
+    asked = record { server = server; starts = starts; loops = a.asked };
+    replied = tt;
     ends = λ small. record { server = server; starts = starts; loops = a.ends servable (askable a.valid) small };
     complete = λ small fine.
         let e = a.ends servable (askable a.valid) small in
@@ -98,7 +104,7 @@ module _ (shelf shelf' : ShelfState) (view : LocalView) (server : FragmentServer
           loops = record {
             after = e.after;
             is_inside = e.is_inside;
-            says = λ within. is_group_memory view.fail_every view.options (serving server).data_set (serving server).config g fault (λ is. fine (a.cause.says.sink is)) e.says within;
+            says = λ within. is_memory view.fail_every view.options (serving server).data_set (serving server).config (group_offer_of (serving server).data_set (serving server).config g) (λ address other same. same) (group_plan_of (serving server).data_set (serving server).config g) fault within (λ is. fine (a.cause.says.sink is)) e.says;
           };
         };
     honest = record { server = server; starts = starts; loops = a.honest };
@@ -133,7 +139,7 @@ module _ (shelf shelf' : ShelfState) (name : List ℕ) (allows : List ℕ → �
         answers = tt;
         cause = failed allows g start options wire wire' out out' fault k;
         complete = λ short fine triples config fits.
-            still_memory triples fault (k.complete (triples ∷ []) config fits.honest fits.lively fits.rise fits.rises (group_fits plans starts gives allows g start options triples config wire wire' blocks short fits) fine);
+            still_memory (group_offer (publisher (triples ∷ []) config) g start) (one_group_server triples config g start) fault (k.complete (triples ∷ []) config fits.honest fits.lively fits.rise fits.rises (group_fits plans starts gives allows g start options triples config wire wire' blocks short fits) fine);
         reads = named;
         output = record { keeps = record { later = s.later; faultless = s.faultless; spared = λ fine. (s.spared fine).0 }; spared = λ fine is. (s.spared fine).1 (ap Err is) };
       }
@@ -170,6 +176,12 @@ module _ (server : FragmentServer) (persons : ℕ) (starts : StartsGenerated per
         counts = group_counts triples report.rows e a.answer;
         answers = record { server = server; starts = starts; loops = record { after = a.answers.after; is_inside = a.answers.is_inside; says = (report, refl, a.answers.says) } };
         cause = tt;
+        asked = record { server = server; starts = starts; loops = a.asked };
+        replied = record {
+          server = server;
+          starts = starts;
+          loops = record { after = a.replied.after; is_inside = a.replied.is_inside; says = (report, refl, a.replied.says) };
+        };
         ends = λ servable askable. tt;
         honest = a.honest;
       }
@@ -182,6 +194,8 @@ module _ (server : FragmentServer) (persons : ℕ) (starts : StartsGenerated per
         counts = tt;
         answers = tt;
         cause = (λ e. never_rose (a.cause.says.sink e), record { server = server; starts = starts; loops = a.cause });
+        asked = record { server = server; starts = starts; loops = a.asked };
+        replied = tt;
         ends = λ servable askable. record { server = server; starts = starts; loops = a.ends servable askable usual_small };
         honest = a.honest;
       }
@@ -193,6 +207,8 @@ module _ (shelf shelf' : ShelfState) (persons : ℕ) (name : List ℕ) (inside :
     exact = group_decides shelf shelf' name g is_read;
     answers = (a.counts, a.answers);
     cause = tt;
+    asked = a.asked;
+    replied = a.replied;
     ends = tt;
     complete = tt;
     honest = record { server = server; starts = starts; loops = a.honest };
@@ -208,6 +224,8 @@ module _ (shelf shelf' : ShelfState) (persons : ℕ) (name : List ℕ) (inside :
         exact = group_decides shelf shelf' name g is_read;
         answers = tt;
         cause = a.cause;
+        asked = a.asked;
+        replied = tt;
         ends = e;
         complete = record {
           server = e.server;
@@ -215,7 +233,7 @@ module _ (shelf shelf' : ShelfState) (persons : ℕ) (name : List ℕ) (inside :
           loops = record {
             after = e.loops.after;
             is_inside = e.loops.is_inside;
-            says = λ within. is_group_memory 0 usual_options (serving e.server).data_set (serving e.server).config g fault a.cause.0 e.loops.says within;
+            says = λ within. is_memory 0 usual_options (serving e.server).data_set (serving e.server).config (group_offer_of (serving e.server).data_set (serving e.server).config g) (λ address other same. same) (group_plan_of (serving e.server).data_set (serving e.server).config g) fault within a.cause.0 e.loops.says;
           };
         };
         honest = record { server = server; starts = starts; loops = a.honest };

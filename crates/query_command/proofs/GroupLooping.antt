@@ -10,7 +10,7 @@ use Rattle.template_fill.specs.Configurations.{IsConfig, IsValidDataSet}
 use Rattle.group_query.specs.Trees.{GroupData}
 use Rattle.group_rows.specs.Evaluation.{answers}
 use Rattle.group_patterns.specs.Texts.{WritesGroup, WritesGroupPrefix, WritesGathered, WritesGatheredFront, WritesGroupAnswers, WritesGroupAnswersFront}
-use Rattle.group_patterns.specs.Plans.{GroupFits}
+use Rattle.group_patterns.specs.Plans.{group_offer}
 use Rattle.group_patterns.specs.Acts.{ActsOnGroups}
 use Rattle.loop_wire.specs.Looped.{Looped, CountsDue}
 use Rattle.fragment_server.specs.declared.server.FragmentServer.{FragmentServer}
@@ -19,15 +19,16 @@ use Rattle.tpf_client.specs.declared.options.Options.{Options}
 use Rattle.tpf_client.specs.declared.options.Report.{Report}
 use Rattle.tpf_client.specs.declared.fault.ClientFault.{ClientFault}
 use Rattle.tpf_client.specs.Honest.{IsHonestWire}
-use Rattle.tpf_client.specs.Plans.{OverHonest, RisesFew, MayStill}
+use Rattle.tpf_client.specs.Offers.{Publisher, publisher}
+use Rattle.tpf_client.specs.Plans.{OverHonest, RisesFew, PlanFits, MayStill}
 use Rattle.tpf_client.specs.Sinks.{LeavesSink}
 use Rattle.file_server.specs.Servers.{serving}
 use Rattle.query_command.specs.Loops.{LoopsServer, allows_of, wire_of, begun, local_base}
-use Rattle.query_command.specs.Groups.{WritesGroupOver, FailsGroupOver, WritesGroupAnswer, WritesGroupAnswerFront, WritesGroupLooped, FailsGroupLooped, EndsGroupOver}
+use Rattle.query_command.specs.Groups.{WritesGroupOver, FailsGroupOver, WritesGroupAnswer, WritesGroupAnswerFront, WritesGroupLooped, FailsGroupLooped, EndsGroupOver, CountsGroupOver, AsksGroupPlan, AnswersGroupPlan}
 use Rattle.query_command.specs.Over.{AreValidBlocks, AreAskableBlocks, AsksGroups}
 use Rattle.query_command.proofs.Honest.{honest_wire, loops_honest, version_is}
 use Rattle.query_command.proofs.GroupPlans.{group_is_read}
-use Rattle.query_command.proofs.GroupPlanned.{may_end_group}
+use Rattle.query_command.proofs.GroupPlanned.{counts_group, may_end_group}
 
 -- what the call for a query with groups promises
 pub record Called (allows : List ℕ → ℕ → List ℕ → List ℕ → Type 0) (g : GroupData) (options : Options) (result : Result Report ClientFault) (since now : WireState) (out out' : SinkState) (start : Address) : Type 0 where
@@ -38,7 +39,7 @@ pub record Called (allows : List ℕ → ℕ → List ℕ → List ℕ → Type 
   pub headline : OverHonest allows since (λ history config. IfOk result (λ report. WritesGroupAnswers history g report.version report.rows out.taken out'.taken))
   pub prefix : OverHonest allows since (λ history config. OnErr result (WritesGroupAnswersFront history g out.taken out'.taken))
   pub acts : ActsOnGroups allows options start g result since now out.faults out'.faults
-  pub complete : OverHonest allows since (λ history config. since.nature.lively ≡ true → (rise : ℕ) → RisesFew options rise since now → GroupFits history config options g start rise → (Rose out.faults out'.faults → ⊥) → IfErr result (MayStill history))
+  pub complete : OverHonest allows since (λ history config. since.nature.lively ≡ true → (rise : ℕ) → RisesFew options rise since now → PlanFits (group_offer (publisher history config) g start) options rise → (Rose out.faults out'.faults → ⊥) → IfErr result (MayStill (group_offer (publisher history config) g start)))
   pub sink : LeavesSink out out' result
 
 module _ (allows : List ℕ → ℕ → List ℕ → List ℕ → Type 0) (g : GroupData) (start : Address) (options : Options) (old new : WireState) (out out' : SinkState) where
@@ -92,6 +93,21 @@ module _ (server : FragmentServer) (seed n : ℕ) (after : Looped FragmentServer
   front_here (Ok report) k = tt
   front_here (Err fault) k = front_of_one (serving server).data_set g out.taken out'.taken (k.prefix ((serving server).data_set ∷ []) (serving server).config honest)
 
+  abbrev server_is : Publisher
+  server_is = publisher ((serving server).data_set ∷ []) (serving server).config
+
+  asked_here : (result : Result Report ClientFault) → Called_here result → LoopsServer server seed n (Some after) (AsksGroupPlan options g)
+  asked_here result k = record { after = after; is_inside = refl; says = record { asked = k.acts.plan.asked server_is honest; requested = k.acts.plan.requested server_is honest } }
+
+  replied_here : (result : Result Report ClientFault) → Called_here result → IfOk result (λ report. LoopsServer server seed n (Some after) (AnswersGroupPlan options g report))
+  replied_here (Ok report) k = record { after = after; is_inside = refl; says = k.acts.plan.replied server_is honest }
+  replied_here (Err fault) k = tt
+
+  counted_here : CountsDue after.counts.failing after.counts.dials after.counts.faults after.provoked → (result : Result Report ClientFault) → Called_here result → options.budget < 2 ^ 63
+      → IfOk result (λ report. LoopsServer server seed n (Some after) (CountsGroupOver n options g report))
+  counted_here due (Ok report) k small = record { after = after; is_inside = refl; says = counts_group server seed n after g options honest due small out.faults out'.faults report k.acts }
+  counted_here due (Err fault) k small = tt
+
   ends_here : PlansAreRead → BasesAreRead → (serving server).config.base ≡ local_base → IsValidDataSet (serving server).data_set → IsConfig (serving server).config
       → CountsDue after.counts.failing after.counts.dials after.counts.faults after.provoked → (result : Result Report ClientFault) → Called_here result
       → AreServable (serving server).data_set → AreAskableBlocks g → options.budget < 2 ^ 63 → IfErr result (λ fault. LoopsServer server seed n (Some after) (EndsGroupOver n options g fault))
@@ -116,6 +132,9 @@ asks_groups server seed n old after is g options start same result out out' call
       cause = cause_here server seed n after g options out out' honest result k;
       answer = answer_here server seed n after g options out out' honest result k;
       front = front_here server seed n after g options out out' honest result k;
+      asked = asked_here server seed n after g options out out' honest result k;
+      replied = replied_here server seed n after g options out out' honest result k;
+      counted = counted_here server seed n after g options out out' honest due result k;
       ends = ends_here server seed n after g options out out' honest plans bases base valid config due result k;
       honest = loops_honest server seed n old after is allowed honest;
       output = record { later = s.later; faultless = s.faultless; spared = λ fine. (s.spared fine).0 };

@@ -1,5 +1,5 @@
 -- What is said of the wire to a server is said of the files of a command.
-use Rattle.std.proofs.Common.{ℕ, ◌≡◌, ◌<◌, ◌^◌, [], ◌∷◌, List, Option, Result, codes, sym, subst, arith}
+use Rattle.std.proofs.Common.{ℕ, ◌≡◌, ◌<◌, ◌^◌, List, Option, Result, codes, sym, subst, arith}
 use Rattle.std.specs.List.{AllByRecursion}
 use Rattle.rdf_terms.specs.declared.term.Triple.{Triple}
 use Rattle.template_fill.specs.Metadata.{Config}
@@ -24,7 +24,7 @@ use Rattle.data_files.specs.Kept.{KeepsShelf}
 use Rattle.query_command.specs.Answers.{AnswersSome}
 use Rattle.query_command.specs.Limits.{FilesAreServable, QueriesAreAskable}
 use Rattle.tpf_client.specs.Requested.{AnswersPlan}
-use Rattle.query_command.specs.Plans.{SendsPlan, SendsInside, BoundsRequests, RequestsInside, RepliedInside, EndsAsPlanned, EndsOver, OfFiles}
+use Rattle.query_command.specs.Plans.{offer_of, SendsPlan, SendsInside, BoundsRequests, RequestsInside, RepliedInside, EndsAsPlanned, EndsOver, OfFiles}
 use Rattle.query_command.specs.Loops.{LocalView, LoopsServer, LoopsFile, LeavesHonest, AnswersFilesFront, WritesLooped, FailsLooped, WritesAnswer, WritesAnswerFront, LocalAnswers, allows_of, wire_of, begun, local_base, local_config}
 
 same_data : (one other : List Triple) → served one ≡ served other → one ≡ other
@@ -116,7 +116,7 @@ module _ (told told' : Option Files) (same : told' ≡ told) (view : LocalView) 
         (of_both view (serving server).data_set triples (serving server).config q asked (λ (ts : List Triple) (c : Config) (x : QueryData). BoundsRequests view.options ts c x (wire_of l.after))
         (one_outcome files view.name view.choice (codes "localhost") (served (serving server).data_set) (served triples) own serves) starts.config_is (one_query files view.query (reads q) (reads asked) there holds) l.says)
 
-    pub local_replied : (report : Report) → LoopsServer server view.seed view.fail_every inside (λ old new. AnswersPlan ((serving server).data_set ∷ []) (serving server).config view.options q local_base report (wire_of old) (wire_of new))
+    pub local_replied : (report : Report) → LoopsServer server view.seed view.fail_every inside (λ old new. AnswersPlan (offer_of (serving server).data_set (serving server).config q) view.options report (wire_of old) (wire_of new))
         → OfFiles told view (RepliedInside told view inside report)
     local_replied report l = λ files is triples asked serves holds.
         let own = starts.data_set.tells files is in
@@ -127,7 +127,7 @@ module _ (told told' : Option Files) (same : told' ≡ told) (view : LocalView) 
           loops = record {
             after = l.after;
             is_inside = l.is_inside;
-            says = of_both view (serving server).data_set triples (serving server).config q asked (λ (ts : List Triple) (c : Config) (x : QueryData). AnswersPlan (ts ∷ []) c view.options x local_base report (wire_of (begun server view.seed view.fail_every)) (wire_of l.after))
+            says = of_both view (serving server).data_set triples (serving server).config q asked (λ (ts : List Triple) (c : Config) (x : QueryData). AnswersPlan (offer_of ts c x) view.options report (wire_of (begun server view.seed view.fail_every)) (wire_of l.after))
                 (one_outcome files view.name view.choice (codes "localhost") (served (serving server).data_set) (served triples) own serves) starts.config_is (one_query files view.query (reads q) (reads asked) there holds) l.says;
           };
         }

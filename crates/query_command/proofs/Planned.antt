@@ -11,6 +11,7 @@ use Rattle.template_fill.specs.HttpAnswer.{Answer}
 use Rattle.template_fill.specs.Metadata.{Config}
 use Rattle.bgp_core.specs.Queries.{QueryData}
 use Rattle.request_pool.specs.Pools.{Pooled, empty_pool}
+use Rattle.pool_laws.specs.Answers.{HasLongBody}
 use Rattle.pool_laws.specs.Requested.{over_links, whole_requests}
 use Rattle.loop_wire.specs.Looped.{Looped, CountsDue, FewFaults, every_of}
 use Rattle.fragment_server.specs.declared.server.FragmentServer.{FragmentServer}
@@ -21,26 +22,26 @@ use Rattle.tpf_client.specs.declared.fault.ClientFault.{ClientFault}
 use Rattle.tpf_client.specs.declared.fault.ClientFault.TheVariants as faults
 use Rattle.tpf_client.specs.Traffic.{Event}
 use Rattle.tpf_client.specs.Calls.{RunsPool}
-use Rattle.tpf_client.specs.Honest.{IsHonestWire, IsVersionOf}
-use Rattle.tpf_client.specs.Requests.{addresses_of}
+use Rattle.tpf_client.specs.Offers.{Publisher, publisher, IsVersionOf, Offer, addresses_of}
+use Rattle.tpf_client.specs.Honest.{IsHonestWire}
 use Rattle.tpf_client.specs.Requested.{CallRequests, RequestsPlan, AnswersPlan}
 use Rattle.tpf_client.specs.Failing.{SpendsPlan}
-use Rattle.tpf_client.specs.Plans.{CountsRises, AsksPlan, IsSmallByAll, HasLongPage, OverrunsPlan, answer_at}
+use Rattle.tpf_client.specs.Plans.{StartedIn, CountsRises, AsksPlan, IsSmallByAll, HasLongPage, OverrunsPlan, answer_at}
 use Rattle.tpf_client.proofs.Endings.{travels-onward}
 use Rattle.plan_laws.specs.Fitting.{IsRead}
 use Rattle.query_command.specs.Answers.{KeepsToPlan, WritesOver, FailsOver}
 use Rattle.query_command.specs.Loops.{LoopsServer, allows_of, wire_of, begun, local_base}
-use Rattle.query_command.specs.Plans.{plan_of, SendsPlan, BoundsRequests, CountsRequests, PassesBudget, MayEnd, EndsAsPlanned, PlanIsWithin}
+use Rattle.query_command.specs.Plans.{plan_of, offer_of, SendsPlan, BoundsRequests, CountsRequests, PassesBudget, MayEnd, MayEndBy, EndsAsPlanned, IsWithin}
 use Rattle.query_command.proofs.Failing.{FewFailed, few_failed, counts_requests, fails_often, passes_budget, not_often, not_passed}
-use Rattle.query_command.proofs.Fitting.{one_version, at_version, all_answered, all_read}
+use Rattle.query_command.proofs.Fitting.{one_version, at_version, all_answered, all_read, one_server}
 
 -- what was sent on a wire that had given no link
 pub sends_plan : (server : FragmentServer) (seed n : ℕ) (after : Looped FragmentServer) (q : QueryData)
-    → AsksPlan ((serving server).data_set ∷ []) (serving server).config q local_base (wire_of (begun server seed n)) (wire_of after) → SendsPlan (serving server).data_set (serving server).config q (wire_of after)
+    → AsksPlan (offer_of (serving server).data_set (serving server).config q) (wire_of (begun server seed n)) (wire_of after) → SendsPlan (serving server).data_set (serving server).config q (wire_of after)
 sends_plan server seed n after q a = record {
   asked = a.asked;
   rest = a.rest;
-  plan_is = subst (λ (v : ℕ). IsPermutation (addresses_of ((serving server).data_set ∷ []) (serving server).config q local_base v) (a.asked ++ a.rest)) (sym (one_version (serving server).data_set a.version a.is_version)) a.plan_is;
+  plan_is = subst (λ (v : ℕ). IsPermutation (addresses_of (publisher ((serving server).data_set ∷ []) (serving server).config) q local_base v) (a.asked ++ a.rest)) (sym (one_version (serving server).data_set a.choice a.is_choice)) a.plan_is;
   sent = λ k below. a.sent k (omega arith) below;
 }
 
@@ -49,9 +50,9 @@ from_none n = omega arith
 
 -- how often it was sent
 pub bounds_requests : (server : FragmentServer) (seed n : ℕ) (after : Looped FragmentServer) (q : QueryData) (options : Options)
-    → RequestsPlan ((serving server).data_set ∷ []) (serving server).config options q local_base (wire_of (begun server seed n)) (wire_of after) → BoundsRequests options (serving server).data_set (serving server).config q (wire_of after)
+    → RequestsPlan (offer_of (serving server).data_set (serving server).config q) options (wire_of (begun server seed n)) (wire_of after) → BoundsRequests options (serving server).data_set (serving server).config q (wire_of after)
 bounds_requests server seed n after q options r =
-    let all = subst (λ (v : ℕ). CallRequests options (addresses_of ((serving server).data_set ∷ []) (serving server).config q local_base v) (wire_of (begun server seed n)) (wire_of after)) (sym (one_version (serving server).data_set r.version r.is_version)) r.requests in
+    let all = subst (λ (v : ℕ). CallRequests options (addresses_of (publisher ((serving server).data_set ∷ []) (serving server).config) q local_base v) (wire_of (begun server seed n)) (wire_of after)) (sym (one_version (serving server).data_set r.choice r.is_choice)) r.requests in
     record {
       on = all.on;
       told = λ k below. all.told k (omega arith) below;
@@ -83,57 +84,54 @@ module _ (server : FragmentServer) (seed n : ℕ) (after : Looped FragmentServer
   abbrev most : ℕ
   most = length (plan_of triples config q)
 
-  counted : CountsRises (allows_of (begun server seed n)) (triples ∷ []) config options q local_base since now
-  counted = plan.counted (triples ∷ []) config honest refl
+  counted : CountsRises (StartedIn (allows_of (begun server seed n)) options since now) (offer_of triples config q) since now
+  counted = plan.counted (publisher (triples ∷ []) config) honest refl
 
-  length_is : (version : ℕ) → IsVersionOf (triples ∷ []) version → length (addresses_of (triples ∷ []) config q local_base version) ≡ most
+  length_is : (version : ℕ) → IsVersionOf (triples ∷ []) version → length (addresses_of (publisher (triples ∷ []) config) q local_base version) ≡ most
   length_is version is = at_version triples config q local_base (λ (list : List Address). length list ≡ most) version is refl
 
   few : FewFailed n most now.faults
   few =
-      let spares = plan.unprovoked (triples ∷ []) config honest refl (λ k. refl) (omega (arith, small)) in
-      let every : every_of after.counts.failing ≡ Some n = ap (λ (x : Nature). x.every) (nature_stays (allows_of (begun server seed n)) options since now counted.events counted.pool counted.runs) in
+      let spares = plan.unprovoked (publisher (triples ∷ []) config) honest refl (λ k. refl) (omega (arith, small)) in
+      let every : every_of after.counts.failing ≡ Some n = ap (λ (x : Nature). x.every) (nature_stays (allows_of (begun server seed n)) options since now counted.is_started.events counted.is_started.pool counted.is_started.runs) in
       let dials = plan.dials in
       let f : FewFaults n now.dials now.faults now.provoked = due n every (omega (arith, dials, small)) in
       let made = counted.dials in
       few_failed n most now.faults now.dials now.provoked counted.rises options.budget f spares.provoked small dials counted.rose
-      (subst (λ (k : ℕ). now.dials ≤ 0 + (k + counted.rises)) (length_is counted.version counted.is_version) made)
+      (subst (λ (k : ℕ). now.dials ≤ 0 + (k + counted.rises)) (length_is counted.choice counted.is_choice) made)
 
   -- ---- an answer
 
   pub requests_counted : (report : Report) (taken taken' : Option (List ℕ)) → WritesOver (allows_of (begun server seed n)) q local_base options report since now taken taken' → CountsRequests n options.retries most report.requests
   requests_counted report taken taken' w =
-      let paced = w.paced (triples ∷ []) config honest refl in
-      let tries = w.tries (triples ∷ []) config honest in
-      let size = length_is paced.version paced.is_version in
+      let paced = w.paced (publisher (triples ∷ []) config) honest refl in
+      let tries = w.tries (publisher (triples ∷ []) config) honest in
+      let size = length_is paced.choice paced.is_choice in
       counts_requests n options.retries most now.faults few report.requests paced.rises
       (subst (λ (k : ℕ). k ≤ report.requests) size paced.each) paced.rose (subst (λ (k : ℕ). report.requests ≤ k + paced.rises) size paced.few)
       (λ quiet. paced.exact quiet ∙ size)
-      (subst (λ (k : ℕ). report.requests ≤ (options.retries + 1) * k) (length_is tries.version tries.is_version) tries.few)
+      (subst (λ (k : ℕ). report.requests ≤ (options.retries + 1) * k) (length_is tries.choice tries.is_choice) tries.few)
 
   -- ---- a fault
 
-  no_versions : (one two : ℕ) → IsVersionOf (triples ∷ []) one → IsVersionOf (triples ∷ []) two → one ≢ two → ⊥
-  no_versions one two a b differ = differ (sym (one_version triples one a) ∙ one_version triples two b)
-
-  overruns : OverrunsPlan (triples ∷ []) config options q local_base since now → SpendsPlan (triples ∷ []) config options q local_base → PassesBudget n options.retries options.budget most
+  overruns : OverrunsPlan (offer_of triples config q) options since now → SpendsPlan (offer_of triples config q) options → PassesBudget n options.retries options.budget most
   overruns o s =
-      passes_budget n options.retries most now.faults few options.budget o.rises o.rose (subst (λ (k : ℕ). options.budget < k + o.rises) (length_is o.version o.is_version) o.over)
-      (subst (λ (k : ℕ). options.budget < (options.retries + 1) * k) (length_is s.version s.is_version) s.tries)
+      passes_budget n options.retries most now.faults few options.budget o.rises o.rose (subst (λ (k : ℕ). options.budget < k + o.rises) (length_is o.choice o.is_choice) o.over)
+      (subst (λ (k : ℕ). options.budget < (options.retries + 1) * k) (length_is s.choice s.is_choice) s.tries)
 
   pub may_end : (fault : ClientFault) (out out' : ℕ) (taken taken' : Option (List ℕ)) → FailsOver (allows_of (begun server seed n)) q local_base options fault since now out out' taken taken' → MayEnd n options triples config q fault
-  may_end faults.Exchange out out' taken taken' f = fails_often n options.retries most now.faults few (f.lively_cause (triples ∷ []) config honest refl)
-  may_end faults.Stalled out out' taken taken' f = f.lively_cause (triples ∷ []) config honest refl
-  may_end (faults.Cut received) out out' taken taken' f = fails_often n options.retries most now.faults few (f.lively_cause (triples ∷ []) config honest refl)
+  may_end faults.Exchange out out' taken taken' f = fails_often n options.retries most now.faults few (f.lively_cause (publisher (triples ∷ []) config) honest refl)
+  may_end faults.Stalled out out' taken taken' f = f.lively_cause (publisher (triples ∷ []) config) honest refl
+  may_end (faults.Cut received) out out' taken taken' f = fails_often n options.retries most now.faults few (f.lively_cause (publisher (triples ∷ []) config) honest refl)
   may_end (faults.Reply fault received) out out' taken taken' f =
-      let c = f.honest_cause (triples ∷ []) config honest in
-      let answered = all_answered triples config q reads c.version c.is_version in (
+      let c = f.honest_cause (publisher (triples ∷ []) config) honest in
+      let answered = all_answered triples config q reads c.choice c.is_choice in (
         c.too_long answered,
-        subst (λ (list : List Address). HasLongPage (triples ∷ []) config options.max_body list received) (at_version triples config q local_base (λ (list : List Address). list ≡ plan_of triples config q) c.version c.is_version refl) (c.long answered),
+        subst (λ (list : List Address). HasLongPage (offer_of triples config q) options.max_body list received) (at_version triples config q local_base (λ (list : List Address). list ≡ plan_of triples config q) c.choice c.is_choice refl) (c.long answered),
       )
-  may_end (faults.Page fault body) out out' taken taken' f = let c = f.honest_cause (triples ∷ []) config honest in c.unread (all_read triples config q reads c.version c.is_version)
-  may_end (faults.Changed first other) out out' taken taken' f = let c = f.honest_cause (triples ∷ []) config honest in no_versions c.one c.two c.is_one c.is_two c.differ
-  may_end (faults.Budget m) out out' taken taken' f = (f.cause.0, overruns (f.lively_cause (triples ∷ []) config honest refl) (f.spent_plan (triples ∷ []) config honest))
+  may_end (faults.Page fault body) out out' taken taken' f = let c = f.honest_cause (publisher (triples ∷ []) config) honest in c.unread (all_read triples config q reads c.choice c.is_choice)
+  may_end (faults.Changed first other) out out' taken taken' f = let c = f.honest_cause (publisher (triples ∷ []) config) honest in one_server triples config q local_base first other c
+  may_end (faults.Budget m) out out' taken taken' f = (f.cause.0, overruns (f.lively_cause (publisher (triples ∷ []) config) honest refl) (f.spent_plan (publisher (triples ∷ []) config) honest))
   may_end faults.Sink out out' taken taken' f = tt
   may_end faults.OutOfMemory out out' taken taken' f = tt
 
@@ -146,7 +144,7 @@ pub sends_from : (server : FragmentServer) (seed n : ℕ) (after : Looped Fragme
 sends_from server seed n after q options plan honest = record {
   after = after;
   is_inside = refl;
-  says = sends_plan server seed n after q (plan.asked ((serving server).data_set ∷ []) (serving server).config honest);
+  says = sends_plan server seed n after q (plan.asked (publisher ((serving server).data_set ∷ []) (serving server).config) honest);
 }
 
 pub requests_from : (server : FragmentServer) (seed n : ℕ) (after : Looped FragmentServer) (q : QueryData) (options : Options)
@@ -156,7 +154,7 @@ pub requests_from : (server : FragmentServer) (seed n : ℕ) (after : Looped Fra
 requests_from server seed n after q options plan honest = record {
   after = after;
   is_inside = refl;
-  says = bounds_requests server seed n after q options (plan.requested ((serving server).data_set ∷ []) (serving server).config honest);
+  says = bounds_requests server seed n after q options (plan.requested (publisher ((serving server).data_set ∷ []) (serving server).config) honest);
 }
 
 same_some : {A : Type 0} (x y : A) → ◌≡◌ {A = Option A} (Some x) (Some y) → x ≡ y
@@ -182,31 +180,38 @@ ends_from server seed n after q options out out' taken taken' (Err fault) honest
 pub answers_from : (server : FragmentServer) (seed n : ℕ) (after : Looped FragmentServer) (q : QueryData) (options : Options) (taken taken' : Option (List ℕ)) (result : Result Report ClientFault)
     → IsHonestWire (allows_of (begun server seed n)) ((serving server).data_set ∷ []) (serving server).config (wire_of (begun server seed n))
     → IfOk result (λ report. LoopsServer server seed n (Some after) (λ wire wire'. WritesOver (allows_of wire) q local_base options report (wire_of wire) (wire_of wire') taken taken'))
-    → IfOk result (λ report. LoopsServer server seed n (Some after) (λ wire wire'. AnswersPlan ((serving server).data_set ∷ []) (serving server).config options q local_base report (wire_of wire) (wire_of wire')))
-answers_from server seed n after q options taken taken' (Ok report) honest ok = record { after = ok.after; is_inside = ok.is_inside; says = ok.says.replied ((serving server).data_set ∷ []) (serving server).config honest }
+    → IfOk result (λ report. LoopsServer server seed n (Some after) (λ wire wire'. AnswersPlan (offer_of (serving server).data_set (serving server).config q) options report (wire_of wire) (wire_of wire')))
+answers_from server seed n after q options taken taken' (Ok report) honest ok = record { after = ok.after; is_inside = ok.is_inside; says = ok.says.replied (publisher ((serving server).data_set ∷ []) (serving server).config) honest }
 answers_from server seed n after q options taken taken' (Err fault) honest ok = tt
 
 -- ---- completeness
 
-pub long_body : (triples : List Triple) (config : Config) (most : ℕ) (list : List Address) (received : List ℕ) → AllByRecursion (IsSmallByAll (triples ∷ []) config most) list → HasLongPage (triples ∷ []) config most list received → ⊥
-long_body triples config most list received small h =
-    let b = h.long.is_body in
-    let fits = all_in (IsSmallByAll (triples ∷ []) config most) list h.address small h.is_asked in
-    let served = b.served in
-    let status : (answer_at (triples ∷ []) config (version_at b.mark) h.address).status ≡ 200 = ap (λ (a : Answer). a.status) (sym served) ∙ b.status in
-    let within = fits (version_at b.mark) (record { low = b.version.low; high = b.version.high }) status in
-    let body : length h.long.body ≡ length (answer_at (triples ∷ []) config (version_at b.mark) h.address).body = ap length (b.body_is ∙ ap (λ (a : Answer). a.body) served) in
-    let long = h.long.long in
-    omega (arith, within, body, long)
+-- no body is longer than each may be, where the one server of these data stands at each address
+module _ (triples : List Triple) (config : Config) (offer : Offer) (one : (address : Address) (server : Publisher) → offer.StandsAt address server → server ≡ publisher (triples ∷ []) config)
+    (most : ℕ) (list : List Address) (received : List ℕ) (small : AllByRecursion (IsSmallByAll most (publisher (triples ∷ []) config)) list) where
+  long_on : (h : HasLongPage offer most list received) → HasLongBody (triples ∷ []) config most h.address received → ⊥
+  long_on h page =
+      let b = page.is_body in
+      let fits = all_in (IsSmallByAll most (publisher (triples ∷ []) config)) list h.address small h.is_asked in
+      let served = b.served in
+      let status : (answer_at (publisher (triples ∷ []) config) (version_at b.mark) h.address).status ≡ 200 = ap (λ (a : Answer). a.status) (sym served) ∙ b.status in
+      let within = fits (version_at b.mark) (record { low = b.version.low; high = b.version.high }) status in
+      let body : length page.body ≡ length (answer_at (publisher (triples ∷ []) config) (version_at b.mark) h.address).body = ap length (b.body_is ∙ ap (λ (a : Answer). a.body) served) in
+      let long = page.long in
+      omega (arith, within, body, long)
+
+  pub long_body : HasLongPage offer most list received → ⊥
+  long_body h = long_on h (subst (λ (p : Publisher). HasLongBody p.history p.config most h.address received) (one h.address h.server h.stands) h.long)
 
 -- none of the causes is there, and the output did not fail
-pub is_memory : (n : ℕ) (options : Options) (triples : List Triple) (config : Config) (q : QueryData) (fault : ClientFault) → PlanIsWithin n options triples config q → fault ≢ faults.Sink → MayEnd n options triples config q fault → fault ≡ faults.OutOfMemory
-is_memory n options triples config q faults.Exchange p sink h = absurd (not_often n options.retries (length (plan_of triples config q)) p.calm h)
-is_memory n options triples config q faults.Stalled p sink h = absurd h
-is_memory n options triples config q (faults.Cut received) p sink h = absurd (not_often n options.retries (length (plan_of triples config q)) p.calm h)
-is_memory n options triples config q (faults.Reply fault received) p sink h = absurd (long_body triples config options.max_body (plan_of triples config q) received p.small h.1)
-is_memory n options triples config q (faults.Page fault body) p sink h = absurd h
-is_memory n options triples config q (faults.Changed first other) p sink h = absurd h
-is_memory n options triples config q (faults.Budget m) p sink h = absurd (not_passed n options.retries options.budget (length (plan_of triples config q)) p.calm p.none p.some h.1)
-is_memory n options triples config q faults.Sink p sink h = absurd (sink refl)
-is_memory n options triples config q faults.OutOfMemory p sink h = refl
+pub is_memory : (n : ℕ) (options : Options) (triples : List Triple) (config : Config) (offer : Offer) → ((address : Address) (server : Publisher) → offer.StandsAt address server → server ≡ publisher (triples ∷ []) config) → (plan : List Address) (fault : ClientFault)
+    → IsWithin n options (publisher (triples ∷ []) config) plan → fault ≢ faults.Sink → MayEndBy n options offer plan fault → fault ≡ faults.OutOfMemory
+is_memory n options triples config offer one plan faults.Exchange p sink h = absurd (not_often n options.retries (length plan) p.calm h)
+is_memory n options triples config offer one plan faults.Stalled p sink h = absurd h
+is_memory n options triples config offer one plan (faults.Cut received) p sink h = absurd (not_often n options.retries (length plan) p.calm h)
+is_memory n options triples config offer one plan (faults.Reply fault received) p sink h = absurd (long_body triples config offer one options.max_body plan received p.small h.1)
+is_memory n options triples config offer one plan (faults.Page fault body) p sink h = absurd h
+is_memory n options triples config offer one plan (faults.Changed first other) p sink h = absurd h
+is_memory n options triples config offer one plan (faults.Budget m) p sink h = absurd (not_passed n options.retries options.budget (length plan) p.calm p.none p.some h.1)
+is_memory n options triples config offer one plan faults.Sink p sink h = absurd (sink refl)
+is_memory n options triples config offer one plan faults.OutOfMemory p sink h = refl

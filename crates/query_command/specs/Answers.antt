@@ -16,14 +16,16 @@ use Rattle.tpf_client.specs.declared.options.Options.{Options}
 use Rattle.tpf_client.specs.declared.options.Report.{Report}
 use Rattle.tpf_client.specs.declared.fault.ClientFault.{ClientFault}
 use Rattle.tpf_client.specs.declared.fault.ClientFault.TheVariants as client_faults
+use Rattle.tpf_client.specs.Offers.{publisher, addresses_of, server_offer}
+use Rattle.tpf_client.specs.Ends.{OverEnds, OverLivelyEnds, server_ends}
 use Rattle.tpf_client.specs.Acts.{ActsOnWire}
-use Rattle.tpf_client.specs.Calls.{RunsPool, WritesResult, WritesPrefix, WritesAll, WritesSome, IsCause}
+use Rattle.tpf_client.specs.Calls.{RunsPool, WritesResult, WritesPrefix, WritesAll, WritesSome, IsCause, most_asked}
 use Rattle.tpf_client.specs.Honest.{IsHonestWire, WritesSolutions, WritesSolutionsFront}
-use Rattle.tpf_client.specs.Requests.{AreClosed, AreDialledFor, OthersStay, AnswersAll, DialsAtMost, GivesAtMost, DialsAreTries, RequestsAreTries, addresses_of}
+use Rattle.tpf_client.specs.Requests.{AreClosed, AreDialledFor, OthersStay, AnswersAll, DialsAtMost, GivesAtMost, DialsAreTries, RequestsAreTries}
 use Rattle.tpf_client.specs.Requested.{RequestsPlan, AnswersPlan}
 use Rattle.tpf_client.specs.Shown.{ShowsGiven}
 use Rattle.tpf_client.specs.Failing.{IsFailedOften, ForBudget, SpendsRequests, SpendsTries, SpendsPlan}
-use Rattle.tpf_client.specs.Plans.{SendsAsked, AsksPlan, OverHonest, OverLively, CountsRises, PacesRequests, IsHonestCause, IsLivelyCause, RisesFew, PlanFits, MayStill, StaysUnprovoked, IsSmallByAll}
+use Rattle.tpf_client.specs.Plans.{SendsAsked, AsksPlan, OverHonest, StartedIn, CountsRises, PacesRequests, IsHonestCause, IsLivelyCause, RisesFew, PlanFits, MayStill, StaysUnprovoked, IsSmallByAll}
 use Rattle.data_files.specs.declared.fault.QueryFileFault.TheVariants as query_faults
 use Rattle.data_files.specs.declared.fault.DataFault.TheVariants as data_faults
 use Rattle.data_files.specs.Data.{Files, IfTold}
@@ -42,44 +44,44 @@ pub record KeepsToPlan (allows : List ℕ → ℕ → List ℕ → List ℕ → 
   pub sent : SendsAsked allows options start old new
   pub dials : DialsAtMost options.budget old new
   pub given : GivesAtMost options.budget old new
-  pub asked : OverHonest allows old (λ history config. AsksPlan history config q start old new)
-  pub tries : OverHonest allows old (λ history config. DialsAreTries history config options q start old new)
-  pub counted : OverLively allows old (λ history config. CountsRises allows history config options q start old new)
-  pub unprovoked : OverHonest allows old (λ history config. StaysUnprovoked options old new)
-  pub requested : OverHonest allows old (λ history config. RequestsPlan history config options q start old new)
+  pub asked : OverEnds (server_ends q start) allows old (λ p. AsksPlan (server_offer p q start) old new)
+  pub tries : OverEnds (server_ends q start) allows old (λ p. DialsAreTries (server_offer p q start) options old new)
+  pub counted : OverLivelyEnds (server_ends q start) allows old (λ p. CountsRises (StartedIn allows options old new) (server_offer p q start) old new)
+  pub unprovoked : OverEnds (server_ends q start) allows old (λ p. StaysUnprovoked options old new)
+  pub requested : OverEnds (server_ends q start) allows old (λ p. RequestsPlan (server_offer p q start) options old new)
 
 -- The result of a query was written over a wire: the text of some rows, and all that was asked was answered; over a wire that is honest for a history, of the solutions over one version, the reported one, by as many requests as its plan has and failures need. The requests that are reported are within the budget, and no more dials were made and no more links given than these. All that is said of a plan is said of one version, the reported one (`acts`).
 pub record WritesOver (allows : List ℕ → ℕ → List ℕ → List ℕ → Type 0) (q : QueryData) (start : Address) (options : Options) (report : Report) (old new : WireState) (taken taken' : Option (List ℕ)) : Type 0 where
   pub whole : WritesResult q report.rows taken taken'
   pub writes : WritesAll (RunsPool allows options old new) q start report taken taken'
-  pub headline : (history : List (List Triple)) (config : Config) → IsHonestWire allows history config old → WritesSolutions history q report.version report.rows taken taken'
+  pub headline : (history : List (List Triple)) (config : Config) → IsHonestWire allows history config old → WritesSolutions (server_offer (publisher history config) q start) q report.version report.rows taken taken'
   pub plan : KeepsToPlan allows q start options old new
   pub answered : AnswersAll allows options start report.requests old new
-  pub tries : OverHonest allows old (λ history config. RequestsAreTries history config options q start report)
-  pub paced : OverLively allows old (λ history config. PacesRequests history config q start report old new)
-  pub replied : OverHonest allows old (λ history config. AnswersPlan history config options q start report old new)
+  pub tries : OverEnds (server_ends q start) allows old (λ p. RequestsAreTries (server_offer p q start) options report)
+  pub paced : OverLivelyEnds (server_ends q start) allows old (λ p. PacesRequests (server_offer p q start) report old new)
+  pub replied : OverEnds (server_ends q start) allows old (λ p. AnswersPlan (server_offer p q start) options report old new)
   pub within : report.requests ≤ options.budget
   pub dialled : DialsAtMost report.requests old new
   pub linked : GivesAtMost report.requests old new
-  pub acts : ActsOnWire allows options start q (Ok report) (λ told. told) old new
+  pub acts : ActsOnWire allows (server_ends q start) options start (most_asked options q) (Ok report) (λ told. told) old new
 
 -- A front of such a text was written, with all rows that were given where neither the sink nor memory failed, and the call over the wire ended with this fault. Over an honest wire, and a lively one, it has these causes; and where the plan fits and the faults are few it is want of memory, or the data changed. Over a lively wire a request failed too often only for as many rises of the faults and ends of links; and the budget is spent only on links, requests and failures, and is less than what was asked may be tried, over an honest wire than what the plan has. All that is said of a plan, and the causes over one, is said of one version (`acts`).
 pub record FailsOver (allows : List ℕ → ℕ → List ℕ → List ℕ → Type 0) (q : QueryData) (start : Address) (options : Options) (fault : ClientFault) (old new : WireState) (out out' : ℕ) (taken taken' : Option (List ℕ)) : Type 0 where
   pub front : WritesPrefix q taken taken'
   pub writes : WritesSome (RunsPool allows options old new) q start options.budget fault taken taken'
   pub shown : (some : WritesSome (RunsPool allows options old new) q start options.budget fault taken taken') × ShowsGiven (RunsPool allows options old new) q start options.budget fault out out' taken taken' some
-  pub headline : (history : List (List Triple)) (config : Config) → IsHonestWire allows history config old → WritesSolutionsFront history q taken taken'
+  pub headline : (history : List (List Triple)) (config : Config) → IsHonestWire allows history config old → WritesSolutionsFront (server_offer (publisher history config) q start) q taken taken'
   pub cause : IsCause allows options old new fault
   pub sink : fault ≡ client_faults.Sink → Rose out out'
   pub plan : KeepsToPlan allows q start options old new
-  pub honest_cause : OverHonest allows old (λ history config. IsHonestCause history config options q start fault)
-  pub lively_cause : OverLively allows old (λ history config. IsLivelyCause history config options q start old new fault)
-  pub complete : OverHonest allows old (λ history config. old.nature.lively ≡ true → (rise : ℕ) → RisesFew options rise old new → PlanFits history config options q start rise → (Rose out out' → ⊥) → MayStill history fault)
+  pub honest_cause : OverEnds (server_ends q start) allows old (λ p. IsHonestCause (server_offer p q start) options fault)
+  pub lively_cause : OverLivelyEnds (server_ends q start) allows old (λ p. IsLivelyCause (server_offer p q start) options old new fault)
+  pub complete : OverHonest allows old (λ history config. old.nature.lively ≡ true → (rise : ℕ) → RisesFew options rise old new → PlanFits (server_offer (publisher history config) q start) options rise → (Rose out out' → ⊥) → MayStill (server_offer (publisher history config) q start) fault)
   pub failed_often : old.nature.lively ≡ true → IsFailedOften options old new fault
   pub spent_requests : ForBudget (SpendsRequests options old new) fault
   pub spent_tries : ForBudget (SpendsTries allows options start old new) fault
-  pub spent_plan : OverHonest allows old (λ history config. ForBudget (SpendsPlan history config options q start) fault)
-  pub acts : ActsOnWire {A = Report} allows options start q (Err fault) (λ told. told) old new
+  pub spent_plan : OverEnds (server_ends q start) allows old (λ p. ForBudget (SpendsPlan (server_offer p q start) options) fault)
+  pub acts : ActsOnWire {A = Report} allows (server_ends q start) options start (most_asked options q) (Err fault) (λ told. told) old new
 
 -- the query of the file was asked, and the text of its result written
 pub record Answers (told : Option Files) (name : List ℕ) (allows : List ℕ → ℕ → List ℕ → List ℕ → Type 0) (start : Address) (options : Options) (report : Report) (old new : WireState) (taken taken' : Option (List ℕ)) : Type 0 where
@@ -134,8 +136,8 @@ pub record FitsOver (allows : List ℕ → ℕ → List ℕ → List ℕ → Typ
   pub answered : is_answered (triples ∷ []) (Served 1) config start ≡ true
   pub rise : ℕ
   pub rises : RisesFew options rise old new
-  pub small : AllByRecursion (IsSmallByAll (triples ∷ []) config options.max_body) (addresses_of (triples ∷ []) config q start 1)
-  pub within : length (addresses_of (triples ∷ []) config q start 1) + rise ≤ options.budget
+  pub small : AllByRecursion (IsSmallByAll options.max_body (publisher (triples ∷ []) config)) (addresses_of (publisher (triples ∷ []) config) q start 1)
+  pub within : length (addresses_of (publisher (triples ∷ []) config) q start 1) + rise ≤ options.budget
 
 -- of the query of a file, where the shelf tells it
 abbrev pub OfQuery : Option Files → List ℕ → (QueryData → Type 0) → Type 0

@@ -16,13 +16,12 @@ use Rattle.triple_table.specs.declared.choice.Choice.{Choice}
 use Rattle.triple_table.specs.declared.choice.Choice.TheVariants.{DefaultGraph}
 use Rattle.triple_table.specs.Chosen.{chosen}
 use Rattle.triple_table.specs.Served.{IsServed}
-use Rattle.http_wire.specs.declared.message.ReplyFault.TheVariants as refusals
 use Rattle.bgp_core.specs.Solutions.{Places}
 use Rattle.result_json.specs.Results.{result_text}
 use Rattle.group_query.specs.Trees.{GroupData, shown_query}
 use Rattle.group_rows.specs.Evaluation.{answers}
 use Rattle.group_patterns.specs.Texts.{WritesGroup, WritesGroupPrefix, WritesGathered, WritesGatheredFront, WritesGroupAnswers, WritesGroupAnswersFront}
-use Rattle.group_patterns.specs.Plans.{GroupFits, group_plan}
+use Rattle.group_patterns.specs.Plans.{group_plan, group_offer}
 use Rattle.group_patterns.specs.Acts.{ActsOnGroups}
 use Rattle.plan_laws.specs.Fitting.{AreServable}
 use Rattle.loop_wire.specs.Looped.{Looped}
@@ -33,7 +32,9 @@ use Rattle.tpf_client.specs.declared.options.Report.{Report}
 use Rattle.tpf_client.specs.declared.fault.ClientFault.{ClientFault}
 use Rattle.tpf_client.specs.declared.fault.ClientFault.TheVariants as client_faults
 use Rattle.tpf_client.specs.Honest.{IsHonestWire}
-use Rattle.tpf_client.specs.Plans.{OverHonest, RisesFew, MayStill, HasLongPage, IsSmallByAll}
+use Rattle.tpf_client.specs.Offers.{Offer, publisher}
+use Rattle.tpf_client.specs.Plans.{OverHonest, AsksPlan, RisesFew, PlanFits, MayStill, IsSmallByAll}
+use Rattle.tpf_client.specs.Requested.{RequestsPlan, AnswersPlan}
 use Rattle.data_files.specs.Data.{Files, IsOfFile}
 use Rattle.data_files.specs.Queries.{IsOfGroupFile, reads_groups}
 use Rattle.data_files.specs.Kept.{ReadsNamed}
@@ -46,7 +47,7 @@ use Rattle.query_command.specs.Files.{FailsByFile, ReadsLocally, KeepsOutput}
 use Rattle.query_command.specs.Answers.{IsWanting, AsksServer}
 use Rattle.query_command.specs.Loops.{LocalView, LoopsFile, IsServing, allows_of, wire_of, local_base}
 use Rattle.query_command.specs.Generated.{LoopsGenerated, usual_options}
-use Rattle.query_command.specs.Plans.{HonestFile, HonestGenerated}
+use Rattle.query_command.specs.Plans.{CountsRequests, MayEndBy, IsWithin, HonestFile, HonestGenerated}
 use Rattle.query_command.specs.Commands.{AsksFile, AsksGenerated}
 
 -- ---- over any wire
@@ -64,7 +65,7 @@ pub record FailsGroupOver (allows : List ℕ → ℕ → List ℕ → List ℕ �
   pub gathered : WritesGatheredFront allows options start g fault old new taken taken'
   pub headline : OverHonest allows old (λ history config. WritesGroupAnswersFront history g taken taken')
   pub sink : fault ≡ client_faults.Sink → Rose out out'
-  pub complete : OverHonest allows old (λ history config. old.nature.lively ≡ true → (rise : ℕ) → RisesFew options rise old new → GroupFits history config options g start rise → (Rose out out' → ⊥) → MayStill history fault)
+  pub complete : OverHonest allows old (λ history config. old.nature.lively ≡ true → (rise : ℕ) → RisesFew options rise old new → PlanFits (group_offer (publisher history config) g start) options rise → (Rose out out' → ⊥) → MayStill (group_offer (publisher history config) g start) fault)
   pub acts : ActsOnGroups allows options start g (Err fault) old new out out'
 
 -- why there is no whole answer over a wire: the query was read, so the call over the wire ended
@@ -82,8 +83,8 @@ pub record FitsGroupOver (allows : List ℕ → ℕ → List ℕ → List ℕ �
   pub answered : is_answered (triples ∷ []) (Served 1) config start ≡ true
   pub rise : ℕ
   pub rises : RisesFew options rise old new
-  pub small : AllByRecursion (IsSmallByAll (triples ∷ []) config options.max_body) (group_plan (triples ∷ []) config g start 1)
-  pub within : length (group_plan (triples ∷ []) config g start 1) + rise ≤ options.budget
+  pub small : AllByRecursion (IsSmallByAll options.max_body (publisher (triples ∷ []) config)) (group_plan (publisher (triples ∷ []) config) g start 1)
+  pub within : length (group_plan (publisher (triples ∷ []) config) g start 1) + rise ≤ options.budget
 
 -- What a query with groups of a file over a wire came to, and what it left of shelf, wire and output. Where the text of the start has at most 65536 bytes, nothing stands in the way and the output did not fail, it succeeds, or memory is wanting.
 pub record AsksServerGroups (shelf shelf' : ShelfState) (allows : List ℕ → ℕ → List ℕ → List ℕ → Type 0) (wire wire' : WireState) (out out' : SinkState) (name : List ℕ) (start : Address) (options : Options) (result : Result Report AnswerFault) (g : GroupData) : Type 0 where
@@ -129,23 +130,21 @@ WritesGroupLooped g options report out out' old new = WritesGroupOver (allows_of
 abbrev pub FailsGroupLooped : GroupData → Options → ClientFault → SinkState → SinkState → Looped FragmentServer → Looped FragmentServer → Type 0
 FailsGroupLooped g options fault out out' old new = FailsGroupOver (allows_of old) g local_base options fault (wire_of old) (wire_of new) out.faults out'.faults out.taken out'.taken
 
--- Which faults may come, where each n-th dial fails, and none for 0: a request fails only where a dial is due to fail, and is never stalled; a body of the plan is too long; the budget is spent, which where no dial fails the plan passes; the output fails; memory is wanting. No body is no page, and no page tells another version.
-abbrev pub MayEndGroup : ℕ → Options → List Triple → Config → GroupData → ClientFault → Type 0
-MayEndGroup n options triples config g client_faults.Exchange = 0 < n
-MayEndGroup n options triples config g client_faults.Stalled = ⊥
-MayEndGroup n options triples config g (client_faults.Cut received) = 0 < n
-MayEndGroup n options triples config g (client_faults.Reply fault received) = (fault ≡ refusals.TooLong) × HasLongPage (triples ∷ []) config options.max_body (group_plan (triples ∷ []) config g local_base 1) received
-MayEndGroup n options triples config g (client_faults.Page fault body) = ⊥
-MayEndGroup n options triples config g (client_faults.Changed first other) = ⊥
-MayEndGroup n options triples config g (client_faults.Budget most) = (most ≡ options.budget) × (n ≡ 0 → options.budget < length (group_plan (triples ∷ []) config g local_base 1))
-MayEndGroup n options triples config g client_faults.Sink = Unit {0}
-MayEndGroup n options triples config g client_faults.OutOfMemory = Unit {0}
+-- the addresses that a query with groups asks the server of these data for: those of each block, in the order in which the blocks are written
+abbrev pub group_plan_of : List Triple → Config → GroupData → List Address
+group_plan_of triples config g = group_plan (publisher (triples ∷ []) config) g local_base 1
 
--- None of the causes is there: no dial fails, each body of the plan is within the limit, and the plan is within the budget.
-pub record GroupIsWithin (n : ℕ) (options : Options) (triples : List Triple) (config : Config) (g : GroupData) : Type 0 where
-  pub calm : n ≡ 0
-  pub small : AllByRecursion (IsSmallByAll (triples ∷ []) config options.max_body) (group_plan (triples ∷ []) config g local_base 1)
-  pub within : length (group_plan (triples ∷ []) config g local_base 1) ≤ options.budget
+-- what the server of these data offers to it
+abbrev pub group_offer_of : List Triple → Config → GroupData → Offer
+group_offer_of triples config g = group_offer (publisher (triples ∷ []) config) g local_base
+
+-- which faults may come, by the plan of all blocks
+abbrev pub MayEndGroup : ℕ → Options → List Triple → Config → GroupData → ClientFault → Type 0
+MayEndGroup n options triples config g fault = MayEndBy n options (group_offer_of triples config g) (group_plan_of triples config g) fault
+
+-- none of the causes is there
+abbrev pub GroupIsWithin : ℕ → Options → List Triple → Config → GroupData → Type 0
+GroupIsWithin n options triples config g = IsWithin n options (publisher (triples ∷ []) config) (group_plan_of triples config g)
 
 -- then memory is wanting
 abbrev pub WantsMemoryOver : ℕ → Options → GroupData → ClientFault → Looped FragmentServer → Looped FragmentServer → Type 0
@@ -154,6 +153,19 @@ WantsMemoryOver n options g fault old new = GroupIsWithin n options (serving old
 -- a call over the wire ended with one of these, by the plan over the data of its server
 abbrev pub EndsGroupOver : ℕ → Options → GroupData → ClientFault → Looped FragmentServer → Looped FragmentServer → Type 0
 EndsGroupOver n options g fault old new = MayEndGroup n options (serving old.server).data_set (serving old.server).config g fault
+
+-- or it succeeded by as many requests as that plan has addresses and the dials that fail among them need
+abbrev pub CountsGroupOver : ℕ → Options → GroupData → Report → Looped FragmentServer → Looped FragmentServer → Type 0
+CountsGroupOver n options g report old new = CountsRequests n options.retries (length (group_plan_of (serving old.server).data_set (serving old.server).config g)) report.requests
+
+-- Only for addresses of that plan requests were sent, and each was requested no more often than the plan has it, each time as often as it may be tried.
+pub record AsksGroupPlan (options : Options) (g : GroupData) (old new : Looped FragmentServer) : Type 0 where
+  pub asked : AsksPlan (group_offer_of (serving old.server).data_set (serving old.server).config g) (wire_of old) (wire_of new)
+  pub requested : RequestsPlan (group_offer_of (serving old.server).data_set (serving old.server).config g) options (wire_of old) (wire_of new)
+
+-- each was answered as often as the plan has it
+abbrev pub AnswersGroupPlan : Options → GroupData → Report → Looped FragmentServer → Looped FragmentServer → Type 0
+AnswersGroupPlan options g report old new = AnswersPlan (group_offer_of (serving old.server).data_set (serving old.server).config g) options report (wire_of old) (wire_of new)
 
 -- ---- the query of a file of data
 
@@ -169,11 +181,12 @@ LocalGroupCause told local inside g out out' (faults.Query fault) = ⊥
 LocalGroupCause told local inside g out out' (faults.Client fault) =
     AnswersGroupFileFront told local.name local.choice g out.taken out'.taken × LoopsFile told local inside (FailsGroupLooped g local.options fault out out')
 
--- it ended for one of the causes that may come
-abbrev pub EndsGroupFile : Option Files → LocalView → Option (Looped FragmentServer) → GroupData → AnswerFault → Type 0
-EndsGroupFile told local inside g (faults.Data fault) = ⊥
-EndsGroupFile told local inside g (faults.Query fault) = ⊥
-EndsGroupFile told local inside g (faults.Client fault) = LoopsFile told local inside (EndsGroupOver local.fail_every local.options g fault)
+-- it took so many requests, or ended for one of the causes that may come
+abbrev pub EndsGroupFile : Option Files → LocalView → Option (Looped FragmentServer) → GroupData → Result Report AnswerFault → Type 0
+EndsGroupFile told local inside g (Ok report) = LoopsFile told local inside (CountsGroupOver local.fail_every local.options g report)
+EndsGroupFile told local inside g (Err (faults.Data fault)) = ⊥
+EndsGroupFile told local inside g (Err (faults.Query fault)) = ⊥
+EndsGroupFile told local inside g (Err (faults.Client fault)) = LoopsFile told local inside (EndsGroupOver local.fail_every local.options g fault)
 
 -- where none of the causes is there memory is wanting
 abbrev pub WantsMemoryFile : Option Files → LocalView → Option (Looped FragmentServer) → GroupData → AnswerFault → Type 0
@@ -188,7 +201,9 @@ pub record AsksFileGroups (shelf shelf' : ShelfState) (out out' : SinkState) (in
   pub query_exact : QueryDecides shelf shelf' local.query (λ outcome. outcome ≡ reads_groups g)
   pub answers : IfOk result (λ report. LocalGroupAnswers shelf.told local inside g report out out')
   pub cause : IfErr result (LocalGroupCause shelf.told local inside g out out')
-  pub ends : local.options.budget < 2 ^ 63 → IfErr result (EndsGroupFile shelf.told local inside g)
+  pub asked : LoopsFile shelf.told local inside (AsksGroupPlan local.options g)
+  pub replied : IfOk result (λ report. LoopsFile shelf.told local inside (AnswersGroupPlan local.options g report))
+  pub ends : local.options.budget < 2 ^ 63 → EndsGroupFile shelf.told local inside g result
   pub complete : local.options.budget < 2 ^ 63 → ¬ (Rose out.faults out'.faults) → IfErr result (WantsMemoryFile shelf.told local inside g)
   pub honest : HonestFile shelf.told local inside result
   pub reads : ReadsLocally local.name local.query shelf shelf' result
@@ -209,6 +224,10 @@ AsksGroupOver g rows old new = (report : Report) × (report.rows ≡ rows) × Wr
 
 abbrev pub FailsGroupOn : GroupData → ClientFault → Looped FragmentServer → Looped FragmentServer → Type 0
 FailsGroupOn g fault old new = FailsGroupOver (allows_of old) g local_base usual_options fault (wire_of old) (wire_of new) 0 0 None None
+
+-- each address of the plan was answered, in a call that gave so many rows
+abbrev pub AnswersGroupRows : GroupData → ℕ → Looped FragmentServer → Looped FragmentServer → Type 0
+AnswersGroupRows g rows old new = (report : Report) × (report.rows ≡ rows) × AnswersGroupPlan usual_options g report old new
 
 -- the query was asked of the data over that wire, and these are the numbers
 abbrev pub GeneratedGroupAnswers : ℕ → Option (Looped FragmentServer) → GroupData → Counts → Type 0
@@ -238,6 +257,8 @@ pub record AsksGeneratedGroups (shelf shelf' : ShelfState) (inside : Option (Loo
   pub exact : QueryDecides shelf shelf' name (λ outcome. outcome ≡ reads_groups g)
   pub answers : IfOk result (GeneratedGroupAnswers persons inside g)
   pub cause : IfErr result (GeneratedGroupCause persons inside g)
+  pub asked : LoopsGenerated persons inside (AsksGroupPlan usual_options g)
+  pub replied : IfOk result (λ counts. LoopsGenerated persons inside (AnswersGroupRows g counts.rows))
   pub ends : IfErr result (EndsGroupGenerated persons inside g)
   pub complete : IfErr result (WantsMemoryGenerated persons inside g)
   pub honest : HonestGenerated persons inside result

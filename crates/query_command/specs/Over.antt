@@ -18,7 +18,7 @@ use Rattle.file_server.specs.Servers.{serving}
 use Rattle.query_command.specs.declared.generated_query.Counts.{Counts}
 use Rattle.query_command.specs.Loops.{LoopsServer, LeavesHonest}
 use Rattle.query_command.specs.Generated.{LoopsGenerated, usual_options}
-use Rattle.query_command.specs.Groups.{WritesGroupAnswer, WritesGroupAnswerFront, WritesGroupLooped, FailsGroupLooped, EndsGroupOver, CountsGroup, AsksGroupOver, FailsGroupOn}
+use Rattle.query_command.specs.Groups.{WritesGroupAnswer, WritesGroupAnswerFront, WritesGroupLooped, FailsGroupLooped, EndsGroupOver, CountsGroupOver, AsksGroupPlan, AnswersGroupPlan, AnswersGroupRows, CountsGroup, AsksGroupOver, FailsGroupOn}
 
 -- the fixed parts of a block are valid terms
 abbrev pub IsValidStep : Step → Type 0
@@ -43,6 +43,9 @@ pub record AsksGroups (server : FragmentServer) (seed fail_every : ℕ) (options
   pub cause : IfErr result (λ fault. LoopsServer server seed fail_every inside (FailsGroupLooped g options fault out out'))
   pub answer : IfOk result (λ report. WritesGroupAnswer (serving server).data_set g report.rows out.taken out'.taken)
   pub front : OnErr result (WritesGroupAnswerFront (serving server).data_set g out.taken out'.taken)
+  pub asked : LoopsServer server seed fail_every inside (AsksGroupPlan options g)
+  pub replied : IfOk result (λ report. LoopsServer server seed fail_every inside (AnswersGroupPlan options g report))
+  pub counted : options.budget < 2 ^ 63 → IfOk result (λ report. LoopsServer server seed fail_every inside (CountsGroupOver fail_every options g report))
   pub ends : AreServable (serving server).data_set → AreAskableBlocks g → options.budget < 2 ^ 63 → IfErr result (λ fault. LoopsServer server seed fail_every inside (EndsGroupOver fail_every options g fault))
   pub honest : LoopsServer server seed fail_every inside LeavesHonest
   pub output : KeepsSink out out'
@@ -54,5 +57,7 @@ pub record AsksGeneratedOver (server : FragmentServer) (persons : ℕ) (g : Grou
   pub counts : IfOk result (CountsGroup persons g)
   pub answers : IfOk result (λ counts. LoopsGenerated persons inside (AsksGroupOver g counts.rows))
   pub cause : IfErr result (λ fault. (fault ≢ client_faults.Sink) × LoopsGenerated persons inside (FailsGroupOn g fault))
+  pub asked : LoopsGenerated persons inside (AsksGroupPlan usual_options g)
+  pub replied : IfOk result (λ counts. LoopsGenerated persons inside (AnswersGroupRows g counts.rows))
   pub ends : AreServable (serving server).data_set → AreAskableBlocks g → IfErr result (λ fault. LoopsGenerated persons inside (EndsGroupOver 0 usual_options g fault))
   pub honest : LoopsServer server 0 0 inside LeavesHonest

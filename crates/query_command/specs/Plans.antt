@@ -20,7 +20,7 @@ use Rattle.tpf_client.specs.declared.options.Options.{Options}
 use Rattle.tpf_client.specs.declared.options.Report.{Report}
 use Rattle.tpf_client.specs.declared.fault.ClientFault.{ClientFault}
 use Rattle.tpf_client.specs.declared.fault.ClientFault.TheVariants as client_faults
-use Rattle.tpf_client.specs.Requests.{addresses_of}
+use Rattle.tpf_client.specs.Offers.{Publisher, Offer, publisher, addresses_of, server_offer}
 use Rattle.tpf_client.specs.Plans.{HasLongPage, IsSmallByAll}
 use Rattle.tpf_client.specs.Requested.{AnswersPlan}
 use Rattle.data_files.specs.Data.{Files, IfTold, Serves}
@@ -35,7 +35,11 @@ use Rattle.query_command.specs.Loops.{LocalView, LoopsFile, LeavesHonest, local_
 
 -- the addresses that a query asks the server of these data for: the base, and the plan of its join (Verborgh et al.)
 abbrev pub plan_of : List Triple → Config → QueryData → List Address
-plan_of triples config q = addresses_of (triples ∷ []) config q local_base 1
+plan_of triples config q = addresses_of (publisher (triples ∷ []) config) q local_base 1
+
+-- what that server offers to the query
+abbrev pub offer_of : List Triple → Config → QueryData → Offer
+offer_of triples config q = server_offer (publisher (triples ∷ []) config) q local_base
 
 -- On each link whole requests for addresses of the plan were sent, and then nothing or a front of the request for one. How often one was requested is not said here (see BoundsRequests).
 pub record SendsPlan (triples : List Triple) (config : Config) (q : QueryData) (wire : WireState) : Type 0 where
@@ -63,11 +67,11 @@ RequestsInside options (Some after) triples config q = BoundsRequests options tr
 -- Each address of the plan was answered on the wire that was made as often as the plan has it, or more, and was requested no more than so often for each time that it may be tried.
 abbrev pub RepliedInside : Option Files → LocalView → Option (Looped FragmentServer) → Report → List Triple → QueryData → Type 0
 RepliedInside told local inside report triples q =
-    LoopsFile told local inside (λ old new. AnswersPlan (triples ∷ []) (local_config local.page_size) local.options q local_base report (wire_of old) (wire_of new))
+    LoopsFile told local inside (λ old new. AnswersPlan (offer_of triples (local_config local.page_size) q) local.options report (wire_of old) (wire_of new))
 
 -- The same for an answer of so many rows, with the bounds of a call where no option is given.
 abbrev pub RepliesRows : List Triple → Config → QueryData → ℕ → Looped FragmentServer → Looped FragmentServer → Type 0
-RepliesRows triples config q rows old new = (report : Report) × (report.rows ≡ rows) × AnswersPlan (triples ∷ []) config usual_options q local_base report (wire_of old) (wire_of new)
+RepliesRows triples config q rows old new = (report : Report) × (report.rows ≡ rows) × AnswersPlan (offer_of triples config q) usual_options report (wire_of old) (wire_of new)
 
 -- on the wire that was made for the generated data
 abbrev pub RepliedGenerated : ℕ → Option (Looped FragmentServer) → Counts → List Triple → QueryData → Type 0
@@ -95,17 +99,21 @@ pub record PassesBudget (n retries budget addresses : ℕ) : Type 0 where
   pub some : 2 ≤ n → budget < addresses + addresses / (n - 1)
   pub tries : budget < (retries + 1) * addresses
 
--- which faults may come: a request fails too often, but is never stalled; a body of the plan is too long; the budget is too small; the output fails; memory is wanting
+-- Which faults may come of a call that has these addresses to ask for: a request fails too often, but is never stalled; a body of the plan is too long; the budget is too small; the output fails; memory is wanting. No body is no page, and no page tells another version.
+abbrev pub MayEndBy : ℕ → Options → Offer → List Address → ClientFault → Type 0
+MayEndBy n options offer plan client_faults.Exchange = FailsOften n options.retries (length plan)
+MayEndBy n options offer plan client_faults.Stalled = ⊥
+MayEndBy n options offer plan (client_faults.Cut received) = FailsOften n options.retries (length plan)
+MayEndBy n options offer plan (client_faults.Reply fault received) = (fault ≡ refusals.TooLong) × HasLongPage offer options.max_body plan received
+MayEndBy n options offer plan (client_faults.Page fault body) = ⊥
+MayEndBy n options offer plan (client_faults.Changed first other) = ⊥
+MayEndBy n options offer plan (client_faults.Budget most) = (most ≡ options.budget) × PassesBudget n options.retries options.budget (length plan)
+MayEndBy n options offer plan client_faults.Sink = Unit {0}
+MayEndBy n options offer plan client_faults.OutOfMemory = Unit {0}
+
+-- of a query
 abbrev pub MayEnd : ℕ → Options → List Triple → Config → QueryData → ClientFault → Type 0
-MayEnd n options triples config q client_faults.Exchange = FailsOften n options.retries (length (plan_of triples config q))
-MayEnd n options triples config q client_faults.Stalled = ⊥
-MayEnd n options triples config q (client_faults.Cut received) = FailsOften n options.retries (length (plan_of triples config q))
-MayEnd n options triples config q (client_faults.Reply fault received) = (fault ≡ refusals.TooLong) × HasLongPage (triples ∷ []) config options.max_body (plan_of triples config q) received
-MayEnd n options triples config q (client_faults.Page fault body) = ⊥
-MayEnd n options triples config q (client_faults.Changed first other) = ⊥
-MayEnd n options triples config q (client_faults.Budget most) = (most ≡ options.budget) × PassesBudget n options.retries options.budget (length (plan_of triples config q))
-MayEnd n options triples config q client_faults.Sink = Unit {0}
-MayEnd n options triples config q client_faults.OutOfMemory = Unit {0}
+MayEnd n options triples config q fault = MayEndBy n options (offer_of triples config q) (plan_of triples config q) fault
 
 -- how a call over the wire ended
 abbrev pub EndsAsPlanned : ℕ → Options → List Triple → Config → QueryData → Result Report ClientFault → Type 0
@@ -177,11 +185,15 @@ HonestGenerated persons inside answer = WhereMade answer (LoopsGenerated persons
 -- ---- completeness
 
 -- None of the causes is there: no dial fails or too few do, each body of the plan is within the limit, and the addresses with the requests that fail among them are within the budget.
-pub record PlanIsWithin (n : ℕ) (options : Options) (triples : List Triple) (config : Config) (q : QueryData) : Type 0 where
-  pub calm : (n ≡ 0) ⊎ (length (plan_of triples config q) < (n - 1) * (options.retries + 1))
-  pub small : AllByRecursion (IsSmallByAll (triples ∷ []) config options.max_body) (plan_of triples config q)
-  pub none : n ≡ 0 → length (plan_of triples config q) ≤ options.budget
-  pub some : 2 ≤ n → length (plan_of triples config q) + length (plan_of triples config q) / (n - 1) ≤ options.budget
+pub record IsWithin (n : ℕ) (options : Options) (server : Publisher) (plan : List Address) : Type 0 where
+  pub calm : (n ≡ 0) ⊎ (length plan < (n - 1) * (options.retries + 1))
+  pub small : AllByRecursion (IsSmallByAll options.max_body server) plan
+  pub none : n ≡ 0 → length plan ≤ options.budget
+  pub some : 2 ≤ n → length plan + length plan / (n - 1) ≤ options.budget
+
+-- of a query
+abbrev pub PlanIsWithin : ℕ → Options → List Triple → Config → QueryData → Type 0
+PlanIsWithin n options triples config q = IsWithin n options (publisher (triples ∷ []) config) (plan_of triples config q)
 
 -- ---- what the query of a file keeps to
 

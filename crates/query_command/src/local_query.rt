@@ -6,7 +6,7 @@ ghost use Rattle.file_server.specs.Servers.{serving};
 ghost use Rattle.plan_laws.specs.Fitting.{AreServable, IsAskable};
 ghost use Rattle.tpf_client.specs.Requested.{AnswersPlan};
 ghost use Rattle.query_command.specs.Loops.{LoopsServer, LeavesHonest, WritesLooped, FailsLooped, WritesAnswer, WritesAnswerFront, local_view, local_base, wire_of};
-ghost use Rattle.query_command.specs.Plans.{SendsPlan, BoundsRequests, EndsAsPlanned};
+ghost use Rattle.query_command.specs.Plans.{SendsPlan, BoundsRequests, EndsAsPlanned, offer_of};
 ghost use Rattle.query_command.specs.Groups.{FileAsked};
 
 use crate::AnswerFault;
@@ -97,8 +97,8 @@ pub(crate) fn ask_server<R: Wait, K: Sink>(
     ensures requested { LoopsServer server asked.now.seed asked.now.fail_every inside.new (λ old new.
         BoundsRequests asked.now.options (serving server).data_set (serving server).config query.now (wire_of new)) }
     ensures replied { IfOk result (λ report. LoopsServer server asked.now.seed asked.now.fail_every inside.new
-        (λ old new. AnswersPlan ((serving server).data_set ∷ []) (serving server).config asked.now.options
-        query.now local_base report (wire_of old) (wire_of new))) }
+        (λ old new. AnswersPlan (offer_of (serving server).data_set (serving server).config query.now) asked.now.options
+        report (wire_of old) (wire_of new))) }
     ensures ends { AreServable (serving server).data_set → AllByRecursion IsAskable query.now.patterns
         → asked.now.options.budget < 2 ^ 63 → EndsAsPlanned asked.now.fail_every asked.now.options
         (serving server).data_set (serving server).config query.now result }

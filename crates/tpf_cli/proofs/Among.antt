@@ -12,6 +12,7 @@ use Rattle.tpf_base.specs.declared.fault.Fault.TheVariants as sinks
 use Rattle.bgp_core.specs.Queries.{QueryData}
 use Rattle.group_query.specs.Trees.{GroupData}
 use Rattle.tpf_client.specs.declared.options.Options.{Options}
+use Rattle.tpf_client.specs.Offers.{Offer}
 use Rattle.tpf_client.specs.declared.options.Report.{Report}
 use Rattle.tpf_client.specs.declared.fault.ClientFault.{ClientFault}
 use Rattle.tpf_client.specs.declared.fault.ClientFault.TheVariants as clients
@@ -22,10 +23,10 @@ use Rattle.data_files.specs.declared.fault.QueryFileFault.TheVariants as query_f
 use Rattle.query_command.specs.declared.fault.AnswerFault.{AnswerFault}
 use Rattle.query_command.specs.declared.fault.AnswerFault.TheVariants as answers
 use Rattle.query_command.specs.declared.generated_query.Counts.{Counts}
-use Rattle.query_command.specs.Groups.{MayEndGroup, FileAsked, ServerAsked, GeneratedAsked, Plain, Groups}
+use Rattle.query_command.specs.Groups.{group_plan_of, group_offer_of, MayEndGroup, FileAsked, ServerAsked, GeneratedAsked, Plain, Groups}
 use Rattle.query_command.specs.Generated.{usual_options, GeneratedCause}
 use Rattle.query_command.specs.Loops.{LocalView}
-use Rattle.query_command.specs.Plans.{MayEnd, EndsGenerated}
+use Rattle.query_command.specs.Plans.{plan_of, offer_of, MayEnd, MayEndBy, EndsGenerated}
 use Rattle.serve_command.specs.declared.fault.ServiceFault.{ServiceFault}
 use Rattle.serve_command.specs.declared.fault.ServiceFault.TheVariants as services
 use Rattle.command_words.specs.Commands.{Command, local, query, serve, make}
@@ -64,29 +65,26 @@ module _ (statuses : List ℕ) (memory : IsAmong statuses 8) where
 
   -- in one process
   of_inside : (n : ℕ) → (0 < n → IsAmong statuses 5) → IsAmong statuses 6 → IsAmong statuses 7 → IsAmong statuses 9
+      → (options : Options) (offer : Offer) (plan : List Address) (fault : ClientFault) → MayEndBy n options offer plan fault → IsAmong statuses (client_status fault)
+  of_inside n exchange reply budget sink options offer plan clients.Exchange may = exchange may.some
+  of_inside n exchange reply budget sink options offer plan clients.Stalled may = absurd may
+  of_inside n exchange reply budget sink options offer plan (clients.Cut received) may = exchange may.some
+  of_inside n exchange reply budget sink options offer plan (clients.Reply fault received) may = reply
+  of_inside n exchange reply budget sink options offer plan (clients.Page fault body) may = absurd may
+  of_inside n exchange reply budget sink options offer plan (clients.Changed first other) may = absurd may
+  of_inside n exchange reply budget sink options offer plan (clients.Budget most) may = budget
+  of_inside n exchange reply budget sink options offer plan clients.Sink may = sink
+  of_inside n exchange reply budget sink options offer plan clients.OutOfMemory may = memory
+
+  -- of a query
+  of_asked : (n : ℕ) → (0 < n → IsAmong statuses 5) → IsAmong statuses 6 → IsAmong statuses 7 → IsAmong statuses 9
       → (options : Options) (triples : List Triple) (config : Config) (q : QueryData) (fault : ClientFault) → MayEnd n options triples config q fault → IsAmong statuses (client_status fault)
-  of_inside n exchange reply budget sink options triples config q clients.Exchange may = exchange may.some
-  of_inside n exchange reply budget sink options triples config q clients.Stalled may = absurd may
-  of_inside n exchange reply budget sink options triples config q (clients.Cut received) may = exchange may.some
-  of_inside n exchange reply budget sink options triples config q (clients.Reply fault received) may = reply
-  of_inside n exchange reply budget sink options triples config q (clients.Page fault body) may = absurd may
-  of_inside n exchange reply budget sink options triples config q (clients.Changed first other) may = absurd may
-  of_inside n exchange reply budget sink options triples config q (clients.Budget most) may = budget
-  of_inside n exchange reply budget sink options triples config q clients.Sink may = sink
-  of_inside n exchange reply budget sink options triples config q clients.OutOfMemory may = memory
+  of_asked n exchange reply budget sink options triples config q fault may = of_inside n exchange reply budget sink options (offer_of triples config q) (plan_of triples config q) fault may
 
   -- the same of a query with groups
   of_groups : (n : ℕ) → (0 < n → IsAmong statuses 5) → IsAmong statuses 6 → IsAmong statuses 7 → IsAmong statuses 9
       → (options : Options) (triples : List Triple) (config : Config) (g : GroupData) (fault : ClientFault) → MayEndGroup n options triples config g fault → IsAmong statuses (client_status fault)
-  of_groups n exchange reply budget sink options triples config g clients.Exchange may = exchange may
-  of_groups n exchange reply budget sink options triples config g clients.Stalled may = absurd may
-  of_groups n exchange reply budget sink options triples config g (clients.Cut received) may = exchange may
-  of_groups n exchange reply budget sink options triples config g (clients.Reply fault received) may = reply
-  of_groups n exchange reply budget sink options triples config g (clients.Page fault body) may = absurd may
-  of_groups n exchange reply budget sink options triples config g (clients.Changed first other) may = absurd may
-  of_groups n exchange reply budget sink options triples config g (clients.Budget most) may = budget
-  of_groups n exchange reply budget sink options triples config g clients.Sink may = sink
-  of_groups n exchange reply budget sink options triples config g clients.OutOfMemory may = memory
+  of_groups n exchange reply budget sink options triples config g fault may = of_inside n exchange reply budget sink options (group_offer_of triples config g) (group_plan_of triples config g) fault may
 
 -- ---- a query of a file in one process
 
@@ -138,7 +136,7 @@ module _ (a : Around) where
   among_file view (Err (answers.Client fault)) small (Plain h) =
       let b = view.fail_every == 0 in
       let l = h.planned small in
-      of_inside (local_statuses b) (all_8 b) view.fail_every (some_5 view.fail_every) (all_6 b) (all_7 b) (all_9 b) view.options _ _ l.loops.says.q fault l.loops.says.ends
+      of_asked (local_statuses b) (all_8 b) view.fail_every (some_5 view.fail_every) (all_6 b) (all_7 b) (all_9 b) view.options _ _ l.loops.says.q fault l.loops.says.ends
   among_file view (Err (answers.Client fault)) small (Groups g h) =
       let b = view.fail_every == 0 in
       let l = h.ends small in
@@ -187,7 +185,7 @@ module _ (a : Around) where
     among_fault : (fault : AnswerFault) → GeneratedCause a.shelf a.shelf' persons name inside fault → EndsGenerated a.shelf.told persons name inside (Err fault) → IsAmong counted_statuses (fault_status fault)
     among_fault (answers.Data fault) cause planned = subst (λ (f : DataFault). IsAmong counted_statuses (data_status f)) (sym cause.0) refl
     among_fault (answers.Query fault) cause planned = of_query counted_statuses refl refl refl fault
-    among_fault (answers.Client fault) cause planned = of_inside counted_statuses refl 0 no_dial refl refl refl usual_options _ _ planned.loops.says.q fault planned.loops.says.ends
+    among_fault (answers.Client fault) cause planned = of_asked counted_statuses refl 0 no_dial refl refl refl usual_options _ _ planned.loops.says.q fault planned.loops.says.ends
 
     among_asked : (fault : AnswerFault) → GeneratedAsked a.shelf a.shelf' inside persons name (Err fault) → IsAmong counted_statuses (fault_status fault)
     among_asked fault (Plain h) = among_fault fault h.cause h.planned

@@ -1,4 +1,6 @@
 pub mod Typed
+pub mod Statuses
+pub mod Tables
 pub mod Ranges
 pub mod Said
 pub mod Grouped
@@ -7,4 +9,5 @@ pub mod Commanded
 pub mod Among
 pub mod Refused
 pub mod Completed
+pub mod GroupRequests
 pub mod Promised

@@ -1,5 +1,5 @@
 -- Which status may come of a run, and when a run succeeds.
-use Rattle.std.proofs.Common.{ℕ, ◌≡◌, ◌⊎◌, ◌<◌, ◌≤◌, ◌^◌, inl, inr, List, length, Option, Some, None, Result, Ok, Err, IfErr, refl, sym, subst, arith}
+use Rattle.std.proofs.Common.{ℕ, ◌≡◌, ◌<◌, ◌≤◌, ◌^◌, inl, inr, List, length, Option, Some, None, Result, Ok, Err, IfErr, refl, sym, subst, arith}
 use Rattle.rdf_terms.specs.declared.term.Triple.{Triple}
 use Rattle.tpf_base.specs.Addresses.{Address, authority_of}
 use Rattle.tpf_base.specs.Causes.{Rose}
@@ -10,12 +10,11 @@ use Rattle.template_fill.specs.Metadata.{Config}
 use Rattle.triple_table.specs.declared.choice.Choice.{Choice}
 use Rattle.bgp_core.specs.Queries.{QueryData}
 use Rattle.tpf_client.specs.declared.options.Options.{Options}
+use Rattle.tpf_client.specs.Offers.{Offer}
 use Rattle.tpf_client.specs.declared.options.Report.{Report}
-use Rattle.tpf_client.specs.declared.fault.ClientFault.{ClientFault}
 use Rattle.tpf_client.specs.declared.fault.ClientFault.TheVariants as clients
 use Rattle.data_files.specs.declared.fault.DataFault.{DataFault}
 use Rattle.data_files.specs.declared.fault.DataFault.TheVariants as data_faults
-use Rattle.data_files.specs.declared.fault.QueryFileFault.{QueryFileFault}
 use Rattle.data_files.specs.declared.fault.QueryFileFault.TheVariants as query_faults
 use Rattle.data_files.specs.Data.{IfTold, Serves, served}
 use Rattle.data_files.specs.Kept.{KeepsShelf, KeepsSink}
@@ -28,7 +27,7 @@ use Rattle.query_command.specs.Groups.{FileAsked, ServerAsked, GeneratedAsked, P
 use Rattle.query_command.specs.declared.generated_query.Counts.{Counts}
 use Rattle.query_command.specs.Generated.{usual_options}
 use Rattle.query_command.specs.Loops.{LocalView, local_config}
-use Rattle.query_command.specs.Plans.{plan_of, EndsCounted, MayEnd, MayFail, OfFiles, OfGenerated, PlanIsWithin}
+use Rattle.query_command.specs.Plans.{plan_of, offer_of, EndsCounted, MayFail, OfFiles, OfGenerated, PlanIsWithin}
 use Rattle.query_command.proofs.Complete.{data_memory}
 use Rattle.serve_command.specs.declared.fault.ServiceFault.{ServiceFault}
 use Rattle.serve_command.specs.declared.fault.ServiceFault.TheVariants as services
@@ -36,99 +35,31 @@ use Rattle.serve_command.specs.Services.{ServesFile}
 use Rattle.command_words.specs.declared.command.ClientWords.{ClientWords}
 use Rattle.command_words.specs.Commands.{Command, local, query, serve, make}
 use Rattle.tpf_cli.specs.Endings as ends
-use Rattle.tpf_cli.specs.Endings.{EndOfRun, usage, no_words, answered, made, counted, data_status, query_status, client_status, fault_status, answer_status, service_status, made_status, counted_status, status_of, Says}
+use Rattle.tpf_cli.specs.Endings.{EndOfRun, usage, no_words, answered, made, counted, data_status, fault_status, answer_status, service_status, made_status, counted_status, status_of, Says}
 use Rattle.tpf_cli.specs.Ranges.{IsInRange, IsTyped}
-use Rattle.tpf_cli.specs.Runs.{Around, Writes, WritesNumbers, CountsFile, Does, DoesOf, unwritten, wire_inside, options_of, view_of, config_by}
+use Rattle.tpf_cli.specs.Runs.{Around, Writes, WritesNumbers, CountsFile, Does, DoesOf, wire_inside, options_of, view_of, config_by}
 use Rattle.tpf_cli.proofs.Among.{run_among}
+use Rattle.tpf_cli.proofs.Statuses.{known_fault}
+use Rattle.tpf_cli.proofs.Tables.{done_table, memory_table, data_table, query_table, client_table, cut_table}
 use Rattle.tpf_cli.proofs.Grouped.{no_plain, file_reads, file_output, server_reads, server_output, generated_reads}
 use Rattle.tpf_cli.proofs.Refused.{run_group_table, run_refusal}
 use Rattle.tpf_cli.proofs.Completed.{wanting_done, numbers_done, run_groups_done}
+use Rattle.tpf_cli.proofs.GroupRequests.{run_group_requests}
 use Rattle.tpf_cli.specs.Promises.{Keeps, KeepsTable, KeepsTableOf, TellsRequests, TellsRequestsOf, IsDone, SucceedsOf}
 
 -- ---- the table
 
 module _ (n : ℕ) (options : Options) (triples : List Triple) (config : Config) (q : QueryData) where
-  -- a status that the table does not speak of
-  other_status : (status : ℕ) → (status ≤ 4) ⊎ ((8 ≤ status) × (status ≤ 10)) → KeepsTable n options triples config q status
-  other_status status (inl low) = record {
-    exchange = λ e. absurd (omega (arith, low, e));
-    reply = λ e. absurd (omega (arith, low, e));
-    budget = λ e. absurd (omega (arith, low, e));
-    changed = λ e. omega (arith, low, e);
-    wire = λ e. omega (arith, low, e);
-  }
-  other_status status (inr between) = record {
-    exchange = λ e. absurd (omega (arith, between, e));
-    reply = λ e. absurd (omega (arith, between, e));
-    budget = λ e. absurd (omega (arith, between, e));
-    changed = λ e. omega (arith, between, e);
-    wire = λ e. omega (arith, between, e);
-  }
+  abbrev offered : Offer
+  offered = offer_of triples config q
 
-  done_table : KeepsTable n options triples config q 0
-  done_table = other_status 0 (inl (omega arith))
-
-  memory_table : KeepsTable n options triples config q 8
-  memory_table = other_status 8 (inr (omega arith, omega arith))
-
-  data_table : (fault : DataFault) → KeepsTable n options triples config q (data_status fault)
-  data_table data_faults.TooLong = other_status 3 (inl (omega arith))
-  data_table (data_faults.Bad line why) = other_status 3 (inl (omega arith))
-  data_table (data_faults.GenidClash label) = other_status 3 (inl (omega arith))
-  data_table data_faults.TooMany = other_status 3 (inl (omega arith))
-  data_table data_faults.File = other_status 10 (inr (omega arith, omega arith))
-  data_table data_faults.OutOfMemory = memory_table
-
-  query_table : (fault : QueryFileFault) → KeepsTable n options triples config q (query_status fault)
-  query_table (query_faults.Bad at why) = other_status 4 (inl (omega arith))
-  query_table query_faults.File = other_status 10 (inr (omega arith, omega arith))
-  query_table query_faults.OutOfMemory = memory_table
-
-  client_table : (fault : ClientFault) → MayEnd n options triples config q fault → KeepsTable n options triples config q (client_status fault)
-  client_table clients.Exchange h = record { exchange = λ e. h; reply = λ e. absurd (omega (arith, e)); budget = λ e. absurd (omega (arith, e)); changed = λ e. omega (arith, e); wire = λ e. omega (arith, e) }
-  client_table clients.Stalled h = absurd h
-  client_table (clients.Cut received) h = record { exchange = λ e. h; reply = λ e. absurd (omega (arith, e)); budget = λ e. absurd (omega (arith, e)); changed = λ e. omega (arith, e); wire = λ e. omega (arith, e) }
-  client_table (clients.Reply fault received) h = record { exchange = λ e. absurd (omega (arith, e)); reply = λ e. (received, h.1); budget = λ e. absurd (omega (arith, e)); changed = λ e. omega (arith, e); wire = λ e. omega (arith, e) }
-  client_table (clients.Page fault body) h = absurd h
-  client_table (clients.Changed first other) h = absurd h
-  client_table (clients.Budget most) h = record { exchange = λ e. absurd (omega (arith, e)); reply = λ e. absurd (omega (arith, e)); budget = λ e. h.1; changed = λ e. omega (arith, e); wire = λ e. omega (arith, e) }
-  client_table clients.Sink h = other_status 9 (inr (omega arith, omega arith))
-  client_table clients.OutOfMemory h = memory_table
+  abbrev planned : List Address
+  planned = plan_of triples config q
 
   fault_table : (fault : AnswerFault) → MayFail n options triples config q fault → KeepsTable n options triples config q (fault_status fault)
-  fault_table (answers.Data fault) h = data_table fault
-  fault_table (answers.Query fault) h = query_table fault
-  fault_table (answers.Client fault) h = client_table fault h
-
--- the statuses of faults
-known_data : (fault : DataFault) → (3 ≤ data_status fault) × (data_status fault ≤ 11)
-known_data data_faults.TooLong = (omega arith, omega arith)
-known_data (data_faults.Bad line why) = (omega arith, omega arith)
-known_data (data_faults.GenidClash label) = (omega arith, omega arith)
-known_data data_faults.TooMany = (omega arith, omega arith)
-known_data data_faults.File = (omega arith, omega arith)
-known_data data_faults.OutOfMemory = (omega arith, omega arith)
-
-known_query : (fault : QueryFileFault) → (3 ≤ query_status fault) × (query_status fault ≤ 11)
-known_query (query_faults.Bad at why) = (omega arith, omega arith)
-known_query query_faults.File = (omega arith, omega arith)
-known_query query_faults.OutOfMemory = (omega arith, omega arith)
-
-known_client : (fault : ClientFault) → (3 ≤ client_status fault) × (client_status fault ≤ 11)
-known_client clients.Exchange = (omega arith, omega arith)
-known_client clients.Stalled = (omega arith, omega arith)
-known_client (clients.Cut received) = (omega arith, omega arith)
-known_client (clients.Reply fault received) = (omega arith, omega arith)
-known_client (clients.Page fault body) = (omega arith, omega arith)
-known_client (clients.Changed first other) = (omega arith, omega arith)
-known_client (clients.Budget most) = (omega arith, omega arith)
-known_client clients.Sink = (omega arith, omega arith)
-known_client clients.OutOfMemory = (omega arith, omega arith)
-
-known_fault : (fault : AnswerFault) → (3 ≤ fault_status fault) × (fault_status fault ≤ 11)
-known_fault (answers.Data fault) = known_data fault
-known_fault (answers.Query fault) = known_query fault
-known_fault (answers.Client fault) = known_client fault
+  fault_table (answers.Data fault) h = data_table n options offered planned fault
+  fault_table (answers.Query fault) h = query_table n options offered planned fault
+  fault_table (answers.Client fault) h = client_table n options offered planned fault h
 
 not_twelve : (answer : Result Report AnswerFault) → answer_status answer ≡ 12 → ⊥
 not_twelve (Ok report) e = omega (arith, e)
@@ -138,7 +69,7 @@ module _ (a : Around) where
   -- ---- a query in one process
 
   file_table : (view : LocalView) (answer : Result Report AnswerFault) → view.options.budget < 2 ^ 63 → FileAsked a.shelf a.shelf' a.out a.out' (wire_inside a.inside') view answer → OfFiles a.shelf.told view (λ triples q. KeepsTable view.fail_every view.options triples (local_config view.page_size) q (answer_status answer))
-  file_table view (Ok report) small h = λ files is triples q serves holds. done_table view.fail_every view.options triples (local_config view.page_size) q
+  file_table view (Ok report) small h = λ files is triples q serves holds. done_table view.fail_every view.options (offer_of triples (local_config view.page_size) q) (plan_of triples (local_config view.page_size) q)
   file_table view (Err fault) small (Groups g h) = λ files is triples q serves holds. absurd (no_plain a.shelf.told view.query g h.is_read files is q holds)
   file_table view (Err fault) small (Plain h) = λ files is triples q serves holds. fault_table view.fail_every view.options triples (local_config view.page_size) q fault (h.ends small files is triples q serves holds)
 
@@ -148,15 +79,10 @@ module _ (a : Around) where
   file_succeeds view (Err fault) small (Groups g h) quiet fine = λ files is triples q serves holds within. absurd (no_plain a.shelf.told view.query g h.is_read files is q holds)
   file_succeeds view (Err fault) small (Plain h) quiet fine = λ files is triples q serves holds within. wanting_done fault (h.complete quiet fine small files is triples q serves holds within)
 
-  -- a line that was not written is a fault of the output, or want of memory
-  cut_table : (triples : List Triple) (q : QueryData) (cause : Fault) → KeepsTable 0 usual_options triples (local_config 100) q (fault_status (unwritten cause))
-  cut_table triples q sinks.Failed = other_status 0 usual_options triples (local_config 100) q 9 (inr (omega arith, omega arith))
-  cut_table triples q sinks.OutOfMemory = memory_table 0 usual_options triples (local_config 100) q
-
   numbers_table : (persons : ℕ) (name : List ℕ) (came : Result Counts AnswerFault) (result : Result (Unit {0}) AnswerFault) → WritesNumbers a.out a.out' came result
       → OfGenerated a.shelf.told persons name (λ triples q. EndsCounted usual_options triples (local_config 100) q came) → OfGenerated a.shelf.told persons name (λ triples q. KeepsTable 0 usual_options triples (local_config 100) q (counted_status result))
-  numbers_table persons name came (Ok nothing) line ends = λ files is triples q serves holds. done_table 0 usual_options triples (local_config 100) q
-  numbers_table persons name (Ok counts) (Err fault) line ends = λ files is triples q serves holds. subst (λ (f : AnswerFault). KeepsTable 0 usual_options triples (local_config 100) q (fault_status f)) (sym line.is) (cut_table triples q line.cause)
+  numbers_table persons name came (Ok nothing) line ends = λ files is triples q serves holds. done_table 0 usual_options (offer_of triples (local_config 100) q) (plan_of triples (local_config 100) q)
+  numbers_table persons name (Ok counts) (Err fault) line ends = λ files is triples q serves holds. subst (λ (f : AnswerFault). KeepsTable 0 usual_options triples (local_config 100) q (fault_status f)) (sym line.is) (cut_table 0 usual_options (offer_of triples (local_config 100) q) (plan_of triples (local_config 100) q) line.cause)
   numbers_table persons name (Err cause) (Err fault) line ends = λ files is triples q serves holds.
       subst (λ (f : AnswerFault). KeepsTable 0 usual_options triples (local_config 100) q (fault_status f)) line.0 (fault_table 0 usual_options triples (local_config 100) q cause (ends files is triples q serves holds))
 
@@ -264,11 +190,11 @@ module _ (a : Around) where
 
   memory_keeps : (command : Option Command) → KeepsTableOf a command 8
   memory_keeps None = tt
-  memory_keeps (Some (local name query_name choice page client seed fail_every)) = λ files is triples q serves holds. memory_table fail_every (options_of client) triples (local_config page) q
+  memory_keeps (Some (local name query_name choice page client seed fail_every)) = λ files is triples q serves holds. memory_table fail_every (options_of client) (offer_of triples (local_config page) q) (plan_of triples (local_config page) q)
   memory_keeps (Some (query url query_name client)) = λ e. omega (arith, e)
   memory_keeps (Some (serve name base choice page stop_after reload)) = tt
   memory_keeps (Some (make count None)) = tt
-  memory_keeps (Some (make count (Some name))) = λ files is triples q serves holds. memory_table 0 usual_options triples (local_config 100) q
+  memory_keeps (Some (make count (Some name))) = λ files is triples q serves holds. memory_table 0 usual_options (offer_of triples (local_config 100) q) (plan_of triples (local_config 100) q)
 
   memory_succeeds : (command : Option Command) → SucceedsOf a command 8
   memory_succeeds None = tt
@@ -421,6 +347,7 @@ module _ (a : Around) where
     groups = run_group_table a command ranged end result err err' does says;
     refusal = run_refusal a command end result err err' does says;
     requests = run_requests command ranged end result err err' does says;
+    group_requests = run_group_requests a command ranged end result err err' does says;
     complete = run_succeeds command ranged end result err err' does says;
     groups_complete = run_groups_done a command ranged end result err err' does says;
     shelf = run_shelf command end does;

@@ -20,7 +20,6 @@ use Rattle.tpf_client.specs.declared.fault.ClientFault.{ClientFault}
 use Rattle.tpf_client.specs.declared.fault.ClientFault.TheVariants as clients
 use Rattle.data_files.specs.declared.fault.DataFault.{DataFault}
 use Rattle.data_files.specs.declared.fault.DataFault.TheVariants as data_faults
-use Rattle.data_files.specs.declared.fault.QueryFileFault.{QueryFileFault}
 use Rattle.data_files.specs.declared.fault.QueryFileFault.TheVariants as query_faults
 use Rattle.data_files.specs.Data.{IfTold, served}
 use Rattle.data_files.specs.Queries.{HasQueryFault, reads_groups, refused}
@@ -32,58 +31,17 @@ use Rattle.query_command.specs.declared.fault.AnswerFault.TheVariants as answers
 use Rattle.query_command.specs.declared.generated_query.Counts.{Counts}
 use Rattle.query_command.specs.Generated.{usual_options}
 use Rattle.query_command.specs.Loops.{LocalView, local_config}
-use Rattle.query_command.specs.Groups.{MayEndGroup, FileAsked, ServerAsked, GeneratedAsked, Plain, Groups}
+use Rattle.query_command.specs.Groups.{group_plan_of, group_offer_of, MayEndGroup, FileAsked, ServerAsked, GeneratedAsked, Plain, Groups}
 use Rattle.command_words.specs.Commands.{Command, local, query, serve, make}
 use Rattle.tpf_cli.specs.Endings as ends
-use Rattle.tpf_cli.specs.Endings.{EndOfRun, usage, no_words, answered, made, counted, data_status, query_status, client_status, fault_status, answer_status, counted_status, status_of, Says}
+use Rattle.tpf_cli.specs.Endings.{EndOfRun, usage, no_words, answered, made, counted, data_status, client_status, fault_status, answer_status, counted_status, status_of, Says}
 use Rattle.tpf_cli.specs.Ranges.{IsInRange}
 use Rattle.tpf_cli.specs.Runs.{Around, WritesNumbers, CountsFile, IsRead, GivesEnd, Does, DoesOf, unwritten, wire_inside, options_of, view_of}
 use Rattle.tpf_cli.specs.Promises.{KeepsGroupTable, KeepsGroupTableOf, OfGroupFiles, OfGroupGenerated, RefusesBy, RefusesOf}
+use Rattle.tpf_cli.proofs.Tables.{done_table, memory_table, data_table, query_table, client_table, cut_table}
 use Rattle.tpf_cli.proofs.Grouped.{no_groups, file_gives, server_gives}
 
 -- ---- the table
-
-module _ (n : ℕ) (options : Options) (triples : List Triple) (config : Config) (g : GroupData) where
-  -- a status that the table does not speak of
-  other_group : (status : ℕ) → (status ≤ 4) ⊎ ((8 ≤ status) × (status ≤ 10)) → KeepsGroupTable n options triples config g status
-  other_group status (inl low) = record { exchange = λ e. absurd (omega (arith, low, e)); reply = λ e. absurd (omega (arith, low, e)); budget = λ e. absurd (omega (arith, low, e)); changed = λ e. omega (arith, low, e); wire = λ e. omega (arith, low, e) }
-  other_group status (inr between) =
-      record { exchange = λ e. absurd (omega (arith, between, e)); reply = λ e. absurd (omega (arith, between, e)); budget = λ e. absurd (omega (arith, between, e)); changed = λ e. omega (arith, between, e); wire = λ e. omega (arith, between, e) }
-
-  done_group : KeepsGroupTable n options triples config g 0
-  done_group = other_group 0 (inl (omega arith))
-
-  memory_group : KeepsGroupTable n options triples config g 8
-  memory_group = other_group 8 (inr (omega arith, omega arith))
-
-  data_group : (fault : DataFault) → KeepsGroupTable n options triples config g (data_status fault)
-  data_group data_faults.TooLong = other_group 3 (inl (omega arith))
-  data_group (data_faults.Bad line why) = other_group 3 (inl (omega arith))
-  data_group (data_faults.GenidClash label) = other_group 3 (inl (omega arith))
-  data_group data_faults.TooMany = other_group 3 (inl (omega arith))
-  data_group data_faults.File = other_group 10 (inr (omega arith, omega arith))
-  data_group data_faults.OutOfMemory = memory_group
-
-  query_group : (fault : QueryFileFault) → KeepsGroupTable n options triples config g (query_status fault)
-  query_group (query_faults.Bad at why) = other_group 4 (inl (omega arith))
-  query_group query_faults.File = other_group 10 (inr (omega arith, omega arith))
-  query_group query_faults.OutOfMemory = memory_group
-
-  client_group : (fault : ClientFault) → MayEndGroup n options triples config g fault → KeepsGroupTable n options triples config g (client_status fault)
-  client_group clients.Exchange h = record { exchange = λ e. h; reply = λ e. absurd (omega (arith, e)); budget = λ e. absurd (omega (arith, e)); changed = λ e. omega (arith, e); wire = λ e. omega (arith, e) }
-  client_group clients.Stalled h = absurd h
-  client_group (clients.Cut received) h = record { exchange = λ e. h; reply = λ e. absurd (omega (arith, e)); budget = λ e. absurd (omega (arith, e)); changed = λ e. omega (arith, e); wire = λ e. omega (arith, e) }
-  client_group (clients.Reply fault received) h = record { exchange = λ e. absurd (omega (arith, e)); reply = λ e. (received, h.1); budget = λ e. absurd (omega (arith, e)); changed = λ e. omega (arith, e); wire = λ e. omega (arith, e) }
-  client_group (clients.Page fault body) h = absurd h
-  client_group (clients.Changed first other) h = absurd h
-  client_group (clients.Budget most) h = record { exchange = λ e. absurd (omega (arith, e)); reply = λ e. absurd (omega (arith, e)); budget = λ e. h.1; changed = λ e. omega (arith, e); wire = λ e. omega (arith, e) }
-  client_group clients.Sink h = other_group 9 (inr (omega arith, omega arith))
-  client_group clients.OutOfMemory h = memory_group
-
-  -- a line that was not written
-  cut_group : (cause : Fault) → KeepsGroupTable n options triples config g (fault_status (unwritten cause))
-  cut_group sinks.Failed = other_group 9 (inr (omega arith, omega arith))
-  cut_group sinks.OutOfMemory = memory_group
 
 pub same_data : (one other : List Triple) → served one ≡ served other → one ≡ other
 same_data one other e = cc
@@ -100,35 +58,35 @@ module _ (a : Around) where
   module _ (view : LocalView) where
     group_file : (answer : Result Report AnswerFault) → view.options.budget < 2 ^ 63 → FileAsked a.shelf a.shelf' a.out a.out' (wire_inside a.inside') view answer
         → OfGroupFiles a.shelf.told view (λ triples g. KeepsGroupTable view.fail_every view.options triples (local_config view.page_size) g (answer_status answer))
-    group_file (Ok report) small h = λ files is triples g serves holds. done_group view.fail_every view.options triples (local_config view.page_size) g
-    group_file (Err (answers.Data fault)) small h = λ files is triples g serves holds. data_group view.fail_every view.options triples (local_config view.page_size) g fault
-    group_file (Err (answers.Query fault)) small h = λ files is triples g serves holds. query_group view.fail_every view.options triples (local_config view.page_size) g fault
+    group_file (Ok report) small h = λ files is triples g serves holds. done_table view.fail_every view.options (group_offer_of triples (local_config view.page_size) g) (group_plan_of triples (local_config view.page_size) g)
+    group_file (Err (answers.Data fault)) small h = λ files is triples g serves holds. data_table view.fail_every view.options (group_offer_of triples (local_config view.page_size) g) (group_plan_of triples (local_config view.page_size) g) fault
+    group_file (Err (answers.Query fault)) small h = λ files is triples g serves holds. query_table view.fail_every view.options (group_offer_of triples (local_config view.page_size) g) (group_plan_of triples (local_config view.page_size) g) fault
     group_file (Err (answers.Client fault)) small (Plain h) = λ files is triples g serves holds. absurd (no_groups a.shelf.told view.query h.cause.0.q h.cause.0.is_read files is g holds)
     group_file (Err (answers.Client fault)) small (Groups own h) = λ files is triples g serves holds.
         let l = h.ends small in
         let there = one_outcome files view.name view.choice (codes "localhost") (served (serving l.server).data_set) (served triples) (l.starts.data_set.tells files is) serves in
         let asked = one_query files view.query (reads_groups own) (reads_groups g) (h.is_read.tells files is) holds in
-        client_group view.fail_every view.options triples (local_config view.page_size) g fault
+        client_table view.fail_every view.options (group_offer_of triples (local_config view.page_size) g) (group_plan_of triples (local_config view.page_size) g) fault
         (carried (λ (ts : List Triple) (c : Config) (x : GroupData). MayEndGroup view.fail_every view.options ts c x fault) (serving l.server).data_set triples (same_data (serving l.server).data_set triples there) (serving l.server).config (local_config view.page_size) l.starts.config_is own g (same_group own g asked) l.loops.says)
 
   module _ (persons : ℕ) (name : List ℕ) where
     group_counted : (fault : AnswerFault) → GeneratedAsked a.shelf a.shelf' (wire_inside a.inside') persons name (Err fault)
         → OfGroupGenerated a.shelf.told persons name (λ triples g. KeepsGroupTable 0 usual_options triples (local_config 100) g (fault_status fault))
-    group_counted (answers.Data fault) h = λ files is triples g serves holds. data_group 0 usual_options triples (local_config 100) g fault
-    group_counted (answers.Query fault) h = λ files is triples g serves holds. query_group 0 usual_options triples (local_config 100) g fault
+    group_counted (answers.Data fault) h = λ files is triples g serves holds. data_table 0 usual_options (group_offer_of triples (local_config 100) g) (group_plan_of triples (local_config 100) g) fault
+    group_counted (answers.Query fault) h = λ files is triples g serves holds. query_table 0 usual_options (group_offer_of triples (local_config 100) g) (group_plan_of triples (local_config 100) g) fault
     group_counted (answers.Client fault) (Plain h) = λ files is triples g serves holds. absurd (no_groups a.shelf.told name h.cause.1.loops.says.q h.cause.1.loops.says.is_read files is g holds)
     group_counted (answers.Client fault) (Groups own h) = λ files is triples g serves holds.
         let l = h.ends in
         let there = served_one (codes "localhost") (chosen DefaultGraph (generated persons)) (serving l.server).data_set triples l.starts.data_set serves in
         let asked = one_query files name (reads_groups own) (reads_groups g) (h.is_read.tells files is) holds in
-        client_group 0 usual_options triples (local_config 100) g fault
+        client_table 0 usual_options (group_offer_of triples (local_config 100) g) (group_plan_of triples (local_config 100) g) fault
         (carried (λ (ts : List Triple) (c : Config) (x : GroupData). MayEndGroup 0 usual_options ts c x fault) (serving l.server).data_set triples there (serving l.server).config (local_config 100) l.starts.config_is own g (same_group own g asked) l.loops.says)
 
     group_numbers : (came : Result Counts AnswerFault) (result : Result (Unit {0}) AnswerFault) → WritesNumbers a.out a.out' came result → GeneratedAsked a.shelf a.shelf' (wire_inside a.inside') persons name came
         → OfGroupGenerated a.shelf.told persons name (λ triples g. KeepsGroupTable 0 usual_options triples (local_config 100) g (counted_status result))
-    group_numbers came (Ok nothing) line asks = λ files is triples g serves holds. done_group 0 usual_options triples (local_config 100) g
+    group_numbers came (Ok nothing) line asks = λ files is triples g serves holds. done_table 0 usual_options (group_offer_of triples (local_config 100) g) (group_plan_of triples (local_config 100) g)
     group_numbers (Ok counts) (Err fault) line asks = λ files is triples g serves holds.
-        subst (λ (f : AnswerFault). KeepsGroupTable 0 usual_options triples (local_config 100) g (fault_status f)) (sym line.is) (cut_group 0 usual_options triples (local_config 100) g line.cause)
+        subst (λ (f : AnswerFault). KeepsGroupTable 0 usual_options triples (local_config 100) g (fault_status f)) (sym line.is) (cut_table 0 usual_options (group_offer_of triples (local_config 100) g) (group_plan_of triples (local_config 100) g) line.cause)
     group_numbers (Err cause) (Err fault) line asks = λ files is triples g serves holds.
         subst (λ (f : AnswerFault). KeepsGroupTable 0 usual_options triples (local_config 100) g (fault_status f)) line.0 (group_counted cause asks files is triples g serves holds)
 
@@ -154,11 +112,11 @@ module _ (a : Around) where
 
   memory_groups : (command : Option Command) → KeepsGroupTableOf a command 8
   memory_groups None = tt
-  memory_groups (Some (local name query_name choice page client seed fail_every)) = λ files is triples g serves holds. memory_group fail_every (options_of client) triples (local_config page) g
+  memory_groups (Some (local name query_name choice page client seed fail_every)) = λ files is triples g serves holds. memory_table fail_every (options_of client) (group_offer_of triples (local_config page) g) (group_plan_of triples (local_config page) g)
   memory_groups (Some (query url query_name client)) = tt
   memory_groups (Some (serve name base choice page stop_after reload)) = tt
   memory_groups (Some (make count None)) = tt
-  memory_groups (Some (make count (Some name))) = λ files is triples g serves holds. memory_group 0 usual_options triples (local_config 100) g
+  memory_groups (Some (make count (Some name))) = λ files is triples g serves holds. memory_table 0 usual_options (group_offer_of triples (local_config 100) g) (group_plan_of triples (local_config 100) g)
 
   groups_of : (command : Option Command) → ((c : Command) → command ≡ Some c → IsInRange c) → (end : EndOfRun) → DoesOf a command end → KeepsGroupTableOf a command (status_of end)
   groups_of None ranged end h = tt

@@ -1,9 +1,9 @@
 -- Which status may come of a run, and when a run succeeds.
-use Rattle.std.specs.Prelude.{ℕ, ◌≡◌, ◌==◌, ◌⊎◌, ◌<◌, Bool, true, false, List, length, codes, Option, Some, None, [], ◌∷◌}
+use Rattle.std.specs.Prelude.{ℕ, ◌≡◌, ◌==◌, ◌⊎◌, Bool, true, false, List, length, codes, Option, Some, None, [], ◌∷◌}
 use Rattle.std.specs.List.{list_any}
 use Rattle.std.specs.Io.KnownBytes.{Appends}
 use Rattle.rdf_terms.specs.declared.term.Triple.{Triple}
-use Rattle.tpf_base.specs.Addresses.{authority_of}
+use Rattle.tpf_base.specs.Addresses.{Address, authority_of}
 use Rattle.tpf_base.specs.Causes.{Rose}
 use Rattle.tpf_base.specs.Outside.{ShelfState}
 use Rattle.tpf_base.specs.Wrote.{SinkState, AppendsPrefix}
@@ -15,17 +15,17 @@ use Rattle.triple_table.specs.Served.{IsServed}
 use Rattle.generated_data.specs.Generated.{generated}
 use Rattle.group_query.specs.Trees.{GroupData}
 use Rattle.group_faults.specs.declared.fault.GroupWhy.{GroupWhy}
-use Rattle.group_patterns.specs.Plans.{group_plan}
 use Rattle.tpf_client.specs.declared.options.Options.{Options}
+use Rattle.tpf_client.specs.Offers.{Offer}
 use Rattle.tpf_client.specs.Plans.{HasLongPage}
 use Rattle.data_files.specs.Data.{Files, IfTold, Serves}
 use Rattle.data_files.specs.Queries.{HoldsGroup, HasQueryFault}
 use Rattle.data_files.specs.Kept.{KeepsShelf, KeepsSink}
 use Rattle.query_command.specs.Answers.{FitsOver, OfQuery}
 use Rattle.query_command.specs.Generated.{usual_options}
-use Rattle.query_command.specs.Loops.{LocalView, local_base, local_config}
-use Rattle.query_command.specs.Groups.{GroupIsWithin, FitsGroupOver}
-use Rattle.query_command.specs.Plans.{plan_of, CountsRequests, FailsOften, PassesBudget, OfFiles, OfGenerated, PlanIsWithin}
+use Rattle.query_command.specs.Loops.{LocalView, local_config}
+use Rattle.query_command.specs.Groups.{group_plan_of, group_offer_of, GroupIsWithin, FitsGroupOver}
+use Rattle.query_command.specs.Plans.{plan_of, offer_of, CountsRequests, FailsOften, PassesBudget, OfFiles, OfGenerated, PlanIsWithin}
 use Rattle.command_words.specs.Commands.{Command, local, query, serve, make}
 use Rattle.tpf_cli.specs.Endings.{EndOfRun, Says}
 use Rattle.tpf_cli.specs.Lines.{counts_text}
@@ -53,12 +53,16 @@ IsAmong statuses status = list_any (λ n. n == status) statuses ≡ true
 -- ---- the table of a query in one process, where each n-th dial fails
 
 -- 5 comes only where so many dials fail, 6 only where a body of the plan is longer than the limit, 7 only where the plan and the requests that fail pass the budget, and so do the tries of the plan; 11 and 12 never come
-pub record KeepsTable (n : ℕ) (options : Options) (triples : List Triple) (config : Config) (q : QueryData) (status : ℕ) : Type 0 where
-  pub exchange : status ≡ 5 → FailsOften n options.retries (length (plan_of triples config q))
-  pub reply : status ≡ 6 → (received : List ℕ) × HasLongPage (triples ∷ []) config options.max_body (plan_of triples config q) received
-  pub budget : status ≡ 7 → PassesBudget n options.retries options.budget (length (plan_of triples config q))
+pub record KeepsPlan (n : ℕ) (options : Options) (offer : Offer) (plan : List Address) (status : ℕ) : Type 0 where
+  pub exchange : status ≡ 5 → FailsOften n options.retries (length plan)
+  pub reply : status ≡ 6 → (received : List ℕ) × HasLongPage offer options.max_body plan received
+  pub budget : status ≡ 7 → PassesBudget n options.retries options.budget (length plan)
   pub changed : status ≡ 11 → ⊥
   pub wire : status ≡ 12 → ⊥
+
+-- of a query without groups
+abbrev pub KeepsTable : ℕ → Options → List Triple → Config → QueryData → ℕ → Type 0
+KeepsTable n options triples config q status = KeepsPlan n options (offer_of triples config q) (plan_of triples config q) status
 
 -- of what the words command
 abbrev pub KeepsTableOf : Around → Option Command → ℕ → Type 0
@@ -72,13 +76,9 @@ KeepsTableOf a (Some (make count (Some asked_name))) status = OfGenerated a.shel
 
 -- ---- the table of a query with groups in one process
 
--- 5 comes only where dials are to fail, 6 only where a body that a block asks for is longer than the limit, 7 where no dial fails only where the plan of all blocks passes the budget; 11 and 12 never come
-pub record KeepsGroupTable (n : ℕ) (options : Options) (triples : List Triple) (config : Config) (g : GroupData) (status : ℕ) : Type 0 where
-  pub exchange : status ≡ 5 → 0 < n
-  pub reply : status ≡ 6 → (received : List ℕ) × HasLongPage (triples ∷ []) config options.max_body (group_plan (triples ∷ []) config g local_base 1) received
-  pub budget : status ≡ 7 → n ≡ 0 → options.budget < length (group_plan (triples ∷ []) config g local_base 1)
-  pub changed : status ≡ 11 → ⊥
-  pub wire : status ≡ 12 → ⊥
+-- the same, by the plan of all blocks
+abbrev pub KeepsGroupTable : ℕ → Options → List Triple → Config → GroupData → ℕ → Type 0
+KeepsGroupTable n options triples config g status = KeepsPlan n options (group_offer_of triples config g) (group_plan_of triples config g) status
 
 -- of the data that are served of a file and the query with groups of another, where the shelf tells them
 abbrev pub OfGroupFiles : Option Files → LocalView → (List Triple → GroupData → Type 0) → Type 0
@@ -132,6 +132,15 @@ TellsRequestsOf a (Some (query url query_name client)) status err err' = Unit {0
 TellsRequestsOf a (Some (serve name base choice page stop_after reload)) status err err' = Unit {0}
 TellsRequestsOf a (Some (make count asked)) status err err' = Unit {0}
 
+-- the same of a query with groups, by the plan of all its blocks
+abbrev pub TellsGroupRequestsOf : Around → Option Command → ℕ → SinkState → SinkState → Type 0
+TellsGroupRequestsOf a None status err err' = Unit {0}
+TellsGroupRequestsOf a (Some (local name query_name choice page client seed fail_every)) status err err' =
+    status ≡ 0 → OfGroupFiles a.shelf.told (view_of name query_name choice page client seed fail_every) (λ triples g. TellsRequests fail_every client.retries (length (group_plan_of triples (local_config page) g)) err err')
+TellsGroupRequestsOf a (Some (query url query_name client)) status err err' = Unit {0}
+TellsGroupRequestsOf a (Some (serve name base choice page stop_after reload)) status err err' = Unit {0}
+TellsGroupRequestsOf a (Some (make count asked)) status err err' = Unit {0}
+
 -- ---- completeness
 
 -- done, or out of memory
@@ -158,7 +167,7 @@ SucceedsOf a (Some (make count (Some asked_name))) status =
 abbrev pub OfGroupQuery : Option Files → List ℕ → (GroupData → Type 0) → Type 0
 OfGroupQuery told query_name holds = IfTold told (λ files. (g : GroupData) → HoldsGroup files query_name g → holds g)
 
--- The same of a query with groups: in one process where no dial fails, each body that a block asks for is within the limit, and the plan of all blocks is within the budget; over the handed-in wire where that is as a server of some data makes it, and this plan fits.
+-- The same of a query with groups: in one process where none of the causes of its table is there; over the handed-in wire where that is as a server of some data makes it, and this plan fits.
 abbrev pub SucceedsGroupsOf : Around → Option Command → ℕ → Type 0
 SucceedsGroupsOf a None status = Unit {0}
 SucceedsGroupsOf a (Some (local name query_name choice page client seed fail_every)) status =
@@ -174,7 +183,7 @@ SucceedsGroupsOf a (Some (make count (Some asked_name))) status =
 
 -- ---- the run
 
--- What a run keeps to that ended with this status: it did what its words command and said so, with one of the statuses of the command, by the tables of statuses; it told the requests of its plan; it refused a query exactly where its text has a fault; and it succeeded where nothing stood in the way. `table`, `requests` and `complete` speak of a query without groups, `groups` and `groups_complete` of one with. The shelf tells what it told, and no count of shelf, output and standard error fell.
+-- What a run keeps to that ended with this status: it did what its words command and said so, with one of the statuses of the command, by the tables of statuses; it told the requests of its plan; it refused a query exactly where its text has a fault; and it succeeded where nothing stood in the way. `table`, `requests` and `complete` speak of a query without groups, `groups`, `group_requests` and `groups_complete` of one with. The shelf tells what it told, and no count of shelf, output and standard error fell.
 pub record Keeps (a : Around) (command : Option Command) (status : ℕ) (err err' : SinkState) : Type 0 where
   pub ending : (end : EndOfRun) × DoesOf a command end × Says status end err err'
   pub among : IsAmong (statuses_of command) status
@@ -182,6 +191,7 @@ pub record Keeps (a : Around) (command : Option Command) (status : ℕ) (err err
   pub groups : KeepsGroupTableOf a command status
   pub refusal : RefusesOf a command status
   pub requests : TellsRequestsOf a command status err err'
+  pub group_requests : TellsGroupRequestsOf a command status err err'
   pub complete : SucceedsOf a command status
   pub groups_complete : SucceedsGroupsOf a command status
   pub shelf : KeepsShelf a.shelf a.shelf'

@@ -4,10 +4,8 @@
 //! files, the wire the links, and the two sinks take what the output and the standard error would.
 //!
 //! ```rust
-//! let mut left = Inside::Unused;
-//! let status = run(
-//!     rt, alloc, &words, shelf, wire, &mut out, &mut err, &mut left,
-//! );
+//! let (out, err) = (&mut outcome.out, &mut outcome.err);
+//! run(rt, alloc, words, shelf, wire, out, err, left)
 //! ```
 #![tactic(auto)]
 

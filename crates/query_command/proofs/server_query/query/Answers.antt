@@ -26,11 +26,11 @@ returns-in-Ok-query_server-clause-asks g c =
         whole = e.whole;
         writes = e.ok;
         headline = e.headline;
-        plan = record { closed = e.acts.closed; peers = e.acts.peers; others = e.acts.others; sent = e.acts.sent; dials = e.acts.dials; given = e.acts.given; asked = e.acts.asked; tries = e.acts.planned; counted = e.acts.counted; unprovoked = e.acts.unprovoked; requested = e.acts.requested };
+        plan = record { closed = e.acts.closed; peers = e.acts.peers; others = e.acts.others; sent = e.acts.sent; dials = e.acts.dials; given = e.acts.given; asked = e.acts.plan.asked; tries = e.acts.plan.planned; counted = e.acts.plan.counted; unprovoked = e.acts.plan.unprovoked; requested = e.acts.plan.requested };
         answered = e.acts.answered;
-        tries = e.acts.requests;
-        paced = e.acts.paced;
-        replied = e.acts.replied;
+        tries = e.acts.plan.requests;
+        paced = e.acts.plan.paced;
+        replied = e.acts.plan.replied;
         within = e.acts.within;
         dialled = e.acts.dialled;
         linked = e.acts.linked;
@@ -56,14 +56,14 @@ returns-in-Plain-clause-asks g c =
         headline = e.prefix;
         cause = e.acts.cause;
         sink = λ is. e.sink.sink (cc);
-        plan = record { closed = e.acts.closed; peers = e.acts.peers; others = e.acts.others; sent = e.acts.sent; dials = e.acts.dials; given = e.acts.given; asked = e.acts.asked; tries = e.acts.planned; counted = e.acts.counted; unprovoked = e.acts.unprovoked; requested = e.acts.requested };
-        honest_cause = e.acts.honest_cause;
-        lively_cause = e.acts.lively_cause;
+        plan = record { closed = e.acts.closed; peers = e.acts.peers; others = e.acts.others; sent = e.acts.sent; dials = e.acts.dials; given = e.acts.given; asked = e.acts.plan.asked; tries = e.acts.plan.planned; counted = e.acts.plan.counted; unprovoked = e.acts.plan.unprovoked; requested = e.acts.plan.requested };
+        honest_cause = e.acts.plan.honest_cause;
+        lively_cause = e.acts.plan.lively_cause;
         complete = e.complete;
         failed_often = e.acts.failed_often;
         spent_requests = e.acts.spent_requests;
         spent_tries = e.acts.spent_tries;
-        spent_plan = e.acts.spent_plan;
+        spent_plan = e.acts.plan.spent_plan;
         acts = e.acts;
       };
     })
