@@ -23,6 +23,13 @@ impl EchoServer {
     {
         EchoServer { number, version: 1 }
     }
+
+    /// The number that it serves.
+    pub(crate) fn number(&self) -> u64
+        ensures { result ≡ self.now.number }
+    {
+        self.number
+    }
 }
 
 impl Serves for EchoServer {

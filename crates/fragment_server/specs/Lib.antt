@@ -3,3 +3,4 @@ pub mod Alike
 pub mod Laws
 pub mod Failing
 pub mod FailingLaws
+pub mod Standing

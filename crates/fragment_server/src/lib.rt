@@ -12,13 +12,19 @@
 //!     Failing::At(calls),
 //! );
 //! ```
+//!
+//! Behind a `LoopWire<FragmentConnection, Several>` several servers stand, each at the host and the port of
+//! its base.
 #![tactic(auto)]
 
 mod connection;
 mod data_set;
 mod responds;
 mod server;
+mod stands;
+mod wires;
 
 pub use connection::FragmentConnection;
 pub use data_set::DataSet;
 pub use server::FragmentServer;
+pub use wires::wires_to_servers_are_honest;

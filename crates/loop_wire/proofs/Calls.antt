@@ -11,9 +11,9 @@ use Rattle.tpf_base.specs.declared.failing.Failing.TheVariants.{Never, Every, At
 use Rattle.tpf_base.specs.declared.wire.Moved.{Moved}
 use Rattle.tpf_base.specs.declared.wire.Moved.TheVariants as answers
 use Rattle.loop_wire.specs.Held as held
-use Rattle.loop_wire.specs.Held.{Held, no_link, new_link, told, settled, stalled_at, sent_more, received_more, ended_now, closed, IsHeld, Hears}
+use Rattle.loop_wire.specs.Held.{Held, Owing, no_link, new_link, told_there, settled, stalled_at, sent_more, received_more, ended_now, closed, IsHeld, Hears}
 use Rattle.loop_wire.specs.Waits.{WaitCounts}
-use Rattle.loop_wire.specs.Looped.{wire_of, nature_of, is_steady, every_of, woke_after}
+use Rattle.loop_wire.specs.Looped.{wire_of, nature_in, steady_in, every_in, is_steady, every_of, woke_after}
 use Rattle.loop_wire.proofs.Talks.{front_lasts}
 
 -- ---- what is due
@@ -34,12 +34,25 @@ dial_due (At calls) call dial moved e due every = absurd cc
 dial_due (AfterBytes most) call dial moved e due every = absurd cc
 dial_due (Dials n) call dial moved e due every = let same : n ≡ e = cc in subst (λ m. is_nth m dial ≡ true) same due
 
+-- where no server stands at some hosts and ports, the wire is as little steady
+unsteady_in : (everywhere : Bool) (failing : Failing) → is_steady failing ≡ false → steady_in everywhere failing ≡ false
+unsteady_in true failing is = is
+unsteady_in false failing is = refl
+
+pub every_alone : (everywhere : Bool) (failing : Failing) (e : ℕ) → every_in everywhere failing ≡ Some e → every_of failing ≡ Some e
+every_alone true failing e is = is
+every_alone false failing e is = absurd cc
+
+pub steady_everywhere : (everywhere : Bool) (failing : Failing) → steady_in everywhere failing ≡ true → everywhere ≡ true
+steady_everywhere true failing is = refl
+steady_everywhere false failing is = absurd cc
+
 -- ---- a link before a call and after it
 
-pub record Turns (owes : List ℕ → List ℕ) (k : ℕ) (h h' : Held) (old new : WireState) : Type 0 where
+pub record Turns (owes : Owing) (k : ℕ) (h h' : Held) (old new : WireState) : Type 0 where
   pub only : OnlyOn k old new
-  pub was : old.links k ≡ told owes h
-  pub is : new.links k ≡ told owes h'
+  pub was : old.links k ≡ told_there owes h
+  pub is : new.links k ≡ told_there owes h'
   pub tells : old.nature.tells ≡ All
 
 -- the counts after a call that is no dial
@@ -59,34 +72,34 @@ pub record CountsFailed (old new : CallCounts) : Type 0 where
   pub faults : new.faults ≡ counted old.faults
   pub unsteady : is_steady old.failing ≡ false
 
-turns_set : (owes : List ℕ → List ℕ) (k : ℕ) (links : List Held) (h' : Held) (counts counts' : CallCounts) (provoked : ℕ) (waits : WaitCounts) (woke woke' : Bool)
+turns_set : (everywhere : Bool) (owes : Owing) (k : ℕ) (links : List Held) (h' : Held) (counts counts' : CallCounts) (provoked : ℕ) (waits : WaitCounts) (woke woke' : Bool)
     → k < length links → CountsOn counts counts'
-    → Turns owes k (get_or links k no_link) h' (wire_of owes links counts provoked waits woke) (wire_of owes (set links k h') counts' provoked waits woke')
-turns_set owes k links h' counts counts' provoked waits woke woke' below on = record {
+    → Turns owes k (get_or links k no_link) h' (wire_of everywhere owes links counts provoked waits woke) (wire_of everywhere owes (set links k h') counts' provoked waits woke')
+turns_set everywhere owes k links h' counts counts' provoked waits woke woke' below on = record {
   only = record {
-    others = λ j other. ap (told owes) (get_or-set_other links k j h' no_link other);
+    others = λ j other. ap (told_there owes) (get_or-set_other links k j h' no_link other);
     later = on.later;
     given = length-set links k h';
     provoked = refl;
     dials = on.dials;
     waits = refl;
     door = refl;
-    nature = ap nature_of on.failing;
+    nature = ap (nature_in everywhere) on.failing;
   };
   was = refl;
-  is = ap (told owes) (get_or-set_same links k h' no_link below);
+  is = ap (told_there owes) (get_or-set_same links k h' no_link below);
   tells = refl;
 }
 
 -- ---- sends
 
-sent_bytes : (owes : List ℕ → List ℕ) (k n : ℕ) (piece rest : List ℕ) (h h' : Held) (old new : WireState)
-    → Turns owes k h h' old new → h' ≡ sent_more (take n piece) h → owes (h.sent ++ take n piece) ≡ owes h.sent ++ rest → h.received ≤ length (owes h.sent)
+sent_bytes : (owes : Owing) (k n : ℕ) (piece rest : List ℕ) (h h' : Held) (old new : WireState)
+    → Turns owes k h h' old new → h' ≡ sent_more (take n piece) h → owes h.peer (h.sent ++ take n piece) ≡ owes h.peer h.sent ++ rest → h.received ≤ length (owes h.peer h.sent)
     → new.idle ≡ 0 → new.faults ≡ old.faults → 0 < n → n ≤ length piece → Sends k piece old new (answers.Moved n)
 sent_bytes owes k n piece rest h h' old new turn left longer within idle faults some few = record {
   only = turn.only;
   peer = rw (turn.is, turn.was, left) refl;
-  received = rw (turn.is, turn.was, left) (ap Some (front_lasts h.received (owes h.sent) (owes (h.sent ++ take n piece)) rest within longer));
+  received = rw (turn.is, turn.was, left) (ap Some (front_lasts h.received (owes h.peer h.sent) (owes h.peer (h.sent ++ take n piece)) rest within longer));
   ended = rw (turn.is, turn.was, left) refl;
   is_open = rw (turn.is, turn.was, left) refl;
   stalls = rw (turn.is, turn.was, left) (omega arith);
@@ -101,7 +114,7 @@ sent_bytes owes k n piece rest h h' old new turn left longer within idle faults 
   woken = λ steady woken stalled same. absurd cc;
 }
 
-sent_nothing : (owes : List ℕ → List ℕ) (k : ℕ) (piece : List ℕ) (h h' : Held) (old new : WireState)
+sent_nothing : (owes : Owing) (k : ℕ) (piece : List ℕ) (h h' : Held) (old new : WireState)
     → Turns owes k h h' old new → h' ≡ stalled_at Sending true h → h.woken ≡ false → h.stalls ≤ h'.stalls → new.idle ≡ old.idle → new.faults ≡ old.faults
     → Sends k piece old new answers.NotYet
 sent_nothing owes k piece h h' old new turn left asleep later idle faults =
@@ -124,7 +137,7 @@ sent_nothing owes k piece h h' old new turn left asleep later idle faults =
       woken = λ steady woken stalled same. let no : h.woken ≡ true = ap (λ (l : Link). l.woken) (sym turn.was) ∙ woken in absurd cc;
     }
 
-sent_wanting : (owes : List ℕ → List ℕ) (k : ℕ) (piece : List ℕ) (h h' : Held) (old new : WireState)
+sent_wanting : (owes : Owing) (k : ℕ) (piece : List ℕ) (h h' : Held) (old new : WireState)
     → Turns owes k h h' old new → h' ≡ h → SameWire old new → Sends k piece old new answers.OutOfMemory
 sent_wanting owes k piece h h' old new turn left same = record {
   only = turn.only;
@@ -144,7 +157,7 @@ sent_wanting owes k piece h h' old new turn left same = record {
   woken = λ steady woken stalled f. absurd cc;
 }
 
-sent_failed : (owes : List ℕ → List ℕ) (k : ℕ) (piece : List ℕ) (h h' : Held) (old new : WireState)
+sent_failed : (owes : Owing) (k : ℕ) (piece : List ℕ) (h h' : Held) (old new : WireState)
     → Turns owes k h h' old new → h' ≡ settled h → new.idle ≡ old.idle → new.faults ≡ counted old.faults → old.nature.steady ≡ false → Sends k piece old new answers.Failed
 sent_failed owes k piece h h' old new turn left idle faults unsteady = record {
   only = turn.only;
@@ -166,8 +179,8 @@ sent_failed owes k piece h h' old new turn left idle faults unsteady = record {
 
 -- ---- receives
 
-heard_bytes : (owes : List ℕ → List ℕ) (k n : ℕ) (to : List ℕ) (h h' : Held) (old new : WireState)
-    → Turns owes k h h' old new → h' ≡ received_more n h → take (h.received + n) (owes h.sent) ≡ take h.received (owes h.sent) ++ take n to
+heard_bytes : (owes : Owing) (k n : ℕ) (to : List ℕ) (h h' : Held) (old new : WireState)
+    → Turns owes k h h' old new → h' ≡ received_more n h → take (h.received + n) (owes h.peer h.sent) ≡ take h.received (owes h.peer h.sent) ++ take n to
     → new.idle ≡ 0 → new.faults ≡ old.faults → 0 < n → n ≤ length to → Receives k to old new (answers.Moved n)
 heard_bytes owes k n to h h' old new turn left front idle faults some room = record {
   only = turn.only;
@@ -187,8 +200,8 @@ heard_bytes owes k n to h h' old new turn left front idle faults some room = rec
   woken = λ steady woken stalled same. absurd cc;
 }
 
-heard_end : (owes : List ℕ → List ℕ) (k : ℕ) (to : List ℕ) (h h' : Held) (old new : WireState)
-    → Turns owes k h h' old new → h' ≡ ended_now h → is_short (told owes h) ≡ false → new.idle ≡ 0 → new.faults ≡ old.faults → Receives k to old new answers.End
+heard_end : (owes : Owing) (k : ℕ) (to : List ℕ) (h h' : Held) (old new : WireState)
+    → Turns owes k h h' old new → h' ≡ ended_now h → is_short (told_there owes h) ≡ false → new.idle ≡ 0 → new.faults ≡ old.faults → Receives k to old new answers.End
 heard_end owes k to h h' old new turn left over idle faults =
     let all : is_short (old.links k) ≡ false = ap is_short turn.was ∙ over in
     record {
@@ -209,9 +222,9 @@ heard_end owes k to h h' old new turn left over idle faults =
       woken = λ steady woken stalled same. absurd cc;
     }
 
-heard_nothing : (owes : List ℕ → List ℕ) (k : ℕ) (to : List ℕ) (stalls : Bool) (h h' : Held) (old new : WireState)
-    → Turns owes k h h' old new → h' ≡ stalled_at Receiving (is_short (told owes h)) h → h.stalls ≤ h'.stalls → (stalls ≡ false → is_short (told owes h) ≡ false)
-    → (h.woken ≡ true → h.stalled ≡ Some Receiving → (stalls ≡ false) × (is_short (told owes h) ≡ true)) → new.idle ≡ old.idle → new.faults ≡ old.faults → Receives k to old new answers.NotYet
+heard_nothing : (owes : Owing) (k : ℕ) (to : List ℕ) (stalls : Bool) (h h' : Held) (old new : WireState)
+    → Turns owes k h h' old new → h' ≡ stalled_at Receiving (is_short (told_there owes h)) h → h.stalls ≤ h'.stalls → (stalls ≡ false → is_short (told_there owes h) ≡ false)
+    → (h.woken ≡ true → h.stalled ≡ Some Receiving → (stalls ≡ false) × (is_short (told_there owes h) ≡ true)) → new.idle ≡ old.idle → new.faults ≡ old.faults → Receives k to old new answers.NotYet
 heard_nothing owes k to stalls h h' old new turn left later quiet awake idle faults =
     let later' : h.stalls ≤ counted h.stalls = let P : Held → Type 0 = λ x. h.stalls ≤ x.stalls in subst P left later in
     record {
@@ -233,12 +246,12 @@ heard_nothing owes k to stalls h h' old new turn left later quiet awake idle fau
           let up : h.woken ≡ true = ap (λ (l : Link). l.woken) (sym turn.was) ∙ woken in
           let way : h.stalled ≡ Some Receiving = ap (λ (l : Link). l.stalled) (sym turn.was) ∙ stalled in
           let both = awake up way in
-          let no : is_short (told owes h) ≡ false = quiet both.0 in
-          let yes : is_short (told owes h) ≡ true = both.1 in
+          let no : is_short (told_there owes h) ≡ false = quiet both.0 in
+          let yes : is_short (told_there owes h) ≡ true = both.1 in
           absurd cc;
     }
 
-heard_wanting : (owes : List ℕ → List ℕ) (k : ℕ) (to : List ℕ) (h h' : Held) (old new : WireState)
+heard_wanting : (owes : Owing) (k : ℕ) (to : List ℕ) (h h' : Held) (old new : WireState)
     → Turns owes k h h' old new → h' ≡ h → SameWire old new → Receives k to old new answers.OutOfMemory
 heard_wanting owes k to h h' old new turn left same = record {
   only = turn.only;
@@ -258,7 +271,7 @@ heard_wanting owes k to h h' old new turn left same = record {
   woken = λ steady woken stalled f. absurd cc;
 }
 
-heard_failed : (owes : List ℕ → List ℕ) (k : ℕ) (to : List ℕ) (h h' : Held) (old new : WireState)
+heard_failed : (owes : Owing) (k : ℕ) (to : List ℕ) (h h' : Held) (old new : WireState)
     → Turns owes k h h' old new → h' ≡ settled h → new.idle ≡ old.idle → new.faults ≡ counted old.faults → old.nature.steady ≡ false → Receives k to old new answers.Failed
 heard_failed owes k to h h' old new turn left idle faults unsteady = record {
   only = turn.only;
@@ -279,12 +292,12 @@ heard_failed owes k to h h' old new turn left idle faults unsteady = record {
 }
 
 -- a link that a wait answered is ripe
-pub record IsAwake (owes : List ℕ → List ℕ) (stalls : Bool) (h : Held) : Type 0 where
-  pub moves : h.woken ≡ true → h.stalled ≡ Some Receiving → (stalls ≡ false) × (is_short (told owes h) ≡ true)
+pub record IsAwake (owes : Owing) (stalls : Bool) (h : Held) : Type 0 where
+  pub moves : h.woken ≡ true → h.stalled ≡ Some Receiving → (stalls ≡ false) × (is_short (told_there owes h) ≡ true)
 
 -- ---- close
 
-closed_link : (owes : List ℕ → List ℕ) (k : ℕ) (h h' : Held) (old new : WireState)
+closed_link : (owes : Owing) (k : ℕ) (h h' : Held) (old new : WireState)
     → Turns owes k h h' old new → h' ≡ closed h → new.idle ≡ old.idle → new.faults ≡ old.faults → Closes k old new
 closed_link owes k h h' old new turn left idle faults = record {
   only = turn.only;
@@ -302,27 +315,27 @@ closed_link owes k h h' old new turn left idle faults = record {
 }
 
 -- ---- the call itself: one link is set, and the counts are others
-module _ (owes : List ℕ → List ℕ) (k : ℕ) (links links' : List Held) (counts counts' : CallCounts) (provoked : ℕ) (waits : WaitCounts) (woke : Bool) where
+module _ (everywhere : Bool) (owes : Owing) (k : ℕ) (links links' : List Held) (counts counts' : CallCounts) (provoked : ℕ) (waits : WaitCounts) (woke : Bool) where
   abbrev here : Held
   here = get_or links k no_link
 
   abbrev before : WireState
-  before = wire_of owes links counts provoked waits woke
+  before = wire_of everywhere owes links counts provoked waits woke
 
   abbrev after : Bool → WireState
-  after woke' = wire_of owes links' counts' provoked waits woke'
+  after woke' = wire_of everywhere owes links' counts' provoked waits woke'
 
   turns : (h' : Held) (woke' : Bool) → k < length links → links' ≡ set links k h' → CountsOn counts counts' → Turns owes k here h' before (after woke')
   turns h' woke' below is on =
-      let P : List Held → Type 0 = λ ls. Turns owes k here h' before (wire_of owes ls counts' provoked waits woke') in
-      subst P (sym is) (turns_set owes k links h' counts counts' provoked waits woke woke' below on)
+      let P : List Held → Type 0 = λ ls. Turns owes k here h' before (wire_of everywhere owes ls counts' provoked waits woke') in
+      subst P (sym is) (turns_set everywhere owes k links h' counts counts' provoked waits woke woke' below on)
 
   -- it met want of memory
   same_wire : links' ≡ set links k here → CountsFine counts counts' → SameWire before (after woke)
   same_wire is fine =
       let same : links' ≡ links = is ∙ set-get_or links k no_link in
       record {
-        links = λ j. ap (λ (ls : List Held). told owes (get_or ls j no_link)) same;
+        links = λ j. ap (λ (ls : List Held). told_there owes (get_or ls j no_link)) same;
         faults = fine.faults;
         given = ap length same;
         provoked = refl;
@@ -330,13 +343,13 @@ module _ (owes : List ℕ → List ℕ) (k : ℕ) (links links' : List Held) (co
         waits = refl;
         idle = refl;
         door = refl;
-        nature = ap nature_of fine.on.failing;
+        nature = ap (nature_in everywhere) fine.on.failing;
       }
 
   -- a send that is not due
   pub sends_as : (n : ℕ) (piece rest : List ℕ) (stalls : Bool) (answer : Moved) (h' : Held) (woke' : Bool)
-      → k < length links → links' ≡ set links k h' → CountsFine counts counts' → woke' ≡ woke_after answer woke → IsHeld owes here → Hears stalls (take n piece) here h' answer
-      → owes (here.sent ++ take n piece) ≡ owes here.sent ++ rest → 0 < n → n ≤ length piece → (stalls ≡ true → here.woken ≡ false) → Sends k piece before (after woke') answer
+      → k < length links → links' ≡ set links k h' → CountsFine counts counts' → woke' ≡ woke_after answer woke → IsHeld (owes here.peer) here → Hears stalls (take n piece) here h' answer
+      → owes here.peer (here.sent ++ take n piece) ≡ owes here.peer here.sent ++ rest → 0 < n → n ≤ length piece → (stalls ≡ true → here.woken ≡ false) → Sends k piece before (after woke') answer
   sends_as n piece rest stalls (answers.Moved m) h' woke' below is fine woken held hears longer some few asleep =
       let all : m ≡ n = hears.moved m refl ∙ length-take-le n piece few in
       let P : ℕ → Type 0 = λ j. Sends k piece before (after woke') (answers.Moved j) in
@@ -351,11 +364,11 @@ module _ (owes : List ℕ → List ℕ) (k : ℕ) (links links' : List Held) (co
 
   -- one that is due
   pub sends_due : (piece : List ℕ) → k < length links → links' ≡ set links k (settled here) → CountsFailed counts counts' → Sends k piece before (after woke) answers.Failed
-  sends_due piece below is due = sent_failed owes k piece here (settled here) _ _ (turns _ woke below is due.on) refl refl due.faults due.unsteady
+  sends_due piece below is due = sent_failed owes k piece here (settled here) _ _ (turns _ woke below is due.on) refl refl due.faults (unsteady_in everywhere counts.failing due.unsteady)
 
   -- a receive that is not due
   pub receives_as : (most : ℕ) (to : List ℕ) (stalls : Bool) (answer : Moved) (h' : Held) (woke' : Bool)
-      → k < length links → links' ≡ set links k h' → CountsFine counts counts' → woke' ≡ woke_after answer woke → held.Gives owes most stalls to here h' answer → IsAwake owes stalls here
+      → k < length links → links' ≡ set links k h' → CountsFine counts counts' → woke' ≡ woke_after answer woke → held.Gives (owes here.peer) most stalls to here h' answer → IsAwake owes stalls here
       → Receives k to before (after woke') answer
   receives_as most to stalls (answers.Moved n) h' woke' below is fine woken gives awake =
       let all = gives.moved n refl in
@@ -370,7 +383,7 @@ module _ (owes : List ℕ → List ℕ) (k : ℕ) (links links' : List Held) (co
 
   -- one that is due
   pub receives_due : (to : List ℕ) → k < length links → links' ≡ set links k (settled here) → CountsFailed counts counts' → Receives k to before (after woke) answers.Failed
-  receives_due to below is due = heard_failed owes k to here (settled here) _ _ (turns _ woke below is due.on) refl refl due.faults due.unsteady
+  receives_due to below is due = heard_failed owes k to here (settled here) _ _ (turns _ woke below is due.on) refl refl due.faults (unsteady_in everywhere counts.failing due.unsteady)
 
   pub closes_as : k < length links → links' ≡ set links k (closed here) → CountsFine counts counts' → Closes k before (after woke)
   closes_as below is fine = closed_link owes k here (closed here) _ _ (turns _ woke below is fine.on) refl refl fine.faults
@@ -384,9 +397,9 @@ others_same (x ∷ links) h zero other = refl
 others_same (x ∷ links) h (suc k) other = others_same links h k (λ e. other (omega (arith, e)))
 
 -- a link that is given
-pub gives_as : (owes : List ℕ → List ℕ) (peer : Option (List ℕ × ℕ)) (number : ℕ) (links links' : List Held) (counts counts' : CallCounts) (provoked : ℕ) (waits : WaitCounts) (woke : Bool)
-    → number ≡ length links → links' ≡ links ++ new_link peer ∷ [] → Gives peer number (wire_of owes links counts provoked waits woke) (wire_of owes links' counts' provoked waits false)
-gives_as owes peer number links links' counts counts' provoked waits woke first is =
+pub gives_as : (everywhere : Bool) (owes : Owing) (peer : Option (List ℕ × ℕ)) (number : ℕ) (links links' : List Held) (counts counts' : CallCounts) (provoked : ℕ) (waits : WaitCounts) (woke : Bool)
+    → number ≡ length links → links' ≡ links ++ new_link peer ∷ [] → Gives peer number (wire_of everywhere owes links counts provoked waits woke) (wire_of everywhere owes links' counts' provoked waits false)
+gives_as everywhere owes peer number links links' counts counts' provoked waits woke first is =
     let at : get_or links' number no_link ≡ new_link peer = rw (is, first) (get_or-append_seam links (new_link peer) [] no_link) in
     record {
       is_next = first;
@@ -394,11 +407,11 @@ gives_as owes peer number links links' counts counts' provoked waits woke first 
       is_open = ap (λ (h : Held). h.is_open) at;
       is_peer = ap (λ (h : Held). h.peer) at;
       sent = ap (λ (h : Held). Some h.sent) at;
-      received = ap (λ (h : Held). Some (take h.received (owes h.sent))) at;
+      received = ap (λ (h : Held). Some (take h.received (owes h.peer h.sent))) at;
       ended = ap (λ (h : Held). Some h.ended) at;
       stalls = ap (λ (h : Held). h.stalls) at;
       stalled = ap (λ (h : Held). h.stalled) at;
       woken = ap (λ (h : Held). h.woken) at;
-      others = λ k other. ap (told owes) (ap (λ ls. get_or ls k no_link) is ∙ others_same links (new_link peer) k (λ e. other (e ∙ sym first)));
+      others = λ k other. ap (told_there owes) (ap (λ ls. get_or ls k no_link) is ∙ others_same links (new_link peer) k (λ e. other (e ∙ sym first)));
       idle = refl;
     }

@@ -87,6 +87,11 @@ due_spared old mid m k provoked number is h = λ n e few.
     let f : FewFaults n old.dials old.faults provoked = h n (ap every_of (sym failing) ∙ e) (omega (arith, few, dials)) in
     record { due = f.due; failed = omega (arith, f.failed, faults); within = omega (arith, f.within, dials, few); none = f.none }
 
+-- one to where no server stands, which is not due
+pub due_stranger : (old mid new : CallCounts) (m k provoked more : ℕ) → k ≡ counted old.dials → mid ≡ record old { calls = m; dials = k } → new ≡ record mid { faults = counted mid.faults } → more ≡ counted provoked
+    → CountsDue old.failing old.dials old.faults provoked → CountsDue new.failing new.dials new.faults more
+due_stranger old mid new m k provoked more number is fails rose h = due_provoked mid mid new mid.calls provoked more refl fails rose (due_spared old mid m k provoked number is h)
+
 -- a dial that failed was due
 pub dial_was_due : (old mid new : CallCounts) (moved m e : ℕ) → (is_due old.failing (counted old.calls) moved || is_dial_due old.failing (counted old.dials)) ≡ true
     → mid ≡ record old { calls = m; dials = counted old.dials } → new ≡ record mid { faults = counted mid.faults } → every_of old.failing ≡ Some e → is_nth e new.dials ≡ false → ⊥

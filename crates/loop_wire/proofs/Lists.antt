@@ -6,8 +6,11 @@ use Rattle.connections.specs.Kinds.{Kind}
 use Rattle.connections.specs.Versions.{Serving}
 use Rattle.loop_wire.specs.declared.link.LoopLink.{LoopLink}
 use Rattle.tpf_base.specs.declared.wire.Moved.{Moved}
-use Rattle.loop_wire.specs.Held.{Held, no_link, settled, closed, woken_now, Talks, IsKept, Hears, Gives}
-use Rattle.loop_wire.specs.Looped.{held_of, AreKept}
+use Rattle.tpf_base.specs.declared.wire.Moved.TheVariants as answers
+use Rattle.loop_wire.specs.Response.{Lasts}
+use Rattle.loop_wire.specs.Held.{Held, Owing, no_link, settled, closed, woken_now, after_send, after_receive, Talks, IsHeld, IsKept, Hears, Gives}
+use Rattle.loop_wire.specs.Standing.{owed_by}
+use Rattle.loop_wire.specs.Looped.{held_of, IsServed, AreServed}
 use Rattle.loop_wire.proofs.Talks.{held_settled, held_woken, held_closed}
 
 pub all_set : {X : Type 0} (P : X → Type 0) (xs : List X) (k : ℕ) (x : X) → AllByRecursion P xs → P x → AllByRecursion P (set xs k x)
@@ -30,15 +33,6 @@ module _ {C : Type 0} where
 
   pub length_held : (links : List (LoopLink C)) → length (held_of links) ≡ length links
   length_held links = length-map links (λ (x : LoopLink C). x.held)
-
-module _ {C Data Settings : Type 0} where
-  pub kept_set : (kind : Kind C Data Settings) (suits : C → Type 0) (serving : Serving Data Settings) (owes : List ℕ → List ℕ) (links : List (LoopLink C)) (k : ℕ) (l : LoopLink C)
-      → AreKept kind suits serving owes links → IsKept kind suits serving owes l.held l.connection → AreKept kind suits serving owes (set links k l)
-  kept_set kind suits serving owes links k l kept here = all_set (λ (x : LoopLink C). IsKept kind suits serving owes x.held x.connection) links k l kept here
-
-  pub kept_push : (kind : Kind C Data Settings) (suits : C → Type 0) (serving : Serving Data Settings) (owes : List ℕ → List ℕ) (links : List (LoopLink C)) (l : LoopLink C)
-      → AreKept kind suits serving owes links → IsKept kind suits serving owes l.held l.connection → AreKept kind suits serving owes (links ++ l ∷ [])
-  kept_push kind suits serving owes links l kept here = all_push (λ (x : LoopLink C). IsKept kind suits serving owes x.held x.connection) links l kept here
 
 -- ---- what a call on one of the links leaves of all
 
@@ -73,10 +67,6 @@ module _ {C : Type 0} where
       subst (λ a. P a (get_or (held_of (set links k new)) k no_link)) (seen_at links k d below) (subst (λ b. P (get_or links k d).held b) (sym (held_new links k new below)) gives)
 
 module _ {C Data Settings : Type 0} where
-  pub kept_from : (kind : Kind C Data Settings) (suits : C → Type 0) (serving : Serving Data Settings) (owes : List ℕ → List ℕ) (links : List (LoopLink C)) (k : ℕ) (d : LoopLink C)
-      → AreKept kind suits serving owes links → k < length links → IsKept kind suits serving owes (get_or links k d).held (get_or links k d).connection
-  kept_from kind suits serving owes links k d kept below = all_from (λ (x : LoopLink C). IsKept kind suits serving owes x.held x.connection) links k d kept below
-
   -- the bytes of the link are as before
   talks_same : (kind : Kind C Data Settings) (suits : C → Type 0) (serving : Serving Data Settings) (owes : List ℕ → List ℕ) (h h' : Held) (connection : Option C)
       → h'.sent ≡ h.sent → h'.received ≡ h.received → Talks kind suits serving owes h connection → Talks kind suits serving owes h' connection
@@ -103,3 +93,104 @@ module _ {C Data Settings : Type 0} where
   kept_closed kind suits serving owes h h' connection connection' is gone kept =
       let P : Held → Option C → Type 0 = λ x o. IsKept kind suits serving owes x o in
       subst (λ o. P h' o) (sym gone) (subst (λ x. P x None) (sym is) (record { is_held = held_closed owes h kept.is_held; talks = tt }))
+
+-- ---- the servers that answer links
+
+pub same_some : {A : Type 0} (x y : A) → Some x ≡ Some y → x ≡ y
+same_some x y same = cc
+
+-- a call on a link does not change for whom it was dialled
+pub send_peer : (answer : Moved) (front : List ℕ) (h : Held) → (after_send answer front h).peer ≡ h.peer
+send_peer (answers.Moved n) front h = refl
+send_peer answers.End front h = refl
+send_peer answers.NotYet front h = refl
+send_peer answers.Failed front h = refl
+send_peer answers.OutOfMemory front h = refl
+
+pub receive_peer : (answer : Moved) (short : Bool) (h : Held) → (after_receive answer short h).peer ≡ h.peer
+receive_peer (answers.Moved n) short h = refl
+receive_peer answers.End short h = refl
+receive_peer answers.NotYet short h = refl
+receive_peer answers.Failed short h = refl
+receive_peer answers.OutOfMemory short h = refl
+
+module _ {C Server : Type 0} (there : Option (List ℕ × ℕ) → Option Server) where
+  -- the link at a number is one and the same
+  pub there_at : (links : List (LoopLink C)) (k : ℕ) (d e : LoopLink C) (server : Server) → k < length links → there (get_or links k d).held.peer ≡ Some server → there (get_or links k e).held.peer ≡ Some server
+  there_at links k d e server below is = ap (λ (h : Held). there h.peer) (seen_at links k e below ∙ sym (seen_at links k d below)) ∙ is
+
+module _ {C Server Data Settings : Type 0} (kind : Kind C Data Settings) (Suits : Server → C → Type 0) (serving : Server → Serving Data Settings) (response_at : Serving Data Settings → List ℕ → List ℕ) (there : Option (List ℕ × ℕ) → Option Server) where
+  abbrev Served : LoopLink C → Type 0
+  Served link = IsServed kind Suits serving response_at there link
+
+  abbrev Kept : Server → LoopLink C → Type 0
+  Kept server link = IsKept kind (Suits server) (serving server) (response_at (serving server)) link.held link.connection
+
+  -- as the server is that stands there
+  pub served_for : (l : LoopLink C) (server : Server) → there l.held.peer ≡ Some server → Served l → Kept server l
+  served_for l server is s = subst (λ (x : Server). Kept x l) (same_some s.server server (sym s.stands ∙ is)) s.kept
+
+  pub served_put : (l l' : LoopLink C) (server : Server) → there l.held.peer ≡ Some server → l'.held.peer ≡ l.held.peer → Kept server l' → Served l'
+  served_put l l' server is same kept = record { server = server; stands = ap there same ∙ is; kept = kept }
+
+  pub served_at : (links : List (LoopLink C)) (k : ℕ) (d : LoopLink C) → AreServed kind Suits serving response_at there links → k < length links → Served (get_or links k d)
+  served_at links k d all below = all_from (λ (x : LoopLink C). Served x) links k d all below
+
+  pub served_set : (links : List (LoopLink C)) (k : ℕ) (l : LoopLink C) → AreServed kind Suits serving response_at there links → Served l → AreServed kind Suits serving response_at there (set links k l)
+  served_set links k l all here = all_set (λ (x : LoopLink C). Served x) links k l all here
+
+  pub served_push : (links : List (LoopLink C)) (l : LoopLink C) → AreServed kind Suits serving response_at there links → Served l → AreServed kind Suits serving response_at there (links ++ l ∷ [])
+  served_push links l all here = all_push (λ (x : LoopLink C). Served x) links l all here
+
+  pub served_settled : (l l' : LoopLink C) → l'.held ≡ settled l.held → l'.connection ≡ l.connection → Served l → Served l'
+  served_settled l l' is same s = record {
+    server = s.server;
+    stands = ap (λ (h : Held). there h.peer) is ∙ s.stands;
+    kept = subst (λ (o : Option C). IsKept kind (Suits s.server) (serving s.server) (response_at (serving s.server)) l'.held o) (sym same)
+        (kept_settled kind (Suits s.server) (serving s.server) (response_at (serving s.server)) l.held l'.held l.connection is s.kept);
+  }
+
+  pub served_woken : (l l' : LoopLink C) → l'.held ≡ woken_now l.held → l'.connection ≡ l.connection → l.held.ripe ≡ true → Served l → Served l'
+  served_woken l l' is same ripe s = record {
+    server = s.server;
+    stands = ap (λ (h : Held). there h.peer) is ∙ s.stands;
+    kept = subst (λ (o : Option C). IsKept kind (Suits s.server) (serving s.server) (response_at (serving s.server)) l'.held o) (sym same)
+        (kept_woken kind (Suits s.server) (serving s.server) (response_at (serving s.server)) l.held l'.held l.connection is ripe s.kept);
+  }
+
+  pub served_closed : (l l' : LoopLink C) → l'.held ≡ closed l.held → l'.connection ≡ None → Served l → Served l'
+  served_closed l l' is gone s = record {
+    server = s.server;
+    stands = ap (λ (h : Held). there h.peer) is ∙ s.stands;
+    kept = kept_closed kind (Suits s.server) (serving s.server) (response_at (serving s.server)) l.held l'.held l.connection l'.connection is gone s.kept;
+  }
+
+  -- what is owed on a link
+  abbrev Owed : Owing
+  Owed peer = owed_by (λ server. response_at (serving server)) (there peer)
+
+  pub owed_is : (peer : Option (List ℕ × ℕ)) (server : Server) → there peer ≡ Some server → Owed peer ≡ response_at (serving server)
+  owed_is peer server is = ap (owed_by (λ server. response_at (serving server))) is
+
+  held_there : (l : LoopLink C) → Served l → IsHeld (Owed l.held.peer) l.held
+  held_there l s = subst (λ (owes : List ℕ → List ℕ). IsHeld owes l.held) (sym (owed_is l.held.peer s.server s.stands)) s.kept.is_held
+
+  pub is_held_at : (links : List (LoopLink C)) (k : ℕ) → AreServed kind Suits serving response_at there links → k < length (held_of links) → IsHeld (Owed (get_or (held_of links) k no_link).peer) (get_or (held_of links) k no_link)
+  is_held_at [] k all below = absurd (omega arith)
+  is_held_at (l ∷ links) zero all below = held_there l all.0
+  is_held_at (l ∷ links) (suc k) all below = is_held_at links k all.1 (omega arith)
+
+  -- what was received of a link is what is owed on it
+  pub gives_owed : (links : List (LoopLink C)) (k : ℕ) (d new : LoopLink C) (server : Server) (most : ℕ) (stalls : Bool) (to : List ℕ) (answer : Moved) → k < length links
+      → there (get_or links k d).held.peer ≡ Some server → Gives (response_at (serving server)) most stalls to (get_or links k d).held new.held answer
+      → Gives (Owed (get_or (held_of links) k no_link).peer) most stalls to (get_or (held_of links) k no_link) (get_or (held_of (set links k new)) k no_link) answer
+  gives_owed links k d new server most stalls to answer below is gives =
+      let there_too : there (get_or (held_of links) k no_link).peer ≡ Some server = ap (λ (h : Held). there h.peer) (sym (seen_at links k d below)) ∙ is in
+      subst (λ (owes : List ℕ → List ℕ). Gives owes most stalls to (get_or (held_of links) k no_link) (get_or (held_of (set links k new)) k no_link) answer)
+      (sym (owed_is (get_or (held_of links) k no_link).peer server there_too)) (gives_at links k d new (response_at (serving server)) most stalls to answer below gives)
+
+-- what is owed to more begins with what is owed to less
+pub owed_lasts : {Server Data Settings : Type 0} (serving : Server → Serving Data Settings) (response_at : Serving Data Settings → List ℕ → List ℕ) → Lasts response_at → (o : Option Server) (fed more : List ℕ)
+    → (rest : List ℕ) × (owed_by (λ server. response_at (serving server)) o (fed ++ more) ≡ owed_by (λ server. response_at (serving server)) o fed ++ rest)
+owed_lasts serving response_at lasts None fed more = ([], refl)
+owed_lasts serving response_at lasts (Some server) fed more = lasts (serving server) fed more

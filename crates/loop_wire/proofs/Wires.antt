@@ -1,5 +1,5 @@
 -- A wire's links behind a slice of them, its counts, and what a call needs.
-use Rattle.std.proofs.Common.{ℕ, zero, suc, ◌≡◌, ◌<◌, ◌≤◌, ◌++◌, ◌&&◌, not, Bool, true, false, List, [], ◌∷◌, length, take, drop, set, get_or, Some, refl, ap, sym, subst, ◌∙◌, arith}
+use Rattle.std.proofs.Common.{ℕ, zero, suc, ◌≡◌, ◌<◌, ◌≤◌, ◌++◌, ◌&&◌, not, Bool, true, false, List, [], ◌∷◌, length, take, drop, set, get_or, Option, Some, refl, ap, sym, subst, ◌∙◌, arith}
 use Rattle.std.proofs.lemmas.List.{append-nil}
 use Rattle.std.proofs.Math.ListN.{drop_of_length-le}
 use Rattle.std.proofs.Math.Seq.{take-length}
@@ -11,8 +11,8 @@ use Rattle.tpf_base.specs.declared.wire.Moved.{Moved}
 use Rattle.connections.specs.Kinds.{Kind}
 use Rattle.connections.specs.Versions.{Serving}
 use Rattle.loop_wire.specs.declared.link.LoopLink.{LoopLink}
-use Rattle.loop_wire.specs.Held.{Held, no_link, told, IsHeld, Hears, Gives}
-use Rattle.loop_wire.specs.Looped.{Looped, held_of, is_steady, AreKept, IsWire}
+use Rattle.loop_wire.specs.Held.{Held, Owing, no_link, told_there, IsHeld, Hears, Gives}
+use Rattle.loop_wire.specs.Looped.{Looped, held_of, is_steady, AreServed}
 use Rattle.loop_wire.proofs.Calls.{CountsFine, CountsFailed}
 use Rattle.loop_wire.proofs.Lists.{length_held}
 
@@ -69,26 +69,18 @@ awake_as stalls true fourth is woken = is
 awake_as stalls false fourth is woken = absurd cc
 
 -- a link that a wait answered and whose receive stalled is short, since it is ripe
-pub ripe_short : (owes : List ℕ → List ℕ) (h : Held) → IsHeld owes h → h.ripe ≡ true → h.stalled ≡ Some Receiving → is_short (told owes h) ≡ true
+pub ripe_short : (owes : Owing) (h : Held) → IsHeld (owes h.peer) h → h.ripe ≡ true → h.stalled ≡ Some Receiving → is_short (told_there owes h) ≡ true
 ripe_short owes h held ripe way = elim (held.ripe ripe) [ ToSend up s ↦ absurd cc | ToReceive up s short ↦ short ]
 
-module _ {C Data Settings : Type 0} where
-  pub is_held_at : (kind : Kind C Data Settings) (suits : C → Type 0) (serving : Serving Data Settings) (owes : List ℕ → List ℕ) (links : List (LoopLink C)) (k : ℕ)
-      → AreKept kind suits serving owes links → k < length (held_of links) → IsHeld owes (get_or (held_of links) k no_link)
-  is_held_at kind suits serving owes [] k kept below = absurd (omega arith)
-  is_held_at kind suits serving owes (l ∷ links) zero kept below = kept.0.is_held
-  is_held_at kind suits serving owes (l ∷ links) (suc k) kept below = is_held_at kind suits serving owes links k kept.1 (omega arith)
+module _ {C Server Data Settings : Type 0} (kind : Kind C Data Settings) (Suits : Server → C → Type 0) (serving : Server → Serving Data Settings) (response_at : Serving Data Settings → List ℕ → List ℕ) (there : Option (List ℕ × ℕ) → Option Server) where
+  pub served_along : (links seen : List (LoopLink C)) → seen ≡ links → AreServed kind Suits serving response_at there links → AreServed kind Suits serving response_at there seen
+  served_along links seen is kept = subst (λ (ls : List (LoopLink C)). AreServed kind Suits serving response_at there ls) (sym is) kept
 
-  pub kept_along : (kind : Kind C Data Settings) (suits : C → Type 0) (serving : Serving Data Settings) (owes : List ℕ → List ℕ) (links seen : List (LoopLink C)) → seen ≡ links
-      → AreKept kind suits serving owes links → AreKept kind suits serving owes seen
-  kept_along kind suits serving owes links seen is kept = let P : List (LoopLink C) → Type 0 = λ ls. AreKept kind suits serving owes ls in subst P (sym is) kept
-
-  pub is_wire_put : (kind : Kind C Data Settings) (suits : C → Type 0) (serving : Serving Data Settings) (owes : List ℕ → List ℕ) (links seen new : List (LoopLink C)) (len : ℕ)
-      → IsWire kind suits serving owes links → seen ≡ links → length new ≡ length seen → length seen ≡ len → (AreKept kind suits serving owes seen → AreKept kind suits serving owes new)
-      → IsWire kind suits serving owes (take len (new ++ drop (length new) links))
-  is_wire_put kind suits serving owes links seen new len wire is same all keeps =
-      let P : List (LoopLink C) → Type 0 = λ ls. IsWire kind suits serving owes ls in
-      subst P (sym (put_back links seen new len is same all)) (record { version = wire.version; kept = keeps (kept_along kind suits serving owes links seen is wire.kept) })
+  pub is_wire_put : (links seen new : List (LoopLink C)) (len : ℕ) → AreServed kind Suits serving response_at there links → seen ≡ links → length new ≡ length seen → length seen ≡ len
+      → (AreServed kind Suits serving response_at there seen → AreServed kind Suits serving response_at there new)
+      → AreServed kind Suits serving response_at there (take len (new ++ drop (length new) links))
+  is_wire_put links seen new len wire is same all keeps =
+      subst (λ (ls : List (LoopLink C)). AreServed kind Suits serving response_at there ls) (sym (put_back links seen new len is same all)) (keeps (served_along links seen is wire))
 
 module _ {C : Type 0} where
   -- what is held, after a call that changed one link by this function
@@ -116,7 +108,8 @@ module _ {C : Type 0} where
       let P : List (LoopLink C) → List ℕ → Type 0 = λ ls f. Hears stalls f (get_or (held_of ls) k no_link) h answer in
       subst (λ f. P links f) same (subst (λ ls. P ls front) is hears)
 
-  pub gives_along : (k : ℕ) (links seen : List (LoopLink C)) (h : Held) (owes : List ℕ → List ℕ) (most : ℕ) (stalls : Bool) (to : List ℕ) (answer : Moved) → seen ≡ links
-      → Gives owes most stalls to (get_or (held_of seen) k no_link) h answer → Gives owes most stalls to (get_or (held_of links) k no_link) h answer
+  pub gives_along : (k : ℕ) (links seen : List (LoopLink C)) (h : Held) (owes : Owing) (most : ℕ) (stalls : Bool) (to : List ℕ) (answer : Moved) → seen ≡ links
+      → Gives (owes (get_or (held_of seen) k no_link).peer) most stalls to (get_or (held_of seen) k no_link) h answer
+      → Gives (owes (get_or (held_of links) k no_link).peer) most stalls to (get_or (held_of links) k no_link) h answer
   gives_along k links seen h owes most stalls to answer is gives =
-      let P : List (LoopLink C) → Type 0 = λ ls. Gives owes most stalls to (get_or (held_of ls) k no_link) h answer in subst P is gives
+      let P : List (LoopLink C) → Type 0 = λ ls. Gives (owes (get_or (held_of ls) k no_link).peer) most stalls to (get_or (held_of ls) k no_link) h answer in subst P is gives

@@ -41,6 +41,14 @@ told owes held = record {
   is_open = held.is_open;
 }
 
+-- what is owed to what was sent on a link, by the host and port for which it was dialled
+abbrev pub Owing : Type 0
+Owing = Option (List ℕ × ℕ) → List ℕ → List ℕ
+
+-- what the wire tells of a link, where this is owed on it
+abbrev pub told_there : Owing → Held → Link
+told_there owes held = told (owes held.peer) held
+
 -- ---- what a call leaves of a link
 
 abbrev pub settled : Held → Held

@@ -1,4 +1,5 @@
 pub mod Response
+pub mod Standing
 pub mod Waits
 pub mod Held
 pub mod Sides

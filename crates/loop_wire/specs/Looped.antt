@@ -12,7 +12,7 @@ use Rattle.rand_pcg.specs.Lcg.{Lcg}
 use Rattle.connections.specs.Kinds.{Kind}
 use Rattle.connections.specs.Versions.{Serving}
 use Rattle.loop_wire.specs.declared.link.LoopLink.{LoopLink}
-use Rattle.loop_wire.specs.Held.{Held, no_link, told, IsKept}
+use Rattle.loop_wire.specs.Held.{Held, Owing, no_link, told_there, IsKept}
 use Rattle.loop_wire.specs.Waits.{WaitCounts, no_waits}
 
 -- a wire that fails no call, or dials alone, is steady
@@ -31,8 +31,17 @@ every_of (At calls) = None
 every_of (AfterBytes most) = None
 every_of (Dials n) = Some n
 
-abbrev pub nature_of : Failing → Nature
-nature_of failing = record { tells = All; lively = true; steady = is_steady failing; every = every_of failing }
+-- where a server stands at every host and port; else other dials fail too, so it is not steady
+abbrev pub steady_in : Bool → Failing → Bool
+steady_in true failing = is_steady failing
+steady_in false failing = false
+
+abbrev pub every_in : Bool → Failing → Option ℕ
+every_in true failing = every_of failing
+every_in false failing = None
+
+abbrev pub nature_in : Bool → Failing → Nature
+nature_in everywhere failing = record { tells = All; lively = true; steady = steady_in everywhere failing; every = every_in everywhere failing }
 
 -- of so many dials each n-th is due, and some faults were provoked: so many dials failed since they were due, and no other call failed
 pub record FewFaults (n dials faults provoked : ℕ) : Type 0 where
@@ -49,10 +58,10 @@ CountsDue failing dials faults provoked = (n : ℕ) → every_of failing ≡ Som
 abbrev pub idle_of : Bool → ℕ
 idle_of woke = if woke then 1 else 0
 
--- these links and counts as a wire, where this is owed to what was sent; its door is never opened, and each wait that failed is a fault of it
-abbrev pub wire_of : (List ℕ → List ℕ) → List Held → CallCounts → ℕ → WaitCounts → Bool → WireState
-wire_of owes links counts provoked waits woke = record {
-  links = λ k. told owes (get_or links k no_link);
+-- These links and counts as a wire, where this is owed to what was sent on each link, and a server stands at every host and port or not. Its door is never opened, and each wait that failed is a fault of it.
+abbrev pub wire_of : Bool → Owing → List Held → CallCounts → ℕ → WaitCounts → Bool → WireState
+wire_of everywhere owes links counts provoked waits woke = record {
+  links = λ k. told_there owes (get_or links k no_link);
   given = length links;
   faults = counts.faults;
   provoked = provoked;
@@ -60,7 +69,7 @@ wire_of owes links counts provoked waits woke = record {
   waits = waits.calls;
   idle = idle_of woke;
   door = record { place = None; stalls = 0; faults = waits.faults; calls = 0 };
-  nature = nature_of counts.failing;
+  nature = nature_in everywhere counts.failing;
 }
 
 -- a call that is no dial was counted, and as a fault where it failed
@@ -71,9 +80,9 @@ called fails counts = record counts { calls = counted counts.calls; faults = if 
 abbrev pub dialled : Bool → CallCounts → CallCounts
 dialled fails counts = record counts { calls = counted counts.calls; dials = counted counts.dials; faults = if fails then counted counts.faults else counts.faults }
 
--- A wire in one process: its server, its links, its counts, the state of its generator, how many bytes moved, how many faults were provoked, how many waits there were and how many of them failed, and whether the last one succeeded with no byte moved since.
-pub record Looped (Server : Type 0) : Type 0 where
-  pub server : Server
+-- A wire in one process: the server or the servers behind it, its links, its counts, the state of its generator, how many bytes moved, how many faults were provoked, how many waits there were and how many of them failed, and whether the last one succeeded with no byte moved since.
+pub record Looped (Behind : Type 0) : Type 0 where
+  pub server : Behind
   pub links : List Held
   pub counts : CallCounts
   pub generator : Lcg
@@ -83,12 +92,16 @@ pub record Looped (Server : Type 0) : Type 0 where
   pub woke : Bool
 
 -- a wire that has given no link yet
-abbrev pub new_wire : {Server : Type 0} → Server → Lcg → Failing → Looped Server
-new_wire server generator failing = record { server = server; links = []; counts = no_calls failing; generator = generator; moved = 0; provoked = 0; waits = no_waits; woke = false }
+abbrev pub new_wire : {Behind : Type 0} → Behind → Lcg → Failing → Looped Behind
+new_wire behind generator failing = record { server = behind; links = []; counts = no_calls failing; generator = generator; moved = 0; provoked = 0; waits = no_waits; woke = false }
 
--- where this is owed to what was sent
+-- where this is owed to what was sent on each link, and a server stands at every host and port or not
+abbrev pub state_in : {Behind : Type 0} → Bool → Owing → Looped Behind → WireState
+state_in everywhere owes wire = wire_of everywhere owes wire.links wire.counts wire.provoked wire.waits wire.woke
+
+-- of one server at every host and port, where this is owed to what was sent
 abbrev pub state_of : {Server : Type 0} → (List ℕ → List ℕ) → Looped Server → WireState
-state_of owes wire = wire_of owes wire.links wire.counts wire.provoked wire.waits wire.woke
+state_of owes wire = state_in true (λ peer. owes) wire
 
 -- whether the last wait succeeded and no byte moved since, after a call with this answer
 abbrev pub woke_after : Moved → Bool → Bool
@@ -111,10 +124,13 @@ module _ {C : Type 0} where
   abbrev pub held_of : List (LoopLink C) → List Held
   held_of links = map (λ (l : LoopLink C). l.held) links
 
-  abbrev pub AreKept : {Data Settings : Type 0} → Kind C Data Settings → (C → Type 0) → Serving Data Settings → (List ℕ → List ℕ) → List (LoopLink C) → Type 0
-  AreKept kind Suits serving owes links = AllByRecursion (λ (l : LoopLink C). IsKept kind Suits serving owes l.held l.connection) links
+  module _ {Server Data Settings : Type 0} (kind : Kind C Data Settings) (Suits : Server → C → Type 0) (serving : Server → Serving Data Settings) (response_at : Serving Data Settings → List ℕ → List ℕ) (there : Option (List ℕ × ℕ) → Option Server) where
+    -- a link and its connection are as they should be, for the server that answers it
+    pub record IsServed (link : LoopLink C) : Type 0 where
+      pub server : Server
+      pub stands : there link.held.peer ≡ Some server
+      pub kept : IsKept kind (Suits server) (serving server) (response_at (serving server)) link.held link.connection
 
-  -- what is true of a wire: a version is served, and each link and its connection are as they should be
-  pub record IsWire {Data Settings : Type 0} (kind : Kind C Data Settings) (Suits : C → Type 0) (serving : Serving Data Settings) (owes : List ℕ → List ℕ) (links : List (LoopLink C)) : Type 0 where
-    pub version : 1 ≤ serving.version
-    pub kept : AreKept kind Suits serving owes links
+    -- so are all links of a wire
+    abbrev pub AreServed : List (LoopLink C) → Type 0
+    AreServed links = AllByRecursion IsServed links

@@ -66,6 +66,13 @@ impl HeldLink {
         }
     }
 
+    /// The host and the port for which it was dialled.
+    pub fn peer(&self) -> (&str, u16)
+        ensures { self.now.peer ≡ Some (result.0.now, result.1) }
+    {
+        (self.host.as_str(), self.port)
+    }
+
     /// The bytes sent.
     pub fn sent(&self) -> &[u8]
         ensures { result.now ≡ self.now.sent }

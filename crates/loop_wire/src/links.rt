@@ -1,10 +1,11 @@
 // The links of a wire by their number.
-ghost use Rattle.std.specs.Prelude.{ℕ, ◌≡◌, ◌<◌, ◌≤◌, length, set, get_or, true, false, IfSome, IfNone};
+ghost use Rattle.std.specs.Prelude.{ℕ, ◌≡◌, ◌<◌, ◌≤◌, List, length, set, get_or, Option, Some, true, false, IfSome, IfNone};
 ghost use Rattle.loop_wire.specs.Held.{no_link, settled, closed, woken_now, Hears, Gives};
-ghost use Rattle.loop_wire.specs.Looped.{held_of, AreKept};
+ghost use Rattle.loop_wire.specs.Standing.{owed_to};
+ghost use Rattle.loop_wire.specs.Looped.{held_of, IsServed, AreServed};
 
-use crate::RespondsAt;
 use crate::link::LoopLink;
+use crate::{Behind, RespondsAt};
 use tpf_base::Moved;
 
 /// The first link from this one to that one which may move a byte.
@@ -53,9 +54,9 @@ pub fn next_ripe<C: RespondsAt>(links: &[LoopLink<C>], start: usize, woke: bool)
 pub fn settle<C: RespondsAt>(links: &mut [LoopLink<C>], k: usize)
     requires { k < length links.old }
     ensures held { held_of links.new ≡ set (held_of links.old) k (settled (get_or (held_of links.old) k no_link)) }
-    ensures kept { (served : C.Server)
-        → AreKept C.kind (C.Suits served) (C.Server.serving served) (C.response_at (C.Server.serving served)) links.old
-        → AreKept C.kind (C.Suits served) (C.Server.serving served) (C.response_at (C.Server.serving served)) links.new }
+    ensures kept { (there : Option (List ℕ × ℕ) → Option C.Server)
+        → AreServed C.kind C.Suits C.Server.serving C.response_at there links.old
+        → AreServed C.kind C.Suits C.Server.serving C.response_at there links.new }
 {
     links[k].held.settle();
 }
@@ -65,9 +66,9 @@ pub fn wake<C: RespondsAt>(links: &mut [LoopLink<C>], k: usize)
     requires below { k < length links.old }
     requires ripe { (get_or (held_of links.old) k no_link).ripe ≡ true }
     ensures held { held_of links.new ≡ set (held_of links.old) k (woken_now (get_or (held_of links.old) k no_link)) }
-    ensures kept { (served : C.Server)
-        → AreKept C.kind (C.Suits served) (C.Server.serving served) (C.response_at (C.Server.serving served)) links.old
-        → AreKept C.kind (C.Suits served) (C.Server.serving served) (C.response_at (C.Server.serving served)) links.new }
+    ensures kept { (there : Option (List ℕ × ℕ) → Option C.Server)
+        → AreServed C.kind C.Suits C.Server.serving C.response_at there links.old
+        → AreServed C.kind C.Suits C.Server.serving C.response_at there links.new }
 {
     links[k].held.wake();
 }
@@ -76,55 +77,67 @@ pub fn wake<C: RespondsAt>(links: &mut [LoopLink<C>], k: usize)
 pub fn close<C: RespondsAt>(links: &mut [LoopLink<C>], k: usize)
     requires { k < length links.old }
     ensures held { held_of links.new ≡ set (held_of links.old) k (closed (get_or (held_of links.old) k no_link)) }
-    ensures kept { (served : C.Server)
-        → AreKept C.kind (C.Suits served) (C.Server.serving served) (C.response_at (C.Server.serving served)) links.old
-        → AreKept C.kind (C.Suits served) (C.Server.serving served) (C.response_at (C.Server.serving served)) links.new }
+    ensures kept { (there : Option (List ℕ × ℕ) → Option C.Server)
+        → AreServed C.kind C.Suits C.Server.serving C.response_at there links.old
+        → AreServed C.kind C.Suits C.Server.serving C.response_at there links.new }
 {
     links[k].close();
 }
 
+/// The server that answers this link.
+fn server_of<'a, C: RespondsAt, B: Behind<C>>(
+    servers: &'a B::Servers,
+    link: &LoopLink<C>,
+) -> &'a C::Server
+    requires { IsServed C.kind C.Suits C.Server.serving C.response_at (B.server_of servers.now) link.now }
+    ensures { B.server_of servers.now link.now.held.peer ≡ Some result.now }
+{
+    let (host, port) = link.held.peer();
+    match B::server_at(servers, host, port) {
+        Some(server) => server,
+        None => unreachable!(),
+    }
+}
+
 /// Sends these bytes on this open link, unless the call is to stall.
-pub fn send<C: RespondsAt>(
+pub fn send<C: RespondsAt, B: Behind<C>>(
     links: &mut [LoopLink<C>],
     k: usize,
-    server: &C::Server,
+    servers: &B::Servers,
     stalls: bool,
     front: &[u8],
 ) -> Moved
     requires below { k < length links.old }
     requires is_open { (get_or (held_of links.old) k no_link).is_open ≡ true }
-    requires kept { AreKept C.kind (C.Suits server.now) (C.Server.serving server.now)
-        (C.response_at (C.Server.serving server.now)) links.old }
+    requires kept { AreServed C.kind C.Suits C.Server.serving C.response_at (B.server_of servers.now) links.old }
     ensures hears { Hears stalls front.now
         (get_or (held_of links.old) k no_link) (get_or (held_of links.new) k no_link) result }
     ensures held { held_of links.new ≡ set (held_of links.old) k (get_or (held_of links.new) k no_link) }
-    ensures kept { AreKept C.kind (C.Suits server.now) (C.Server.serving server.now)
-        (C.response_at (C.Server.serving server.now)) links.new }
+    ensures kept { AreServed C.kind C.Suits C.Server.serving C.response_at (B.server_of servers.now) links.new }
 {
+    let server = server_of::<C, B>(servers, &links[k]);
     links[k].send(server, stalls, front)
 }
 
 /// Receives at most so many bytes on this open link, unless the call is to stall.
-pub fn receive<C: RespondsAt>(
+pub fn receive<C: RespondsAt, B: Behind<C>>(
     links: &mut [LoopLink<C>],
     k: usize,
-    server: &C::Server,
+    servers: &B::Servers,
     stalls: bool,
     most: usize,
     to: &mut [u8],
 ) -> Moved
     requires below { k < length links.old }
     requires is_open { (get_or (held_of links.old) k no_link).is_open ≡ true }
-    requires version { 1 ≤ (C.Server.serving server.now).version }
     requires most { 0 < most }
     requires room { 0 < length to.old }
-    requires kept { AreKept C.kind (C.Suits server.now) (C.Server.serving server.now)
-        (C.response_at (C.Server.serving server.now)) links.old }
-    ensures gives { Gives (C.response_at (C.Server.serving server.now)) most stalls to.new
-        (get_or (held_of links.old) k no_link) (get_or (held_of links.new) k no_link) result }
+    requires kept { AreServed C.kind C.Suits C.Server.serving C.response_at (B.server_of servers.now) links.old }
+    ensures gives { Gives (owed_to C.response_at C.Server.serving B.server_of servers.now (get_or (held_of links.old) k no_link).peer)
+        most stalls to.new (get_or (held_of links.old) k no_link) (get_or (held_of links.new) k no_link) result }
     ensures held { held_of links.new ≡ set (held_of links.old) k (get_or (held_of links.new) k no_link) }
-    ensures kept { AreKept C.kind (C.Suits server.now) (C.Server.serving server.now)
-        (C.response_at (C.Server.serving server.now)) links.new }
+    ensures kept { AreServed C.kind C.Suits C.Server.serving C.response_at (B.server_of servers.now) links.new }
 {
+    let server = server_of::<C, B>(servers, &links[k]);
     links[k].receive(server, stalls, most, to)
 }

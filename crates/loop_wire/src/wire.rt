@@ -5,16 +5,18 @@ ghost use Rattle.tpf_base.specs.Failures.{no_calls, is_next_due, is_next_dial_du
 ghost use Rattle.tpf_base.specs.Links.{WireState, SameAllowed, IsRipe};
 ghost use Rattle.tpf_base.specs.Calls.{Sends, Receives, Closes, GivesDialled, GivesNone, OnlyDials, OnlyWaits, Wakes};
 ghost use Rattle.loop_wire.specs.Held.{Held, told, no_link, new_link};
-ghost use Rattle.loop_wire.specs.Looped.{Looped, new_wire, state_of, wire_of, held_of, IsWire, CountsDue};
+ghost use Rattle.loop_wire.specs.Standing.{owed_to};
+ghost use Rattle.loop_wire.specs.Looped.{Looped, new_wire, state_in, wire_of, held_of, AreServed, CountsDue};
 ghost use Rattle.rand_pcg.specs.Pcg.{multiplier_64};
 ghost use Rattle.rand_pcg.specs.Lcg.{started, increment_of};
 
-use crate::RespondsAt;
+use crate::behind::is_there;
 use crate::counts::Waits;
 use crate::cuts::{cut, is_woke_after, moved_after, place, stalls};
 use crate::held::HeldLink;
 use crate::link::LoopLink;
 use crate::links::{close, next_ripe, receive, send, settle, wake};
+use crate::{Behind, One, RespondsAt, Servers, Several, StandsAt};
 use rand_pcg::Pcg32;
 use std::alloc::Global;
 use std::marker::Model;
@@ -23,8 +25,9 @@ use tpf_base::{Dial, Failing, Failures, Fault, Moved, Ready, Text, Wire};
 /// The stream of the generator: any one serves.
 const STREAM: u64 = 54;
 
-/// A wire in one process: each link that is dialled, to whatever host and port, is answered by a
-/// connection of one server.
+/// A wire in one process: each link that is dialled is answered by a connection of the server that
+/// stands at its host and port. `One` server stands at every host and port; of `Several` each stands at
+/// its own, and a dial to any other fails.
 ///
 /// It tells all of each link. What is owed is the response to what was sent; a reload request is
 /// answered as one that failed, since this wire has no other data. A call moves 1 to 4096 bytes, about
@@ -32,15 +35,16 @@ const STREAM: u64 = 54;
 /// stalls and order come from the seed.
 ///
 /// The calls of `send`, `recv`, `dial` and `wait` count, also one that ends in out of memory, and
-/// fail where its `Failing` says so; a dial counts among the dials too. A wait fails too where no
-/// link is ripe, or where the wait before it succeeded and no byte moved since: the caller
-/// provoked that. Each wait that fails is a fault of the door, which is never opened.
+/// fail where its `Failing` says so, whichever server is called; a dial counts among the dials too. A
+/// wait fails too where no link is ripe, or where the wait before it succeeded and no byte moved since,
+/// and a dial where no server stands: the caller provoked that. Each wait that fails is a fault of the
+/// door, which is never opened.
 ///
 /// Where a connection runs out of memory, each further call on its link that is not failed answers
 /// `OutOfMemory`, and nothing that is told of it changes from then on.
 #[derive(Drop)]
-pub struct LoopWire<C: RespondsAt> {
-    server: C::Server,
+pub struct LoopWire<C: RespondsAt, B: Behind<C> = One> {
+    servers: B::Servers,
     links: Vec<LoopLink<C>>,
     failures: Failures,
     generator: Pcg32,
@@ -51,11 +55,11 @@ pub struct LoopWire<C: RespondsAt> {
     woke: bool,
 }
 
-impl<C: RespondsAt> Model for LoopWire<C> {
-    ghost Value = { Looped C.Server };
+impl<C: RespondsAt, B: Behind<C>> Model for LoopWire<C, B> {
+    ghost Value = { Looped B.Servers };
 
     ghost view = { λ w. record {
-      server = w.server;
+      server = w.servers;
       links = held_of w.links.items;
       counts = w.failures;
       generator = w.generator;
@@ -65,18 +69,42 @@ impl<C: RespondsAt> Model for LoopWire<C> {
       woke = w.woke;
     } };
 
-    ghost invariant = { λ w. IsWire C.kind (C.Suits w.server) (C.Server.serving w.server)
-        (C.response_at (C.Server.serving w.server)) w.links.items
+    ghost invariant = { λ w.
+        AreServed C.kind C.Suits C.Server.serving C.response_at (B.server_of w.servers) w.links.items
         × CountsDue w.failures.failing w.failures.dials w.failures.faults w.provoked };
 }
 
-impl<C: RespondsAt> LoopWire<C> {
+impl<C: RespondsAt> LoopWire<C, One> {
     /// A wire to this server that has given no link yet. It takes no memory.
     pub fn new(alloc: Global, server: C::Server, seed: u64, failing: Failing) -> LoopWire<C>
         ensures { result ≡ new_wire server (started 64 multiplier_64 seed (increment_of 64 54)) failing }
     {
+        LoopWire::begun(alloc, server, seed, failing)
+    }
+}
+
+impl<C: StandsAt> LoopWire<C, Several> {
+    /// A wire to these servers that has given no link yet. Each answers as it is now, at the host and the
+    /// port at which it stands; where two stand at one, the first does. It takes no memory.
+    pub fn to_servers(
+        alloc: Global,
+        servers: Vec<C::Server>,
+        seed: u64,
+        failing: Failing,
+    ) -> LoopWire<C, Several>
+        ensures { result ≡ new_wire servers.items (started 64 multiplier_64 seed (increment_of 64 54)) failing }
+    {
+        LoopWire::begun(alloc, Servers::new(servers), seed, failing)
+    }
+}
+
+impl<C: RespondsAt, B: Behind<C>> LoopWire<C, B> {
+    /// A wire to what stands behind it that has given no link yet. It takes no memory.
+    fn begun(alloc: Global, servers: B::Servers, seed: u64, failing: Failing) -> LoopWire<C, B>
+        ensures { result ≡ new_wire servers (started 64 multiplier_64 seed (increment_of 64 54)) failing }
+    {
         LoopWire {
-            server,
+            servers,
             links: Vec::new(alloc),
             failures: Failures::new(failing),
             generator: Pcg32::new(seed, STREAM),
@@ -111,23 +139,26 @@ impl<C: RespondsAt> LoopWire<C> {
     }
 }
 
-impl<C: RespondsAt> Wire for LoopWire<C> {
+impl<C: RespondsAt, B: Behind<C>> Wire for LoopWire<C, B> {
     ghost use Rattle.loop_wire.specs.Laws.{all_told, none_open, front_received, front_owed, is_calm};
 
-    ghost state = { λ wire. state_of (C.response_at (C.Server.serving wire.server)) wire };
+    ghost state = { λ wire. state_in B.everywhere (owed_to C.response_at C.Server.serving B.server_of wire.server) wire };
 
-    ghost allows = { λ wire host port sent owed. owed ≡ C.response_at (C.Server.serving wire.server) sent };
+    ghost allows = { λ wire host port sent owed.
+        owed ≡ owed_to C.response_at C.Server.serving B.server_of wire.server (Some (host, port)) sent };
 
-    ghost told = { λ wire k. all_told (C.response_at (C.Server.serving wire.server)) wire.links k };
+    ghost told = { λ wire k. all_told (owed_to C.response_at C.Server.serving B.server_of wire.server) wire.links k };
 
-    ghost given_alone = { λ wire. none_open (C.response_at (C.Server.serving wire.server)) wire.links };
+    ghost given_alone = { λ wire. none_open (owed_to C.response_at C.Server.serving B.server_of wire.server) wire.links };
 
-    ghost received_is_owed = { λ wire k. front_received (C.response_at (C.Server.serving wire.server)) wire.links k };
+    ghost received_is_owed = { λ wire k.
+        front_received (owed_to C.response_at C.Server.serving B.server_of wire.server) wire.links k };
 
-    ghost owed_is_allowed = { λ wire k. front_owed (C.response_at (C.Server.serving wire.server)) wire.links k };
+    ghost owed_is_allowed = { λ wire k.
+        front_owed (owed_to C.response_at C.Server.serving B.server_of wire.server) wire.links k };
 
-    ghost is_lively = { λ wire.
-        is_calm (C.response_at (C.Server.serving wire.server)) wire.links wire.counts wire.provoked wire.waits wire.woke };
+    ghost is_lively = { λ wire. is_calm B.everywhere (owed_to C.response_at C.Server.serving B.server_of wire.server)
+        wire.links wire.counts wire.provoked wire.waits wire.woke };
 
     fn send(&mut self, link: u64, piece: &[u8]) -> Moved {
         let k = link as usize;
@@ -139,7 +170,7 @@ impl<C: RespondsAt> Wire for LoopWire<C> {
         let stalling = stalls(&mut self.generator, self.links[k].held.is_woken());
         let most = cut(&mut self.generator).min(piece.len());
         let n = self.failures.room(self.moved, most);
-        let answer = send(&mut self.links, k, &self.server, stalling, &piece[..n]);
+        let answer = send::<C, B>(&mut self.links, k, &self.servers, stalling, &piece[..n]);
         self.moved = moved_after(answer, self.moved);
         self.woke = is_woke_after(answer, self.woke);
         answer
@@ -154,7 +185,7 @@ impl<C: RespondsAt> Wire for LoopWire<C> {
         }
         let stalling = stalls(&mut self.generator, self.links[k].held.is_woken());
         let most = self.failures.room(self.moved, cut(&mut self.generator));
-        let answer = receive(&mut self.links, k, &self.server, stalling, most, to);
+        let answer = receive::<C, B>(&mut self.links, k, &self.servers, stalling, most, to);
         self.moved = moved_after(answer, self.moved);
         self.woke = is_woke_after(answer, self.woke);
         answer
@@ -192,10 +223,15 @@ impl<C: RespondsAt> Wire for LoopWire<C> {
     }
 }
 
-impl<C: RespondsAt> Dial for LoopWire<C> {
+impl<C: RespondsAt, B: Behind<C>> Dial for LoopWire<C, B> {
     fn dial(&mut self, host: &str, port: u16) -> Result<u64, Fault> {
         if self.failures.is_next_dial_due(self.moved) {
             self.failures.fail();
+            return Err(Fault::Failed);
+        }
+        if !is_there::<C, B>(&self.servers, host, port) {
+            self.failures.fail();
+            self.provoked = self.provoked.saturating_add(1);
             return Err(Fault::Failed);
         }
         let alloc = *self.links.allocator();

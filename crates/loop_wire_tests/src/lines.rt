@@ -1,7 +1,7 @@
 // Bytes both ways, dials and waits.
 use crate::line::Line;
 use echo_server::{Echo, EchoServer};
-use loop_wire::LoopWire;
+use loop_wire::{LoopWire, Several};
 use std::alloc::{AllocError, Global};
 use std::test::Fail;
 use tpf_base::{Dial, Failing, Fault, Ready, Wire};
@@ -61,4 +61,28 @@ fn a_wait_with_no_ripe_link_fails(rt: HostRuntime) {
     let failed = Err(Fault::Failed);
     assert_eq!(rt; waits(&mut wire), (failed, Ok(0), failed));
     assert_eq!(rt; wire.idle(), 0);
+}
+
+/// Servers that stand at the ports 7 and 8 of every host.
+fn servers(alloc: Global) -> Result<Vec<EchoServer>, AllocError> {
+    let mut servers = Vec::new(alloc);
+    servers.push(EchoServer::new(7))?;
+    servers.push(EchoServer::new(8))?;
+    Ok(servers)
+}
+
+#[test]
+fn a_dial_where_no_server_stands_fails(rt: HostRuntime) -> Result<(), Fail> {
+    let servers = servers(rt.alloc())?;
+    let mut wire: LoopWire<Echo, Several> = LoopWire::to_servers(
+        rt.alloc(),
+        servers,
+        1,
+        Failing::Never,
+    );
+    assert_eq!(rt; wire.dial("a", 7), Ok(0));
+    assert_eq!(rt; wire.dial("a", 9), Err(Fault::Failed));
+    assert_eq!(rt; wire.dial("b", 8), Ok(1));
+    assert_eq!(rt; wire.links(), 2);
+    Ok(())
 }

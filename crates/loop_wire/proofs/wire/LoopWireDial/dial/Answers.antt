@@ -1,18 +1,22 @@
-use Rattle.std.proofs.Common.{ℕ, ◌≡◌, false, List, length, Some, is_err, refl, ap, sym, ◌∙◌, rules}
+use Rattle.std.proofs.Common.{ℕ, ◌≡◌, true, false, List, length, Some, is_err, refl, ap, sym, ◌∙◌, rules}
+use Rattle.std.proofs.lemmas.Bool.{both_ways}
 use Rattle.tpf_base.specs.Failures.{CallCounts}
-use Rattle.loop_wire.specs.Held.{new_link}
-use Rattle.loop_wire.specs.Looped.{held_of}
+use Rattle.loop_wire.specs.Held.{Owing, new_link}
+use Rattle.loop_wire.specs.Standing.{owed_to}
+use Rattle.loop_wire.specs.Looped.{Looped, held_of, steady_in}
 use Rattle.loop_wire.proofs.Lists.{length_held}
-use Rattle.loop_wire.proofs.Calls.{gives_as}
-use Rattle.loop_wire.proofs.Waits.{pushed, held_push, kept_new, is_wire_push}
-use Rattle.loop_wire.proofs.Faults.{due_dialled, due_spared, dial_was_due}
+use Rattle.loop_wire.proofs.Calls.{gives_as, every_alone, steady_everywhere}
+use Rattle.loop_wire.proofs.Waits.{pushed, held_push, is_wire_push, some_of}
+use Rattle.loop_wire.proofs.Faults.{due_dialled, due_spared, due_stranger, dial_was_due}
 use Rattle.loop_wire.proofs.wire.LoopWireDial.dial.Goals as goal
 
 pub invariant_of-self-2 : goal.invariant_of-self-2
 invariant_of-self-2 g c =
     let fine : is_err c.push.result ≡ false = cc in
-    let more = pushed c.push.result _ _ _ c.push.ensures.items fine in (
-      is_wire_push _ _ _ _ _ _ _ c.self.invariant.0 more (kept_new _ _ _ _ _ _ _ c.new.ensures c.new-2.ensures.opens (c.new-2.ensures.suits c.self.inside.server)),
+    let more = pushed c.push.result _ _ _ c.push.ensures.items fine in
+    let there = some_of (g.B.Behind.server_of c.self.inside.servers (Some (c.args.host.now, c.args.port))) (sym c.is_there.ensures ∙ c.if-not-is_there.false) in
+    let made : c.new.result ≡ new_link (Some (c.args.host.now, c.args.port)) = c.new.ensures ∙ ap (λ (h : List ℕ). new_link (Some (h, c.args.port))) c.in-Ok.ensures in (
+      is_wire_push _ _ _ _ _ (Some (c.args.host.now, c.args.port)) there.0 _ _ _ _ c.self.invariant.0 more there.1 made refl c.new-2.ensures.opens (c.new-2.ensures.suits there.0),
       due_spared c.self.inside.failures c.is_next_dial_due.new.self _ _ _ refl c.is_next_dial_due.ensures.counts c.self.invariant.1,
     )
 
@@ -31,7 +35,7 @@ invariant_of-self-then-is_err g c = (search rules, due_spared c.self.inside.fail
 pub returns-then-is_next_dial_due-clause-steady : goal.returns-then-is_next_dial_due-clause-steady
 returns-then-is_next_dial_due-clause-steady g c = λ steady. rw (← c.self.view_is) (record {
   unprovoked = λ few. refl;
-  not_due = λ few e every free. absurd (dial_was_due c.self.inside.failures c.is_next_dial_due.new.self c.fail.new.self c.self.inside.moved _ e (sym c.is_next_dial_due.ensures.due ∙ c.if-is_next_dial_due.true) c.is_next_dial_due.ensures.counts c.fail.ensures.counts every free);
+  not_due = λ few e every free. absurd (dial_was_due c.self.inside.failures c.is_next_dial_due.new.self c.fail.new.self c.self.inside.moved _ e (sym c.is_next_dial_due.ensures.due ∙ c.if-is_next_dial_due.true) c.is_next_dial_due.ensures.counts c.fail.ensures.counts (every_alone g.B.Behind.everywhere c.self.inside.failures.failing e every) free);
 })
 
 pub returns-then-is_err-clause-steady : goal.returns-then-is_err-clause-steady
@@ -42,15 +46,26 @@ returns-then-is_err-clause-steady g c = λ steady. rw (← c.self.view_is) (reco
 
 pub returns-clause-ok : goal.returns-clause-ok
 returns-clause-ok g c =
-    let owes : List ℕ → List ℕ = g.C.RespondsAt.response_at (g.C.Server.Serves.serving c.self.inside.server) in
+    let owes : Owing = owed_to g.C.RespondsAt.response_at g.C.Server.Serves.serving g.B.Behind.server_of c.self.inside.servers in
     let fine : is_err c.push.result ≡ false = cc in
     let more = pushed c.push.result _ _ _ c.push.ensures.items fine in
     let first : c.len-number.result ≡ length (held_of c.self.inside.links.items) = c.len-number.ensures ∙ c.self.inside.links.ok.0 ∙ sym (length_held c.self.inside.links.items) in
     let made : c.new.result ≡ new_link (Some (c.args.host.now, c.args.port)) = c.new.ensures ∙ ap (λ (h : List ℕ). new_link (Some (h, c.args.port))) c.in-Ok.ensures in
-    rw (← c.self.view_is) (gives_as owes (Some (c.args.host.now, c.args.port)) c.len-number.result (held_of c.self.inside.links.items) _ c.self.inside.failures c.is_next_dial_due.new.self _ _ _ first (held_push _ _ _ _ more made))
+    rw (← c.self.view_is) (gives_as g.B.Behind.everywhere owes (Some (c.args.host.now, c.args.port)) c.len-number.result (held_of c.self.inside.links.items) _ c.self.inside.failures c.is_next_dial_due.new.self _ _ _ first (held_push _ _ _ _ more made))
 
 pub returns-clause-steady : goal.returns-clause-steady
 returns-clause-steady g c = λ steady. rw (← c.self.view_is) (record {
   unprovoked = λ few. refl;
   not_due = λ few e every free. record { same = ap (λ (n : CallCounts). n.faults) c.is_next_dial_due.ensures.counts; answer = λ f. absurd cc };
 })
+
+pub invariant_of-self-then-not-is_there : goal.invariant_of-self-then-not-is_there
+invariant_of-self-then-not-is_there g c = (
+  c.self.invariant.0,
+  due_stranger c.self.inside.failures c.is_next_dial_due.new.self c.fail-then-not-is_there.new.self _ _ c.self.inside.provoked _ refl c.is_next_dial_due.ensures.counts c.fail-then-not-is_there.ensures.counts c.saturating_add-self-inside.ensures c.self.invariant.1,
+)
+
+pub returns-then-not-is_there-clause-steady : goal.returns-then-not-is_there-clause-steady
+returns-then-not-is_there-clause-steady g c = λ steady.
+    let all : g.B.Behind.everywhere ≡ true = steady_everywhere g.B.Behind.everywhere c.self.inside.failures.failing (ap (λ (v : Looped _). steady_in g.B.Behind.everywhere v.counts.failing) c.self.view_is ∙ steady) in
+    absurd (both_ways _ (sym c.is_there.ensures ∙ c.if-not-is_there.true) (g.met.B.Behind.stands_everywhere all c.self.inside.servers c.args.host.now c.args.port))

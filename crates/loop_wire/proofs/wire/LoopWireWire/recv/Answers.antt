@@ -1,23 +1,24 @@
-use Rattle.std.proofs.Common.{ℕ, ◌≡◌, ◌<◌, List, length, get_or, ap, sym, ◌∙◌, arith}
+use Rattle.std.proofs.Common.{◌≡◌, ◌<◌, length, get_or, ap, sym, ◌∙◌, arith}
 use Rattle.tpf_base.specs.Failures.{CallCounts}
-use Rattle.loop_wire.specs.Held.{Held, no_link, settled}
+use Rattle.loop_wire.specs.Held.{Held, Owing, no_link, settled}
+use Rattle.loop_wire.specs.Standing.{owed_to}
 use Rattle.loop_wire.specs.Looped.{held_of}
-use Rattle.loop_wire.proofs.Lists.{length_held, held_at}
+use Rattle.loop_wire.proofs.Lists.{length_held, held_at, is_held_at}
 use Rattle.loop_wire.proofs.Calls.{never_due, receives_due, receives_as}
-use Rattle.loop_wire.proofs.Wires.{open_seen, below_seen, slice_open, slice_below, is_wire_put, held_put_by, held_put, gives_along, kept_along, is_held_at, counts_failed, counts_fine, some_room, awake_as, ripe_short}
+use Rattle.loop_wire.proofs.Wires.{open_seen, below_seen, slice_open, slice_below, is_wire_put, held_put_by, held_put, gives_along, served_along, counts_failed, counts_fine, some_room, awake_as, ripe_short}
 use Rattle.loop_wire.proofs.Faults.{due_same, due_unsteady}
 use Rattle.loop_wire.proofs.wire.LoopWireWire.recv.Goals as goal
 
 pub invariant_of-self : goal.invariant_of-self
 invariant_of-self g c = (
-  is_wire_put _ _ _ _ _ c.deref_mut.result.now _ _ c.self.invariant.0 c.deref_mut.ensures.value c.settle.auto.links c.deref_mut.ensures.len (c.settle.ensures.kept c.self.inside.server),
+  is_wire_put _ _ _ _ _ _ c.deref_mut.result.now _ _ c.self.invariant.0 c.deref_mut.ensures.value c.settle.auto.links c.deref_mut.ensures.len (c.settle.ensures.kept (g.B.Behind.server_of c.self.inside.servers)),
   due_unsteady c.self.inside.failures c.is_next_due.new.self c.fail.new.self _ _ c.is_next_due.ensures.counts c.fail.ensures.counts (never_due c.self.inside.failures.failing _ _ (sym c.is_next_due.ensures.due ∙ c.if-is_next_due.true)),
 )
 
 pub returns-then-is_next_due-clause-receives : goal.returns-then-is_next_due-clause-receives
 returns-then-is_next_due-clause-receives g c =
-    let owes : List ℕ → List ℕ = g.C.RespondsAt.response_at (g.C.Server.Serves.serving c.self.inside.server) in
-    rw (← c.self.view_is) (receives_due owes c.args.link (held_of c.self.inside.links.items) _ c.self.inside.failures c.fail.new.self _ _ _ _ (below_seen _ _ c.args.link c.self.view_is c.requires.is_open)
+    let owes : Owing = owed_to g.C.RespondsAt.response_at g.C.Server.Serves.serving g.B.Behind.server_of c.self.inside.servers in
+    rw (← c.self.view_is) (receives_due g.B.Behind.everywhere owes c.args.link (held_of c.self.inside.links.items) _ c.self.inside.failures c.fail.new.self _ _ _ _ (below_seen _ _ c.args.link c.self.view_is c.requires.is_open)
     (held_put_by settled _ _ c.deref_mut.result.now _ _ c.deref_mut.ensures.value c.settle.auto.links c.deref_mut.ensures.len c.settle.ensures.held)
     (counts_failed c.self.inside.failures c.is_next_due.new.self c.fail.new.self _ c.is_next_due.ensures.counts c.fail.ensures.counts c.fail.ensures.later
     (never_due c.self.inside.failures.failing _ _ (sym c.is_next_due.ensures.due ∙ c.if-is_next_due.true))))
@@ -29,30 +30,27 @@ pub receive-answer-requires-clause-is_open : goal.receive-answer-requires-clause
 receive-answer-requires-clause-is_open g c = slice_open c.self.inside.links.items _ _ c.deref_mut-2.ensures.value (open_seen _ _ c.args.link c.self.view_is c.requires.is_open)
 
 pub receive-answer-requires-clause-kept : goal.receive-answer-requires-clause-kept
-receive-answer-requires-clause-kept g c = kept_along _ _ _ _ _ _ c.deref_mut-2.ensures.value c.self.invariant.0.kept
+receive-answer-requires-clause-kept g c = served_along _ _ _ _ _ _ _ c.deref_mut-2.ensures.value c.self.invariant.0
 
 pub invariant_of-self-2 : goal.invariant_of-self-2
 invariant_of-self-2 g c = (
-  is_wire_put _ _ _ _ _ c.deref_mut-2.result.now _ _ c.self.invariant.0 c.deref_mut-2.ensures.value c.receive-answer.auto.links c.deref_mut-2.ensures.len (λ before. c.receive-answer.ensures.kept),
+  is_wire_put _ _ _ _ _ _ c.deref_mut-2.result.now _ _ c.self.invariant.0 c.deref_mut-2.ensures.value c.receive-answer.auto.links c.deref_mut-2.ensures.len (λ before. c.receive-answer.ensures.kept),
   due_same c.self.inside.failures c.is_next_due.new.self _ _ c.is_next_due.ensures.counts c.self.invariant.1,
 )
 
 pub returns-clause-receives : goal.returns-clause-receives
 returns-clause-receives g c =
-    let owes : List ℕ → List ℕ = g.C.RespondsAt.response_at (g.C.Server.Serves.serving c.self.inside.server) in
+    let owes : Owing = owed_to g.C.RespondsAt.response_at g.C.Server.Serves.serving g.B.Behind.server_of c.self.inside.servers in
     let below : c.args.link < length (held_of c.self.inside.links.items) = below_seen _ _ c.args.link c.self.view_is c.requires.is_open in
     let within : c.args.link < length c.self.inside.links.items = omega (arith, below, length_held c.self.inside.links.items) in
-    let held = is_held_at _ _ _ _ _ _ c.self.invariant.0.kept below in
+    let held = is_held_at _ _ _ _ _ _ _ c.self.invariant.0 below in
     let up : (get_or (held_of c.self.inside.links.items) c.args.link no_link).woken ≡ c.is_woken.result = ap (λ (h : Held). h.woken) (held_at c.self.inside.links.items c.args.link c.index.result.now within c.index.ensures) ∙ sym c.is_woken.ensures in
-    rw (← c.self.view_is) (receives_as owes c.args.link (held_of c.self.inside.links.items) _ c.self.inside.failures c.is_next_due.new.self _ _ _ c.room-most.result _ c.stalls-stalling.result c.receive-answer.result (get_or (held_of c.receive-answer.new.links) c.args.link no_link) _ below
+    rw (← c.self.view_is) (receives_as g.B.Behind.everywhere owes c.args.link (held_of c.self.inside.links.items) _ c.self.inside.failures c.is_next_due.new.self _ _ _ c.room-most.result _ c.stalls-stalling.result c.receive-answer.result (get_or (held_of c.receive-answer.new.links) c.args.link no_link) _ below
     (held_put _ _ _ c.deref_mut-2.result.now _ _ c.deref_mut-2.ensures.value c.receive-answer.auto.links c.deref_mut-2.ensures.len c.receive-answer.ensures.held)
     (counts_fine c.self.inside.failures c.is_next_due.new.self _ c.is_next_due.ensures.counts) c.is_woke_after-self-inside.ensures
-    (gives_along _ _ c.deref_mut-2.result.now _ _ _ _ _ _ c.deref_mut-2.ensures.value c.receive-answer.ensures.gives)
-    (record { moves = λ woken way. (awake_as _ _ _ c.stalls-stalling.ensures.value (sym up ∙ woken), ripe_short _ _ held (held.awake woken) way) }))
+    (gives_along _ _ c.deref_mut-2.result.now _ owes _ _ _ _ c.deref_mut-2.ensures.value c.receive-answer.ensures.gives)
+    (record { moves = λ woken way. (awake_as _ _ _ c.stalls-stalling.ensures.value (sym up ∙ woken), ripe_short owes _ held (held.awake woken) way) }))
 
 pub receive-answer-requires-clause-most : goal.receive-answer-requires-clause-most
 receive-answer-requires-clause-most g c =
     some_room c.self.inside.failures.failing c.is_next_due.new.self.failing _ _ _ (ap (λ (n : CallCounts). n.failing) c.is_next_due.ensures.counts) c.room-most.ensures.value (c.is_next_due.ensures.some c.if-is_next_due.false _ c.cut.ensures.least)
-
-pub receive-answer-requires-clause-version : goal.receive-answer-requires-clause-version
-receive-answer-requires-clause-version g c = c.self.invariant.0.version
