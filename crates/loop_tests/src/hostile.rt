@@ -45,7 +45,7 @@ pub fn served<R: Wait>(
     alloc: Global,
     links: &[Link],
     stop_after: u64,
-) -> Result<ScriptWire, Fail> {
+) -> Result<Box<ScriptWire>, Fail> {
     let mut wire = wire_of(alloc, links, Failing::Never)?;
     if serve_seven(rt, alloc, &mut wire, stop_after)? && wire.links() == links.len() {
         Ok(wire)

@@ -50,13 +50,19 @@ pub fn script(alloc: Global, link: &Link) -> Result<Script, Fail> {
     })
 }
 
-/// A wire with these links.
-pub fn wire_of(alloc: Global, links: &[Link], failing: Failing) -> Result<ScriptWire, Fail> {
+/// The scripts of these links.
+fn scripts_of(alloc: Global, links: &[Link]) -> Result<Vec<Script>, Fail> {
     let mut scripts = Vec::new(alloc);
     for link in links {
         scripts.push(script(alloc, link)?)?;
     }
-    Ok(ScriptWire::new(alloc, scripts, failing))
+    Ok(scripts)
+}
+
+/// A wire with these links.
+pub fn wire_of(alloc: Global, links: &[Link], failing: Failing) -> Result<Box<ScriptWire>, Fail> {
+    let scripts = scripts_of(alloc, links)?;
+    Ok(Box::new(alloc, ScriptWire::new(alloc, scripts, failing))?)
 }
 
 /// What was sent on a link, and nothing where it was not given.

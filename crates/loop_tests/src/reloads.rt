@@ -56,7 +56,7 @@ fn serve_reloading<R: Wait>(
 }
 
 /// Serves the same at these links until all have ended, and gives the wire.
-fn served<R: Wait>(rt: &R, alloc: Global, links: &[Link]) -> Result<ScriptWire, Fail> {
+fn served<R: Wait>(rt: &R, alloc: Global, links: &[Link]) -> Result<Box<ScriptWire>, Fail> {
     let mut wire = wire_of(alloc, links, Failing::Never)?;
     if serve_reloading(rt, alloc, &mut wire, links.len() as u64)? && wire.links() == links.len() {
         Ok(wire)

@@ -74,7 +74,7 @@ pub record SpeaksOfFile (shelf shelf' : ShelfState) (name : List ℕ) (choice : 
   pub starts : Starts shelf.told name choice config server
   pub services : Services server old new (FailedShelf shelf shelf' config) (Says (MayFollow shelf.told name choice config))
 
--- how often it waited: it took turns, and waited after each that moved and ended nothing, until enough connections had ended, or until it gave up for this reason; or it stopped, and one connection had wanted memory
+-- how often it waited: it took turns, and waited after each round of them in which nothing moved or ended, until enough connections had ended, or until it gave up for this reason; or it stopped, and one connection had wanted memory
 abbrev pub TakesTurns : Config → Option ℕ → WireState → WireState → Result ℕ ServiceFault → Type 0
 TakesTurns config stop_after old new (Ok connections) = ServesTurns fragments config stop_after connections old new
 TakesTurns config stop_after old new (Err (faults.Data fault)) = ⊥

@@ -1,5 +1,5 @@
 -- How often the supply was asked.
-use Rattle.std.proofs.Common.{ℕ, zero, suc, ◌≡◌, ◌+◌, ◌^◌, ◌<◌, ◌≤◌, inl, inr, List, [], ◌∷◌, ◌++◌, length, Option, Some, None, Bool, true, false, refl, sym, ◌∙◌, ap, subst, arith, length-append, add-one}
+use Rattle.std.proofs.Common.{ℕ, zero, suc, ◌≡◌, ◌+◌, ◌^◌, ◌<◌, ◌≤◌, inl, inr, List, [], ◌∷◌, ◌++◌, length, Option, Some, None, Bool, true, false, refl, sym, ◌∙◌, ap, subst, arith, length-append, add-one, if◌then◌else◌}
 use Rattle.connections.specs.Kinds.{Kind}
 use Rattle.connections.specs.declared.reloaded.Reloaded.{Reloaded}
 use Rattle.connections.specs.declared.reloaded.Reloaded.TheVariants as outcomes
@@ -7,10 +7,13 @@ use Rattle.tpf_base.specs.Causes.{counted_by}
 use Rattle.tpf_base.specs.Links.{WireState}
 use Rattle.connections.specs.Versions.{Serving, MOST_VERSIONS}
 use Rattle.serve_loop.specs.declared.live.Live.{Live}
+use Rattle.serve_loop.specs.declared.live.Part.{Part}
 use Rattle.serve_loop.specs.Traffic.{Moment, took}
 use Rattle.serve_loop.specs.Steps.{Supplies, Welcomes}
 use Rattle.serve_loop.specs.Asks.{AreAnswered, waits_for, waiting, AnswersAt, AnswersBelow, AnswersAll}
 use Rattle.serve_loop.proofs.TalkLemmas.{all_as}
+use Rattle.serve_loop.specs.Parts.{is_in, among, parted}
+use Rattle.serve_loop.proofs.PartLemmas.{among_vacant}
 use Rattle.serve_loop.proofs.RelatesLemmas.{same_or}
 
 module _ {Data Settings : Type 0} where
@@ -109,35 +112,41 @@ module _ {C Data Settings : Type 0} where
 
   -- ---- a new connection waits for nothing
 
-  same_waits : (kind : Kind C Data Settings) (at at' : ℕ → Option (Live C)) (accepted : Bool) (len after : ℕ) (a b : WireState) → Welcomes kind at at' accepted len after a b
-      → (k : ℕ) → waits_for kind (at' k) ≡ waits_for kind (at k)
-  same_waits kind at at' false len after a b w k = ap (λ (o : Option (Live C)). waits_for kind o) (w.others k (inr refl))
-  same_waits kind at at' true len after a b w k = elim (same_or k w.key) [
-    | inl p ↦ ap (λ (j : ℕ). waits_for kind (at' j)) p ∙ ap (λ (o : Option (Live C)). waits_for kind o) (w.found refl).1.1 ∙ none_if kind (record { link = a.given; connection = (w.found refl).0 }) (w.found refl).1.0.wants
-        ∙ sym (ap (λ (j : ℕ). waits_for kind (at j)) p ∙ ap (λ (o : Option (Live C)). waits_for kind o) (w.vacant refl))
-    | inr n ↦ ap (λ (o : Option (Live C)). waits_for kind o) (w.others k (inl n))
+  none_if_in : (kind : Kind C Data Settings) (b : Bool) (l : Live C) → kind.wants l.connection ≡ false → waits_for kind (if b then Some l else None) ≡ 0
+  none_if_in kind true l e = none_if kind l e
+  none_if_in kind false l e = refl
+
+  same_waits : (kind : Kind C Data Settings) (part : Part) (at at' : ℕ → Option (Live C)) (accepted : Bool) (len after : ℕ) (a b : WireState) → Welcomes kind at at' accepted len after a b
+      → (k : ℕ) → waits_for kind (parted part at' k) ≡ waits_for kind (parted part at k)
+  same_waits kind part at at' false len after a b w k = ap (λ (o : Option (Live C)). waits_for kind (among part o)) (w.others k (inr refl))
+  same_waits kind part at at' true len after a b w k = elim (same_or k w.key) [
+    | inl p ↦ ap (λ (j : ℕ). waits_for kind (among part (at' j))) p ∙ ap (λ (o : Option (Live C)). waits_for kind (among part o)) (w.found refl).1.1
+        ∙ none_if_in kind (is_in part a.given) (record { link = a.given; connection = (w.found refl).0 }) (w.found refl).1.0.wants
+        ∙ sym (ap (λ (j : ℕ). waits_for kind (among part (at j))) p ∙ ap (λ (o : Option (Live C)). waits_for kind (among part o)) (w.vacant refl))
+    | inr n ↦ ap (λ (o : Option (Live C)). waits_for kind (among part o)) (w.others k (inl n))
   ]
 
   waiting_same : (kind : Kind C Data Settings) (at at' : ℕ → Option (Live C)) (n : ℕ) → ((k : ℕ) → waits_for kind (at' k) ≡ waits_for kind (at k)) → waiting kind at' n ≡ waiting kind at n
   waiting_same kind at at' zero same = refl
   waiting_same kind at at' (suc n) same = let h = waiting_same kind at at' n same in let s = same n in omega (arith, h, s)
 
-  vacant_before : (kind : Kind C Data Settings) (at at' : ℕ → Option (Live C)) (accepted : Bool) (len after : ℕ) (a b : WireState) → Welcomes kind at at' accepted len after a b
-      → (k : ℕ) → at' k ≡ None → at k ≡ None
-  vacant_before kind at at' false len after a b w k none = sym (w.others k (inr refl)) ∙ none
-  vacant_before kind at at' true len after a b w k none = elim (same_or k w.key) [
-    | inl p ↦ ap at p ∙ w.vacant refl
-    | inr n ↦ sym (w.others k (inl n)) ∙ none
+  vacant_before : (kind : Kind C Data Settings) (part : Part) (at at' : ℕ → Option (Live C)) (accepted : Bool) (len after : ℕ) (a b : WireState) → Welcomes kind at at' accepted len after a b
+      → (k : ℕ) → parted part at' k ≡ None → parted part at k ≡ None
+  vacant_before kind part at at' false len after a b w k none = ap (λ (o : Option (Live C)). among part o) (sym (w.others k (inr refl))) ∙ none
+  vacant_before kind part at at' true len after a b w k none = elim (same_or k w.key) [
+    | inl p ↦ among_vacant part (at k) (ap at p ∙ w.vacant refl)
+    | inr n ↦ ap (λ (o : Option (Live C)). among part o) (sym (w.others k (inl n))) ∙ none
   ]
 
-  pub answers_welcomed : (kind : Kind C Data Settings) (may : Data → Type 0) (at at' : ℕ → Option (Live C)) (accepted : Bool) (len after : ℕ) (a b : WireState) (old now : Moment Data Settings)
-      → Welcomes kind at at' accepted len after a b → AnswersAll kind may at' old now → AnswersAll kind may at old now
-  answers_welcomed kind may at at' accepted len after a b old now w h = record {
-    keys = h.keys;
-    above = λ key from. vacant_before kind at at' accepted len after a b w key (h.above key from);
-    outcomes = h.outcomes;
-    count = h.count ∙ waiting_same kind at at' h.keys (same_waits kind at at' accepted len after a b w);
-    answered = h.answered;
-    asked = subst (λ (m : ℕ). old.served.version + m ≤ MOST_VERSIONS → old.supply.calls < 2 ^ 64 → now.supply.calls ≡ counted_by m old.supply.calls)
-        (waiting_same kind at at' h.keys (same_waits kind at at' accepted len after a b w)) h.asked;
-  }
+  pub answers_welcomed : (kind : Kind C Data Settings) (may : Data → Type 0) (part : Part) (at at' : ℕ → Option (Live C)) (accepted : Bool) (len after : ℕ) (a b : WireState) (old now : Moment Data Settings)
+      → Welcomes kind at at' accepted len after a b → AnswersAll kind may (parted part at') old now → AnswersAll kind may (parted part at) old now
+  answers_welcomed kind may part at at' accepted len after a b old now w h =
+      let same = waiting_same kind (parted part at) (parted part at') h.keys (same_waits kind part at at' accepted len after a b w) in
+      record {
+        keys = h.keys;
+        above = λ key from. vacant_before kind part at at' accepted len after a b w key (h.above key from);
+        outcomes = h.outcomes;
+        count = h.count ∙ same;
+        answered = h.answered;
+        asked = subst (λ (m : ℕ). old.served.version + m ≤ MOST_VERSIONS → old.supply.calls < 2 ^ 64 → now.supply.calls ≡ counted_by m old.supply.calls) same h.asked;
+      }

@@ -1,5 +1,5 @@
 -- The turns of a service, and how often it asked its supply in them.
-use Rattle.std.proofs.Common.{ℕ, ◌≡◌, ◌+◌, List, [], ◌∷◌, ◌++◌, length, take, Option, Some, refl, ◌∙◌, ap, subst, arith, append-nil, length-append}
+use Rattle.std.proofs.Common.{ℕ, ◌≡◌, ◌+◌, Bool, List, [], ◌∷◌, ◌++◌, length, take, Option, Some, refl, ◌∙◌, ap, subst, arith, append-nil, length-append}
 use Rattle.tpf_base.specs.Causes.{counted_by}
 use Rattle.tpf_base.specs.Calls.{GivesNone}
 use Rattle.tpf_base.specs.Links.{WireState}
@@ -7,8 +7,12 @@ use Rattle.connections.specs.Kinds.{Kind}
 use Rattle.connections.specs.Versions.{Serving, SupplyState}
 use Rattle.connections.specs.declared.reloaded.Reloaded.{Reloaded}
 use Rattle.serve_loop.specs.declared.live.Live.{Live}
+use Rattle.serve_loop.specs.declared.live.Part.{Part}
 use Rattle.serve_loop.specs.declared.live.ServeFault.{ServeFault}
 use Rattle.serve_loop.specs.declared.live.Turned.{Turned}
+use Rattle.serve_loop.specs.declared.round.Round.{Round}
+use Rattle.serve_loop.specs.Parts.{parted}
+use Rattle.serve_loop.specs.Rounds.{Turn}
 use Rattle.serve_loop.specs.Traffic.{Lives, Talk, Traffic, Moment, moment}
 use Rattle.serve_loop.specs.Relates.{IsTalk, Relates}
 use Rattle.serve_loop.specs.Calls.{LeavesAll}
@@ -19,17 +23,19 @@ use Rattle.serve_loop.specs.AskedTurns.{AnswersLink, AreLive, AskedTurns, AsksOn
 use Rattle.serve_loop.proofs.AskLemmas.{answered_may, answered_then, calls_answered}
 use Rattle.serve_loop.proofs.CloseLemmas.{told_same, told_then}
 use Rattle.serve_loop.proofs.GreetLemmas.{gives_between, greeted_count, greeted_gives, rests_between}
+use Rattle.serve_loop.proofs.RoundLemmas.{Stands, turn_of}
 use Rattle.serve_loop.proofs.SentenceLemmas.{has_one, some_same}
 
 -- The turns so far, in which the supply was asked for these outcomes, the last one first.
-pub record AskedSoFar {C Data Settings : Type 0} (kind : Kind C Data Settings) (may : Data → Type 0) (live : ℕ) (old now : Moment Data Settings) : Type 0 where
-  pub turns : List Turned
+pub record AskedSoFar {C Data Settings : Type 0} (kind : Kind C Data Settings) (may : Data → Type 0) (live : ℕ) (round : Round) (old now : Moment Data Settings) : Type 0 where
+  pub turns : List Turn
   pub waited : ℕ
   pub took : AskedTurns kind may old.served.config old.wire.given turns waited old now
   pub links : live + ended_in turns + old.wire.given ≡ now.wire.given
   pub outcomes : List Reloaded
   pub count : length outcomes ≡ waited
   pub answered : AreAnswered may outcomes old (moment now.served now.supply old.wire)
+  pub stands : Stands old.wire.given turns round now.wire
 
 pub none_given : (w : WireState) → GivesNone w w
 none_given w = record { given = refl; links = λ k. refl; idle = refl }
@@ -39,8 +45,8 @@ pub none_asked : {Data Settings : Type 0} (served served' : Serving Data Setting
 none_asked {Data = Data} {Settings = Settings} served served' supply supply' same a = (ap (λ (m : Moment Data Settings). m.served) a, ap (λ (m : Moment Data Settings). m.supply) a)
 
 module _ {C Data Settings : Type 0} where
-  pub asked_none : (kind : Kind C Data Settings) (may : Data → Type 0) (live : ℕ) (now : Moment Data Settings) → live ≡ 0 → AskedSoFar kind may live now now
-  asked_none kind may live now none = record { turns = []; waited = 0; took = (refl, refl); links = omega (arith, none); outcomes = []; count = refl; answered = refl }
+  pub asked_none : (kind : Kind C Data Settings) (may : Data → Type 0) (live : ℕ) (round : Round) (now : Moment Data Settings) → live ≡ 0 → Stands now.wire.given [] round now.wire → AskedSoFar kind may live round now now
+  asked_none kind may live round now none stands = record { turns = []; waited = 0; took = (refl, refl); links = omega (arith, none); outcomes = []; count = refl; answered = refl; stands = stands }
 
   -- a live connection is that of an open link, and answers what came and went on it
   answers_link : (kind : Kind C Data Settings) (may : Data → Type 0) (first : List Data) (since now : Moment Data Settings) (t : Traffic C Data) (at : ℕ → Option (Live C)) (live key : ℕ) (l : Live C)
@@ -83,26 +89,26 @@ module _ {C Data Settings : Type 0} where
   }
 
   -- one turn more, and what came behind it
-  pub asked_more : (kind : Kind C Data Settings) (may may' : Data → Type 0) (first : List Data) (old : Moment Data Settings) (t : Traffic C Data) (at : ℕ → Option (Live C)) (live rest : ℕ) (turned : Turned)
-      (served served' : Serving Data Settings) (supply supply' : SupplyState Data) (a b c : WireState) (s : AskedSoFar kind may live old (moment served supply a))
+  pub asked_more : (kind : Kind C Data Settings) (may may' : Data → Type 0) (first : List Data) (old : Moment Data Settings) (t : Traffic C Data) (at : ℕ → Option (Live C)) (live rest : ℕ) (part : Part) (turned : Turned) (round new : Round)
+      (served served' : Serving Data Settings) (supply supply' : SupplyState Data) (a b c : WireState) (s : AskedSoFar kind may live round old (moment served supply a))
       → Relates kind may first old t at live (moment served supply a) → ((d : Data) → may' d → may d)
-      → TakesTurn kind old.served.config old.wire.given (ended_in s.turns) turned a b
-      → AnswersAll kind may' at (moment served supply old.wire) (moment served' supply' old.wire)
-      → PassesBetween b c → rest + turned.ended + a.given ≡ live + c.given
-      → AskedSoFar kind may rest old (moment served' supply' c)
-  asked_more kind may may' first old t at live rest turned served served' supply supply' a b c s r f turn asks between count =
-      let h = answers_may kind may' may at (moment served supply old.wire) (moment served' supply' old.wire) f asks in
+      → TakesTurn kind old.served.config old.wire.given s.turns (turn_of part a.given turned) a b
+      → AnswersAll kind may' (parted part at) (moment served supply old.wire) (moment served' supply' old.wire)
+      → PassesBetween b c → rest + turned.ended + a.given ≡ live + c.given → Stands old.wire.given (turn_of part a.given turned ∷ s.turns) new c
+      → AskedSoFar kind may rest new old (moment served' supply' c)
+  asked_more kind may may' first old t at live rest part turned round new served served' supply supply' a b c s r f turn asks between count stands =
+      let h = answers_may kind may' may (parted part at) (moment served supply old.wire) (moment served' supply' old.wire) f asks in
       let sl = s.links in
       let hc = h.count in
       let sc = s.count in
       record {
-        turns = turned ∷ s.turns;
-        waited = s.waited + waiting kind at h.keys;
+        turns = turn_of part a.given turned ∷ s.turns;
+        waited = s.waited + waiting kind (parted part at) h.keys;
         took = (
           moment served supply a,
           b,
           s.waited,
-          waiting kind at h.keys,
+          waiting kind (parted part at) h.keys,
           s.took,
           turn,
           record { at = at; lives = are_live kind may first old (moment served supply a) t at live r; answers = h; waited_is = refl },
@@ -113,12 +119,13 @@ module _ {C Data Settings : Type 0} where
         outcomes = h.outcomes ++ s.outcomes;
         count = omega (arith, length-append h.outcomes s.outcomes, hc, sc);
         answered = answered_then may s.outcomes h.outcomes old (moment served supply old.wire) (moment served' supply' old.wire) s.answered h.answered;
+        stands = stands;
       }
 
   -- the end
-  pub asks_once : (kind : Kind C Data Settings) (may : Data → Type 0) (live : ℕ) (old now : Moment Data Settings) (served : Serving Data Settings) (supply : SupplyState Data) (wire : WireState) → AskedSoFar kind may live old now
+  pub asks_once : (kind : Kind C Data Settings) (may : Data → Type 0) (live : ℕ) (round : Round) (old now : Moment Data Settings) (served : Serving Data Settings) (supply : SupplyState Data) (wire : WireState) → AskedSoFar kind may live round old now
       → served ≡ now.served → supply ≡ now.supply → GivesNone now.wire wire → AsksOnce kind may old (moment served supply wire)
-  asks_once kind may live old now served supply wire s of_served of_supply none = record {
+  asks_once kind may live round old now served supply wire s of_served of_supply none = record {
     turns = s.turns;
     waited = s.waited;
     last = now;
@@ -135,17 +142,17 @@ module _ {C Data Settings : Type 0} where
   }
 
   -- what followed the last turn failed
-  pub failed_asks : (kind : Kind C Data Settings) (may : Data → Type 0) (fault : ServeFault) (turned : Turned) (at new : Lives C) (old : Moment Data Settings) (served : Serving Data Settings) (supply : SupplyState Data) (b c : WireState)
-      → FailsAfter kind fault turned at new b c
-      → ((m : WireState) (left : ℕ) → PassesBetween b m → left + b.given ≡ at.count + m.given → AskedSoFar kind may left old (moment served supply m))
+  pub failed_asks : (kind : Kind C Data Settings) (may : Data → Type 0) (fault : ServeFault) (rests : Bool) (round : Round) (at new : Lives C) (old : Moment Data Settings) (served : Serving Data Settings) (supply : SupplyState Data) (b c : WireState)
+      → FailsAfter kind fault rests at new b c
+      → ((m : WireState) (left : ℕ) → PassesBetween b m → left + b.given ≡ at.count + m.given → AskedSoFar kind may left round old (moment served supply m))
       → AsksOnce kind may old (moment served supply c)
-  failed_asks kind may fault turned at new old served supply b c (Greeting busy g) f =
-      asks_once kind may g.mid.count old (moment served supply g.between) served supply c
+  failed_asks kind may fault rests round at new old served supply b c (Greeting busy g) f =
+      asks_once kind may g.mid.count round old (moment served supply g.between) served supply c
       (f g.between g.mid.count (gives_between b g.between (greeted_gives kind g.number at g.mid b g.between g.greeted)) (greeted_count kind g.number at g.mid b g.between g.greeted))
       refl refl g.fails.none
-  failed_asks kind may fault turned at new old served supply b c (Resting still none same w fails) f =
+  failed_asks kind may fault rests round at new old served supply b c (Resting quiet same w fails) f =
       let wg = w.given in
-      asks_once kind may at.count old (moment served supply c) served supply c (f c at.count (rests_between b c w) (omega (arith, wg))) refl refl (none_given c)
+      asks_once kind may at.count round old (moment served supply c) served supply c (f c at.count (rests_between b c w) (omega (arith, wg))) refl refl (none_given c)
 
   -- at the exit links are closed
   pub asks_left : (kind : Kind C Data Settings) (may : Data → Type 0) (at : ℕ → Option (Live C)) (old : Moment Data Settings) (served : Serving Data Settings) (supply : SupplyState Data) (a b : WireState)

@@ -1,5 +1,5 @@
 -- Links that wait at the door get connections, one after another; and what that leaves of the traffic.
-use Rattle.std.proofs.Common.{ℕ, zero, suc, ◌≡◌, ◌+◌, ◌≤◌, inl, inr, List, [], Option, Bool, true, false, refl, sym, ◌∙◌, ap, subst, arith}
+use Rattle.std.proofs.Common.{ℕ, zero, suc, ◌≡◌, ◌+◌, ◌≤◌, inl, inr, List, [], ◌∷◌, Option, Bool, true, false, refl, sym, ◌∙◌, ap, subst, arith}
 use Rattle.std.specs.Prelude.{Result, Ok, Err, OnOk, IfErr, ⊤}
 use Rattle.tpf_base.specs.Links.{Link, WireState}
 use Rattle.tpf_base.specs.Calls.{GivesNone}
@@ -10,7 +10,8 @@ use Rattle.serve_loop.specs.declared.live.Live.{Live}
 use Rattle.serve_loop.specs.declared.live.ServeFault.{ServeFault}
 use Rattle.serve_loop.specs.declared.live.ServeFault.TheVariants as faults
 use Rattle.serve_loop.specs.declared.live.TheConstants.{MOST_LIVE}
-use Rattle.serve_loop.specs.declared.live.Turned.{Turned}
+use Rattle.serve_loop.specs.declared.round.Round.{Round}
+use Rattle.serve_loop.specs.Rounds.{Turn, rests_behind}
 use Rattle.serve_loop.specs.Traffic.{Lives, Traffic, Moment, moment}
 use Rattle.serve_loop.specs.Relates.{Relates}
 use Rattle.serve_loop.specs.Calls.{ServesAlone, RestsWire}
@@ -254,11 +255,11 @@ module _ {C Data Settings : Type 0} where
 
   -- ---- behind a turn
 
-  pub follows_turns : (kind : Kind C Data Settings) (may : Data → Type 0) (first : List Data) (since : Moment Data Settings) (turned : Turned) (at new : Lives C) (served : Serving Data Settings) (supply : SupplyState Data) (a b : WireState)
-      → FollowsTurn kind turned at new a b → (t : Traffic C Data) → Relates kind may first since t at.found at.count (moment served supply a)
+  pub follows_turns : (kind : Kind C Data Settings) (may : Data → Type 0) (first : List Data) (since : Moment Data Settings) (rests : Bool) (at new : Lives C) (served : Serving Data Settings) (supply : SupplyState Data) (a b : WireState)
+      → FollowsTurn kind rests at new a b → (t : Traffic C Data) → Relates kind may first since t at.found at.count (moment served supply a)
       → TurnsTo kind may first since t nothing new.found new.count (moment served supply a) (moment served supply b)
-  follows_turns kind may first since turned at new served supply a b (IsGreeted busy g) t r = greets_turns kind may first since at new served supply a b g t r
-  follows_turns kind may first since turned at new served supply a b (IsRested still none same w waits) t r = record {
+  follows_turns kind may first since rests at new served supply a b (IsGreeted busy g) t r = greets_turns kind may first since at new served supply a b g t r
+  follows_turns kind may first since rests at new served supply a b (IsRested quiet same w waits) t r = record {
     traffic = t;
     relates = subst (λ (x : Lives C). Relates kind may first since t x.found x.count (moment served supply b)) (sym same) (relates_rests kind may first since t at.found at.count served supply a b w r);
     ends = ends_same t a.faults b.faults w.alone.faults;
@@ -266,38 +267,39 @@ module _ {C Data Settings : Type 0} where
     up = omega arith;
   }
 
-  pub follows_count : (kind : Kind C Data Settings) (turned : Turned) (at new : Lives C) (a b : WireState) → FollowsTurn kind turned at new a b → new.count + a.given ≡ at.count + b.given
-  follows_count kind turned at new a b (IsGreeted busy g) = greets_count kind at new a b g
-  follows_count kind turned at new a b (IsRested still none same w waits) = let c = ap (λ (x : Lives C). x.count) same in let wg = w.given in omega (arith, c, wg)
+  pub follows_count : (kind : Kind C Data Settings) (rests : Bool) (at new : Lives C) (a b : WireState) → FollowsTurn kind rests at new a b → new.count + a.given ≡ at.count + b.given
+  follows_count kind rests at new a b (IsGreeted busy g) = greets_count kind at new a b g
+  follows_count kind rests at new a b (IsRested quiet same w waits) = let c = ap (λ (x : Lives C). x.count) same in let wg = w.given in omega (arith, c, wg)
 
-  pub follows_between : (kind : Kind C Data Settings) (turned : Turned) (at new : Lives C) (a b : WireState) → FollowsTurn kind turned at new a b → PassesBetween a b
-  follows_between kind turned at new a b (IsGreeted busy g) = gives_between a b (greets_gives kind at new a b g)
-  follows_between kind turned at new a b (IsRested still none same w waits) = rests_between a b w
+  pub follows_between : (kind : Kind C Data Settings) (rests : Bool) (at new : Lives C) (a b : WireState) → FollowsTurn kind rests at new a b → PassesBetween a b
+  follows_between kind rests at new a b (IsGreeted busy g) = gives_between a b (greets_gives kind at new a b g)
+  follows_between kind rests at new a b (IsRested quiet same w waits) = rests_between a b w
 
-  pub comes_after : (kind : Kind C Data Settings) (turned : Turned) (at new : Lives C) (since done : ℕ) (a b : WireState) → FollowsTurn kind turned at new a b → at.count + done + since ≡ a.given → new.count ≤ MOST_LIVE → ComesAfter since done turned a b
-  comes_after kind turned at new since done a b (IsGreeted busy g) links few = Greets busy (greets_links kind at new since done a b g links few)
-  comes_after kind turned at new since done a b (IsRested still none same w waits) links few = Rests still none w waits
+  pub comes_after : (kind : Kind C Data Settings) (rests : Bool) (turns : List Turn) (at new : Lives C) (since : ℕ) (a b : WireState) → rests ≡ rests_behind turns → FollowsTurn kind rests at new a b
+      → at.count + ended_in turns + since ≡ a.given → new.count ≤ MOST_LIVE → ComesAfter since turns a b
+  comes_after kind rests turns at new since a b is (IsGreeted busy g) links few = Greets (sym is ∙ busy) (greets_links kind at new since (ended_in turns) a b g links few)
+  comes_after kind rests turns at new since a b is (IsRested quiet same w waits) links few = Rests (sym is ∙ quiet) w waits
 
   -- ---- where that failed
 
-  pub failed_carries : (kind : Kind C Data Settings) (may : Data → Type 0) (first : List Data) (since : Moment Data Settings) (fault : ServeFault) (turned : Turned) (at new : Lives C) (served : Serving Data Settings) (supply : SupplyState Data) (a b : WireState)
-      → FailsAfter kind fault turned at new a b → (t : Traffic C Data) → Relates kind may first since t at.found at.count (moment served supply a)
+  pub failed_carries : (kind : Kind C Data Settings) (may : Data → Type 0) (first : List Data) (since : Moment Data Settings) (fault : ServeFault) (rests : Bool) (at new : Lives C) (served : Serving Data Settings) (supply : SupplyState Data) (a b : WireState)
+      → FailsAfter kind fault rests at new a b → (t : Traffic C Data) → Relates kind may first since t at.found at.count (moment served supply a)
       → Carries kind may first since new.found new.count (moment served supply b)
-  failed_carries kind may first since fault turned at new served supply a b (Greeting busy g) t r =
+  failed_carries kind may first since fault rests at new served supply a b (Greeting busy g) t r =
       let q = greeted_turns kind may first since g.number at g.mid served supply a g.between g.greeted t r in record {
         traffic = q.traffic;
         relates = unwelcomed kind may first since q.traffic g.mid.found new.found g.mid.count new.count served supply g.between b g.stay g.len g.fails.none g.fails.alone q.relates;
       }
-  failed_carries kind may first since fault turned at new served supply a b (Resting still none same w fails) t r = record {
+  failed_carries kind may first since fault rests at new served supply a b (Resting quiet same w fails) t r = record {
     traffic = t;
     relates = subst (λ (x : Lives C). Relates kind may first since t x.found x.count (moment served supply b)) (sym same) (relates_rests kind may first since t at.found at.count served supply a b w r);
   }
 
   -- and the service gave up
-  pub fails_after : (kind : Kind C Data Settings) (config : Settings) (stop_after : Option ℕ) (fault : ServeFault) (x live : ℕ) (turned : Turned) (at new : Lives C) (old a b c : WireState) (s : SoFar kind config stop_after x live old a)
-      → TakesTurn kind config old.given (ended_in s.turns) turned a b → at.count + (ended_in s.turns + turned.ended) + old.given ≡ b.given → new.count ≤ MOST_LIVE
-      → FailsAfter kind fault turned at new b c → FailsTurns kind config stop_after fault old c
-  fails_after kind config stop_after fault x live turned at new old a b c s turn links few (Greeting busy g) =
+  pub fails_after : (kind : Kind C Data Settings) (config : Settings) (stop_after : Option ℕ) (fault : ServeFault) (x live : ℕ) (round : Round) (rests : Bool) (turn : Turn) (at new : Lives C) (old a b c : WireState) (s : SoFar kind config stop_after x live round old a)
+      → TakesTurn kind config old.given s.turns turn a b → rests ≡ rests_behind (turn ∷ s.turns) → at.count + (ended_in s.turns + turn.turned.ended) + old.given ≡ b.given → new.count ≤ MOST_LIVE
+      → FailsAfter kind fault rests at new b c → FailsTurns kind config stop_after fault old c
+  fails_after kind config stop_after fault x live round rests turn at new old a b c s takes is links few (Greeting busy g) =
       let h = greeted_count kind g.number at g.mid b g.between g.greeted in
       let l = g.len in
       record {
@@ -307,16 +309,16 @@ module _ {C Data Settings : Type 0} where
         took = s.took;
         too_few = s.too_few;
         last = inr (inr (record {
-          turned = turned;
+          turn = turn;
           after = b;
           last = g.between;
-          turn = turn;
-          busy = busy;
+          takes = takes;
+          greets = sym is ∙ busy;
           gives = greeted_gives kind g.number at g.mid b g.between g.greeted;
           most = omega (arith, h, l, links, few);
           fails = g.fails;
         }));
         left = links_none c;
       }
-  fails_after kind config stop_after fault x live turned at new old a b c s turn links few (Resting still none same w fails) =
-      fails_wait kind config stop_after fault x live turned old a b c s turn still none fails
+  fails_after kind config stop_after fault x live round rests turn at new old a b c s takes is links few (Resting quiet same w fails) =
+      fails_wait kind config stop_after fault x live round turn old a b c s takes (sym is ∙ quiet) fails

@@ -4,9 +4,12 @@ use Rattle.tpf_base.specs.Links.{WireState}
 use Rattle.connections.specs.Kinds.{Kind}
 use Rattle.slab.specs.Slab.{Slab, get, with_value}
 use Rattle.serve_loop.specs.declared.live.Live.{Live}
+use Rattle.serve_loop.specs.declared.live.Part.{Part}
 use Rattle.serve_loop.specs.declared.live.Stepped.{Stepped}
 use Rattle.serve_loop.specs.Calls.{AllGoOn, GoesOnSpeaking, IsPrepared, IsQuiet, ends, left_by}
+use Rattle.serve_loop.specs.Parts.{parted}
 use Rattle.serve_loop.specs.Steps.{Welcomes}
+use Rattle.serve_loop.proofs.PartLemmas.{among_some, among_in}
 use Rattle.serve_loop.proofs.BelowLemmas.{below_or, last_or}
 use Rattle.serve_loop.proofs.PreparedLemmas.{nothing_pending}
 use Rattle.serve_loop.proofs.RelatesLemmas.{here, none_some}
@@ -48,9 +51,9 @@ module _ {C Data Settings : Type 0} where
   pub go_on_none : (kind : Kind C Data Settings) (at new : ℕ → Option (Live C)) → GoOnBelow kind 0 at new
   go_on_none kind at new = λ key x y below. absurd (omega (arith, below))
 
-  pub go_on_more : (kind : Kind C Data Settings) (n : ℕ) (at mid new : ℕ → Option (Live C)) → GoOnBelow kind n at mid → mid n ≡ at n → ((other : ℕ) → other ≢ n → new other ≡ mid other)
-      → ((x y : Live C) → mid n ≡ Some x → new n ≡ Some y → GoesOnSpeaking kind x.connection y.connection) → GoOnBelow kind (n + 1) at new
-  go_on_more kind n at mid new h same others last = λ key x y below e f. elim (last_or key n below) [
+  pub go_on_more : (kind : Kind C Data Settings) (n : ℕ) (slot : Option (Live C)) (at mid new : ℕ → Option (Live C)) → GoOnBelow kind n at mid → slot ≡ at n → ((other : ℕ) → other ≢ n → new other ≡ mid other)
+      → ((x y : Live C) → slot ≡ Some x → new n ≡ Some y → GoesOnSpeaking kind x.connection y.connection) → GoOnBelow kind (n + 1) at new
+  go_on_more kind n slot at mid new h same others last = λ key x y below e f. elim (last_or key n below) [
     | inl p ↦ last x y (same ∙ ap at (sym p) ∙ e) (ap new (sym p) ∙ f)
     | inr q ↦ h key x y q e (sym (others key (λ r. absurd (omega (arith, q, r)))) ∙ f)
   ]
@@ -68,5 +71,7 @@ module _ {C Data Settings : Type 0} where
   kept_welcomed kind at at' true len after a b w key l e = w.others key (inl (λ p. none_some l (sym (w.vacant refl) ∙ ap at (sym p) ∙ e))) ∙ e
   kept_welcomed kind at at' false len after a b w key l e = w.others key (inr refl) ∙ e
 
-  pub go_on_welcomed : (kind : Kind C Data Settings) (at at' new : ℕ → Option (Live C)) (accepted : Bool) (len after : ℕ) (a b : WireState) → Welcomes kind at at' accepted len after a b → AllGoOn kind at' new → AllGoOn kind at new
-  go_on_welcomed kind at at' new accepted len after a b w h = λ key x y e f. h key x y (kept_welcomed kind at at' accepted len after a b w key x e) f
+  pub go_on_welcomed : (kind : Kind C Data Settings) (part : Part) (at at' new : ℕ → Option (Live C)) (accepted : Bool) (len after : ℕ) (a b : WireState)
+      → Welcomes kind at at' accepted len after a b → AllGoOn kind (parted part at') new → AllGoOn kind (parted part at) new
+  go_on_welcomed kind part at at' new accepted len after a b w h = λ key x y e f. let s = among_some part (at key) x e in
+      h key x y (among_in part (at' key) x (kept_welcomed kind at at' accepted len after a b w key x s.0) s.1) f

@@ -1,36 +1,46 @@
 -- The turns and waits of a service, one after another.
-use Rattle.std.proofs.Common.{ℕ, ◌≡◌, ◌+◌, ◌<◌, ◌≤◌, ◌^◌, inl, inr, List, [], ◌∷◌, ◌++◌, take, Option, Some, None, true, false, refl, sym, ◌∙◌, ap, subst, arith, append-nil}
+use Rattle.std.proofs.Common.{ℕ, ◌≡◌, ◌+◌, ◌<◌, ◌≤◌, ◌^◌, inl, inr, List, [], ◌∷◌, ◌++◌, take, Option, Some, None, true, refl, sym, ◌∙◌, ap, subst, arith, append-nil}
 use Rattle.std.specs.Prelude.{IfSome, IfErr, Result, Ok, Err}
 use Rattle.tpf_base.specs.Causes.{Rose, counted_by}
 use Rattle.tpf_base.specs.Links.{Door, WireState}
 use Rattle.connections.specs.Kinds.{Kind}
 use Rattle.serve_loop.specs.declared.live.Live.{Live}
+use Rattle.serve_loop.specs.declared.live.Part.{Part}
 use Rattle.serve_loop.specs.declared.live.ServeFault.{ServeFault}
 use Rattle.serve_loop.specs.declared.live.ServeFault.TheVariants as faults
 use Rattle.serve_loop.specs.declared.live.TheConstants.{MOST_LIVE}
 use Rattle.serve_loop.specs.declared.live.Turned.{Turned}
+use Rattle.serve_loop.specs.declared.round.Round.{Round}
+use Rattle.serve_loop.specs.Parts.{is_in, parted}
+use Rattle.serve_loop.specs.Rounds.{Turn, IsNext, rests_behind}
 use Rattle.serve_loop.specs.Traffic.{Talk, Traffic, Moment}
 use Rattle.serve_loop.specs.Relates.{IsTalk, Relates}
 use Rattle.serve_loop.specs.Calls.{ServesAlone, IsBusy, LeavesAll, IsOwned}
 use Rattle.serve_loop.specs.Service.{ended_in, ServesLink, TakesTurn, ComesAfter, TookTurns, AreTooFew, FailsTurn, FailsWait, RoseAtDoor, HasDoorCause, ServesTurns, FailsTurns}
 use Rattle.serve_loop.proofs.CloseLemmas.{links_none, links_then}
+use Rattle.serve_loop.proofs.PartLemmas.{among_some, among_in}
+use Rattle.serve_loop.proofs.RelatesLemmas.{is_not}
+use Rattle.serve_loop.proofs.RoundLemmas.{Stands, turn_of}
 use Rattle.serve_loop.proofs.SentenceLemmas.{has_one, some_same}
 
 -- The turns so far.
-pub record SoFar {C Data Settings : Type 0} (kind : Kind C Data Settings) (config : Settings) (stop_after : Option ℕ) (connections live : ℕ) (old now : WireState) : Type 0 where
-  pub turns : List Turned
+pub record SoFar {C Data Settings : Type 0} (kind : Kind C Data Settings) (config : Settings) (stop_after : Option ℕ) (connections live : ℕ) (round : Round) (old now : WireState) : Type 0 where
+  pub turns : List Turn
   pub took : TookTurns kind config old.given turns old now
   pub count : connections ≡ counted_by (ended_in turns) 0
   pub links : live + ended_in turns + old.given ≡ now.given
   pub too_few : AreTooFew stop_after turns
+  pub stands : Stands old.given turns round now
 
-pub so_far_none : {C Data Settings : Type 0} (kind : Kind C Data Settings) (config : Settings) (stop_after : Option ℕ) (live : ℕ) (w : WireState) → live ≡ 0 → SoFar kind config stop_after 0 live w w
-so_far_none kind config stop_after live w none = record {
+pub so_far_none : {C Data Settings : Type 0} (kind : Kind C Data Settings) (config : Settings) (stop_after : Option ℕ) (live : ℕ) (round : Round) (w : WireState) → live ≡ 0 → Stands w.given [] round w
+    → SoFar kind config stop_after 0 live round w w
+so_far_none kind config stop_after live round w none stands = record {
   turns = [];
   took = refl;
   count = refl;
   links = omega (arith, none);
   too_few = λ some. absurd (some refl);
+  stands = stands;
 }
 
 few_enough : (stop_after : Option ℕ) (x n : ℕ) → IfSome stop_after (λ m. m < 2 ^ 64) → x ≡ counted_by n 0 → IfSome stop_after (λ m. x < m) → IfSome stop_after (λ m. n < m)
@@ -49,10 +59,10 @@ count_more x y n e p q = omega (arith, p, q)
 
 module _ {C Data Settings : Type 0} where
   -- an open link of the service is that of a connection that answers what came and went on it
-  serves_link : (kind : Kind C Data Settings) (may : Data → Type 0) (first : List Data) (since now : Moment Data Settings) (t : Traffic C Data) (turned : Turned) (at : ℕ → Option (Live C)) (live : ℕ) (b : WireState) (config : Settings) (k : ℕ)
-      → config ≡ since.served.config → Relates kind may first since t at live now → IsBusy kind MOST_LIVE turned at live now.wire b → since.wire.given ≤ k → k < now.wire.given → (o : IsOwned at k)
+  serves_link : (kind : Kind C Data Settings) (may : Data → Type 0) (first : List Data) (since now : Moment Data Settings) (t : Traffic C Data) (part : Part) (turned : Turned) (at : ℕ → Option (Live C)) (live : ℕ) (b : WireState) (config : Settings) (k : ℕ)
+      → config ≡ since.served.config → Relates kind may first since t at live now → IsBusy kind MOST_LIVE turned (parted part at) live now.wire b → since.wire.given ≤ k → k < now.wire.given → is_in part k ≡ true → (o : IsOwned at k)
       → ServesLink kind config turned k now.wire b
-  serves_link kind may first since now t turned at live b config k is r busy later given o =
+  serves_link kind may first since now t part turned at live b config k is r busy later given inside o =
       let l = r.lives o.key o.live o.found in
       let talks = r.talks o.live.link l.later l.given in
       let h = subst (λ (x : Talk C). IsTalk kind since t.history t.owner now o.live.link x) (some_same (t.talks o.live.link) talks.talk l.talk talks.talk_is l.talk_is) talks.is in
@@ -67,26 +77,30 @@ module _ {C Data Settings : Type 0} where
             (subst (λ (c : C). kind.Answers t.history now.served.config l.talk.fed l.talk.taken l.talk.marks c) l.connection h.answers);
         sent_is = λ sent told. h.sent_is sent told ∙ ap (λ (n : ℕ). l.talk.taken ++ take n (kind.pending l.talk.connection)) l.over ∙ append-nil l.talk.taken;
         received_is = λ received told. h.received_is received told ∙ ap (λ (x : List ℕ). l.talk.fed ++ x) l.unfed ∙ append-nil l.talk.fed;
-        turns = busy.links o.key o.live o.found;
+        turns = busy.links o.key o.live (among_in part (at o.key) o.live o.found (ap (λ (j : ℕ). is_in part j) o.link ∙ inside));
       })
 
   -- a turn of the loop is one of the service, whose links are those of its connections
-  pub takes_turn : (kind : Kind C Data Settings) (may : Data → Type 0) (first : List Data) (since now : Moment Data Settings) (t : Traffic C Data) (turned : Turned) (at : ℕ → Option (Live C)) (live done : ℕ) (b : WireState) (config : Settings)
-      → config ≡ since.served.config → Relates kind may first since t at live now → live + done + since.wire.given ≡ now.wire.given → IsBusy kind MOST_LIVE turned at live now.wire b → (turned.moved ≡ true → b.idle ≡ 0)
-      → TakesTurn kind config since.wire.given done turned now.wire b
-  takes_turn kind may first since now t turned at live done b config is r links busy idle = record {
-    links = λ k later given is_open. serves_link kind may first since now t turned at live b config k is r busy later given (r.owned k later given is_open);
-    others = λ k below. busy.others k (omega (arith, below, links)) (λ o. let x = (r.lives o.key o.live o.found).later in let s = o.link in absurd (omega (arith, below, x, s)));
+  pub takes_turn : (kind : Kind C Data Settings) (may : Data → Type 0) (first : List Data) (since now : Moment Data Settings) (t : Traffic C Data) (part : Part) (turned : Turned) (at : ℕ → Option (Live C)) (live : ℕ) (turns : List Turn) (b : WireState) (config : Settings)
+      → config ≡ since.served.config → Relates kind may first since t at live now → live + ended_in turns + since.wire.given ≡ now.wire.given → IsNext since.wire.given turns part now.wire
+      → IsBusy kind MOST_LIVE turned (parted part at) live now.wire b → (turned.moved ≡ true → b.idle ≡ 0)
+      → TakesTurn kind config since.wire.given turns (turn_of part now.wire.given turned) now.wire b
+  takes_turn kind may first since now t part turned at live turns b config is r links next busy idle = record {
+    next = next;
+    begun = refl;
+    links = λ k later given is_open inside. serves_link kind may first since now t part turned at live b config k is r busy later given inside (r.owned k later given is_open);
+    spared = λ k below out. busy.others k below (λ o. is_not (is_in part k) (sym (ap (λ (j : ℕ). is_in part j) o.link) ∙ (among_some part (at o.key) o.live o.found).1) out);
+    others = λ k below. busy.others k (omega (arith, below, links)) (λ o. let x = (r.lives o.key o.live (among_some part (at o.key) o.live o.found).0).later in let s = o.link in absurd (omega (arith, below, x, s)));
     door = elim busy.door [ inl many ↦ inl (omega (arith, many, links)) | inr asked ↦ inr asked ];
     moved = λ e. elim (busy.moved e) [
       | inl more ↦ inl more
-      | inr m ↦ let l = r.lives m.0 m.1 m.2 in inr (m.1.link, l.later, l.is_open, m.3)
+      | inr m ↦ let l = r.lives m.0 m.1 (among_some part (at m.0) m.1 m.2).0 in inr (m.1.link, l.later, l.is_open, m.3)
     ];
     idle = idle;
     still = busy.still;
     ended = λ e. let m = busy.ended e in elim m.2 [
       | inl fresh ↦ (m.0, (let f = fresh.later in omega (arith, f, links)), m.1, inl fresh)
-      | inr o ↦ let l = r.lives o.key o.live o.found in
+      | inr o ↦ let l = r.lives o.key o.live (among_some part (at o.key) o.live o.found).0 in
           (m.0, subst (λ (j : ℕ). since.wire.given ≤ j) o.link l.later, m.1, inr (subst (λ (j : ℕ). (now.wire.links j).is_open ≡ true) o.link l.is_open))
     ];
     waits = busy.waits;
@@ -95,28 +109,30 @@ module _ {C Data Settings : Type 0} where
   }
 
   -- one turn more, and what came after it
-  pub so_far_more : (kind : Kind C Data Settings) (config : Settings) (stop_after : Option ℕ) (x y live rest : ℕ) (turned : Turned) (old a b c : WireState) (s : SoFar kind config stop_after x live old a)
-      → TakesTurn kind config old.given (ended_in s.turns) turned a b → ComesAfter old.given (ended_in s.turns + turned.ended) turned b c
+  pub so_far_more : (kind : Kind C Data Settings) (config : Settings) (stop_after : Option ℕ) (x y live rest : ℕ) (part : Part) (turned : Turned) (round new : Round) (old a b c : WireState) (s : SoFar kind config stop_after x live round old a)
+      → TakesTurn kind config old.given s.turns (turn_of part a.given turned) a b → ComesAfter old.given (turn_of part a.given turned ∷ s.turns) b c
       → y ≡ counted_by turned.ended x → rest + turned.ended + a.given ≡ live + c.given → IfSome stop_after (λ m. m < 2 ^ 64) → IfSome stop_after (λ m. y < m)
-      → SoFar kind config stop_after y rest old c
-  so_far_more kind config stop_after x y live rest turned old a b c s turn after is count fits few =
+      → Stands old.given (turn_of part a.given turned ∷ s.turns) new c
+      → SoFar kind config stop_after y rest new old c
+  so_far_more kind config stop_after x y live rest part turned round new old a b c s turn after is count fits few stands =
       let sl = s.links in
       let counted_is = count_more x y (ended_in s.turns) turned.ended s.count is in
       record {
-        turns = turned ∷ s.turns;
+        turns = turn_of part a.given turned ∷ s.turns;
         took = (a, b, s.took, turn, after);
         count = counted_is;
         links = omega (arith, sl, count);
         too_few = λ some. few_enough stop_after y (ended_in s.turns + turned.ended) fits counted_is few;
+        stands = stands;
       }
 
   -- the last turn
-  pub serves_turns : (kind : Kind C Data Settings) (config : Settings) (stop_after : Option ℕ) (x y live : ℕ) (turned : Turned) (old a b : WireState) (s : SoFar kind config stop_after x live old a)
-      → TakesTurn kind config old.given (ended_in s.turns) turned a b → y ≡ counted_by turned.ended x
+  pub serves_turns : (kind : Kind C Data Settings) (config : Settings) (stop_after : Option ℕ) (x y live : ℕ) (part : Part) (turned : Turned) (round : Round) (old a b : WireState) (s : SoFar kind config stop_after x live round old a)
+      → TakesTurn kind config old.given s.turns (turn_of part a.given turned) a b → y ≡ counted_by turned.ended x
       → ServesTurns kind config stop_after y old b
-  serves_turns kind config stop_after x y live turned old a b s turn is = record {
+  serves_turns kind config stop_after x y live part turned round old a b s turn is = record {
     turns = s.turns;
-    last = turned;
+    last = turn_of part a.given turned;
     before = a;
     after = b;
     took = s.took;
@@ -127,20 +143,20 @@ module _ {C Data Settings : Type 0} where
   }
 
   -- a turn that failed
-  pub fails_turn : (kind : Kind C Data Settings) (config : Settings) (stop_after : Option ℕ) (fault : ServeFault) (x live : ℕ) (old a b : WireState) (s : SoFar kind config stop_after x live old a) → FailsTurn fault a b → FailsTurns kind config stop_after fault old b
-  fails_turn kind config stop_after fault x live old a b s fails = record { turns = s.turns; before = a; after = b; took = s.took; too_few = s.too_few; last = inl fails; left = links_none b }
+  pub fails_turn : (kind : Kind C Data Settings) (config : Settings) (stop_after : Option ℕ) (fault : ServeFault) (x live : ℕ) (round : Round) (old a b : WireState) (s : SoFar kind config stop_after x live round old a)
+      → FailsTurn fault a b → FailsTurns kind config stop_after fault old b
+  fails_turn kind config stop_after fault x live round old a b s fails = record { turns = s.turns; before = a; after = b; took = s.took; too_few = s.too_few; last = inl fails; left = links_none b }
 
   -- a wait that failed
-  pub fails_wait : (kind : Kind C Data Settings) (config : Settings) (stop_after : Option ℕ) (fault : ServeFault) (x live : ℕ) (turned : Turned) (old a b c : WireState) (s : SoFar kind config stop_after x live old a)
-      → TakesTurn kind config old.given (ended_in s.turns) turned a b
-      → turned.moved ≡ false → turned.ended ≡ 0 → FailsWait fault b c → FailsTurns kind config stop_after fault old c
-  fails_wait kind config stop_after fault x live turned old a b c s turn moved ended fails = record {
+  pub fails_wait : (kind : Kind C Data Settings) (config : Settings) (stop_after : Option ℕ) (fault : ServeFault) (x live : ℕ) (round : Round) (turn : Turn) (old a b c : WireState) (s : SoFar kind config stop_after x live round old a)
+      → TakesTurn kind config old.given s.turns turn a b → rests_behind (turn ∷ s.turns) ≡ true → FailsWait fault b c → FailsTurns kind config stop_after fault old c
+  fails_wait kind config stop_after fault x live round turn old a b c s takes rests fails = record {
     turns = s.turns;
     before = a;
     after = c;
     took = s.took;
     too_few = s.too_few;
-    last = inr (inl (record { turned = turned; after = b; turn = turn; still = moved; none = ended; fails = fails }));
+    last = inr (inl (record { turn = turn; after = b; takes = takes; rests = rests; fails = fails }));
     left = links_none c;
   }
 

@@ -335,7 +335,7 @@ module _ {C Data Settings : Type 0} where
   -- ---- what a receive did
 
   pub hears_fed : (kind : Kind C Data Settings) (served : Serving Data Settings) (k : ℕ) (old new : C) (a b : WireState) (buffer : List ℕ) (n : ℕ)
-      → length buffer ≤ 8192 → Receives k buffer a b (answers.Moved n) → Feeds kind served (take n buffer) old new → Hears kind served k old new a b received.Fed
+      → length buffer ≤ 2048 → Receives k buffer a b (answers.Moved n) → Feeds kind served (take n buffer) old new → Hears kind served k old new a b received.Fed
   hears_fed kind served k old new a b buffer n few r feeds = let m = r.moved n refl in record {
     only = receives_only k buffer a b (answers.Moved n) r;
     sent = r.sent;
@@ -348,7 +348,7 @@ module _ {C Data Settings : Type 0} where
   }
 
   pub hears_unfed : (kind : Kind C Data Settings) (served : Serving Data Settings) (k : ℕ) (old new : C) (a b : WireState) (buffer : List ℕ) (n : ℕ)
-      → length buffer ≤ 8192 → Receives k buffer a b (answers.Moved n) → Hears kind served k old new a b received.Starved
+      → length buffer ≤ 2048 → Receives k buffer a b (answers.Moved n) → Hears kind served k old new a b received.Starved
   hears_unfed kind served k old new a b buffer n few r = let m = r.moved n refl in record {
     only = receives_only k buffer a b (answers.Moved n) r;
     sent = r.sent;

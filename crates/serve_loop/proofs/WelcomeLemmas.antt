@@ -9,12 +9,15 @@ use Rattle.tpf_base.specs.Sending.{Holds}
 use Rattle.connections.specs.Versions.{Serving, SupplyState}
 use Rattle.connections.specs.Kinds.{Kind, Opens}
 use Rattle.serve_loop.specs.declared.live.Live.{Live}
+use Rattle.serve_loop.specs.declared.live.Part.{Part}
 use Rattle.serve_loop.specs.declared.live.TheConstants.{MOST_LIVE}
 use Rattle.serve_loop.specs.declared.live.Turned.{Turned}
 use Rattle.serve_loop.specs.Traffic.{Talk, Traffic, Moment, updated, moment}
 use Rattle.serve_loop.specs.Relates.{IsTalk, IsLive, IsOrdered, IsGone, IsNumber, IsRising, Relates}
 use Rattle.serve_loop.specs.Calls.{IsUntouched, TellsSame, ServesAlone, RestsWire, StepsAll, IsBusy}
+use Rattle.serve_loop.specs.Parts.{among, parted}
 use Rattle.serve_loop.specs.Steps.{GoesOnAt, Welcomes, TurnsTo}
+use Rattle.serve_loop.proofs.PartLemmas.{among_some, among_in}
 use Rattle.serve_loop.proofs.CallLemmas.{alone_none, alone_then}
 use Rattle.serve_loop.proofs.BelowLemmas.{nothing, live_keeps, moves_on, stays_on}
 use Rattle.tpf_base.specs.Causes.{Rose}
@@ -338,21 +341,22 @@ module _ {C Data Settings : Type 0} where
       }
 
   -- no idling, with the door
-  pub busy : (kind : Kind C Data Settings) (x y : Turned) (at at' : ℕ → Option (Live C)) (accepted : Bool) (len after : ℕ) (a b c : WireState)
-      → Welcomes kind at at' accepted len after a b → ((key : ℕ) (l : Live C) → at key ≡ Some l → l.link < a.given) → StepsAll kind x at' b c
-      → y.moved ≡ (accepted || x.moved) → y.ended ≡ x.ended → IsBusy kind MOST_LIVE y at len a c
-  busy kind x y at at' true len after a b c w given s m e =
+  pub busy : (kind : Kind C Data Settings) (part : Part) (x y : Turned) (at at' : ℕ → Option (Live C)) (accepted : Bool) (len after : ℕ) (a b c : WireState)
+      → Welcomes kind at at' accepted len after a b → ((key : ℕ) (l : Live C) → at key ≡ Some l → l.link < a.given) → StepsAll kind x (parted part at') b c
+      → y.moved ≡ (accepted || x.moved) → y.ended ≡ x.ended → IsBusy kind MOST_LIVE y (parted part at) len a c
+  busy kind part x y at at' true len after a b c w given s m e =
       let g = w.given refl in
       let more : c.given ≡ a.given + 1 = s.given ∙ g.more in
-      let kept : (key : ℕ) (l : Live C) → at key ≡ Some l → at' key ≡ Some l =
-      λ key l h. w.others key (inl (λ q. none_some l (sym (w.vacant refl) ∙ ap at (sym q) ∙ h))) ∙ h in
-      let found : (key : ℕ) (l : Live C) → at' key ≡ Some l → (l.link ≡ a.given) ⊎ (at key ≡ Some l) =
-      λ key l h. elim (same_or key w.key) [
-        | inl p ↦ inl (ap (λ (v : Live C). v.link) (some_same (at' w.key) l (record { link = a.given; connection = (w.found refl).0 }) (ap at' (sym p) ∙ h) (w.found refl).1.1))
-        | inr n ↦ inr (sym (w.others key (inl n)) ∙ h)
+      let kept : (key : ℕ) (l : Live C) → parted part at key ≡ Some l → parted part at' key ≡ Some l =
+      λ key l h. let o = among_some part (at key) l h in
+      among_in part (at' key) l (w.others key (inl (λ q. none_some l (sym (w.vacant refl) ∙ ap at (sym q) ∙ o.0))) ∙ o.0) o.1 in
+      let found : (key : ℕ) (l : Live C) → parted part at' key ≡ Some l → (l.link ≡ a.given) ⊎ (parted part at key ≡ Some l) =
+      λ key l h. let o = among_some part (at' key) l h in elim (same_or key w.key) [
+        | inl p ↦ inl (ap (λ (v : Live C). v.link) (some_same (at' w.key) l (record { link = a.given; connection = (w.found refl).0 }) (ap at' (sym p) ∙ o.0) (w.found refl).1.1))
+        | inr n ↦ inr (among_in part (at key) l (sym (w.others key (inl n)) ∙ o.0) o.1)
       ] in
       record {
-        links = λ key l h. let n = given key l h in live_keeps kind l.connection x y l.link a b c c (λ q. m) (omega (arith, e)) (g.others l.link (λ q. absurd (omega (arith, n, q)))) refl (s.links key l (kept key l h));
+        links = λ key l h. let n = given key l (among_some part (at key) l h).0 in live_keeps kind l.connection x y l.link a b c c (λ q. m) (omega (arith, e)) (g.others l.link (λ q. absurd (omega (arith, n, q)))) refl (s.links key l (kept key l h));
         others = λ k below foreign. s.others k (λ o. elim (found o.key o.live o.found) [
           | inl p ↦ let q = o.link in absurd (omega (arith, below, p, q))
           | inr q ↦ foreign (record { key = o.key; live = o.live; found = q; link = o.link })
@@ -368,19 +372,22 @@ module _ {C Data Settings : Type 0} where
             | inr n ↦ inr (record { key = o.0; live = o.1; found = n; link = refl })
           ],
         );
+        given = omega (arith, more);
         waits = s.waits ∙ w.waits;
         calm = ap (λ (d : Door). d.faults) s.door ∙ w.calm;
         alone = alone_then a b c w.alone s.alone;
       }
-  busy kind x y at at' false len after a b c w given s m e =
+  busy kind part x y at at' false len after a b c w given s m e =
       let n = w.none refl in
+      let same : (key : ℕ) → parted part at' key ≡ parted part at key = λ key. ap (λ (o : Option (Live C)). among part o) (w.others key (inr refl)) in
       record {
-        links = λ key l h. live_keeps kind l.connection x y l.link a b c c (λ q. m ∙ q) (omega (arith, e)) (n.links l.link) refl (s.links key l (w.others key (inr refl) ∙ h));
-        others = λ k below foreign. s.others k (λ o. foreign (record { key = o.key; live = o.live; found = sym (w.others o.key (inr refl)) ∙ o.found; link = o.link })) ∙ n.links k;
+        links = λ key l h. live_keeps kind l.connection x y l.link a b c c (λ q. m ∙ q) (omega (arith, e)) (n.links l.link) refl (s.links key l (same key ∙ h));
+        others = λ k below foreign. s.others k (λ o. foreign (record { key = o.key; live = o.live; found = sym (same o.key) ∙ o.found; link = o.link })) ∙ n.links k;
         door = elim (w.door refl) [ inl p ↦ inl p | inr q ↦ inr (inr (subst (λ (d : Door). Rose a.door.stalls d.stalls) (sym s.door) q)) ];
-        moved = λ q. let o = s.moved (sym m ∙ q) in inr (o.0, o.1, sym (w.others o.0 (inr refl)) ∙ o.2, (o.3.0, moves_on o.3.0 o.1.link a b c c (n.links o.1.link) refl o.3.1));
+        moved = λ q. let o = s.moved (sym m ∙ q) in inr (o.0, o.1, sym (same o.0) ∙ o.2, (o.3.0, moves_on o.3.0 o.1.link a b c c (n.links o.1.link) refl o.3.1));
         still = λ q. (s.given ∙ n.given, λ k is_open. stays_on k a b c c (n.links k) refl (s.still (sym m ∙ q) k is_open));
-        ended = λ q. let o = s.ended (omega (arith, q, e)) in (o.1.link, o.3, inr (record { key = o.0; live = o.1; found = sym (w.others o.0 (inr refl)) ∙ o.2; link = refl }));
+        ended = λ q. let o = s.ended (omega (arith, q, e)) in (o.1.link, o.3, inr (record { key = o.0; live = o.1; found = sym (same o.0) ∙ o.2; link = refl }));
+        given = (let sg = s.given in let ng = n.given in omega (arith, sg, ng));
         waits = s.waits ∙ w.waits;
         calm = ap (λ (d : Door). d.faults) s.door ∙ w.calm;
         alone = alone_then a b c w.alone s.alone;

@@ -7,11 +7,13 @@ use Rattle.tpf_base.specs.Sending.{Holds}
 use Rattle.connections.specs.Kinds.{Kind}
 use Rattle.connections.specs.Versions.{MOST_VERSIONS}
 use Rattle.serve_loop.specs.declared.live.Live.{Live}
-use Rattle.serve_loop.specs.declared.live.Turned.{Turned}
+use Rattle.serve_loop.specs.declared.live.Part.{Part}
+use Rattle.serve_loop.specs.Parts.{parted}
+use Rattle.serve_loop.specs.Rounds.{Turn}
 use Rattle.serve_loop.specs.Traffic.{Moment, moment}
 use Rattle.serve_loop.specs.Calls.{IsOwned, TellsSame}
 use Rattle.serve_loop.specs.Asks.{AnswersAll, waiting}
-use Rattle.serve_loop.specs.Service.{PassesBetween, TakesTurn, ended_in}
+use Rattle.serve_loop.specs.Service.{PassesBetween, TakesTurn}
 
 module _ {C Data Settings : Type 0} where
   -- The link of a live connection is open and was given since, and the connection answers all that came and went on it.
@@ -34,23 +36,23 @@ module _ {C Data Settings : Type 0} where
     pub owned : (k : ℕ) → since ≤ k → k < wire.given → (wire.links k).is_open ≡ true → IsOwned at k
     pub alone : (i j : ℕ) (a b : Live C) → at i ≡ Some a → at j ≡ Some b → a.link ≡ b.link → i ≡ j
 
-  -- A turn asked the supply once for each of its live connections that waited for a reload, and for nothing else: so many waited. Of the server and the supply alone; the wire is one that stays.
-  pub record AsksTurn (kind : Kind C Data Settings) (may : Data → Type 0) (config : Settings) (since waited : ℕ) (same : WireState) (old now : Moment Data Settings) : Type 0 where
+  -- A turn asked the supply once for each live connection of its part that waited for a reload, and for nothing else: so many waited. Of the server and the supply alone; the wire is one that stays.
+  pub record AsksTurn (kind : Kind C Data Settings) (may : Data → Type 0) (config : Settings) (since : ℕ) (part : Part) (waited : ℕ) (same : WireState) (old now : Moment Data Settings) : Type 0 where
     pub at : ℕ → Option (Live C)
     pub lives : AreLive kind config since at old.wire
-    pub answers : AnswersAll kind may at (moment old.served old.supply same) (moment now.served now.supply same)
-    pub waited_is : waited ≡ waiting kind at answers.keys
+    pub answers : AnswersAll kind may (parted part at) (moment old.served old.supply same) (moment now.served now.supply same)
+    pub waited_is : waited ≡ waiting kind (parted part at) answers.keys
 
   -- These turns, the last one first, each with links that were given, a wait or nothing behind it; in all of them so many connections waited for a reload.
-  abbrev pub AskedTurns : Kind C Data Settings → (Data → Type 0) → Settings → ℕ → List Turned → ℕ → Moment Data Settings → Moment Data Settings → Type 0
+  abbrev pub AskedTurns : Kind C Data Settings → (Data → Type 0) → Settings → ℕ → List Turn → ℕ → Moment Data Settings → Moment Data Settings → Type 0
   AskedTurns kind may config since [] waited old now = (waited ≡ 0) × (now ≡ old)
-  AskedTurns kind may config since (turned ∷ turns) waited old now =
+  AskedTurns kind may config since (turn ∷ turns) waited old now =
       (before : Moment Data Settings) × (after : WireState) × (earlier : ℕ) × (more : ℕ) × AskedTurns kind may config since turns earlier old before
-      × TakesTurn kind config since (ended_in turns) turned before.wire after × AsksTurn kind may config since more old.wire before now × PassesBetween after now.wire × (waited ≡ earlier + more)
+      × TakesTurn kind config since turns turn before.wire after × AsksTurn kind may config since turn.part more old.wire before now × PassesBetween after now.wire × (waited ≡ earlier + more)
 
   -- A service asked its supply once for each reload request that waited in one of its turns, and for nothing else; behind the last of these turns no byte moved and no link was given.
   pub record AsksOnce (kind : Kind C Data Settings) (may : Data → Type 0) (old now : Moment Data Settings) : Type 0 where
-    pub turns : List Turned
+    pub turns : List Turn
     pub waited : ℕ
     pub last : Moment Data Settings
     pub took : AskedTurns kind may old.served.config old.wire.given turns waited old last

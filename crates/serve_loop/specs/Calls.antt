@@ -258,6 +258,7 @@ module _ {C Data Settings : Type 0} where
     pub moved : turned.moved ≡ true → (new.given ≡ old.given + 1) ⊎ ((key : ℕ) × (l : Live C) × (at key ≡ Some l) × ((way : Way) × MovesOn way l.link old new))
     pub still : turned.moved ≡ false → (new.given ≡ old.given) × ((k : ℕ) → (new.links k).is_open ≡ true → StaysOn k old new)
     pub ended : 0 < turned.ended → (k : ℕ) × ((new.links k).is_open ≡ false) × (IsFresh k old new ⊎ IsOwned at k)
+    pub given : old.given ≤ new.given
     pub waits : new.waits ≡ old.waits
     pub calm : new.door.faults ≡ old.door.faults
     pub alone : ServesAlone old new

@@ -1,10 +1,9 @@
 -- What the loop does at the door behind a turn: each link that waits there gets a connection.
-use Rattle.std.specs.Prelude.{ℕ, zero, suc, ◌≡◌, ◌⊎◌, ◌<◌, true, false}
+use Rattle.std.specs.Prelude.{ℕ, zero, suc, ◌≡◌, Bool, true, false}
 use Rattle.tpf_base.specs.Causes.{counted}
 use Rattle.tpf_base.specs.Links.{WireState}
 use Rattle.connections.specs.Kinds.{Kind}
 use Rattle.serve_loop.specs.declared.live.ServeFault.{ServeFault}
-use Rattle.serve_loop.specs.declared.live.Turned.{Turned}
 use Rattle.serve_loop.specs.Traffic.{Lives}
 use Rattle.serve_loop.specs.Calls.{RestsWire}
 use Rattle.serve_loop.specs.Steps.{Welcomes}
@@ -34,12 +33,12 @@ module _ {C Data Settings : Type 0} where
     pub len : new.count ≡ mid.count
     pub fails : FailsTurn fault between b
 
-  -- What follows a turn: links that wait at the door, where it moved or ended something; else one wait.
-  pub data FollowsTurn (kind : Kind C Data Settings) (turned : Turned) (at new : Lives C) (a b : WireState) : Type 0 where
-    IsGreeted : (turned.moved ≡ true) ⊎ (0 < turned.ended) → GreetsAll kind at new a b → FollowsTurn kind turned at new a b
-    IsRested : turned.moved ≡ false → turned.ended ≡ 0 → new ≡ at → RestsWire a b → b.waits ≡ counted a.waits → FollowsTurn kind turned at new a b
+  -- What follows a turn: one wait, where the service rests; else links that wait at the door.
+  pub data FollowsTurn (kind : Kind C Data Settings) (rests : Bool) (at new : Lives C) (a b : WireState) : Type 0 where
+    IsGreeted : rests ≡ false → GreetsAll kind at new a b → FollowsTurn kind rests at new a b
+    IsRested : rests ≡ true → new ≡ at → RestsWire a b → b.waits ≡ counted a.waits → FollowsTurn kind rests at new a b
 
   -- The same that failed.
-  pub data FailsAfter (kind : Kind C Data Settings) (fault : ServeFault) (turned : Turned) (at new : Lives C) (a b : WireState) : Type 0 where
-    Greeting : (turned.moved ≡ true) ⊎ (0 < turned.ended) → FailsGreets kind fault at new a b → FailsAfter kind fault turned at new a b
-    Resting : turned.moved ≡ false → turned.ended ≡ 0 → new ≡ at → RestsWire a b → FailsWait fault a b → FailsAfter kind fault turned at new a b
+  pub data FailsAfter (kind : Kind C Data Settings) (fault : ServeFault) (rests : Bool) (at new : Lives C) (a b : WireState) : Type 0 where
+    Greeting : rests ≡ false → FailsGreets kind fault at new a b → FailsAfter kind fault rests at new a b
+    Resting : rests ≡ true → new ≡ at → RestsWire a b → FailsWait fault a b → FailsAfter kind fault rests at new a b

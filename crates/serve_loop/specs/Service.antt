@@ -1,4 +1,4 @@
--- What a service does on its wire: turns, after each that moved or ended something the links that wait at the door, and a wait after each other one.
+-- What a service does on its wire: turns, each over the next part of its links, after each the links that wait at the door, or a wait after a round in which nothing moved or ended.
 use Rattle.std.specs.Prelude.{ℕ, ◌≡◌, ◌≢◌, ◌⊎◌, ◌+◌, ◌<◌, ◌≤◌, true, false, List, [], ◌∷◌, length, Option, IfSome}
 use Rattle.tpf_base.specs.Causes.{Rose, counted, counted_by}
 use Rattle.tpf_base.specs.Links.{WireState}
@@ -10,15 +10,17 @@ use Rattle.serve_loop.specs.declared.live.ServeFault.{ServeFault}
 use Rattle.serve_loop.specs.declared.live.ServeFault.TheVariants as faults
 use Rattle.serve_loop.specs.declared.live.Turned.{Turned}
 use Rattle.serve_loop.specs.declared.live.TheConstants.{MOST_LIVE}
+use Rattle.serve_loop.specs.Parts.{is_in}
+use Rattle.serve_loop.specs.Rounds.{Turn, IsNext, rests_behind}
 use Rattle.serve_loop.specs.Calls.{MovesOn, StaysOn, IsFresh, IsUntouched, RestsWire, ServesAlone, TellsSame, TurnsLive}
 
 -- how many connections ended in these turns
-abbrev pub ended_in : List Turned → ℕ
+abbrev pub ended_in : List Turn → ℕ
 ended_in [] = 0
-ended_in (turned ∷ turns) = ended_in turns + turned.ended
+ended_in (turn ∷ turns) = ended_in turns + turn.turned.ended
 
 -- before the last turn fewer had ended than are enough
-abbrev pub AreTooFew : Option ℕ → List Turned → Type 0
+abbrev pub AreTooFew : Option ℕ → List Turn → Type 0
 AreTooFew stop_after turns = turns ≢ [] → IfSome stop_after (λ most. ended_in turns < most)
 
 -- An open link on which no byte moved yet.
@@ -43,10 +45,10 @@ pub record GreetsLinks (since done : ℕ) (old new : WireState) : Type 0 where
   pub most : new.given ≤ since + done + MOST_LIVE
   pub door : (since + done + MOST_LIVE ≤ new.given) ⊎ Rose old.door.stalls new.door.stalls
 
--- After a turn: one wait, where it moved and ended nothing; else the links that wait at the door.
-pub data ComesAfter (since done : ℕ) (turned : Turned) (old new : WireState) : Type 0 where
-  Rests : turned.moved ≡ false → turned.ended ≡ 0 → RestsWire old new → new.waits ≡ counted old.waits → ComesAfter since done turned old new
-  Greets : (turned.moved ≡ true) ⊎ (0 < turned.ended) → GreetsLinks since done old new → ComesAfter since done turned old new
+-- After the last of these turns: one wait, where a round ended with it in which no turn moved or ended anything; else the links that wait at the door.
+pub data ComesAfter (since : ℕ) (turns : List Turn) (old new : WireState) : Type 0 where
+  Rests : rests_behind turns ≡ true → RestsWire old new → new.waits ≡ counted old.waits → ComesAfter since turns old new
+  Greets : rests_behind turns ≡ false → GreetsLinks since (ended_in turns) old new → ComesAfter since turns old new
 
 -- Between turns: links may have been given, on which nothing moved yet, and a wait may have answered one; no other was touched.
 pub record PassesBetween (old new : WireState) : Type 0 where
@@ -102,65 +104,67 @@ module _ {C Data Settings : Type 0} where
     pub received_is : Holds (old.links k).received fed
     pub turns : TurnsLive kind connection turned k old new
 
-  -- One turn, where the links of the service are those given since this one, of which so many have ended: each that was open was called on by what its connection had to send, and the door, unless so many were open as are live at once; no other link was touched; and what the answer says of moves and ends is so.
-  pub record TakesTurn (kind : Kind C Data Settings) (config : Settings) (since done : ℕ) (turned : Turned) (old new : WireState) : Type 0 where
-    pub links : (k : ℕ) → since ≤ k → k < old.given → (old.links k).is_open ≡ true → ServesLink kind config turned k old new
+  -- One turn behind these, where the links of the service are those given since this one: each link of the next part that was open was called on by what its connection had to send, and the door, unless so many were open as are live at once; no other link was touched; and what the answer says of moves and ends is so.
+  pub record TakesTurn (kind : Kind C Data Settings) (config : Settings) (since : ℕ) (turns : List Turn) (turn : Turn) (old new : WireState) : Type 0 where
+    pub next : IsNext since turns turn.part old
+    pub begun : turn.given ≡ old.given
+    pub links : (k : ℕ) → since ≤ k → k < old.given → (old.links k).is_open ≡ true → is_in turn.part k ≡ true → ServesLink kind config turn.turned k old new
+    pub spared : (k : ℕ) → k < old.given → is_in turn.part k ≡ false → new.links k ≡ old.links k
     pub others : (k : ℕ) → k < since → new.links k ≡ old.links k
-    pub door : (since + done + MOST_LIVE ≤ old.given) ⊎ (((turned.moved ≡ true) × (new.given ≡ old.given + 1)) ⊎ Rose old.door.stalls new.door.stalls)
-    pub moved : turned.moved ≡ true → (new.given ≡ old.given + 1) ⊎ ((k : ℕ) × (since ≤ k) × ((old.links k).is_open ≡ true) × ((way : _) × MovesOn way k old new))
-    pub idle : turned.moved ≡ true → new.idle ≡ 0
-    pub still : turned.moved ≡ false → (new.given ≡ old.given) × ((k : ℕ) → (new.links k).is_open ≡ true → StaysOn k old new)
-    pub ended : 0 < turned.ended → (k : ℕ) × (since ≤ k) × ((new.links k).is_open ≡ false) × (IsFresh k old new ⊎ ((old.links k).is_open ≡ true))
+    pub door : (since + ended_in turns + MOST_LIVE ≤ old.given) ⊎ (((turn.turned.moved ≡ true) × (new.given ≡ old.given + 1)) ⊎ Rose old.door.stalls new.door.stalls)
+    pub moved : turn.turned.moved ≡ true → (new.given ≡ old.given + 1) ⊎ ((k : ℕ) × (since ≤ k) × ((old.links k).is_open ≡ true) × ((way : _) × MovesOn way k old new))
+    pub idle : turn.turned.moved ≡ true → new.idle ≡ 0
+    pub still : turn.turned.moved ≡ false → (new.given ≡ old.given) × ((k : ℕ) → (new.links k).is_open ≡ true → StaysOn k old new)
+    pub ended : 0 < turn.turned.ended → (k : ℕ) × (since ≤ k) × ((new.links k).is_open ≡ false) × (IsFresh k old new ⊎ ((old.links k).is_open ≡ true))
     pub waits : new.waits ≡ old.waits
     pub calm : new.door.faults ≡ old.door.faults
     pub alone : ServesAlone old new
 
   -- These turns, the last one first, each with what came after it.
-  abbrev pub TookTurns : Kind C Data Settings → Settings → ℕ → List Turned → WireState → WireState → Type 0
+  abbrev pub TookTurns : Kind C Data Settings → Settings → ℕ → List Turn → WireState → WireState → Type 0
   TookTurns kind config since [] old new = new ≡ old
-  TookTurns kind config since (turned ∷ turns) old new =
+  TookTurns kind config since (turn ∷ turns) old new =
       (before : WireState) × (after : WireState) × TookTurns kind config since turns old before
-      × TakesTurn kind config since (ended_in turns) turned before after × ComesAfter since (ended_in (turned ∷ turns)) turned after new
+      × TakesTurn kind config since turns turn before after × ComesAfter since (turn ∷ turns) after new
 
   -- A service that stopped: turns with what came after each, and a last turn, after which it closed the links that were left.
   pub record ServesTurns (kind : Kind C Data Settings) (config : Settings) (stop_after : Option ℕ) (connections : ℕ) (old new : WireState) : Type 0 where
-    pub turns : List Turned
-    pub last : Turned
+    pub turns : List Turn
+    pub last : Turn
     pub before : WireState
     pub after : WireState
     pub took : TookTurns kind config old.given turns old before
-    pub turn : TakesTurn kind config old.given (ended_in turns) last before after
+    pub turn : TakesTurn kind config old.given turns last before after
     pub left : LeavesLinks after new
-    pub connections_is : connections ≡ counted_by (ended_in turns + last.ended) 0
+    pub connections_is : connections ≡ counted_by (ended_in turns + last.turned.ended) 0
     pub too_few : AreTooFew stop_after turns
 
-  -- a turn that moved and ended nothing, and a wait that failed
-  pub record FailsRest (kind : Kind C Data Settings) (config : Settings) (since done : ℕ) (fault : ServeFault) (old new : WireState) : Type 0 where
-    pub turned : Turned
+  -- a turn with which a round ended in which nothing moved or ended, and a wait that failed
+  pub record FailsRest (kind : Kind C Data Settings) (config : Settings) (since : ℕ) (turns : List Turn) (fault : ServeFault) (old new : WireState) : Type 0 where
+    pub turn : Turn
     pub after : WireState
-    pub turn : TakesTurn kind config since done turned old after
-    pub still : turned.moved ≡ false
-    pub none : turned.ended ≡ 0
+    pub takes : TakesTurn kind config since turns turn old after
+    pub rests : rests_behind (turn ∷ turns) ≡ true
     pub fails : FailsWait fault after new
 
-  -- a turn that moved or ended something, links that were given, and a door that failed then
-  pub record FailsGreeting (kind : Kind C Data Settings) (config : Settings) (since done : ℕ) (fault : ServeFault) (old new : WireState) : Type 0 where
-    pub turned : Turned
+  -- any other turn, links that were given, and a door that failed then
+  pub record FailsGreeting (kind : Kind C Data Settings) (config : Settings) (since : ℕ) (turns : List Turn) (fault : ServeFault) (old new : WireState) : Type 0 where
+    pub turn : Turn
     pub after : WireState
     pub last : WireState
-    pub turn : TakesTurn kind config since done turned old after
-    pub busy : (turned.moved ≡ true) ⊎ (0 < turned.ended)
+    pub takes : TakesTurn kind config since turns turn old after
+    pub greets : rests_behind (turn ∷ turns) ≡ false
     pub gives : GivesLinks after last
-    pub most : last.given ≤ since + done + turned.ended + MOST_LIVE
+    pub most : last.given ≤ since + ended_in (turn ∷ turns) + MOST_LIVE
     pub fails : FailsTurn fault last new
 
   -- A service that gave up: turns with what came after each, and then a turn that failed at the door, or one behind which the wait or the door failed, after which it closed the links that were left.
   pub record FailsTurns (kind : Kind C Data Settings) (config : Settings) (stop_after : Option ℕ) (fault : ServeFault) (old new : WireState) : Type 0 where
-    pub turns : List Turned
+    pub turns : List Turn
     pub before : WireState
     pub after : WireState
     pub took : TookTurns kind config old.given turns old before
     pub too_few : AreTooFew stop_after turns
     pub last : FailsTurn fault before after
-        ⊎ (FailsRest kind config old.given (ended_in turns) fault before after ⊎ FailsGreeting kind config old.given (ended_in turns) fault before after)
+        ⊎ (FailsRest kind config old.given turns fault before after ⊎ FailsGreeting kind config old.given turns fault before after)
     pub left : LeavesLinks after new

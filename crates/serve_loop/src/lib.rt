@@ -1,5 +1,5 @@
-//! The server's loop over many connections: turns over those that are live, of any kind of connection
-//! and over any wire (transport), and a service that takes turns and waits.
+//! The server's loop over many connections: turns over parts of those that are live, of any kind of
+//! connection and over any wire (transport), and a service that goes round them by turns and waits.
 //!
 //! A server that sends back what it gets, at the door (the listener) of a wire:
 //!
@@ -14,10 +14,14 @@
 #![tactic(auto)]
 
 mod live;
+mod numbers;
+mod round;
 mod service;
 mod step;
 mod turn;
 
-pub use live::{Live, MOST_LIVE, MOST_RECEIVED, MOST_SENT, ServeFault, Served, Turned};
+pub use live::{
+    Live, MOST_LIVE, MOST_RECEIVED, MOST_SENT, Part, SPREAD, ServeFault, Served, Turned,
+};
 pub use service::serve;
 pub use turn::Loop;

@@ -1,5 +1,5 @@
 // A service: turns, and what follows each.
-ghost use Rattle.std.specs.Prelude.{ℕ, ◌≡◌, ◌+◌, ◌-◌, ◌≤◌, ◌<◌, ◌^◌, ◌⊎◌, IfOk, OnOk, OnErr, IfErr, IfSome, None, Some, true, false, ◌↔◌};
+ghost use Rattle.std.specs.Prelude.{ℕ, ◌≡◌, ◌+◌, ◌-◌, ◌≤◌, ◌<◌, ◌^◌, IfOk, OnOk, OnErr, IfErr, IfSome, None, Some, true, false, ◌↔◌};
 ghost use Rattle.tpf_base.specs.Causes.{counted};
 ghost use Rattle.tpf_base.specs.Links.{listens};
 ghost use Rattle.serve_loop.specs.declared.live.TheConstants.{MOST_LIVE};
@@ -13,6 +13,7 @@ ghost use Rattle.serve_loop.specs.Greets.{FollowsTurn, FailsAfter};
 ghost use Rattle.serve_loop.specs.AskedTurns.{AsksOnce};
 
 use crate::live::{ServeFault, Served, Turned};
+use crate::round::Round;
 use crate::turn::Loop;
 use connections::{Converses, Supply};
 use std::alloc::Global;
@@ -33,31 +34,30 @@ fn rest<W: Wire>(wire: &mut W) -> Result<(), ServeFault>
     }
 }
 
-/// Behind a turn that moved or ended something, accepts the links that wait at the door; behind another one
-/// waits.
+/// Waits where the service rests; else accepts the links that wait at the door.
 fn follow<C: Converses, W: Accept>(
     connections: &mut Loop<C>,
     server: &C::Server,
     wire: &mut W,
-    turned: Turned,
+    rests: bool,
 ) -> Result<(), ServeFault>
     requires listens { listens (W.state wire.old) ≡ true }
     requires few { held_count connections.old ≤ MOST_LIVE }
     requires suits { SuitsWire C.Suits server.now (λ key. held connections.old key) (W.state wire.old) }
     ensures few { held_count connections.new ≤ MOST_LIVE }
     ensures suits { SuitsWire C.Suits server.now (λ key. held connections.new key) (W.state wire.new) }
-    ensures follows { OnOk result (FollowsTurn C.kind turned
+    ensures follows { OnOk result (FollowsTurn C.kind rests
         (lives connections.old) (lives connections.new) (W.state wire.old) (W.state wire.new)) }
-    ensures fails { IfErr result (λ fault. FailsAfter C.kind fault turned
+    ensures fails { IfErr result (λ fault. FailsAfter C.kind fault rests
         (lives connections.old) (lives connections.new) (W.state wire.old) (W.state wire.new)) }
     ensures calm { OnOk result ((W.state wire.new).door.faults ≡ (W.state wire.old).door.faults) }
     ensures wire { IfErr result (λ fault. fault ≡ ServeFault.Wire → RoseAtDoor (W.state wire.old) (W.state wire.new)) }
     ensures alone { ServesAlone (W.state wire.old) (W.state wire.new) }
 {
-    if turned.moved || turned.ended > 0 {
-        return connections.greet(server, wire);
+    if rests {
+        return rest(wire);
     }
-    rest(wire)
+    connections.greet(server, wire)
 }
 
 /// Whether so many connections are enough.
@@ -85,7 +85,7 @@ impl Served {
     }
 }
 
-/// Takes turns until so many connections have ended, each with what follows it.
+/// Takes turns until so many connections have ended, each over the next part of a round, with what follows it.
 fn serve_on<R: Wait, C: Converses, S: Supply<C::Server>, W: Accept>(
     rt: &R,
     connections: &mut Loop<C>,
@@ -126,24 +126,31 @@ fn serve_on<R: Wait, C: Converses, S: Supply<C::Server>, W: Accept>(
         connections: 0,
         starved: 0,
     };
+    let mut round = Round::new();
     for _ in rt.forever() {
-        let turned = connections.turn(server, supply, wire)?;
+        let part = connections.part(round.next, round.newest, round.spread);
+        let begun = connections.beyond();
+        let turned = connections.turn(part, server, supply, wire)?;
         served = served.with(turned);
         if is_reached(stop_after, served.connections) {
             return Ok(served);
         }
-        follow(connections, server, wire, turned)?;
+        follow(connections, server, wire, round.is_quiet(part, turned))?;
+        round = round.after(part, turned, begun);
     }
     Ok(served)
 }
 
 /// Serves the links (the connections) that come to the door (the listener) of a wire, until at least
-/// `stop_after` of them have ended, and for as long as it can where that is `None`. It takes turns. Behind
-/// each that moved or ended something it accepts the links that wait at the door, until none does or
-/// `MOST_LIVE` are live; only behind the others it waits. At each exit the links that are still live are
-/// closed. No link from before is touched, none is dialled, and the door is not opened again. The counts of
-/// the answer stand still at their last value. The supply is asked once for each reload request that waits in
-/// a turn, and for nothing else (`asks`).
+/// `stop_after` of them have ended, and for as long as it can where that is `None`. It goes round them: a
+/// turn steps those of the next links in order whose numbers lie at most `SPREAD` from one another (twice as far behind each turn in which nothing moved or ended), and
+/// those that were given since the turn before the last one began. So a new link is stepped in the next
+/// turns, however many others there are, and each other one once a round. Behind each turn it accepts the
+/// links that wait at the door, until none does or `MOST_LIVE` are live; only behind a round in which
+/// nothing moved or ended it waits. At each exit the links that are still live are closed. No link from
+/// before is touched, none is dialled, and the door is not opened again. The counts of the answer stand
+/// still at their last value. The supply is asked once for each reload request that waits in a turn, and
+/// for nothing else (`asks`).
 ///
 /// `Wire` where an accept or a wait failed: the faults of the door rose. A link that fails ends its own
 /// connection alone. `OutOfMemory` where memory ran out in one of them, or for

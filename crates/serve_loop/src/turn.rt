@@ -1,10 +1,11 @@
 // Turns over the live connections.
-ghost use Rattle.std.specs.Prelude.{ℕ, ◌≡◌, ◌≢◌, ◌+◌, ◌<◌, ◌≤◌, ◌^◌, List, [], length, IfOk, OnOk, OnErr, IfErr, Option, Some, None, true, ◌↔◌};
+ghost use Rattle.std.specs.Prelude.{ℕ, ◌≡◌, ◌≢◌, ◌+◌, ◌<◌, ◌≤◌, ◌^◌, List, [], length, IfOk, OnOk, OnErr, IfErr, Option, Some, None, true, false, ◌↔◌};
 ghost use Rattle.slab.specs.Slab.{get, slab_len};
 ghost use Rattle.tpf_base.specs.Links.{WireState, listens};
 ghost use Rattle.connections.specs.Versions.{IsHistory};
 ghost use Rattle.serve_loop.specs.declared.live.TheConstants.{MOST_LIVE, MOST_RECEIVED};
 ghost use Rattle.serve_loop.specs.Traffic.{moment, kept, no_traffic};
+ghost use Rattle.serve_loop.specs.Parts.{IsBeyond, IsNarrow, among, parted};
 ghost use Rattle.serve_loop.specs.Relates.{Relates, SuitsWire};
 ghost use Rattle.serve_loop.specs.Asks.{AnswersAt, AnswersAll, AreAnswered};
 ghost use Rattle.serve_loop.specs.Sentence.{RelatesOn, TurnsOn, SpeaksOn, SpeaksWholeOn};
@@ -13,7 +14,8 @@ ghost use Rattle.serve_loop.specs.Service.{FailsTurn};
 ghost use Rattle.serve_loop.specs.Greets.{GreetsAll, FailsGreets};
 ghost use Rattle.serve_loop.specs.Steps.{Welcomes};
 
-use crate::live::{Live, MOST_LIVE, MOST_RECEIVED, ServeFault, Stepped, Turned};
+use crate::live::{Live, MOST_LIVE, MOST_RECEIVED, Part, ServeFault, Stepped, Turned};
+use crate::numbers::{beyond, oldest_from, row_end};
 use crate::step::step;
 use connections::{Converses, Supply};
 use slab::Slab;
@@ -176,6 +178,52 @@ fn step_at<C: Converses, S: Supply<C::Server>, W: Wire>(
     Some(stepped)
 }
 
+/// Whether a key has a connection of the part.
+fn is_among<C: Drop>(live: &Slab<Live<C>>, key: usize, part: Part) -> bool
+    ensures yes { result ≡ true → among part (get live.now key) ≡ get live.now key }
+    ensures no { result ≡ false → among part (get live.now key) ≡ None }
+{
+    match live.get(key) {
+        Some(connection) => part.has(connection.link),
+        None => false,
+    }
+}
+
+/// Steps the connection of a key, if there is one of the part.
+fn step_among<C: Converses, S: Supply<C::Server>, W: Wire>(
+    live: &mut Slab<Live<C>>,
+    key: usize,
+    part: Part,
+    buffer: &mut [u8],
+    server: &mut C::Server,
+    supply: &mut S,
+    wire: &mut W,
+) -> Option<Stepped>
+    requires room { 0 < length buffer.old }
+    requires most { length buffer.old ≤ MOST_RECEIVED }
+    requires suits { SuitsWire C.Suits server.old (λ key. get live.old key) (W.state wire.old) }
+    ensures room { length buffer.new ≡ length buffer.old }
+    ensures suits { SuitsWire C.Suits server.new (λ key. get live.new key) (W.state wire.new) }
+    ensures others { (other : ℕ) → other ≢ key → get live.new other ≡ get live.old other }
+    ensures len { slab_len live.new + (turned_by result).ended ≡ slab_len live.old }
+    ensures turns { TurnsOn C.kind (S.may supply.old) (kept live.old) (kept live.new)
+        (moment (C.Server.serving server.old) (S.state supply.old) (W.state wire.old))
+        (moment (C.Server.serving server.new) (S.state supply.new) (W.state wire.new)) (turned_by result) }
+    ensures asks { (same : WireState) → AnswersAt C.kind (S.may supply.old) (among part (get live.old key))
+        (moment (C.Server.serving server.old) (S.state supply.old) same)
+        (moment (C.Server.serving server.new) (S.state supply.new) same) }
+    ensures calls { CallsAt C.kind (among part (get live.old key)) result (W.state wire.old) (W.state wire.new) }
+    ensures lasts { (l m : Live C) → among part (get live.old key) ≡ Some l → get live.new key ≡ Some m → GoesOnSpeaking C.kind l.connection m.connection }
+    ensures follows { C.Server.Follows server.old server.new }
+    ensures keeps { S.Keeps supply.old supply.new }
+    ensures same { (data_set : C.Server.Data) → S.may supply.new data_set ↔ S.may supply.old data_set }
+{
+    if is_among(live, key, part) {
+        return step_at(live, key, buffer, server, supply, wire);
+    }
+    None
+}
+
 impl Turned {
     /// With one more step.
     fn with(self, stepped: Option<Stepped>) -> Turned
@@ -203,9 +251,10 @@ impl Turned {
     }
 }
 
-/// Steps each live connection once.
+/// Steps each live connection of the part once.
 fn step_all<C: Converses, S: Supply<C::Server>, W: Wire>(
     live: &mut Slab<Live<C>>,
+    part: Part,
     buffer: &mut [u8],
     server: &mut C::Server,
     supply: &mut S,
@@ -220,11 +269,11 @@ fn step_all<C: Converses, S: Supply<C::Server>, W: Wire>(
     ensures turns { TurnsOn C.kind (S.may supply.old) (kept live.old) (kept live.new)
         (moment (C.Server.serving server.old) (S.state supply.old) (W.state wire.old))
         (moment (C.Server.serving server.new) (S.state supply.new) (W.state wire.new)) result }
-    ensures asks { (same : WireState) → AnswersAll C.kind (S.may supply.old) (get live.old)
+    ensures asks { (same : WireState) → AnswersAll C.kind (S.may supply.old) (parted part (get live.old))
         (moment (C.Server.serving server.old) (S.state supply.old) same)
         (moment (C.Server.serving server.new) (S.state supply.new) same) }
-    ensures all { StepsAll C.kind result (get live.old) (W.state wire.old) (W.state wire.new) }
-    ensures lasts { AllGoOn C.kind (get live.old) (get live.new) }
+    ensures all { StepsAll C.kind result (parted part (get live.old)) (W.state wire.old) (W.state wire.new) }
+    ensures lasts { AllGoOn C.kind (parted part (get live.old)) (get live.new) }
     ensures follows { C.Server.Follows server.old server.new }
     ensures keeps { S.Keeps supply.old supply.new }
     ensures same { (data_set : C.Server.Data) → S.may supply.new data_set ↔ S.may supply.old data_set }
@@ -236,7 +285,7 @@ fn step_all<C: Converses, S: Supply<C::Server>, W: Wire>(
     };
     let keys = live.capacity();
     for key in 0..keys {
-        turned = turned.with(step_at(live, key, buffer, server, supply, wire));
+        turned = turned.with(step_among(live, key, part, buffer, server, supply, wire));
     }
     turned
 }
@@ -299,18 +348,45 @@ impl<C: Converses> Loop<C> {
         self.live.len()
     }
 
+    /// The part of the connections that a turn steps whose row begins at this link: it ends `spread` behind
+    /// the first link of a live connection there, or with the last link of all where that is not later. The
+    /// newest links are those from this number on.
+    pub fn part(&self, first: u64, newest: u64, spread: u64) -> Part
+        ensures first { result.first ≡ first }
+        ensures newest { result.newest ≡ newest }
+        ensures narrow { IsNarrow result spread (held self.now) }
+        ensures wide { result.last < 18446744073709551615 → first + spread ≤ result.last }
+    {
+        let oldest = oldest_from(&self.live, first);
+        let last = row_end(oldest, beyond(&self.live), spread);
+        Part {
+            first,
+            last,
+            newest,
+        }
+    }
+
+    /// The number behind that of the newest link of a live connection, or 0. No link that is given later has
+    /// a lower one.
+    pub fn beyond(&self) -> u64
+        ensures { IsBeyond (held self.now) result }
+    {
+        beyond(&self.live)
+    }
+
     /// Takes what the system knows of readiness, asks the door (the listener) for a link where fewer than
-    /// `MOST_LIVE` connections are live, and then steps each connection once: it sends at most `MOST_SENT`
-    /// bytes of what is pending or owed; where nothing is, it closes a connection that is to end, and
-    /// receives at most `MOST_RECEIVED` bytes of another. A connection that is to end is closed with the last
-    /// byte that is sent (`lasts`). A connection that waits for a reload asks the
+    /// `MOST_LIVE` connections are live, and then steps each connection of the part once: it sends at most
+    /// `MOST_SENT` bytes of what is pending or owed; where nothing is, it closes a connection that is to end,
+    /// and receives at most `MOST_RECEIVED` bytes of another. A connection that is to end is closed with the
+    /// last byte that is sent (`lasts`). A connection that waits for a reload asks the
     /// supply once before, unless the version is the last possible one. A connection that runs out of
-    /// memory, or whose link fails, ends alone.
+    /// memory, or whose link fails, ends alone. The connections of other links are left as they are.
     ///
     /// `Wire` where the accept failed: the faults of the door rose. `OutOfMemory` where memory ran out
     /// there, or for the place of a new connection. In both cases the live connections stay, and the next turn goes on with them.
     pub fn turn<S: Supply<C::Server>, W: Accept>(
         &mut self,
+        part: Part,
         server: &mut C::Server,
         supply: &mut S,
         wire: &mut W,
@@ -330,7 +406,7 @@ impl<C: Converses> Loop<C> {
         ensures whole { IfOk result (SpeaksWholeOn C.kind (S.may supply.old) (lives self.old)
             (moment (C.Server.serving server.old) (S.state supply.old) (W.state wire.old))
             (moment (C.Server.serving server.new) (S.state supply.new) (W.state wire.new))) }
-        ensures asks { IfOk result (λ turned. (same : WireState) → AnswersAll C.kind (S.may supply.old) (held self.old)
+        ensures asks { IfOk result (λ turned. (same : WireState) → AnswersAll C.kind (S.may supply.old) (parted part (held self.old))
             (moment (C.Server.serving server.old) (S.state supply.old) same)
             (moment (C.Server.serving server.new) (S.state supply.new) same)) }
         ensures unasked { OnErr result ((same : WireState) → AreAnswered (S.may supply.old) []
@@ -338,8 +414,8 @@ impl<C: Converses> Loop<C> {
             (moment (C.Server.serving server.new) (S.state supply.new) same)) }
         ensures calm { OnOk result ((W.state wire.new).door.faults ≡ (W.state wire.old).door.faults) }
         ensures busy { IfOk result (λ turned. IsBusy C.kind MOST_LIVE turned
-            (held self.old) (held_count self.old) (W.state wire.old) (W.state wire.new)) }
-        ensures lasts { OnOk result (AllGoOn C.kind (held self.old) (held self.new)) }
+            (parted part (held self.old)) (held_count self.old) (W.state wire.old) (W.state wire.new)) }
+        ensures lasts { OnOk result (AllGoOn C.kind (parted part (held self.old)) (held self.new)) }
         ensures idle { IfOk result (λ turned. turned.moved ≡ true → (W.state wire.new).idle ≡ 0) }
         ensures count { IfOk result (λ turned. held_count self.new + turned.ended + (W.state wire.old).given
             ≡ held_count self.old + (W.state wire.new).given) }
@@ -355,7 +431,7 @@ impl<C: Converses> Loop<C> {
         ensures same { (data_set : C.Server.Data) → S.may supply.new data_set ↔ S.may supply.old data_set }
     {
         let accepted = welcome(self.alloc, &mut self.live, server, wire)?;
-        let turned = step_all(&mut self.live, &mut self.buffer, server, supply, wire);
+        let turned = step_all(&mut self.live, part, &mut self.buffer, server, supply, wire);
         Ok(Turned {
             moved: accepted || turned.moved,
             ..turned

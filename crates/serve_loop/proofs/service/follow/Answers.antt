@@ -4,14 +4,14 @@ use Rattle.serve_loop.proofs.ServeLemmas.{suits_rests}
 use Rattle.serve_loop.proofs.ServiceLemmas.{if_err_map}
 use Rattle.serve_loop.proofs.service.follow.Goals as goal
 
-pub returns-then-turned-clause-calm : goal.returns-then-turned-clause-calm
-returns-then-turned-clause-calm g c = greets_calm _ c.greet.result _ _ _ _ c.greet.ensures.greets
+pub returns-clause-calm : goal.returns-clause-calm
+returns-clause-calm g c = greets_calm _ c.greet.result _ _ _ _ c.greet.ensures.greets
 
-pub returns-then-turned-clause-wire : goal.returns-then-turned-clause-wire
-returns-then-turned-clause-wire g c = if_err_map c.greet.result _ _ (λ fault h. greets_rose _ fault _ _ _ _ h) c.greet.ensures.fails
+pub returns-clause-wire : goal.returns-clause-wire
+returns-clause-wire g c = if_err_map c.greet.result _ _ (λ fault h. greets_rose _ fault _ _ _ _ h) c.greet.ensures.fails
 
-pub returns-then-turned-clause-alone : goal.returns-then-turned-clause-alone
-returns-then-turned-clause-alone g c = greets_alone _ c.greet.result _ _ _ _ c.greet.ensures.greets c.greet.ensures.fails
+pub returns-clause-alone : goal.returns-clause-alone
+returns-clause-alone g c = greets_alone _ c.greet.result _ _ _ _ c.greet.ensures.greets c.greet.ensures.fails
 
-pub returns-clause-suits : goal.returns-clause-suits
-returns-clause-suits g c = suits_rests _ _ _ _ _ c.rest.ensures.only c.requires.suits
+pub returns-then-rests-clause-suits : goal.returns-then-rests-clause-suits
+returns-then-rests-clause-suits g c = suits_rests _ _ _ _ _ c.rest.ensures.only c.requires.suits

@@ -22,8 +22,8 @@ invariant-loop g l = record {
       → ServesTo g.C.Converses.kind (g.S.Supply.may l.fn.supply) first since t l.served (held l.connections) (held_count l.connections)
       (moment (g.C.Server.Serves.serving l.fn.server) (g.S.Supply.state l.fn.supply) (g.W.Wire.state l.fn.wire))
       (moment (g.C.Server.Serves.serving l.server) (g.S.Supply.state l.supply) (g.W.Wire.state l.wire));
-  so_far : SoFar g.C.Converses.kind (g.C.Server.Serves.serving l.fn.server).config l.stop_after l.served.connections (held_count l.connections) (g.W.Wire.state l.fn.wire) (g.W.Wire.state l.wire);
-  asked : AskedSoFar g.C.Converses.kind (g.S.Supply.may l.fn.supply) (held_count l.connections)
+  so_far : SoFar g.C.Converses.kind (g.C.Server.Serves.serving l.fn.server).config l.stop_after l.served.connections (held_count l.connections) l.round (g.W.Wire.state l.fn.wire) (g.W.Wire.state l.wire);
+  asked : AskedSoFar g.C.Converses.kind (g.S.Supply.may l.fn.supply) (held_count l.connections) l.round
       (moment (g.C.Server.Serves.serving l.fn.server) (g.S.Supply.state l.fn.supply) (g.W.Wire.state l.fn.wire))
       (moment (g.C.Server.Serves.serving l.server) (g.S.Supply.state l.supply) (g.W.Wire.state l.wire));
   fewer : IfSome l.stop_after (λ most. l.served.connections ≤ most - 1);

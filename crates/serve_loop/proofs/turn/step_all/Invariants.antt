@@ -3,6 +3,7 @@ use Rattle.std.proofs.Common.{ℕ, ◌≡◌, ◌+◌, ◌≤◌, length}
 use Rattle.std.specs.Prelude.{◌↔◌}
 use Rattle.slab.specs.Slab.{get, slab_len}
 use Rattle.tpf_base.specs.Links.{WireState}
+use Rattle.serve_loop.specs.Parts.{parted}
 use Rattle.serve_loop.specs.Relates.{Relates, SuitsWire}
 use Rattle.serve_loop.specs.Asks.{AnswersBelow}
 use Rattle.serve_loop.specs.Calls.{StepsBelow}
@@ -23,11 +24,11 @@ invariant-loop-key g l = record {
       → TurnsTo g.C.Converses.kind (g.S.Supply.may l.fn.supply) first since t l.turned (get l.live) (slab_len l.live)
       (moment (g.C.Server.Serves.serving l.fn.server) (g.S.Supply.state l.fn.supply) (g.W.Wire.state l.fn.wire))
       (moment (g.C.Server.Serves.serving l.server) (g.S.Supply.state l.supply) (g.W.Wire.state l.wire));
-  asks : (w : WireState) → AnswersBelow g.C.Converses.kind (g.S.Supply.may l.fn.supply) (get l.fn.live) l.key
+  asks : (w : WireState) → AnswersBelow g.C.Converses.kind (g.S.Supply.may l.fn.supply) (parted l.part (get l.fn.live)) l.key
       (moment (g.C.Server.Serves.serving l.fn.server) (g.S.Supply.state l.fn.supply) w)
       (moment (g.C.Server.Serves.serving l.server) (g.S.Supply.state l.supply) w);
-  lasts : GoOnBelow g.C.Converses.kind l.key (get l.fn.live) (get l.live);
-  below : StepsBelow g.C.Converses.kind l.turned l.key (get l.fn.live) (g.W.Wire.state l.fn.wire) (g.W.Wire.state l.wire);
+  lasts : GoOnBelow g.C.Converses.kind l.key (parted l.part (get l.fn.live)) (get l.live);
+  below : StepsBelow g.C.Converses.kind l.turned l.key (parted l.part (get l.fn.live)) (g.W.Wire.state l.fn.wire) (g.W.Wire.state l.wire);
   follows : g.C.Server.Serves.Follows l.fn.server l.server;
   keeps : g.S.Supply.Keeps l.fn.supply l.supply;
   same : (data_set : _) → g.S.Supply.may l.supply data_set ↔ g.S.Supply.may l.fn.supply data_set;

@@ -19,11 +19,11 @@ returns-else-accepted-clause-turns g c = λ first since t r. turns_after _ _ _ _
     (welcomed _ _ _ _ _ _ _ _ _ _ _ _ _ _ c.in_ok-accepted.ensures.welcomes r) (λ u q. c.step_all-turned.ensures.turns first since u q)
 
 pub returns-then-accepted-clause-busy : goal.returns-then-accepted-clause-busy
-returns-then-accepted-clause-busy g c = busy _ c.step_all-turned.result _ _ _ _ _ _ _ _ _ c.in_ok-accepted.ensures.welcomes c.requires.suits.given c.step_all-turned.ensures.all
+returns-then-accepted-clause-busy g c = busy _ c.args.part c.step_all-turned.result _ _ _ _ _ _ _ _ _ c.in_ok-accepted.ensures.welcomes c.requires.suits.given c.step_all-turned.ensures.all
     (c.if-accepted.true ∙ or_true _ _ c.if-accepted.true) refl
 
 pub returns-else-accepted-clause-busy : goal.returns-else-accepted-clause-busy
-returns-else-accepted-clause-busy g c = busy _ c.step_all-turned.result _ _ _ _ _ _ _ _ _ c.in_ok-accepted.ensures.welcomes c.requires.suits.given c.step_all-turned.ensures.all
+returns-else-accepted-clause-busy g c = busy _ c.args.part c.step_all-turned.result _ _ _ _ _ _ _ _ _ c.in_ok-accepted.ensures.welcomes c.requires.suits.given c.step_all-turned.ensures.all
     (or_else _ _ c.if-accepted.false) refl
 
 pub returns-in_err-accepted-clause-err : goal.returns-in_err-accepted-clause-err
@@ -31,10 +31,10 @@ returns-in_err-accepted-clause-err g c = rw (err_from_is_err_and c.from_residual
     c.in_err-accepted.ensures.alone r)
 
 pub returns-then-accepted-clause-asks : goal.returns-then-accepted-clause-asks
-returns-then-accepted-clause-asks g c = λ w. answers_welcomed _ _ _ _ _ _ _ _ _ _ _ c.in_ok-accepted.ensures.welcomes (c.step_all-turned.ensures.asks w)
+returns-then-accepted-clause-asks g c = λ w. answers_welcomed _ _ _ _ _ _ _ _ _ _ _ _ c.in_ok-accepted.ensures.welcomes (c.step_all-turned.ensures.asks w)
 
 pub returns-else-accepted-clause-asks : goal.returns-else-accepted-clause-asks
-returns-else-accepted-clause-asks g c = λ w. answers_welcomed _ _ _ _ _ _ _ _ _ _ _ c.in_ok-accepted.ensures.welcomes (c.step_all-turned.ensures.asks w)
+returns-else-accepted-clause-asks g c = λ w. answers_welcomed _ _ _ _ _ _ _ _ _ _ _ _ c.in_ok-accepted.ensures.welcomes (c.step_all-turned.ensures.asks w)
 
 pub returns-then-accepted-clause-prefixes : goal.returns-then-accepted-clause-prefixes
 returns-then-accepted-clause-prefixes g c = λ first since t r. sentence_turn _ g.met.C.Converses.begins _ first since t _ _ _ _ _ (returns-then-accepted-clause-turns g c first since t r)
@@ -62,7 +62,7 @@ pub returns-in_err-accepted-clause-fails : goal.returns-in_err-accepted-clause-f
 returns-in_err-accepted-clause-fails g c = let p = err_from_is_err_and c.from_residual.result c.from_residual.ensures.1 in fault_as _ _ p.0 _ p.1 p.2 c.in_err-accepted.ensures.fails
 
 pub returns-then-accepted-clause-lasts : goal.returns-then-accepted-clause-lasts
-returns-then-accepted-clause-lasts g c = go_on_welcomed _ _ _ _ _ _ _ _ _ c.in_ok-accepted.ensures.welcomes c.step_all-turned.ensures.lasts
+returns-then-accepted-clause-lasts g c = go_on_welcomed _ _ _ _ _ _ _ _ _ _ c.in_ok-accepted.ensures.welcomes c.step_all-turned.ensures.lasts
 
 pub returns-else-accepted-clause-lasts : goal.returns-else-accepted-clause-lasts
-returns-else-accepted-clause-lasts g c = go_on_welcomed _ _ _ _ _ _ _ _ _ c.in_ok-accepted.ensures.welcomes c.step_all-turned.ensures.lasts
+returns-else-accepted-clause-lasts g c = go_on_welcomed _ _ _ _ _ _ _ _ _ _ c.in_ok-accepted.ensures.welcomes c.step_all-turned.ensures.lasts
