@@ -34,6 +34,32 @@ fn give(
     Ok(())
 }
 
+/// Writes the second row, and the end.
+fn write_last(
+    alloc: Global,
+    writer: &mut ResultWriter,
+    out: &mut MemSink,
+    lengths: &mut Vec<usize>,
+) -> Result<(), Fail> {
+    writer.row(&row_of(alloc, "http://e/2", None)?)?;
+    give(writer, out, lengths)?;
+    writer.finish()?;
+    give(writer, out, lengths)
+}
+
+/// Writes the rows, and the end.
+fn write_on(
+    alloc: Global,
+    writer: &mut ResultWriter,
+    out: &mut MemSink,
+    lengths: &mut Vec<usize>,
+) -> Result<(), Fail> {
+    give(writer, out, lengths)?;
+    writer.row(&row_of(alloc, "http://e/1", Some("x"))?)?;
+    give(writer, out, lengths)?;
+    write_last(alloc, writer, out, lengths)
+}
+
 fn write_rows(
     alloc: Global,
     query: &Query,
@@ -41,13 +67,7 @@ fn write_rows(
     lengths: &mut Vec<usize>,
 ) -> Result<(), Fail> {
     let mut writer = ResultWriter::begin(alloc, query)?;
-    give(&mut writer, out, lengths)?;
-    writer.row(&row_of(alloc, "http://e/1", Some("x"))?)?;
-    give(&mut writer, out, lengths)?;
-    writer.row(&row_of(alloc, "http://e/2", None)?)?;
-    give(&mut writer, out, lengths)?;
-    writer.finish()?;
-    give(&mut writer, out, lengths)
+    write_on(alloc, &mut writer, out, lengths)
 }
 
 /// The text of the same rows, made at once.
@@ -66,11 +86,18 @@ fn are_written(alloc: Global, query: &Query) -> Result<bool, Fail> {
     Ok(out.taken() == TEXT.as_bytes() && lengths.as_slice() == ENDS.as_slice())
 }
 
+/// Whether the rows are written so, one by one and at once.
+fn are_both(alloc: Global, query: &Query) -> Result<(bool, bool), Fail> {
+    let whole = whole_text(alloc, query)?;
+    Ok((
+        are_written(alloc, query)?,
+        whole.as_slice() == TEXT.as_bytes(),
+    ))
+}
+
 #[test]
 fn rows_go_to_the_sink_one_by_one(rt: HostRuntime) -> Result<(), Fail> {
     let query = parse(rt.alloc(), b"SELECT ?a ?b WHERE { ?a <http://e/p> ?b }")?;
-    assert!(rt; are_written(rt.alloc(), &query)?);
-    let whole = whole_text(rt.alloc(), &query)?;
-    assert_eq!(rt; whole.as_slice(), TEXT.as_bytes());
+    assert_eq!(rt; are_both(rt.alloc(), &query)?, (true, true));
     Ok(())
 }

@@ -4,6 +4,7 @@ ghost use Rattle.std.specs.List.{AllByRecursion};
 ghost use Rattle.bgp_core.specs.Queries.{IsPartOf, IsPatternOf};
 
 use bgp_core::{Part, Pattern, Query, Row, solutions};
+use nquads_text::read_all;
 use rdf_terms::{Term, Triple};
 use std::alloc::Global;
 use std::test::Fail;
@@ -42,42 +43,86 @@ fn three(text: &str) -> Result<(&str, &str, &str), Fail> {
     }
 }
 
-fn pattern(alloc: Global, text: &str) -> Result<Pattern, Fail> {
+fn set_parts(alloc: Global, text: &str, pattern: &mut Pattern) -> Result<(), Fail> {
     let (subject, predicate, object) = three(text)?;
-    Ok(Pattern {
-        subject: part(alloc, subject)?,
-        predicate: part(alloc, predicate)?,
-        object: part(alloc, object)?,
-    })
+    pattern.subject = part(alloc, subject)?;
+    pattern.predicate = part(alloc, predicate)?;
+    pattern.object = part(alloc, object)?;
+    Ok(())
 }
 
-fn triple(alloc: Global, text: &str) -> Result<Triple, Fail> {
-    let (subject, predicate, object) = three(text)?;
-    Ok(Triple {
-        subject: term(alloc, subject)?,
-        predicate: term(alloc, predicate)?,
-        object: term(alloc, object)?,
-    })
-}
-
-fn triples_of(alloc: Global, texts: &str) -> Result<Vec<Triple>, Fail> {
-    let mut triples = Vec::new(alloc);
-    for text in texts.split(';') {
-        if !text.is_empty() {
-            triples.push(triple(alloc, text)?)?;
-        }
+/// A pattern of three names.
+fn free() -> Pattern {
+    Pattern {
+        subject: Part::Name(0),
+        predicate: Part::Name(0),
+        object: Part::Name(0),
     }
-    Ok(triples)
+}
+
+fn push_pattern(alloc: Global, text: &str, patterns: &mut Vec<Pattern>) -> Result<(), Fail> {
+    patterns.push(free())?;
+    match patterns.last_mut() {
+        Some(pattern) => set_parts(alloc, text, pattern),
+        None => Ok(()),
+    }
 }
 
 fn patterns_of(alloc: Global, texts: &str) -> Result<Vec<Pattern>, Fail> {
     let mut patterns = Vec::new(alloc);
     for text in texts.split(';') {
         if !text.is_empty() {
-            patterns.push(pattern(alloc, text)?)?;
+            push_pattern(alloc, text, &mut patterns)?;
         }
     }
     Ok(patterns)
+}
+
+/// Appends a word as a term of N-Quads text, and a blank. The quote is a part of a literal's form.
+fn push_word(word: &str, text: &mut String) -> Result<(), Fail> {
+    let (front, back) = if word.starts_with('"') {
+        ("\"\\", "\" ")
+    } else {
+        ("<http://e/", "> ")
+    };
+    text.push_str(front)?;
+    text.push_str(word)?;
+    text.push_str(back)?;
+    Ok(())
+}
+
+/// Appends the words of a text as a line of N-Quads text.
+fn push_line(words: &str, text: &mut String) -> Result<(), Fail> {
+    for word in words.split_whitespace() {
+        push_word(word, text)?;
+    }
+    text.push_str(".\n")?;
+    Ok(())
+}
+
+/// The N-Quads text of triples.
+fn lines_of(alloc: Global, texts: &str) -> Result<String, Fail> {
+    let mut lines = String::new(alloc);
+    for text in texts.split(';') {
+        if !text.is_empty() {
+            push_line(text, &mut lines)?;
+        }
+    }
+    Ok(lines)
+}
+
+fn triples_in(alloc: Global, text: &str) -> Result<Vec<Triple>, Fail> {
+    let quads = read_all(alloc, text.as_bytes(), 1000)?;
+    let mut triples = Vec::new(alloc);
+    for quad in &quads {
+        triples.push(quad.triple.copy(alloc)?)?;
+    }
+    Ok(triples)
+}
+
+fn triples_of(alloc: Global, texts: &str) -> Result<Vec<Triple>, Fail> {
+    let lines = lines_of(alloc, texts)?;
+    triples_in(alloc, lines.as_str())
 }
 
 fn is_part(part: &Part, names: usize) -> bool
@@ -152,56 +197,71 @@ fn sorted_lines(alloc: Global, rows: &[Row]) -> Result<String, Fail> {
     Ok(all)
 }
 
-fn solved(alloc: Global, data: &str, asked: &str, names: usize) -> Result<String, Fail> {
-    let triples = triples_of(alloc, data)?;
+fn rows_of(alloc: Global, triples: &[Triple], query: &Query) -> Result<String, Fail> {
+    sorted_lines(alloc, &solutions(alloc, triples, query)?)
+}
+
+fn solved_over(
+    alloc: Global,
+    triples: &[Triple],
+    asked: &str,
+    names: usize,
+) -> Result<String, Fail> {
     let patterns = patterns_of(alloc, asked)?;
     let texts = texts(alloc, names)?;
     if !are_patterns(&patterns, texts.len()) {
         return Err(Fail::new("a number without a name"));
     }
     let query = Query::new(patterns, texts, Vec::new(alloc));
-    sorted_lines(alloc, &solutions(alloc, &triples, &query)?)
+    rows_of(alloc, triples, &query)
 }
+
+fn solved(alloc: Global, data: &str, asked: &str, names: usize) -> Result<String, Fail> {
+    let triples = triples_of(alloc, data)?;
+    solved_over(alloc, &triples, asked, names)
+}
+
+/// What a row shows, the data, the patterns, the number of names, and the solutions.
+const SOLUTIONS: [(&str, &str, &str, usize, &str); 10] = [
+    (
+        "a shared variable",
+        KNOWS,
+        "0 k 1;1 n 2",
+        3,
+        "a c \"C |b c \"C |",
+    ),
+    ("a variable twice", "a p a;a p b", "0 p 0", 1, "a |"),
+    (
+        "nothing in common",
+        KNOWS,
+        "0 n 1;a k 2",
+        3,
+        "c \"C b |c \"C c |",
+    ),
+    (
+        "a name that is not selected",
+        "s p x;s p y;s p z",
+        "0 p 1",
+        2,
+        "s x |s y |s z |",
+    ),
+    ("a literal as subject", KNOWS, "\"C 0 1", 2, ""),
+    (
+        "a literal that would be a subject",
+        KNOWS,
+        "0 n 1;1 2 3",
+        4,
+        "",
+    ),
+    ("no pattern", KNOWS, "", 2, "- - |"),
+    ("no pattern and no data", "", "", 0, "|"),
+    ("a repeated triple", "s p o;s p o", "0 1 2", 3, "s p o |"),
+    ("no data", "", "0 1 2", 3, ""),
+];
 
 #[test]
 fn solutions_are_counted_as_sparql_counts_them(rt: HostRuntime) -> Result<(), Fail> {
-    let table = [
-        (
-            "a shared variable",
-            KNOWS,
-            "0 k 1;1 n 2",
-            3,
-            "a c \"C |b c \"C |",
-        ),
-        ("a variable twice", "a p a;a p b", "0 p 0", 1, "a |"),
-        (
-            "nothing in common",
-            KNOWS,
-            "0 n 1;a k 2",
-            3,
-            "c \"C b |c \"C c |",
-        ),
-        (
-            "a name that is not selected",
-            "s p x;s p y;s p z",
-            "0 p 1",
-            2,
-            "s x |s y |s z |",
-        ),
-        ("a literal as subject", KNOWS, "\"C 0 1", 2, ""),
-        (
-            "a literal that would be a subject",
-            KNOWS,
-            "0 n 1;1 2 3",
-            4,
-            "",
-        ),
-        ("no pattern", KNOWS, "", 2, "- - |"),
-        ("no pattern and no data", "", "", 0, "|"),
-        ("a repeated triple", "s p o;s p o", "0 1 2", 3, "s p o |"),
-        ("no data", "", "0 1 2", 3, ""),
-    ];
-    for (name, data, asked, names, want) in table {
+    for (name, data, asked, names, want) in SOLUTIONS {
         let lines = solved(rt.alloc(), data, asked, names)?;
         assert_eq!(rt; lines.as_str(), want, "{name}");
     }

@@ -3,6 +3,7 @@ use nquads_text::{read_all, write_quad};
 use quad_feed::QuadFeed;
 use rdf_terms::{Quad, Term, TermFault};
 use std::alloc::Global;
+use std::process::Abort;
 use std::test::Fail;
 use text_base::Text;
 
@@ -12,30 +13,50 @@ const STRING: &str = "http://www.w3.org/2001/XMLSchema#string";
 
 const LONGEST: usize = 262144;
 
+fn is_no_iri<R: Abort + AllocGlobal>(rt: &R) {
+    assert_eq!(rt;
+        Term::iri(rt.alloc(), "example").err(),
+        Some(TermFault::Iri)
+    );
+}
+
+fn compare_integer<R: Abort + AllocGlobal>(
+    rt: &R,
+    plain: &Term,
+    string: &Term,
+) -> Result<(), Fail> {
+    let integer = Term::typed(rt.alloc(), "1", INTEGER)?;
+    assert_eq!(rt; (string.same(plain), integer.same(plain)), (true, false));
+    is_no_iri(rt);
+    Ok(())
+}
+
+fn compare_string<R: Abort + AllocGlobal>(rt: &R, plain: &Term) -> Result<(), Fail> {
+    let string = Term::typed(rt.alloc(), "1", STRING)?;
+    compare_integer(rt, plain, &string)
+}
+
 #[test]
 fn a_literal_of_xsd_string_is_plain(rt: HostRuntime) -> Result<(), Fail> {
-    let alloc = rt.alloc();
-    let plain = Term::plain(alloc, "1")?;
-    let string = Term::typed(alloc, "1", STRING)?;
-    let integer = Term::typed(alloc, "1", INTEGER)?;
-    assert_eq!(rt; string.same(&plain), true);
-    assert_eq!(rt; integer.same(&plain), false);
-    assert_eq!(rt; Term::iri(alloc, "example").err(), Some(TermFault::Iri));
+    let plain = Term::plain(rt.alloc(), "1")?;
+    compare_string(&rt, &plain)
+}
+
+fn are_written<R: Abort + AllocGlobal>(rt: &R, quads: &[Quad], line: &str) -> Result<(), Fail> {
+    let mut lines = Vec::new(rt.alloc());
+    for quad in quads {
+        write_quad(quad, &mut lines)?;
+    }
+    assert_eq!(rt; lines.as_slice(), line.as_bytes());
     Ok(())
 }
 
 #[test]
 fn a_statement_is_read_and_written(rt: HostRuntime) -> Result<(), Fail> {
-    let alloc = rt.alloc();
     let text = "<http://e/s> <http://e/p> \"caf\\u00E9\"@FR .# a comment";
     let line = "<http://e/s> <http://e/p> \"café\"@fr .\n";
-    let quads = read_all(alloc, text.as_bytes(), LONGEST)?;
-    let mut lines = Vec::new(alloc);
-    for quad in &quads {
-        write_quad(quad, &mut lines)?;
-    }
-    assert_eq!(rt; lines.as_slice(), line.as_bytes());
-    Ok(())
+    let quads = read_all(rt.alloc(), text.as_bytes(), LONGEST)?;
+    are_written(&rt, quads.as_slice(), line)
 }
 
 /// The statements of a text that comes in pieces.
@@ -58,9 +79,10 @@ fn a_text_is_read_from_its_pieces(rt: HostRuntime) -> Result<(), Fail> {
 
 #[test]
 fn a_text_is_its_bytes(rt: HostRuntime) -> Result<(), Fail> {
-    let alloc = rt.alloc();
-    let name = Text::copy(alloc, "a.nq")?;
-    assert_eq!(rt; name.as_str(), "a.nq");
-    assert_eq!(rt; name == Text::copy(alloc, "b.nq")?, false);
+    let name = Text::copy(rt.alloc(), "a.nq")?;
+    assert_eq!(rt;
+        (name.as_str(), name == Text::copy(rt.alloc(), "b.nq")?),
+        ("a.nq", false)
+    );
     Ok(())
 }

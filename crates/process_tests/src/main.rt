@@ -2,13 +2,7 @@
 //! one process to another. With words it is the program `tpf` itself.
 #![tactic(auto)]
 
-mod answers;
-mod cases;
-mod edge;
-mod files;
-mod programs;
-
-use cases::run_cases;
+use process_runs::run_cases;
 use std::process::ExitCode;
 use tpf_process::{run_process, words_of};
 

@@ -1,7 +1,7 @@
 // The words of the command line, and the commands that they are.
-use crate::setup::words_of;
 use case_rows::{Case, CaseFault, word_text};
 use command_words::{ClientWords, Command, command_of};
+use run_case_rows::words_of;
 use std::alloc::Global;
 use tpf_base::Text;
 use triple_table::Choice;
@@ -25,18 +25,7 @@ fn client_text(alloc: Global, client: &ClientWords) -> Result<String, CaseFault>
     Ok(format!(in alloc; "{window}/{links}/{retries}/{budget}/{max_body}")?)
 }
 
-/// Two texts with a blank between them.
-fn pair_text(alloc: Global, one: &str, other: &str) -> Result<String, CaseFault> {
-    Ok(format!(in alloc; "{one} {other}")?)
-}
-
-/// What a command asks, and the numbers of its client.
-fn asked_text(alloc: Global, front: &str, client: &ClientWords) -> Result<String, CaseFault> {
-    let numbers = client_text(alloc, client)?;
-    pair_text(alloc, front, numbers.as_str())
-}
-
-/// The names, the graphs and the page size of `local`.
+/// `local` in one line, before the numbers of its client.
 fn local_front(
     alloc: Global,
     name: &str,
@@ -48,17 +37,30 @@ fn local_front(
     Ok(format!(in alloc; "local {name} {query} {graphs} {page}")?)
 }
 
-/// What `local` asks, its seed and which dials fail.
-fn local_text(alloc: Global, asked: &str, seed: u64, fail_every: u64) -> Result<String, CaseFault> {
-    Ok(format!(in alloc; "{asked} {seed} {fail_every}")?)
+/// `local` in one line: what it asks, the numbers of its client, its seed and which dials fail.
+fn local_text(
+    alloc: Global,
+    front: &str,
+    client: &ClientWords,
+    seed: u64,
+    fail_every: u64,
+) -> Result<String, CaseFault> {
+    let client = client_text(alloc, client)?;
+    Ok(format!(in alloc; "{front} {client} {seed} {fail_every}")?)
 }
 
-/// The address and the query of `query`.
-fn query_front(alloc: Global, address: &str, query: &str) -> Result<String, CaseFault> {
-    Ok(format!(in alloc; "query {address} {query}")?)
+/// `query` in one line.
+fn query_text(
+    alloc: Global,
+    address: &str,
+    name: &str,
+    client: &ClientWords,
+) -> Result<String, CaseFault> {
+    let client = client_text(alloc, client)?;
+    Ok(format!(in alloc; "query {address} {name} {client}")?)
 }
 
-/// The name, the address, the graphs and the page size of `serve`.
+/// `serve` in one line, before the path of a reload.
 fn serve_front(
     alloc: Global,
     name: &str,
@@ -70,49 +72,25 @@ fn serve_front(
     Ok(format!(in alloc; "serve {name} {address} {graphs} {page}")?)
 }
 
-/// What is served, after how many connections it ends, and the path of a reload.
+/// `serve` in one line: what is served, after how many connections it ends, and the path of a reload.
 fn serve_text(
     alloc: Global,
-    served: &str,
-    connections: u64,
-    path: &str,
-) -> Result<String, CaseFault> {
-    Ok(format!(in alloc; "{served} {connections} {path}")?)
-}
-
-/// What `make` makes, and its query.
-fn make_text(alloc: Global, count: u64, query: &str) -> Result<String, CaseFault> {
-    Ok(format!(in alloc; "make {count} {query}")?)
-}
-
-/// `local` in one line.
-fn local(
-    alloc: Global,
     front: &str,
-    client: &ClientWords,
-    ends: (u64, u64),
+    stop_after: &Option<u64>,
+    reload: &Option<Text>,
 ) -> Result<String, CaseFault> {
-    let asked = asked_text(alloc, front, client)?;
-    local_text(alloc, asked.as_str(), ends.0, ends.1)
-}
-
-/// `query` in one line.
-fn query(
-    alloc: Global,
-    address: &str,
-    name: &str,
-    client: &ClientWords,
-) -> Result<String, CaseFault> {
-    let front = query_front(alloc, address, name)?;
-    asked_text(alloc, front.as_str(), client)
-}
-
-/// The path of a reload, or `none`.
-fn path_text(reload: &Option<Text>) -> &str {
-    match reload {
+    let connections = stop_after.unwrap_or(0);
+    let path = match reload {
         Some(path) => path.as_str(),
         None => "none",
-    }
+    };
+    Ok(format!(in alloc; "{front} {connections} {path}")?)
+}
+
+/// `make` in one line: what it makes, and its query.
+fn make_text(alloc: Global, count: u32, query: Option<&str>) -> Result<String, CaseFault> {
+    let query = query.unwrap_or("none");
+    Ok(format!(in alloc; "make {count} {query}")?)
 }
 
 /// A command in one line.
@@ -128,13 +106,9 @@ fn command_text(alloc: Global, command: &Command<'_>) -> Result<String, CaseFaul
             fail_every,
         } => {
             let front = local_front(alloc, *name, *query, choice, *page)?;
-            local(alloc, front.as_str(), client, (*seed, *fail_every))
+            local_text(alloc, front.as_str(), client, *seed, *fail_every)
         }
-        Command::Query {
-            url,
-            query: name,
-            client,
-        } => query(alloc, url.text(), *name, client),
+        Command::Query { url, query, client } => query_text(alloc, url.text(), *query, client),
         Command::Serve {
             name,
             base,
@@ -144,10 +118,9 @@ fn command_text(alloc: Global, command: &Command<'_>) -> Result<String, CaseFaul
             reload,
         } => {
             let front = serve_front(alloc, *name, base.text(), choice, *page)?;
-            let connections = stop_after.unwrap_or(0);
-            serve_text(alloc, front.as_str(), connections, path_text(reload))
+            serve_text(alloc, front.as_str(), stop_after, reload)
         }
-        Command::Make { count, run } => make_text(alloc, *count as u64, run.unwrap_or("none")),
+        Command::Make { count, run } => make_text(alloc, *count, *run),
     }
 }
 
@@ -160,14 +133,9 @@ fn words_text(alloc: Global, words: &[String]) -> Result<String, CaseFault> {
     }
 }
 
-/// `line`: the words of the line.
-fn words_in(alloc: Global, case: &mut Case<'_>) -> Result<Vec<String>, CaseFault> {
-    let line = case.text(alloc, "line")?;
-    words_of(alloc, line.as_str())
-}
-
 /// `line`: the command that words are, with a `|` between each two, in one line; `none`, where they are no command.
 pub fn command(alloc: Global, case: &mut Case<'_>) -> Result<String, CaseFault> {
-    let words = words_in(alloc, case)?;
+    let line = case.text(alloc, "line")?;
+    let words = words_of(alloc, line.as_str())?;
     words_text(alloc, words.as_slice())
 }

@@ -1,0 +1,177 @@
+// The table's pages, compared with fragments found the plain way.
+ghost use Rattle.std.specs.Prelude.{◌≡◌, ◌-◌, ◌<◌, ℕ, All, IfOk};
+ghost use Rattle.rdf_terms.specs.Triples.{IsRdfQuad};
+ghost use Rattle.triple_table.specs.Stored.{IsRange};
+ghost use Rattle.tpf_base.specs.Addresses.{IsAuthority};
+
+use fragment_pages::page;
+use nquads_text::read_all;
+use plain_fragments::plain_fragment;
+use rdf_terms::{Quad, Slot, Slots, Term, Triple};
+use std::alloc::Global;
+use std::marker::Brand;
+use std::sync::ledger::{Blank, Ledger};
+use std::test::Fail;
+use tpf_base::Steps;
+use triple_table::{Choice, Range, Table, served};
+
+const DATA: &str = "<http://e/c> <http://e/n> \"C\" .
+<http://e/b> <http://e/k> <http://e/c> .
+<http://e/a> <http://e/k> <http://e/b> .
+<http://e/a> <http://e/k> <http://e/c> .
+<http://e/a> <http://e/n> \"C\"@en .
+<http://e/a> <http://e/k> <http://e/b> .
+_:x <http://e/k> <http://e/a1> .
+";
+
+fn host() -> &'static str
+    ensures { IsAuthority result.now }
+{
+    "localhost"
+}
+
+fn quads_of(alloc: Global, text: &str) -> Result<Vec<Quad>, Fail>
+    ensures { IfOk result (λ v. All IsRdfQuad v.items) }
+{
+    match read_all(alloc, text.as_bytes(), 1000) {
+        Ok(quads) => Ok(quads),
+        Err(_) => Err(Fail::new("no data")),
+    }
+}
+
+/// An open slot for a dash, a literal for a text that begins with a quote, else an IRI.
+fn slot(alloc: Global, text: &str) -> Result<Slot, Fail> {
+    match text.as_bytes() {
+        [b'-'] => Ok(Slot::Any),
+        [b'"', ..] => Ok(Slot::Fixed(Term::plain(alloc, "C")?)),
+        _ => match Term::iri(alloc, text) {
+            Ok(term) => Ok(Slot::Fixed(term)),
+            Err(_) => Err(Fail::new("no IRI")),
+        },
+    }
+}
+
+/// Sets slots to those of texts.
+fn set_slots(alloc: Global, texts: (&str, &str, &str), slots: &mut Slots) -> Result<(), Fail> {
+    slots.subject = slot(alloc, texts.0)?;
+    slots.predicate = slot(alloc, texts.1)?;
+    slots.object = slot(alloc, texts.2)?;
+    Ok(())
+}
+
+/// Slots of which none is fixed.
+fn free() -> Slots {
+    Slots {
+        subject: Slot::Any,
+        predicate: Slot::Any,
+        object: Slot::Any,
+    }
+}
+
+fn slots(alloc: Global, texts: (&str, &str, &str)) -> Result<Box<Slots>, Fail> {
+    let mut slots = Box::new(alloc, free())?;
+    set_slots(alloc, texts, &mut slots)?;
+    Ok(slots)
+}
+
+/// Whether this triple stands at a place of a range.
+fn is_at(table: &Table, range: &Range, i: usize, triple: &Triple) -> bool
+    requires range { IsRange table.now range.now }
+    requires within { i < range.now.to - range.now.from }
+{
+    let ids = table.at(range, i);
+    table.term(ids.subject).same(&triple.subject)
+        && table.term(ids.predicate).same(&triple.predicate)
+        && table.term(ids.object).same(&triple.object)
+}
+
+/// Whether the first page, which may have a thousand triples, shows exactly these.
+fn shows<L: Ledger>(table: &Table, slots: &Slots, triples: &[Triple], blank: Blank) -> bool
+    requires name { blank.name ≡ L.name }
+    requires parts { blank.parts ≡ L.parts }
+    requires some { 0 < blank.parts }
+{
+    let mut steps: Steps<L> = Steps::new(blank);
+    let Some(view) = page(table, slots, 1, 1000, &mut steps) else {
+        return false;
+    };
+    let count = table.count(&view.range);
+    if count != triples.len() || view.from != 0 || view.to != count {
+        return false;
+    }
+    for i in 0..count {
+        if !is_at(table, &view.range, i, &triples[i]) {
+            return false;
+        }
+    }
+    true
+}
+
+fn shows_all(table: &Table, slots: &Slots, triples: &[Triple]) -> bool {
+    shows::<Brand>(table, slots, triples, Blank::new(1))
+}
+
+/// Whether a pattern's first page is the fragment found the plain way, and how many triples it has.
+fn compare_slots(
+    alloc: Global,
+    texts: (&str, &str, &str),
+    triples: &[Triple],
+    table: &Table,
+) -> Result<(bool, usize), Fail> {
+    let slots = slots(alloc, texts)?;
+    let plain = plain_fragment(alloc, triples, &slots)?;
+    Ok((shows_all(table, &slots, &plain), plain.len()))
+}
+
+/// The same of the table of these statements.
+fn compare_table(
+    alloc: Global,
+    texts: (&str, &str, &str),
+    quads: &[Quad],
+    triples: &[Triple],
+) -> Result<(bool, usize), Fail>
+    requires { All IsRdfQuad quads.now }
+{
+    let table = Table::build(alloc, quads, &Choice::Union, host(), 100)?;
+    compare_slots(alloc, texts, triples, &table)
+}
+
+/// The same of the triples of these statements.
+fn compare_served(
+    alloc: Global,
+    texts: (&str, &str, &str),
+    quads: &[Quad],
+) -> Result<(bool, usize), Fail>
+    requires { All IsRdfQuad quads.now }
+{
+    let triples = served(alloc, quads, &Choice::Union, host())?;
+    compare_table(alloc, texts, quads, &triples)
+}
+
+/// The same of the data.
+fn compared(alloc: Global, texts: (&str, &str, &str)) -> Result<(bool, usize), Fail> {
+    let quads = quads_of(alloc, DATA)?;
+    compare_served(alloc, texts, &quads)
+}
+
+/// The texts of a pattern, and how many triples its fragment has.
+const FRAGMENTS: [((&str, &str, &str), usize); 10] = [
+    (("-", "-", "-"), 6),
+    (("http://e/a", "-", "-"), 3),
+    (("-", "http://e/k", "-"), 4),
+    (("-", "-", "http://e/c"), 2),
+    (("http://e/a", "http://e/k", "-"), 2),
+    (("-", "http://e/n", "\""), 1),
+    (("http://e/a", "-", "http://e/b"), 1),
+    (("http://e/b", "http://e/k", "http://e/c"), 1),
+    (("http://localhost/.well-known/genid/x", "-", "-"), 1),
+    (("http://e/zz", "-", "-"), 0),
+];
+
+#[test]
+fn pages_of_every_kind_are_fragments_found_the_plain_way(rt: HostRuntime) -> Result<(), Fail> {
+    for (texts, count) in FRAGMENTS {
+        assert_eq!(rt; compared(rt.alloc(), texts)?, (true, count));
+    }
+    Ok(())
+}
