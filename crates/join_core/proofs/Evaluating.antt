@@ -1,9 +1,10 @@
 -- A join over one server, as an evaluation.
-use Rattle.std.proofs.Common.{ℕ, ◌≡◌, ◌+◌, ◌&&◌, ◌==◌, true, List, [], ◌∷◌, ◌++◌, map, length, Option, Some, None, inl, inr, ◌⊎◌, refl, ap, sym, subst, ◌∙◌, Ok, Err}
+use Rattle.std.proofs.Common.{ℕ, ◌≡◌, ◌≤◌, ◌<◌, ◌+◌, ◌*◌, ◌&&◌, ◌==◌, true, List, [], ◌∷◌, ◌++◌, map, length, Option, Some, None, inl, inr, ◌⊎◌, refl, ap, sym, subst, ◌∙◌, Ok, Err, arith}
 use Rattle.std.specs.Prelude.{Result, IfOk, OnOk, MatchOption, ⊤}
 use Rattle.std.specs.Option.{option_map}
 use Rattle.std.specs.List.{All, Contains}
 use Rattle.std.specs.List.Sorted.{IsPermutation}
+use Rattle.std.proofs.lemmas.Nat.{mul-le}
 use Rattle.std.proofs.lemmas.List.Elements.{All-nil, All-cons, All-head}
 use Rattle.std.proofs.lemmas.List.Sorted.{IsPermutation-sym, Contains-permutation}
 use Rattle.list_laws.proofs.Members.{at_head, in_flat_map}
@@ -18,13 +19,16 @@ use Rattle.join_core.specs.Ones.{SuitsOne, AsksFirstAt, AskStartsOne, pairs_in, 
 use Rattle.join_core.specs.JointPages.{joint_page}
 use Rattle.fragment_page.specs.declared.page.Page.{Page}
 use Rattle.join_core.proofs.Rounded.{out-is-round, one-address-of}
-use Rattle.bgp_core.specs.Solutions.{Places}
+use Rattle.bgp_core.specs.declared.pattern.Pattern.{Pattern}
+use Rattle.bgp_core.specs.Solutions.{Places, solutions}
+use Rattle.template_fill.specs.declared.form.Form.{Form}
 use Rattle.join_core.specs.declared.joint_page.JointPage.{JointPage}
 use Rattle.join_core.specs.declared.first.First.TheVariants.{Got}
-use Rattle.join_core.specs.Nodes.{NodeData}
+use Rattle.join_core.specs.Nodes.{NodeData, round_plan, plan}
+use Rattle.join_core.specs.Beginnings.{BeginsWith}
 use Rattle.join_core.specs.Events.{with_first_at}
 use Rattle.join_core.specs.Sound.{IsKeptSmall, KeepsSizes}
-use Rattle.join_core.specs.Joins.{JoinData, nodes, left_over, out, IsTrueFor, HandsOut, AsksAt, TakesFirst, TakesNext, TakesFirstAt, with_longest}
+use Rattle.join_core.specs.Joins.{JoinData, nodes, left_over, out, Begins, IsTrueFor, HandsOut, AsksAt, TakesFirst, TakesNext, TakesFirstAt, with_longest}
 use Rattle.join_core.specs.Outcomes.{AskDone, AskNumbered, AnswerDone, AnswerTakes, GivesWaiting}
 use Rattle.join_core.specs.JoinAccounts.{is_over, account_of, standing_of}
 use Rattle.join_core.specs.Evaluations.{HasHome, NextAtHome, Sizes, OwesAfterAsk, OwesAfterAnswer, StandsAfterAsk}
@@ -100,6 +104,16 @@ answer-suits w old new ticket (Ok Taken) s h = (s.0, h.suits)
 answer-suits w old new ticket (Ok Stranger) s h = subst (λ (j : JoinData). SuitsOne w j) (sym h) s
 answer-suits w old new ticket (Err x) s h = tt
 
+-- ---- before the first turn
+
+pub begun-suits : {E : Type 0} (w : World) (patterns : List Pattern) (row : Places) (r : Result JoinData E) → IsOneServer w → IfOk r (Begins w patterns row) → IfOk r (λ j. SuitsOne w j)
+begun-suits w patterns row (Ok j) one h = (one, h.suits)
+begun-suits w patterns row (Err e) one h = tt
+
+pub begun-owes : {E : Type 0} (w : World) (patterns : List Pattern) (row : Places) (r : Result JoinData E) → IfOk r (Begins w patterns row) → IfOk r (λ j. BeginsWith (solutions w.triples patterns row) (plan w patterns row) (account_of w j))
+begun-owes w patterns row (Ok j) h = record { owed = h.owed; left = turned (round_plan w patterns row) (left_over w j) h.left; out = ap (λ (l : List (ℕ × RoundData)). pairs_in l) h.out }
+begun-owes w patterns row (Err e) h = tt
+
 -- ---- pages
 
 one-round : (w : World) (j : JoinData) → SuitsOne w j → (ticket : ℕ) (round : RoundData) → Contains (out w j) (ticket, round) → (address : Address) × (round ≡ round_of_one address)
@@ -130,11 +144,32 @@ over-is j e f = ap (λ (n : ℕ). (n == 0) && (length (nodes j.levels) == 0)) e 
 
 -- ---- sizes
 
+within : (a b c : ℕ) → a ≡ b → b ≤ c → a ≤ c
+within a b c e l = omega (arith, e, l)
+
+many-times : (w n : ℕ) → 0 < n → w ≤ w * n
+many-times w n some =
+    let same : w ≤ w = omega arith in
+    let low : 1 ≤ n = omega (arith, some) in
+    let more : w * 1 ≤ w * n = mul-le w 1 w n same low in
+    omega (arith, more)
+
+small-so : (patterns window : ℕ) (forms : List Form) (j : JoinData) → 0 < length forms → IsKeptSmall patterns 1 j → j.longest ≡ 1 → j.window ≡ window → KeepsSizes (record { patterns = patterns; window = window * length forms }) j
+small-so patterns window forms j some k l w = record {
+  small = subst (λ (m : ℕ). IsKeptSmall patterns m j) (sym l) k;
+  window = within j.window window (window * length forms) w (many-times window (length forms) some);
+}
+
+pub begun-small : {E : Type 0} (patterns window : ℕ) (forms : List Form) (r : Result JoinData E) → 0 < length forms → IfOk r (IsKeptSmall patterns 1) → IfOk r (λ j. j.longest ≡ 1) → IfOk r (λ j. j.window ≡ window)
+    → IfOk r (λ j. KeepsSizes (record { patterns = patterns; window = window * length forms }) j)
+begun-small patterns window forms (Ok j) some k l w = small-so patterns window forms j some k l w
+begun-small patterns window forms (Err e) some k l w = tt
+
 ask-sizes : (sizes : Sizes) (old new : JoinData) (ask : Option Ask) → AskStartsOne old new ask → ((n m : ℕ) → IsKeptSmall n m old → IsKeptSmall n m new) → KeepsSizes sizes old → KeepsSizes sizes new
 ask-sizes sizes old new None h small k = subst (λ (j : JoinData). KeepsSizes sizes j) (sym h) k
 ask-sizes sizes old new (Some ask) h small k = record {
   small = subst (λ (m : ℕ). IsKeptSmall sizes.patterns m new) (sym (ap (λ (j : JoinData). j.longest) h.asks.done)) (small sizes.patterns old.longest k.small);
-  window = ap (λ (j : JoinData). j.window) h.asks.done ∙ k.window;
+  window = within new.window old.window sizes.window (ap (λ (j : JoinData). j.window) h.asks.done) k.window;
 }
 
 pub asked-sizes : {E : Type 0} (sizes : Sizes) (old new : JoinData) (r : Result (Option Ask) E) → IfOk r (AskStartsOne old new) → ((n m : ℕ) → IsKeptSmall n m old → IsKeptSmall n m new) → KeepsSizes sizes old → OnOk r (KeepsSizes sizes new)
@@ -151,13 +186,13 @@ page-window old new ticket page (inr t) = ap (λ (j : JoinData). j.window) t.don
 
 pub answer-sizes : {E : Type 0} (sizes : Sizes) (old new : JoinData) (ticket : ℕ) (page : JointPage) (r : Result Answered E) → IfOk r (AnswerTakes old (with_longest new old.longest) ticket page) → (IsKeptSmall sizes.patterns old.longest old → IsKeptSmall sizes.patterns new.longest new)
     → KeepsSizes sizes old → OnOk r (KeepsSizes sizes new)
-answer-sizes sizes old new ticket page (Ok Taken) h small k = record { small = small k.small; window = page-window old (with_longest new old.longest) ticket page h ∙ k.window }
-answer-sizes sizes old new ticket page (Ok Stranger) h small k = record { small = small k.small; window = ap (λ (j : JoinData). j.window) h ∙ k.window }
+answer-sizes sizes old new ticket page (Ok Taken) h small k = record { small = small k.small; window = within new.window old.window sizes.window (page-window old (with_longest new old.longest) ticket page h) k.window }
+answer-sizes sizes old new ticket page (Ok Stranger) h small k = record { small = small k.small; window = within new.window old.window sizes.window (ap (λ (j : JoinData). j.window) h) k.window }
 answer-sizes sizes old new ticket page (Err x) h small k = tt
 
 pub row-sizes : (sizes : Sizes) (old new : JoinData) (o : Option Places) → MatchOption o (new ≡ old) (λ row. ⊤) → MatchOption o ⊤ (GivesWaiting old new) → ((n m : ℕ) → IsKeptSmall n m old → IsKeptSmall n m new) → KeepsSizes sizes old → KeepsSizes sizes new
 row-sizes sizes old new None stays gives small k = subst (λ (j : JoinData). KeepsSizes sizes j) (sym stays) k
 row-sizes sizes old new (Some row) stays gives small k = record {
   small = subst (λ (m : ℕ). IsKeptSmall sizes.patterns m new) (sym (ap (λ (j : JoinData). j.longest) gives.done)) (small sizes.patterns old.longest k.small);
-  window = ap (λ (j : JoinData). j.window) gives.done ∙ k.window;
+  window = within new.window old.window sizes.window (ap (λ (j : JoinData). j.window) gives.done) k.window;
 }

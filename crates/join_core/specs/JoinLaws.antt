@@ -109,4 +109,8 @@ out-few terms n m j k s =
     omega (arith, few, most)
 
 pub out-is-small : (terms : Terms) (sizes : Sizes) (j : JoinData) → KeepsTo terms j → KeepsSizes sizes j → length (standing_of j).out ≤ sizes.patterns * sizes.window
-out-is-small terms sizes j k s = subst (λ (window : ℕ). length (tickets_out j) ≤ sizes.patterns * window) s.window (out-few terms sizes.patterns j.longest j k s.small)
+out-is-small terms sizes j k s =
+    let few = out-few terms sizes.patterns j.longest j k s.small in
+    let same : sizes.patterns ≤ sizes.patterns = omega arith in
+    let most : sizes.patterns * j.window ≤ sizes.patterns * sizes.window = mul-le sizes.patterns j.window sizes.patterns sizes.window same s.window in
+    omega (arith, few, most)

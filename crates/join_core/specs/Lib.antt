@@ -10,6 +10,7 @@ pub mod Levels
 pub mod Outcomes
 pub mod Runs
 pub mod Evaluations
+pub mod Beginnings
 pub mod Sound
 pub mod Ones
 pub mod JoinAccounts

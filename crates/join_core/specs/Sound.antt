@@ -77,7 +77,7 @@ pub record IsKeptSmall (n m : ℕ) (j : JoinData) : Type 0 where
   pub root : open_at j.levels 0 ≤ 1
   pub depths : (d : ℕ) → All (IsOfDepth n d) (level_at j.levels d)
 
--- of so many patterns, with pages of no more triples than the longest had, and the window
+-- of so many patterns, with pages of no more triples than the longest had, and no more than the window
 pub record KeepsSizes (sizes : Sizes) (j : JoinData) : Type 0 where
   pub small : IsKeptSmall sizes.patterns j.longest j
-  pub window : j.window ≡ sizes.window
+  pub window : j.window ≤ sizes.window

@@ -1,13 +1,15 @@
 // A join is an evaluation.
 ghost use Rattle.join_core.specs.Worlds.{World, IsPageAt};
 ghost use Rattle.join_core.specs.Ones.{SuitsOne};
+ghost use Rattle.join_core.specs.Beginnings.{FitsWorld, world_rows, world_plan, world_reported};
 ghost use Rattle.join_core.specs.Sound.{KeepsTo, KeepsSizes};
 ghost use Rattle.join_core.specs.JoinAccounts.{account_of, standing_of};
 ghost use Rattle.join_core.specs.JoinLaws.{done-owes-nothing, done-is-quiet, tickets-are-below, out-is-small};
 
+use crate::FormList;
 use crate::evaluation::{Answered, Ask, Evaluates};
 use crate::join::Join;
-use bgp_core::Row;
+use bgp_core::{Query, Row};
 use fragment_page::Page;
 use std::alloc::Global;
 use tpf_base::OutOfMemory;
@@ -26,6 +28,27 @@ impl Evaluates for Join {
     ghost keeps_to = { KeepsTo };
 
     ghost keeps_small = { KeepsSizes };
+
+    ghost fits = { FitsWorld };
+
+    ghost rows = { world_rows };
+
+    ghost plan = { world_plan };
+
+    ghost reported = { world_reported };
+
+    fn begin(
+        alloc: Global,
+        query: &Query,
+        forms: FormList,
+        window: u32,
+    ) -> Result<Join, OutOfMemory> {
+        Join::new(alloc, query, forms, window)
+    }
+
+    fn report_version(first: Option<u64>) -> Option<u64> {
+        first
+    }
 
     fn next_ask(&mut self, alloc: Global) -> Result<Option<Ask>, OutOfMemory> {
         Join::next_ask(self, alloc)

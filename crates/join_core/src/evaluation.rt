@@ -1,11 +1,17 @@
 // Evaluations of a query.
-ghost use Rattle.std.specs.Prelude.{◌≡◌, ◌<◌, ◌≤◌, ◌^◌, ◌-◌, ◌*◌, ⊤, true, [], length, Ok, None, IfOk, OnOk, MatchOption};
+ghost use Rattle.std.specs.Prelude.{ℕ, ◌≡◌, ◌<◌, ◌≤◌, ◌^◌, ◌-◌, ◌*◌, ⊤, true, List, [], length, Option, Ok, None, IfOk, OnOk, MatchOption};
 ghost use Rattle.std.specs.List.{All, Contains};
 ghost use Rattle.tpf_base.specs.Addresses.{Address};
 ghost use Rattle.fragment_page.specs.declared.page.Page.{Page};
+ghost use Rattle.template_fill.specs.declared.form.Form.{Form};
+ghost use Rattle.bgp_core.specs.Queries.{QueryData};
+ghost use Rattle.bgp_core.specs.Solutions.{Places};
+ghost use Rattle.join_core.specs.Rounds.{FormsAtHome};
+ghost use Rattle.join_core.specs.Beginnings.{BeginsWith};
 ghost use Rattle.join_core.specs.Evaluations.{Account, nothing, GivesOwed, OwesAfterAsk, OwesAfterAnswer, Standing, TakesOne, StandsAfterAsk, StandsAfterAnswer, EndsInQuiet, Terms, AsksAtHome, NextAtHome, Sizes};
 
-use bgp_core::Row;
+use crate::FormList;
+use bgp_core::{Query, Row};
 use fragment_page::Page;
 use std::alloc::Global;
 use template_fill::WebAddress;
@@ -51,8 +57,41 @@ pub trait Evaluates {
     /// It keeps to the authorities and the places.
     ghost keeps_to: { Terms → Self → Type 0 };
 
-    /// It is of a query with so many patterns, and extends no more rows at a time.
+    /// It is of a query with so many patterns, and extends no more rows at a time, each counted once for each server.
     ghost keeps_small: { Sizes → Self → Type 0 };
+
+    /// The forms of the start pages are those of a source.
+    ghost fits: { Self.Source → List Form → Type 0 };
+
+    /// The rows of a query over a source, in some order.
+    ghost rows: { Self.Source → QueryData → List Places };
+
+    /// What the query has to ask for behind the start pages, in some order.
+    ghost plan: { Self.Source → QueryData → List Address };
+
+    /// The version that is reported, where the first start page told this one.
+    ghost reported: { Option ℕ → Option ℕ };
+
+    /// The evaluation of a query, whose first pages have the addresses of these forms, with at most `window` rows extended at
+    /// a time, each over the servers of all forms. It has given no ticket. Conditions: the window is at least 1, and there is
+    /// a form. The only error is out of memory.
+    fn begin(
+        alloc: Global,
+        query: &Query,
+        forms: FormList,
+        window: u32,
+    ) -> Result<Self, OutOfMemory>
+        requires window { 1 ≤ window }
+        requires some { 0 < length forms }
+        ensures suits { (source : Self.Source) → fits source forms → IfOk result (λ e. suits source e) }
+        ensures owes { (source : Self.Source) → fits source forms → IfOk result (λ e. BeginsWith (rows source query.now) (plan source query.now) (account source e)) }
+        ensures keeps { (homes : List Address) → FormsAtHome homes forms → IfOk result (λ e. keeps_to (record { homes = homes; width = length query.now.names }) e) }
+        ensures small { IfOk result (λ e. keeps_small (record { patterns = length query.now.patterns; window = window * length forms }) e) }
+        ensures stands { IfOk result (λ e. ((standing e).given ≡ 0) × ((standing e).out ≡ [])) };
+
+    /// The version that is reported. It takes no memory.
+    fn report_version(first: Option<u64>) -> Option<u64>
+        ensures { result ≡ reported first };
 
     /// The next page to ask for, if there is one now, under a ticket with a new number. Condition: fewer
     /// than 2^64 - 1 tickets were given. The only error is out of memory, and then nothing is promised of what is left.

@@ -1,10 +1,11 @@
 // The join over the pages of one server.
-ghost use Rattle.std.specs.Prelude.{ℕ, ◌≡◌, ◌+◌, ◌-◌, ◌*◌, ◌<◌, ◌≤◌, ◌^◌, ◌↔◌, ◌∷◌, List, [], length, replicate, min, None, Ok, IfOk, OnErr, MatchOption, IsTrue, ⊤};
+ghost use Rattle.std.specs.Prelude.{ℕ, ◌≡◌, ◌+◌, ◌-◌, ◌*◌, ◌<◌, ◌≤◌, ◌^◌, ◌↔◌, List, [], length, replicate, min, None, Ok, IfOk, OnErr, MatchOption, IsTrue, ⊤};
 ghost use Rattle.std.specs.List.{All, count_by};
 ghost use Rattle.tpf_base.specs.Addresses.{Address};
-ghost use Rattle.join_core.specs.Worlds.{World, IsWorld, HasForm};
+ghost use Rattle.join_core.specs.Worlds.{World, IsWorld, HasForms};
 ghost use Rattle.join_core.specs.Events.{works};
-ghost use Rattle.join_core.specs.Evaluations.{Terms, HasHome, AsksAtHome, NextAtHome};
+ghost use Rattle.join_core.specs.Rounds.{FormsAtHome};
+ghost use Rattle.join_core.specs.Evaluations.{Terms, AsksAtHome, NextAtHome};
 ghost use Rattle.join_core.specs.Sound.{KeepsTo, IsKeptSmall};
 ghost use Rattle.join_core.specs.Joins.{nodes, Suits, Begins, Opens, IsTrueFor, GivesRow, tickets_out, with_longest};
 ghost use Rattle.join_core.specs.Outcomes.{AskDone, AskNumbered, NothingToAsk, AnswerDone, AnswerNumbered, AnswerTakes, GivesWaiting, WaitsMore, LongestAfter};
@@ -19,7 +20,6 @@ use bgp_core::{Query, Row};
 use fragment_page::Page;
 use std::alloc::Global;
 use std::marker::Model;
-use template_fill::Form;
 use tpf_base::OutOfMemory;
 
 /// The join of a query's patterns over the pages of their fragments, where one server has them. A node is a row with the
@@ -39,21 +39,25 @@ impl Model for Join {
 }
 
 impl Join {
-    /// The join of a query's patterns, whose first pages have the addresses of a form, with at most `window` nodes at work.
-    /// One node is open, the empty row with all patterns; for a query without patterns the empty row waits at once.
-    /// Condition: the window is at least 1. The only error is out of memory.
-    pub fn new(alloc: Global, query: &Query, form: Form, window: u32) -> Result<Join, OutOfMemory>
+    /// The join of a query's patterns, whose first pages have the addresses of the server's form, with at most `window` nodes
+    /// at work. One node is open, the empty row with all patterns; for a query without patterns the empty row waits at once.
+    /// Of several forms the first server alone is asked. Condition: the window is at least 1. The only error is out of memory.
+    pub fn new(
+        alloc: Global,
+        query: &Query,
+        forms: FormList,
+        window: u32,
+    ) -> Result<Join, OutOfMemory>
         requires { 1 ≤ window }
-        ensures begins { (w : World) → IsWorld w → HasForm w form → IfOk result (Begins w query.now.patterns (replicate (length query.now.names) None)) }
+        ensures begins { (w : World) → IsWorld w → HasForms w forms → IfOk result (Begins w query.now.patterns (replicate (length query.now.names) None)) }
         ensures opens { IfOk result (Opens query.now.patterns (replicate (length query.now.names) None)) }
-        ensures form { IfOk result (λ j. j.forms ≡ form ∷ []) }
+        ensures forms { IfOk result (λ j. j.forms ≡ forms) }
         ensures window { IfOk result (λ j. j.window ≡ window) }
         ensures longest { IfOk result (λ j. j.longest ≡ 1) }
-        ensures keeps { (homes : List Address) → HasHome homes form.template.start → IfOk result (KeepsTo (record { homes = homes; width = length query.now.names })) }
+        ensures keeps { (homes : List Address) → FormsAtHome homes forms → IfOk result (KeepsTo (record { homes = homes; width = length query.now.names })) }
         ensures small { IfOk result (IsKeptSmall (length query.now.patterns) 1) }
         ensures tickets { IfOk result (λ j. (j.tickets ≡ 0) × (tickets_out j ≡ [])) }
     {
-        let forms = FormList::one(alloc, form);
         let join = RoundJoin::new(alloc, query, forms, window)?;
         Ok(Join { join })
     }

@@ -3,7 +3,7 @@ ghost use Rattle.std.specs.Prelude.{◌≡◌, ◌<◌, ◌+◌, ◌*◌, ◌≤
 
 use crate::pages::{BASE, page_at, query_of, server_of};
 use bgp_core::Row;
-use join_core::{Answered, Ask, Join};
+use join_core::{Answered, Ask, FormList, Join};
 use nquads_text::canonical;
 use std::alloc::Global;
 use std::test::Fail;
@@ -289,8 +289,8 @@ fn join_over(alloc: Global, server: &Server, query: &str, window: u32) -> Result
     ensures { IfOk result (λ join. join.tickets ≡ 0) }
 {
     let query = query_of(alloc, query)?;
-    let form = form_of(alloc, server)?;
-    Ok(Join::new(alloc, &query, form, window)?)
+    let forms = FormList::one(alloc, form_of(alloc, server)?);
+    Ok(Join::new(alloc, &query, forms, window)?)
 }
 
 /// A join of a query over a server of its data.

@@ -115,9 +115,10 @@ fn put_at(parts: &mut Vec<Part>, place: usize, page: Page)
 }
 
 impl Gathering {
-    /// A round of which nothing was asked for yet. The only error is out of memory.
+    /// A round of which nothing was asked for yet: it has an address to hand out. The only error is out of memory.
     pub fn begin(alloc: Global, ask: RoundAsk) -> Result<Gathering, OutOfMemory>
-        ensures { IfOk result (λ g. g ≡ begun ask) }
+        ensures begun { IfOk result (λ g. g ≡ begun ask) }
+        ensures some { IfOk result (λ g. g.wanted ≢ []) }
     {
         let (first, others, taken) = ask.round.into_parts();
         let mut wanted = VecDeque::from_vec(others);

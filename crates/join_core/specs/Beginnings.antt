@@ -1,0 +1,44 @@
+-- What an evaluation owes before its first turn.
+use Rattle.std.specs.Prelude.{ℕ, ◌≡◌, List, [], length, replicate, Option, None}
+use Rattle.std.specs.List.Sorted.{IsPermutation}
+use Rattle.rdf_terms.specs.declared.term.Triple.{Triple}
+use Rattle.tpf_base.specs.Addresses.{Address}
+use Rattle.template_fill.specs.declared.form.Form.{Form}
+use Rattle.bgp_core.specs.Queries.{QueryData}
+use Rattle.bgp_core.specs.Solutions.{Places, solutions}
+use Rattle.join_core.specs.Worlds.{World, IsWorld, IsOneServer, HasForms}
+use Rattle.join_core.specs.Nodes.{plan}
+use Rattle.join_core.specs.Evaluations.{Account}
+
+abbrev pub no_names_bound : QueryData → Places
+no_names_bound q = replicate (length q.names) None
+
+-- the solutions of a query over a data set (SPARQL 1.1 Query, 18.5), each with all its names
+abbrev pub solutions_of : List Triple → QueryData → List Places
+solutions_of triples q = solutions triples q.patterns (no_names_bound q)
+
+-- these rows are owed, and these addresses are to be asked for; no ticket is out
+pub record BeginsWith (rows : List Places) (addresses : List Address) (account : Account) : Type 0 where
+  pub owed : IsPermutation rows account.owed
+  pub left : IsPermutation addresses account.left
+  pub out : account.out ≡ []
+
+-- ---- one server
+
+-- the world is that of one server, whose first pages have the addresses of the forms
+pub record FitsWorld (w : World) (forms : List Form) : Type 0 where
+  pub world : IsWorld w
+  pub one : IsOneServer w
+  pub forms_are : HasForms w forms
+
+-- the solutions over the triples of the world
+abbrev pub world_rows : World → QueryData → List Places
+world_rows w q = solutions_of w.triples q
+
+-- the plan of the join, from the row with no name bound
+abbrev pub world_plan : World → QueryData → List Address
+world_plan w q = plan w q.patterns (no_names_bound q)
+
+-- the version of the one server is the one that is reported
+abbrev pub world_reported : Option ℕ → Option ℕ
+world_reported version = version
