@@ -1,5 +1,5 @@
 -- What the call for a block did, said of a wire on which the same replies are allowed, and by its report alone.
-use Rattle.std.proofs.Common.{ℕ, ◌≡◌, ◌≤◌, List, Option, Some}
+use Rattle.std.proofs.Common.{ℕ, ◌≡◌, ◌≤◌, List, Option, Some, [], ◌∷◌}
 use Rattle.std.specs.Prelude.{Result, Ok, Err, IfOk, IfErr}
 use Rattle.rdf_terms.specs.declared.term.Triple.{Triple}
 use Rattle.tpf_base.specs.Addresses.{Address}
@@ -73,11 +73,11 @@ module _ (old new : List ℕ → ℕ → List ℕ → List ℕ → Type 0) (same
     waiting-so : (most : ℕ) → AsksFew new options most since now → AsksFew old options most since now
     waiting-so most s = record { events = s.events; pool = s.pool; runs = runs-so s.events s.pool s.runs; few = s.few }
 
-    sent-so : (start : Address) → SendsAsked new options start since now → SendsAsked old options start since now
-    sent-so start s = record { events = s.events; pool = s.pool; runs = runs-so s.events s.pool s.runs; asks = s.asks; sent = s.sent }
+    sent-so : (starts : List Address) → SendsAsked new options starts since now → SendsAsked old options starts since now
+    sent-so starts s = record { events = s.events; pool = s.pool; runs = runs-so s.events s.pool s.runs; asks = s.asks; sent = s.sent }
 
-    answered-so : (start : Address) (requests : ℕ) → AnswersAll new options start requests since now → AnswersAll old options start requests since now
-    answered-so start requests s = record { events = s.events; pool = s.pool; runs = runs-so s.events s.pool s.runs; asks = s.asks; answered = s.answered; started = s.started; few = s.few; each = s.each }
+    answered-so : (starts : List Address) (requests : ℕ) → AnswersAll new options starts requests since now → AnswersAll old options starts requests since now
+    answered-so starts requests s = record { events = s.events; pool = s.pool; runs = runs-so s.events s.pool s.runs; asks = s.asks; answered = s.answered; started = s.started; few = s.few; each = s.each }
 
     begun-so : (n : ℕ) → StartedIn new options since now n → StartedIn old options since now n
     begun-so n s = record { events = s.events; pool = s.pool; runs = runs-so s.events s.pool s.runs; is_started = s.is_started }
@@ -95,19 +95,19 @@ module _ (old new : List ℕ → ℕ → List ℕ → List ℕ → Type 0) (same
       given = s.given;
     }
 
-    tries-so : (start : Address) → SpendsTries new options start since now → SpendsTries old options start since now
-    tries-so start s = record { events = s.events; pool = s.pool; runs = runs-so s.events s.pool s.runs; asks = s.asks; spent = s.spent; tries = s.tries }
+    tries-so : (starts : List Address) → SpendsTries new options starts since now → SpendsTries old options starts since now
+    tries-so starts s = record { events = s.events; pool = s.pool; runs = runs-so s.events s.pool s.runs; asks = s.asks; spent = s.spent; tries = s.tries }
 
-    spent-so : (start : Address) (fault : ClientFault) → ForBudget (SpendsTries new options start since now) fault → ForBudget (SpendsTries old options start since now) fault
-    spent-so start faults.Exchange s = tt
-    spent-so start faults.Stalled s = tt
-    spent-so start (faults.Cut received) s = tt
-    spent-so start (faults.Reply fault received) s = tt
-    spent-so start (faults.Page fault body) s = tt
-    spent-so start (faults.Changed first other) s = tt
-    spent-so start (faults.Budget n) s = tries-so start s
-    spent-so start faults.Sink s = tt
-    spent-so start faults.OutOfMemory s = tt
+    spent-so : (starts : List Address) (fault : ClientFault) → ForBudget (SpendsTries new options starts since now) fault → ForBudget (SpendsTries old options starts since now) fault
+    spent-so starts faults.Exchange s = tt
+    spent-so starts faults.Stalled s = tt
+    spent-so starts (faults.Cut received) s = tt
+    spent-so starts (faults.Reply fault received) s = tt
+    spent-so starts (faults.Page fault body) s = tt
+    spent-so starts (faults.Changed first other) s = tt
+    spent-so starts (faults.Budget n) s = tries-so starts s
+    spent-so starts faults.Sink s = tt
+    spent-so starts faults.OutOfMemory s = tt
 
     -- ---- causes
 
@@ -145,7 +145,7 @@ module _ (old new : List ℕ → ℕ → List ℕ → List ℕ → Type 0) (same
 
     -- ---- all of it
 
-    module _ (start : Address) (q : QueryData) {A : Type 0} (told : A → Report) (r : Result A ClientFault) (a : ActsOnWire new (server_ends q start) options start (most_asked options q) r told since now) where
+    module _ (start : Address) (q : QueryData) {A : Type 0} (told : A → Report) (r : Result A ClientFault) (a : ActsOnWire new (server_ends q start) options (start ∷ []) (most_asked options q) r told since now) where
       module _ (p : Publisher) (honest : IsHonestWire old p.history p.config since) where
         abbrev by : IsHonestWire new p.history p.config since
         by = honest-so p.history p.config since honest
@@ -173,7 +173,7 @@ module _ (old new : List ℕ → ℕ → List ℕ → List ℕ → Type 0) (same
         unprovoked = λ p honest. a.plan.unprovoked p (by p honest);
       }
 
-      pub acts-so : ActsOnWire old (server_ends q start) options start (most_asked options q) (reported told r) (λ report. report) since now
+      pub acts-so : ActsOnWire old (server_ends q start) options (start ∷ []) (most_asked options q) (reported told r) (λ report. report) since now
       acts-so = record {
         closed = a.closed;
         peers = a.peers;
@@ -183,9 +183,9 @@ module _ (old new : List ℕ → ℕ → List ℕ → List ℕ → Type 0) (same
         given = a.given;
         started = started-so a.started;
         waiting = waiting-so (most_asked options q) a.waiting;
-        sent = sent-so start a.sent;
+        sent = sent-so (start ∷ []) a.sent;
         cause = if-ended told r (IsCause new options since now) (IsCause old options since now) cause-so a.cause;
-        answered = if-told told r (λ report. AnswersAll new options start report.requests since now) (λ report. AnswersAll old options start report.requests since now) (λ report s. answered-so start report.requests s) a.answered;
+        answered = if-told told r (λ report. AnswersAll new options (start ∷ []) report.requests since now) (λ report. AnswersAll old options (start ∷ []) report.requests since now) (λ report s. answered-so (start ∷ []) report.requests s) a.answered;
         within = if-told told r (λ report. report.requests ≤ options.budget) (λ report. report.requests ≤ options.budget) (λ report s. s) a.within;
         dialled = if-told told r (λ report. DialsAtMost report.requests since now) (λ report. DialsAtMost report.requests since now) (λ report s. s) a.dialled;
         linked = if-told told r (λ report. GivesAtMost report.requests since now) (λ report. GivesAtMost report.requests since now) (λ report s. s) a.linked;
@@ -193,7 +193,7 @@ module _ (old new : List ℕ → ℕ → List ℕ → List ℕ → Type 0) (same
         plan = plan-so;
         failed_often = λ alive. ended told r (IsFailedOften options since now) (a.failed_often alive);
         spent_requests = ended told r (ForBudget (SpendsRequests options since now)) a.spent_requests;
-        spent_tries = if-ended told r (ForBudget (SpendsTries new options start since now)) (ForBudget (SpendsTries old options start since now)) (spent-so start) a.spent_tries;
+        spent_tries = if-ended told r (ForBudget (SpendsTries new options (start ∷ []) since now)) (ForBudget (SpendsTries old options (start ∷ []) since now)) (spent-so (start ∷ [])) a.spent_tries;
       }
 
   -- ---- a block

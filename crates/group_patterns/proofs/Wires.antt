@@ -15,6 +15,7 @@ use Rattle.tpf_client.specs.declared.options.Options.{Options}
 use Rattle.tpf_client.specs.declared.fault.ClientFault.{ClientFault}
 use Rattle.tpf_client.specs.Honest.{IsHonestWire}
 use Rattle.tpf_client.specs.Offers.{publisher}
+use Rattle.pool_laws.specs.Hosts.{IsDialledFor}
 use Rattle.tpf_client.specs.Requests.{AreClosed, AreDialledFor, OthersStay, MovesOn, DialsAtMost, GivesAtMost}
 use Rattle.tpf_client.specs.Plans.{NoneOpen}
 use Rattle.group_patterns.specs.Blocks.{BlockRows, requests_of, with_budget, GivesRows, GivesAll, EndsBlock}
@@ -42,7 +43,7 @@ as-then a b c (Woken o e) (Woken p f) = Woken o (f ∙ ap (λ (l : Link). let m 
 -- the links and the counts, where no more than so many dials and links were wanted
 pub record Onward (start : Address) (spent : ℕ) (since now : WireState) : Type 0 where
   pub closed : AreClosed since now
-  pub peers : AreDialledFor start since now
+  pub peers : AreDialledFor (start ∷ []) since now
   pub others : OthersStay since now
   pub moves : MovesOn since now
   pub dials : DialsAtMost spent since now
@@ -83,12 +84,12 @@ module _ (start : Address) (m n : ℕ) (a b c : WireState) (p : Onward start m a
       by (inl below) = still-closed (b.links k) (c.links k) (q.others k below) (p.closed k l below)
       by (inr past) = q.closed k past h
 
-  peers-then : AreDialledFor start a c
+  peers-then : AreDialledFor (start ∷ []) a c
   peers-then k l h = by (cases_lt k b.given)
     where
-      by : (k < b.given) ⊎ (b.given ≤ k) → (c.links k).peer ≡ told_by a.nature.tells (start.host, start.port)
-      by (inl below) = same-peer (b.links k) (c.links k) (q.others k below) ∙ p.peers k l below
-      by (inr past) = q.peers k past h ∙ ap (λ (x : Nature). told_by x.tells (start.host, start.port)) p.moves.nature
+      by : (k < b.given) ⊎ (b.given ≤ k) → IsDialledFor (start ∷ []) a.nature.tells (c.links k).peer
+      by (inl below) = let d = p.peers k l below in record { home = d.home; is_home = d.is_home; is_peer = same-peer (b.links k) (c.links k) (q.others k below) ∙ d.is_peer }
+      by (inr past) = let d = q.peers k past h in record { home = d.home; is_home = d.is_home; is_peer = d.is_peer ∙ ap (λ (x : Nature). told_by x.tells (d.home.host, d.home.port)) p.moves.nature }
 
   others-then : OthersStay a c
   others-then k l = let h = p.moves.given in as-then (a.links k) (b.links k) (c.links k) (p.others k l) (q.others k (omega (arith, l, h)))

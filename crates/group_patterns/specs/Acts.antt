@@ -1,5 +1,5 @@
 -- What the call of a query with groups promises of its wire, and what each fault shows.
-use Rattle.std.specs.Prelude.{ℕ, ◌≡◌, ◌≢◌, ◌≤◌, ◌<◌, List, [], Bool, true, false, Result, IfOk, IfErr}
+use Rattle.std.specs.Prelude.{ℕ, ◌≡◌, ◌≢◌, ◌≤◌, ◌<◌, List, [], Bool, true, false, Result, IfOk, IfErr, ◌∷◌}
 use Rattle.tpf_base.specs.Addresses.{Address}
 use Rattle.tpf_base.specs.Causes.{Rose}
 use Rattle.tpf_base.specs.HttpReply as replies
@@ -78,7 +78,7 @@ IsGroupCause options since now before after faults.OutOfMemory = Unit {0}
 -- Faults: what each shows of the wire, over honest ends, over lively ones, and of the requests where the budget was spent.
 pub record ActsOnGroups (allows : List ℕ → ℕ → List ℕ → List ℕ → Type 0) (options : Options) (start : Address) (g : GroupData) (result : Result Report ClientFault) (since now : WireState) (before after : ℕ) : Type 0 where
   pub closed : AreClosed since now
-  pub peers : AreDialledFor start since now
+  pub peers : AreDialledFor (start ∷ []) since now
   pub others : OthersStay since now
   pub moves : MovesOn since now
   pub dials : DialsAtMost options.budget since now

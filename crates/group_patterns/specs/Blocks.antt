@@ -57,7 +57,7 @@ left_by options bs = with_budget options (options.budget - requests_of bs)
 -- The call for a block gave these rows: there was something of the budget, and each row has a place for every name. What it did on its wire, where no link is open but those that were given; over honest other ends the rows are the block's solutions over the version that it told.
 pub record GivesRows (allows : List ℕ → ℕ → List ℕ → List ℕ → Type 0) (options : Options) (start : Address) (q : QueryData) (b : BlockRows) (since now : WireState) : Type 0 where
   pub some : 1 ≤ options.budget
-  pub acts : ActsOnWire allows (server_ends q start) options start (most_asked options q) (Ok b.report) (λ report. report) since now
+  pub acts : ActsOnWire allows (server_ends q start) options (start ∷ []) (most_asked options q) (Ok b.report) (λ report. report) since now
   pub solutions : OverHonest allows since (λ history config. IsSolutions (server_offer (publisher history config) q start) b.report.version b.rows)
   pub width : HaveWidth (length q.names) b.rows
   pub count : b.report.rows ≡ counted_by (length b.rows) 0
@@ -97,7 +97,7 @@ of_block budget faults.OutOfMemory = faults.OutOfMemory
 -- The call for a block ended with a fault: there was something of the budget, and no sink. What it did on its wire, and the cause.
 pub record EndsBlock (allows : List ℕ → ℕ → List ℕ → List ℕ → Type 0) (options : Options) (start : Address) (q : QueryData) (fault : ClientFault) (since now : WireState) : Type 0 where
   pub some : 1 ≤ options.budget
-  pub acts : ActsOnWire allows (server_ends q start) options start (most_asked options q) (Err fault) (λ (report : Report). report) since now
+  pub acts : ActsOnWire allows (server_ends q start) options (start ∷ []) (most_asked options q) (Err fault) (λ (report : Report). report) since now
   pub no_sink : fault ≢ faults.Sink
   pub alone : OpensGiven now
 

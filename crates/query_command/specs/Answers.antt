@@ -19,6 +19,7 @@ use Rattle.tpf_client.specs.declared.fault.ClientFault.TheVariants as client_fau
 use Rattle.tpf_client.specs.Offers.{publisher, addresses_of, server_offer}
 use Rattle.tpf_client.specs.Ends.{OverEnds, OverLivelyEnds, server_ends}
 use Rattle.tpf_client.specs.Acts.{ActsOnWire}
+use Rattle.tpf_client.specs.Sources.{world_sources}
 use Rattle.tpf_client.specs.Calls.{RunsPool, WritesResult, WritesPrefix, WritesAll, WritesSome, IsCause, most_asked}
 use Rattle.tpf_client.specs.Honest.{IsHonestWire, WritesSolutions, WritesSolutionsFront}
 use Rattle.tpf_client.specs.Requests.{AreClosed, AreDialledFor, OthersStay, AnswersAll, DialsAtMost, GivesAtMost, DialsAreTries, RequestsAreTries}
@@ -39,9 +40,9 @@ use Rattle.query_command.specs.Files.{FailsByFile, KeepsOutput}
 -- What a call over a wire keeps to, however it ends. Each link that was given in it is closed, and was dialled for the host and the port of the start; links before it are as they were. Requests were sent for nothing but what was asked, and the dials and the links are within the budget. Over an honest wire what was asked is of the plan; over one that is lively too, requests are made for this and after failures alone; and over a steady one no fault is provoked.
 pub record KeepsToPlan (allows : List ℕ → ℕ → List ℕ → List ℕ → Type 0) (q : QueryData) (start : Address) (options : Options) (old new : WireState) : Type 0 where
   pub closed : AreClosed old new
-  pub peers : AreDialledFor start old new
+  pub peers : AreDialledFor (start ∷ []) old new
   pub others : OthersStay old new
-  pub sent : SendsAsked allows options start old new
+  pub sent : SendsAsked allows options (start ∷ []) old new
   pub dials : DialsAtMost options.budget old new
   pub given : GivesAtMost options.budget old new
   pub asked : OverEnds (server_ends q start) allows old (λ p. AsksPlan (server_offer p q start) old new)
@@ -53,23 +54,23 @@ pub record KeepsToPlan (allows : List ℕ → ℕ → List ℕ → List ℕ → 
 -- The result of a query was written over a wire: the text of some rows, and all that was asked was answered; over a wire that is honest for a history, of the solutions over one version, the reported one, by as many requests as its plan has and failures need. The requests that are reported are within the budget, and no more dials were made and no more links given than these. All that is said of a plan is said of one version, the reported one (`acts`).
 pub record WritesOver (allows : List ℕ → ℕ → List ℕ → List ℕ → Type 0) (q : QueryData) (start : Address) (options : Options) (report : Report) (old new : WireState) (taken taken' : Option (List ℕ)) : Type 0 where
   pub whole : WritesResult q report.rows taken taken'
-  pub writes : WritesAll (RunsPool allows options old new) q start report taken taken'
+  pub writes : WritesAll (RunsPool allows options old new) world_sources q (start ∷ []) report taken taken'
   pub headline : (history : List (List Triple)) (config : Config) → IsHonestWire allows history config old → WritesSolutions (server_offer (publisher history config) q start) q report.version report.rows taken taken'
   pub plan : KeepsToPlan allows q start options old new
-  pub answered : AnswersAll allows options start report.requests old new
+  pub answered : AnswersAll allows options (start ∷ []) report.requests old new
   pub tries : OverEnds (server_ends q start) allows old (λ p. RequestsAreTries (server_offer p q start) options report)
   pub paced : OverLivelyEnds (server_ends q start) allows old (λ p. PacesRequests (server_offer p q start) report old new)
   pub replied : OverEnds (server_ends q start) allows old (λ p. AnswersPlan (server_offer p q start) options report old new)
   pub within : report.requests ≤ options.budget
   pub dialled : DialsAtMost report.requests old new
   pub linked : GivesAtMost report.requests old new
-  pub acts : ActsOnWire allows (server_ends q start) options start (most_asked options q) (Ok report) (λ told. told) old new
+  pub acts : ActsOnWire allows (server_ends q start) options (start ∷ []) (most_asked options q) (Ok report) (λ told. told) old new
 
 -- A front of such a text was written, with all rows that were given where neither the sink nor memory failed, and the call over the wire ended with this fault. Over an honest wire, and a lively one, it has these causes; and where the plan fits and the faults are few it is want of memory, or the data changed. Over a lively wire a request failed too often only for as many rises of the faults and ends of links; and the budget is spent only on links, requests and failures, and is less than what was asked may be tried, over an honest wire than what the plan has. All that is said of a plan, and the causes over one, is said of one version (`acts`).
 pub record FailsOver (allows : List ℕ → ℕ → List ℕ → List ℕ → Type 0) (q : QueryData) (start : Address) (options : Options) (fault : ClientFault) (old new : WireState) (out out' : ℕ) (taken taken' : Option (List ℕ)) : Type 0 where
   pub front : WritesPrefix q taken taken'
-  pub writes : WritesSome (RunsPool allows options old new) q start options.budget fault taken taken'
-  pub shown : (some : WritesSome (RunsPool allows options old new) q start options.budget fault taken taken') × ShowsGiven (RunsPool allows options old new) q start options.budget fault out out' taken taken' some
+  pub writes : WritesSome (RunsPool allows options old new) world_sources q (start ∷ []) options.budget fault taken taken'
+  pub shown : (some : WritesSome (RunsPool allows options old new) world_sources q (start ∷ []) options.budget fault taken taken') × ShowsGiven (RunsPool allows options old new) world_sources q (start ∷ []) options.budget fault out out' taken taken' some
   pub headline : (history : List (List Triple)) (config : Config) → IsHonestWire allows history config old → WritesSolutionsFront (server_offer (publisher history config) q start) q taken taken'
   pub cause : IsCause allows options old new fault
   pub sink : fault ≡ client_faults.Sink → Rose out out'
@@ -79,9 +80,9 @@ pub record FailsOver (allows : List ℕ → ℕ → List ℕ → List ℕ → Ty
   pub complete : OverHonest allows old (λ history config. old.nature.lively ≡ true → (rise : ℕ) → RisesFew options rise old new → PlanFits (server_offer (publisher history config) q start) options rise → (Rose out out' → ⊥) → MayStill (server_offer (publisher history config) q start) fault)
   pub failed_often : old.nature.lively ≡ true → IsFailedOften options old new fault
   pub spent_requests : ForBudget (SpendsRequests options old new) fault
-  pub spent_tries : ForBudget (SpendsTries allows options start old new) fault
+  pub spent_tries : ForBudget (SpendsTries allows options (start ∷ []) old new) fault
   pub spent_plan : OverEnds (server_ends q start) allows old (λ p. ForBudget (SpendsPlan (server_offer p q start) options) fault)
-  pub acts : ActsOnWire {A = Report} allows (server_ends q start) options start (most_asked options q) (Err fault) (λ told. told) old new
+  pub acts : ActsOnWire {A = Report} allows (server_ends q start) options (start ∷ []) (most_asked options q) (Err fault) (λ told. told) old new
 
 -- the query of the file was asked, and the text of its result written
 pub record Answers (told : Option Files) (name : List ℕ) (allows : List ℕ → ℕ → List ℕ → List ℕ → Type 0) (start : Address) (options : Options) (report : Report) (old new : WireState) (taken taken' : Option (List ℕ)) : Type 0 where

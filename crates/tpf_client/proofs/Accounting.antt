@@ -1,15 +1,15 @@
 -- Accounts, one change after another.
-use Rattle.std.proofs.Common.{ℕ, ◌≡◌, ◌++◌, List, [], ◌∷◌, map, refl, sym, ap, subst, ◌∙◌, append_assoc}
+use Rattle.std.proofs.Common.{◌≡◌, ◌++◌, List, [], ◌∷◌, map, refl, sym, ap, subst, ◌∙◌, append_assoc}
 use Rattle.std.specs.List.Sorted.{IsPermutation}
 use Rattle.std.proofs.lemmas.List.{map-append}
 use Rattle.std.proofs.lemmas.List.Sorted.{IsPermutation-refl, IsPermutation-trans, IsPermutation-append_right}
 use Rattle.tpf_base.specs.Addresses.{Address}
 use Rattle.bgp_core.specs.Solutions.{Places}
 use Rattle.request_pool.specs.Pools.{Ask}
-use Rattle.std.specs.Prelude.{Option}
 use Rattle.fragment_page.specs.declared.page.Page.{Page}
 use Rattle.join_core.specs.Evaluations.{Account, HandsOver, GivesOwed}
 use Rattle.tpf_client.specs.Traffic.{Event, Asked, Came, Waited, Broke}
+use Rattle.tpf_client.specs.Causes.{Versions}
 use Rattle.tpf_client.specs.Asking.{AreWaits}
 use Rattle.tpf_client.specs.Turns.{HandsAll, GivesAll, Owes, OwesMore, address_of, asked_in, AreTrue, IsPageReply, ArePages}
 
@@ -78,21 +78,21 @@ pub asked-asks : (asks : List Ask) → asked_in (map Asked asks) ≡ asks
 asked-asks [] = refl
 asked-asks (ask ∷ asks) = ap (λ (l : List Ask). ask ∷ l) (asked-asks asks)
 
-pub pages-then : (version : Option ℕ) (first second : List Event) → ArePages version first → ArePages version second → ArePages version (first ++ second)
-pages-then version [] second f s = s
-pages-then version (event ∷ first) second f s = (f.0, pages-then version first second f.1 s)
+pub pages-then : (versions : Versions) (first second : List Event) → ArePages versions first → ArePages versions second → ArePages versions (first ++ second)
+pages-then versions [] second f s = s
+pages-then versions (event ∷ first) second f s = (f.0, pages-then versions first second f.1 s)
 
-page-waited : (version : Option ℕ) (event : Event) → event ≡ Waited → IsPageReply version event
-page-waited version event e = subst (IsPageReply version) (sym e) tt
+page-waited : (versions : Versions) (event : Event) → event ≡ Waited → IsPageReply versions event
+page-waited versions event e = subst (IsPageReply versions) (sym e) tt
 
 -- no reply came where each step waited, and none where asks were put
-pub pages-waits : (version : Option ℕ) (events : List Event) → AreWaits events → ArePages version events
-pages-waits version [] h = tt
-pages-waits version (event ∷ events) h = (page-waited version event h.0, pages-waits version events h.1)
+pub pages-waits : (versions : Versions) (events : List Event) → AreWaits events → ArePages versions events
+pages-waits versions [] h = tt
+pages-waits versions (event ∷ events) h = (page-waited versions event h.0, pages-waits versions events h.1)
 
-pub pages-asks : (version : Option ℕ) (asks : List Ask) → ArePages version (map Asked asks)
-pages-asks version [] = tt
-pages-asks version (ask ∷ asks) = (tt, pages-asks version asks)
+pub pages-asks : (versions : Versions) (asks : List Ask) → ArePages versions (map Asked asks)
+pages-asks versions [] = tt
+pages-asks versions (ask ∷ asks) = (tt, pages-asks versions asks)
 
 pub asked-waits : (events : List Event) → AreWaits events → asked_in events ≡ []
 asked-waits [] h = refl
@@ -103,10 +103,10 @@ asked-waits (event ∷ events) h = waited event events h.0 ∙ asked-waits event
 
 -- ---- true pages
 
-pub true-first : (is_true : Address → Page → Type 0) (version : Option ℕ) (first second : List Event) → AreTrue is_true version (first ++ second) → AreTrue is_true version first
-true-first is_true version [] second h = tt
-true-first is_true version (event ∷ first) second h = (h.0, true-first is_true version first second h.1)
+pub true-first : (is_true : Address → Page → Type 0) (versions : Versions) (first second : List Event) → AreTrue is_true versions (first ++ second) → AreTrue is_true versions first
+true-first is_true versions [] second h = tt
+true-first is_true versions (event ∷ first) second h = (h.0, true-first is_true versions first second h.1)
 
-pub true-second : (is_true : Address → Page → Type 0) (version : Option ℕ) (first second : List Event) → AreTrue is_true version (first ++ second) → AreTrue is_true version second
-true-second is_true version [] second h = h
-true-second is_true version (event ∷ first) second h = true-second is_true version first second h.1
+pub true-second : (is_true : Address → Page → Type 0) (versions : Versions) (first second : List Event) → AreTrue is_true versions (first ++ second) → AreTrue is_true versions second
+true-second is_true versions [] second h = h
+true-second is_true versions (event ∷ first) second h = true-second is_true versions first second h.1

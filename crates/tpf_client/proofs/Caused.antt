@@ -22,12 +22,15 @@ use Rattle.tpf_client.specs.declared.options.Options.{Options}
 use Rattle.tpf_client.specs.declared.fault.ClientFault.{ClientFault}
 use Rattle.tpf_client.specs.declared.fault.ClientFault.TheVariants as faults
 use Rattle.tpf_client.specs.Traffic.{Event, Came, Broke, Travels, EndsWith, IsLawful, AreDistinct, without_fault, Comes, Breaks}
-use Rattle.tpf_client.specs.Causes.{Explains, IsNoPage, IsChanged}
+use Rattle.tpf_client.specs.Causes.{Explains, Versions, IsNoPage, IsChanged}
+use Rattle.tpf_client.specs.Told.{told_at}
+use Rattle.tpf_client.specs.Sources.{Sources}
+use Rattle.tpf_client.specs.Starts.{versions_of}
 use Rattle.tpf_client.specs.Turns.{AsksAt, asked_in}
 use Rattle.tpf_client.specs.Calls.{WritesSome, Before, Behind, AtEnd, RunsPool, IsCause, IsSpent, IsCutShort, IsRefusedReply, IsReplyBody, IsNoPageOf, IsOtherVersion}
 use Rattle.tpf_client.specs.Honest.{Laws}
 use Rattle.tpf_client.specs.Requests.{TrafficLaws}
-use Rattle.tpf_client.proofs.Homes.{start-alone}
+use Rattle.tpf_client.proofs.Homes.{starts-alone}
 use Rattle.tpf_client.proofs.Distinct.{one-ask, none-distinct}
 use Rattle.tpf_client.proofs.Known.{begun}
 use Rattle.tpf_client.proofs.Received.{replied-closed}
@@ -47,32 +50,32 @@ distinct-after allows (event ∷ events) p q v w d t none = distinct-after allow
 
 -- ---- the run of a call that ended with a fault
 
-pub record CausedRun (allows : List ℕ → ℕ → List ℕ → List ℕ → Type 0) (options : Options) (since now : WireState) (start : Address) (fault : ClientFault) : Type 0 where
-  pub version : Option ℕ
-  pub run : RunOf allows options start since now
-  pub explains : Explains version options.budget fault run.events
+pub record CausedRun (allows : List ℕ → ℕ → List ℕ → List ℕ → Type 0) (options : Options) (since now : WireState) (starts : List Address) (fault : ClientFault) : Type 0 where
+  pub versions : Versions
+  pub run : RunOf allows options starts since now
+  pub explains : Explains versions options.budget fault run.events
 
-module _ (allows : List ℕ → ℕ → List ℕ → List ℕ → Type 0) (options : Options) (since now : WireState) (start : Address) (q : QueryData) (fault : ClientFault) (t u : Option (List ℕ)) where
-  pub some-caused : WritesSome (RunsPool allows options since now) q start options.budget fault t u → CausedRun allows options since now start fault
-  some-caused (Before b) = record { version = None; run = record { events = b.events; pool = b.pool; runs = b.runs; asks = start-alone start b.events b.asked }; explains = b.explains None }
+module _ (allows : List ℕ → ℕ → List ℕ → List ℕ → Type 0) (options : Options) (since now : WireState) (starts : List Address) (sources : Sources) (q : QueryData) (fault : ClientFault) (t u : Option (List ℕ)) where
+  pub some-caused : WritesSome (RunsPool allows options since now) sources q starts options.budget fault t u → CausedRun allows options since now starts fault
+  some-caused (Before b) = record { versions = λ address. None; run = record { events = b.events; pool = b.pool; runs = b.runs; asks = starts-alone starts b.events b.asked }; explains = b.explains (λ address. None) }
   some-caused (Behind b) = record {
-    version = b.reads.page.version;
+    versions = told_at starts (versions_of b.told);
     run = record { events = b.first ++ b.later; pool = b.pool; runs = b.runs; asks = b.asks };
-    explains = explains-later b.reads.page.version options.budget fault b.first b.later b.explains;
+    explains = explains-later (told_at starts (versions_of b.told)) options.budget fault b.first b.later b.explains;
   }
   some-caused (AtEnd b) = record {
-    version = b.reads.page.version;
+    versions = told_at starts (versions_of b.told);
     run = record { events = b.first ++ b.later; pool = b.pool; runs = b.runs; asks = b.asks };
-    explains = explains-later b.reads.page.version options.budget fault b.first b.later b.explains;
+    explains = explains-later (told_at starts (versions_of b.told)) options.budget fault b.first b.later b.explains;
   }
 
 -- ---- each cause
 
-module _ (laws : Laws) (traffic : TrafficLaws) (allows : List ℕ → ℕ → List ℕ → List ℕ → Type 0) (options : Options) (since now : WireState) (lawful : IsLawful allows since) (start : Address) where
-  ends : (events : List Event) (event : Event) (p : Pooled) → EndsWith event events → (r : RunsPool allows options since now events p) → AsksAt start events → Ending laws traffic allows options since now lawful start events event p r
-  ends events event p e r a = ending laws traffic allows options since now lawful start events event p e r a
+module _ (laws : Laws) (traffic : TrafficLaws) (allows : List ℕ → ℕ → List ℕ → List ℕ → Type 0) (options : Options) (since now : WireState) (lawful : IsLawful allows since) (starts : List Address) where
+  ends : (events : List Event) (event : Event) (p : Pooled) → EndsWith event events → (r : RunsPool allows options since now events p) → AsksAt starts events → Ending laws traffic allows options since now lawful starts events event p r
+  ends events event p e r a = ending laws traffic allows options since now lawful starts events event p e r a
 
-  rose-of : (events : List Event) (p : Pooled) → EndsWith (Broke pool.Exchange) events → RunsPool allows options since now events p → AsksAt start events → Rose since.faults now.faults
+  rose-of : (events : List Event) (p : Pooled) → EndsWith (Broke pool.Exchange) events → RunsPool allows options since now events p → AsksAt starts events → Rose since.faults now.faults
   rose-of events p e r a =
       let x = ends events (Broke pool.Exchange) p e r a in
       let h : Breaks pool.Exchange x.mid p x.between r.between = x.last.happens in
@@ -81,7 +84,7 @@ module _ (laws : Laws) (traffic : TrafficLaws) (allows : List ℕ → ℕ → Li
       let same = r.closes.faults in
       rose-up since.faults x.between.faults r.between.faults now.faults c o.faults (omega (arith, same))
 
-  idle-of : (events : List Event) (p : Pooled) → EndsWith (Broke pool.Stalled) events → RunsPool allows options since now events p → AsksAt start events → (1000 ≤ now.idle) × (since.nature.lively ≡ true → ⊥)
+  idle-of : (events : List Event) (p : Pooled) → EndsWith (Broke pool.Stalled) events → RunsPool allows options since now events p → AsksAt starts events → (1000 ≤ now.idle) × (since.nature.lively ≡ true → ⊥)
   idle-of events p e r a =
       let x = ends events (Broke pool.Stalled) p e r a in
       let h : Breaks pool.Stalled x.mid p x.between r.between = x.last.happens in
@@ -90,13 +93,13 @@ module _ (laws : Laws) (traffic : TrafficLaws) (allows : List ℕ → ℕ → Li
       let o = travels-onward allows events (begun options) p since r.between r.travels in
       (omega (arith, long, same), λ lively. let short = x.last.lawful.lively (ap (λ n. n.lively) o.nature ∙ lively) in omega (arith, long, short))
 
-  spent-of : (events : List Event) (p : Pooled) → EndsWith (Broke pool.Budget) events → RunsPool allows options since now events p → AsksAt start events → IsSpent allows options since now
+  spent-of : (events : List Event) (p : Pooled) → EndsWith (Broke pool.Budget) events → RunsPool allows options since now events p → AsksAt starts events → IsSpent allows options since now
   spent-of events p e r a =
       let x = ends events (Broke pool.Budget) p e r a in
       let h : Breaks pool.Budget x.mid p x.between r.between = x.last.happens in
       let c : IsOverBudget (without_fault p) = traffic.causes pool.Budget x.mid (without_fault p) x.between r.between x.given x.suits x.knows.answers h.steps in
       let spent : p.budget ≤ p.started = c.spent in
-      let b = same-bounds laws traffic allows options since now lawful start events p a r in
+      let b = same-bounds laws traffic allows options since now lawful starts events p a r in
       record { events = events; pool = p; runs = r; spent = omega (arith, spent, b) }
 
   cut-at : (limit : ℕ) → limit ≡ options.max_body → (events : List Event) (p : Pooled) → RunsPool allows options since now events p → (ask : Ask) → Contains (asked_in events) ask → (received : List ℕ) (on : RepliedOn limit ask.address received now) → since.given ≤ on.k → on.k < now.given
@@ -111,25 +114,25 @@ module _ (laws : Laws) (traffic : TrafficLaws) (allows : List ℕ → ℕ → Li
       subst (λ (n : ℕ). (on : RepliedOn n ask.address received now) → since.given ≤ on.k → on.k < now.given → (why : replies.ReplyFault) → fault ≡ shown_fault why → reply_of received false n ≡ replies.Bad why → IsRefusedReply allows options since now fault received) (sym e)
       (λ on fresh below why is bad. record { is_received = record { events = events; pool = p; runs = r; ask = ask; asked = asked; on = on; fresh = fresh; below = below }; why = why; is_fault = is; bad = bad })
 
-  cut-of : (received : List ℕ) (events : List Event) (p : Pooled) → EndsWith (Broke (pool.Cut received)) events → RunsPool allows options since now events p → AsksAt start events → IsCutShort allows options since now received
+  cut-of : (received : List ℕ) (events : List Event) (p : Pooled) → EndsWith (Broke (pool.Cut received)) events → RunsPool allows options since now events p → AsksAt starts events → IsCutShort allows options since now received
   cut-of received events p e r a =
       let x = ends events (Broke (pool.Cut received)) p e r a in
       let h : Breaks (pool.Cut received) x.mid p x.between r.between = x.last.happens in
       let c : IsCut received x.mid (without_fault p) x.between r.between = traffic.causes (pool.Cut received) x.mid (without_fault p) x.between r.between x.given x.suits x.knows.answers h.steps in
       let on = replied-closed x.mid.limit c.loses.ask.address received r.between now x.told r.closes.nature c.loses.on in
       cut-at x.mid.limit x.limit events p r c.loses.ask
-      (lost-in laws traffic allows options since now lawful start events (Broke (pool.Cut received)) p r x (without_fault p) c.loses.ask h.had_none c.loses.others) received on
+      (lost-in laws traffic allows options since now lawful starts events (Broke (pool.Cut received)) p r x (without_fault p) c.loses.ask h.had_none c.loses.others) received on
       (c.loses.fresh since.given (record { given = x.knows.owns.gives.later; none = x.knows.owns.none_before })) (still-below c.loses.on.k r.between.given now.given c.loses.given r.closes.given)
       (subst (λ (o : Option Bool). Holds o true) (sym (x.told c.loses.on.k).ended) c.ended) c.more
 
-  refused-of : (fault : ReplyFault) (received : List ℕ) (events : List Event) (p : Pooled) → EndsWith (Broke (pool.Reply fault received)) events → RunsPool allows options since now events p → AsksAt start events → IsRefusedReply allows options since now fault received
+  refused-of : (fault : ReplyFault) (received : List ℕ) (events : List Event) (p : Pooled) → EndsWith (Broke (pool.Reply fault received)) events → RunsPool allows options since now events p → AsksAt starts events → IsRefusedReply allows options since now fault received
   refused-of fault received events p e r a =
       let x = ends events (Broke (pool.Reply fault received)) p e r a in
       let h : Breaks (pool.Reply fault received) x.mid p x.between r.between = x.last.happens in
       let c : IsRefused fault received x.mid (without_fault p) x.between r.between = traffic.causes (pool.Reply fault received) x.mid (without_fault p) x.between r.between x.given x.suits x.knows.answers h.steps in
       let on = replied-closed x.mid.limit c.loses.ask.address received r.between now x.told r.closes.nature c.loses.on in
       refused-at x.mid.limit x.limit events p r c.loses.ask
-      (lost-in laws traffic allows options since now lawful start events (Broke (pool.Reply fault received)) p r x (without_fault p) c.loses.ask h.had_none c.loses.others) fault received on
+      (lost-in laws traffic allows options since now lawful starts events (Broke (pool.Reply fault received)) p r x (without_fault p) c.loses.ask h.had_none c.loses.others) fault received on
       (c.loses.fresh since.given (record { given = x.knows.owns.gives.later; none = x.knows.owns.none_before })) (still-below c.loses.on.k r.between.given now.given c.loses.given r.closes.given) c.why c.is_fault c.bad
 
   -- the body of the reply to an ask
@@ -154,7 +157,7 @@ module _ (laws : Laws) (traffic : TrafficLaws) (allows : List ℕ → ℕ → Li
       ))
 
   -- the reply that came last
-  last-body : (ask : Ask) (reply : Reply) (events : List Event) (p : Pooled) → EndsWith (Came ask reply) events → RunsPool allows options since now events p → AsksAt start events → IsBodyTo ask reply.body
+  last-body : (ask : Ask) (reply : Reply) (events : List Event) (p : Pooled) → EndsWith (Came ask reply) events → RunsPool allows options since now events p → AsksAt starts events → IsBodyTo ask reply.body
   last-body ask reply events p e r a =
       let x = ends events (Came ask reply) p e r a in
       let h : Comes ask reply x.mid p x.between r.between = x.last.happens in
@@ -165,32 +168,32 @@ module _ (laws : Laws) (traffic : TrafficLaws) (allows : List ℕ → ℕ → Li
       let same : c.hands.ask ≡ ask = one-ask (held x.mid) c.hands.ask ask distinct theirs mine c.hands.is_ticket in
       let on = replied-closed x.mid.limit c.hands.ask.address c.received r.between now x.told r.closes.nature c.on in
       subst (λ (y : Ask). IsBodyTo y reply.body) same
-      (body-at x.mid.limit x.limit events p r c.hands.ask (lost-in laws traffic allows options since now lawful start events (Came ask reply) p r x p c.hands.ask h.had_none c.hands.others) reply.body c.received c.at_end c.n reply.keeps on
+      (body-at x.mid.limit x.limit events p r c.hands.ask (lost-in laws traffic allows options since now lawful starts events (Came ask reply) p r x p c.hands.ask h.had_none c.hands.others) reply.body c.received c.at_end c.n reply.keeps on
       (c.fresh since.given (record { given = x.knows.owns.gives.later; none = x.knows.owns.none_before })) (still-below c.on.k r.between.given now.given c.given r.closes.given)
       (λ at. subst (λ (o : Option Bool). Holds o true) (sym (x.told c.on.k).ended) (c.ended at).0) c.whole)
 
-  page-of : (fault : PageFault) (body : List ℕ) (events : List Event) (p : Pooled) → IsNoPage fault body events → RunsPool allows options since now events p → AsksAt start events → IsNoPageOf allows options since now fault body
+  page-of : (fault : PageFault) (body : List ℕ) (events : List Event) (p : Pooled) → IsNoPage fault body events → RunsPool allows options since now events p → AsksAt starts events → IsNoPageOf allows options since now fault body
   page-of fault body events p e r a =
       let l : IsBodyTo e.ask body = subst (λ (b : List ℕ). IsBodyTo e.ask b) e.body_is (last-body e.ask e.reply events p e.last r a) in
       record { replied = l.0; why = subst (λ (y : Ask). Faults body y.address fault) (sym l.1) e.why }
 
-  version-of : (first other : Option ℕ) (events : List Event) (p : Pooled) → IsChanged first other events → RunsPool allows options since now events p → AsksAt start events → IsOtherVersion allows options since now first other
-  version-of first other events p e r a =
+  version-of : (versions : Versions) (first other : Option ℕ) (events : List Event) (p : Pooled) → IsChanged versions first other events → RunsPool allows options since now events p → AsksAt starts events → IsOtherVersion allows options since now first other
+  version-of versions first other events p e r a =
       let l = last-body e.ask e.reply events p e.last r a in
       record { body = e.reply.body; replied = l.0; page = e.page; taken = subst (λ (y : Ask). Takes e.reply.body y.address e.page) (sym l.1) e.taken; version = e.version; differs = e.differs }
 
-  cause-of : (fault : ClientFault) (version : Option ℕ) (events : List Event) (p : Pooled) → Explains version options.budget fault events → RunsPool allows options since now events p → AsksAt start events → IsCause allows options since now fault
-  cause-of faults.Exchange version events p e r a = rose-of events p e r a
-  cause-of faults.Stalled version events p e r a = idle-of events p e r a
-  cause-of (faults.Cut received) version events p e r a = cut-of received events p e r a
-  cause-of (faults.Reply fault received) version events p e r a = refused-of fault received events p e r a
-  cause-of (faults.Page fault body) version events p e r a = page-of fault body events p e r a
-  cause-of (faults.Changed first other) version events p e r a = version-of first other events p e.1 r a
-  cause-of (faults.Budget n) version events p e r a = (e.0, spent-of events p e.1 r a)
-  cause-of faults.Sink version events p e r a = tt
-  cause-of faults.OutOfMemory version events p e r a = tt
+  cause-of : (fault : ClientFault) (versions : Versions) (events : List Event) (p : Pooled) → Explains versions options.budget fault events → RunsPool allows options since now events p → AsksAt starts events → IsCause allows options since now fault
+  cause-of faults.Exchange versions events p e r a = rose-of events p e r a
+  cause-of faults.Stalled versions events p e r a = idle-of events p e r a
+  cause-of (faults.Cut received) versions events p e r a = cut-of received events p e r a
+  cause-of (faults.Reply fault received) versions events p e r a = refused-of fault received events p e r a
+  cause-of (faults.Page fault body) versions events p e r a = page-of fault body events p e r a
+  cause-of (faults.Changed first other) versions events p e r a = version-of versions first other events p e r a
+  cause-of (faults.Budget n) versions events p e r a = (e.0, spent-of events p e.1 r a)
+  cause-of faults.Sink versions events p e r a = tt
+  cause-of faults.OutOfMemory versions events p e r a = tt
 
-  pub fault-caused : (q : QueryData) (fault : ClientFault) (t u : Option (List ℕ)) → WritesSome (RunsPool allows options since now) q start options.budget fault t u → IsCause allows options since now fault
-  fault-caused q fault t u w =
-      let x : CausedRun allows options since now start fault = some-caused allows options since now start q fault t u w in
-      cause-of fault x.version x.run.events x.run.pool x.explains x.run.runs x.run.asks
+  pub fault-caused : (sources : Sources) (q : QueryData) (fault : ClientFault) (t u : Option (List ℕ)) → WritesSome (RunsPool allows options since now) sources q starts options.budget fault t u → IsCause allows options since now fault
+  fault-caused sources q fault t u w =
+      let x : CausedRun allows options since now starts fault = some-caused allows options since now starts sources q fault t u w in
+      cause-of fault x.versions x.run.events x.run.pool x.explains x.run.runs x.run.asks

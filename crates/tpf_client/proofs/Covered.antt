@@ -1,10 +1,10 @@
 -- A call that is covered by an offer: whatever came over its wire, there is a choice that it is of. What the call gave follows from this alone.
-use Rattle.std.proofs.Common.{ℕ, ◌≡◌, ◌++◌, List, ◌∷◌, Option, Some, sym, subst}
+use Rattle.std.proofs.Common.{ℕ, ◌≡◌, ◌++◌, List, Option, Some, sym, subst}
 use Rattle.std.specs.List.Sorted.{IsPermutation}
 use Rattle.std.proofs.lemmas.List.Sorted.{IsPermutation-refl}
 use Rattle.tpf_base.specs.Addresses.{Address}
 use Rattle.tpf_base.specs.Links.{All, WireState}
-use Rattle.template_fill.specs.Authorities.{ShareAuthority}
+use Rattle.fragment_page.specs.declared.page.Page.{Page}
 use Rattle.template_fill.specs.Configurations.{IsConfig, IsHistory}
 use Rattle.template_fill.specs.Responses.{answering, IsHonestAt}
 use Rattle.bgp_core.specs.Queries.{QueryData}
@@ -12,38 +12,41 @@ use Rattle.bgp_core.specs.Solutions.{Places}
 use Rattle.result_json.specs.Pieces.{PiecesMakeTheText, RowsGoOn}
 use Rattle.request_pool.specs.Pools.{Pooled}
 use Rattle.pool_laws.specs.Rising.{IsServedBySome}
-use Rattle.join_core.specs.Nodes.{plan}
-use Rattle.join_core.specs.Worlds.{World}
+use Rattle.join_core.specs.Evaluations.{HasHome}
 use Rattle.tpf_client.specs.declared.options.Options.{Options}
 use Rattle.tpf_client.specs.declared.options.Report.{Report}
 use Rattle.tpf_client.specs.declared.fault.ClientFault.{ClientFault}
 use Rattle.tpf_client.specs.Traffic.{Event}
-use Rattle.tpf_client.specs.Calls.{WritesAll, WritesSome, Before, Behind, AtEnd, RunsPool, ReadsStart, IsWorldOf, Returns, solutions_of, no_names_bound}
+use Rattle.tpf_client.specs.Turns.{AsksAt}
+use Rattle.tpf_client.specs.Told.{told_at, first_of}
+use Rattle.tpf_client.specs.Starts.{ReadsStarts, forms_of, versions_of}
+use Rattle.tpf_client.specs.Sources.{Sources, IsSourceOf}
+use Rattle.tpf_client.specs.Calls.{WritesAll, WritesSome, Before, Behind, AtEnd, RunsPool, Returns}
 use Rattle.tpf_client.specs.Offers.{Publisher, IsVersionOf, Offer}
 use Rattle.tpf_client.specs.Honest.{WritesSolutions, WritesSolutionsFront, IsSolutions}
 use Rattle.tpf_client.proofs.Texts.{same-written, rows-more}
 
--- some choice, which asks for the start first
-pub record SomeChoice (offer : Offer) (start : Address) : Type 0 where
+-- some choice, which asks for the starts first, and the version that it has at each address
+pub record SomeChoice (offer : Offer) (starts : List Address) : Type 0 where
   pub choice : offer.Choice
   pub is_choice : offer.IsChoice choice
-  pub version : ℕ
-  pub has : (address : Address) → ShareAuthority start address → offer.HasVersion choice address version
+  pub versions : Address → ℕ
+  pub has : (address : Address) → HasHome starts address → offer.HasVersion choice address (versions address)
   pub rest : List Address
-  pub addresses : start ∷ rest ≡ offer.addresses choice
+  pub addresses : starts ++ rest ≡ offer.addresses choice
 
--- The choice of which a start page and the replies behind it are: it has the version that the page told, and a world for which all pages that came are true has its rows and its addresses.
-pub record ChoiceBehind (offer : Offer) (q : QueryData) (start : Address) (first later : List Event) (reads : ReadsStart start first) : Type 0 where
+-- The choice of which the start pages and the replies behind them are: it has the versions that these pages told, and a source for which all pages that came are true has its rows and its addresses.
+pub record ChoiceBehind (sources : Sources) (offer : Offer) (q : QueryData) (starts : List Address) (first later : List Event) (told : List Page) (reads : ReadsStarts starts told first) : Type 0 where
   pub choice : offer.Choice
   pub is_choice : offer.IsChoice choice
-  pub version : ℕ
-  pub told : reads.page.version ≡ Some version
-  pub is_reported : offer.IsReported choice reads.page.version
-  pub has : (address : Address) → ShareAuthority start address → offer.HasVersion choice address version
-  pub world : World
-  pub is_world : IsWorldOf world reads.page.form reads.page.version later
-  pub rows : solutions_of world.triples q ≡ offer.rows choice
-  pub addresses : start ∷ plan world q.patterns (no_names_bound q) ≡ offer.addresses choice
+  pub versions : Address → ℕ
+  pub tells : (address : Address) → told_at starts (versions_of told) address ≡ Some (versions address)
+  pub is_reported : offer.IsReported choice (sources.reported (first_of (versions_of told)))
+  pub has : (address : Address) → HasHome starts address → offer.HasVersion choice address (versions address)
+  pub source : sources.Source
+  pub is_source : IsSourceOf sources source (forms_of told) (told_at starts (versions_of told)) later
+  pub rows : sources.rows source q ≡ offer.rows choice
+  pub addresses : starts ++ sources.plan source q ≡ offer.addresses choice
 
 -- a server that stands at an address, where the other end answers as it does
 pub record StandsThere (allows : List ℕ → ℕ → List ℕ → List ℕ → Type 0) (offer : Offer) (address : Address) : Type 0 where
@@ -53,29 +56,29 @@ pub record StandsThere (allows : List ℕ → ℕ → List ℕ → List ℕ → 
   pub is_config : IsConfig server.config
   pub is_honest : IsHonestAt allows address.host address.port (answering server.history server.config)
 
--- A call is covered by an offer: the wire tells all; there is a choice before a start page was read, and behind each; some server stands at each address with the authority of the start and answers there as it does; and the version that a choice has at an address is one of the server's.
-pub record Covered (offer : Offer) (allows : List ℕ → ℕ → List ℕ → List ℕ → Type 0) (options : Options) (since now : WireState) (start : Address) (q : QueryData) : Type 0 where
+-- A call is covered by an offer: the wire tells all; there is a choice before a start page was read, and behind each; some server stands at each address with the authority of a start and answers there as it does; and the version that a choice has at an address is one of the server's.
+pub record Covered (sources : Sources) (offer : Offer) (allows : List ℕ → ℕ → List ℕ → List ℕ → Type 0) (options : Options) (since now : WireState) (starts : List Address) (q : QueryData) : Type 0 where
   pub tells : since.nature.tells ≡ All
-  pub begins : SomeChoice offer start
-  pub behind : (first later : List Event) (pool : Pooled) → RunsPool allows options since now (first ++ later) pool → (reads : ReadsStart start first) → ChoiceBehind offer q start first later reads
-  pub stands : (address : Address) → ShareAuthority start address → StandsThere allows offer address
+  pub begins : SomeChoice offer starts
+  pub behind : (first later : List Event) (pool : Pooled) → RunsPool allows options since now (first ++ later) pool → AsksAt starts (first ++ later) → (told : List Page) (reads : ReadsStarts starts told first) → ChoiceBehind sources offer q starts first later told reads
+  pub stands : (address : Address) → HasHome starts address → StandsThere allows offer address
   pub numbers : (choice : offer.Choice) → offer.IsChoice choice → (address : Address) (server : Publisher) (version : ℕ) → offer.StandsAt address server → offer.HasVersion choice address version → IsVersionOf server.history version
 
--- some server answers at each address with the authority of the start
-pub served-at : (offer : Offer) (allows : List ℕ → ℕ → List ℕ → List ℕ → Type 0) (options : Options) (since now : WireState) (start : Address) (q : QueryData) → Covered offer allows options since now start q
-    → (address : Address) → ShareAuthority start address → IsServedBySome allows address
-served-at offer allows options since now start q covered address own =
+-- some server answers at each address with the authority of a start
+pub served-at : (sources : Sources) (offer : Offer) (allows : List ℕ → ℕ → List ℕ → List ℕ → Type 0) (options : Options) (since now : WireState) (starts : List Address) (q : QueryData) → Covered sources offer allows options since now starts q
+    → (address : Address) → HasHome starts address → IsServedBySome allows address
+served-at sources offer allows options since now starts q covered address own =
     let s = covered.stands address own in
     record { history = s.server.history; config = s.server.config; honest = s.is_honest }
 
 -- ---- the rows
 
-module _ (offer : Offer) (allows : List ℕ → ℕ → List ℕ → List ℕ → Type 0) (options : Options) (since now : WireState) (start : Address) (q : QueryData) (covered : Covered offer allows options since now start q) where
-  pub solutions-written : (report : Report) (t u : Option (List ℕ)) → WritesAll (RunsPool allows options since now) q start report t u → WritesSolutions offer q report.version report.rows t u
+module _ (sources : Sources) (offer : Offer) (allows : List ℕ → ℕ → List ℕ → List ℕ → Type 0) (options : Options) (since now : WireState) (starts : List Address) (q : QueryData) (covered : Covered sources offer allows options since now starts q) where
+  pub solutions-written : (report : Report) (t u : Option (List ℕ)) → WritesAll (RunsPool allows options since now) sources q starts report t u → WritesSolutions offer q report.version report.rows t u
   solutions-written report t u w =
       let r = w.returns in
-      let c = covered.behind r.first r.later r.pool r.runs r.reads in
-      let g = r.gives c.world c.is_world in
+      let c = covered.behind r.first r.later r.pool r.runs r.asks r.told r.reads in
+      let g = r.gives c.source c.is_source in
       record {
         choice = c.choice;
         is_choice = c.is_choice;
@@ -86,10 +89,10 @@ module _ (offer : Offer) (allows : List ℕ → ℕ → List ℕ → List ℕ �
         count = r.count;
       }
 
-  pub solutions-given : (report : Report) (rows : List Places) → Returns (RunsPool allows options since now) q start report rows → IsSolutions offer report.version rows
+  pub solutions-given : (report : Report) (rows : List Places) → Returns (RunsPool allows options since now) sources q starts report rows → IsSolutions offer report.version rows
   solutions-given report rows r =
-      let c = covered.behind r.first r.later r.pool r.runs r.reads in
-      let g = r.gives c.world c.is_world in
+      let c = covered.behind r.first r.later r.pool r.runs r.asks r.told r.reads in
+      let g = r.gives c.source c.is_source in
       record {
         choice = c.choice;
         is_choice = c.is_choice;
@@ -97,7 +100,7 @@ module _ (offer : Offer) (allows : List ℕ → ℕ → List ℕ → List ℕ �
         rows_are = subst (λ (l : List Places). IsPermutation l rows) c.rows g.rows_are;
       }
 
-  pub front-written : PiecesMakeTheText → RowsGoOn → (budget : ℕ) (fault : ClientFault) (t u : Option (List ℕ)) → WritesSome (RunsPool allows options since now) q start budget fault t u → WritesSolutionsFront offer q t u
+  pub front-written : PiecesMakeTheText → RowsGoOn → (budget : ℕ) (fault : ClientFault) (t u : Option (List ℕ)) → WritesSome (RunsPool allows options since now) sources q starts budget fault t u → WritesSolutionsFront offer q t u
   front-written pieces goes_on budget fault t u (Before b) = record {
     choice = covered.begins.choice;
     is_choice = covered.begins.is_choice;
@@ -106,8 +109,8 @@ module _ (offer : Offer) (allows : List ℕ → ℕ → List ℕ → List ℕ �
     text = same-written _ t u b.nothing;
   }
   front-written pieces goes_on budget fault t u (Behind b) =
-      let c = covered.behind b.first b.later b.pool b.runs b.reads in
-      let g = b.gives c.world c.is_world in
+      let c = covered.behind b.first b.later b.pool b.runs b.asks b.told b.reads in
+      let g = b.gives c.source c.is_source in
       record {
         choice = c.choice;
         is_choice = c.is_choice;
@@ -116,8 +119,8 @@ module _ (offer : Offer) (allows : List ℕ → ℕ → List ℕ → List ℕ �
         text = rows-more q b.rows g.more t u pieces goes_on b.text;
       }
   front-written pieces goes_on budget fault t u (AtEnd b) =
-      let c = covered.behind b.first b.later b.pool b.runs b.reads in
-      let g = b.gives c.world c.is_world in
+      let c = covered.behind b.first b.later b.pool b.runs b.asks b.told b.reads in
+      let g = b.gives c.source c.is_source in
       record {
         choice = c.choice;
         is_choice = c.is_choice;

@@ -5,7 +5,7 @@ use Rattle.std.specs.List.{Contains}
 use Rattle.std.specs.List.Sorted.{IsPermutation}
 use Rattle.tpf_base.specs.Addresses.{Address}
 use Rattle.tpf_base.specs.Links.{WireState, OpensGiven}
-use Rattle.template_fill.specs.Authorities.{ShareAuthority}
+use Rattle.join_core.specs.Evaluations.{HasHome}
 use Rattle.request_pool.specs.Owned.{SuitsWire}
 use Rattle.request_pool.specs.declared.fault.Stepped.TheVariants as stepped
 use Rattle.request_pool.specs.Pools.{Pooled, Ask, held, bounds_of}
@@ -53,7 +53,7 @@ travels-onward allows (event ∷ events) p q v w t = onward_then v t.0.wire w (m
 
 -- ---- the last event
 
-module _ (laws : Laws) (traffic : TrafficLaws) (allows : List ℕ → ℕ → List ℕ → List ℕ → Type 0) (options : Options) (since now : WireState) (lawful : IsLawful allows since) (start : Address) where
+module _ (laws : Laws) (traffic : TrafficLaws) (allows : List ℕ → ℕ → List ℕ → List ℕ → Type 0) (options : Options) (since now : WireState) (lawful : IsLawful allows since) (starts : List Address) where
   -- The pool and the wire before the last event of a call. What is told of each link after it is told at the exit.
   pub record Ending (events : List Event) (event : Event) (p : Pooled) (r : RunsPool allows options since now events p) : Type 0 where
     pub before : List Event
@@ -64,15 +64,15 @@ module _ (laws : Laws) (traffic : TrafficLaws) (allows : List ℕ → ℕ → Li
     pub last : Moves allows event mid p between r.between
     pub given : OpensGiven between
     pub suits : SuitsWire mid between
-    pub knows : Knows start since (options.retries + 1) (length (asked_in before)) mid between
+    pub knows : Knows starts since (options.retries + 1) (length (asked_in before)) mid between
     pub limit : mid.limit ≡ options.max_body
     pub told : (k : ℕ) → SameTold (r.between.links k) (now.links k)
 
-  pub ending : (events : List Event) (event : Event) (p : Pooled) → EndsWith event events → (r : RunsPool allows options since now events p) → AsksAt start events → Ending events event p r
+  pub ending : (events : List Event) (event : Event) (p : Pooled) → EndsWith event events → (r : RunsPool allows options since now events p) → AsksAt starts events → Ending events event p r
   ending events event p e r a =
       let s = split allows e.before event (begun options) p since r.between (subst (λ (l : List Event). Travels allows l (begun options) p since r.between) e.is_last r.travels) in
-      let front = asks-front (λ ask. ShareAuthority start ask.address) e.before (event ∷ []) (subst (λ (l : List Event). AsksAt start l) e.is_last a) in
-      let b = between-after allows (begun options) (λ ask. ShareAuthority start ask.address) e.before (begun options) s.mid since s.between front (begun-between laws traffic start options allows since lawful (λ ask. ShareAuthority start ask.address)) s.first in
+      let front = asks-front (λ ask. HasHome starts ask.address) e.before (event ∷ []) (subst (λ (l : List Event). AsksAt starts l) e.is_last a) in
+      let b = between-after allows (begun options) (λ ask. HasHome starts ask.address) e.before (begun options) s.mid since s.between front (begun-between laws traffic starts options allows since lawful (λ ask. HasHome starts ask.address)) s.first in
       record {
         before = e.before;
         is_last = e.is_last;
@@ -82,7 +82,7 @@ module _ (laws : Laws) (traffic : TrafficLaws) (allows : List ℕ → ℕ → Li
         last = s.last;
         given = b.given;
         suits = b.suits;
-        knows = knows-so laws traffic start options allows since lawful e.before s.mid s.between front s.first;
+        knows = knows-so laws traffic starts options allows since lawful e.before s.mid s.between front s.first;
         limit = ap (λ (x : Pooled). x.limit) b.bounds;
         told = closes-told p r.between now r.closes;
       }
@@ -93,10 +93,10 @@ module _ (laws : Laws) (traffic : TrafficLaws) (allows : List ℕ → ℕ → Li
       subst (λ (l : List Event). Contains (asked_in l) ask) (sym x.is_last) (lost-asked allows x.before (event ∷ []) (begun options) x.mid q since x.between x.first refl none ask h)
 
   -- the bounds are the same at the exit
-  pub same-pool : (events : List Event) (p : Pooled) → AsksAt start events → RunsPool allows options since now events p → bounds_of (without_fault p) ≡ begun options
+  pub same-pool : (events : List Event) (p : Pooled) → AsksAt starts events → RunsPool allows options since now events p → bounds_of (without_fault p) ≡ begun options
   same-pool events p a r =
-      let b = between-after allows (begun options) (λ ask. ShareAuthority start ask.address) events (begun options) p since r.between a (begun-between laws traffic start options allows since lawful (λ ask. ShareAuthority start ask.address)) r.travels in
+      let b = between-after allows (begun options) (λ ask. HasHome starts ask.address) events (begun options) p since r.between a (begun-between laws traffic starts options allows since lawful (λ ask. HasHome starts ask.address)) r.travels in
       b.bounds
 
-  pub same-bounds : (events : List Event) (p : Pooled) → AsksAt start events → RunsPool allows options since now events p → p.budget ≡ options.budget
+  pub same-bounds : (events : List Event) (p : Pooled) → AsksAt starts events → RunsPool allows options since now events p → p.budget ≡ options.budget
   same-bounds events p a r = ap (λ (x : Pooled). x.budget) (same-pool events p a r)

@@ -8,14 +8,13 @@ use Rattle.tpf_base.specs.Links.{WireState}
 use Rattle.bgp_core.specs.Queries.{QueryData}
 use Rattle.bgp_core.specs.Solutions.{Places}
 use Rattle.request_pool.specs.Pools.{Pooled}
-use Rattle.request_pool.specs.Owned.{held_on}
-use Rattle.request_pool.specs.Closing.{ClosesSome}
 use Rattle.tpf_client.specs.declared.options.Options.{Options}
 use Rattle.tpf_client.specs.declared.options.Report.{Report}
 use Rattle.tpf_client.specs.declared.fault.ClientFault.{ClientFault}
 use Rattle.tpf_client.specs.Traffic.{Event, IsLawful}
 use Rattle.tpf_client.specs.Turns.{asked_in, address_of}
-use Rattle.tpf_client.specs.Calls.{Ran, Returns, WritesSome, RunsPool, StartsFew}
+use Rattle.tpf_client.specs.Calls.{Returns, WritesSome, RunsPool, StartsFew}
+use Rattle.tpf_client.specs.Sources.{Sources}
 use Rattle.tpf_client.specs.Offers.{Offer}
 use Rattle.tpf_client.specs.Honest.{Laws}
 use Rattle.tpf_client.specs.Requests.{TrafficLaws, AreClosed, AreDialledFor, OthersStay, MovesOn, DialsAtMost, GivesAtMost, tries_of, AnswersAll, RequestsAreTries, DialsAreTries}
@@ -28,25 +27,25 @@ use Rattle.tpf_client.proofs.Covered.{Covered, served-at}
 use Rattle.tpf_client.proofs.Sparing.{spares-so}
 use Rattle.tpf_client.proofs.Planned.{RunOf, least-started, returns-run, some-run, PlannedRun, ExplainedRun, WholeRun, returns-whole, some-explained, few-asked, all-counted}
 use Rattle.tpf_client.proofs.Sent.{sends-asked, sends-so}
-use Rattle.tpf_client.proofs.Shutting.{if-err-from, either-way, returns-so, writes-some-so, ran-closed}
+use Rattle.tpf_client.proofs.Shutting.{if-err-from, either-way}
 
 -- what holds at each exit, whatever the call answers
-pub record AnyExit (allows : List ℕ → ℕ → List ℕ → List ℕ → Type 0) (options : Options) (start : Address) (since now : WireState) : Type 0 where
+pub record AnyExit (allows : List ℕ → ℕ → List ℕ → List ℕ → Type 0) (options : Options) (starts : List Address) (since now : WireState) : Type 0 where
   pub closed : AreClosed since now
-  pub peers : AreDialledFor start since now
+  pub peers : AreDialledFor starts since now
   pub others : OthersStay since now
   pub moves : MovesOn since now
   pub dials : DialsAtMost options.budget since now
   pub given : GivesAtMost options.budget since now
   pub started : StartsFew allows options since now
-  pub sent : SendsAsked allows options start since now
+  pub sent : SendsAsked allows options starts since now
 
 -- and where it answers rows
-pub record RowsExit (allows : List ℕ → ℕ → List ℕ → List ℕ → Type 0) (options : Options) (start : Address) (report : Report) (since now : WireState) : Type 0 where
+pub record RowsExit (allows : List ℕ → ℕ → List ℕ → List ℕ → Type 0) (options : Options) (starts : List Address) (report : Report) (since now : WireState) : Type 0 where
   pub within : report.requests ≤ options.budget
   pub dials : DialsAtMost report.requests since now
   pub given : GivesAtMost report.requests since now
-  pub answers : AnswersAll allows options start report.requests since now
+  pub answers : AnswersAll allows options starts report.requests since now
 
 at-most : (a b c : ℕ) → a ≤ b → b ≤ c → a ≤ c
 at-most a b c l m = omega (arith, l, m)
@@ -60,12 +59,12 @@ as-many a b c l e = omega (arith, l, e)
 still-rose : (a b c : ℕ) → RoseBy 0 a b → c ≡ b → RoseBy 0 a c
 still-rose a b c l e = omega (arith, l, e)
 
-module _ (laws : Laws) (traffic : TrafficLaws) (allows : List ℕ → ℕ → List ℕ → List ℕ → Type 0) (options : Options) (since now : WireState) (lawful : IsLawful allows since) (start : Address) where
-  exit : (run : RunOf allows options start since now) → Exit start options since now (length (asked_in run.events)) run.pool.started
-  exit run = exit-of laws traffic start options allows since lawful now run.events run.pool run.asks run.runs (same-bounds laws traffic allows options since now lawful start run.events run.pool run.asks run.runs)
+module _ (laws : Laws) (traffic : TrafficLaws) (allows : List ℕ → ℕ → List ℕ → List ℕ → Type 0) (options : Options) (since now : WireState) (lawful : IsLawful allows since) (starts : List Address) where
+  exit : (run : RunOf allows options starts since now) → Exit starts options since now (length (asked_in run.events)) run.pool.started
+  exit run = exit-of laws traffic starts options allows since lawful now run.events run.pool run.asks run.runs (same-bounds laws traffic allows options since now lawful starts run.events run.pool run.asks run.runs)
 
   -- no count falls while the links are closed either
-  moves-on : RunOf allows options start since now → MovesOn since now
+  moves-on : RunOf allows options starts since now → MovesOn since now
   moves-on run =
       let o = travels-onward allows run.events (begun options) run.pool since run.runs.between run.runs.travels in
       let closes = run.runs.closes in
@@ -76,7 +75,7 @@ module _ (laws : Laws) (traffic : TrafficLaws) (allows : List ℕ → ℕ → Li
         dials = still-rose since.dials run.runs.between.dials now.dials o.dials closes.dials;
       }
 
-  pub any-exit : RunOf allows options start since now → AnyExit allows options start since now
+  pub any-exit : RunOf allows options starts since now → AnyExit allows options starts since now
   any-exit run =
       let x = exit run in
       record {
@@ -87,15 +86,15 @@ module _ (laws : Laws) (traffic : TrafficLaws) (allows : List ℕ → ℕ → Li
         dials = more-than now.dials since.dials run.pool.started options.budget x.dials x.within;
         given = more-than now.given since.given run.pool.started options.budget x.given x.within;
         started = record { events = run.events; pool = run.pool; runs = run.runs; few = x.within };
-        sent = sends-so laws traffic allows options since now lawful start run;
+        sent = sends-so laws traffic allows options since now lawful starts run;
       }
 
   -- an exit with rows
-  pub rows-exit : (q : QueryData) (report : Report) (rows : List Places) → Returns (RunsPool allows options since now) q start report rows → RowsExit allows options start report since now
-  rows-exit q report rows r =
-      let run = returns-run allows options since now start q report rows r in
-      let x : Exit start options since now (length (asked_in run.events)) report.requests = subst (λ (n : ℕ). Exit start options since now (length (asked_in run.events)) n) (sym r.requests) (exit run) in
-      let least : length (asked_in run.events) ≤ report.requests = subst (λ (n : ℕ). length (asked_in run.events) ≤ n) (sym r.requests) (least-started traffic allows options since now lawful start run r.no_fault r.none_held) in
+  pub rows-exit : (sources : Sources) (q : QueryData) (report : Report) (rows : List Places) → Returns (RunsPool allows options since now) sources q starts report rows → RowsExit allows options starts report since now
+  rows-exit sources q report rows r =
+      let run = returns-run allows options since now starts sources q report rows r in
+      let x : Exit starts options since now (length (asked_in run.events)) report.requests = subst (λ (n : ℕ). Exit starts options since now (length (asked_in run.events)) n) (sym r.requests) (exit run) in
+      let least : length (asked_in run.events) ≤ report.requests = subst (λ (n : ℕ). length (asked_in run.events) ≤ n) (sym r.requests) (least-started traffic allows options since now lawful starts run r.no_fault r.none_held) in
       record {
         within = x.within;
         dials = x.dials;
@@ -114,41 +113,41 @@ module _ (laws : Laws) (traffic : TrafficLaws) (allows : List ℕ → ℕ → Li
 
   -- ---- over an offer
 
-  module _ (offer : Offer) (q : QueryData) (covered : Covered offer allows options since now start q) where
+  module _ (sources : Sources) (offer : Offer) (q : QueryData) (covered : Covered sources offer allows options since now starts q) where
     few-tries : (asked started most : ℕ) → started ≤ (options.retries + 1) * asked → asked ≤ most → started ≤ (options.retries + 1) * most
     few-tries asked started most a b = at-most started ((options.retries + 1) * asked) ((options.retries + 1) * most) a (mul-le-mul_left (options.retries + 1) b)
 
     -- the requests of a run are tries of the addresses of its choice
-    started-tries : (x : PlannedRun allows offer options since now start) → x.run.pool.started ≤ tries_of options (offer.addresses x.choice)
+    started-tries : (x : PlannedRun allows offer options since now starts) → x.run.pool.started ≤ tries_of options (offer.addresses x.choice)
     started-tries x = few-tries (length (asked_in x.run.events)) x.run.pool.started (length (offer.addresses x.choice)) (exit x.run).few (few-asked offer (asked_in x.run.events) x.choice x.of_plan)
 
-    pub dials-so : PlannedRun allows offer options since now start → DialsAreTries offer options since now
+    pub dials-so : PlannedRun allows offer options since now starts → DialsAreTries offer options since now
     dials-so x = record {
       choice = x.choice;
       is_choice = x.of_plan.is_choice;
       few = more-than now.dials since.dials x.run.pool.started (tries_of options (offer.addresses x.choice)) (exit x.run).dials (started-tries x);
     }
 
-    pub dials-choice : (x : PlannedRun allows offer options since now start) → (dials-so x).choice ≡ x.choice
+    pub dials-choice : (x : PlannedRun allows offer options since now starts) → (dials-so x).choice ≡ x.choice
     unfolding dials-so
     dials-choice x = refl
 
-    unfoldable pub asks-plan : PlannedRun allows offer options since now start → AsksPlan offer since now
+    unfoldable pub asks-plan : PlannedRun allows offer options since now starts → AsksPlan offer since now
     asks-plan x = record {
       choice = x.choice;
       is_choice = x.of_plan.is_choice;
       asked = map address_of (asked_in x.run.events);
       rest = x.of_plan.rest;
       plan_is = x.of_plan.plan_is;
-      sent = sends-asked laws traffic allows options since now lawful start x.run;
+      sent = sends-asked laws traffic allows options since now lawful starts x.run;
     }
 
-    pub requests-so : (report : Report) → WholeRun allows offer options since now start report → RequestsAreTries offer options report
+    pub requests-so : (report : Report) → WholeRun allows offer options since now starts report → RequestsAreTries offer options report
     requests-so report x =
         let run = x.planned.run in
         let addresses = offer.addresses x.planned.choice in
         let total = all-counted offer (asked_in run.events) x.planned.choice x.planned.of_plan x.none_left in
-        let least = least-started traffic allows options since now lawful start run x.no_fault x.none_held in
+        let least = least-started traffic allows options since now lawful starts run x.no_fault x.none_held in
         let same = x.requests in
         record {
           choice = x.planned.choice;
@@ -158,59 +157,50 @@ module _ (laws : Laws) (traffic : TrafficLaws) (allows : List ℕ → ℕ → Li
           few = subst (λ (n : ℕ). n ≤ tries_of options addresses) (sym same) (started-tries x.planned);
         }
 
-    pub unprovoked-so : options.max_body < 2 ^ 64 → 1 ≤ options.links → PlannedRun allows offer options since now start → StaysUnprovoked options since now
+    pub unprovoked-so : options.max_body < 2 ^ 64 → 1 ≤ options.links → PlannedRun allows offer options since now starts → StaysUnprovoked options since now
     unprovoked-so limit some x = λ steady none few.
-        spares-so laws traffic allows options since lawful start covered.tells (served-at offer allows options since now start q covered) limit (omega (arith, some)) steady few now x.run.events x.run.pool none x.run.asks x.run.runs
+        spares-so laws traffic allows options since lawful starts covered.tells (served-at sources offer allows options since now starts q covered) limit (omega (arith, some)) steady few now x.run.events x.run.pool none x.run.asks x.run.runs
 
--- ---- a call: what its body came to, after which its links were closed
+-- ---- a call
 
-module _ (allows : List ℕ → ℕ → List ℕ → List ℕ → Type 0) (options : Options) (since between now : WireState) (start : Address) (q : QueryData) (first new : Pooled) (is : first ≡ begun options) (closes : ClosesSome (held_on new) (λ k. 0) between now) where
-  abbrev Body : List Event → Pooled → Type 0
-  Body events pool = Ran allows first new since between events pool
-
+module _ (allows : List ℕ → ℕ → List ℕ → List ℕ → Type 0) (options : Options) (since now : WireState) (starts : List Address) (sources : Sources) (q : QueryData) where
   abbrev Call : List Event → Pooled → Type 0
   Call events pool = RunsPool allows options since now events pool
 
-  pub called : (report : Report) (rows : List Places) → Returns Body q start report rows → Returns Call q start report rows
-  called report rows r = returns-so Body Call (ran-closed allows options first new since between now is closes) q start report rows r
-
-  pub called-some : (fault : ClientFault) (t u : Option (List ℕ)) → WritesSome Body q start options.budget fault t u → WritesSome Call q start options.budget fault t u
-  called-some fault t u w = writes-some-so Body Call (ran-closed allows options first new since between now is closes) q start options.budget fault t u w
-
   -- whatever it answers
-  pub at-run : {A : Type 0} (result : Result A ClientFault) (P : A → Type 0) (t u : Option (List ℕ)) → IfOk result P → IfErr result (λ fault. WritesSome Body q start options.budget fault t u)
-      → ((x : A) → P x → (report : Report) × (rows : List Places) × Returns Body q start report rows) → RunOf allows options start since now
+  pub at-run : {A : Type 0} (result : Result A ClientFault) (P : A → Type 0) (t u : Option (List ℕ)) → IfOk result P → IfErr result (λ fault. WritesSome Call sources q starts options.budget fault t u)
+      → ((x : A) → P x → (report : Report) × (rows : List Places) × Returns Call sources q starts report rows) → RunOf allows options starts since now
   at-run result P t u ok err f =
-      either-way result P (λ fault. WritesSome Body q start options.budget fault t u) (RunOf allows options start since now) ok err
-      (λ x p. let r = f x p in returns-run allows options since now start q r.0 r.1 (called r.0 r.1 r.2)) (λ fault w. some-run allows options since now start q fault t u (called-some fault t u w))
+      either-way result P (λ fault. WritesSome Call sources q starts options.budget fault t u) (RunOf allows options starts since now) ok err
+      (λ x p. let r = f x p in returns-run allows options since now starts sources q r.0 r.1 r.2) (λ fault w. some-run allows options since now starts sources q fault t u w)
 
-  module _ (offer : Offer) (covered : Covered offer allows options since now start q) where
-    pub at-whole : (report : Report) (rows : List Places) → Returns Body q start report rows → WholeRun allows offer options since now start report
-    at-whole report rows r = returns-whole allows offer options since now start q covered report rows (called report rows r)
+  module _ (offer : Offer) (covered : Covered sources offer allows options since now starts q) where
+    pub at-whole : (report : Report) (rows : List Places) → Returns Call sources q starts report rows → WholeRun allows offer options since now starts report
+    at-whole report rows r = returns-whole allows sources offer options since now starts q covered report rows r
 
-    pub at-explained : (fault : ClientFault) (t u : Option (List ℕ)) → WritesSome Body q start options.budget fault t u → ExplainedRun allows offer options since now start fault
-    at-explained fault t u w = some-explained allows offer options since now start q covered fault t u (called-some fault t u w)
+    pub at-explained : (fault : ClientFault) (t u : Option (List ℕ)) → WritesSome Call sources q starts options.budget fault t u → ExplainedRun allows offer options since now starts fault
+    at-explained fault t u w = some-explained allows sources offer options since now starts q covered fault t u w
 
-    pub at-planned : {A : Type 0} (result : Result A ClientFault) (P : A → Type 0) (t u : Option (List ℕ)) → IfOk result P → IfErr result (λ fault. WritesSome Body q start options.budget fault t u)
-        → ((x : A) → P x → (report : Report) × (rows : List Places) × Returns Body q start report rows) → PlannedRun allows offer options since now start
+    pub at-planned : {A : Type 0} (result : Result A ClientFault) (P : A → Type 0) (t u : Option (List ℕ)) → IfOk result P → IfErr result (λ fault. WritesSome Call sources q starts options.budget fault t u)
+        → ((x : A) → P x → (report : Report) × (rows : List Places) × Returns Call sources q starts report rows) → PlannedRun allows offer options since now starts
     at-planned result P t u ok err f =
-        either-way result P (λ fault. WritesSome Body q start options.budget fault t u) (PlannedRun allows offer options since now start) ok err
+        either-way result P (λ fault. WritesSome Call sources q starts options.budget fault t u) (PlannedRun allows offer options since now starts) ok err
         (λ x p. let r = f x p in (at-whole r.0 r.1 r.2).planned) (λ fault w. (at-explained fault t u w).planned)
 
     -- at Ok its choice is the one that is reported
-    pub told-planned : {A : Type 0} (result : Result A ClientFault) (P : A → Type 0) (told : A → Report) (t u : Option (List ℕ)) (ok : IfOk result P) (err : IfErr result (λ fault. WritesSome Body q start options.budget fault t u))
-        (f : (x : A) → P x → (rows : List Places) × Returns Body q start (told x) rows) → IfOk result (λ x. offer.IsReported (at-planned result P t u ok err (λ x p. (told x, (f x p).0, (f x p).1))).choice (told x).version)
+    pub told-planned : {A : Type 0} (result : Result A ClientFault) (P : A → Type 0) (told : A → Report) (t u : Option (List ℕ)) (ok : IfOk result P) (err : IfErr result (λ fault. WritesSome Call sources q starts options.budget fault t u))
+        (f : (x : A) → P x → (rows : List Places) × Returns Call sources q starts (told x) rows) → IfOk result (λ x. offer.IsReported (at-planned result P t u ok err (λ x p. (told x, (f x p).0, (f x p).1))).choice (told x).version)
     unfolding at-planned either-way
     told-planned (Ok x) P told t u ok err f = (at-whole (told x) (f x ok).0 (f x ok).1).is_reported
     told-planned (Err fault) P told t u ok err f = tt
 
     -- at a fault the run is the one that explains it
-    pub explained-planned : {A : Type 0} (result : Result A ClientFault) (P : A → Type 0) (t u : Option (List ℕ)) (ok : IfOk result P) (err : IfErr result (λ fault. WritesSome Body q start options.budget fault t u))
-        (f : (x : A) → P x → (report : Report) × (rows : List Places) × Returns Body q start report rows)
-        (cause : ClientFault → Type 0) (because : (fault : ClientFault) → ExplainedRun allows offer options since now start fault → cause fault) (holds : offer.Choice → (fault : ClientFault) → cause fault → Type 0)
-        → ((fault : ClientFault) (x : ExplainedRun allows offer options since now start fault) → holds x.planned.choice fault (because fault x))
-        → WithCause result cause (if-err-from result (λ fault. ExplainedRun allows offer options since now start fault) cause
-        (if-err-from result (λ fault. WritesSome Body q start options.budget fault t u) (λ fault. ExplainedRun allows offer options since now start fault) err (λ fault w. at-explained fault t u w)) because)
+    pub explained-planned : {A : Type 0} (result : Result A ClientFault) (P : A → Type 0) (t u : Option (List ℕ)) (ok : IfOk result P) (err : IfErr result (λ fault. WritesSome Call sources q starts options.budget fault t u))
+        (f : (x : A) → P x → (report : Report) × (rows : List Places) × Returns Call sources q starts report rows)
+        (cause : ClientFault → Type 0) (because : (fault : ClientFault) → ExplainedRun allows offer options since now starts fault → cause fault) (holds : offer.Choice → (fault : ClientFault) → cause fault → Type 0)
+        → ((fault : ClientFault) (x : ExplainedRun allows offer options since now starts fault) → holds x.planned.choice fault (because fault x))
+        → WithCause result cause (if-err-from result (λ fault. ExplainedRun allows offer options since now starts fault) cause
+        (if-err-from result (λ fault. WritesSome Call sources q starts options.budget fault t u) (λ fault. ExplainedRun allows offer options since now starts fault) err (λ fault w. at-explained fault t u w)) because)
         (holds (at-planned result P t u ok err f).choice)
     unfolding at-planned either-way if-err-from
     explained-planned (Ok x) P t u ok err f cause because holds all = tt

@@ -4,7 +4,7 @@ use Rattle.std.specs.Prelude.{Result, Ok, Err}
 use Rattle.std.specs.List.{AllByRecursion}
 use Rattle.tpf_base.specs.Addresses.{Address}
 use Rattle.tpf_base.specs.Links.{Nature, WireState}
-use Rattle.template_fill.specs.Authorities.{ShareAuthority}
+use Rattle.join_core.specs.Evaluations.{HasHome}
 use Rattle.bgp_core.specs.Queries.{QueryData}
 use Rattle.request_pool.specs.declared.fault.PoolFault.{PoolFault}
 use Rattle.request_pool.specs.declared.fault.PoolFault.TheVariants as pool
@@ -17,7 +17,8 @@ use Rattle.tpf_client.specs.declared.options.Options.{Options}
 use Rattle.tpf_client.specs.declared.fault.ClientFault.{ClientFault}
 use Rattle.tpf_client.specs.declared.fault.ClientFault.TheVariants as faults
 use Rattle.tpf_client.specs.Traffic.{Event, Broke, Travels, EndsWith, IsLawful, without_fault, Breaks}
-use Rattle.tpf_client.specs.Causes.{Explains}
+use Rattle.tpf_client.specs.Causes.{Explains, Versions}
+use Rattle.tpf_client.specs.Sources.{Sources}
 use Rattle.tpf_client.specs.Turns.{AsksAt, asked_in}
 use Rattle.tpf_client.specs.Calls.{WritesSome, RunsPool}
 use Rattle.tpf_client.specs.Honest.{Laws}
@@ -47,42 +48,42 @@ ends-same (pool.Reply fault received) n m since v w same rise ends h = tt
 ends-same pool.Budget n m since v w same rise ends h = tt
 ends-same pool.OutOfMemory n m since v w same rise ends h = tt
 
-module _ (laws : Laws) (traffic : TrafficLaws) (allows : List ℕ → ℕ → List ℕ → List ℕ → Type 0) (options : Options) (since : WireState) (lawful : IsLawful allows since) (start : Address) where
+module _ (laws : Laws) (traffic : TrafficLaws) (allows : List ℕ → ℕ → List ℕ → List ℕ → Type 0) (options : Options) (since : WireState) (lawful : IsLawful allows since) (starts : List Address) where
   abbrev IsAt : Ask → Type 0
-  IsAt ask = ShareAuthority start ask.address
+  IsAt ask = HasHome starts ask.address
 
   -- what is known after so many asks, and how often each failed
   record Failing (n : ℕ) (p : Pooled) (v : WireState) : Type 0 where
-    knows : Knows start since (options.retries + 1) n p v
+    knows : Knows starts since (options.retries + 1) n p v
     failures : FailuresEnd since p v
 
   module _ (lively : since.nature.lively ≡ true) where
-    few-idle : (n : ℕ) (p : Pooled) (w : WireState) → Knows start since (options.retries + 1) n p w → IsLawful allows w → w.idle < 1000
+    few-idle : (n : ℕ) (p : Pooled) (w : WireState) → Knows starts since (options.retries + 1) n p w → IsLawful allows w → w.idle < 1000
     few-idle n p w k l = l.lively (ap (λ (x : Nature). x.lively) k.owns.gives.nature ∙ lively)
 
     step-fails : (n : ℕ) (result : Result Stepped PoolFault) (p r q : Pooled) (v w : WireState) → Taken allows (begun options) IsAt p r v w → Failing n p v → StepsTo result p q v w → StepFails result since p q w
     step-fails n result p r q v w at i t =
-        let after = knows-step laws traffic start since (options.retries + 1) (omega arith) n result p q v w at.given at.suits i.knows t in
+        let after = knows-step laws traffic starts since (options.retries + 1) (omega arith) n result p q v w at.given at.suits i.knows t in
         traffic.steps_fail since result p q v w at.given at.suits (few-idle n q w after at.lawful) i.failures t
 
     failing-kept : IsKeptBy allows (begun options) IsAt Failing
     failing-kept = record {
-      puts = λ n ask p v own web i. record { knows = knows-put laws traffic start since (options.retries + 1) (omega arith) n ask p v own web i.knows; failures = traffic.puts_fail since ask.ticket ask.address p v i.failures };
+      puts = λ n ask p v own web i. record { knows = knows-put laws traffic starts since (options.retries + 1) (omega arith) n ask p v own web i.knows; failures = traffic.puts_fail since ask.ticket ask.address p v i.failures };
       steps = λ n answer p q v w at i t. record {
-        knows = knows-step laws traffic start since (options.retries + 1) (omega arith) n (Ok answer) p q v w at.given at.suits i.knows t;
+        knows = knows-step laws traffic starts since (options.retries + 1) (omega arith) n (Ok answer) p q v w at.given at.suits i.knows t;
         failures = (step-fails n (Ok answer) p q q v w at i t).failures;
       };
       breaks = λ n fault p q v w at i t kept. record {
-        knows = knows-fault laws traffic start since (options.retries + 1) (omega arith) n q w (knows-step laws traffic start since (options.retries + 1) (omega arith) n (Err fault) p (without_fault q) v w at.given at.suits i.knows t);
+        knows = knows-fault laws traffic starts since (options.retries + 1) (omega arith) n q w (knows-step laws traffic starts since (options.retries + 1) (omega arith) n (Err fault) p (without_fault q) v w at.given at.suits i.knows t);
         failures = traffic.faults_fail since q w (step-fails n (Err fault) p q (without_fault q) v w at i t).failures;
       };
     }
 
     begun-failing : Failing 0 (begun options) since
-    begun-failing = record { knows = begun-knows laws traffic start options allows since lawful; failures = traffic.empty_fail options.links options.retries options.budget options.max_body since }
+    begun-failing = record { knows = begun-knows laws traffic starts options allows since lawful; failures = traffic.empty_fail options.links options.retries options.budget options.max_body since }
 
     failing-so : (events : List Event) (p : Pooled) (v : WireState) → AllByRecursion IsAt (asked_in events) → Travels allows events (begun options) p since v → Failing (length (asked_in events)) p v
-    failing-so events p v a t = by-events allows (begun options) IsAt Failing failing-kept events (begun options) p since v (begun-between laws traffic start options allows since lawful IsAt) a begun-failing t
+    failing-so events p v a t = by-events allows (begun options) IsAt Failing failing-kept events (begun options) p since v (begun-between laws traffic starts options allows since lawful IsAt) a begun-failing t
 
     module _ (now : WireState) where
       all-ended : (v : WireState) → now.given ≡ v.given → ((k : ℕ) → SameTold (v.links k) (now.links k)) → ended_links since now ≡ ended_links since v
@@ -90,28 +91,28 @@ module _ (laws : Laws) (traffic : TrafficLaws) (allows : List ℕ → ℕ → Li
           ap (λ (n : ℕ). over_links (λ k. times_ended (now.links k)) since.given (n - since.given)) given
           ∙ over-same (λ k. times_ended (now.links k)) (λ k. times_ended (v.links k)) (λ k. ap (λ (o : Option Bool). if is_ended o then 1 else 0) (told k).ended) since.given (v.given - since.given)
 
-      ends-by-failures : (fault : PoolFault) (events : List Event) (p : Pooled) → EndsWith (Broke fault) events → RunsPool allows options since now events p → AsksAt start events → EndsByFailures fault (options.retries + 1) since now
+      ends-by-failures : (fault : PoolFault) (events : List Event) (p : Pooled) → EndsWith (Broke fault) events → RunsPool allows options since now events p → AsksAt starts events → EndsByFailures fault (options.retries + 1) since now
       ends-by-failures fault events p e r a =
-          let x = ending laws traffic allows options since now lawful start events (Broke fault) p e r a in
+          let x = ending laws traffic allows options since now lawful starts events (Broke fault) p e r a in
           let h : Breaks fault x.mid p x.between r.between = x.last.happens in
-          let front = asks-front IsAt x.before (Broke fault ∷ []) (subst (λ (l : List Event). AsksAt start l) x.is_last a) in
-          let b = between-after allows (begun options) IsAt x.before (begun options) x.mid since x.between front (begun-between laws traffic start options allows since lawful IsAt) x.first in
+          let front = asks-front IsAt x.before (Broke fault ∷ []) (subst (λ (l : List Event). AsksAt starts l) x.is_last a) in
+          let b = between-after allows (begun options) IsAt x.before (begun options) x.mid since x.between front (begun-between laws traffic starts options allows since lawful IsAt) x.first in
           let at = taken allows (begun options) IsAt (Broke fault) x.mid p x.between r.between h.some h.had_none b x.last in
           let s = step-fails (length (asked_in x.before)) (Err fault) x.mid p (without_fault p) x.between r.between at (failing-so x.before x.mid x.between front x.first) h.steps in
           ends-same fault x.mid.retries options.retries since r.between now (ap (λ (y : Pooled). y.retries) at.bounds) r.closes.faults (all-ended r.between r.closes.given x.told) s.fault
 
-      failed-often : (fault : ClientFault) (version : Option ℕ) (events : List Event) (p : Pooled) → Explains version options.budget fault events → RunsPool allows options since now events p → AsksAt start events → IsFailedOften options since now fault
-      failed-often faults.Exchange version events p e r a = ends-by-failures pool.Exchange events p e r a
-      failed-often faults.Stalled version events p e r a = ends-by-failures pool.Stalled events p e r a
-      failed-often (faults.Cut received) version events p e r a = ends-by-failures (pool.Cut received) events p e r a
-      failed-often (faults.Reply fault received) version events p e r a = tt
-      failed-often (faults.Page fault body) version events p e r a = tt
-      failed-often (faults.Changed first other) version events p e r a = tt
-      failed-often (faults.Budget n) version events p e r a = tt
-      failed-often faults.Sink version events p e r a = tt
-      failed-often faults.OutOfMemory version events p e r a = tt
+      failed-often : (fault : ClientFault) (versions : Versions) (events : List Event) (p : Pooled) → Explains versions options.budget fault events → RunsPool allows options since now events p → AsksAt starts events → IsFailedOften options since now fault
+      failed-often faults.Exchange versions events p e r a = ends-by-failures pool.Exchange events p e r a
+      failed-often faults.Stalled versions events p e r a = ends-by-failures pool.Stalled events p e r a
+      failed-often (faults.Cut received) versions events p e r a = ends-by-failures (pool.Cut received) events p e r a
+      failed-often (faults.Reply fault received) versions events p e r a = tt
+      failed-often (faults.Page fault body) versions events p e r a = tt
+      failed-often (faults.Changed first other) versions events p e r a = tt
+      failed-often (faults.Budget n) versions events p e r a = tt
+      failed-often faults.Sink versions events p e r a = tt
+      failed-often faults.OutOfMemory versions events p e r a = tt
 
-      pub fault-failed : (q : QueryData) (fault : ClientFault) (t u : Option (List ℕ)) → WritesSome (RunsPool allows options since now) q start options.budget fault t u → IsFailedOften options since now fault
-      fault-failed q fault t u w =
-          let x : CausedRun allows options since now start fault = some-caused allows options since now start q fault t u w in
-          failed-often fault x.version x.run.events x.run.pool x.explains x.run.runs x.run.asks
+      pub fault-failed : (sources : Sources) (q : QueryData) (fault : ClientFault) (t u : Option (List ℕ)) → WritesSome (RunsPool allows options since now) sources q starts options.budget fault t u → IsFailedOften options since now fault
+      fault-failed sources q fault t u w =
+          let x : CausedRun allows options since now starts fault = some-caused allows options since now starts sources q fault t u w in
+          failed-often fault x.versions x.run.events x.run.pool x.explains x.run.runs x.run.asks

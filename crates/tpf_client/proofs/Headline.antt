@@ -16,8 +16,10 @@ use Rattle.pool_laws.specs.Answers.{IsBodyOf}
 use Rattle.plan_laws.specs.Servers.{server_world}
 use Rattle.tpf_client.specs.declared.options.Options.{Options}
 use Rattle.tpf_client.specs.Traffic.{Event, Came, EndsWith, IsLawful}
-use Rattle.tpf_client.specs.Starts.{start_ask}
-use Rattle.tpf_client.specs.Calls.{RunsPool, ReadsStart, IsWorldOf}
+use Rattle.fragment_page.specs.declared.page.Page.{Page}
+use Rattle.tpf_client.specs.Starts.{start_ask, ReadsStart}
+use Rattle.tpf_client.specs.Sources.{IsSourceOf, world_sources}
+use Rattle.tpf_client.specs.Calls.{RunsPool}
 use Rattle.tpf_client.specs.Offers.{IsVersionOf}
 use Rattle.tpf_client.specs.Honest.{Laws, IsHonestWire, IsAnswer}
 use Rattle.tpf_client.proofs.Distinct.{none-distinct}
@@ -55,36 +57,36 @@ module _ (laws : Laws) (allows : List ℕ → ℕ → List ℕ → List ℕ → 
   pub all-of : (events : List Event) (pool : Pooled) → RunsPool allows options since now events pool → AllByRecursion (IsAnswer history config) events
   all-of events pool r = all-answers allows laws.puts laws.steps laws.faults history config honest.is_honest events (empty_pool options.links options.retries options.budget options.max_body) pool since r.between begins-so r.travels
 
-  abbrev StartIsServed : (first : List Event) → ReadsStart start first → ℕ → Type 0
-  StartIsServed first reads version = IsServedStart laws.given laws.answered laws.only laws.worlds laws.forms laws.pages laws.kept laws.addresses history config honest.is_history honest.is_config start reads.page version
+  abbrev StartIsServed : (first : List Event) (page : Page) → ReadsStart start page first → ℕ → Type 0
+  StartIsServed first page reads version = IsServedStart laws.given laws.answered laws.only laws.worlds laws.forms laws.pages laws.kept laws.addresses history config honest.is_history honest.is_config start page version
 
-  served-of : (first later : List Event) (pool : Pooled) (version : ℕ) → RunsPool allows options since now (first ++ later) pool → (reads : ReadsStart start first) → reads.page.version ≡ Some version → StartIsServed first reads version
-  served-of first later pool version r reads told =
+  served-of : (first later : List Event) (pool : Pooled) (version : ℕ) → RunsPool allows options since now (first ++ later) pool → (page : Page) (reads : ReadsStart start page first) → page.version ≡ Some version → StartIsServed first page reads version
+  served-of first later pool version r page reads told =
       let all = all-of (first ++ later) pool r in
       let b : IsBodyOf history config start reads.reply.body = answer-last history config (Came (start_ask start) reads.reply) first reads.last (answers-front history config first later all) in
-      start-served laws.given laws.answered laws.only laws.worlds laws.forms laws.pages laws.kept laws.addresses history config honest.is_history honest.is_config start reads.reply.body reads.page version b reads.taken told
+      start-served laws.given laws.answered laws.only laws.worlds laws.forms laws.pages laws.kept laws.addresses history config honest.is_history honest.is_config start reads.reply.body page version b reads.taken told
 
   same-port : (m n : ℕ) (h g : List ℕ) → h ≡ g → m ≡ n → authority_text h m ≡ authority_text g n
   same-port m n h g e f = ap (λ (x : List ℕ). authority_text x m) e ∙ ap (λ (k : ℕ). authority_text g k) f
 
   -- the version of the start page has the whole plan to ask for
-  pub start-is-served : (first later : List Event) (pool : Pooled) (version : ℕ) → RunsPool allows options since now (first ++ later) pool → (reads : ReadsStart start first) → reads.page.version ≡ Some version
+  pub start-is-served : (first later : List Event) (pool : Pooled) (version : ℕ) → RunsPool allows options since now (first ++ later) pool → (page : Page) (reads : ReadsStart start page first) → page.version ≡ Some version
       → (is_answered history (Served version) config start && bytes_eq (authority_of start) (authority_of config.base)) ≡ true
-  start-is-served first later pool version r reads told =
-      let s = served-of first later pool version r reads told in
-      let base : reads.page.form.template.start ≡ config.base = ap (λ (t : Template). t.start) s.form.template in
+  start-is-served first later pool version r page reads told =
+      let s = served-of first later pool version r page reads told in
+      let base : page.form.template.start ≡ config.base = ap (λ (t : Template). t.start) s.form.template in
       let host : start.host ≡ config.base.host = sym reads.home.host ∙ ap (λ (a : Address). a.host) base in
       let port : start.port ≡ config.base.port = sym reads.home.port ∙ ap (λ (a : Address). a.port) base in
       let same : bytes_eq (authority_of start) (authority_of config.base) ≡ true = (bytes_eq-Decides (authority_of start) (authority_of config.base)).1 (same-port start.port config.base.port start.host config.base.host host port) in
       both-true (is_answered history (Served version) config start) (bytes_eq (authority_of start) (authority_of config.base)) s.is_given same
 
   -- the world of the start page
-  pub world-of : (first later : List Event) (pool : Pooled) → RunsPool allows options since now (first ++ later) pool → (reads : ReadsStart start first)
-      → (version : ℕ) × IsVersionOf history version × (reads.page.version ≡ Some version) × IsWorldOf (server_world (version_of history version) config) reads.page.form reads.page.version later
-  world-of first later pool r reads =
+  pub world-of : (first later : List Event) (pool : Pooled) → RunsPool allows options since now (first ++ later) pool → (page : Page) (reads : ReadsStart start page first)
+      → (version : ℕ) × IsVersionOf history version × (page.version ≡ Some version) × IsSourceOf world_sources (server_world (version_of history version) config) (page.form ∷ []) (λ address. page.version) later
+  world-of first later pool r page reads =
       let all = all-of (first ++ later) pool r in
       let b : IsBodyOf history config start reads.reply.body = answer-last history config (Came (start_ask start) reads.reply) first reads.last (answers-front history config first later all) in
-      start-world laws.given laws.answered laws.only laws.worlds laws.forms laws.pages laws.kept laws.addresses history config honest.is_history honest.is_config start reads.reply.body reads.page later honest.few b reads.taken (answers-behind history config first later all)
+      start-world laws.given laws.answered laws.only laws.worlds laws.forms laws.pages laws.kept laws.addresses history config honest.is_history honest.is_config start reads.reply.body page later honest.few b reads.taken (answers-behind history config first later all)
 
   pub first-version : IsVersionOf history 1
   first-version = record { low = omega arith; high = honest.is_history.low }

@@ -1,15 +1,16 @@
 -- The authorities of the asks.
-use Rattle.std.proofs.Common.{◌≡◌, ◌⊎◌, inl, inr, List, [], ◌∷◌, ◌++◌, refl, sym, subst, ◌∙◌}
-use Rattle.std.specs.List.{All, AllByRecursion}
-use Rattle.std.proofs.lemmas.List.Elements.{All-head, All-tail}
+use Rattle.std.proofs.Common.{◌≡◌, List, [], ◌∷◌, ◌++◌, map, refl, sym, ap, subst, ◌∙◌, append-nil}
+use Rattle.std.specs.List.{All, AllByRecursion, Contains}
+use Rattle.std.proofs.lemmas.List.Elements.{All-nil, All-cons, All-head, All-tail, Contains-append_left}
 use Rattle.std.proofs.lemmas.List.Sorted.{All-permutation}
-use Rattle.list_laws.proofs.Members.{at_head, one_of}
+use Rattle.list_laws.proofs.Members.{at_head, in_tail}
 use Rattle.tpf_base.specs.Addresses.{Address}
-use Rattle.template_fill.specs.Authorities.{ShareAuthority}
+use Rattle.fragment_page.specs.declared.page.Page.{Page}
 use Rattle.request_pool.specs.Pools.{Pooled, Ask, held}
 use Rattle.join_core.specs.Evaluations.{HasHome}
+use Rattle.join_core.specs.Rounds.{FormsAtHome}
 use Rattle.tpf_client.specs.Traffic.{Event, Asked, Came, Waited, Broke}
-use Rattle.tpf_client.specs.Starts.{start_ask}
+use Rattle.tpf_client.specs.Starts.{start_ask, ReadsStart, ReadsStarts, AsksStarts, forms_of}
 use Rattle.tpf_client.specs.Asking.{PutsAll}
 use Rattle.tpf_client.specs.Turns.{AsksAt, asked_in}
 use Rattle.tpf_client.proofs.Accounting.{asked-append}
@@ -22,19 +23,6 @@ all-then P (x ∷ xs) ys a b = (a.0, all-then P xs ys a.1 b)
 pub all-so : {X : Type 0} (P Q : X → Type 0) → ((x : X) → P x → Q x) → (xs : List X) → AllByRecursion P xs → AllByRecursion Q xs
 all-so P Q f [] a = tt
 all-so P Q f (x ∷ xs) a = (f x a.0, all-so P Q f xs a.1)
-
-share-then : (a b c : Address) → ShareAuthority a b → ShareAuthority b c → ShareAuthority a c
-share-then a b c p q = record { host = q.host ∙ p.host; port = q.port ∙ p.port }
-
-pub own-home : (home : Address) → HasHome (home ∷ []) home
-own-home home = (home, at_head home [], record { host = refl; port = refl })
-
-home-is : (home address : Address) → HasHome (home ∷ []) address → ShareAuthority home address
-home-is home address h = subst (λ (x : Address). ShareAuthority x address) (sym (one_of home h.0 h.1)) h.2
-
--- asks with the one home have its authority
-pub asks-home : (home : Address) (events : List Event) → AllByRecursion (λ ask. HasHome (home ∷ []) ask.address) (asked_in events) → AsksAt home events
-asks-home home events h = all-so (λ (ask : Ask). HasHome (home ∷ []) ask.address) (λ (ask : Ask). ShareAuthority home ask.address) (λ ask. home-is home ask.address) (asked_in events) h
 
 -- where what a pool holds has homes after asks were put, these have them
 puts-before : (P : Ask → Type 0) (asks : List Ask) (p q : Pooled) → PutsAll asks p q → All P (held q) → All P (held p) × AllByRecursion P asks
@@ -61,15 +49,50 @@ asks-front P (Came ask reply ∷ first) second h = asks-front P first second h
 asks-front P (Waited ∷ first) second h = asks-front P first second h
 asks-front P (Broke fault ∷ first) second h = asks-front P first second h
 
--- ---- the start, and what is asked behind it
+-- ---- the starts
 
-start-home : (start : Address) (events : List Event) → asked_in events ≡ start_ask start ∷ [] → AsksAt start events
-start-home start events e = homes-of (λ ask. ShareAuthority start ask.address) events (start_ask start ∷ []) e (record { host = refl; port = refl }, tt)
+-- each of some starts has its own authority
+own-all : (homes starts : List Address) → ((start : Address) → Contains starts start → Contains homes start) → AllByRecursion (λ ask. HasHome homes ask.address) (map start_ask starts)
+own-all homes [] among = tt
+own-all homes (start ∷ starts) among = ((start, among start (at_head start starts), record { host = refl; port = refl }), own-all homes starts (λ x c. among x (in_tail start x starts c)))
 
-pub start-alone : (start : Address) (events : List Event) → (asked_in events ≡ start_ask start ∷ []) ⊎ (asked_in events ≡ []) → AsksAt start events
-start-alone start events (inl e) = start-home start events e
-start-alone start events (inr e) = homes-of (λ ask. ShareAuthority start ask.address) events [] e tt
+pub starts-alone : (starts : List Address) (events : List Event) → AsksStarts starts events → AsksAt starts events
+starts-alone starts events a =
+    homes-of (λ ask. HasHome starts ask.address) events (map start_ask a.first) a.asked
+    (own-all starts a.first (λ x c. subst (λ (l : List Address). Contains l x) (sym a.starts_are) (Contains-append_left a.first a.later x c)))
 
-pub asks-behind : (start home : Address) (first later : List Event) → ShareAuthority start home → asked_in first ≡ start_ask start ∷ [] → AsksAt home later → AsksAt start (first ++ later)
-asks-behind start home first later s e a =
-    homes-then (λ ask. ShareAuthority start ask.address) first later (start-home start first e) (all-so (λ (ask : Ask). ShareAuthority home ask.address) (λ (ask : Ask). ShareAuthority start ask.address) (λ ask h. share-then start home ask.address s h) (asked_in later) a)
+-- what was asked until the start pages came
+pub asked-starts : (starts : List Address) (pages : List Page) (events : List Event) → ReadsStarts starts pages events → asked_in events ≡ map start_ask starts
+asked-starts [] [] events h = ap (λ (l : List Event). asked_in l) h
+asked-starts [] (page ∷ pages) events h = absurd h
+asked-starts (start ∷ starts) [] events h = absurd h
+asked-starts (start ∷ starts) (page ∷ pages) events h =
+    ap (λ (l : List Event). asked_in l) h.2 ∙ (asked-append h.0 h.1 ∙ (ap (λ (l : List Ask). l ++ asked_in h.1) h.3.asked ∙ ap (λ (l : List Ask). start_ask start ∷ l) (asked-starts starts pages h.1 h.4)))
+
+pub asks-behind : (starts : List Address) (pages : List Page) (first later : List Event) → ReadsStarts starts pages first → AsksAt starts later → AsksAt starts (first ++ later)
+asks-behind starts pages first later h a =
+    homes-then (λ ask. HasHome starts ask.address) first later (homes-of (λ ask. HasHome starts ask.address) first (map start_ask starts) (asked-starts starts pages first h) (own-all starts starts (λ x c. c))) a
+
+-- the forms of the start pages have the authorities of the starts
+forms-home : (homes starts : List Address) (pages : List Page) (events : List Event) → ((start : Address) → Contains starts start → Contains homes start) → ReadsStarts starts pages events → FormsAtHome homes (forms_of pages)
+forms-home homes [] [] events among h = All-nil (λ form. HasHome homes form.template.start)
+forms-home homes [] (page ∷ pages) events among h = absurd h
+forms-home homes (start ∷ starts) [] events among h = absurd h
+forms-home homes (start ∷ starts) (page ∷ pages) events among h =
+    All-cons (λ form. HasHome homes form.template.start) page.form (forms_of pages) (start, among start (at_head start starts), h.3.home) (forms-home homes starts pages h.1 (λ x c. among x (in_tail start x starts c)) h.4)
+
+pub starts-home : (starts : List Address) (pages : List Page) (events : List Event) → ReadsStarts starts pages events → FormsAtHome starts (forms_of pages)
+starts-home starts pages events h = forms-home starts starts pages events (λ x c. c) h
+
+-- ---- one start
+
+-- the one page that came
+pub record OneRead (start : Address) (told : List Page) (events : List Event) : Type 0 where
+  pub page : Page
+  pub is : told ≡ page ∷ []
+  pub reads : ReadsStart start page events
+
+pub one-read : (start : Address) (told : List Page) (events : List Event) → ReadsStarts (start ∷ []) told events → OneRead start told events
+one-read start [] events h = absurd h
+one-read start (page ∷ []) events h = record { page = page; is = refl; reads = subst (λ (l : List Event). ReadsStart start page l) (sym (h.2 ∙ (ap (λ (l : List Event). h.0 ++ l) h.4 ∙ append-nil h.0))) h.3 }
+one-read start (page ∷ more ∷ pages) events h = absurd h.4

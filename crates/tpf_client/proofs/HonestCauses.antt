@@ -8,7 +8,7 @@ use Rattle.tpf_base.specs.Links.{WireState}
 use Rattle.tpf_base.specs.Marks.{version_at}
 use Rattle.http_wire.specs.declared.message.Reply.{Reply}
 use Rattle.http_wire.specs.declared.message.ReplyFault.{ReplyFault}
-use Rattle.template_fill.specs.Authorities.{ShareAuthority}
+use Rattle.join_core.specs.Evaluations.{HasHome}
 use Rattle.template_fill.specs.Configurations.{IsConfig, IsHistory}
 use Rattle.template_fill.specs.HttpAnswer.{Answer}
 use Rattle.template_fill.specs.Responses.{answering, IsHonestAt}
@@ -23,6 +23,7 @@ use Rattle.tpf_client.specs.declared.fault.ClientFault.{ClientFault}
 use Rattle.tpf_client.specs.declared.fault.ClientFault.TheVariants as faults
 use Rattle.tpf_client.specs.Traffic.{Came, Broke, EndsWith, IsLawful, without_fault, Comes, Breaks}
 use Rattle.tpf_client.specs.Turns.{asked_in}
+use Rattle.tpf_client.specs.Sources.{Sources}
 use Rattle.tpf_client.specs.Offers.{Publisher, Offer}
 use Rattle.tpf_client.specs.Honest.{Laws}
 use Rattle.tpf_client.specs.Requests.{TrafficLaws}
@@ -46,29 +47,29 @@ record AnswersFrom (offer : Offer) (ask : Ask) (reply : Reply) : Type 0 where
   is_config : IsConfig server.config
   body : IsBodyOf server.history server.config ask.address reply.body
 
-module _ (laws : Laws) (traffic : TrafficLaws) (allows : List ℕ → ℕ → List ℕ → List ℕ → Type 0) (options : Options) (since now : WireState) (lawful : IsLawful allows since) (limit : options.max_body < 2 ^ 64) (start : Address)
-    (offer : Offer) (q : QueryData) (covered : Covered offer allows options since now start q) where
+module _ (laws : Laws) (traffic : TrafficLaws) (allows : List ℕ → ℕ → List ℕ → List ℕ → Type 0) (options : Options) (since now : WireState) (lawful : IsLawful allows since) (limit : options.max_body < 2 ^ 64) (starts : List Address)
+    (sources : Sources) (offer : Offer) (q : QueryData) (covered : Covered sources offer allows options since now starts q) where
   abbrev Run : ClientFault → Type 0
-  Run fault = ExplainedRun allows offer options since now start fault
+  Run fault = ExplainedRun allows offer options since now starts fault
 
-  -- an ask of the call has the authority of the start
-  own-ask : (run : RunOf allows options start since now) (ask : Ask) → Contains (asked_in run.events) ask → ShareAuthority start ask.address
-  own-ask run ask c = at-member (λ (a : Ask). ShareAuthority start a.address) (asked_in run.events) ask run.asks c
+  -- an ask of the call has the authority of a start
+  own-ask : (run : RunOf allows options starts since now) (ask : Ask) → Contains (asked_in run.events) ask → HasHome starts ask.address
+  own-ask run ask c = at-member (λ (a : Ask). HasHome starts a.address) (asked_in run.events) ask run.asks c
 
   -- a refused reply
   refuses : (fault : ReplyFault) (received : List ℕ) → Run (faults.Reply fault received) → RefusesLong offer options fault received
   refuses fault received x =
       let run = x.planned.run in
       let choice = x.planned.choice in
-      let e = ending laws traffic allows options since now lawful start run.events (Broke (pool.Reply fault received)) run.pool x.explains run.runs run.asks in
+      let e = ending laws traffic allows options since now lawful starts run.events (Broke (pool.Reply fault received)) run.pool x.explains run.runs run.asks in
       let h : Breaks (pool.Reply fault received) e.mid run.pool e.between run.runs.between = e.last.happens in
-      let tells = tells-on allows options since start covered.tells (length (asked_in run.events)) run.pool run.runs.between
-      (knows-so laws traffic start options allows since lawful run.events run.pool run.runs.between run.asks run.runs.travels) e.last.lawful in
+      let tells = tells-on allows options since starts covered.tells (length (asked_in run.events)) run.pool run.runs.between
+      (knows-so laws traffic starts options allows since lawful run.events run.pool run.runs.between run.asks run.runs.travels) e.last.lawful in
       let small = small-limit options limit e.mid.limit e.limit in
       let t : IsTooLong allows fault received e.mid (without_fault run.pool) e.between run.runs.between =
       e.last.lawful.refused fault received e.mid (without_fault run.pool) e.between e.given e.suits e.knows.answers small tells h.steps in
       let ask = t.refused.loses.ask in
-      let asked = lost-in laws traffic allows options since now lawful start run.events (Broke (pool.Reply fault received)) run.pool run.runs e (without_fault run.pool) ask h.had_none t.refused.loses.others in
+      let asked = lost-in laws traffic allows options since now lawful starts run.events (Broke (pool.Reply fault received)) run.pool run.runs e (without_fault run.pool) ask h.had_none t.refused.loses.others in
       let inside = in-plan offer (asked_in run.events) choice x.planned.of_plan ask asked in
       let s = covered.stands ask.address (own-ask run ask asked) in
       record {
@@ -99,19 +100,19 @@ module _ (laws : Laws) (traffic : TrafficLaws) (allows : List ℕ → ℕ → Li
       laws.never_both body address page.0 fault (subst (λ (l : List ℕ). Takes l address page.0) is page.1) why
 
   -- the ask of the reply that came last was put in the call
-  came-asked : (run : RunOf allows options start since now) (ask : Ask) (reply : Reply) → EndsWith (Came ask reply) run.events → Contains (asked_in run.events) ask
+  came-asked : (run : RunOf allows options starts since now) (ask : Ask) (reply : Reply) → EndsWith (Came ask reply) run.events → Contains (asked_in run.events) ask
   came-asked run ask reply last =
-      let e = ending laws traffic allows options since now lawful start run.events (Came ask reply) run.pool last run.runs run.asks in
+      let e = ending laws traffic allows options since now lawful starts run.events (Came ask reply) run.pool last run.runs run.asks in
       let h : Comes ask reply e.mid run.pool e.between run.runs.between = e.last.happens in
-      lost-in laws traffic allows options since now lawful start run.events (Came ask reply) run.pool run.runs e run.pool ask h.had_none h.others
+      lost-in laws traffic allows options since now lawful starts run.events (Came ask reply) run.pool run.runs e run.pool ask h.had_none h.others
 
   -- the body of that reply is the one of an answer by a server that stands at its address
-  answer-from : (run : RunOf allows options start since now) (ask : Ask) (reply : Reply) → EndsWith (Came ask reply) run.events → AnswersFrom offer ask reply
+  answer-from : (run : RunOf allows options starts since now) (ask : Ask) (reply : Reply) → EndsWith (Came ask reply) run.events → AnswersFrom offer ask reply
   answer-from run ask reply last =
-      let e = ending laws traffic allows options since now lawful start run.events (Came ask reply) run.pool last run.runs run.asks in
+      let e = ending laws traffic allows options since now lawful starts run.events (Came ask reply) run.pool last run.runs run.asks in
       let h : Comes ask reply e.mid run.pool e.between run.runs.between = e.last.happens in
-      let tells = tells-on allows options since start covered.tells (length (asked_in run.events)) run.pool run.runs.between
-      (knows-so laws traffic start options allows since lawful run.events run.pool run.runs.between run.asks run.runs.travels) e.last.lawful in
+      let tells = tells-on allows options since starts covered.tells (length (asked_in run.events)) run.pool run.runs.between
+      (knows-so laws traffic starts options allows since lawful run.events run.pool run.runs.between run.asks run.runs.travels) e.last.lawful in
       let small = small-limit options limit e.mid.limit e.limit in
       let b : Brings allows ask.ticket reply e.mid run.pool = e.last.lawful.replies ask.ticket reply e.mid run.pool e.between e.given e.suits e.knows.answers small tells h.steps in
       let theirs : Contains (held e.mid) b.hands.ask = Contains-permutation _ _ b.hands.ask (IsPermutation-sym _ _ b.hands.others) (at_head b.hands.ask (held run.pool)) in
@@ -146,7 +147,7 @@ module _ (laws : Laws) (traffic : TrafficLaws) (allows : List ℕ → ℕ → Li
   changes : (first other : Option ℕ) → Run (faults.Changed first other) → ChangesVersion offer first other
   changes first other x =
       let run = x.planned.run in
-      let c : IsChanged first other run.events = x.explains.1 in
+      let c : IsChanged (λ address. Some (x.versions address)) first other run.events = x.explains in
       let s = answer-from run c.ask c.reply c.last in
       let r : ReadsVersion laws.given laws.answered laws.only laws.worlds laws.forms laws.pages laws.kept laws.addresses s.server.history s.server.config s.is_history s.is_config c.page (version_at s.body.mark) =
       reads laws.given laws.answered laws.only laws.worlds laws.forms laws.pages laws.kept laws.addresses s.server.history s.server.config s.is_history s.is_config c.ask.address c.reply.body c.page s.body c.taken in
@@ -158,13 +159,13 @@ module _ (laws : Laws) (traffic : TrafficLaws) (allows : List ℕ → ℕ → Li
         server = s.server;
         stands = s.stands;
         versions = record {
-          one = x.version;
+          one = x.versions c.ask.address;
           two = version_at s.body.mark;
-          is_first = x.explains.0;
+          is_first = c.first_is;
           is_other = sym c.version ∙ r.told;
-          is_one = covered.numbers x.planned.choice x.planned.of_plan.is_choice c.ask.address s.server x.version s.stands (x.has c.ask.address own);
+          is_one = covered.numbers x.planned.choice x.planned.of_plan.is_choice c.ask.address s.server (x.versions c.ask.address) s.stands (x.has c.ask.address own);
           is_two = r.is_version;
-          differ = λ same. c.differs (x.explains.0 ∙ (ap (λ (n : ℕ). Some n) same ∙ (sym r.told ∙ c.version)));
+          differ = λ same. c.differs (c.first_is ∙ (ap (λ (n : ℕ). Some n) same ∙ (sym r.told ∙ c.version)));
         };
         is_chosen = x.has c.ask.address own;
       }

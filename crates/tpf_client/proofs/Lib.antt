@@ -2,6 +2,7 @@ pub mod Distinct
 pub mod Traveling
 pub mod Accounting
 pub mod Homes
+pub mod Told
 pub mod Meeting
 pub mod Books
 pub mod Waiting
@@ -40,4 +41,6 @@ pub mod Exits
 pub mod Clauses
 pub mod Written
 pub mod Starting
+pub mod Several
 pub mod Sinks
+pub mod Single

@@ -15,6 +15,7 @@ use Rattle.tpf_client.specs.declared.fault.ClientFault.{ClientFault}
 use Rattle.tpf_client.specs.declared.fault.ClientFault.TheVariants as faults
 use Rattle.tpf_client.specs.Traffic.{Broke, IsLawful, without_fault, Breaks}
 use Rattle.tpf_client.specs.Turns.{asked_in}
+use Rattle.tpf_client.specs.Sources.{Sources}
 use Rattle.tpf_client.specs.Offers.{Offer}
 use Rattle.tpf_client.specs.Honest.{Laws}
 use Rattle.tpf_client.specs.Requests.{TrafficLaws}
@@ -37,17 +38,17 @@ as-often n before now low h = omega (arith, low, h)
 pub no-rises : (n before now : ℕ) → RoseBy n before now → (Rose before now → ⊥) → n ≡ 0
 no-rises n before now h none = elim (cases_lt 0 n) [ inl low ↦ absurd (none (as-often n before now low h)) | inr high ↦ omega (arith, high) ]
 
-module _ (laws : Laws) (traffic : TrafficLaws) (allows : List ℕ → ℕ → List ℕ → List ℕ → Type 0) (options : Options) (since now : WireState) (lawful : IsLawful allows since) (limit : options.max_body < 2 ^ 64) (start : Address)
-    (offer : Offer) (q : QueryData) (covered : Covered offer allows options since now start q) where
-  exit : (x : PlannedRun allows offer options since now start) → Exit start options since now (length (asked_in x.run.events)) x.run.pool.started
-  exit x = exit-of laws traffic start options allows since lawful now x.run.events x.run.pool x.run.asks x.run.runs (same-bounds laws traffic allows options since now lawful start x.run.events x.run.pool x.run.asks x.run.runs)
+module _ (laws : Laws) (traffic : TrafficLaws) (allows : List ℕ → ℕ → List ℕ → List ℕ → Type 0) (options : Options) (since now : WireState) (lawful : IsLawful allows since) (limit : options.max_body < 2 ^ 64) (starts : List Address)
+    (sources : Sources) (offer : Offer) (q : QueryData) (covered : Covered sources offer allows options since now starts q) where
+  exit : (x : PlannedRun allows offer options since now starts) → Exit starts options since now (length (asked_in x.run.events)) x.run.pool.started
+  exit x = exit-of laws traffic starts options allows since lawful now x.run.events x.run.pool x.run.asks x.run.runs (same-bounds laws traffic allows options since now lawful starts x.run.events x.run.pool x.run.asks x.run.runs)
 
-  served : IsServedAt allows start
-  served = served-at offer allows options since now start q covered
+  served : IsServedAt allows starts
+  served = served-at sources offer allows options since now starts q covered
 
   module _ (lively : since.nature.lively ≡ true) where
-    pub rises-of : (x : PlannedRun allows offer options since now start) → FailuresRose since.faults (length (asked_in x.run.events)) x.run.pool x.run.runs.between
-    rises-of x = (rises-so laws traffic allows options since lawful start covered.tells served limit lively x.run.events x.run.pool x.run.runs.between x.run.asks x.run.runs.travels).rose
+    pub rises-of : (x : PlannedRun allows offer options since now starts) → FailuresRose since.faults (length (asked_in x.run.events)) x.run.pool x.run.runs.between
+    rises-of x = (rises-so laws traffic allows options since lawful starts covered.tells served limit lively x.run.events x.run.pool x.run.runs.between x.run.asks x.run.runs.travels).rose
 
     same-rise : (n before mid last : ℕ) → last ≡ mid → RoseBy n before mid → RoseBy n before last
     same-rise n before mid last e h = omega (arith, e, h)
@@ -58,7 +59,7 @@ module _ (laws : Laws) (traffic : TrafficLaws) (allows : List ℕ → ℕ → Li
     few-started : (started waiting asked failures most : ℕ) → started + waiting ≤ asked + failures → asked ≤ most → started ≤ most + failures
     few-started started waiting asked failures most l m = omega (arith, l, m)
 
-    pub counts-so : PlannedRun allows offer options since now start → CountsRises (StartedIn allows options since now) offer since now
+    pub counts-so : PlannedRun allows offer options since now starts → CountsRises (StartedIn allows options since now) offer since now
     counts-so x =
         let i = rises-of x in
         let out = exit x in
@@ -76,19 +77,19 @@ module _ (laws : Laws) (traffic : TrafficLaws) (allows : List ℕ → ℕ → Li
           given = more-than now.given since.given x.run.pool.started (most + i.failures) out.given few;
         }
 
-    pub counts-choice : (x : PlannedRun allows offer options since now start) → (counts-so x).choice ≡ x.choice
+    pub counts-choice : (x : PlannedRun allows offer options since now starts) → (counts-so x).choice ≡ x.choice
     unfolding counts-so
     counts-choice x = refl
 
     exactly : (n m r : ℕ) → m ≤ n → n ≤ m + r → r ≡ 0 → n ≡ m
     exactly n m r l h z = omega (arith, l, h, z)
 
-    pub paces-so : (report : Report) → WholeRun allows offer options since now start report → PacesRequests offer report since now
+    pub paces-so : (report : Report) → WholeRun allows offer options since now starts report → PacesRequests offer report since now
     paces-so report x =
         let c = rises-of x.planned in
         let most = length (offer.addresses x.planned.choice) in
         let total = all-counted offer (asked_in x.planned.run.events) x.planned.choice x.planned.of_plan x.none_left in
-        let least = least-started traffic allows options since now lawful start x.planned.run x.no_fault x.none_held in
+        let least = least-started traffic allows options since now lawful starts x.planned.run x.no_fault x.none_held in
         let same = x.requests in
         let enough = c.few in
         let each : most ≤ report.requests = omega (arith, total, least, same) in
@@ -108,7 +109,7 @@ module _ (laws : Laws) (traffic : TrafficLaws) (allows : List ℕ → ℕ → Li
     -- ---- causes
 
     abbrev Run : ClientFault → Type 0
-    Run fault = ExplainedRun allows offer options since now start fault
+    Run fault = ExplainedRun allows offer options since now starts fault
 
     over-so : (budget started waiting asked failures most bound : ℕ) → budget ≤ started → budget ≡ bound → 1 ≤ waiting → started + waiting ≤ asked + failures → asked ≤ most → bound < most + failures
     over-so budget started waiting asked failures most bound s e w l m = omega (arith, s, e, w, l, m)
@@ -118,10 +119,10 @@ module _ (laws : Laws) (traffic : TrafficLaws) (allows : List ℕ → ℕ → Li
         let run = x.planned.run in
         let i = rises-of x.planned in
         let most = length (offer.addresses x.planned.choice) in
-        let e = ending laws traffic allows options since now lawful start run.events (Broke pool.Budget) run.pool x.explains.1 run.runs run.asks in
+        let e = ending laws traffic allows options since now lawful starts run.events (Broke pool.Budget) run.pool x.explains.1 run.runs run.asks in
         let h : Breaks pool.Budget e.mid run.pool e.between run.runs.between = e.last.happens in
         let c : IsOverBudget (without_fault run.pool) = traffic.causes pool.Budget e.mid (without_fault run.pool) e.between run.runs.between e.given e.suits e.knows.answers h.steps in
-        let budget = same-bounds laws traffic allows options since now lawful start run.events run.pool run.asks run.runs in
+        let budget = same-bounds laws traffic allows options since now lawful starts run.events run.pool run.asks run.runs in
         record {
           choice = x.planned.choice;
           is_choice = x.planned.of_plan.is_choice;
@@ -132,9 +133,9 @@ module _ (laws : Laws) (traffic : TrafficLaws) (allows : List ℕ → ℕ → Li
         }
 
     pub lively-cause : (fault : ClientFault) → Run fault → IsLivelyCause offer options since now fault
-    lively-cause faults.Exchange x = ends-by-rises laws traffic allows options since lawful start covered.tells served limit lively now pool.Exchange x.planned.run.events x.planned.run.pool x.explains x.planned.run.runs x.planned.run.asks
-    lively-cause faults.Stalled x = ends-by-rises laws traffic allows options since lawful start covered.tells served limit lively now pool.Stalled x.planned.run.events x.planned.run.pool x.explains x.planned.run.runs x.planned.run.asks
-    lively-cause (faults.Cut received) x = ends-by-rises laws traffic allows options since lawful start covered.tells served limit lively now (pool.Cut received) x.planned.run.events x.planned.run.pool x.explains x.planned.run.runs x.planned.run.asks
+    lively-cause faults.Exchange x = ends-by-rises laws traffic allows options since lawful starts covered.tells served limit lively now pool.Exchange x.planned.run.events x.planned.run.pool x.explains x.planned.run.runs x.planned.run.asks
+    lively-cause faults.Stalled x = ends-by-rises laws traffic allows options since lawful starts covered.tells served limit lively now pool.Stalled x.planned.run.events x.planned.run.pool x.explains x.planned.run.runs x.planned.run.asks
+    lively-cause (faults.Cut received) x = ends-by-rises laws traffic allows options since lawful starts covered.tells served limit lively now (pool.Cut received) x.planned.run.events x.planned.run.pool x.explains x.planned.run.runs x.planned.run.asks
     lively-cause (faults.Reply fault received) x = tt
     lively-cause (faults.Page fault body) x = tt
     lively-cause (faults.Changed first other) x = tt

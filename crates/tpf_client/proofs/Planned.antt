@@ -1,34 +1,34 @@
 -- The run of a call, and what it asked for: a part of what one choice of its offer has to ask for.
-use Rattle.std.proofs.Common.{ℕ, ◌≡◌, ◌≤◌, ◌++◌, List, [], ◌∷◌, map, length, Option, Some, None, refl, sym, ap, subst, ◌∙◌, inl, inr, arith, append-nil}
-use Rattle.std.specs.Prelude.{◌⊎◌}
+use Rattle.std.proofs.Common.{ℕ, ◌≡◌, ◌≤◌, ◌++◌, List, [], ◌∷◌, map, length, Option, Some, None, refl, sym, ap, subst, ◌∙◌, arith, append-nil, append_assoc}
 use Rattle.std.specs.List.{AllByRecursion, Contains}
 use Rattle.std.specs.List.Sorted.{IsPermutation}
-use Rattle.std.proofs.lemmas.List.{length-append, length-map}
+use Rattle.std.proofs.lemmas.List.{length-append, length-map, map-append}
 use Rattle.std.proofs.lemmas.List.Elements.{All-contains, All-from_recursion, Contains-append_left}
-use Rattle.std.proofs.lemmas.List.Sorted.{IsPermutation-refl, IsPermutation-sym, IsPermutation-cons, Contains-permutation, length_permutation}
+use Rattle.std.proofs.lemmas.List.Sorted.{IsPermutation-refl, IsPermutation-sym, IsPermutation-append_right, Contains-permutation, length_permutation}
 use Rattle.list_laws.proofs.Members.{Contains-map}
 use Rattle.tpf_base.specs.Addresses.{Address}
 use Rattle.tpf_base.specs.Links.{WireState}
-use Rattle.template_fill.specs.Authorities.{ShareAuthority}
+use Rattle.fragment_page.specs.declared.page.Page.{Page}
 use Rattle.bgp_core.specs.Queries.{QueryData}
 use Rattle.bgp_core.specs.Solutions.{Places}
 use Rattle.request_pool.specs.Pools.{Pooled, Ask, held}
 use Rattle.request_pool.specs.Owned.{SuitsWire}
-use Rattle.join_core.specs.Nodes.{plan}
-use Rattle.join_core.specs.Worlds.{World}
+use Rattle.join_core.specs.Evaluations.{HasHome}
 use Rattle.tpf_client.specs.declared.options.Options.{Options}
 use Rattle.tpf_client.specs.declared.options.Report.{Report}
 use Rattle.tpf_client.specs.declared.fault.ClientFault.{ClientFault}
 use Rattle.tpf_client.specs.Traffic.{Event, IsLawful}
-use Rattle.tpf_client.specs.Causes.{Explains}
+use Rattle.tpf_client.specs.Causes.{Explains, Versions}
+use Rattle.tpf_client.specs.Told.{told_at}
+use Rattle.tpf_client.specs.Sources.{Sources}
 use Rattle.tpf_client.specs.Turns.{AsksAt, asked_in, address_of}
-use Rattle.tpf_client.specs.Starts.{start_ask}
-use Rattle.tpf_client.specs.Calls.{Returns, WritesSome, Before, Behind, AtEnd, RunsPool, ReadsStart, no_names_bound}
+use Rattle.tpf_client.specs.Starts.{start_ask, ReadsStarts, AsksStarts, versions_of}
+use Rattle.tpf_client.specs.Calls.{Returns, WritesSome, Before, Behind, AtEnd, RunsPool}
 use Rattle.tpf_client.specs.Offers.{Offer}
 use Rattle.tpf_client.specs.Requests.{TrafficLaws}
 use Rattle.tpf_client.proofs.Accounting.{asked-append}
-use Rattle.tpf_client.proofs.Homes.{start-alone}
-use Rattle.tpf_client.proofs.Going.{explains-later}
+use Rattle.tpf_client.proofs.Homes.{starts-alone, asked-starts}
+use Rattle.tpf_client.proofs.Going.{explains-later, explains-as}
 use Rattle.tpf_client.proofs.Fewest.{fewest}
 use Rattle.tpf_client.proofs.Covered.{SomeChoice, ChoiceBehind, Covered}
 use Rattle.tpf_client.proofs.Known.{begun}
@@ -38,32 +38,37 @@ pub at-member : {X : Type 0} (P : X → Type 0) (xs : List X) (x : X) → AllByR
 at-member P xs x a c = All-contains P xs x (All-from_recursion P xs a) c
 
 -- what a call did, from a pool that holds nothing
-pub record RunOf (allows : List ℕ → ℕ → List ℕ → List ℕ → Type 0) (options : Options) (start : Address) (since now : WireState) : Type 0 where
+pub record RunOf (allows : List ℕ → ℕ → List ℕ → List ℕ → Type 0) (options : Options) (starts : List Address) (since now : WireState) : Type 0 where
   pub events : List Event
   pub pool : Pooled
   pub runs : RunsPool allows options since now events pool
-  pub asks : AsksAt start events
+  pub asks : AsksAt starts events
 
-module _ (allows : List ℕ → ℕ → List ℕ → List ℕ → Type 0) (options : Options) (since now : WireState) (start : Address) (q : QueryData) where
+module _ (allows : List ℕ → ℕ → List ℕ → List ℕ → Type 0) (options : Options) (since now : WireState) (starts : List Address) (sources : Sources) (q : QueryData) where
   abbrev Runs : List Event → Pooled → Type 0
   Runs events pool = RunsPool allows options since now events pool
 
-  abbrev pub returns-run : (report : Report) (rows : List Places) → Returns Runs q start report rows → RunOf allows options start since now
+  abbrev pub returns-run : (report : Report) (rows : List Places) → Returns Runs sources q starts report rows → RunOf allows options starts since now
   returns-run report rows r = record { events = r.first ++ r.later; pool = r.pool; runs = r.runs; asks = r.asks }
 
-  abbrev pub some-run : (fault : ClientFault) (t u : Option (List ℕ)) → WritesSome Runs q start options.budget fault t u → RunOf allows options start since now
-  some-run fault t u (Before b) = record { events = b.events; pool = b.pool; runs = b.runs; asks = start-alone start b.events b.asked }
+  abbrev pub some-run : (fault : ClientFault) (t u : Option (List ℕ)) → WritesSome Runs sources q starts options.budget fault t u → RunOf allows options starts since now
+  some-run fault t u (Before b) = record { events = b.events; pool = b.pool; runs = b.runs; asks = starts-alone starts b.events b.asked }
   some-run fault t u (Behind b) = record { events = b.first ++ b.later; pool = b.pool; runs = b.runs; asks = b.asks }
   some-run fault t u (AtEnd b) = record { events = b.first ++ b.later; pool = b.pool; runs = b.runs; asks = b.asks }
 
 -- where all was answered, as many requests were started as asks were put, or more
-module _ (traffic : TrafficLaws) (allows : List ℕ → ℕ → List ℕ → List ℕ → Type 0) (options : Options) (since now : WireState) (lawful : IsLawful allows since) (start : Address) where
+module _ (traffic : TrafficLaws) (allows : List ℕ → ℕ → List ℕ → List ℕ → Type 0) (options : Options) (since now : WireState) (lawful : IsLawful allows since) (starts : List Address) where
   begun-suits : SuitsWire (begun options) since
   begun-suits = record { polled = tt; due = tt; owned = λ k. omega arith }
 
-  pub least-started : (run : RunOf allows options start since now) → run.pool.fault ≡ None → held run.pool ≡ [] → length (asked_in run.events) ≤ run.pool.started
+  pub least-started : (run : RunOf allows options starts since now) → run.pool.fault ≡ None → held run.pool ≡ [] → length (asked_in run.events) ≤ run.pool.started
   least-started run none empty =
       fewest traffic.puts_few traffic.steps_few traffic.tries allows run.events (begun options) run.pool since run.runs.between lawful.given begun-suits (traffic.empty_few options.links options.retries options.budget options.max_body) refl run.runs.travels none empty
+
+-- the addresses of the starts
+starts-addresses : (starts : List Address) → map address_of (map start_ask starts) ≡ starts
+starts-addresses [] = refl
+starts-addresses (start ∷ starts) = ap (λ (l : List Address). start ∷ l) (starts-addresses starts)
 
 -- ---- over an offer
 
@@ -97,55 +102,55 @@ module _ (offer : Offer) where
       let e : length {A = Address} [] ≡ 0 = refl in
       omega (arith, a, b, c, d, e)
 
-  module _ (q : QueryData) (start : Address) where
-    -- the start alone, or nothing
-    alone-plan : (s : SomeChoice offer start) (events : List Event) → (asked_in events ≡ start_ask start ∷ []) ⊎ (asked_in events ≡ []) → OfPlan (asked_in events) s.choice
-    alone-plan s events (inl e) = record {
-      is_choice = s.is_choice;
-      rest = s.rest;
-      plan_is = subst (λ (l : List Address). IsPermutation l (map address_of (asked_in events) ++ s.rest)) s.addresses
-          (subst (λ (l : List Ask). IsPermutation (start ∷ s.rest) (map address_of l ++ s.rest)) (sym e) (IsPermutation-refl (start ∷ s.rest)));
-    }
-    alone-plan s events (inr e) = record {
-      is_choice = s.is_choice;
-      rest = start ∷ s.rest;
-      plan_is = subst (λ (l : List Address). IsPermutation l (map address_of (asked_in events) ++ start ∷ s.rest)) s.addresses
-          (subst (λ (l : List Ask). IsPermutation (start ∷ s.rest) (map address_of l ++ start ∷ s.rest)) (sym e) (IsPermutation-refl (start ∷ s.rest)));
-    }
-
-    abbrev plan-of : World → List Address
-    plan-of world = plan world q.patterns (no_names_bound q)
-
-    -- the start, and these behind it
-    behind-plan : (first later : List Event) (reads : ReadsStart start first) (c : ChoiceBehind offer q start first later reads) (rest : List Address) → IsPermutation (plan-of c.world) (map address_of (asked_in later) ++ rest) → OfPlan (asked_in (first ++ later)) c.choice
-    behind-plan first later reads c rest p =
-        let asks : asked_in (first ++ later) ≡ start_ask start ∷ asked_in later = asked-append first later ∙ ap (λ (l : List Ask). l ++ asked_in later) reads.asked in
+  module _ (q : QueryData) (starts : List Address) where
+    -- the first of the starts, or nothing
+    alone-plan : (s : SomeChoice offer starts) (events : List Event) → AsksStarts starts events → OfPlan (asked_in events) s.choice
+    alone-plan s events a =
+        let same : map address_of (asked_in events) ++ (a.later ++ s.rest) ≡ offer.addresses s.choice =
+        ap (λ (l : List Ask). map address_of l ++ (a.later ++ s.rest)) a.asked
+        ∙ (ap (λ (l : List Address). l ++ (a.later ++ s.rest)) (starts-addresses a.first)
+        ∙ (sym (append_assoc a.first a.later s.rest) ∙ (ap (λ (l : List Address). l ++ s.rest) (sym a.starts_are) ∙ s.addresses))) in
         record {
-          is_choice = c.is_choice;
-          rest = rest;
-          plan_is = subst (λ (l : List Address). IsPermutation l (map address_of (asked_in (first ++ later)) ++ rest)) c.addresses
-              (subst (λ (l : List Ask). IsPermutation (start ∷ plan-of c.world) (map address_of l ++ rest)) (sym asks) (IsPermutation-cons start (plan-of c.world) (map address_of (asked_in later) ++ rest) p));
+          is_choice = s.is_choice;
+          rest = a.later ++ s.rest;
+          plan_is = subst (λ (l : List Address). IsPermutation (offer.addresses s.choice) l) (sym same) (IsPermutation-refl (offer.addresses s.choice));
         }
 
-    whole-plan : (first later : List Event) (reads : ReadsStart start first) (c : ChoiceBehind offer q start first later reads) → IsPermutation (plan-of c.world) (map address_of (asked_in later)) → OfPlan (asked_in (first ++ later)) c.choice
-    whole-plan first later reads c p =
-        behind-plan first later reads c [] (subst (λ (l : List Address). IsPermutation (plan-of c.world) l) (sym (append-nil (map address_of (asked_in later)))) p)
+    module _ (sources : Sources) where
+      -- the starts, and these behind them
+      behind-plan : (first later : List Event) (told : List Page) (reads : ReadsStarts starts told first) (c : ChoiceBehind sources offer q starts first later told reads) (rest : List Address) → IsPermutation (sources.plan c.source q) (map address_of (asked_in later) ++ rest)
+          → OfPlan (asked_in (first ++ later)) c.choice
+      behind-plan first later told reads c rest p =
+          let asks : asked_in (first ++ later) ≡ map start_ask starts ++ asked_in later = asked-append first later ∙ ap (λ (l : List Ask). l ++ asked_in later) (asked-starts starts told first reads) in
+          let whole : map address_of (asked_in (first ++ later)) ++ rest ≡ starts ++ (map address_of (asked_in later) ++ rest) =
+          ap (λ (l : List Ask). map address_of l ++ rest) asks
+          ∙ (ap (λ (l : List Address). l ++ rest) (map-append address_of (map start_ask starts) (asked_in later) ∙ ap (λ (l : List Address). l ++ map address_of (asked_in later)) (starts-addresses starts)) ∙ append_assoc starts (map address_of (asked_in later)) rest) in
+          record {
+            is_choice = c.is_choice;
+            rest = rest;
+            plan_is = subst (λ (l : List Address). IsPermutation l (map address_of (asked_in (first ++ later)) ++ rest)) c.addresses
+                (subst (λ (l : List Address). IsPermutation (starts ++ sources.plan c.source q) l) (sym whole) (IsPermutation-append_right starts (sources.plan c.source q) (map address_of (asked_in later) ++ rest) p));
+          }
+
+      whole-plan : (first later : List Event) (told : List Page) (reads : ReadsStarts starts told first) (c : ChoiceBehind sources offer q starts first later told reads) → IsPermutation (sources.plan c.source q) (map address_of (asked_in later)) → OfPlan (asked_in (first ++ later)) c.choice
+      whole-plan first later told reads c p =
+          behind-plan first later told reads c [] (subst (λ (l : List Address). IsPermutation (sources.plan c.source q) l) (sym (append-nil (map address_of (asked_in later)))) p)
 
 -- ---- runs
 
-module _ (allows : List ℕ → ℕ → List ℕ → List ℕ → Type 0) (offer : Offer) (options : Options) (since now : WireState) (start : Address) where
+module _ (allows : List ℕ → ℕ → List ℕ → List ℕ → Type 0) (offer : Offer) (options : Options) (since now : WireState) (starts : List Address) where
   -- a run that asked for a part of what a choice has to ask for
   pub record PlannedRun : Type 0 where
-    pub run : RunOf allows options start since now
+    pub run : RunOf allows options starts since now
     pub choice : offer.Choice
     pub of_plan : OfPlan offer (asked_in run.events) choice
 
-  -- a run that ended with a fault, by the version that the choice has at the addresses of the call
+  -- a run that ended with a fault, by the versions that the choice has at the addresses of the call
   pub record ExplainedRun (fault : ClientFault) : Type 0 where
     pub planned : PlannedRun
-    pub version : ℕ
-    pub has : (address : Address) → ShareAuthority start address → offer.HasVersion planned.choice address version
-    pub explains : Explains (Some version) options.budget fault planned.run.events
+    pub versions : Address → ℕ
+    pub has : (address : Address) → HasHome starts address → offer.HasVersion planned.choice address (versions address)
+    pub explains : Explains (λ address. Some (versions address)) options.budget fault planned.run.events
 
   -- a run that asked for all that the choice has to ask for that is reported, and was answered
   pub record WholeRun (report : Report) : Type 0 where
@@ -156,14 +161,14 @@ module _ (allows : List ℕ → ℕ → List ℕ → List ℕ → Type 0) (offer
     pub is_reported : offer.IsReported planned.choice report.version
     pub requests : report.requests ≡ planned.run.pool.started
 
-module _ (allows : List ℕ → ℕ → List ℕ → List ℕ → Type 0) (offer : Offer) (options : Options) (since now : WireState) (start : Address) (q : QueryData) (covered : Covered offer allows options since now start q) where
-  pub returns-whole : (report : Report) (rows : List Places) → Returns (RunsPool allows options since now) q start report rows → WholeRun allows offer options since now start report
+module _ (allows : List ℕ → ℕ → List ℕ → List ℕ → Type 0) (sources : Sources) (offer : Offer) (options : Options) (since now : WireState) (starts : List Address) (q : QueryData) (covered : Covered sources offer allows options since now starts q) where
+  pub returns-whole : (report : Report) (rows : List Places) → Returns (RunsPool allows options since now) sources q starts report rows → WholeRun allows offer options since now starts report
   unfolding whole-plan behind-plan
   returns-whole report rows r =
-      let c = covered.behind r.first r.later r.pool r.runs r.reads in
-      let g = r.gives c.world c.is_world in
+      let c = covered.behind r.first r.later r.pool r.runs r.asks r.told r.reads in
+      let g = r.gives c.source c.is_source in
       record {
-        planned = record { run = returns-run allows options since now start q report rows r; choice = c.choice; of_plan = whole-plan offer q start r.first r.later r.reads c g.plan_is };
+        planned = record { run = returns-run allows options since now starts sources q report rows r; choice = c.choice; of_plan = whole-plan offer q starts sources r.first r.later r.told r.reads c g.plan_is };
         none_left = refl;
         none_held = r.none_held;
         no_fault = r.no_fault;
@@ -171,43 +176,43 @@ module _ (allows : List ℕ → ℕ → List ℕ → List ℕ → Type 0) (offer
         requests = r.requests;
       }
 
-  told-by : (told : Option ℕ) (version : ℕ) (fault : ClientFault) (first later : List Event) → told ≡ Some version → Explains told options.budget fault later → Explains (Some version) options.budget fault (first ++ later)
-  told-by told version fault first later e x = explains-later (Some version) options.budget fault first later (subst (λ (o : Option ℕ). Explains o options.budget fault later) e x)
+  told-by : (told versions : Versions) (fault : ClientFault) (first later : List Event) → ((address : Address) → told address ≡ versions address) → Explains told options.budget fault later → Explains versions options.budget fault (first ++ later)
+  told-by told versions fault first later same x = explains-later versions options.budget fault first later (explains-as told versions options.budget fault later same x)
 
-  pub some-explained : (fault : ClientFault) (t u : Option (List ℕ)) → WritesSome (RunsPool allows options since now) q start options.budget fault t u → ExplainedRun allows offer options since now start fault
+  pub some-explained : (fault : ClientFault) (t u : Option (List ℕ)) → WritesSome (RunsPool allows options since now) sources q starts options.budget fault t u → ExplainedRun allows offer options since now starts fault
   some-explained fault t u (Before b) = record {
     planned = record {
-      run = record { events = b.events; pool = b.pool; runs = b.runs; asks = start-alone start b.events b.asked };
+      run = record { events = b.events; pool = b.pool; runs = b.runs; asks = starts-alone starts b.events b.asked };
       choice = covered.begins.choice;
-      of_plan = alone-plan offer q start covered.begins b.events b.asked;
+      of_plan = alone-plan offer q starts covered.begins b.events b.asked;
     };
-    version = covered.begins.version;
+    versions = covered.begins.versions;
     has = covered.begins.has;
-    explains = b.explains (Some covered.begins.version);
+    explains = b.explains (λ address. Some (covered.begins.versions address));
   }
   some-explained fault t u (Behind b) =
-      let c = covered.behind b.first b.later b.pool b.runs b.reads in
-      let g = b.gives c.world c.is_world in
+      let c = covered.behind b.first b.later b.pool b.runs b.asks b.told b.reads in
+      let g = b.gives c.source c.is_source in
       record {
         planned = record {
           run = record { events = b.first ++ b.later; pool = b.pool; runs = b.runs; asks = b.asks };
           choice = c.choice;
-          of_plan = behind-plan offer q start b.first b.later b.reads c g.rest g.plan_is;
+          of_plan = behind-plan offer q starts sources b.first b.later b.told b.reads c g.rest g.plan_is;
         };
-        version = c.version;
+        versions = c.versions;
         has = c.has;
-        explains = told-by b.reads.page.version c.version fault b.first b.later c.told b.explains;
+        explains = told-by (told_at starts (versions_of b.told)) (λ address. Some (c.versions address)) fault b.first b.later c.tells b.explains;
       }
   some-explained fault t u (AtEnd b) =
-      let c = covered.behind b.first b.later b.pool b.runs b.reads in
-      let g = b.gives c.world c.is_world in
+      let c = covered.behind b.first b.later b.pool b.runs b.asks b.told b.reads in
+      let g = b.gives c.source c.is_source in
       record {
         planned = record {
           run = record { events = b.first ++ b.later; pool = b.pool; runs = b.runs; asks = b.asks };
           choice = c.choice;
-          of_plan = whole-plan offer q start b.first b.later b.reads c g.plan_is;
+          of_plan = whole-plan offer q starts sources b.first b.later b.told b.reads c g.plan_is;
         };
-        version = c.version;
+        versions = c.versions;
         has = c.has;
-        explains = told-by b.reads.page.version c.version fault b.first b.later c.told b.explains;
+        explains = told-by (told_at starts (versions_of b.told)) (λ address. Some (c.versions address)) fault b.first b.later c.tells b.explains;
       }

@@ -7,7 +7,7 @@ use Rattle.std.proofs.lemmas.List.Sums.{sum_by-cons, sum_by-append}
 use Rattle.std.proofs.lemmas.List.Sorted.{sum_by-IsPermutation}
 use Rattle.tpf_base.specs.Addresses.{Address}
 use Rattle.tpf_base.specs.Links.{WireState}
-use Rattle.template_fill.specs.Authorities.{ShareAuthority}
+use Rattle.join_core.specs.Evaluations.{HasHome}
 use Rattle.bgp_core.specs.Queries.{QueryData}
 use Rattle.request_pool.specs.Pools.{Pooled, Ask, held}
 use Rattle.pool_laws.specs.Requested.{LastRequest, NoneWhole, Unanswered, Replied, LinkRequests, TellsRequests, RequestedSince, AnsweredSince, SentByRises, addresses_of as links_addresses, last_whole, last_answered, whole_requests, whole_answers, over_links, count_sent, count_answered, any}
@@ -16,6 +16,7 @@ use Rattle.tpf_client.specs.declared.options.Options.{Options}
 use Rattle.tpf_client.specs.declared.options.Report.{Report}
 use Rattle.tpf_client.specs.Traffic.{IsLawful, without_fault}
 use Rattle.tpf_client.specs.Turns.{asked_in, address_of}
+use Rattle.tpf_client.specs.Sources.{Sources}
 use Rattle.tpf_client.specs.Offers.{Offer}
 use Rattle.tpf_client.specs.Honest.{Laws}
 use Rattle.tpf_client.specs.Requests.{TrafficLaws}
@@ -111,9 +112,9 @@ shut p = record p { waiting = []; polled = []; due = []; spare = [] }
 
 -- ---- what was requested, and what was answered
 
-module _ (laws : Laws) (traffic : TrafficLaws) (allows : List ℕ → ℕ → List ℕ → List ℕ → Type 0) (options : Options) (since now : WireState) (lawful : IsLawful allows since) (start : Address) where
+module _ (laws : Laws) (traffic : TrafficLaws) (allows : List ℕ → ℕ → List ℕ → List ℕ → Type 0) (options : Options) (since now : WireState) (lawful : IsLawful allows since) (starts : List Address) where
   abbrev IsAt : Ask → Type 0
-  IsAt ask = ShareAuthority start ask.address
+  IsAt ask = HasHome starts ask.address
 
   abbrev WereRequested : List Ask → Pooled → WireState → Type 0
   WereRequested asks p v = RequestedSince (map address_of asks) since p v
@@ -139,25 +140,25 @@ module _ (laws : Laws) (traffic : TrafficLaws) (allows : List ℕ → ℕ → Li
     breaks = λ asks fault p q v w at i t kept none. absurd (not-some q.fault fault kept none);
   }
 
-  requested-so : (run : RunOf allows options start since now) → RequestedSince (map address_of (asked_in run.events)) since (shut run.pool) now
+  requested-so : (run : RunOf allows options starts since now) → RequestedSince (map address_of (asked_in run.events)) since (shut run.pool) now
   requested-so run =
-      let i = with-asks allows (begun options) IsAt WereRequested requested-kept run.events (begun options) run.pool since run.runs.between (begun-between laws traffic start options allows since lawful IsAt) run.asks
+      let i = with-asks allows (begun options) IsAt WereRequested requested-kept run.events (begun options) run.pool since run.runs.between (begun-between laws traffic starts options allows since lawful IsAt) run.asks
       (traffic.empty_requested options.links options.retries options.budget options.max_body since) run.runs.travels in
       traffic.closing_requested (map address_of (asked_in run.events)) since run.pool (shut run.pool) run.runs.between now i refl run.runs.closes
 
-  pub answered-so : (run : RunOf allows options start since now) → run.pool.fault ≡ None → held run.pool ≡ [] → AnsweredSince (map address_of (asked_in run.events)) since (shut run.pool) now
+  pub answered-so : (run : RunOf allows options starts since now) → run.pool.fault ≡ None → held run.pool ≡ [] → AnsweredSince (map address_of (asked_in run.events)) since (shut run.pool) now
   answered-so run none empty =
-      let i = with-asks allows (begun options) IsAt WereAnswered answered-kept run.events (begun options) run.pool since run.runs.between (begun-between laws traffic start options allows since lawful IsAt) run.asks
+      let i = with-asks allows (begun options) IsAt WereAnswered answered-kept run.events (begun options) run.pool since run.runs.between (begun-between laws traffic starts options allows since lawful IsAt) run.asks
       (λ e. traffic.empty_answered options.links options.retries options.budget options.max_body since) run.runs.travels in
       traffic.closing_answered (map address_of (asked_in run.events)) since run.pool (shut run.pool) run.runs.between now (i none) empty refl run.runs.closes
 
-  module _ (limit : options.max_body < 2 ^ 64) (offer : Offer) (q : QueryData) (covered : Covered offer allows options since now start q) where
-    abbrev addresses : PlannedRun allows offer options since now start → List Address
+  module _ (limit : options.max_body < 2 ^ 64) (sources : Sources) (offer : Offer) (q : QueryData) (covered : Covered sources offer allows options since now starts q) where
+    abbrev addresses : PlannedRun allows offer options since now starts → List Address
     addresses x = offer.addresses x.choice
 
-    call-requests : (x : PlannedRun allows offer options since now start) → RequestedSince (map address_of (asked_in x.run.events)) since (shut x.run.pool) now → CallRequests options (addresses x) since now
+    call-requests : (x : PlannedRun allows offer options since now starts) → RequestedSince (map address_of (asked_in x.run.events)) since (shut x.run.pool) now → CallRequests options (addresses x) since now
     call-requests x h =
-        let bounds = same-pool laws traffic allows options since now lawful start x.run.events x.run.pool x.run.asks x.run.runs in
+        let bounds = same-pool laws traffic allows options since now lawful starts x.run.events x.run.pool x.run.asks x.run.runs in
         let same : x.run.pool.limit ≡ options.max_body = ap (λ (p : Pooled). p.limit) bounds in
         record {
           on = h.requests;
@@ -168,10 +169,10 @@ module _ (laws : Laws) (traffic : TrafficLaws) (allows : List ℕ → ℕ → Li
         }
 
     -- where failures are rises
-    by-rises : (x : PlannedRun allows offer options since now start) (h : RequestedSince (map address_of (asked_in x.run.events)) since (shut x.run.pool) now) → since.nature.lively ≡ true
+    by-rises : (x : PlannedRun allows offer options since now starts) (h : RequestedSince (map address_of (asked_in x.run.events)) since (shut x.run.pool) now) → since.nature.lively ≡ true
         → SentByRises since.faults (length (addresses x)) (count_sent any h.requests since now) now.faults
     by-rises x h alive =
-        let i = rises-of laws traffic allows options since now lawful limit start offer q covered alive x in
+        let i = rises-of laws traffic allows options since now lawful limit starts sources offer q covered alive x in
         let closes = x.run.runs.closes.faults in
         let later = i.later in
         let few = i.few in
@@ -189,20 +190,20 @@ module _ (laws : Laws) (traffic : TrafficLaws) (allows : List ℕ → ℕ → Li
         let sum = s.few in
         record { failures = s.failures; all = s.all; few = omega (arith, sum, most) }
 
-    pub requests-plan : PlannedRun allows offer options since now start → RequestsPlan offer options since now
+    pub requests-plan : PlannedRun allows offer options since now starts → RequestsPlan offer options since now
     unfolding call-requests
     requests-plan x =
         let h = requested-so x.run in
         record { choice = x.choice; is_choice = x.of_plan.is_choice; requests = call-requests x h; rises = λ alive. by-rises x h alive }
 
-    pub requests-choice : (x : PlannedRun allows offer options since now start) → (requests-plan x).choice ≡ x.choice
+    pub requests-choice : (x : PlannedRun allows offer options since now starts) → (requests-plan x).choice ≡ x.choice
     unfolding requests-plan
     requests-choice x = refl
 
     at-most : (all most n : ℕ) → all ≤ most + n → n ≡ 0 → all ≤ most
     at-most all most n h z = omega (arith, h, z)
 
-    pub answers-plan : (report : Report) → WholeRun allows offer options since now start report → AnswersPlan offer options report since now
+    pub answers-plan : (report : Report) → WholeRun allows offer options since now starts report → AnswersPlan offer options report since now
     unfolding call-requests
     answers-plan report w =
         let x = w.planned in

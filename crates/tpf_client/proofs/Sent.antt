@@ -18,7 +18,7 @@ use Rattle.tpf_client.proofs.Keeping.{IsKeptBy, by-events}
 use Rattle.tpf_client.proofs.Known.{begun, begun-between}
 use Rattle.tpf_client.proofs.Planned.{RunOf}
 
-module _ (laws : Laws) (traffic : TrafficLaws) (allows : List ℕ → ℕ → List ℕ → List ℕ → Type 0) (options : Options) (since : WireState) (lawful : IsLawful allows since) (start : Address) (asked : List Address) where
+module _ (laws : Laws) (traffic : TrafficLaws) (allows : List ℕ → ℕ → List ℕ → List ℕ → Type 0) (options : Options) (since : WireState) (lawful : IsLawful allows since) (starts : List Address) (asked : List Address) where
   sent-kept : IsKeptBy allows (begun options) (λ ask. Contains asked ask.address) (λ n p v. SentSince (Contains asked) since p v)
   sent-kept = record {
     puts = λ n ask p v c web i. traffic.puts_sent asked since ask.ticket ask.address p v c i;
@@ -29,15 +29,15 @@ module _ (laws : Laws) (traffic : TrafficLaws) (allows : List ℕ → ℕ → Li
   sends-only : (now : WireState) (events : List Event) (p : Pooled) → AllByRecursion (λ ask. Contains asked ask.address) (asked_in events) → RunsPool allows options since now events p → SendsOnly asked since now
   sends-only now events p a r =
       let i = by-events allows (begun options) (λ ask. Contains asked ask.address) (λ n x v. SentSince (Contains asked) since x v) sent-kept events (begun options) p since r.between
-      (begun-between laws traffic start options allows since lawful (λ ask. Contains asked ask.address)) a (traffic.empty_sent asked options.links options.retries options.budget options.max_body since) r.travels in
+      (begun-between laws traffic starts options allows since lawful (λ ask. Contains asked ask.address)) a (traffic.empty_sent asked options.links options.retries options.budget options.max_body since) r.travels in
       let c = traffic.closing_sent asked since p (record p { waiting = []; polled = []; due = []; spare = [] }) r.between now i refl r.closes in
       λ k low high. c.given k low high
 
-module _ (laws : Laws) (traffic : TrafficLaws) (allows : List ℕ → ℕ → List ℕ → List ℕ → Type 0) (options : Options) (since now : WireState) (lawful : IsLawful allows since) (start : Address) where
-  pub sends-asked : (run : RunOf allows options start since now) → SendsOnly (map address_of (asked_in run.events)) since now
+module _ (laws : Laws) (traffic : TrafficLaws) (allows : List ℕ → ℕ → List ℕ → List ℕ → Type 0) (options : Options) (since now : WireState) (lawful : IsLawful allows since) (starts : List Address) where
+  pub sends-asked : (run : RunOf allows options starts since now) → SendsOnly (map address_of (asked_in run.events)) since now
   sends-asked run =
       let addresses = map address_of (asked_in run.events) in
-      sends-only laws traffic allows options since lawful start addresses now run.events run.pool (all_from (λ ask. Contains addresses ask.address) (asked_in run.events) (λ ask c. Contains-map address_of (asked_in run.events) ask c)) run.runs
+      sends-only laws traffic allows options since lawful starts addresses now run.events run.pool (all_from (λ ask. Contains addresses ask.address) (asked_in run.events) (λ ask c. Contains-map address_of (asked_in run.events) ask c)) run.runs
 
-  pub sends-so : (run : RunOf allows options start since now) → SendsAsked allows options start since now
+  pub sends-so : (run : RunOf allows options starts since now) → SendsAsked allows options starts since now
   sends-so run = record { events = run.events; pool = run.pool; runs = run.runs; asks = run.asks; sent = sends-asked run }

@@ -1,5 +1,5 @@
 -- A call over an honest wire to one server is covered by what that server offers.
-use Rattle.std.proofs.Common.{ℕ, ◌≡◌, ◌<◌, ◌^◌, ◌++◌, ◌&&◌, Bool, true, if◌then◌else◌, List, [], ◌∷◌, refl, sym, ap, subst}
+use Rattle.std.proofs.Common.{ℕ, ◌≡◌, ◌<◌, ◌^◌, ◌++◌, ◌&&◌, Bool, true, if◌then◌else◌, List, [], ◌∷◌, Some, refl, sym, ap, subst}
 use Rattle.std.specs.Str.{bytes_eq}
 use Rattle.tpf_base.specs.Addresses.{Address, authority_of}
 use Rattle.tpf_base.specs.Links.{WireState}
@@ -12,11 +12,18 @@ use Rattle.join_core.specs.Nodes.{plan}
 use Rattle.plan_laws.specs.Servers.{server_world}
 use Rattle.tpf_client.specs.declared.options.Options.{Options}
 use Rattle.tpf_client.specs.Traffic.{Event, IsLawful}
-use Rattle.tpf_client.specs.Calls.{RunsPool, ReadsStart, no_names_bound}
+use Rattle.fragment_page.specs.declared.page.Page.{Page}
+use Rattle.join_core.specs.Beginnings.{no_names_bound}
+use Rattle.tpf_client.specs.Turns.{AsksAt}
+use Rattle.tpf_client.specs.Told.{told_at, first_of}
+use Rattle.tpf_client.specs.Starts.{ReadsStarts, forms_of, versions_of}
+use Rattle.tpf_client.specs.Sources.{IsSourceOf, world_sources}
+use Rattle.tpf_client.specs.Calls.{RunsPool}
 use Rattle.tpf_client.specs.Offers.{Publisher, IsVersionOf, is_served, addresses_of, server_offer}
 use Rattle.tpf_client.specs.Honest.{Laws, IsHonestWire}
 use Rattle.tpf_client.specs.Plans.{AtEach}
 use Rattle.tpf_client.proofs.Covered.{SomeChoice, ChoiceBehind, Covered}
+use Rattle.tpf_client.proofs.Homes.{one-read}
 use Rattle.tpf_client.proofs.Headline.{start-is-served, world-of, first-version}
 
 module _ (laws : Laws) (allows : List ℕ → ℕ → List ℕ → List ℕ → Type 0) (options : Options) (since now : WireState) (lawful : IsLawful allows since) (limit : options.max_body < 2 ^ 64)
@@ -34,33 +41,34 @@ module _ (laws : Laws) (allows : List ℕ → ℕ → List ℕ → List ℕ → 
   served-whole : (version : ℕ) → is_served p start version ≡ true → start ∷ whole version ≡ addresses_of p q start version
   served-whole version e = ap (λ (l : List Address). start ∷ l) (sym (ap (λ (b : Bool). if b then whole version else []) e))
 
-  first-choice : SomeChoice (server_offer p q start) start
+  first-choice : SomeChoice (server_offer p q start) (start ∷ [])
   first-choice = record {
     choice = 1;
     is_choice = first-version laws allows p.history p.config options since now honest lawful limit start;
-    version = 1;
+    versions = λ address. 1;
     has = λ address own. refl;
     rest = rest 1;
     addresses = refl;
   }
 
-  choice-behind : (first later : List Event) (pool : Pooled) → RunsPool allows options since now (first ++ later) pool → (reads : ReadsStart start first) → ChoiceBehind (server_offer p q start) q start first later reads
-  choice-behind first later pool r reads =
-      let v = world-of laws allows p.history p.config options since now honest lawful limit start first later pool r reads in
+  choice-behind : (first later : List Event) (pool : Pooled) → RunsPool allows options since now (first ++ later) pool → AsksAt (start ∷ []) (first ++ later) → (told : List Page) (reads : ReadsStarts (start ∷ []) told first) → ChoiceBehind world_sources (server_offer p q start) q (start ∷ []) first later told reads
+  choice-behind first later pool r asks told reads =
+      let o = one-read start told first reads in
+      let v = world-of laws allows p.history p.config options since now honest lawful limit start first later pool r o.page o.reads in
       record {
         choice = v.0;
         is_choice = v.1;
-        version = v.0;
-        told = v.2;
-        is_reported = v.2;
+        versions = λ address. v.0;
+        tells = λ address. subst (λ (l : List Page). told_at (start ∷ []) (versions_of l) address ≡ Some v.0) (sym o.is) v.2;
+        is_reported = subst (λ (l : List Page). first_of (versions_of l) ≡ Some v.0) (sym o.is) v.2;
         has = λ address own. refl;
-        world = server_world (version_of p.history v.0) p.config;
-        is_world = v.3;
+        source = server_world (version_of p.history v.0) p.config;
+        is_source = subst (λ (l : List Page). IsSourceOf world_sources (server_world (version_of p.history v.0) p.config) (forms_of l) (told_at (start ∷ []) (versions_of l)) later) (sym o.is) v.3;
         rows = refl;
-        addresses = served-whole v.0 (is-served v.0 (start-is-served laws allows p.history p.config options since now honest lawful limit start first later pool v.0 r reads v.2));
+        addresses = served-whole v.0 (is-served v.0 (start-is-served laws allows p.history p.config options since now honest lawful limit start first later pool v.0 r o.page o.reads v.2));
       }
 
-  pub server-covered : Covered (server_offer p q start) allows options since now start q
+  pub server-covered : Covered world_sources (server_offer p q start) allows options since now (start ∷ []) q
   server-covered = record {
     tells = honest.tells;
     begins = first-choice;

@@ -12,6 +12,7 @@ use Rattle.tpf_client.specs.declared.options.Options.{Options}
 use Rattle.tpf_client.specs.declared.options.Report.{Report}
 use Rattle.tpf_client.specs.declared.fault.ClientFault.{ClientFault}
 use Rattle.tpf_client.specs.Traffic.{Event, Travels}
+use Rattle.tpf_client.specs.Sources.{Sources}
 use Rattle.tpf_client.specs.Shown.{ShowsGiven}
 use Rattle.tpf_client.specs.Calls.{Ran, RunsPool, Returns, WritesAll, WritesSome, Before, Behind, AtEnd}
 
@@ -57,12 +58,13 @@ either-on (Ok x) P Q S p q f g = f p
 either-on (Err e) P Q S p q f g = g e q
 
 module _ (ran ran' : List Event → Pooled → Type 0) (goes : (events : List Event) (pool : Pooled) → ran events pool → ran' events pool) where
-  pub returns-so : (q : QueryData) (start : Address) (report : Report) (rows : List Places) → Returns ran q start report rows → Returns ran' q start report rows
-  returns-so q start report rows r = record {
+  pub returns-so : (sources : Sources) (q : QueryData) (starts : List Address) (report : Report) (rows : List Places) → Returns ran sources q starts report rows → Returns ran' sources q starts report rows
+  returns-so sources q starts report rows r = record {
     first = r.first;
     later = r.later;
     pool = r.pool;
     runs = goes (r.first ++ r.later) r.pool r.runs;
+    told = r.told;
     reads = r.reads;
     asks = r.asks;
     none_held = r.none_held;
@@ -75,20 +77,20 @@ module _ (ran ran' : List Event → Pooled → Type 0) (goes : (events : List Ev
     gives = r.gives;
   }
 
-  pub writes-all-so : (q : QueryData) (start : Address) (report : Report) (t u : Option (List ℕ)) → WritesAll ran q start report t u → WritesAll ran' q start report t u
-  writes-all-so q start report t u w = record { rows = w.rows; returns = returns-so q start report w.rows w.returns; text = w.text }
+  pub writes-all-so : (sources : Sources) (q : QueryData) (starts : List Address) (report : Report) (t u : Option (List ℕ)) → WritesAll ran sources q starts report t u → WritesAll ran' sources q starts report t u
+  writes-all-so sources q starts report t u w = record { rows = w.rows; returns = returns-so sources q starts report w.rows w.returns; text = w.text }
 
-  pub writes-some-so : (q : QueryData) (start : Address) (budget : ℕ) (fault : ClientFault) (t u : Option (List ℕ)) → WritesSome ran q start budget fault t u → WritesSome ran' q start budget fault t u
-  writes-some-so q start budget fault t u (Before b) = Before (record { events = b.events; pool = b.pool; runs = goes b.events b.pool b.runs; asked = b.asked; explains = b.explains; nothing = b.nothing })
-  writes-some-so q start budget fault t u (Behind b) = Behind (record { first = b.first; later = b.later; pool = b.pool; runs = goes (b.first ++ b.later) b.pool b.runs; reads = b.reads; asks = b.asks; explains = b.explains; rows = b.rows; gives = b.gives; text = b.text })
-  writes-some-so q start budget fault t u (AtEnd b) = AtEnd (record { first = b.first; later = b.later; pool = b.pool; runs = goes (b.first ++ b.later) b.pool b.runs; reads = b.reads; asks = b.asks; explains = b.explains; rows = b.rows; gives = b.gives; text = b.text })
+  pub writes-some-so : (sources : Sources) (q : QueryData) (starts : List Address) (budget : ℕ) (fault : ClientFault) (t u : Option (List ℕ)) → WritesSome ran sources q starts budget fault t u → WritesSome ran' sources q starts budget fault t u
+  writes-some-so sources q starts budget fault t u (Before b) = Before (record { events = b.events; pool = b.pool; runs = goes b.events b.pool b.runs; asked = b.asked; explains = b.explains; nothing = b.nothing })
+  writes-some-so sources q starts budget fault t u (Behind b) = Behind (record { first = b.first; later = b.later; pool = b.pool; runs = goes (b.first ++ b.later) b.pool b.runs; told = b.told; reads = b.reads; asks = b.asks; explains = b.explains; rows = b.rows; gives = b.gives; text = b.text })
+  writes-some-so sources q starts budget fault t u (AtEnd b) = AtEnd (record { first = b.first; later = b.later; pool = b.pool; runs = goes (b.first ++ b.later) b.pool b.runs; told = b.told; reads = b.reads; asks = b.asks; explains = b.explains; rows = b.rows; gives = b.gives; text = b.text })
 
-  pub shows-some-so : (q : QueryData) (start : Address) (budget : ℕ) (fault : ClientFault) (before now : ℕ) (t u : Option (List ℕ)) (w : WritesSome ran q start budget fault t u)
-      → ShowsGiven ran q start budget fault before now t u w → ShowsGiven ran' q start budget fault before now t u (writes-some-so q start budget fault t u w)
+  pub shows-some-so : (sources : Sources) (q : QueryData) (starts : List Address) (budget : ℕ) (fault : ClientFault) (before now : ℕ) (t u : Option (List ℕ)) (w : WritesSome ran sources q starts budget fault t u)
+      → ShowsGiven ran sources q starts budget fault before now t u w → ShowsGiven ran' sources q starts budget fault before now t u (writes-some-so sources q starts budget fault t u w)
   unfolding writes-some-so
-  shows-some-so q start budget fault before now t u (Before b) s = s
-  shows-some-so q start budget fault before now t u (Behind b) s = s
-  shows-some-so q start budget fault before now t u (AtEnd b) s = s
+  shows-some-so sources q starts budget fault before now t u (Before b) s = s
+  shows-some-so sources q starts budget fault before now t u (Behind b) s = s
+  shows-some-so sources q starts budget fault before now t u (AtEnd b) s = s
 
 -- what the pool held is closed
 pub ran-closed : (allows : List ℕ → ℕ → List ℕ → List ℕ → Type 0) (options : Options) (begun new : Pooled) (since between now : WireState) → begun ≡ empty_pool options.links options.retries options.budget options.max_body → ClosesSome (held_on new) (λ k. 0) between now

@@ -6,7 +6,7 @@ use Rattle.std.proofs.lemmas.List.{length-map}
 use Rattle.tpf_base.specs.Addresses.{Address}
 use Rattle.tpf_base.specs.Causes.{RoseBy}
 use Rattle.tpf_base.specs.Links.{WireState}
-use Rattle.template_fill.specs.Authorities.{ShareAuthority}
+use Rattle.join_core.specs.Evaluations.{HasHome}
 use Rattle.bgp_core.specs.Queries.{QueryData}
 use Rattle.bgp_core.specs.Solutions.{Places}
 use Rattle.request_pool.specs.declared.fault.PoolFault.{PoolFault}
@@ -20,9 +20,10 @@ use Rattle.tpf_client.specs.declared.options.Report.{Report}
 use Rattle.tpf_client.specs.declared.fault.ClientFault.{ClientFault}
 use Rattle.tpf_client.specs.declared.fault.ClientFault.TheVariants as faults
 use Rattle.tpf_client.specs.Traffic.{Event, Broke, EndsWith, IsLawful, without_fault, Breaks}
-use Rattle.tpf_client.specs.Causes.{Explains}
+use Rattle.tpf_client.specs.Causes.{Explains, Versions}
 use Rattle.tpf_client.specs.Turns.{AsksAt, asked_in, address_of}
 use Rattle.tpf_client.specs.Calls.{Returns, WritesSome, RunsPool}
+use Rattle.tpf_client.specs.Sources.{Sources}
 use Rattle.tpf_client.specs.Offers.{Offer}
 use Rattle.tpf_client.specs.Honest.{Laws}
 use Rattle.tpf_client.specs.Requests.{TrafficLaws, tries_of}
@@ -54,9 +55,9 @@ less-than a b c l m = omega (arith, l, m)
 rose-same : (n before x y : ℕ) → y ≡ x → RoseBy n before x → RoseBy n before y
 rose-same n before x y e h = omega (arith, e, h)
 
-module _ (laws : Laws) (traffic : TrafficLaws) (allows : List ℕ → ℕ → List ℕ → List ℕ → Type 0) (options : Options) (since now : WireState) (lawful : IsLawful allows since) (start : Address) where
+module _ (laws : Laws) (traffic : TrafficLaws) (allows : List ℕ → ℕ → List ℕ → List ℕ → Type 0) (options : Options) (since now : WireState) (lawful : IsLawful allows since) (starts : List Address) where
   abbrev IsAt : Ask → Type 0
-  IsAt ask = ShareAuthority start ask.address
+  IsAt ask = HasHome starts ask.address
 
   abbrev WasSpent : ℕ → Pooled → WireState → Type 0
   WasSpent n p v = p.fault ≡ None → SpentSince since n p v
@@ -79,14 +80,14 @@ module _ (laws : Laws) (traffic : TrafficLaws) (allows : List ℕ → ℕ → Li
     few : p.started + length (held p) ≤ (now.given - since.given) + rises + length asked
     over : IsOverBudget (without_fault p)
 
-  spent-so : (events : List Event) (p : Pooled) → EndsWith (Broke pool.Budget) events → RunsPool allows options since now events p → AsksAt start events → Spent p
+  spent-so : (events : List Event) (p : Pooled) → EndsWith (Broke pool.Budget) events → RunsPool allows options since now events p → AsksAt starts events → Spent p
   spent-so events p e r a =
-      let x = ending laws traffic allows options since now lawful start events (Broke pool.Budget) p e r a in
+      let x = ending laws traffic allows options since now lawful starts events (Broke pool.Budget) p e r a in
       let h : Breaks pool.Budget x.mid p x.between r.between = x.last.happens in
-      let front = asks-front IsAt x.before (Broke pool.Budget ∷ []) (subst (λ (l : List Event). AsksAt start l) x.is_last a) in
-      let first = begun-between laws traffic start options allows since lawful IsAt in
+      let front = asks-front IsAt x.before (Broke pool.Budget ∷ []) (subst (λ (l : List Event). AsksAt starts l) x.is_last a) in
+      let first = begun-between laws traffic starts options allows since lawful IsAt in
       let answered : AnsweredSince (map address_of (asked_in x.before)) since x.mid x.between =
-      with-asks allows (begun options) IsAt (WereAnswered laws traffic allows options since now lawful start) (answered-kept laws traffic allows options since now lawful start) x.before (begun options) x.mid since x.between first front
+      with-asks allows (begun options) IsAt (WereAnswered laws traffic allows options since now lawful starts) (answered-kept laws traffic allows options since now lawful starts) x.before (begun options) x.mid since x.between first front
       (λ none. traffic.empty_answered options.links options.retries options.budget options.max_body since) x.first h.had_none in
       let spent : SpentSince since (length (asked_in x.before)) x.mid x.between =
       by-events allows (begun options) IsAt WasSpent spent-kept x.before (begun options) x.mid since x.between first front
@@ -107,13 +108,13 @@ module _ (laws : Laws) (traffic : TrafficLaws) (allows : List ℕ → ℕ → Li
 
   -- ---- the budget
 
-  limit-of : (events : List Event) (p : Pooled) → RunsPool allows options since now events p → AsksAt start events → p.limit ≡ options.max_body
-  limit-of events p r a = ap (λ (x : Pooled). x.limit) (same-pool laws traffic allows options since now lawful start events p a r)
+  limit-of : (events : List Event) (p : Pooled) → RunsPool allows options since now events p → AsksAt starts events → p.limit ≡ options.max_body
+  limit-of events p r a = ap (λ (x : Pooled). x.limit) (same-pool laws traffic allows options since now lawful starts events p a r)
 
-  requests-of : (events : List Event) (p : Pooled) → EndsWith (Broke pool.Budget) events → RunsPool allows options since now events p → AsksAt start events → SpendsRequests options since now
+  requests-of : (events : List Event) (p : Pooled) → EndsWith (Broke pool.Budget) events → RunsPool allows options since now events p → AsksAt starts events → SpendsRequests options since now
   requests-of events p e r a =
       let s = spent-so events p e r a in
-      let budget = same-bounds laws traffic allows options since now lawful start events p a r in
+      let budget = same-bounds laws traffic allows options since now lawful starts events p a r in
       let over : p.budget ≤ p.started = s.over.spent in
       let most = s.on.most in
       let sent = all-answers any s.on.requested.requests since now in
@@ -132,21 +133,21 @@ module _ (laws : Laws) (traffic : TrafficLaws) (allows : List ℕ → ℕ → Li
       together : (n b s h g r k l x : ℕ) → b ≡ n → b ≤ s → s + h ≤ g + r + k → l ≡ k → l - h ≤ x → n ≤ g + x + r
       together n b s h g r k l x e o f i m = omega (arith, e, o, f, i, m)
 
-  few-tries : (events : List Event) (p : Pooled) → EndsWith (Broke pool.Budget) events → RunsPool allows options since now events p → AsksAt start events → options.budget < (options.retries + 1) * length (asked_in events)
+  few-tries : (events : List Event) (p : Pooled) → EndsWith (Broke pool.Budget) events → RunsPool allows options since now events p → AsksAt starts events → options.budget < (options.retries + 1) * length (asked_in events)
   few-tries events p e r a =
       let s = spent-so events p e r a in
-      let budget = same-bounds laws traffic allows options since now lawful start events p a r in
+      let budget = same-bounds laws traffic allows options since now lawful starts events p a r in
       let over : p.budget ≤ p.started = s.over.spent in
-      let k = knows-so laws traffic start options allows since lawful events p r.between a r.travels in
+      let k = knows-so laws traffic starts options allows since lawful events p r.between a r.travels in
       let most : p.started < (options.retries + 1) * length (asked_in events) = most_waits (options.retries + 1) ((options.retries + 1) * length (asked_in events)) p s.over.waits k.most in
       omega (arith, budget, over, most)
 
-  tries-of : (events : List Event) (p : Pooled) → EndsWith (Broke pool.Budget) events → RunsPool allows options since now events p → AsksAt start events → SpendsTries allows options start since now
+  tries-of : (events : List Event) (p : Pooled) → EndsWith (Broke pool.Budget) events → RunsPool allows options since now events p → AsksAt starts events → SpendsTries allows options starts since now
   tries-of events p e r a =
       let s = spent-so events p e r a in
-      let budget = same-bounds laws traffic allows options since now lawful start events p a r in
+      let budget = same-bounds laws traffic allows options since now lawful starts events p a r in
       let over : p.budget ≤ p.started = s.over.spent in
-      let within = (exit-of laws traffic start options allows since lawful now events p a r budget).within in
+      let within = (exit-of laws traffic starts options allows since lawful now events p a r budget).within in
       record { events = events; pool = p; runs = r; asks = a; spent = omega (arith, budget, over, within); tries = few-tries events p e r a }
 
   -- ---- rows
@@ -158,12 +159,12 @@ module _ (laws : Laws) (traffic : TrafficLaws) (allows : List ℕ → ℕ → Li
   given-less n m s e = ap (λ (x : ℕ). x - s) e
 
   -- where all that was asked was answered
-  run-paid : (run : RunOf allows options start since now) → run.pool.fault ≡ None → held run.pool ≡ [] → Spends options.max_body run.pool.started since now
+  run-paid : (run : RunOf allows options starts since now) → run.pool.fault ≡ None → held run.pool ≡ [] → Spends options.max_body run.pool.started since now
   run-paid run none empty =
       let asked = asked_in run.events in
-      let answered = answered-so laws traffic allows options since now lawful start run none empty in
+      let answered = answered-so laws traffic allows options since now lawful starts run none empty in
       let spent : SpentSince since (length asked) run.pool run.runs.between =
-      by-events allows (begun options) IsAt WasSpent spent-kept run.events (begun options) run.pool since run.runs.between (begun-between laws traffic start options allows since lawful IsAt) run.asks
+      by-events allows (begun options) IsAt WasSpent spent-kept run.events (begun options) run.pool since run.runs.between (begun-between laws traffic starts options allows since lawful IsAt) run.asks
       (λ e. traffic.empty_spend options.links options.retries options.budget options.max_body since) run.runs.travels none in
       let on = answered.requested.requests in
       let most = traffic.all_answered (map address_of asked) since (shut run.pool) now answered refl any in
@@ -185,48 +186,48 @@ module _ (laws : Laws) (traffic : TrafficLaws) (allows : List ℕ → ℕ → Li
       same-given : (s g n r k : ℕ) → s ≤ g + r + k → n ≡ g → s ≤ n + r + k
       same-given s g n r k l e = omega (arith, l, e)
 
-  pub rows-paid : (q : QueryData) (report : Report) (rows : List Places) → Returns (RunsPool allows options since now) q start report rows → Spends options.max_body report.requests since now
-  rows-paid q report rows r = subst (λ (n : ℕ). Spends options.max_body n since now) (sym r.requests) (run-paid (returns-run allows options since now start q report rows r) r.no_fault r.none_held)
+  pub rows-paid : (sources : Sources) (q : QueryData) (report : Report) (rows : List Places) → Returns (RunsPool allows options since now) sources q starts report rows → Spends options.max_body report.requests since now
+  rows-paid sources q report rows r = subst (λ (n : ℕ). Spends options.max_body n since now) (sym r.requests) (run-paid (returns-run allows options since now starts sources q report rows r) r.no_fault r.none_held)
 
   -- ---- of a call
 
-  spends-requests : (fault : ClientFault) (version : Option ℕ) (events : List Event) (p : Pooled) → Explains version options.budget fault events → RunsPool allows options since now events p → AsksAt start events → ForBudget (SpendsRequests options since now) fault
-  spends-requests faults.Exchange version events p e r a = tt
-  spends-requests faults.Stalled version events p e r a = tt
-  spends-requests (faults.Cut received) version events p e r a = tt
-  spends-requests (faults.Reply fault received) version events p e r a = tt
-  spends-requests (faults.Page fault body) version events p e r a = tt
-  spends-requests (faults.Changed first other) version events p e r a = tt
-  spends-requests (faults.Budget n) version events p e r a = requests-of events p e.1 r a
-  spends-requests faults.Sink version events p e r a = tt
-  spends-requests faults.OutOfMemory version events p e r a = tt
+  spends-requests : (fault : ClientFault) (versions : Versions) (events : List Event) (p : Pooled) → Explains versions options.budget fault events → RunsPool allows options since now events p → AsksAt starts events → ForBudget (SpendsRequests options since now) fault
+  spends-requests faults.Exchange versions events p e r a = tt
+  spends-requests faults.Stalled versions events p e r a = tt
+  spends-requests (faults.Cut received) versions events p e r a = tt
+  spends-requests (faults.Reply fault received) versions events p e r a = tt
+  spends-requests (faults.Page fault body) versions events p e r a = tt
+  spends-requests (faults.Changed first other) versions events p e r a = tt
+  spends-requests (faults.Budget n) versions events p e r a = requests-of events p e.1 r a
+  spends-requests faults.Sink versions events p e r a = tt
+  spends-requests faults.OutOfMemory versions events p e r a = tt
 
-  spends-tries : (fault : ClientFault) (version : Option ℕ) (events : List Event) (p : Pooled) → Explains version options.budget fault events → RunsPool allows options since now events p → AsksAt start events → ForBudget (SpendsTries allows options start since now) fault
-  spends-tries faults.Exchange version events p e r a = tt
-  spends-tries faults.Stalled version events p e r a = tt
-  spends-tries (faults.Cut received) version events p e r a = tt
-  spends-tries (faults.Reply fault received) version events p e r a = tt
-  spends-tries (faults.Page fault body) version events p e r a = tt
-  spends-tries (faults.Changed first other) version events p e r a = tt
-  spends-tries (faults.Budget n) version events p e r a = tries-of events p e.1 r a
-  spends-tries faults.Sink version events p e r a = tt
-  spends-tries faults.OutOfMemory version events p e r a = tt
+  spends-tries : (fault : ClientFault) (versions : Versions) (events : List Event) (p : Pooled) → Explains versions options.budget fault events → RunsPool allows options since now events p → AsksAt starts events → ForBudget (SpendsTries allows options starts since now) fault
+  spends-tries faults.Exchange versions events p e r a = tt
+  spends-tries faults.Stalled versions events p e r a = tt
+  spends-tries (faults.Cut received) versions events p e r a = tt
+  spends-tries (faults.Reply fault received) versions events p e r a = tt
+  spends-tries (faults.Page fault body) versions events p e r a = tt
+  spends-tries (faults.Changed first other) versions events p e r a = tt
+  spends-tries (faults.Budget n) versions events p e r a = tries-of events p e.1 r a
+  spends-tries faults.Sink versions events p e r a = tt
+  spends-tries faults.OutOfMemory versions events p e r a = tt
 
-  module _ (q : QueryData) (fault : ClientFault) (t u : Option (List ℕ)) (w : WritesSome (RunsPool allows options since now) q start options.budget fault t u) where
-    caused : CausedRun allows options since now start fault
-    caused = some-caused allows options since now start q fault t u w
+  module _ (sources : Sources) (q : QueryData) (fault : ClientFault) (t u : Option (List ℕ)) (w : WritesSome (RunsPool allows options since now) sources q starts options.budget fault t u) where
+    caused : CausedRun allows options since now starts fault
+    caused = some-caused allows options since now starts sources q fault t u w
 
     pub fault-requests : ForBudget (SpendsRequests options since now) fault
-    fault-requests = spends-requests fault caused.version caused.run.events caused.run.pool caused.explains caused.run.runs caused.run.asks
+    fault-requests = spends-requests fault caused.versions caused.run.events caused.run.pool caused.explains caused.run.runs caused.run.asks
 
-    pub fault-tries : ForBudget (SpendsTries allows options start since now) fault
-    fault-tries = spends-tries fault caused.version caused.run.events caused.run.pool caused.explains caused.run.runs caused.run.asks
+    pub fault-tries : ForBudget (SpendsTries allows options starts since now) fault
+    fault-tries = spends-tries fault caused.versions caused.run.events caused.run.pool caused.explains caused.run.runs caused.run.asks
 
   -- ---- over an offer
 
   module _ (offer : Offer) where
     abbrev Run : ClientFault → Type 0
-    Run fault = ExplainedRun allows offer options since now start fault
+    Run fault = ExplainedRun allows offer options since now starts fault
 
     plan-of : (n : ℕ) → Run (faults.Budget n) → SpendsPlan offer options
     plan-of n x =

@@ -1,5 +1,5 @@
 -- The start is asked for, and its page comes.
-use Rattle.std.proofs.Common.{ℕ, ◌≡◌, ◌≢◌, ◌⊎◌, inl, inr, ◌++◌, List, [], ◌∷◌, Option, length, refl, sym, ap, subst, ◌∙◌}
+use Rattle.std.proofs.Common.{ℕ, ◌≡◌, ◌≢◌, ◌⊎◌, inl, inr, ◌++◌, List, [], ◌∷◌, length, refl, sym, ap, subst, ◌∙◌}
 use Rattle.std.specs.Prelude.{Result, Ok, Err}
 use Rattle.std.specs.List.Sorted.{IsPermutation}
 use Rattle.std.proofs.lemmas.List.Sorted.{IsPermutation-sym, IsPermutation-trans, length_permutation, Contains-permutation}
@@ -17,7 +17,7 @@ use Rattle.tpf_client.specs.declared.asks.Next.TheVariants as next
 use Rattle.tpf_client.specs.declared.fault.ClientFault.{ClientFault}
 use Rattle.tpf_client.specs.declared.fault.ClientFault.TheVariants as faults
 use Rattle.tpf_client.specs.Traffic.{Event, Asked, Came, Waited, Broke, Moves, IsLawful}
-use Rattle.tpf_client.specs.Causes.{Explains, shown_as}
+use Rattle.tpf_client.specs.Causes.{Explains, Versions, shown_as}
 use Rattle.tpf_client.specs.Asking.{Arrives, Stops, PutsOne, StepsOn, ask_of, IsReadFault, ReadsPage}
 use Rattle.tpf_client.specs.Starts.{Starts, HasNoStart, start_ask}
 use Rattle.tpf_client.proofs.Traveling.{travels-then, one-event, no-events}
@@ -50,16 +50,16 @@ module _ (allows : List ℕ → ℕ → List ℕ → List ℕ → Type 0) (start
   arrived-is : (arrived : Arrived) → Arrives allows arrived p q v w → IsPermutation (held p) (start_ask start ∷ []) → (ask_of arrived ≡ start_ask start) × (held q ≡ [])
   arrived-is arrived h one = only-one (held q) (ask_of arrived) (start_ask start) (IsPermutation-trans _ _ _ (IsPermutation-sym _ _ h.others) one)
 
-  explains-read : (version : Option ℕ) (fault : ClientFault) (arrived : Arrived) (before : List Event) → IsReadFault arrived fault → Explains version budget fault (before ++ Came (ask_of arrived) arrived.reply ∷ [])
-  explains-read version faults.Exchange arrived before e = absurd e
-  explains-read version faults.Stalled arrived before e = absurd e
-  explains-read version (faults.Cut received) arrived before e = absurd e
-  explains-read version (faults.Reply fault received) arrived before e = absurd e
-  explains-read version (faults.Page fault body) arrived before e = record { ask = ask_of arrived; reply = arrived.reply; last = record { before = before; is_last = refl }; body_is = sym e.0; why = e.1 }
-  explains-read version (faults.Changed one other) arrived before e = absurd e
-  explains-read version (faults.Budget n) arrived before e = absurd e
-  explains-read version faults.Sink arrived before e = absurd e
-  explains-read version faults.OutOfMemory arrived before e = tt
+  explains-read : (versions : Versions) (fault : ClientFault) (arrived : Arrived) (before : List Event) → IsReadFault arrived fault → Explains versions budget fault (before ++ Came (ask_of arrived) arrived.reply ∷ [])
+  explains-read versions faults.Exchange arrived before e = absurd e
+  explains-read versions faults.Stalled arrived before e = absurd e
+  explains-read versions (faults.Cut received) arrived before e = absurd e
+  explains-read versions (faults.Reply fault received) arrived before e = absurd e
+  explains-read versions (faults.Page fault body) arrived before e = record { ask = ask_of arrived; reply = arrived.reply; last = record { before = before; is_last = refl }; body_is = sym e.0; why = e.1 }
+  explains-read versions (faults.Changed one other) arrived before e = absurd e
+  explains-read versions (faults.Budget n) arrived before e = absurd e
+  explains-read versions faults.Sink arrived before e = absurd e
+  explains-read versions faults.OutOfMemory arrived before e = tt
 
   pub start-read : (r : Result Page ClientFault) (arrived : Arrived) → Arrives allows arrived p q v w → ReadsPage arrived r → IsPermutation (held p) (start_ask start ∷ []) → Starts allows start [] budget r p q v w
   start-read (Ok page) arrived h r one =
@@ -71,7 +71,7 @@ module _ (allows : List ℕ → ℕ → List ℕ → List ℕ → Type 0) (start
         last = record { before = h.before; is_last = ap (λ (a : Ask). h.before ++ Came a arrived.reply ∷ []) is.0 };
         asked_are = asked-last h.before (Came (ask_of arrived) arrived.reply) h.waits refl;
         taken = subst (λ (x : Address). Takes arrived.reply.body x page) (ap (λ (a : Ask). a.address) is.0) r;
-        pages = pages-then page.version h.before (Came (ask_of arrived) arrived.reply ∷ []) (pages-waits page.version h.before h.waits) ((page, r, refl), tt);
+        pages = pages-then (λ address. page.version) h.before (Came (ask_of arrived) arrived.reply ∷ []) (pages-waits (λ address. page.version) h.before h.waits) ((page, r, refl), tt);
         none = is.1;
         no_fault = h.no_fault;
         suits = h.suits;
@@ -79,7 +79,7 @@ module _ (allows : List ℕ → ℕ → List ℕ → List ℕ → Type 0) (start
   start-read (Err fault) arrived h r one = record {
     events = h.before ++ Came (ask_of arrived) arrived.reply ∷ [];
     travels = h.travels;
-    explains = λ version. explains-read version fault arrived h.before r;
+    explains = λ versions. explains-read versions fault arrived h.before r;
     asked_are = inl (asked-last h.before (Came (ask_of arrived) arrived.reply) h.waits refl);
     suits = h.suits;
   }
@@ -88,7 +88,7 @@ module _ (allows : List ℕ → ℕ → List ℕ → List ℕ → Type 0) (start
   start-stop shown h = record {
     events = h.before ++ Broke h.fault ∷ [];
     travels = h.travels;
-    explains = λ version. explains-stop version budget shown h.fault h.before h.is_shown;
+    explains = λ versions. explains-stop versions budget shown h.fault h.before h.is_shown;
     asked_are = inl (asked-last h.before (Broke h.fault) h.waits refl);
     suits = h.suits;
   }
@@ -98,7 +98,7 @@ module _ (allows : List ℕ → ℕ → List ℕ → List ℕ → Type 0) (start
 
 pub start-nothing : (allows : List ℕ → ℕ → List ℕ → List ℕ → Type 0) (start : Address) (asked : List Ask) (budget : ℕ) (p q : Pooled) (v : WireState) → q ≡ p → SuitsWire p v → HasNoStart allows start asked budget faults.OutOfMemory p q v v
 start-nothing allows start asked budget p q v e s =
-    subst (λ (x : Pooled). HasNoStart allows start asked budget faults.OutOfMemory p x v v) (sym e) (record { events = []; travels = no-events allows p v; explains = λ version. tt; asked_are = inr refl; suits = s })
+    subst (λ (x : Pooled). HasNoStart allows start asked budget faults.OutOfMemory p x v v) (sym e) (record { events = []; travels = no-events allows p v; explains = λ versions. tt; asked_are = inr refl; suits = s })
 
 pub some-held : (start : Address) (p : Pooled) → IsPermutation (held p) (start_ask start ∷ []) → held p ≢ []
 some-held start p h e = let l = length_permutation (held p) (start_ask start ∷ []) h in let n : length {A = Ask} (start_ask start ∷ []) ≡ length {A = Ask} [] = l ∙ ap (λ (x : List Ask). length x) e in cc
@@ -131,7 +131,7 @@ module _ (allows : List ℕ → ℕ → List ℕ → List ℕ → Type 0) (start
   starts-put (Err fault) h s l k = record {
     events = Asked (start_ask start) ∷ [] ++ k.events;
     travels = travels-then allows (Asked (start_ask start) ∷ []) k.events p q r v v w (one-event allows (Asked (start_ask start)) p q v v (put-moves h s l)) k.travels;
-    explains = λ version. explains-later version budget fault (Asked (start_ask start) ∷ []) k.events (k.explains version);
+    explains = λ versions. explains-later versions budget fault (Asked (start_ask start) ∷ []) k.events (k.explains versions);
     asked_are = inl (ap (λ (l : List Ask). start_ask start ∷ l) (either-none (asked_in k.events) k.asked_are));
     suits = k.suits;
   }

@@ -22,7 +22,7 @@ use Rattle.join_core.specs.Worlds.{IsPageAt}
 use Rattle.plan_laws.specs.Servers.{server_world, ServersAreWorlds, ServersHaveForms, ServersPagesAreTrue}
 use Rattle.tpf_client.specs.Traffic.{Event, Asked, Came, Waited, Broke}
 use Rattle.tpf_client.specs.Turns.{AreTrue, IsTrueReply}
-use Rattle.tpf_client.specs.Calls.{IsWorldOf}
+use Rattle.tpf_client.specs.Sources.{IsSourceOf, world_sources}
 use Rattle.tpf_client.specs.Offers.{IsVersionOf}
 use Rattle.tpf_client.specs.Honest.{IsAnswer}
 
@@ -51,7 +51,7 @@ module _ (given : PagesAreGiven) (answered : AnsweredGivePages) (only : NothingE
   some-same one other e = cc
 
   -- a page of the version is true
-  true-page : (version : ℕ) (address : Address) (body : List ℕ) (page : Page) → IsBodyOf history config address body → Takes body address page → page.version ≡ Some version → IsPageAt (server_world (version_of history version) config) address page
+  pub true-page : (version : ℕ) (address : Address) (body : List ℕ) (page : Page) → IsBodyOf history config address body → Takes body address page → page.version ≡ Some version → IsPageAt (server_world (version_of history version) config) address page
   true-page version address body page b t told =
       let r = reads address body page b t in
       let v = version_at b.mark in
@@ -64,13 +64,13 @@ module _ (given : PagesAreGiven) (answered : AnsweredGivePages) (only : NothingE
       let g : GivesPage history b.mark config address slots (suc k) = given history b.mark config slots (suc k) address is_config (kept slots ask valid) (omega arith) (omega arith) there in
       subst (λ (l : List ℕ). Takes l address page) (b.body_is ∙ ap (λ (a : Answer). a.body) g.answer) t))
 
-  true-event : (version : ℕ) (event : Event) → IsAnswer history config event → IsTrueReply (IsPageAt (server_world (version_of history version) config)) (Some version) event
+  true-event : (version : ℕ) (event : Event) → IsAnswer history config event → IsTrueReply (IsPageAt (server_world (version_of history version) config)) (λ address. Some version) event
   true-event version (Asked ask) a = tt
   true-event version (Came ask reply) a = λ page t told. true-page version ask.address reply.body page a t told
   true-event version Waited a = tt
   true-event version (Broke fault) a = tt
 
-  true-events : (version : ℕ) (events : List Event) → AllByRecursion (IsAnswer history config) events → AreTrue (IsPageAt (server_world (version_of history version) config)) (Some version) events
+  true-events : (version : ℕ) (events : List Event) → AllByRecursion (IsAnswer history config) events → AreTrue (IsPageAt (server_world (version_of history version) config)) (λ address. Some version) events
   true-events version [] a = tt
   true-events version (event ∷ events) a = (true-event version event a.0, true-events version events a.1)
 
@@ -91,16 +91,16 @@ module _ (given : PagesAreGiven) (answered : AnsweredGivePages) (only : NothingE
 
   -- the world of the start page's version
   pub start-world : (address : Address) (body : List ℕ) (page : Page) (events : List Event) → ((version : ℕ) → length (version_of history version) < 2 ^ 64) → IsBodyOf history config address body → Takes body address page → AllByRecursion (IsAnswer history config) events
-      → (version : ℕ) × IsVersionOf history version × (page.version ≡ Some version) × IsWorldOf (server_world (version_of history version) config) page.form page.version events
+      → (version : ℕ) × IsVersionOf history version × (page.version ≡ Some version) × IsSourceOf world_sources (server_world (version_of history version) config) (page.form ∷ []) (λ address. page.version) events
   start-world address body page events few b t a =
       let r = reads address body page b t in
-      let v = version_at b.mark in (
+      let v = version_at b.mark in
+      let form = forms (version_of history v) config page.form is_config r.form in (
         v,
         r.is_version,
         r.told,
         record {
-          world = worlds history v config is_history is_config (few v);
-          form_is = forms (version_of history v) config page.form is_config r.form;
-          pages = subst (λ (o : Option ℕ). AreTrue (IsPageAt (server_world (version_of history v) config)) o events) (sym r.told) (true-events v events a);
+          fits = record { world = worlds history v config is_history is_config (few v); one = form.one; forms_are = form.forms };
+          pages = subst (λ (o : Option ℕ). AreTrue (IsPageAt (server_world (version_of history v) config)) (λ address. o) events) (sym r.told) (true-events v events a);
         },
       )

@@ -71,21 +71,21 @@ pub record ActsByPlan {A : Type 0} (allows : List ℕ → ℕ → List ℕ → L
   pub unprovoked : OverEnds ends allows since (λ holder. StaysUnprovoked options since now)
 
 -- What a call did on its wire, and why it ended as it did; `told` is the report of what it answers, and no more asks wait at once than the most.
--- Links: all are closed at the end, each was dialled for the authority of the start, and no other link is touched; the budget bounds the dials, the links and the requests; and each request that is reported is paid for by a link, by a whole request that was answered, or by a rise of the wire's faults.
+-- Links: all are closed at the end, each was dialled for the authority of a start, and no other link is touched; the budget bounds the dials, the links and the requests; and each request that is reported is paid for by a link, by a whole request that was answered, or by a rise of the wire's faults.
 -- Plan: what was asked and answered is what was offered.
 -- Faults: what each shows of the wire, over lively ones, and of the requests and the tries where the budget was spent.
-pub record ActsOnWire {A : Type 0} (allows : List ℕ → ℕ → List ℕ → List ℕ → Type 0) (ends : Ends) (options : Options) (start : Address) (most : ℕ) (result : Result A ClientFault) (told : A → Report) (since now : WireState) : Type 0 where
+pub record ActsOnWire {A : Type 0} (allows : List ℕ → ℕ → List ℕ → List ℕ → Type 0) (ends : Ends) (options : Options) (starts : List Address) (most : ℕ) (result : Result A ClientFault) (told : A → Report) (since now : WireState) : Type 0 where
   pub closed : AreClosed since now
-  pub peers : AreDialledFor start since now
+  pub peers : AreDialledFor starts since now
   pub others : OthersStay since now
   pub moves : MovesOn since now
   pub dials : DialsAtMost options.budget since now
   pub given : GivesAtMost options.budget since now
   pub started : StartsFew allows options since now
   pub waiting : AsksFew allows options most since now
-  pub sent : SendsAsked allows options start since now
+  pub sent : SendsAsked allows options starts since now
   pub cause : IfErr result (IsCause allows options since now)
-  pub answered : IfOk result (λ x. AnswersAll allows options start (told x).requests since now)
+  pub answered : IfOk result (λ x. AnswersAll allows options starts (told x).requests since now)
   pub within : IfOk result (λ x. (told x).requests ≤ options.budget)
   pub dialled : IfOk result (λ x. DialsAtMost (told x).requests since now)
   pub linked : IfOk result (λ x. GivesAtMost (told x).requests since now)
@@ -93,4 +93,4 @@ pub record ActsOnWire {A : Type 0} (allows : List ℕ → ℕ → List ℕ → L
   pub plan : ActsByPlan allows ends (StartedIn allows options since now) options result told since now
   pub failed_often : since.nature.lively ≡ true → IfErr result (IsFailedOften options since now)
   pub spent_requests : IfErr result (ForBudget (SpendsRequests options since now))
-  pub spent_tries : IfErr result (ForBudget (SpendsTries allows options start since now))
+  pub spent_tries : IfErr result (ForBudget (SpendsTries allows options starts since now))

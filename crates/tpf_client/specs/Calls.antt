@@ -1,19 +1,15 @@
 -- What a call promises.
-use Rattle.std.specs.Prelude.{ℕ, ◌≡◌, ◌≢◌, ◌<◌, ◌≤◌, ◌⊎◌, ◌++◌, ◌*◌, max, List, [], ◌∷◌, map, length, replicate, Option, None, Bool, true, false}
+use Rattle.std.specs.Prelude.{ℕ, ◌≡◌, ◌≢◌, ◌<◌, ◌≤◌, ◌++◌, ◌*◌, max, List, [], length, Option, None, Bool, true, false}
 use Rattle.std.specs.Io.KnownBytes.{Appends}
 use Rattle.std.specs.List.{All, Contains}
-use Rattle.std.specs.List.Sorted.{IsPermutation}
-use Rattle.rdf_terms.specs.declared.term.Triple.{Triple}
 use Rattle.tpf_base.specs.Addresses.{Address}
 use Rattle.tpf_base.specs.Causes.{Rose, counted_by}
 use Rattle.tpf_base.specs.Links.{WireState}
 use Rattle.tpf_base.specs.Wrote.{AppendsPrefix}
 use Rattle.template_fill.specs.declared.form.Form.{Form}
-use Rattle.template_fill.specs.Authorities.{ShareAuthority}
 use Rattle.tpf_base.specs.HttpReply as replies
 use Rattle.tpf_base.specs.HttpReply.{reply_of}
 use Rattle.http_wire.specs.Replies.{shown_fault}
-use Rattle.http_wire.specs.declared.message.Reply.{Reply}
 use Rattle.http_wire.specs.declared.message.ReplyFault.{ReplyFault}
 use Rattle.tpf_base.specs.Sending.{Holds}
 use Rattle.pool_laws.specs.Causes.{RepliedOn}
@@ -21,22 +17,25 @@ use Rattle.fragment_page.specs.declared.page.Page.{Page}
 use Rattle.fragment_page.specs.declared.page.PageFault.{PageFault}
 use Rattle.control_reader.specs.Takes.{Takes, Faults}
 use Rattle.bgp_core.specs.Queries.{QueryData}
-use Rattle.bgp_core.specs.Solutions.{Places, solutions}
+use Rattle.bgp_core.specs.Solutions.{Places}
 use Rattle.result_json.specs.Results.{result_text}
 use Rattle.result_json.specs.Pieces.{front_text, rows_text}
 use Rattle.request_pool.specs.Pools.{Pooled, Ask, empty_pool, held}
 use Rattle.request_pool.specs.Owned.{SuitsWire, held_on}
 use Rattle.request_pool.specs.Closing.{ClosesSome}
-use Rattle.join_core.specs.Worlds.{World, IsWorld, HasForm, IsPageAt}
-use Rattle.join_core.specs.Nodes.{plan}
 use Rattle.tpf_client.specs.declared.options.Options.{Options}
 use Rattle.tpf_client.specs.declared.options.Report.{Report}
 use Rattle.tpf_client.specs.declared.fault.ClientFault.{ClientFault}
 use Rattle.tpf_client.specs.declared.fault.ClientFault.TheVariants as faults
-use Rattle.tpf_client.specs.Traffic.{Event, Came, Travels, EndsWith}
-use Rattle.tpf_client.specs.Causes.{Explains}
-use Rattle.tpf_client.specs.Starts.{start_ask}
-use Rattle.tpf_client.specs.Turns.{AreTrue, ArePages, AsksAt, WaitFew, asked_in, address_of}
+use Rattle.tpf_client.specs.Traffic.{Event, Travels}
+use Rattle.tpf_client.specs.Causes.{Explains, Versions}
+use Rattle.tpf_client.specs.Told.{told_at, first_of}
+use Rattle.tpf_client.specs.Starts.{ReadsStarts, AsksStarts, forms_of, versions_of}
+use Rattle.tpf_client.specs.Turns.{ArePages, AsksAt, WaitFew, asked_in}
+use Rattle.tpf_client.specs.Sources.{Sources, IsSourceOf, GivesSolutions, GivesSome}
+-- ---- the solutions
+
+pub use Rattle.join_core.specs.Beginnings.{no_names_bound, solutions_of}
 
 -- ---- the text
 
@@ -51,51 +50,26 @@ pub record WritesPrefix (q : QueryData) (taken taken' : Option (List ℕ)) : Typ
   pub rows : List Places
   pub text : AppendsPrefix taken taken' (result_text q rows)
 
--- ---- the solutions
+-- ---- the evaluation
 
-abbrev pub no_names_bound : QueryData → Places
-no_names_bound q = replicate (length q.names) None
-
--- the solutions of a query over a data set (SPARQL 1.1 Query, 18.5), each with all its names
-abbrev pub solutions_of : List Triple → QueryData → List Places
-solutions_of triples q = solutions triples q.patterns (no_names_bound q)
-
--- Where all pages that came are true for a world, the rows are the solutions over its triples, and its plan was asked.
-pub record GivesSolutions (w : World) (q : QueryData) (rows : List Places) (events : List Event) : Type 0 where
-  pub rows_are : IsPermutation (solutions_of w.triples q) rows
-  pub plan_is : IsPermutation (plan w q.patterns (no_names_bound q)) (map address_of (asked_in events))
-
--- a part of that
-pub record GivesSome (w : World) (q : QueryData) (rows : List Places) (events : List Event) : Type 0 where
-  pub more : List Places
-  pub rows_are : IsPermutation (solutions_of w.triples q) (rows ++ more)
-  pub rest : List Address
-  pub plan_is : IsPermutation (plan w q.patterns (no_names_bound q)) (map address_of (asked_in events) ++ rest)
-
--- a world for the form of the start page, for which all pages are true that came
-pub record IsWorldOf (w : World) (form : Form) (version : Option ℕ) (events : List Event) : Type 0 where
-  pub world : IsWorld w
-  pub form_is : HasForm w form
-  pub pages : AreTrue (IsPageAt w) version events
-
--- The join of the query gave these rows and is done.
-pub record Joins (allows : List ℕ → ℕ → List ℕ → List ℕ → Type 0) (q : QueryData) (form : Form) (version : Option ℕ) (events : List Event) (rows : List Places) (old new : Pooled) (wire wire' : WireState) : Type 0 where
+-- The evaluation of the query gave these rows and is done.
+pub record Joins (allows : List ℕ → ℕ → List ℕ → List ℕ → Type 0) (sources : Sources) (q : QueryData) (starts : List Address) (forms : List Form) (versions : Versions) (events : List Event) (rows : List Places) (old new : Pooled) (wire wire' : WireState) : Type 0 where
   pub travels : Travels allows events old new wire wire'
   pub on_wire : SuitsWire new wire'
-  pub asks : AsksAt form.template.start events
+  pub asks : AsksAt starts events
   pub none_held : held new ≡ []
   pub no_fault : new.fault ≡ None
-  pub pages : ArePages version events
+  pub pages : ArePages versions events
   pub width : All (λ row. length row ≡ length q.names) rows
-  pub gives : (w : World) → IsWorldOf w form version events → GivesSolutions w q rows events
+  pub gives : (source : sources.Source) → IsSourceOf sources source forms versions events → GivesSolutions sources source q rows events
 
--- The join of the query gave these rows, and then there was a fault.
-pub record JoinsSome (allows : List ℕ → ℕ → List ℕ → List ℕ → Type 0) (q : QueryData) (form : Form) (version : Option ℕ) (budget : ℕ) (fault : ClientFault) (events : List Event) (rows : List Places) (old new : Pooled) (wire wire' : WireState) : Type 0 where
+-- The evaluation of the query gave these rows, and then there was a fault.
+pub record JoinsSome (allows : List ℕ → ℕ → List ℕ → List ℕ → Type 0) (sources : Sources) (q : QueryData) (starts : List Address) (forms : List Form) (versions : Versions) (budget : ℕ) (fault : ClientFault) (events : List Event) (rows : List Places) (old new : Pooled) (wire wire' : WireState) : Type 0 where
   pub travels : Travels allows events old new wire wire'
   pub on_wire : SuitsWire new wire'
-  pub explains : Explains version budget fault events
-  pub asks : AsksAt form.template.start events
-  pub gives : (w : World) → IsWorldOf w form version events → GivesSome w q rows events
+  pub explains : Explains versions budget fault events
+  pub asks : AsksAt starts events
+  pub gives : (source : sources.Source) → IsSourceOf sources source forms versions events → GivesSome sources source q rows events
 
 -- ---- the wire
 
@@ -106,79 +80,73 @@ pub record RunsPool (allows : List ℕ → ℕ → List ℕ → List ℕ → Typ
   pub on_wire : SuitsWire pool between
   pub closes : ClosesSome (held_on pool) (λ k. 0) between now
 
--- the start page came by the first of these events, its form has the authority of the start, and nothing else was asked
-pub record ReadsStart (start : Address) (events : List Event) : Type 0 where
-  pub asked : asked_in events ≡ start_ask start ∷ []
-  pub reply : Reply
-  pub last : EndsWith (Came (start_ask start) reply) events
-  pub page : Page
-  pub taken : Takes reply.body start page
-  pub home : ShareAuthority start page.form.template.start
-
 -- ---- a call on its wire, and the text; `ran` says which events there were, and which pool stood at their end
 
--- A call that gave these rows. Each address that it asked has the authority of the start, and each was answered by a page of the version that the report tells.
-pub record Returns (ran : List Event → Pooled → Type 0) (q : QueryData) (start : Address) (report : Report) (rows : List Places) : Type 0 where
+-- A call that gave these rows. Each address that it asked has the authority of a start, and each was answered by a page of the version that the start page of its server told.
+pub record Returns (ran : List Event → Pooled → Type 0) (sources : Sources) (q : QueryData) (starts : List Address) (report : Report) (rows : List Places) : Type 0 where
   pub first : List Event
   pub later : List Event
   pub pool : Pooled
   pub runs : ran (first ++ later) pool
-  pub reads : ReadsStart start first
-  pub asks : AsksAt start (first ++ later)
+  pub told : List Page
+  pub reads : ReadsStarts starts told first
+  pub asks : AsksAt starts (first ++ later)
   pub none_held : held pool ≡ []
   pub no_fault : pool.fault ≡ None
-  pub is_version : report.version ≡ reads.page.version
-  pub pages : ArePages report.version (first ++ later)
+  pub is_version : report.version ≡ sources.reported (first_of (versions_of told))
+  pub pages : ArePages (told_at starts (versions_of told)) later
   pub requests : report.requests ≡ pool.started
   pub count : report.rows ≡ counted_by (length rows) 0
   pub width : All (λ row. length row ≡ length q.names) rows
-  pub gives : (w : World) → IsWorldOf w reads.page.form reads.page.version later → GivesSolutions w q rows later
+  pub gives : (source : sources.Source) → IsSourceOf sources source (forms_of told) (told_at starts (versions_of told)) later → GivesSolutions sources source q rows later
 
 -- A call that wrote the text of these rows.
-pub record WritesAll (ran : List Event → Pooled → Type 0) (q : QueryData) (start : Address) (report : Report) (taken taken' : Option (List ℕ)) : Type 0 where
+pub record WritesAll (ran : List Event → Pooled → Type 0) (sources : Sources) (q : QueryData) (starts : List Address) (report : Report) (taken taken' : Option (List ℕ)) : Type 0 where
   pub rows : List Places
-  pub returns : Returns ran q start report rows
+  pub returns : Returns ran sources q starts report rows
   pub text : Appends taken taken' (result_text q rows)
 
--- A call that ended with a fault before the start page was read: nothing but the start was asked, and nothing was written.
-pub record EndsBefore (ran : List Event → Pooled → Type 0) (start : Address) (budget : ℕ) (fault : ClientFault) (taken taken' : Option (List ℕ)) : Type 0 where
+-- A call that ended with a fault before the start pages were read: nothing but the first starts was asked, and nothing was written.
+pub record EndsBefore (ran : List Event → Pooled → Type 0) (starts : List Address) (budget : ℕ) (fault : ClientFault) (taken taken' : Option (List ℕ)) : Type 0 where
   pub events : List Event
   pub pool : Pooled
   pub runs : ran events pool
-  pub asked : (asked_in events ≡ start_ask start ∷ []) ⊎ (asked_in events ≡ [])
-  pub explains : (version : Option ℕ) → Explains version budget fault events
+  pub asked : AsksStarts starts events
+  pub explains : (versions : Versions) → Explains versions budget fault events
   pub nothing : taken' ≡ taken
 
--- A call that ended with a fault behind the start page: of what stands in front of the rows and of the rows that it gave a front was written.
-pub record EndsBehind (ran : List Event → Pooled → Type 0) (q : QueryData) (start : Address) (budget : ℕ) (fault : ClientFault) (taken taken' : Option (List ℕ)) : Type 0 where
+-- A call that ended with a fault behind the start pages: of what stands in front of the rows and of the rows that it gave a front was written.
+pub record EndsBehind (ran : List Event → Pooled → Type 0) (sources : Sources) (q : QueryData) (starts : List Address) (budget : ℕ) (fault : ClientFault) (taken taken' : Option (List ℕ)) : Type 0 where
   pub first : List Event
   pub later : List Event
   pub pool : Pooled
   pub runs : ran (first ++ later) pool
-  pub reads : ReadsStart start first
-  pub asks : AsksAt start (first ++ later)
-  pub explains : Explains reads.page.version budget fault later
+  pub told : List Page
+  pub reads : ReadsStarts starts told first
+  pub asks : AsksAt starts (first ++ later)
+  pub explains : Explains (told_at starts (versions_of told)) budget fault later
   pub rows : List Places
-  pub gives : (w : World) → IsWorldOf w reads.page.form reads.page.version later → GivesSome w q rows later
+  pub gives : (source : sources.Source) → IsSourceOf sources source (forms_of told) (told_at starts (versions_of told)) later → GivesSome sources source q rows later
   pub text : AppendsPrefix taken taken' (front_text q ++ rows_text q false rows)
 
 -- A call that gave all its rows and could not write the text to its end.
-pub record EndsAtEnd (ran : List Event → Pooled → Type 0) (q : QueryData) (start : Address) (budget : ℕ) (fault : ClientFault) (taken taken' : Option (List ℕ)) : Type 0 where
+pub record EndsAtEnd (ran : List Event → Pooled → Type 0) (sources : Sources) (q : QueryData) (starts : List Address) (budget : ℕ) (fault : ClientFault) (taken taken' : Option (List ℕ)) : Type 0 where
   pub first : List Event
   pub later : List Event
   pub pool : Pooled
   pub runs : ran (first ++ later) pool
-  pub reads : ReadsStart start first
-  pub asks : AsksAt start (first ++ later)
-  pub explains : Explains reads.page.version budget fault later
+  pub told : List Page
+  pub reads : ReadsStarts starts told first
+  pub asks : AsksAt starts (first ++ later)
+  pub explains : Explains (told_at starts (versions_of told)) budget fault later
   pub rows : List Places
-  pub gives : (w : World) → IsWorldOf w reads.page.form reads.page.version later → GivesSolutions w q rows later
+  pub gives : (source : sources.Source) → IsSourceOf sources source (forms_of told) (told_at starts (versions_of told)) later → GivesSolutions sources source q rows later
   pub text : AppendsPrefix taken taken' (result_text q rows)
 
-pub data WritesSome (ran : List Event → Pooled → Type 0) (q : QueryData) (start : Address) (budget : ℕ) (fault : ClientFault) (taken taken' : Option (List ℕ)) : Type 0 where
-  Before : EndsBefore ran start budget fault taken taken' → WritesSome ran q start budget fault taken taken'
-  Behind : EndsBehind ran q start budget fault taken taken' → WritesSome ran q start budget fault taken taken'
-  AtEnd : EndsAtEnd ran q start budget fault taken taken' → WritesSome ran q start budget fault taken taken'
+pub data WritesSome (ran : List Event → Pooled → Type 0) (sources : Sources) (q : QueryData) (starts : List Address) (budget : ℕ) (fault : ClientFault) (taken taken' : Option (List ℕ)) : Type 0 where
+  Before : EndsBefore ran starts budget fault taken taken' → WritesSome ran sources q starts budget fault taken taken'
+  Behind : EndsBehind ran sources q starts budget fault taken taken' → WritesSome ran sources q starts budget fault taken taken'
+  AtEnd : EndsAtEnd ran sources q starts budget fault taken taken' → WritesSome ran sources q starts budget fault taken taken'
 
 -- the events between a pool and its wire
 pub record Ran (allows : List ℕ → ℕ → List ℕ → List ℕ → Type 0) (old new : Pooled) (wire wire' : WireState) (events : List Event) (pool : Pooled) : Type 0 where
@@ -193,7 +161,11 @@ pub record RanFew (allows : List ℕ → ℕ → List ℕ → List ℕ → Type 
   pub on_wire : SuitsWire new wire'
   pub few : WaitFew most (length (held old)) events
 
--- how many asks of a query may wait for their replies at once: the start, and then for each row that is extended one for each pattern
+-- how many asks of a query may wait for their replies at once, where so many servers are asked: a start, and then for each row that is extended one for each pattern and server
+abbrev pub most_over : Options → QueryData → ℕ → ℕ
+most_over options q servers = max 1 (length q.patterns * (options.window * servers))
+
+-- how many asks of a query may wait for their replies at once, where one server is asked: the start, and then for each row that is extended one for each pattern
 abbrev pub most_asked : Options → QueryData → ℕ
 most_asked options q = max 1 (length q.patterns * options.window)
 
@@ -204,31 +176,31 @@ pub record AsksFew (allows : List ℕ → ℕ → List ℕ → List ℕ → Type
   pub runs : RunsPool allows options since now events pool
   pub few : WaitFew most 0 events
 
--- ---- behind a start page
+-- ---- behind the start pages
 
 -- All rows were written.
-pub record WritesRest (allows : List ℕ → ℕ → List ℕ → List ℕ → Type 0) (q : QueryData) (form : Form) (version : Option ℕ) (report : Report) (old new : Pooled) (wire wire' : WireState) (taken taken' : Option (List ℕ)) : Type 0 where
+pub record WritesRest (allows : List ℕ → ℕ → List ℕ → List ℕ → Type 0) (sources : Sources) (q : QueryData) (starts : List Address) (forms : List Form) (versions : List (Option ℕ)) (report : Report) (old new : Pooled) (wire wire' : WireState) (taken taken' : Option (List ℕ)) : Type 0 where
   pub events : List Event
   pub rows : List Places
-  pub joins : Joins allows q form version events rows old new wire wire'
-  pub is_version : report.version ≡ version
+  pub joins : Joins allows sources q starts forms (told_at starts versions) events rows old new wire wire'
+  pub is_version : report.version ≡ sources.reported (first_of versions)
   pub requests : report.requests ≡ new.started
   pub count : report.rows ≡ counted_by (length rows) 0
   pub text : Appends taken taken' (result_text q rows)
 
 -- All rows were gathered.
-pub record GathersRest (allows : List ℕ → ℕ → List ℕ → List ℕ → Type 0) (q : QueryData) (form : Form) (version : Option ℕ) (report : Report) (rows : List Places) (old new : Pooled) (wire wire' : WireState) : Type 0 where
+pub record GathersRest (allows : List ℕ → ℕ → List ℕ → List ℕ → Type 0) (sources : Sources) (q : QueryData) (starts : List Address) (forms : List Form) (versions : List (Option ℕ)) (report : Report) (rows : List Places) (old new : Pooled) (wire wire' : WireState) : Type 0 where
   pub events : List Event
-  pub joins : Joins allows q form version events rows old new wire wire'
-  pub is_version : report.version ≡ version
+  pub joins : Joins allows sources q starts forms (told_at starts versions) events rows old new wire wire'
+  pub is_version : report.version ≡ sources.reported (first_of versions)
   pub requests : report.requests ≡ new.started
   pub count : report.rows ≡ counted_by (length rows) 0
 
-pub data WritesLess (allows : List ℕ → ℕ → List ℕ → List ℕ → Type 0) (q : QueryData) (form : Form) (version : Option ℕ) (budget : ℕ) (fault : ClientFault) (old new : Pooled) (wire wire' : WireState) (taken taken' : Option (List ℕ)) : Type 0 where
-  PartOf : (events : List Event) (rows : List Places) → JoinsSome allows q form version budget fault events rows old new wire wire' → AppendsPrefix taken taken' (front_text q ++ rows_text q false rows)
-      → WritesLess allows q form version budget fault old new wire wire' taken taken'
-  WholeOf : (events : List Event) (rows : List Places) → Joins allows q form version events rows old new wire wire' → Explains version budget fault events → AppendsPrefix taken taken' (result_text q rows)
-      → WritesLess allows q form version budget fault old new wire wire' taken taken'
+pub data WritesLess (allows : List ℕ → ℕ → List ℕ → List ℕ → Type 0) (sources : Sources) (q : QueryData) (starts : List Address) (forms : List Form) (versions : Versions) (budget : ℕ) (fault : ClientFault) (old new : Pooled) (wire wire' : WireState) (taken taken' : Option (List ℕ)) : Type 0 where
+  PartOf : (events : List Event) (rows : List Places) → JoinsSome allows sources q starts forms versions budget fault events rows old new wire wire' → AppendsPrefix taken taken' (front_text q ++ rows_text q false rows)
+      → WritesLess allows sources q starts forms versions budget fault old new wire wire' taken taken'
+  WholeOf : (events : List Event) (rows : List Places) → Joins allows sources q starts forms versions events rows old new wire wire' → Explains versions budget fault events → AppendsPrefix taken taken' (result_text q rows)
+      → WritesLess allows sources q starts forms versions budget fault old new wire wire' taken taken'
 
 -- ---- causes
 

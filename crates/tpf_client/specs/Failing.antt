@@ -56,12 +56,12 @@ pub record Spends (limit many : ℕ) (since now : WireState) : Type 0 where
 abbrev pub SpendsRequests : Options → WireState → WireState → Type 0
 SpendsRequests options since now = Spends options.max_body options.budget since now
 
--- The events of a call, in which each ask was for the authority of the start: just as many requests were started as the budget says, and fewer than the asks may be tried.
-pub record SpendsTries (allows : List ℕ → ℕ → List ℕ → List ℕ → Type 0) (options : Options) (start : Address) (since now : WireState) : Type 0 where
+-- The events of a call, in which each ask was for the authority of a start: just as many requests were started as the budget says, and fewer than the asks may be tried.
+pub record SpendsTries (allows : List ℕ → ℕ → List ℕ → List ℕ → Type 0) (options : Options) (starts : List Address) (since now : WireState) : Type 0 where
   pub events : List Event
   pub pool : Pooled
   pub runs : RunsPool allows options since now events pool
-  pub asks : AsksAt start events
+  pub asks : AsksAt starts events
   pub spent : pool.started ≡ options.budget
   pub tries : options.budget < (options.retries + 1) * length (asked_in events)
 

@@ -4,8 +4,10 @@ pub mod Asking
 pub mod Rows
 pub mod Sinks
 pub mod RowLaws
-pub mod Starts
+pub mod Told
 pub mod Turns
+pub mod Starts
+pub mod Sources
 pub mod Calls
 pub mod Shown
 pub mod Offers
@@ -15,4 +17,5 @@ pub mod Requests
 pub mod Plans
 pub mod Requested
 pub mod Failing
+pub mod WireActs
 pub mod Acts

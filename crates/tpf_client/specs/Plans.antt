@@ -38,12 +38,12 @@ use Rattle.tpf_client.specs.Requests.{DialsAtMost, GivesAtMost}
 abbrev pub SendsOnly : List Address → WireState → WireState → Type 0
 SendsOnly addresses since now = (k : ℕ) → since.given ≤ k → k < now.given → SendsFor (Contains addresses) (now.links k)
 
--- The events of a call, in which each ask was for the authority of the start; and only for what was asked were requests sent.
-pub record SendsAsked (allows : List ℕ → ℕ → List ℕ → List ℕ → Type 0) (options : Options) (start : Address) (since now : WireState) : Type 0 where
+-- The events of a call, in which each ask was for the authority of a start; and only for what was asked were requests sent.
+pub record SendsAsked (allows : List ℕ → ℕ → List ℕ → List ℕ → Type 0) (options : Options) (starts : List Address) (since now : WireState) : Type 0 where
   pub events : List Event
   pub pool : Pooled
   pub runs : RunsPool allows options since now events pool
-  pub asks : AsksAt start events
+  pub asks : AsksAt starts events
   pub sent : SendsOnly (map address_of (asked_in events)) since now
 
 -- Only for these addresses requests were sent, and each was asked for at most as often as one of the choices has it to ask for.

@@ -3,8 +3,9 @@ use Rattle.std.specs.Prelude.{ℕ, ◌≡◌, ◌≤◌, ◌<◌, ◌+◌, ◌*�
 use Rattle.std.specs.List.Sorted.{IsPermutation}
 use Rattle.tpf_base.specs.Addresses.{Address}
 use Rattle.tpf_base.specs.Causes.{RoseBy}
-use Rattle.tpf_base.specs.Links.{WireState, told_by}
-use Rattle.pool_laws.specs.Owning.{IsAsBefore, EmptyPoolsOwn, PutsOwn, FaultsOwn, StepsOwn, ClosingCloses}
+use Rattle.tpf_base.specs.Links.{WireState}
+use Rattle.pool_laws.specs.Owning.{IsAsBefore}
+use Rattle.pool_laws.specs.Hosts.{IsDialledFor, EmptyPoolsOwnAtHosts, PutsOwnAtHosts, FaultsOwnAtHosts, StepsOwnAtHosts, ClosingAtHosts}
 use Rattle.pool_laws.specs.Counting.{EmptyPoolsFewFailed, PutsFewFailed, StepsFewFailed, StepsCountTries, EmptyPoolsDial, PutsDial, FaultsDial, StepsDial}
 use Rattle.pool_laws.specs.Causes.{RepliesAreRead, FaultsHaveCauses}
 use Rattle.pool_laws.specs.Sending.{EmptyPoolsSent, PutsSent, FaultsSent, StepsSent, ClosingSent}
@@ -27,9 +28,9 @@ use Rattle.tpf_client.specs.Offers.{Offer}
 abbrev pub AreClosed : WireState → WireState → Type 0
 AreClosed since now = (k : ℕ) → since.given ≤ k → k < now.given → (now.links k).is_open ≡ false
 
--- each link that was given in the call was dialled for the host and the port of this address, where the wire tells it
-abbrev pub AreDialledFor : Address → WireState → WireState → Type 0
-AreDialledFor address since now = (k : ℕ) → since.given ≤ k → k < now.given → (now.links k).peer ≡ told_by since.nature.tells (address.host, address.port)
+-- each link that was given in the call was dialled for the host and the port of one of these addresses, where the wire tells it
+abbrev pub AreDialledFor : List Address → WireState → WireState → Type 0
+AreDialledFor homes since now = (k : ℕ) → since.given ≤ k → k < now.given → IsDialledFor homes since.nature.tells (now.links k).peer
 
 -- each link that was given before is as it was, but that a wait may have answered it where it is open
 abbrev pub OthersStay : WireState → WireState → Type 0
@@ -44,12 +45,12 @@ pub record MovesOn (since now : WireState) : Type 0 where
 
 -- ---- answers
 
--- The events of a call in which each ask was for the authority of the start, and was answered; so many requests were started.
-pub record AnswersAll (allows : List ℕ → ℕ → List ℕ → List ℕ → Type 0) (options : Options) (start : Address) (requests : ℕ) (since now : WireState) : Type 0 where
+-- The events of a call in which each ask was for the authority of a start, and was answered; so many requests were started.
+pub record AnswersAll (allows : List ℕ → ℕ → List ℕ → List ℕ → Type 0) (options : Options) (starts : List Address) (requests : ℕ) (since now : WireState) : Type 0 where
   pub events : List Event
   pub pool : Pooled
   pub runs : RunsPool allows options since now events pool
-  pub asks : AsksAt start events
+  pub asks : AsksAt starts events
   pub answered : IsPermutation (asked_in events) (answered_in events)
   pub started : pool.started ≡ requests
   pub few : requests ≤ (options.retries + 1) * length (asked_in events)
@@ -86,11 +87,11 @@ pub record DialsAreTries (offer : Offer) (options : Options) (since now : WireSt
 -- ---- the laws on which this rests
 
 pub record TrafficLaws : Type 0 where
-  pub empty_own : EmptyPoolsOwn
-  pub puts_own : PutsOwn
-  pub faults_own : FaultsOwn
-  pub steps_own : StepsOwn
-  pub closing : ClosingCloses
+  pub empty_own : EmptyPoolsOwnAtHosts
+  pub puts_own : PutsOwnAtHosts
+  pub faults_own : FaultsOwnAtHosts
+  pub steps_own : StepsOwnAtHosts
+  pub closing : ClosingAtHosts
   pub empty_dial : EmptyPoolsDial
   pub puts_dial : PutsDial
   pub faults_dial : FaultsDial

@@ -11,20 +11,21 @@ use Rattle.result_json.specs.Pieces.{front_text, rows_text}
 use Rattle.request_pool.specs.Pools.{Pooled}
 use Rattle.tpf_client.specs.declared.fault.ClientFault.{ClientFault}
 use Rattle.tpf_client.specs.Traffic.{Event}
-use Rattle.tpf_client.specs.Causes.{IsLocal}
+use Rattle.tpf_client.specs.Causes.{IsLocal, Versions}
+use Rattle.tpf_client.specs.Sources.{Sources}
 use Rattle.tpf_client.specs.Calls.{WritesLess, PartOf, WholeOf, WritesSome, Before, Behind, AtEnd}
 
 -- Where the fault is neither the sink's nor want of memory, and the sink did not fail between these counts of its faults, it took what stands in front of the rows and all of these rows.
 abbrev pub ShowsRows : ClientFault → ℕ → ℕ → QueryData → List Places → Option (List ℕ) → Option (List ℕ) → Type 0
 ShowsRows fault before now q rows taken taken' = (IsLocal fault → ⊥) → (Rose before now → ⊥) → Appends taken taken' (front_text q ++ rows_text q false rows)
 
--- A call that ended with a fault shows all rows that it gave: none before the start page was read, and all of them behind it. Where it had given its last row the fault is the sink's or want of memory.
-abbrev pub ShowsGiven : (ran : List Event → Pooled → Type 0) (q : QueryData) (start : Address) (budget : ℕ) (fault : ClientFault) (before now : ℕ) (taken taken' : Option (List ℕ)) → WritesSome ran q start budget fault taken taken' → Type 0
-ShowsGiven ran q start budget fault before now taken taken' (Before e) = Unit {0}
-ShowsGiven ran q start budget fault before now taken taken' (Behind e) = ShowsRows fault before now q e.rows taken taken'
-ShowsGiven ran q start budget fault before now taken taken' (AtEnd e) = IsLocal fault
+-- A call that ended with a fault shows all rows that it gave: none before the start pages were read, and all of them behind these. Where it had given its last row the fault is the sink's or want of memory.
+abbrev pub ShowsGiven : (ran : List Event → Pooled → Type 0) (sources : Sources) (q : QueryData) (starts : List Address) (budget : ℕ) (fault : ClientFault) (before now : ℕ) (taken taken' : Option (List ℕ)) → WritesSome ran sources q starts budget fault taken taken' → Type 0
+ShowsGiven ran sources q starts budget fault before now taken taken' (Before e) = Unit {0}
+ShowsGiven ran sources q starts budget fault before now taken taken' (Behind e) = ShowsRows fault before now q e.rows taken taken'
+ShowsGiven ran sources q starts budget fault before now taken taken' (AtEnd e) = IsLocal fault
 
--- the same behind a start page
-abbrev pub ShowsRest : (allows : List ℕ → ℕ → List ℕ → List ℕ → Type 0) (q : QueryData) (form : Form) (version : Option ℕ) (budget : ℕ) (fault : ClientFault) (old new : Pooled) (wire wire' : WireState) (before now : ℕ) (taken taken' : Option (List ℕ)) → WritesLess allows q form version budget fault old new wire wire' taken taken' → Type 0
-ShowsRest allows q form version budget fault old new wire wire' before now taken taken' (PartOf events rows j text) = ShowsRows fault before now q rows taken taken'
-ShowsRest allows q form version budget fault old new wire wire' before now taken taken' (WholeOf events rows j e text) = IsLocal fault
+-- the same behind the start pages
+abbrev pub ShowsRest : (allows : List ℕ → ℕ → List ℕ → List ℕ → Type 0) (sources : Sources) (q : QueryData) (starts : List Address) (forms : List Form) (versions : Versions) (budget : ℕ) (fault : ClientFault) (old new : Pooled) (wire wire' : WireState) (before now : ℕ) (taken taken' : Option (List ℕ)) → WritesLess allows sources q starts forms versions budget fault old new wire wire' taken taken' → Type 0
+ShowsRest allows sources q starts forms versions budget fault old new wire wire' before now taken taken' (PartOf events rows j text) = ShowsRows fault before now q rows taken taken'
+ShowsRest allows sources q starts forms versions budget fault old new wire wire' before now taken taken' (WholeOf events rows j e text) = IsLocal fault

@@ -1,11 +1,10 @@
 -- The turns of an evaluation: rows are taken from it, its asks are put, and pages are handed to it.
-use Rattle.std.specs.Prelude.{ℕ, ◌≡◌, ◌+◌, ◌-◌, ◌*◌, ◌==◌, ◌≤◌, if◌then◌else◌, List, [], ◌∷◌, ◌++◌, map, length, Option, None}
+use Rattle.std.specs.Prelude.{ℕ, ◌≡◌, ◌+◌, ◌-◌, ◌*◌, ◌==◌, ◌≤◌, if◌then◌else◌, List, [], ◌∷◌, ◌++◌, map, length, None}
 use Rattle.std.specs.List.{All, AllByRecursion, Contains, sum_by}
 use Rattle.std.specs.List.Sorted.{IsPermutation}
 use Rattle.tpf_base.specs.Addresses.{Address}
 use Rattle.tpf_base.specs.Links.{WireState}
 use Rattle.bgp_core.specs.Solutions.{Places}
-use Rattle.template_fill.specs.Authorities.{ShareAuthority}
 use Rattle.fragment_page.specs.declared.page.Page.{Page}
 use Rattle.control_reader.specs.Takes.{Takes}
 use Rattle.request_pool.specs.Pools.{Pooled, Ask, held}
@@ -14,7 +13,7 @@ use Rattle.join_core.specs.Evaluations.{Account, Standing, Terms, Sizes, HasHome
 use Rattle.tpf_client.specs.declared.asks.Arrived.{Arrived}
 use Rattle.tpf_client.specs.declared.fault.ClientFault.{ClientFault}
 use Rattle.tpf_client.specs.Traffic.{is_under, AreDistinct, Event, Asked, Came, Waited, Broke, Travels}
-use Rattle.tpf_client.specs.Causes.{Explains}
+use Rattle.tpf_client.specs.Causes.{Explains, Versions}
 use Rattle.tpf_client.specs.Asking.{PutsAll}
 
 abbrev pub address_of : Ask → Address
@@ -101,27 +100,27 @@ answered_in (Came ask reply ∷ events) = ask ∷ answered_in events
 answered_in (Waited ∷ events) = answered_in events
 answered_in (Broke fault ∷ events) = answered_in events
 
--- each address that was asked has the authority of this one
-abbrev pub AsksAt : Address → List Event → Type 0
-AsksAt home events = AllByRecursion (λ ask. ShareAuthority home ask.address) (asked_in events)
+-- each address that was asked has the authority of one of these
+abbrev pub AsksAt : List Address → List Event → Type 0
+AsksAt homes events = AllByRecursion (λ ask. HasHome homes ask.address) (asked_in events)
 
--- each page of the version that came is true for its address
-abbrev pub IsTrueReply : (Address → Page → Type 0) → Option ℕ → Event → Type 0
-IsTrueReply is_true version (Asked ask) = Unit {0}
-IsTrueReply is_true version (Came ask reply) = (page : Page) → Takes reply.body ask.address page → page.version ≡ version → is_true ask.address page
-IsTrueReply is_true version Waited = Unit {0}
-IsTrueReply is_true version (Broke fault) = Unit {0}
+-- the page that came, where it is of the version of its server, is true for its address
+abbrev pub IsTrueReply : (Address → Page → Type 0) → Versions → Event → Type 0
+IsTrueReply is_true versions (Asked ask) = Unit {0}
+IsTrueReply is_true versions (Came ask reply) = (page : Page) → Takes reply.body ask.address page → page.version ≡ versions ask.address → is_true ask.address page
+IsTrueReply is_true versions Waited = Unit {0}
+IsTrueReply is_true versions (Broke fault) = Unit {0}
 
--- the reply that came is a page of this version
-abbrev pub IsPageReply : Option ℕ → Event → Type 0
-IsPageReply version (Asked ask) = Unit {0}
-IsPageReply version (Came ask reply) = (page : Page) × Takes reply.body ask.address page × (page.version ≡ version)
-IsPageReply version Waited = Unit {0}
-IsPageReply version (Broke fault) = Unit {0}
+-- the reply that came is a page of the version of its server
+abbrev pub IsPageReply : Versions → Event → Type 0
+IsPageReply versions (Asked ask) = Unit {0}
+IsPageReply versions (Came ask reply) = (page : Page) × Takes reply.body ask.address page × (page.version ≡ versions ask.address)
+IsPageReply versions Waited = Unit {0}
+IsPageReply versions (Broke fault) = Unit {0}
 
 -- so is each that came
-abbrev pub ArePages : Option ℕ → List Event → Type 0
-ArePages version events = AllByRecursion (IsPageReply version) events
+abbrev pub ArePages : Versions → List Event → Type 0
+ArePages versions events = AllByRecursion (IsPageReply versions) events
 
 -- Where so many asks wait for their replies at first, no more than the most do at any moment.
 abbrev pub WaitFew : ℕ → ℕ → List Event → Type 0
@@ -131,8 +130,8 @@ WaitFew most waiting (Came ask reply ∷ events) = (waiting ≤ most) × WaitFew
 WaitFew most waiting (Waited ∷ events) = WaitFew most waiting events
 WaitFew most waiting (Broke fault ∷ events) = WaitFew most waiting events
 
-abbrev pub AreTrue : (Address → Page → Type 0) → Option ℕ → List Event → Type 0
-AreTrue is_true version events = AllByRecursion (IsTrueReply is_true version) events
+abbrev pub AreTrue : (Address → Page → Type 0) → Versions → List Event → Type 0
+AreTrue is_true versions events = AllByRecursion (IsTrueReply is_true versions) events
 
 -- ---- an evaluation, by its ghost members
 
@@ -168,21 +167,21 @@ module _ {Source Eval : Type 0} (suits : Source → Eval → Type 0) (account : 
     abbrev pub IsTrueFor : Source → Eval → ℕ → Page → Type 0
     IsTrueFor source e ticket page = (address : Address) → Contains (account source e).out (ticket, address) → is_true source address page
 
-    -- The page of a reply was taken: it tells the version, and the ticket is out no longer.
-    pub record TakesReply (old new : Eval) (arrived : Arrived) (version : Option ℕ) : Type 0 where
+    -- The page of a reply was taken: it tells the version of its server, and the ticket is out no longer.
+    pub record TakesReply (old new : Eval) (arrived : Arrived) (versions : Versions) : Type 0 where
       pub page : Page
       pub taken : Takes arrived.reply.body arrived.address page
-      pub is_version : page.version ≡ version
+      pub is_version : page.version ≡ versions arrived.address
       pub ends : EndsNumber (standing old) (standing new) arrived.ticket
       pub kept : (limits : Limits) → keeps limits old → HasHome limits.terms.homes arrived.address → keeps limits new
       pub stays : (source : Source) → suits source old → IsTrueFor source old arrived.ticket page → suits source new
       pub owes : (source : Source) → suits source old → IsTrueFor source old arrived.ticket page → EndsTicket (account source old) (account source new) arrived.ticket
 
     -- A source that the evaluation suits, with these asks out, and for which all pages are true that came.
-    pub record IsTruth (source : Source) (e : Eval) (version : Option ℕ) (events : List Event) (pool : Pooled) : Type 0 where
+    pub record IsTruth (source : Source) (e : Eval) (versions : Versions) (events : List Event) (pool : Pooled) : Type 0 where
       pub is_suited : suits source e
       pub is_out : IsOut pool (account source e)
-      pub pages : AreTrue (is_true source) version events
+      pub pages : AreTrue (is_true source) versions events
 
     -- what stays so after events in which these rows were given
     pub record Stays (source : Source) (old new : Eval) (rows : List Places) (asked : List Ask) (pool : Pooled) : Type 0 where
@@ -192,21 +191,21 @@ module _ {Source Eval : Type 0} (suits : Source → Eval → Type 0) (account : 
 
     module _ (allows : List ℕ → ℕ → List ℕ → List ℕ → Type 0) where
       -- Events between the pool and the wire, and the rows that the evaluation gave in these.
-      pub record Went (old new : Eval) (version : Option ℕ) (events : List Event) (rows : List Places) (pool pool' : Pooled) (wire wire' : WireState) : Type 0 where
+      pub record Went (old new : Eval) (versions : Versions) (events : List Event) (rows : List Places) (pool pool' : Pooled) (wire wire' : WireState) : Type 0 where
         pub travels : Travels allows events pool pool' wire wire'
         pub on_wire : SuitsWire pool' wire'
-        pub pages : ArePages version events
+        pub pages : ArePages versions events
         pub meets : (limits : Limits) → Meets limits (keeps limits old) (standing old) pool → Meets limits (keeps limits new) (standing new) pool'
         pub homes : (limits : Limits) → Meets limits (keeps limits old) (standing old) pool → AllByRecursion (λ ask. HasHome limits.terms.homes ask.address) (asked_in events)
         pub width : (limits : Limits) → Meets limits (keeps limits old) (standing old) pool → All (λ row. length row ≡ limits.terms.width) rows
         pub few : (limits : Limits) → Meets limits (keeps limits old) (standing old) pool → WaitFew (most_waiting limits.sizes) (length (held pool)) events
-        pub stays : (source : Source) → IsTruth source old version events pool → Stays source old new rows (asked_in events) pool'
+        pub stays : (source : Source) → IsTruth source old versions events pool → Stays source old new rows (asked_in events) pool'
 
       -- Events and rows, and then a fault.
-      pub record Failed (old : Eval) (version : Option ℕ) (budget : ℕ) (fault : ClientFault) (events : List Event) (rows : List Places) (pool pool' : Pooled) (wire wire' : WireState) : Type 0 where
+      pub record Failed (old : Eval) (versions : Versions) (budget : ℕ) (fault : ClientFault) (events : List Event) (rows : List Places) (pool pool' : Pooled) (wire wire' : WireState) : Type 0 where
         pub travels : Travels allows events pool pool' wire wire'
         pub on_wire : SuitsWire pool' wire'
-        pub explains : Explains version budget fault events
+        pub explains : Explains versions budget fault events
         pub homes : (limits : Limits) → Meets limits (keeps limits old) (standing old) pool → AllByRecursion (λ ask. HasHome limits.terms.homes ask.address) (asked_in events)
         pub few : (limits : Limits) → Meets limits (keeps limits old) (standing old) pool → WaitFew (most_waiting limits.sizes) (length (held pool)) events
-        pub owes : (source : Source) → IsTruth source old version events pool → OwesMore (account source old) rows (asked_in events)
+        pub owes : (source : Source) → IsTruth source old versions events pool → OwesMore (account source old) rows (asked_in events)

@@ -60,7 +60,7 @@ impl Model for Asks {
 }
 
 /// What every wire keeps to. It does nothing.
-pub(crate) fn is_lawful<W: Wire>(wire: &W)
+pub fn is_lawful<W: Wire>(wire: &W)
     ensures { IsLawful (W.allows wire.now) (W.state wire.now) }
 {
     a_reply_is_an_answer(wire);

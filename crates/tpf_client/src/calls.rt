@@ -1,5 +1,5 @@
 // The calls.
-ghost use Rattle.std.specs.Prelude.{ℕ, ◌≡◌, ◌≤◌, ◌⊎◌, ◌*◌, [], ◌∷◌, List, length, true, IfOk, IfErr, OnOk, OnErr, IsErrOf, None};
+ghost use Rattle.std.specs.Prelude.{ℕ, ◌≡◌, ◌≤◌, ◌<◌, ◌⊎◌, ◌*◌, ◌^◌, [], ◌∷◌, List, length, true, IfOk, IfErr, OnOk, OnErr, IsErrOf, None};
 ghost use Rattle.std.specs.Io.KnownBytes.{Appends};
 ghost use Rattle.tpf_base.specs.Causes.{Rose, counted_by};
 ghost use Rattle.result_json.specs.Results.{result_text};
@@ -8,12 +8,15 @@ ghost use Rattle.tpf_base.specs.Links.{SameAllowed};
 ghost use Rattle.bgp_core.specs.Solutions.{Places};
 ghost use Rattle.request_pool.specs.Pools.{held};
 ghost use Rattle.request_pool.specs.Owned.{SuitsWire};
-ghost use Rattle.join_core.specs.Evaluations.{HasHome};
+ghost use Rattle.join_core.specs.Rounds.{FormsAtHome};
 ghost use Rattle.tpf_client.specs.Traffic.{Event};
-ghost use Rattle.tpf_client.specs.Calls.{Joins, JoinsSome, GathersRest, WritesRest, WritesLess, WritesAll, WritesSome, Returns, Ran, RanFew, most_asked, RunsPool, WritesResult, WritesPrefix};
+ghost use Rattle.tpf_client.specs.Calls.{Joins, JoinsSome, GathersRest, WritesRest, WritesLess, WritesAll, WritesSome, Returns, Ran, RanFew, most_over, most_asked, RunsPool, WritesResult, WritesPrefix};
 ghost use Rattle.tpf_client.specs.Causes.{IsLocal};
 ghost use Rattle.tpf_client.specs.Sinks.{LeavesSink};
 ghost use Rattle.tpf_client.specs.Shown.{ShowsGiven, ShowsRest};
+ghost use Rattle.tpf_client.specs.Told.{told_at, told_by};
+ghost use Rattle.tpf_client.specs.Sources.{sources_of, world_sources};
+ghost use Rattle.tpf_client.specs.WireActs.{ActsAt};
 ghost use Rattle.tpf_client.specs.Offers.{publisher, server_offer};
 ghost use Rattle.tpf_client.specs.Ends.{server_ends};
 ghost use Rattle.tpf_client.specs.Honest.{Laws, IsSolutions, WritesSolutions, WritesSolutionsFront};
@@ -24,59 +27,62 @@ ghost use Rattle.tpf_client.specs.Acts.{ActsOnWire};
 use crate::asks::{Asks, is_lawful};
 use crate::fault::of_sink;
 use crate::rows::{ResultText, RowList, TakesRows};
-use crate::start::ask_start;
+use crate::start::{StartPages, ask_starts};
 use crate::turns::{Bounds, evaluate};
 use crate::{ClientFault, Options, Report};
 use bgp_core::{Query, Row};
 use control_laws::controls_read_back;
-use control_reader::{Page, a_body_is_one_page, pages_keep_authority};
-use join_core::Join;
+use control_reader::a_body_is_one_page;
+use join_core::{Evaluates, FormList, Join};
 use plan_laws::a_server_is_a_world;
 use pool_laws::{
     a_step_has_a_cause, asks_are_answered, exchanges_are_counted, failures_are_ends,
-    failures_are_rises, links_are_closed, requests_are_counted, starts_are_spent,
+    failures_are_rises, links_are_for_asks, requests_are_counted, starts_are_spent,
     steps_provoke_nothing, whole_replies_come_first, whole_requests_are_sent,
 };
 use rdf_terms::askable_slots_are_kept;
 use result_json::{ResultWriter, pieces_make_the_text, rows_go_on};
 use std::alloc::Global;
+use std::marker::PhantomData;
+use std::slice;
 use std::sync::Wait;
-use template_fill::{Form, WebAddress, pages_are_answered, pages_share_authority};
+use template_fill::{WebAddress, pages_are_answered, pages_share_authority};
 use tpf_base::{Dial, Fault, Sink};
 
-/// Joins the pages of a query whose start page told a form.
-fn join_pages<R: Wait, W: Dial, B, T: TakesRows<B>>(
+/// Joins the pages of a query whose start pages told forms.
+fn join_pages<R: Wait, E: Evaluates + Drop, W: Dial, B, T: TakesRows<B>>(
     rt: &R,
+    how: PhantomData<E>,
     alloc: Global,
     query: &Query,
-    start: &WebAddress,
-    form: Form,
+    forms: FormList,
     window: u32,
-    bounds: Bounds,
+    bounds: Bounds<'_>,
     asks: &mut Asks,
     wire: &mut W,
     rows: &mut T,
     behind: &mut B,
 ) -> Result<(), ClientFault>
     requires window { 1 ≤ window }
-    requires home { HasHome (start.now ∷ []) form.template.start }
+    requires some { 0 < length forms }
+    requires home { FormsAtHome bounds.starts.now forms }
     requires none { held asks.old ≡ [] }
     requires no_fault { asks.old.fault ≡ None }
     requires suits { SuitsWire asks.old (W.state wire.old) }
-    ensures joins { OnOk result ((events : List Event) × (given : List Places) × Joins (W.allows wire.old) query.now form bounds.version events given asks.old asks.new (W.state wire.old) (W.state wire.new)
+    ensures joins { OnOk result ((events : List Event) × (given : List Places) × Joins (W.allows wire.old) (sources_of E.Source E.fits E.is_true E.rows E.plan E.reported) query.now bounds.entry.starts.now forms (told_by bounds.entry) events given asks.old asks.new (W.state wire.old) (W.state wire.new)
         × T.takes given rows.old rows.new behind.old behind.new) }
-    ensures some { IfErr result (λ fault. (events : List Event) × (given : List Places) × JoinsSome (W.allows wire.old) query.now form bounds.version bounds.budget fault events given asks.old asks.new (W.state wire.old) (W.state wire.new)
+    ensures some { IfErr result (λ fault. (events : List Event) × (given : List Places) × JoinsSome (W.allows wire.old) (sources_of E.Source E.fits E.is_true E.rows E.plan E.reported) query.now bounds.entry.starts.now forms (told_by bounds.entry) bounds.entry.budget fault events given asks.old asks.new (W.state wire.old) (W.state wire.new)
         × T.takes_front given rows.old rows.new behind.old behind.new × (IsLocal fault ⊎ T.takes given rows.old rows.new behind.old behind.new)) }
-    ensures few { RanFew (W.allows wire.old) (length query.now.patterns * window) asks.old asks.new
+    ensures few { RanFew (W.allows wire.old) (length query.now.patterns * (window * length forms)) asks.old asks.new
         (W.state wire.old) (W.state wire.new) }
     ensures sink { LeavesSink (T.sink behind.old) (T.sink behind.new) result }
     ensures allowed { SameAllowed (W.allows wire.old) (W.allows wire.new) }
 {
-    match Join::new(alloc, query, form, window) {
+    match E::begin(alloc, query, forms, window) {
         Err(_) => Err(ClientFault::OutOfMemory),
-        Ok(join) => {
-            let mut join = join;
-            evaluate(rt, alloc, bounds, &mut join, asks, wire, rows, behind)
+        Ok(evaluation) => {
+            let mut evaluation = evaluation;
+            evaluate(rt, alloc, bounds, &mut evaluation, asks, wire, rows, behind)
         }
     }
 }
@@ -84,13 +90,13 @@ fn join_pages<R: Wait, W: Dial, B, T: TakesRows<B>>(
 /// Writes the result to its end: the rows that the join gives, and then the end of the text. At a
 /// fault what was made so far is given to the sink, and where that ends for want of memory the call
 /// does.
-fn write_joined<'a, R: Wait, W: Dial, K: Sink>(
+fn write_joined<'a, 'b, R: Wait, E: Evaluates + Drop, W: Dial, K: Sink>(
     rt: &R,
+    how: PhantomData<E>,
     alloc: Global,
     query: &Query,
-    start: &WebAddress,
-    form: Form,
-    bounds: Bounds,
+    forms: FormList,
+    bounds: Bounds<'b>,
     window: u32,
     asks: &mut Asks,
     wire: &mut W,
@@ -98,24 +104,25 @@ fn write_joined<'a, R: Wait, W: Dial, K: Sink>(
     out: &mut K,
 ) -> Result<(), ClientFault>
     requires window { 1 ≤ window }
-    requires home { HasHome (start.now ∷ []) form.template.start }
+    requires some { 0 < length forms }
+    requires home { FormsAtHome bounds.starts.now forms }
     requires none { held asks.old ≡ [] }
     requires no_fault { asks.old.fault ≡ None }
     requires suits { SuitsWire asks.old (W.state wire.old) }
     requires fresh { text.old ≡ begun query.now }
-    ensures ok { OnOk result ((events : List Event) × (rows : List Places) × Joins (W.allows wire.old) query.now form bounds.version events rows asks.old asks.new (W.state wire.old) (W.state wire.new)
+    ensures ok { OnOk result ((events : List Event) × (rows : List Places) × Joins (W.allows wire.old) (sources_of E.Source E.fits E.is_true E.rows E.plan E.reported) query.now bounds.entry.starts.now forms (told_by bounds.entry) events rows asks.old asks.new (W.state wire.old) (W.state wire.new)
         × Appends (K.state out.old).taken (K.state out.new).taken (result_text query.now rows) × (text.new.count ≡ counted_by (length rows) 0)) }
-    ensures err { IfErr result (λ fault. WritesLess (W.allows wire.old) query.now form bounds.version bounds.budget fault asks.old asks.new (W.state wire.old) (W.state wire.new) (K.state out.old).taken (K.state out.new).taken) }
-    ensures shown { IfErr result (λ fault. (less : WritesLess (W.allows wire.old) query.now form bounds.version bounds.budget fault asks.old asks.new (W.state wire.old) (W.state wire.new) (K.state out.old).taken (K.state out.new).taken)
-        × ShowsRest (W.allows wire.old) query.now form bounds.version bounds.budget fault asks.old asks.new (W.state wire.old) (W.state wire.new) (K.state out.old).faults (K.state out.new).faults (K.state out.old).taken (K.state out.new).taken less) }
-    ensures few { RanFew (W.allows wire.old) (length query.now.patterns * window) asks.old asks.new
+    ensures err { IfErr result (λ fault. WritesLess (W.allows wire.old) (sources_of E.Source E.fits E.is_true E.rows E.plan E.reported) query.now bounds.entry.starts.now forms (told_by bounds.entry) bounds.entry.budget fault asks.old asks.new (W.state wire.old) (W.state wire.new) (K.state out.old).taken (K.state out.new).taken) }
+    ensures shown { IfErr result (λ fault. (less : WritesLess (W.allows wire.old) (sources_of E.Source E.fits E.is_true E.rows E.plan E.reported) query.now bounds.entry.starts.now forms (told_by bounds.entry) bounds.entry.budget fault asks.old asks.new (W.state wire.old) (W.state wire.new) (K.state out.old).taken (K.state out.new).taken)
+        × ShowsRest (W.allows wire.old) (sources_of E.Source E.fits E.is_true E.rows E.plan E.reported) query.now bounds.entry.starts.now forms (told_by bounds.entry) bounds.entry.budget fault asks.old asks.new (W.state wire.old) (W.state wire.new) (K.state out.old).faults (K.state out.new).faults (K.state out.old).taken (K.state out.new).taken less) }
+    ensures few { RanFew (W.allows wire.old) (length query.now.patterns * (window * length forms)) asks.old asks.new
         (W.state wire.old) (W.state wire.new) }
     ensures sink { LeavesSink (K.state out.old) (K.state out.new) result }
     ensures allowed { SameAllowed (W.allows wire.old) (W.allows wire.new) }
 {
     pieces_make_the_text();
     match join_pages(
-        rt, alloc, query, start, form, window, bounds, asks, wire, text, out,
+        rt, how, alloc, query, forms, window, bounds, asks, wire, text, out,
     ) {
         Ok(()) => match text.finish(out) {
             Ok(()) => Ok(()),
@@ -129,35 +136,39 @@ fn write_joined<'a, R: Wait, W: Dial, K: Sink>(
     }
 }
 
-/// Writes the result whose start page is this one.
-fn write_rows<R: Wait, W: Dial, K: Sink>(
+/// Writes the result whose start pages are these.
+fn write_rows<R: Wait, E: Evaluates + Drop, W: Dial, K: Sink>(
     rt: &R,
+    how: PhantomData<E>,
     alloc: Global,
     query: &Query,
-    start: &WebAddress,
-    page: Page,
+    starts: &[WebAddress],
+    pages: StartPages,
     options: &Options,
     asks: &mut Asks,
     wire: &mut W,
     out: &mut K,
 ) -> Result<Report, ClientFault>
     requires window { 1 ≤ options.now.window }
-    requires home { HasHome (start.now ∷ []) page.form.template.start }
+    requires home { FormsAtHome starts.now pages.forms }
+    requires some { 0 < length pages.forms }
+    requires told { 0 < length pages.versions.items }
     requires none { held asks.old ≡ [] }
     requires no_fault { asks.old.fault ≡ None }
     requires suits { SuitsWire asks.old (W.state wire.old) }
-    ensures ok { IfOk result (λ report. WritesRest (W.allows wire.old) query.now page.form page.version report asks.old asks.new (W.state wire.old) (W.state wire.new) (K.state out.old).taken (K.state out.new).taken) }
-    ensures err { IfErr result (λ fault. WritesLess (W.allows wire.old) query.now page.form page.version options.now.budget fault asks.old asks.new (W.state wire.old) (W.state wire.new) (K.state out.old).taken (K.state out.new).taken) }
-    ensures shown { IfErr result (λ fault. (less : WritesLess (W.allows wire.old) query.now page.form page.version options.now.budget fault asks.old asks.new (W.state wire.old) (W.state wire.new) (K.state out.old).taken (K.state out.new).taken)
-        × ShowsRest (W.allows wire.old) query.now page.form page.version options.now.budget fault asks.old asks.new (W.state wire.old) (W.state wire.new) (K.state out.old).faults (K.state out.new).faults (K.state out.old).taken (K.state out.new).taken less) }
-    ensures few { RanFew (W.allows wire.old) (length query.now.patterns * options.now.window) asks.old asks.new
+    ensures ok { IfOk result (λ report. WritesRest (W.allows wire.old) (sources_of E.Source E.fits E.is_true E.rows E.plan E.reported) query.now starts.now pages.forms pages.versions.items report asks.old asks.new (W.state wire.old) (W.state wire.new) (K.state out.old).taken (K.state out.new).taken) }
+    ensures err { IfErr result (λ fault. WritesLess (W.allows wire.old) (sources_of E.Source E.fits E.is_true E.rows E.plan E.reported) query.now starts.now pages.forms (told_at starts.now pages.versions.items) options.now.budget fault asks.old asks.new (W.state wire.old) (W.state wire.new) (K.state out.old).taken (K.state out.new).taken) }
+    ensures shown { IfErr result (λ fault. (less : WritesLess (W.allows wire.old) (sources_of E.Source E.fits E.is_true E.rows E.plan E.reported) query.now starts.now pages.forms (told_at starts.now pages.versions.items) options.now.budget fault asks.old asks.new (W.state wire.old) (W.state wire.new) (K.state out.old).taken (K.state out.new).taken)
+        × ShowsRest (W.allows wire.old) (sources_of E.Source E.fits E.is_true E.rows E.plan E.reported) query.now starts.now pages.forms (told_at starts.now pages.versions.items) options.now.budget fault asks.old asks.new (W.state wire.old) (W.state wire.new) (K.state out.old).faults (K.state out.new).faults (K.state out.old).taken (K.state out.new).taken less) }
+    ensures few { RanFew (W.allows wire.old) (length query.now.patterns * (options.now.window * length pages.forms)) asks.old asks.new
         (W.state wire.old) (W.state wire.new) }
     ensures sink { LeavesSink (K.state out.old) (K.state out.new) result }
     ensures allowed { SameAllowed (W.allows wire.old) (W.allows wire.new) }
 {
-    let Page { form, version, .. } = page;
+    let StartPages { forms, versions } = pages;
     let bounds = Bounds {
-        version,
+        starts,
+        versions: versions.as_slice(),
         budget: options.budget,
     };
     match ResultWriter::begin(alloc, query) {
@@ -166,10 +177,10 @@ fn write_rows<R: Wait, W: Dial, K: Sink>(
             let mut text = ResultText::new(writer);
             match write_joined(
                 rt,
+                how,
                 alloc,
                 query,
-                start,
-                form,
+                forms,
                 bounds,
                 options.window,
                 asks,
@@ -181,48 +192,50 @@ fn write_rows<R: Wait, W: Dial, K: Sink>(
                 Ok(()) => Ok(Report {
                     requests: asks.started(),
                     rows: text.count(),
-                    version,
+                    version: E::report_version(versions[0]),
                 }),
             }
         }
     }
 }
 
-/// Asks for the start page, and writes the result.
-fn write_result<R: Wait, W: Dial, K: Sink>(
+/// Asks for the start pages, and writes the result.
+fn write_result<R: Wait, E: Evaluates + Drop, W: Dial, K: Sink>(
     rt: &R,
+    how: PhantomData<E>,
     alloc: Global,
     query: &Query,
-    start: &WebAddress,
+    starts: &[WebAddress],
     options: &Options,
     asks: &mut Asks,
     wire: &mut W,
     out: &mut K,
 ) -> Result<Report, ClientFault>
+    requires starts { 0 < length starts.now }
     requires window { 1 ≤ options.now.window }
     requires none { held asks.old ≡ [] }
     requires no_fault { asks.old.fault ≡ None }
     requires suits { SuitsWire asks.old (W.state wire.old) }
-    ensures ok { IfOk result (λ report. WritesAll (Ran (W.allows wire.old) asks.old asks.new (W.state wire.old) (W.state wire.new)) query.now start.now report (K.state out.old).taken (K.state out.new).taken) }
-    ensures err { IfErr result (λ fault. WritesSome (Ran (W.allows wire.old) asks.old asks.new (W.state wire.old) (W.state wire.new)) query.now start.now options.now.budget fault (K.state out.old).taken (K.state out.new).taken) }
-    ensures shown { IfErr result (λ fault. (some : WritesSome (Ran (W.allows wire.old) asks.old asks.new (W.state wire.old) (W.state wire.new)) query.now start.now options.now.budget fault (K.state out.old).taken (K.state out.new).taken)
-        × ShowsGiven (Ran (W.allows wire.old) asks.old asks.new (W.state wire.old) (W.state wire.new)) query.now start.now options.now.budget fault (K.state out.old).faults (K.state out.new).faults (K.state out.old).taken (K.state out.new).taken some) }
-    ensures few { RanFew (W.allows wire.old) (most_asked options.now query.now) asks.old asks.new
+    ensures ok { IfOk result (λ report. WritesAll (Ran (W.allows wire.old) asks.old asks.new (W.state wire.old) (W.state wire.new)) (sources_of E.Source E.fits E.is_true E.rows E.plan E.reported) query.now starts.now report (K.state out.old).taken (K.state out.new).taken) }
+    ensures err { IfErr result (λ fault. WritesSome (Ran (W.allows wire.old) asks.old asks.new (W.state wire.old) (W.state wire.new)) (sources_of E.Source E.fits E.is_true E.rows E.plan E.reported) query.now starts.now options.now.budget fault (K.state out.old).taken (K.state out.new).taken) }
+    ensures shown { IfErr result (λ fault. (some : WritesSome (Ran (W.allows wire.old) asks.old asks.new (W.state wire.old) (W.state wire.new)) (sources_of E.Source E.fits E.is_true E.rows E.plan E.reported) query.now starts.now options.now.budget fault (K.state out.old).taken (K.state out.new).taken)
+        × ShowsGiven (Ran (W.allows wire.old) asks.old asks.new (W.state wire.old) (W.state wire.new)) (sources_of E.Source E.fits E.is_true E.rows E.plan E.reported) query.now starts.now options.now.budget fault (K.state out.old).faults (K.state out.new).faults (K.state out.old).taken (K.state out.new).taken some) }
+    ensures few { RanFew (W.allows wire.old) (most_over options.now query.now (length starts.now)) asks.old asks.new
         (W.state wire.old) (W.state wire.new) }
     ensures suits { SuitsWire asks.new (W.state wire.new) }
     ensures sink { LeavesSink (K.state out.old) (K.state out.new) result }
     ensures allowed { SameAllowed (W.allows wire.old) (W.allows wire.new) }
 {
-    pages_keep_authority();
-    start.is_valid();
-    match ask_start(rt, alloc, start, options.budget, asks, wire) {
-        Ok(page) => write_rows(rt, alloc, query, start, page, options, asks, wire, out),
+    match ask_starts(rt, alloc, starts, options.budget, asks, wire) {
+        Ok(pages) => write_rows(
+            rt, how, alloc, query, starts, pages, options, asks, wire, out,
+        ),
         Err(fault) => Err(fault),
     }
 }
 
 /// The laws on which the solutions rest. It does nothing.
-fn solutions_rest_on_laws()
+pub fn solutions_rest_on_laws()
     ensures { Laws }
 {
     whole_replies_come_first();
@@ -237,10 +250,10 @@ fn solutions_rest_on_laws()
 }
 
 /// The laws on which what is said of links and requests rests. It does nothing.
-fn traffic_rests_on_laws<W: Dial>(wire: &W)
+pub fn traffic_rests_on_laws<W: Dial>(wire: &W)
     ensures { TrafficLaws }
 {
-    links_are_closed();
+    links_are_for_asks();
     exchanges_are_counted();
     a_step_has_a_cause();
     whole_requests_are_sent();
@@ -250,6 +263,51 @@ fn traffic_rests_on_laws<W: Dial>(wire: &W)
     failures_are_ends();
     starts_are_spent();
     steps_provoke_nothing(wire);
+}
+
+/// A bound of a body is below 2^64. It does nothing.
+fn is_bounded(max_body: u64)
+    ensures { max_body < 2 ^ 64 }
+{}
+
+/// Asks the servers of the start pages for what a query needs, and writes the text of its result. What it asks for and the
+/// rows that it writes are those of an evaluation that begins behind the start pages, which are asked for one after another:
+/// `query` is the call over one server, by `Join`. Condition: there is a start.
+///
+/// The faults, what is written where one comes, and what is left of the connections are as with `query`, for the hosts and
+/// ports of the starts. These clauses hold whatever the other ends answer; what they mean over honest other ends is said by
+/// the calls that use this one.
+pub fn evaluate_to<R: Wait, E: Evaluates + Drop, W: Dial, K: Sink>(
+    rt: &R,
+    how: PhantomData<E>,
+    alloc: Global,
+    query: &Query,
+    starts: &[WebAddress],
+    options: &Options,
+    wire: &mut W,
+    out: &mut K,
+) -> Result<Report, ClientFault>
+    requires starts { 0 < length starts.now }
+    requires window { 1 ≤ options.now.window }
+    requires some { 1 ≤ options.now.links }
+    requires few { options.now.links ≤ 256 }
+    ensures whole { IfOk result (λ report. WritesResult query.now report.rows (K.state out.old).taken (K.state out.new).taken) }
+    ensures front { OnErr result (WritesPrefix query.now (K.state out.old).taken (K.state out.new).taken) }
+    ensures ok { IfOk result (λ report. WritesAll (RunsPool (W.allows wire.old) options.now (W.state wire.old) (W.state wire.new)) (sources_of E.Source E.fits E.is_true E.rows E.plan E.reported) query.now starts.now report (K.state out.old).taken (K.state out.new).taken) }
+    ensures err { IfErr result (λ fault. WritesSome (RunsPool (W.allows wire.old) options.now (W.state wire.old) (W.state wire.new)) (sources_of E.Source E.fits E.is_true E.rows E.plan E.reported) query.now starts.now options.now.budget fault (K.state out.old).taken (K.state out.new).taken) }
+    ensures shown { IfErr result (λ fault. (some : WritesSome (RunsPool (W.allows wire.old) options.now (W.state wire.old) (W.state wire.new)) (sources_of E.Source E.fits E.is_true E.rows E.plan E.reported) query.now starts.now options.now.budget fault (K.state out.old).taken (K.state out.new).taken)
+        × ShowsGiven (RunsPool (W.allows wire.old) options.now (W.state wire.old) (W.state wire.new)) (sources_of E.Source E.fits E.is_true E.rows E.plan E.reported) query.now starts.now options.now.budget fault (K.state out.old).faults (K.state out.new).faults (K.state out.old).taken (K.state out.new).taken some) }
+    ensures acts { ActsAt (W.allows wire.old) options.now starts.now query.now result (λ report. report) (W.state wire.old) (W.state wire.new) }
+    ensures sink { LeavesSink (K.state out.old) (K.state out.new) result }
+    ensures allowed { SameAllowed (W.allows wire.old) (W.allows wire.new) }
+{
+    is_lawful(wire);
+    solutions_rest_on_laws();
+    traffic_rests_on_laws(wire);
+    let mut asks = Asks::new(alloc, options);
+    let ended = write_result(rt, how, alloc, query, starts, options, &mut asks, wire, out);
+    asks.close(wire);
+    ended
 }
 
 /// Asks the server of a start page for what a query needs, and writes the text of its result (Triple
@@ -287,13 +345,13 @@ pub fn query<R: Wait, W: Dial, K: Sink>(
     requires few { options.now.links ≤ 256 }
     ensures whole { IfOk result (λ report. WritesResult query.now report.rows (K.state out.old).taken (K.state out.new).taken) }
     ensures front { OnErr result (WritesPrefix query.now (K.state out.old).taken (K.state out.new).taken) }
-    ensures ok { IfOk result (λ report. WritesAll (RunsPool (W.allows wire.old) options.now (W.state wire.old) (W.state wire.new)) query.now start.now report (K.state out.old).taken (K.state out.new).taken) }
-    ensures err { IfErr result (λ fault. WritesSome (RunsPool (W.allows wire.old) options.now (W.state wire.old) (W.state wire.new)) query.now start.now options.now.budget fault (K.state out.old).taken (K.state out.new).taken) }
-    ensures shown { IfErr result (λ fault. (some : WritesSome (RunsPool (W.allows wire.old) options.now (W.state wire.old) (W.state wire.new)) query.now start.now options.now.budget fault (K.state out.old).taken (K.state out.new).taken)
-        × ShowsGiven (RunsPool (W.allows wire.old) options.now (W.state wire.old) (W.state wire.new)) query.now start.now options.now.budget fault (K.state out.old).faults (K.state out.new).faults (K.state out.old).taken (K.state out.new).taken some) }
+    ensures ok { IfOk result (λ report. WritesAll (RunsPool (W.allows wire.old) options.now (W.state wire.old) (W.state wire.new)) world_sources query.now (start.now ∷ []) report (K.state out.old).taken (K.state out.new).taken) }
+    ensures err { IfErr result (λ fault. WritesSome (RunsPool (W.allows wire.old) options.now (W.state wire.old) (W.state wire.new)) world_sources query.now (start.now ∷ []) options.now.budget fault (K.state out.old).taken (K.state out.new).taken) }
+    ensures shown { IfErr result (λ fault. (some : WritesSome (RunsPool (W.allows wire.old) options.now (W.state wire.old) (W.state wire.new)) world_sources query.now (start.now ∷ []) options.now.budget fault (K.state out.old).taken (K.state out.new).taken)
+        × ShowsGiven (RunsPool (W.allows wire.old) options.now (W.state wire.old) (W.state wire.new)) world_sources query.now (start.now ∷ []) options.now.budget fault (K.state out.old).faults (K.state out.new).faults (K.state out.old).taken (K.state out.new).taken some) }
     ensures headline { OverHonest (W.allows wire.old) (W.state wire.old) (λ history config. IfOk result (λ report. WritesSolutions (server_offer (publisher history config) query.now start.now) query.now report.version report.rows (K.state out.old).taken (K.state out.new).taken)) }
     ensures prefix { OverHonest (W.allows wire.old) (W.state wire.old) (λ history config. OnErr result (WritesSolutionsFront (server_offer (publisher history config) query.now start.now) query.now (K.state out.old).taken (K.state out.new).taken)) }
-    ensures acts { ActsOnWire (W.allows wire.old) (server_ends query.now start.now) options.now start.now (most_asked options.now query.now) result (λ report. report) (W.state wire.old) (W.state wire.new) }
+    ensures acts { ActsOnWire (W.allows wire.old) (server_ends query.now start.now) options.now (start.now ∷ []) (most_asked options.now query.now) result (λ report. report) (W.state wire.old) (W.state wire.new) }
     ensures complete { OverHonest (W.allows wire.old) (W.state wire.old) (λ history config. (W.state wire.old).nature.lively ≡ true → (rise : ℕ) → RisesFew options.now rise (W.state wire.old) (W.state wire.new)
         → PlanFits (server_offer (publisher history config) query.now start.now) options.now rise → (Rose (K.state out.old).faults (K.state out.new).faults → ⊥) → IfErr result (MayStill (server_offer (publisher history config) query.now start.now))) }
     ensures sink { LeavesSink (K.state out.old) (K.state out.new) result }
@@ -302,47 +360,58 @@ pub fn query<R: Wait, W: Dial, K: Sink>(
     is_lawful(wire);
     solutions_rest_on_laws();
     traffic_rests_on_laws(wire);
-    let mut asks = Asks::new(alloc, options);
-    let ended = write_result(rt, alloc, query, start, options, &mut asks, wire, out);
-    asks.close(wire);
-    ended
+    is_bounded(options.max_body);
+    evaluate_to(
+        rt,
+        PhantomData::<Join>,
+        alloc,
+        query,
+        slice::from_ref(start),
+        options,
+        wire,
+        out,
+    )
 }
 
-/// Gathers the rows whose start page is this one.
-fn gather_rows<R: Wait, W: Dial>(
+/// Gathers the rows whose start pages are these.
+fn gather_rows<R: Wait, E: Evaluates + Drop, W: Dial>(
     rt: &R,
+    how: PhantomData<E>,
     alloc: Global,
     query: &Query,
-    start: &WebAddress,
-    page: Page,
+    starts: &[WebAddress],
+    pages: StartPages,
     options: &Options,
     asks: &mut Asks,
     wire: &mut W,
 ) -> Result<(Vec<Row>, Report), ClientFault>
     requires window { 1 ≤ options.now.window }
-    requires home { HasHome (start.now ∷ []) page.form.template.start }
+    requires home { FormsAtHome starts.now pages.forms }
+    requires some { 0 < length pages.forms }
+    requires told { 0 < length pages.versions.items }
     requires none { held asks.old ≡ [] }
     requires no_fault { asks.old.fault ≡ None }
     requires suits { SuitsWire asks.old (W.state wire.old) }
-    ensures ok { IfOk result (λ r. GathersRest (W.allows wire.old) query.now page.form page.version r.1 r.0.items asks.old asks.new (W.state wire.old) (W.state wire.new)) }
-    ensures err { IfErr result (λ fault. WritesLess (W.allows wire.old) query.now page.form page.version options.now.budget fault asks.old asks.new (W.state wire.old) (W.state wire.new) None None) }
-    ensures few { RanFew (W.allows wire.old) (length query.now.patterns * options.now.window) asks.old asks.new
+    ensures ok { IfOk result (λ r. GathersRest (W.allows wire.old) (sources_of E.Source E.fits E.is_true E.rows E.plan E.reported) query.now starts.now pages.forms pages.versions.items r.1 r.0.items asks.old asks.new (W.state wire.old) (W.state wire.new)) }
+    ensures err { IfErr result (λ fault. WritesLess (W.allows wire.old) (sources_of E.Source E.fits E.is_true E.rows E.plan E.reported) query.now starts.now pages.forms (told_at starts.now pages.versions.items) options.now.budget fault asks.old asks.new (W.state wire.old) (W.state wire.new) None None) }
+    ensures few { RanFew (W.allows wire.old) (length query.now.patterns * (options.now.window * length pages.forms)) asks.old asks.new
         (W.state wire.old) (W.state wire.new) }
     ensures sink { IsErrOf result ClientFault.Sink → ⊥ }
     ensures allowed { SameAllowed (W.allows wire.old) (W.allows wire.new) }
 {
-    let Page { form, version, .. } = page;
+    let StartPages { forms, versions } = pages;
     let bounds = Bounds {
-        version,
+        starts,
+        versions: versions.as_slice(),
         budget: options.budget,
     };
     let mut list = RowList::new(alloc);
     match join_pages(
         rt,
+        how,
         alloc,
         query,
-        start,
-        form,
+        forms,
         options.window,
         bounds,
         asks,
@@ -356,41 +425,72 @@ fn gather_rows<R: Wait, W: Dial>(
             let report = Report {
                 requests: asks.started(),
                 rows: rows.len() as u64,
-                version,
+                version: E::report_version(versions[0]),
             };
             Ok((rows, report))
         }
     }
 }
 
-/// Asks for the start page, and gathers the rows.
-fn gather<R: Wait, W: Dial>(
+/// Asks for the start pages, and gathers the rows.
+fn gather<R: Wait, E: Evaluates + Drop, W: Dial>(
     rt: &R,
+    how: PhantomData<E>,
     alloc: Global,
     query: &Query,
-    start: &WebAddress,
+    starts: &[WebAddress],
     options: &Options,
     asks: &mut Asks,
     wire: &mut W,
 ) -> Result<(Vec<Row>, Report), ClientFault>
+    requires starts { 0 < length starts.now }
     requires window { 1 ≤ options.now.window }
     requires none { held asks.old ≡ [] }
     requires no_fault { asks.old.fault ≡ None }
     requires suits { SuitsWire asks.old (W.state wire.old) }
-    ensures ok { IfOk result (λ r. Returns (Ran (W.allows wire.old) asks.old asks.new (W.state wire.old) (W.state wire.new)) query.now start.now r.1 r.0.items) }
-    ensures err { IfErr result (λ fault. WritesSome (Ran (W.allows wire.old) asks.old asks.new (W.state wire.old) (W.state wire.new)) query.now start.now options.now.budget fault None None) }
-    ensures few { RanFew (W.allows wire.old) (most_asked options.now query.now) asks.old asks.new
+    ensures ok { IfOk result (λ r. Returns (Ran (W.allows wire.old) asks.old asks.new (W.state wire.old) (W.state wire.new)) (sources_of E.Source E.fits E.is_true E.rows E.plan E.reported) query.now starts.now r.1 r.0.items) }
+    ensures err { IfErr result (λ fault. WritesSome (Ran (W.allows wire.old) asks.old asks.new (W.state wire.old) (W.state wire.new)) (sources_of E.Source E.fits E.is_true E.rows E.plan E.reported) query.now starts.now options.now.budget fault None None) }
+    ensures few { RanFew (W.allows wire.old) (most_over options.now query.now (length starts.now)) asks.old asks.new
         (W.state wire.old) (W.state wire.new) }
     ensures suits { SuitsWire asks.new (W.state wire.new) }
     ensures sink { IsErrOf result ClientFault.Sink → ⊥ }
     ensures allowed { SameAllowed (W.allows wire.old) (W.allows wire.new) }
 {
-    pages_keep_authority();
-    start.is_valid();
-    match ask_start(rt, alloc, start, options.budget, asks, wire) {
-        Ok(page) => gather_rows(rt, alloc, query, start, page, options, asks, wire),
+    match ask_starts(rt, alloc, starts, options.budget, asks, wire) {
+        Ok(pages) => gather_rows(rt, how, alloc, query, starts, pages, options, asks, wire),
         Err(fault) => Err(fault),
     }
+}
+
+/// Asks the servers of the start pages for what a query needs, and gives the rows of its result (solution mappings) in a
+/// list, each with a place for every name of the query: `evaluate_to` without a sink, so that `Sink` never comes. At a fault
+/// no rows are given. Condition: there is a start.
+pub fn evaluate_rows<R: Wait, E: Evaluates + Drop, W: Dial>(
+    rt: &R,
+    how: PhantomData<E>,
+    alloc: Global,
+    query: &Query,
+    starts: &[WebAddress],
+    options: &Options,
+    wire: &mut W,
+) -> Result<(Vec<Row>, Report), ClientFault>
+    requires starts { 0 < length starts.now }
+    requires window { 1 ≤ options.now.window }
+    requires some { 1 ≤ options.now.links }
+    requires few { options.now.links ≤ 256 }
+    ensures ok { IfOk result (λ r. Returns (RunsPool (W.allows wire.old) options.now (W.state wire.old) (W.state wire.new)) (sources_of E.Source E.fits E.is_true E.rows E.plan E.reported) query.now starts.now r.1 r.0.items) }
+    ensures err { IfErr result (λ fault. WritesSome (RunsPool (W.allows wire.old) options.now (W.state wire.old) (W.state wire.new)) (sources_of E.Source E.fits E.is_true E.rows E.plan E.reported) query.now starts.now options.now.budget fault None None) }
+    ensures acts { ActsAt (W.allows wire.old) options.now starts.now query.now result (λ r. r.1) (W.state wire.old) (W.state wire.new) }
+    ensures sink { IsErrOf result ClientFault.Sink → ⊥ }
+    ensures allowed { SameAllowed (W.allows wire.old) (W.allows wire.new) }
+{
+    is_lawful(wire);
+    solutions_rest_on_laws();
+    traffic_rests_on_laws(wire);
+    let mut asks = Asks::new(alloc, options);
+    let ended = gather(rt, how, alloc, query, starts, options, &mut asks, wire);
+    asks.close(wire);
+    ended
 }
 
 /// Asks the server of a start page for what a query needs, and gives the rows of its result (solution
@@ -407,10 +507,10 @@ pub fn collect<R: Wait, W: Dial>(
     requires window { 1 ≤ options.now.window }
     requires some { 1 ≤ options.now.links }
     requires few { options.now.links ≤ 256 }
-    ensures ok { IfOk result (λ r. Returns (RunsPool (W.allows wire.old) options.now (W.state wire.old) (W.state wire.new)) query.now start.now r.1 r.0.items) }
-    ensures err { IfErr result (λ fault. WritesSome (RunsPool (W.allows wire.old) options.now (W.state wire.old) (W.state wire.new)) query.now start.now options.now.budget fault None None) }
+    ensures ok { IfOk result (λ r. Returns (RunsPool (W.allows wire.old) options.now (W.state wire.old) (W.state wire.new)) world_sources query.now (start.now ∷ []) r.1 r.0.items) }
+    ensures err { IfErr result (λ fault. WritesSome (RunsPool (W.allows wire.old) options.now (W.state wire.old) (W.state wire.new)) world_sources query.now (start.now ∷ []) options.now.budget fault None None) }
     ensures headline { OverHonest (W.allows wire.old) (W.state wire.old) (λ history config. IfOk result (λ r. IsSolutions (server_offer (publisher history config) query.now start.now) r.1.version r.0.items)) }
-    ensures acts { ActsOnWire (W.allows wire.old) (server_ends query.now start.now) options.now start.now (most_asked options.now query.now) result (λ r. r.1) (W.state wire.old) (W.state wire.new) }
+    ensures acts { ActsOnWire (W.allows wire.old) (server_ends query.now start.now) options.now (start.now ∷ []) (most_asked options.now query.now) result (λ r. r.1) (W.state wire.old) (W.state wire.new) }
     ensures complete { OverHonest (W.allows wire.old) (W.state wire.old) (λ history config. (W.state wire.old).nature.lively ≡ true → (rise : ℕ) → RisesFew options.now rise (W.state wire.old) (W.state wire.new)
         → PlanFits (server_offer (publisher history config) query.now start.now) options.now rise → IfErr result (MayStill (server_offer (publisher history config) query.now start.now))) }
     ensures sink { IsErrOf result ClientFault.Sink → ⊥ }
@@ -419,8 +519,14 @@ pub fn collect<R: Wait, W: Dial>(
     is_lawful(wire);
     solutions_rest_on_laws();
     traffic_rests_on_laws(wire);
-    let mut asks = Asks::new(alloc, options);
-    let ended = gather(rt, alloc, query, start, options, &mut asks, wire);
-    asks.close(wire);
-    ended
+    is_bounded(options.max_body);
+    evaluate_rows(
+        rt,
+        PhantomData::<Join>,
+        alloc,
+        query,
+        slice::from_ref(start),
+        options,
+        wire,
+    )
 }

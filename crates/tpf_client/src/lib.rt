@@ -21,6 +21,9 @@ mod rows;
 mod start;
 mod turns;
 
-pub use calls::{collect, query};
+pub use asks::is_lawful;
+pub use calls::{
+    collect, evaluate_rows, evaluate_to, query, solutions_rest_on_laws, traffic_rests_on_laws,
+};
 pub use fault::ClientFault;
 pub use options::{Options, Report};

@@ -1,20 +1,21 @@
-// The first request, and replies.
-ghost use Rattle.std.specs.Prelude.{◌≡◌, ◌≢◌, ◌∷◌, [], None, OnOk, OnErr, IsErrOf};
+// The first requests, and replies.
+ghost use Rattle.std.specs.Prelude.{◌≡◌, ◌≢◌, ◌<◌, ◌++◌, ◌∷◌, [], length, None, OnOk, OnErr, IsErrOf};
 ghost use Rattle.std.specs.List.Sorted.{IsPermutation};
 ghost use Rattle.tpf_base.specs.Links.{SameAllowed};
 ghost use Rattle.request_pool.specs.Pools.{held};
 ghost use Rattle.request_pool.specs.Owned.{SuitsWire};
 ghost use Rattle.tpf_client.specs.Asking.{Awaits, PutsOne, ReadsPage};
-ghost use Rattle.tpf_client.specs.Starts.{Starts, start_ask};
+ghost use Rattle.tpf_client.specs.Starts.{Starts, StartsAll, start_ask};
 
 use crate::ClientFault;
 use crate::asks::{Arrived, Asks, Next, is_lawful};
 use crate::fault::shown;
-use control_reader::{Page, PageFault, read_page};
+use control_reader::{Page, PageFault, pages_keep_authority, read_page};
+use join_core::FormList;
 use request_pool::PoolFault;
 use std::alloc::Global;
 use std::sync::Wait;
-use template_fill::WebAddress;
+use template_fill::{Form, WebAddress};
 use tpf_base::{Dial, OutOfMemory};
 
 /// The ticket of the start: no evaluation gives it.
@@ -94,7 +95,7 @@ fn await_start<R: Wait, W: Dial>(
 }
 
 /// Asks for the start, and reads its page.
-pub(crate) fn ask_start<R: Wait, W: Dial>(
+fn ask_start<R: Wait, W: Dial>(
     rt: &R,
     alloc: Global,
     start: &WebAddress,
@@ -114,4 +115,62 @@ pub(crate) fn ask_start<R: Wait, W: Dial>(
         Ok(()) => await_start(rt, alloc, start, budget, asks, wire),
         Err(_) => Err(ClientFault::OutOfMemory),
     }
+}
+
+/// What the start pages told: the form of each server, and the version of its data.
+#[derive(Drop)]
+pub(crate) struct StartPages {
+    pub(crate) forms: FormList,
+    pub(crate) versions: Vec<Option<u64>>,
+}
+
+/// Notes what a start page told. The only error is out of memory.
+fn note_page(
+    page: Page,
+    forms: &mut Vec<Form>,
+    versions: &mut Vec<Option<u64>>,
+) -> Result<(), OutOfMemory>
+    ensures forms { OnOk result (forms.new.items ≡ forms.old.items ++ page.form ∷ []) }
+    ensures versions { OnOk result (versions.new.items ≡ versions.old.items ++ page.version ∷ []) }
+{
+    let Page { form, version, .. } = page;
+    forms.push(form)?;
+    versions.push(version)?;
+    Ok(())
+}
+
+/// Asks for the starts, one after another, and reads their pages. Condition: there is a start.
+pub(crate) fn ask_starts<R: Wait, W: Dial>(
+    rt: &R,
+    alloc: Global,
+    starts: &[WebAddress],
+    budget: u64,
+    asks: &mut Asks,
+    wire: &mut W,
+) -> Result<StartPages, ClientFault>
+    requires some { 0 < length starts.now }
+    requires suits { SuitsWire asks.old (W.state wire.old) }
+    requires no_fault { asks.old.fault ≡ None }
+    requires none { held asks.old ≡ [] }
+    ensures starts { StartsAll (W.allows wire.old) starts.now budget result asks.old asks.new (W.state wire.old) (W.state wire.new) }
+    ensures no_sink { IsErrOf result ClientFault.Sink → ⊥ }
+    ensures allowed { SameAllowed (W.allows wire.old) (W.allows wire.new) }
+{
+    pages_keep_authority();
+    let mut forms = Vec::new(alloc);
+    let mut versions = Vec::new(alloc);
+    for start in starts {
+        start.is_valid();
+        match ask_start(rt, alloc, start, budget, asks, wire) {
+            Err(fault) => return Err(fault),
+            Ok(page) => match note_page(page, &mut forms, &mut versions) {
+                Ok(()) => {}
+                Err(_) => return Err(ClientFault::OutOfMemory),
+            },
+        }
+    }
+    Ok(StartPages {
+        forms: FormList::from_vec(forms),
+        versions,
+    })
 }

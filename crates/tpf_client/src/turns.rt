@@ -7,6 +7,7 @@ ghost use Rattle.request_pool.specs.Pools.{Ask, held};
 ghost use Rattle.request_pool.specs.Owned.{SuitsWire};
 ghost use Rattle.join_core.specs.Evaluations.{EndsInQuiet};
 ghost use Rattle.tpf_client.specs.Traffic.{Event};
+ghost use Rattle.tpf_client.specs.Told.{told_at, told_by};
 ghost use Rattle.tpf_client.specs.Turns.{Limits, keeps_both, Meets, Hands, Gives, Readies, TakesReply, Went, Failed};
 ghost use Rattle.tpf_client.specs.Causes.{IsTakeFault, IsLocal};
 ghost use Rattle.tpf_client.specs.Sinks.{KeepsSink, LeavesSink};
@@ -20,6 +21,7 @@ use control_reader::{Page, pages_keep_authority};
 use join_core::{Answered, Evaluates};
 use std::alloc::Global;
 use std::sync::Wait;
+use template_fill::WebAddress;
 use tpf_base::{Dial, Fault, OutOfMemory};
 
 /// Hands the next ask of an evaluation over, and says whether there was one.
@@ -108,7 +110,7 @@ fn tells_version(page: &Page, version: Option<u64>) -> bool
     }
 }
 
-/// Hands the page of a reply to an evaluation, where it tells the same version as the start page.
+/// Hands the page of a reply to an evaluation, where it tells the same version as the start page of its server.
 fn take_reply<E: Evaluates>(
     alloc: Global,
     evaluation: &mut E,
@@ -116,8 +118,8 @@ fn take_reply<E: Evaluates>(
     version: Option<u64>,
 ) -> Result<(), ClientFault>
     requires out { Contains (E.standing evaluation.old).out arrived.ticket }
-    ensures ok { OnOk result (TakesReply E.suits E.account (keeps_both E.keeps_to E.keeps_small) E.standing E.is_true evaluation.old evaluation.new arrived version) }
-    ensures err { IfErr result (IsTakeFault arrived version) }
+    ensures ok { OnOk result (TakesReply E.suits E.account (keeps_both E.keeps_to E.keeps_small) E.standing E.is_true evaluation.old evaluation.new arrived (λ address. version)) }
+    ensures err { IfErr result (IsTakeFault arrived (λ address. version)) }
 {
     pages_keep_authority();
     arrived.address.is_valid();
@@ -173,7 +175,7 @@ fn prepare<E: Evaluates, B, T: TakesRows<B>>(
 fn take_next<R: Wait, E: Evaluates, W: Dial>(
     rt: &R,
     alloc: Global,
-    bounds: Bounds,
+    bounds: Bounds<'_>,
     evaluation: &mut E,
     asks: &mut Asks,
     wire: &mut W,
@@ -181,15 +183,18 @@ fn take_next<R: Wait, E: Evaluates, W: Dial>(
     requires meets { (limits : Limits) × Meets limits (keeps_both E.keeps_to E.keeps_small limits evaluation.old) (E.standing evaluation.old) asks.old }
     requires some { held asks.old ≢ [] }
     requires suits { SuitsWire asks.old (W.state wire.old) }
-    ensures ok { OnOk result ((events : List Event) × Went E.suits E.account (keeps_both E.keeps_to E.keeps_small) E.standing E.is_true (W.allows wire.old) evaluation.old evaluation.new bounds.version events [] asks.old asks.new (W.state wire.old) (W.state wire.new)) }
+    ensures ok { OnOk result ((events : List Event) × Went E.suits E.account (keeps_both E.keeps_to E.keeps_small) E.standing E.is_true (W.allows wire.old) evaluation.old evaluation.new (told_by bounds.entry) events [] asks.old asks.new (W.state wire.old) (W.state wire.new)) }
     ensures given { OnOk result ((E.standing evaluation.new).given ≡ (E.standing evaluation.old).given) }
-    ensures err { IfErr result (λ fault. (events : List Event) × Failed E.suits E.account (keeps_both E.keeps_to E.keeps_small) E.standing E.is_true (W.allows wire.old) evaluation.old bounds.version bounds.budget fault events [] asks.old asks.new (W.state wire.old) (W.state wire.new)) }
+    ensures err { IfErr result (λ fault. (events : List Event) × Failed E.suits E.account (keeps_both E.keeps_to E.keeps_small) E.standing E.is_true (W.allows wire.old) evaluation.old (told_by bounds.entry) bounds.entry.budget fault events [] asks.old asks.new (W.state wire.old) (W.state wire.new)) }
     ensures no_sink { IsErrOf result ClientFault.Sink → ⊥ }
     ensures allowed { SameAllowed (W.allows wire.old) (W.allows wire.new) }
 {
     match next_reply(rt, asks, wire) {
         Err(fault) => Err(shown(fault, bounds.budget)),
-        Ok(arrived) => take_reply(alloc, evaluation, arrived, bounds.version),
+        Ok(arrived) => {
+            let version = bounds.version_at(&arrived.address);
+            take_reply(alloc, evaluation, arrived, version)
+        }
     }
 }
 
@@ -198,7 +203,7 @@ fn take_next<R: Wait, E: Evaluates, W: Dial>(
 fn turn<R: Wait, E: Evaluates, W: Dial, B, T: TakesRows<B>>(
     rt: &R,
     alloc: Global,
-    bounds: Bounds,
+    bounds: Bounds<'_>,
     tickets: &mut u64,
     evaluation: &mut E,
     asks: &mut Asks,
@@ -209,11 +214,11 @@ fn turn<R: Wait, E: Evaluates, W: Dial, B, T: TakesRows<B>>(
     requires meets { (limits : Limits) × Meets limits (keeps_both E.keeps_to E.keeps_small limits evaluation.old) (E.standing evaluation.old) asks.old }
     requires given { tickets.old ≡ (E.standing evaluation.old).given }
     requires suits { SuitsWire asks.old (W.state wire.old) }
-    ensures went { OnOk result ((events : List Event) × (taken : List Places) × Went E.suits E.account (keeps_both E.keeps_to E.keeps_small) E.standing E.is_true (W.allows wire.old) evaluation.old evaluation.new bounds.version events taken asks.old asks.new (W.state wire.old) (W.state wire.new)
+    ensures went { OnOk result ((events : List Event) × (taken : List Places) × Went E.suits E.account (keeps_both E.keeps_to E.keeps_small) E.standing E.is_true (W.allows wire.old) evaluation.old evaluation.new (told_by bounds.entry) events taken asks.old asks.new (W.state wire.old) (W.state wire.new)
         × T.takes taken rows.old rows.new behind.old behind.new) }
     ensures given { OnOk result (tickets.new ≡ (E.standing evaluation.new).given) }
     ensures done { result ≡ Ok true → (E.standing evaluation.new).done ≡ true }
-    ensures failed { IfErr result (λ fault. (events : List Event) × (taken : List Places) × Failed E.suits E.account (keeps_both E.keeps_to E.keeps_small) E.standing E.is_true (W.allows wire.old) evaluation.old bounds.version bounds.budget fault events taken asks.old asks.new (W.state wire.old) (W.state wire.new)
+    ensures failed { IfErr result (λ fault. (events : List Event) × (taken : List Places) × Failed E.suits E.account (keeps_both E.keeps_to E.keeps_small) E.standing E.is_true (W.allows wire.old) evaluation.old (told_by bounds.entry) bounds.entry.budget fault events taken asks.old asks.new (W.state wire.old) (W.state wire.new)
         × T.takes_front taken rows.old rows.new behind.old behind.new × (IsLocal fault ⊎ T.takes taken rows.old rows.new behind.old behind.new)) }
     ensures sink { LeavesSink (T.sink behind.old) (T.sink behind.new) result }
     ensures allowed { SameAllowed (W.allows wire.old) (W.allows wire.new) }
@@ -236,11 +241,30 @@ fn turn<R: Wait, E: Evaluates, W: Dial, B, T: TakesRows<B>>(
     }
 }
 
-/// What the turns of a call go by: the version of the start page, and the budget.
+/// What the turns of a call go by: the starts, the version that the page of each told, and the budget.
 #[derive(Clone, Copy)]
-pub(crate) struct Bounds {
-    pub(crate) version: Option<u64>,
+pub(crate) struct Bounds<'a> {
+    pub(crate) starts: &'a [WebAddress],
+    pub(crate) versions: &'a [Option<u64>],
     pub(crate) budget: u64,
+}
+
+impl<'a> Bounds<'a> {
+    /// The version that the page of the first start told that has the authority of an address. The last start is not compared.
+    fn version_at(&self, address: &WebAddress) -> Option<u64>
+        ensures { result ≡ told_at self.now.starts.now self.now.versions.now address.now }
+    {
+        let count = self.starts.len();
+        for place in 0..self.versions.len() {
+            if place + 1 >= count {
+                return self.versions[place];
+            }
+            if self.starts[place].same_authority(address) {
+                return self.versions[place];
+            }
+        }
+        None
+    }
 }
 
 /// Takes turns until the evaluation is done.
@@ -250,7 +274,7 @@ pub(crate) struct Bounds {
 pub(crate) fn evaluate<R: Wait, E: Evaluates, W: Dial, B, T: TakesRows<B>>(
     rt: &R,
     alloc: Global,
-    bounds: Bounds,
+    bounds: Bounds<'_>,
     evaluation: &mut E,
     asks: &mut Asks,
     wire: &mut W,
@@ -260,10 +284,10 @@ pub(crate) fn evaluate<R: Wait, E: Evaluates, W: Dial, B, T: TakesRows<B>>(
     requires meets { (limits : Limits) × Meets limits (keeps_both E.keeps_to E.keeps_small limits evaluation.old) (E.standing evaluation.old) asks.old }
     requires given { (E.standing evaluation.old).given ≡ 0 }
     requires suits { SuitsWire asks.old (W.state wire.old) }
-    ensures went { OnOk result ((events : List Event) × (taken : List Places) × Went E.suits E.account (keeps_both E.keeps_to E.keeps_small) E.standing E.is_true (W.allows wire.old) evaluation.old evaluation.new bounds.version events taken asks.old asks.new (W.state wire.old) (W.state wire.new)
+    ensures went { OnOk result ((events : List Event) × (taken : List Places) × Went E.suits E.account (keeps_both E.keeps_to E.keeps_small) E.standing E.is_true (W.allows wire.old) evaluation.old evaluation.new (told_by bounds.entry) events taken asks.old asks.new (W.state wire.old) (W.state wire.new)
         × T.takes taken rows.old rows.new behind.old behind.new) }
     ensures done { OnOk result ((E.standing evaluation.new).done ≡ true) }
-    ensures failed { IfErr result (λ fault. (events : List Event) × (taken : List Places) × Failed E.suits E.account (keeps_both E.keeps_to E.keeps_small) E.standing E.is_true (W.allows wire.old) evaluation.old bounds.version bounds.budget fault events taken asks.old asks.new (W.state wire.old) (W.state wire.new)
+    ensures failed { IfErr result (λ fault. (events : List Event) × (taken : List Places) × Failed E.suits E.account (keeps_both E.keeps_to E.keeps_small) E.standing E.is_true (W.allows wire.old) evaluation.old (told_by bounds.entry) bounds.entry.budget fault events taken asks.old asks.new (W.state wire.old) (W.state wire.new)
         × T.takes_front taken rows.old rows.new behind.old behind.new × (IsLocal fault ⊎ T.takes taken rows.old rows.new behind.old behind.new)) }
     ensures sink { LeavesSink (T.sink behind.old) (T.sink behind.new) result }
     ensures allowed { SameAllowed (W.allows wire.old) (W.allows wire.new) }

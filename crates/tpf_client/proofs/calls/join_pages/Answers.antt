@@ -1,22 +1,31 @@
--- A join that begins meets a pool that holds nothing, and the rows that it gives till it is done are the solutions.
-use Rattle.std.proofs.Common.{[], ◌∷◌, inl}
-use Rattle.tpf_client.specs.Turns.{Limits}
-use Rattle.tpf_client.proofs.Homes.{own-home}
-use Rattle.tpf_client.proofs.Joining.{limits-of, begins-meets, begins-small, joins-of, some-of, few-of, few-failed}
+-- An evaluation that begins meets a pool that holds nothing, and the rows that it gives till it is done are the solutions.
+use Rattle.std.proofs.Common.{[], ◌*◌, length, inl}
+use Rattle.tpf_client.specs.Told.{told_by}
+use Rattle.tpf_client.specs.Turns.{Limits, keeps_both}
+use Rattle.tpf_client.proofs.Joining.{Begun, limits-of, begins-meets, joins-of, some-of, few-of, few-failed}
 use Rattle.tpf_client.proofs.Shutting.{on-ok-two, if-err-from, either-on}
 use Rattle.tpf_client.proofs.Sinks.{stays-none, leaves-lacking}
 use Rattle.tpf_client.proofs.Waiting.{same-allowed}
 use Rattle.tpf_client.proofs.Written.{nothing-joined, nothing-ran}
+use Rattle.tpf_client.proofs.calls.join_pages.Given as given
 use Rattle.tpf_client.proofs.calls.join_pages.Goals as goal
+
+begins : (g : given.Over) (c : goal.After-drop-evaluation g) → Begun g.E.Evaluates.suits g.E.Evaluates.account g.E.Evaluates.keeps_to g.E.Evaluates.keeps_small g.E.Evaluates.standing g.E.Evaluates.fits g.E.Evaluates.rows g.E.Evaluates.plan c.args.query.now c.args.bounds.starts.now c.args.forms c.args.window c.in-Ok.evaluation
+begins g c = record {
+  keeps = c.in-Ok.ensures.keeps c.args.bounds.starts.now c.requires.home;
+  small = c.in-Ok.ensures.small;
+  none_out = c.in-Ok.ensures.stands.1;
+  is_suited = c.in-Ok.ensures.suits;
+  owes = c.in-Ok.ensures.owes;
+}
 
 pub evaluate-requires-clause-meets : goal.evaluate-requires-clause-meets
 evaluate-requires-clause-meets g c =
-    let limits : Limits = limits-of c.args.start.now c.args.query.now c.args.window in
-    let small = begins-small c.args.query.now c.args.window c.in-Ok.join c.in-Ok.ensures.small c.in-Ok.ensures.longest c.in-Ok.ensures.window in
-    (limits, begins-meets limits c.in-Ok.join c.args.asks.now (c.in-Ok.ensures.keeps (c.args.start.now ∷ []) c.requires.home, small) c.in-Ok.ensures.tickets.1 c.requires.none c.requires.no_fault)
+    let limits : Limits = limits-of c.args.bounds.starts.now c.args.query.now (c.args.window * length c.args.forms) in
+    (limits, begins-meets limits (keeps_both g.E.Evaluates.keeps_to g.E.Evaluates.keeps_small limits c.in-Ok.evaluation) (g.E.Evaluates.standing c.in-Ok.evaluation) c.args.asks.now (c.in-Ok.ensures.keeps c.args.bounds.starts.now c.requires.home, c.in-Ok.ensures.small) c.in-Ok.ensures.stands.1 c.requires.none c.requires.no_fault)
 
 pub evaluate-requires-clause-given : goal.evaluate-requires-clause-given
-evaluate-requires-clause-given g c = c.in-Ok.ensures.tickets.0
+evaluate-requires-clause-given g c = c.in-Ok.ensures.stands.0
 
 pub returns-in-Ok-clause-joins : goal.returns-in-Ok-clause-joins
 returns-in-Ok-clause-joins g c =
@@ -24,8 +33,8 @@ returns-in-Ok-clause-joins g c =
     (λ done went. (
       went.0,
       went.1,
-      joins-of (g.W.Wire.allows c.args.wire.now) c.args.query.now c.args.form c.args.bounds.version c.args.window c.in-Ok.join c.args.asks.now c.evaluate.new.asks (g.W.Wire.state c.args.wire.now) (g.W.Wire.state c.evaluate.new.wire)
-          c.requires.none c.requires.no_fault c.in-Ok.ensures.tickets.1 (c.in-Ok.ensures.keeps (c.args.form.template.start ∷ []) (own-home c.args.form.template.start)) (begins-small c.args.query.now c.args.window c.in-Ok.join c.in-Ok.ensures.small c.in-Ok.ensures.longest c.in-Ok.ensures.window) (λ world is. c.in-Ok.ensures.begins world is.world is.form_is) c.evaluate.new.evaluation went.0 went.1 done went.2,
+      joins-of g.E.Evaluates.suits g.E.Evaluates.account g.E.Evaluates.keeps_to g.E.Evaluates.keeps_small g.E.Evaluates.standing g.E.Evaluates.is_true g.E.Evaluates.fits g.E.Evaluates.rows g.E.Evaluates.plan g.E.Evaluates.reported (g.W.Wire.allows c.args.wire.now) c.args.query.now c.args.bounds.starts.now c.args.forms (told_by c.args.bounds) c.args.window c.in-Ok.evaluation c.args.asks.now c.evaluate.new.asks (g.W.Wire.state c.args.wire.now) (g.W.Wire.state c.evaluate.new.wire)
+          c.requires.none c.requires.no_fault (begins g c) g.met.E.Evaluates.done_owes_nothing g.met.E.Evaluates.done_is_quiet c.evaluate.new.evaluation went.0 went.1 done went.2,
       went.3,
     ))
 
@@ -35,8 +44,8 @@ returns-in-Ok-clause-some g c =
     (λ fault f. (
       f.0,
       f.1,
-      some-of (g.W.Wire.allows c.args.wire.now) c.args.query.now c.args.form c.args.bounds.version c.args.window c.in-Ok.join c.args.asks.now c.evaluate.new.asks (g.W.Wire.state c.args.wire.now) (g.W.Wire.state c.evaluate.new.wire)
-          c.requires.none c.requires.no_fault c.in-Ok.ensures.tickets.1 (c.in-Ok.ensures.keeps (c.args.form.template.start ∷ []) (own-home c.args.form.template.start)) (begins-small c.args.query.now c.args.window c.in-Ok.join c.in-Ok.ensures.small c.in-Ok.ensures.longest c.in-Ok.ensures.window) (λ world is. c.in-Ok.ensures.begins world is.world is.form_is) c.args.bounds.budget fault f.0 f.1 f.2,
+      some-of g.E.Evaluates.suits g.E.Evaluates.account g.E.Evaluates.keeps_to g.E.Evaluates.keeps_small g.E.Evaluates.standing g.E.Evaluates.is_true g.E.Evaluates.fits g.E.Evaluates.rows g.E.Evaluates.plan g.E.Evaluates.reported (g.W.Wire.allows c.args.wire.now) c.args.query.now c.args.bounds.starts.now c.args.forms (told_by c.args.bounds) c.args.window c.in-Ok.evaluation c.args.asks.now c.evaluate.new.asks (g.W.Wire.state c.args.wire.now) (g.W.Wire.state c.evaluate.new.wire)
+          c.requires.none c.requires.no_fault (begins g c) c.args.bounds.budget fault f.0 f.1 f.2,
       f.3,
       f.4,
     ))
@@ -44,10 +53,10 @@ returns-in-Ok-clause-some g c =
 pub returns-in-Ok-clause-few : goal.returns-in-Ok-clause-few
 returns-in-Ok-clause-few g c =
     either-on c.evaluate.result _ _ _ c.evaluate.ensures.went c.evaluate.ensures.failed
-    (λ went. few-of (g.W.Wire.allows c.args.wire.now) c.args.query.now c.args.form c.args.bounds.version c.args.window c.in-Ok.join c.args.asks.now c.evaluate.new.asks (g.W.Wire.state c.args.wire.now) (g.W.Wire.state c.evaluate.new.wire)
-    c.requires.none c.requires.no_fault c.in-Ok.ensures.tickets.1 (c.in-Ok.ensures.keeps (c.args.form.template.start ∷ []) (own-home c.args.form.template.start)) (begins-small c.args.query.now c.args.window c.in-Ok.join c.in-Ok.ensures.small c.in-Ok.ensures.longest c.in-Ok.ensures.window) (λ world is. c.in-Ok.ensures.begins world is.world is.form_is) c.evaluate.new.evaluation went.0 went.1 went.2)
-    (λ fault f. few-failed (g.W.Wire.allows c.args.wire.now) c.args.query.now c.args.form c.args.bounds.version c.args.window c.in-Ok.join c.args.asks.now c.evaluate.new.asks (g.W.Wire.state c.args.wire.now) (g.W.Wire.state c.evaluate.new.wire)
-    c.requires.none c.requires.no_fault c.in-Ok.ensures.tickets.1 (c.in-Ok.ensures.keeps (c.args.form.template.start ∷ []) (own-home c.args.form.template.start)) (begins-small c.args.query.now c.args.window c.in-Ok.join c.in-Ok.ensures.small c.in-Ok.ensures.longest c.in-Ok.ensures.window) (λ world is. c.in-Ok.ensures.begins world is.world is.form_is) c.args.bounds.budget fault f.0 f.1 f.2)
+    (λ went. few-of g.E.Evaluates.suits g.E.Evaluates.account g.E.Evaluates.keeps_to g.E.Evaluates.keeps_small g.E.Evaluates.standing g.E.Evaluates.is_true g.E.Evaluates.fits g.E.Evaluates.rows g.E.Evaluates.plan g.E.Evaluates.reported (g.W.Wire.allows c.args.wire.now) c.args.query.now c.args.bounds.starts.now c.args.forms (told_by c.args.bounds) c.args.window c.in-Ok.evaluation c.args.asks.now c.evaluate.new.asks (g.W.Wire.state c.args.wire.now) (g.W.Wire.state c.evaluate.new.wire)
+    c.requires.none c.requires.no_fault (begins g c) c.evaluate.new.evaluation went.0 went.1 went.2)
+    (λ fault f. few-failed g.E.Evaluates.suits g.E.Evaluates.account g.E.Evaluates.keeps_to g.E.Evaluates.keeps_small g.E.Evaluates.standing g.E.Evaluates.is_true g.E.Evaluates.fits g.E.Evaluates.rows g.E.Evaluates.plan g.E.Evaluates.reported (g.W.Wire.allows c.args.wire.now) c.args.query.now c.args.bounds.starts.now c.args.forms (told_by c.args.bounds) c.args.window c.in-Ok.evaluation c.args.asks.now c.evaluate.new.asks (g.W.Wire.state c.args.wire.now) (g.W.Wire.state c.evaluate.new.wire)
+    c.requires.none c.requires.no_fault (begins g c) c.args.bounds.budget fault f.0 f.1 f.2)
 
 pub returns-in-Err-clause-few : goal.returns-in-Err-clause-few
 returns-in-Err-clause-few g c = nothing-ran (g.W.Wire.allows c.args.wire.now) _ c.args.asks.now (g.W.Wire.state c.args.wire.now) c.requires.none c.requires.suits
@@ -56,7 +65,7 @@ pub returns-in-Err-clause-some : goal.returns-in-Err-clause-some
 returns-in-Err-clause-some g c = (
   [],
   [],
-  nothing-joined (g.W.Wire.allows c.args.wire.now) c.args.query.now c.args.form c.args.bounds.version c.args.bounds.budget c.args.asks.now (g.W.Wire.state c.args.wire.now) c.requires.suits,
+  nothing-joined (g.W.Wire.allows c.args.wire.now) _ c.args.query.now c.args.bounds.starts.now c.args.forms (told_by c.args.bounds) c.args.bounds.budget c.args.asks.now (g.W.Wire.state c.args.wire.now) c.requires.suits,
   g.met.T.TakesRows.front_all [] _ _ _ _ (g.met.T.TakesRows.takes_none c.args.rows.now c.args.behind.now),
   inl tt,
 )

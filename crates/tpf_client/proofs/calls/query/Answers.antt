@@ -1,93 +1,67 @@
--- The pool begins with nothing, and its links are closed at last.
-use Rattle.std.proofs.Common.{List, ap}
-use Rattle.request_pool.specs.Pools.{Pooled, held}
-use Rattle.tpf_client.specs.Traffic.{Event}
-use Rattle.tpf_client.specs.Calls.{Ran, RunsPool, most_asked}
-use Rattle.tpf_client.proofs.Shutting.{if-ok, if-err, on-err-of, writes-all-so, writes-some-so, shows-some-so, ran-closed, suits-empty}
-use Rattle.tpf_client.proofs.Written.{result-written, prefix-written}
-use Rattle.tpf_client.proofs.Covered.{Covered, solutions-written, front-written}
-use Rattle.tpf_client.proofs.Serving.{server-covered}
-use Rattle.tpf_client.proofs.Completing.{completes}
+-- The one call over one start; over an honest wire it is covered by what the server offers.
+use Rattle.std.proofs.Common.{List, [], ◌∷◌, subst}
+use Rattle.std.specs.Prelude.{IfOk, IfErr}
+use Rattle.tpf_base.specs.Addresses.{Address}
+use Rattle.tpf_client.specs.declared.options.Report.{Report}
+use Rattle.tpf_client.specs.Calls.{RunsPool, WritesAll, WritesSome, most_asked}
+use Rattle.tpf_client.specs.Sources.{world_sources}
+use Rattle.tpf_client.specs.Shown.{ShowsGiven}
+use Rattle.tpf_client.specs.WireActs.{ActsAt}
 use Rattle.tpf_client.specs.Acts.{ActsOnWire}
-use Rattle.tpf_client.specs.Offers.{Publisher, publisher, server_offer}
+use Rattle.tpf_client.specs.Offers.{publisher, server_offer}
 use Rattle.tpf_client.specs.Ends.{server_ends}
-use Rattle.tpf_client.specs.Honest.{IsHonestWire}
-use Rattle.tpf_client.proofs.Clauses.{acts-on-wire}
+use Rattle.tpf_client.proofs.Shutting.{if-ok, on-err-of}
+use Rattle.tpf_client.proofs.Covered.{solutions-written, front-written}
+use Rattle.tpf_client.proofs.Completing.{completes}
+use Rattle.tpf_client.proofs.Single.{covers, acts-so}
 use Rattle.tpf_client.proofs.calls.query.Given as given
 use Rattle.tpf_client.proofs.calls.query.Goals as goal
 
-pub write_result-ended-requires-clause-none : goal.write_result-ended-requires-clause-none
-write_result-ended-requires-clause-none g c = ap held c.new-asks.ensures.empty
+-- ---- by the one start
 
-pub write_result-ended-requires-clause-no_fault : goal.write_result-ended-requires-clause-no_fault
-write_result-ended-requires-clause-no_fault g c = ap (λ (p : Pooled). p.fault) c.new-asks.ensures.empty
+all-written : (g : given.Over) (c : goal.After-evaluate_to g) → IfOk c.evaluate_to.result (λ report. WritesAll (RunsPool (g.W.Wire.allows c.args.wire.now) c.args.options.now (g.W.Wire.state c.args.wire.now) (g.W.Wire.state c.evaluate_to.new.wire)) world_sources c.args.query.now (c.args.start.now ∷ []) report (g.K.Sink.state c.args.out.now).taken (g.K.Sink.state c.evaluate_to.new.out).taken)
+all-written g c = subst (λ (l : List Address). IfOk c.evaluate_to.result (λ report. WritesAll (RunsPool (g.W.Wire.allows c.args.wire.now) c.args.options.now (g.W.Wire.state c.args.wire.now) (g.W.Wire.state c.evaluate_to.new.wire)) world_sources c.args.query.now l report (g.K.Sink.state c.args.out.now).taken (g.K.Sink.state c.evaluate_to.new.out).taken)) c.from_ref.ensures.value c.evaluate_to.ensures.ok
 
-pub write_result-ended-requires-clause-suits : goal.write_result-ended-requires-clause-suits
-write_result-ended-requires-clause-suits g c = suits-empty c.args.options.now c.new-asks.result (g.W.Wire.state c.args.wire.now) c.new-asks.ensures.empty
+some-written : (g : given.Over) (c : goal.After-evaluate_to g) → IfErr c.evaluate_to.result (λ fault. WritesSome (RunsPool (g.W.Wire.allows c.args.wire.now) c.args.options.now (g.W.Wire.state c.args.wire.now) (g.W.Wire.state c.evaluate_to.new.wire)) world_sources c.args.query.now (c.args.start.now ∷ []) c.args.options.now.budget fault (g.K.Sink.state c.args.out.now).taken (g.K.Sink.state c.evaluate_to.new.out).taken)
+some-written g c = subst (λ (l : List Address). IfErr c.evaluate_to.result (λ fault. WritesSome (RunsPool (g.W.Wire.allows c.args.wire.now) c.args.options.now (g.W.Wire.state c.args.wire.now) (g.W.Wire.state c.evaluate_to.new.wire)) world_sources c.args.query.now l c.args.options.now.budget fault (g.K.Sink.state c.args.out.now).taken (g.K.Sink.state c.evaluate_to.new.out).taken)) c.from_ref.ensures.value c.evaluate_to.ensures.err
 
-pub close-requires : goal.close-requires
-close-requires g c = record { suits = c.write_result-ended.ensures.suits }
-
--- ---- the call, after which its links are closed
-
-closes : (g : given.Over) (c : goal.After-drop-asks-inside-7 g) (events : List Event) (pool : Pooled)
-    → Ran (g.W.Wire.allows c.args.wire.now) c.new-asks.result c.write_result-ended.new.asks (g.W.Wire.state c.args.wire.now) (g.W.Wire.state c.write_result-ended.new.wire) events pool
-    → RunsPool (g.W.Wire.allows c.args.wire.now) c.args.options.now (g.W.Wire.state c.args.wire.now) (g.W.Wire.state c.close.new.wire) events pool
-closes g c = ran-closed (g.W.Wire.allows c.args.wire.now) c.args.options.now c.new-asks.result c.write_result-ended.new.asks (g.W.Wire.state c.args.wire.now) (g.W.Wire.state c.write_result-ended.new.wire) (g.W.Wire.state c.close.new.wire) c.new-asks.ensures.empty c.close.ensures.closes
-
--- what an honest server offers covers the call
-covers : (g : given.Over) (c : goal.After-drop-asks-inside-7 g) (p : Publisher) → IsHonestWire (g.W.Wire.allows c.args.wire.now) p.history p.config (g.W.Wire.state c.args.wire.now)
-    → Covered (server_offer p c.args.query.now c.args.start.now) (g.W.Wire.allows c.args.wire.now) c.args.options.now (g.W.Wire.state c.args.wire.now) (g.W.Wire.state c.close.new.wire) c.args.start.now c.args.query.now
-covers g c p honest =
-    server-covered c.solutions_rest_on_laws.ensures (g.W.Wire.allows c.args.wire.now) c.args.options.now (g.W.Wire.state c.args.wire.now) (g.W.Wire.state c.close.new.wire) c.is_lawful.ensures c.new-asks.ensures.limit p honest c.args.start.now c.args.query.now
-
--- the clauses that both calls have
-exit : (g : given.Over) (c : goal.After-drop-asks-inside-7 g)
-    → ActsOnWire (g.W.Wire.allows c.args.wire.now) (server_ends c.args.query.now c.args.start.now) c.args.options.now c.args.start.now (most_asked c.args.options.now c.args.query.now) c.write_result-ended.result (λ report. report) (g.W.Wire.state c.args.wire.now) (g.W.Wire.state c.close.new.wire)
-exit g c =
-    acts-on-wire c.solutions_rest_on_laws.ensures c.traffic_rests_on_laws.ensures (g.W.Wire.allows c.args.wire.now) c.args.options.now (g.W.Wire.state c.args.wire.now) (g.W.Wire.state c.write_result-ended.new.wire) (g.W.Wire.state c.close.new.wire) c.is_lawful.ensures c.new-asks.ensures.limit c.requires.some c.args.start.now c.args.query.now
-    c.new-asks.result c.write_result-ended.new.asks c.new-asks.ensures.empty c.close.ensures.closes c.write_result-ended.result (λ report. report) _ _ _ c.write_result-ended.ensures.ok c.write_result-ended.ensures.err (λ report w. (w.rows, w.returns)) c.write_result-ended.ensures.few
-    (server_ends c.args.query.now c.args.start.now) (covers g c)
+acts : (g : given.Over) (c : goal.After-evaluate_to g) → ActsOnWire (g.W.Wire.allows c.args.wire.now) (server_ends c.args.query.now c.args.start.now) c.args.options.now (c.args.start.now ∷ []) (most_asked c.args.options.now c.args.query.now) c.evaluate_to.result (λ report. report) (g.W.Wire.state c.args.wire.now) (g.W.Wire.state c.evaluate_to.new.wire)
+acts g c =
+    acts-so c.solutions_rest_on_laws.ensures c.traffic_rests_on_laws.ensures (g.W.Wire.allows c.args.wire.now) c.args.options.now (g.W.Wire.state c.args.wire.now) (g.W.Wire.state c.evaluate_to.new.wire) c.is_lawful.ensures c.is_bounded.ensures c.args.start.now c.args.query.now c.requires.some c.evaluate_to.result (λ report. report) _ _ _ (all-written g c) (some-written g c) (λ report w. (w.rows, w.returns))
+    (subst (λ (l : List Address). ActsAt (g.W.Wire.allows c.args.wire.now) c.args.options.now l c.args.query.now c.evaluate_to.result (λ (report : Report). report) (g.W.Wire.state c.args.wire.now) (g.W.Wire.state c.evaluate_to.new.wire)) c.from_ref.ensures.value c.evaluate_to.ensures.acts)
 
 -- ---- the result
 
 pub returns-clause-ok : goal.returns-clause-ok
-returns-clause-ok g c = if-ok c.write_result-ended.result _ _ (λ report w. writes-all-so _ _ (closes g c) c.args.query.now c.args.start.now report _ _ w) c.write_result-ended.ensures.ok
+returns-clause-ok g c = all-written g c
 
 pub returns-clause-err : goal.returns-clause-err
-returns-clause-err g c = if-err c.write_result-ended.result _ _ (λ fault w. writes-some-so _ _ (closes g c) c.args.query.now c.args.start.now c.args.options.now.budget fault _ _ w) c.write_result-ended.ensures.err
+returns-clause-err g c = some-written g c
 
 pub returns-clause-shown : goal.returns-clause-shown
-returns-clause-shown g c = if-err c.write_result-ended.result _ _ (λ fault w. (
-  writes-some-so _ _ (closes g c) c.args.query.now c.args.start.now c.args.options.now.budget fault _ _ w.0,
-  shows-some-so _ _ (closes g c) c.args.query.now c.args.start.now c.args.options.now.budget fault _ _ _ _ w.0 w.1,
-)) c.write_result-ended.ensures.shown
-
-pub returns-clause-whole : goal.returns-clause-whole
-returns-clause-whole g c = if-ok c.write_result-ended.result _ _ (λ report w. result-written _ c.args.query.now c.args.start.now report _ _ w) c.write_result-ended.ensures.ok
-
-pub returns-clause-front : goal.returns-clause-front
-returns-clause-front g c = on-err-of c.write_result-ended.result _ _ (λ fault w. prefix-written _ c.args.query.now c.args.start.now c.solutions_rest_on_laws.ensures.pieces c.solutions_rest_on_laws.ensures.goes_on c.args.options.now.budget fault _ _ w) c.write_result-ended.ensures.err
+returns-clause-shown g c =
+    subst (λ (l : List Address). IfErr c.evaluate_to.result (λ fault. (some : WritesSome (RunsPool (g.W.Wire.allows c.args.wire.now) c.args.options.now (g.W.Wire.state c.args.wire.now) (g.W.Wire.state c.evaluate_to.new.wire)) world_sources c.args.query.now l c.args.options.now.budget fault (g.K.Sink.state c.args.out.now).taken (g.K.Sink.state c.evaluate_to.new.out).taken)
+    × ShowsGiven (RunsPool (g.W.Wire.allows c.args.wire.now) c.args.options.now (g.W.Wire.state c.args.wire.now) (g.W.Wire.state c.evaluate_to.new.wire)) world_sources c.args.query.now l c.args.options.now.budget fault (g.K.Sink.state c.args.out.now).faults (g.K.Sink.state c.evaluate_to.new.out).faults (g.K.Sink.state c.args.out.now).taken (g.K.Sink.state c.evaluate_to.new.out).taken some)) c.from_ref.ensures.value c.evaluate_to.ensures.shown
 
 pub returns-clause-headline : goal.returns-clause-headline
 returns-clause-headline g c = λ history config honest.
-    if-ok c.write_result-ended.result _ _ (λ report w.
-    solutions-written (server_offer (publisher history config) c.args.query.now c.args.start.now) (g.W.Wire.allows c.args.wire.now) c.args.options.now (g.W.Wire.state c.args.wire.now) (g.W.Wire.state c.close.new.wire) c.args.start.now c.args.query.now (covers g c (publisher history config) honest) report _ _
-    (writes-all-so _ _ (closes g c) c.args.query.now c.args.start.now report _ _ w)) c.write_result-ended.ensures.ok
+    if-ok c.evaluate_to.result _ _ (λ report w.
+    solutions-written world_sources (server_offer (publisher history config) c.args.query.now c.args.start.now) (g.W.Wire.allows c.args.wire.now) c.args.options.now (g.W.Wire.state c.args.wire.now) (g.W.Wire.state c.evaluate_to.new.wire) (c.args.start.now ∷ []) c.args.query.now
+    (covers c.solutions_rest_on_laws.ensures c.traffic_rests_on_laws.ensures (g.W.Wire.allows c.args.wire.now) c.args.options.now (g.W.Wire.state c.args.wire.now) (g.W.Wire.state c.evaluate_to.new.wire) c.is_lawful.ensures c.is_bounded.ensures c.args.start.now c.args.query.now (publisher history config) honest) report _ _ w) (all-written g c)
 
 pub returns-clause-prefix : goal.returns-clause-prefix
 returns-clause-prefix g c = λ history config honest.
-    on-err-of c.write_result-ended.result _ _ (λ fault w.
-    front-written (server_offer (publisher history config) c.args.query.now c.args.start.now) (g.W.Wire.allows c.args.wire.now) c.args.options.now (g.W.Wire.state c.args.wire.now) (g.W.Wire.state c.close.new.wire) c.args.start.now c.args.query.now (covers g c (publisher history config) honest)
-    c.solutions_rest_on_laws.ensures.pieces c.solutions_rest_on_laws.ensures.goes_on c.args.options.now.budget fault _ _
-    (writes-some-so _ _ (closes g c) c.args.query.now c.args.start.now c.args.options.now.budget fault _ _ w)) c.write_result-ended.ensures.err
+    on-err-of c.evaluate_to.result _ _ (λ fault w.
+    front-written world_sources (server_offer (publisher history config) c.args.query.now c.args.start.now) (g.W.Wire.allows c.args.wire.now) c.args.options.now (g.W.Wire.state c.args.wire.now) (g.W.Wire.state c.evaluate_to.new.wire) (c.args.start.now ∷ []) c.args.query.now
+    (covers c.solutions_rest_on_laws.ensures c.traffic_rests_on_laws.ensures (g.W.Wire.allows c.args.wire.now) c.args.options.now (g.W.Wire.state c.args.wire.now) (g.W.Wire.state c.evaluate_to.new.wire) c.is_lawful.ensures c.is_bounded.ensures c.args.start.now c.args.query.now (publisher history config) honest)
+    c.solutions_rest_on_laws.ensures.pieces c.solutions_rest_on_laws.ensures.goes_on c.args.options.now.budget fault _ _ w) (some-written g c)
 
--- ---- causes
+-- ---- the wire
+
+pub returns-clause-acts : goal.returns-clause-acts
+returns-clause-acts g c = acts g c
 
 pub returns-clause-complete : goal.returns-clause-complete
 returns-clause-complete g c = λ history config honest alive rise few fits none.
-    completes (server_offer (publisher history config) c.args.query.now c.args.start.now) c.args.options.now (g.W.Wire.state c.args.wire.now) (g.W.Wire.state c.close.new.wire) rise few fits c.write_result-ended.result ((exit g c).plan.honest_cause (publisher history config) honest)
-    ((exit g c).plan.lively_cause (publisher history config) honest alive) (λ e. none (c.write_result-ended.ensures.sink.sink e))
-
-pub returns-clause-acts : goal.returns-clause-acts
-returns-clause-acts g c = exit g c
+    completes (server_offer (publisher history config) c.args.query.now c.args.start.now) c.args.options.now (g.W.Wire.state c.args.wire.now) (g.W.Wire.state c.evaluate_to.new.wire) rise few fits c.evaluate_to.result ((acts g c).plan.honest_cause (publisher history config) honest)
+    ((acts g c).plan.lively_cause (publisher history config) honest alive) (λ e. none (c.evaluate_to.ensures.sink.sink e))

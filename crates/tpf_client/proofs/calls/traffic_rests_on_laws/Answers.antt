@@ -2,11 +2,11 @@ use Rattle.tpf_client.proofs.calls.traffic_rests_on_laws.Goals as goal
 
 pub returns : goal.returns
 returns g c = record {
-  empty_own = c.links_are_closed.ensures.empty;
-  puts_own = c.links_are_closed.ensures.put;
-  faults_own = c.links_are_closed.ensures.fault;
-  steps_own = c.links_are_closed.ensures.step;
-  closing = c.links_are_closed.ensures.close;
+  empty_own = c.links_are_for_asks.ensures.empty;
+  puts_own = c.links_are_for_asks.ensures.put;
+  faults_own = c.links_are_for_asks.ensures.fault;
+  steps_own = c.links_are_for_asks.ensures.step;
+  closing = c.links_are_for_asks.ensures.close;
   empty_dial = c.exchanges_are_counted.ensures.dials_empty;
   puts_dial = c.exchanges_are_counted.ensures.dials_put;
   faults_dial = c.exchanges_are_counted.ensures.dials_fault;

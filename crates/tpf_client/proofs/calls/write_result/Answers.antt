@@ -1,70 +1,73 @@
--- The start page has a form with the authority of the start, and nothing is held behind it.
-use Rattle.std.proofs.Common.{[]}
-use Rattle.list_laws.proofs.Members.{at_head}
+-- The forms of the start pages have the authorities of the starts, and nothing is held behind these.
 use Rattle.tpf_client.specs.declared.fault.ClientFault.TheVariants as faults
-use Rattle.tpf_client.proofs.Shutting.{if-ok, if-err}
-use Rattle.tpf_client.proofs.Written.{all-written, some-written, some-shown, none-written, none-shown, rest-suits, few-behind, few-none}
+use Rattle.tpf_client.proofs.Shutting.{if-ok, if-err, either-way}
+use Rattle.tpf_client.proofs.Written.{forms-told, some-forms, some-versions, all-written, some-written, some-shown, none-written, none-shown, less-suits, few-behind, few-before}
 use Rattle.tpf_client.proofs.Going.{err-as}
 use Rattle.tpf_client.proofs.Sinks.{stays-none, leaves-other}
 use Rattle.tpf_client.proofs.Waiting.{allowed-then}
 use Rattle.tpf_client.proofs.calls.write_result.Goals as goal
 
 pub write_rows-requires-clause-home : goal.write_rows-requires-clause-home
-write_rows-requires-clause-home g c =
-    let s = c.in-Ok.ensures.starts in
-    (c.args.start.now, at_head c.args.start.now [], (c.pages_keep_authority.ensures _ s.reply.body c.args.start.now c.in-Ok.page c.is_valid.ensures s.taken).form)
+write_rows-requires-clause-home g c = let s = c.in-Ok.ensures.starts in forms-told (g.W.Wire.allows c.args.wire.now) c.args.starts.now s.0 c.in-Ok.pages c.args.asks.now c.ask_starts.new.asks (g.W.Wire.state c.args.wire.now) (g.W.Wire.state c.ask_starts.new.wire) s.1 s.2
+
+pub write_rows-requires-clause-some : goal.write_rows-requires-clause-some
+write_rows-requires-clause-some g c = let s = c.in-Ok.ensures.starts in some-forms (g.W.Wire.allows c.args.wire.now) c.args.starts.now s.0 c.in-Ok.pages c.args.asks.now c.ask_starts.new.asks (g.W.Wire.state c.args.wire.now) (g.W.Wire.state c.ask_starts.new.wire) s.1 s.2 c.requires.starts
+
+pub write_rows-requires-clause-told : goal.write_rows-requires-clause-told
+write_rows-requires-clause-told g c = let s = c.in-Ok.ensures.starts in some-versions (g.W.Wire.allows c.args.wire.now) c.args.starts.now s.0 c.in-Ok.pages c.args.asks.now c.ask_starts.new.asks (g.W.Wire.state c.args.wire.now) (g.W.Wire.state c.ask_starts.new.wire) s.1 s.2 c.requires.starts
 
 pub write_rows-requires-clause-none : goal.write_rows-requires-clause-none
-write_rows-requires-clause-none g c = c.in-Ok.ensures.starts.none
+write_rows-requires-clause-none g c = c.in-Ok.ensures.starts.2.none
 
 pub write_rows-requires-clause-no_fault : goal.write_rows-requires-clause-no_fault
-write_rows-requires-clause-no_fault g c = c.in-Ok.ensures.starts.no_fault
+write_rows-requires-clause-no_fault g c = c.in-Ok.ensures.starts.2.no_fault
 
 pub write_rows-requires-clause-suits : goal.write_rows-requires-clause-suits
-write_rows-requires-clause-suits g c = c.in-Ok.ensures.starts.suits
+write_rows-requires-clause-suits g c = c.in-Ok.ensures.starts.2.suits
 
 pub returns-in-Ok-clause-ok : goal.returns-in-Ok-clause-ok
 returns-in-Ok-clause-ok g c =
-    if-ok c.write_rows.result _ _ (λ report w. all-written (g.W.Wire.allows c.args.wire.now) (g.W.Wire.allows c.ask_start.new.wire) c.in-Ok.ensures.allowed c.args.query.now c.args.start.now c.in-Ok.page c.args.asks.now c.ask_start.new.asks c.write_rows.new.asks
-    (g.W.Wire.state c.args.wire.now) (g.W.Wire.state c.ask_start.new.wire) (g.W.Wire.state c.write_rows.new.wire) c.in-Ok.ensures.starts (c.pages_keep_authority.ensures _ c.in-Ok.ensures.starts.reply.body c.args.start.now c.in-Ok.page c.is_valid.ensures c.in-Ok.ensures.starts.taken).form report _ _ w) c.write_rows.ensures.ok
+    let s = c.in-Ok.ensures.starts in
+    if-ok c.write_rows.result _ _ (λ report w. all-written (g.W.Wire.allows c.args.wire.now) (g.W.Wire.allows c.ask_starts.new.wire) c.in-Ok.ensures.allowed _ c.args.query.now c.args.starts.now s.0 c.in-Ok.pages c.args.asks.now c.ask_starts.new.asks c.write_rows.new.asks
+    (g.W.Wire.state c.args.wire.now) (g.W.Wire.state c.ask_starts.new.wire) (g.W.Wire.state c.write_rows.new.wire) s.1 s.2 report _ _ w) c.write_rows.ensures.ok
 
 pub returns-in-Ok-clause-err : goal.returns-in-Ok-clause-err
 returns-in-Ok-clause-err g c =
-    if-err c.write_rows.result _ _ (λ fault w. some-written (g.W.Wire.allows c.args.wire.now) (g.W.Wire.allows c.ask_start.new.wire) c.in-Ok.ensures.allowed c.args.query.now c.args.start.now c.in-Ok.page c.args.asks.now c.ask_start.new.asks c.write_rows.new.asks
-    (g.W.Wire.state c.args.wire.now) (g.W.Wire.state c.ask_start.new.wire) (g.W.Wire.state c.write_rows.new.wire) c.in-Ok.ensures.starts (c.pages_keep_authority.ensures _ c.in-Ok.ensures.starts.reply.body c.args.start.now c.in-Ok.page c.is_valid.ensures c.in-Ok.ensures.starts.taken).form c.args.options.now.budget fault _ _ w) c.write_rows.ensures.err
+    let s = c.in-Ok.ensures.starts in
+    if-err c.write_rows.result _ _ (λ fault w. some-written (g.W.Wire.allows c.args.wire.now) (g.W.Wire.allows c.ask_starts.new.wire) c.in-Ok.ensures.allowed _ c.args.query.now c.args.starts.now s.0 c.in-Ok.pages c.args.asks.now c.ask_starts.new.asks c.write_rows.new.asks
+    (g.W.Wire.state c.args.wire.now) (g.W.Wire.state c.ask_starts.new.wire) (g.W.Wire.state c.write_rows.new.wire) s.1 s.2 c.args.options.now.budget fault _ _ w) c.write_rows.ensures.err
+
+pub returns-in-Ok-clause-shown : goal.returns-in-Ok-clause-shown
+returns-in-Ok-clause-shown g c =
+    let s = c.in-Ok.ensures.starts in
+    if-err c.write_rows.result _ _ (λ fault w. some-shown (g.W.Wire.allows c.args.wire.now) (g.W.Wire.allows c.ask_starts.new.wire) c.in-Ok.ensures.allowed _ c.args.query.now c.args.starts.now s.0 c.in-Ok.pages c.args.asks.now c.ask_starts.new.asks c.write_rows.new.asks
+    (g.W.Wire.state c.args.wire.now) (g.W.Wire.state c.ask_starts.new.wire) (g.W.Wire.state c.write_rows.new.wire) s.1 s.2 c.args.options.now.budget fault _ _ _ _ w) c.write_rows.ensures.shown
 
 pub returns-in-Ok-clause-suits : goal.returns-in-Ok-clause-suits
 returns-in-Ok-clause-suits g c =
-    rest-suits (g.W.Wire.allows c.ask_start.new.wire) c.args.query.now c.in-Ok.page c.args.options.now.budget c.ask_start.new.asks c.write_rows.new.asks (g.W.Wire.state c.ask_start.new.wire) (g.W.Wire.state c.write_rows.new.wire) _ _ c.write_rows.result c.write_rows.ensures.ok c.write_rows.ensures.err
+    either-way c.write_rows.result _ _ _ c.write_rows.ensures.ok c.write_rows.ensures.err (λ report w. w.joins.on_wire)
+    (λ fault w. less-suits (g.W.Wire.allows c.ask_starts.new.wire) _ c.args.query.now c.args.starts.now _ _ c.args.options.now.budget fault c.ask_starts.new.asks c.write_rows.new.asks (g.W.Wire.state c.ask_starts.new.wire) (g.W.Wire.state c.write_rows.new.wire) _ _ w)
 
 pub returns-in-Ok-clause-allowed : goal.returns-in-Ok-clause-allowed
-returns-in-Ok-clause-allowed g c = allowed-then (g.W.Wire.allows c.args.wire.now) (g.W.Wire.allows c.ask_start.new.wire) (g.W.Wire.allows c.write_rows.new.wire) c.in-Ok.ensures.allowed c.write_rows.ensures.allowed
+returns-in-Ok-clause-allowed g c = allowed-then (g.W.Wire.allows c.args.wire.now) (g.W.Wire.allows c.ask_starts.new.wire) (g.W.Wire.allows c.write_rows.new.wire) c.in-Ok.ensures.allowed c.write_rows.ensures.allowed
 
 pub returns-in-Err-clause-err : goal.returns-in-Err-clause-err
-returns-in-Err-clause-err g c = none-written (g.W.Wire.allows c.args.wire.now) c.args.query.now c.args.start.now c.args.options.now.budget c.in-Err.fault c.args.asks.now c.ask_start.new.asks (g.W.Wire.state c.args.wire.now) (g.W.Wire.state c.ask_start.new.wire) _ c.in-Err.ensures.starts
+returns-in-Err-clause-err g c = none-written (g.W.Wire.allows c.args.wire.now) _ c.args.query.now c.args.starts.now c.args.options.now.budget c.in-Err.fault c.args.asks.now c.ask_starts.new.asks (g.W.Wire.state c.args.wire.now) (g.W.Wire.state c.ask_starts.new.wire) _ c.in-Err.ensures.starts
 
 pub returns-in-Err-clause-suits : goal.returns-in-Err-clause-suits
 returns-in-Err-clause-suits g c = c.in-Err.ensures.starts.suits
 
-pub returns-in-Ok-clause-shown : goal.returns-in-Ok-clause-shown
-returns-in-Ok-clause-shown g c =
-    if-err c.write_rows.result _ _ (λ fault w. (
-      some-written (g.W.Wire.allows c.args.wire.now) (g.W.Wire.allows c.ask_start.new.wire) c.in-Ok.ensures.allowed c.args.query.now c.args.start.now c.in-Ok.page c.args.asks.now c.ask_start.new.asks c.write_rows.new.asks
-          (g.W.Wire.state c.args.wire.now) (g.W.Wire.state c.ask_start.new.wire) (g.W.Wire.state c.write_rows.new.wire) c.in-Ok.ensures.starts (c.pages_keep_authority.ensures _ c.in-Ok.ensures.starts.reply.body c.args.start.now c.in-Ok.page c.is_valid.ensures c.in-Ok.ensures.starts.taken).form c.args.options.now.budget fault _ _ w.0,
-      some-shown (g.W.Wire.allows c.args.wire.now) (g.W.Wire.allows c.ask_start.new.wire) c.in-Ok.ensures.allowed c.args.query.now c.args.start.now c.in-Ok.page c.args.asks.now c.ask_start.new.asks c.write_rows.new.asks
-          (g.W.Wire.state c.args.wire.now) (g.W.Wire.state c.ask_start.new.wire) (g.W.Wire.state c.write_rows.new.wire) c.in-Ok.ensures.starts (c.pages_keep_authority.ensures _ c.in-Ok.ensures.starts.reply.body c.args.start.now c.in-Ok.page c.is_valid.ensures c.in-Ok.ensures.starts.taken).form c.args.options.now.budget fault _ _ _ _ w.0 w.1,
-    )) c.write_rows.ensures.shown
+pub returns-in-Ok-clause-few : goal.returns-in-Ok-clause-few
+returns-in-Ok-clause-few g c =
+    let s = c.in-Ok.ensures.starts in
+    few-behind (g.W.Wire.allows c.args.wire.now) (g.W.Wire.allows c.ask_starts.new.wire) c.in-Ok.ensures.allowed c.args.options.now c.args.query.now c.args.starts.now s.0 c.in-Ok.pages c.args.asks.now c.ask_starts.new.asks c.write_rows.new.asks
+    (g.W.Wire.state c.args.wire.now) (g.W.Wire.state c.ask_starts.new.wire) (g.W.Wire.state c.write_rows.new.wire) s.1 s.2 c.write_rows.ensures.few
+
+pub returns-in-Err-clause-few : goal.returns-in-Err-clause-few
+returns-in-Err-clause-few g c = few-before (g.W.Wire.allows c.args.wire.now) c.args.options.now c.args.query.now c.args.starts.now c.args.options.now.budget c.in-Err.fault c.args.asks.now c.ask_starts.new.asks (g.W.Wire.state c.args.wire.now) (g.W.Wire.state c.ask_starts.new.wire) c.in-Err.ensures.starts
 
 pub returns-in-Err-clause-shown : goal.returns-in-Err-clause-shown
-returns-in-Err-clause-shown g c = (none-written (g.W.Wire.allows c.args.wire.now) c.args.query.now c.args.start.now c.args.options.now.budget c.in-Err.fault c.args.asks.now c.ask_start.new.asks (g.W.Wire.state c.args.wire.now) (g.W.Wire.state c.ask_start.new.wire) _ c.in-Err.ensures.starts, none-shown _ _ _ _ _ _ _ _ _ _ c.in-Err.ensures.starts _ _)
+returns-in-Err-clause-shown g c = (none-written (g.W.Wire.allows c.args.wire.now) _ c.args.query.now c.args.starts.now c.args.options.now.budget c.in-Err.fault c.args.asks.now c.ask_starts.new.asks (g.W.Wire.state c.args.wire.now) (g.W.Wire.state c.ask_starts.new.wire) _ c.in-Err.ensures.starts, none-shown _ _ _ _ _ _ _ _ _ _ _ c.in-Err.ensures.starts _ _)
 
 pub returns-in-Err-clause-sink : goal.returns-in-Err-clause-sink
 returns-in-Err-clause-sink g c = leaves-other _ _ c.in-Err.fault (λ e. c.in-Err.ensures.no_sink (err-as _ _ c.in-Err.fault faults.Sink e)) (stays-none (g.K.Sink.state c.args.out.now))
-
-pub returns-in-Ok-clause-few : goal.returns-in-Ok-clause-few
-returns-in-Ok-clause-few g c =
-    few-behind (g.W.Wire.allows c.args.wire.now) (g.W.Wire.allows c.ask_start.new.wire) c.in-Ok.ensures.allowed c.args.options.now c.args.query.now c.args.start.now c.in-Ok.page c.args.asks.now c.ask_start.new.asks c.write_rows.new.asks
-    (g.W.Wire.state c.args.wire.now) (g.W.Wire.state c.ask_start.new.wire) (g.W.Wire.state c.write_rows.new.wire) c.requires.none c.in-Ok.ensures.starts c.write_rows.ensures.few
-
-pub returns-in-Err-clause-few : goal.returns-in-Err-clause-few
-returns-in-Err-clause-few g c = few-none (g.W.Wire.allows c.args.wire.now) c.args.options.now c.args.query.now c.args.start.now c.args.options.now.budget c.in-Err.fault c.args.asks.now c.ask_start.new.asks (g.W.Wire.state c.args.wire.now) (g.W.Wire.state c.ask_start.new.wire) c.requires.none c.in-Err.ensures.starts

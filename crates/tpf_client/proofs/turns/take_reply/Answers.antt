@@ -16,4 +16,4 @@ pub returns-then-not-tells_version-clause-err : goal.returns-then-not-tells_vers
 returns-then-not-tells_version-clause-err g c = changed-fault c.args.arrived c.args.version c.in-Ok.page c.in-Ok.ensures (c.tells_version.ensures.other c.if-not-tells_version.true)
 
 pub returns-in-Err-clause-err : goal.returns-in-Err-clause-err
-returns-in-Err-clause-err g c = take-fault c.args.arrived c.args.version c.in-Err.fault c.in-Err.ensures
+returns-in-Err-clause-err g c = take-fault c.args.arrived (λ address. c.args.version) c.in-Err.fault c.in-Err.ensures
