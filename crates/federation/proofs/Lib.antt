@@ -1,0 +1,7 @@
+pub mod Lists
+pub mod Places
+pub mod Gathered
+pub mod Asking
+pub mod Answering
+pub mod Giving
+pub mod Beginning

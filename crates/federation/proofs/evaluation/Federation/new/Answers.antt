@@ -1,0 +1,29 @@
+use Rattle.std.proofs.Common.{List, length, sym, subst}
+use Rattle.join_core.specs.Evaluations.{Terms}
+use Rattle.plan_laws.specs.JointWorlds.{joint_world}
+use Rattle.joint_pages.specs.Gatherings.{GatheringData}
+use Rattle.join_core.specs.Beginnings.{BeginsWith}
+use Rattle.federation.specs.Beginnings.{joint_rows, joint_plan}
+use Rattle.federation.specs.Federations.{SuitsAll, KeepsAll, account_of}
+use Rattle.federation.proofs.Beginning.{fresh-of, fresh-suits, fresh-owes, fresh-keeps}
+use Rattle.federation.proofs.evaluation.Federation.new.Goals as goal
+
+pub returns-clause-suits : goal.returns-clause-suits
+returns-clause-suits c = λ worlds fit.
+    let j = c.in_ok-join.join in
+    let most = c.most_awaited-most.result in
+    let is = c.worlds_together_are_a_world.ensures worlds fit.servers.are_worlds fit.servers.some in
+    subst (λ (l : List GatheringData). SuitsAll worlds (fresh-of j l most)) (sym c.new-2.ensures.items) (fresh-suits worlds c.args.query.now j most fit.servers (c.in_ok-join.ensures.begins (joint_world worlds) is fit.forms_are))
+
+pub returns-clause-owes : goal.returns-clause-owes
+returns-clause-owes c = λ worlds fit.
+    let q = c.args.query.now in
+    let j = c.in_ok-join.join in
+    let most = c.most_awaited-most.result in
+    let is = c.worlds_together_are_a_world.ensures worlds fit.servers.are_worlds fit.servers.some in
+    subst (λ (l : List GatheringData). BeginsWith (joint_rows worlds q) (joint_plan worlds q) (account_of worlds (fresh-of j l most))) (sym c.new-2.ensures.items) (fresh-owes worlds q j most (c.in_ok-join.ensures.begins (joint_world worlds) is fit.forms_are))
+
+pub returns-clause-keeps : goal.returns-clause-keeps
+returns-clause-keeps c = λ homes home.
+    let terms : Terms = record { homes = homes; width = length c.args.query.now.names } in
+    subst (λ (l : List GatheringData). KeepsAll terms (fresh-of c.in_ok-join.join l c.most_awaited-most.result)) (sym c.new-2.ensures.items) (fresh-keeps terms c.in_ok-join.join c.most_awaited-most.result (c.in_ok-join.ensures.keeps homes home) c.in_ok-join.ensures.tickets.1)

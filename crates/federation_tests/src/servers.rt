@@ -1,0 +1,167 @@
+// What four servers hold: `a` and `d` in pages of one triple, `b` in pages of two, and `c` nothing. The triple
+// `<http://e/a> <http://e/k> <http://e/c>` stands in `a`, `b` and `d`: on the first page of `b`, and on the second of the others.
+
+use fragment_page::{Page, TripleList};
+use nquads_text::read_all;
+use rdf_terms::{Quad, Triple};
+use std::alloc::Global;
+use std::test::Fail;
+use template_fill::{Form, Template, WebAddress};
+use text_base::Text;
+
+/// A page: its address, its triples as N-Quads, how many the fragment has, and the address of the next.
+#[derive(Clone, Copy)]
+struct Entry {
+    address: &'static str,
+    triples: &'static str,
+    count: u64,
+    next: &'static str,
+}
+
+/// The page of a fragment without triples.
+const NOTHING: Entry = Entry {
+    address: "",
+    triples: "",
+    count: 0,
+    next: "",
+};
+
+static PAGES: [Entry; 11] = [
+    Entry {
+        address: "http://a/d?p=http%3A%2F%2Fe%2Fk",
+        triples: "<http://e/a> <http://e/k> <http://e/b> .\n",
+        count: 2,
+        next: "http://a/d?p=http%3A%2F%2Fe%2Fk&page=2",
+    },
+    Entry {
+        address: "http://a/d?p=http%3A%2F%2Fe%2Fk&page=2",
+        triples: "<http://e/a> <http://e/k> <http://e/c> .\n",
+        count: 2,
+        next: "",
+    },
+    Entry {
+        address: "http://a/d?p=http%3A%2F%2Fe%2Fn",
+        triples: "<http://e/c> <http://e/n> \"C\" .\n",
+        count: 5,
+        next: "http://a/d?p=http%3A%2F%2Fe%2Fn&page=2",
+    },
+    Entry {
+        address: "http://a/d?s=http%3A%2F%2Fe%2Fc&p=http%3A%2F%2Fe%2Fn",
+        triples: "<http://e/c> <http://e/n> \"C\" .\n",
+        count: 1,
+        next: "",
+    },
+    Entry {
+        address: "http://a/d?s=http%3A%2F%2Fe%2Fd&p=http%3A%2F%2Fe%2Fn",
+        triples: "<http://e/d> <http://e/n> \"D\" .\n",
+        count: 1,
+        next: "",
+    },
+    Entry {
+        address: "http://b/d?p=http%3A%2F%2Fe%2Fk",
+        triples: "<http://e/a> <http://e/k> <http://e/c> .\n<http://e/b> <http://e/k> <http://e/c> .\n",
+        count: 2,
+        next: "",
+    },
+    Entry {
+        address: "http://b/d?p=http%3A%2F%2Fe%2Fn",
+        triples: "<http://e/b> <http://e/n> \"B\" .\n<http://e/c> <http://e/n> \"C\" .\n",
+        count: 4,
+        next: "http://b/d?p=http%3A%2F%2Fe%2Fn&page=2",
+    },
+    Entry {
+        address: "http://b/d?s=http%3A%2F%2Fe%2Fb&p=http%3A%2F%2Fe%2Fn",
+        triples: "<http://e/b> <http://e/n> \"B\" .\n",
+        count: 1,
+        next: "",
+    },
+    Entry {
+        address: "http://b/d?s=http%3A%2F%2Fe%2Fc&p=http%3A%2F%2Fe%2Fn",
+        triples: "<http://e/c> <http://e/n> \"C\" .\n",
+        count: 1,
+        next: "",
+    },
+    Entry {
+        address: "http://d/d?p=http%3A%2F%2Fe%2Fk",
+        triples: "<http://e/b> <http://e/k> <http://e/d> .\n",
+        count: 2,
+        next: "http://d/d?p=http%3A%2F%2Fe%2Fk&page=2",
+    },
+    Entry {
+        address: "http://d/d?p=http%3A%2F%2Fe%2Fk&page=2",
+        triples: "<http://e/a> <http://e/k> <http://e/c> .\n",
+        count: 2,
+        next: "",
+    },
+];
+
+fn entry_at(address: &str) -> Entry {
+    for entry in &PAGES {
+        if entry.address == address {
+            return *entry;
+        }
+    }
+    NOTHING
+}
+
+fn quads_of(alloc: Global, text: &str) -> Result<Vec<Quad>, Fail> {
+    match read_all(alloc, text.as_bytes(), 100) {
+        Ok(quads) => Ok(quads),
+        Err(_) => Err(Fail::new("no data")),
+    }
+}
+
+fn triples_of(alloc: Global, text: &str) -> Result<Vec<Triple>, Fail> {
+    let quads = quads_of(alloc, text)?;
+    let mut triples = Vec::new(alloc);
+    for quad in &quads {
+        triples.push(quad.triple.copy(alloc)?)?;
+    }
+    Ok(triples)
+}
+
+fn next_of(alloc: Global, text: &str) -> Result<Option<WebAddress>, Fail> {
+    if text.is_empty() {
+        return Ok(None);
+    }
+    Ok(Some(WebAddress::read(alloc, text)?))
+}
+
+fn template_of(server: char) -> &'static str {
+    match server {
+        'a' => "http://a/d{?s,p,o}",
+        'b' => "http://b/d{?s,p,o}",
+        'd' => "http://d/d{?s,p,o}",
+        _ => "http://c/d{?s,p,o}",
+    }
+}
+
+/// The form of a server.
+pub fn form_of(alloc: Global, server: char) -> Result<Form, Fail> {
+    let subject = Text::copy(alloc, "s")?;
+    let predicate = Text::copy(alloc, "p")?;
+    let object = Text::copy(alloc, "o")?;
+    match Template::read(alloc, template_of(server)) {
+        Ok(template) => Ok(Form {
+            template,
+            subject,
+            predicate,
+            object,
+        }),
+        Err(_) => Err(Fail::new("no template")),
+    }
+}
+
+/// The page at an address.
+pub fn page_at(alloc: Global, address: &WebAddress) -> Result<Page, Fail> {
+    let entry = entry_at(address.text());
+    let next = next_of(alloc, entry.next)?;
+    let triples = triples_of(alloc, entry.triples)?;
+    Ok(Page {
+        triples: TripleList::from_vec(triples),
+        count: entry.count,
+        next,
+        form: form_of(alloc, 'c')?,
+        version: None,
+    })
+}
