@@ -1,0 +1,5 @@
+pub mod Standing
+pub mod Numbers
+pub mod Together
+pub mod Covering
+pub mod Tested

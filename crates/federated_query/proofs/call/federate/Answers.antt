@@ -1,0 +1,52 @@
+-- What the servers offer together covers the call.
+use Rattle.std.proofs.Common.{ℕ, ◌≤◌, List, length, arith}
+use Rattle.tpf_client.specs.Acts.{ActsOnWire}
+use Rattle.tpf_client.specs.Calls.{most_over}
+use Rattle.tpf_client.specs.Ends.{AreHonestServers, servers_ends}
+use Rattle.tpf_client.specs.Offers.{Publisher, servers_offer}
+use Rattle.tpf_client.proofs.Shutting.{if-ok, on-err-of}
+use Rattle.tpf_client.proofs.Clauses.{acts-by-plan, acts-on-wire}
+use Rattle.tpf_client.proofs.Completing.{completes}
+use Rattle.tpf_client.proofs.Covered.{Covered, solutions-written, front-written}
+use Rattle.federated_query.specs.Servers.{joint_sources}
+use Rattle.federated_query.proofs.Covering.{servers-covered}
+use Rattle.federated_query.proofs.call.federate.Given as given
+use Rattle.federated_query.proofs.call.federate.Goals as goal
+
+same-most : (n : ℕ) → n ≤ n
+same-most n = omega arith
+
+covers : (g : given.Over) (c : goal.After-evaluate_to g) (publishers : List Publisher) → AreHonestServers (g.W.Wire.allows c.args.wire.now) c.args.starts.now publishers (g.W.Wire.state c.args.wire.now)
+    → Covered joint_sources (servers_offer publishers c.args.query.now c.args.starts.now) (g.W.Wire.allows c.args.wire.now) c.args.options.now (g.W.Wire.state c.args.wire.now) (g.W.Wire.state c.evaluate_to.new.wire) c.args.starts.now c.args.query.now
+covers g c publishers honest =
+    servers-covered c.solutions_rest_on_laws.ensures (g.W.Wire.allows c.args.wire.now) c.args.options.now (g.W.Wire.state c.args.wire.now) (g.W.Wire.state c.evaluate_to.new.wire) c.is_lawful.ensures c.is_bounded.ensures publishers c.args.starts.now c.requires.starts c.requires.apart honest c.args.query.now
+
+acts : (g : given.Over) (c : goal.After-evaluate_to g)
+    → ActsOnWire (g.W.Wire.allows c.args.wire.now) (servers_ends c.args.query.now c.args.starts.now) c.args.options.now c.args.starts.now (most_over c.args.options.now c.args.query.now (length c.args.starts.now)) c.evaluate_to.result (λ report. report) (g.W.Wire.state c.args.wire.now) (g.W.Wire.state c.evaluate_to.new.wire)
+acts g c =
+    acts-on-wire (g.W.Wire.allows c.args.wire.now) (servers_ends c.args.query.now c.args.starts.now) c.args.options.now c.args.starts.now (most_over c.args.options.now c.args.query.now (length c.args.starts.now)) c.args.query.now c.evaluate_to.result (λ report. report) (g.W.Wire.state c.args.wire.now) (g.W.Wire.state c.evaluate_to.new.wire)
+    (same-most (most_over c.args.options.now c.args.query.now (length c.args.starts.now))) c.evaluate_to.ensures.acts
+    (acts-by-plan c.solutions_rest_on_laws.ensures c.traffic_rests_on_laws.ensures (g.W.Wire.allows c.args.wire.now) c.args.options.now (g.W.Wire.state c.args.wire.now) (g.W.Wire.state c.evaluate_to.new.wire) c.is_lawful.ensures c.args.starts.now joint_sources c.args.query.now c.evaluate_to.result (λ report. report)
+    _ _ _ c.evaluate_to.ensures.ok c.evaluate_to.ensures.err (λ report w. (w.rows, w.returns)) c.is_bounded.ensures c.requires.some (servers_ends c.args.query.now c.args.starts.now) (covers g c))
+
+pub returns-clause-headline : goal.returns-clause-headline
+returns-clause-headline g c = λ publishers honest.
+    if-ok c.evaluate_to.result _ _ (λ report w.
+    solutions-written joint_sources (servers_offer publishers c.args.query.now c.args.starts.now) (g.W.Wire.allows c.args.wire.now) c.args.options.now (g.W.Wire.state c.args.wire.now) (g.W.Wire.state c.evaluate_to.new.wire) c.args.starts.now c.args.query.now (covers g c publishers honest) report _ _ w) c.evaluate_to.ensures.ok
+
+pub returns-clause-prefix : goal.returns-clause-prefix
+returns-clause-prefix g c = λ publishers honest.
+    on-err-of c.evaluate_to.result _ _ (λ fault w.
+    front-written joint_sources (servers_offer publishers c.args.query.now c.args.starts.now) (g.W.Wire.allows c.args.wire.now) c.args.options.now (g.W.Wire.state c.args.wire.now) (g.W.Wire.state c.evaluate_to.new.wire) c.args.starts.now c.args.query.now (covers g c publishers honest)
+    c.solutions_rest_on_laws.ensures.pieces c.solutions_rest_on_laws.ensures.goes_on c.args.options.now.budget fault _ _ w) c.evaluate_to.ensures.err
+
+pub returns-clause-acts : goal.returns-clause-acts
+returns-clause-acts g c = acts g c
+
+pub returns-clause-complete : goal.returns-clause-complete
+returns-clause-complete g c = λ publishers honest alive rise few fits none.
+    completes (servers_offer publishers c.args.query.now c.args.starts.now) c.args.options.now (g.W.Wire.state c.args.wire.now) (g.W.Wire.state c.evaluate_to.new.wire) rise few fits c.evaluate_to.result ((acts g c).plan.honest_cause publishers honest)
+    ((acts g c).plan.lively_cause publishers honest alive) (λ e. none (c.evaluate_to.ensures.sink.sink e))
+
+pub returns-clause-version : goal.returns-clause-version
+returns-clause-version g c = if-ok c.evaluate_to.result _ _ (λ report w. w.returns.is_version) c.evaluate_to.ensures.ok

@@ -1,0 +1,16 @@
+//! One query over several servers: their pages are asked for and joined together, and the text of the solutions over the union
+//! of what they hold is written. A triple that several of them hold counts once, wherever it stands on their pages.
+//!
+//! A query, the address of any fragment of each server, no two of one authority, a wire to dial them and a sink for the text:
+//!
+//! ```rust
+//! let mut out = MemSink::new(alloc, Failing::Never);
+//! let ended = federate(rt, alloc, &asked, starts, options, wire, &mut out);
+//! ```
+#![tactic(auto)]
+
+mod apart;
+mod call;
+
+pub use apart::are_apart;
+pub use call::federate;
