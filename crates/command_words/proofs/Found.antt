@@ -1,18 +1,20 @@
 -- The values that clap finds, and when it finds none.
-use Rattle.std.proofs.Common.{ℕ, ◌≡◌, ◌∙◌, sym, ap, subst, refl, cond, codes, ◌||◌, Bool, true, false, List, [], ◌∷◌, ◌++◌, map, Option, Some, None, is_some}
+use Rattle.std.proofs.Common.{ℕ, ◌≡◌, ◌<◌, ◌≤◌, ◌+◌, ◌==◌, ◌∙◌, sym, ap, subst, refl, cond, codes, ◌||◌, Bool, true, false, List, [], ◌∷◌, ◌++◌, map, length, Option, Some, None, is_some, append_assoc, arith}
 use Rattle.std.specs.Prelude.{find, slice_get, option_map, option_and_then}
 use Rattle.std.specs.List.{fold}
 use Rattle.std.specs.Str.{bytes_eq}
-use Rattle.clap.specs.Walk.{Row, Rule, first_of, has_row, more_values, nothing_held, settled, walk, Walk, with_default, with_values}
-use Rattle.clap.specs.Simple.{App, Shape, built, entered, matches_of}
+use Rattle.std.proofs.lemmas.Bool.{cond-true, cond-false, eq-eqb, ne_eqb}
+use Rattle.clap.specs.Lexer.{usize_max}
+use Rattle.clap.specs.Walk.{Row, Rule, arg_by_index, first_of, has_row, more_values, nothing_held, settled, walk, Walk, with_default, with_values}
+use Rattle.clap.specs.Simple.{App, Shape, built, entered, filled_from, matches_of}
 use Rattle.clap.specs.Kinds.{Kinds}
 use Rattle.clap.specs.Faults.{entered_fault, fault_of, level_fault}
 use Rattle.clap.specs.declared.builder.value_parser.Reading.TheVariants as reading
 use Rattle.clap.specs.declared.parser.matches.ValueSource.TheVariants.{DefaultValue}
 use Rattle.command_words.specs.Words.{Form, Text, Given, Values, given_by, is_among, value_in, values_of, arguments}
-use Rattle.command_words.specs.Apps.{HasFew, app_of_form, found_values, has_lone_dash}
+use Rattle.command_words.specs.Apps.{HasFew, app_of_form, found_values, has_lone_dash, option_rule, flag_rule, positional_rule}
 use Rattle.command_words.proofs.Joins.{own_name, same_name}
-use Rattle.command_words.proofs.Rules.{flag_built, named_built, named_by_index, named_by_long, named_by_short, named_default, named_filled, none_required, one_positional, option_value, two_positionals, value_behind, value_default, value_here, valued}
+use Rattle.command_words.proofs.Rules.{flag_built, named_built, named_by_index, named_by_long, named_by_short, named_default, next_place, none_required, numbered, numbered_by_long, numbered_by_short, numbered_default, numbered_filled, numbered_required, numbered_value, option_value, value_behind, value_here, valued}
 use Rattle.command_words.proofs.Walks.{absent, clean, end_of, expected, outcome, row, rows, rows_given, shape_with, start_at}
 use Rattle.command_words.proofs.Whole.{AreTexts, Positions, Table, claims}
 
@@ -124,44 +126,45 @@ pub record Ruled (form : Form) (c : List Rule) : Type 0 where
   pub positions : Positions c 1 form.positionals
   pub defaults : (before : List Row) → defaulted c before ≡ defaulted (named form) before
 
-one_table : (a : Text) (options flags : List Text) → Ruled (record { positionals = a ∷ []; options = options; flags = flags }) (one_positional a (named_built options flags))
-one_table a options flags = record {
-  is_rules = ap (λ (rs : List Rule). valued a None (Some 1) ∷ rs) (named_filled 2 options flags);
-  table = record {
-    long = λ name. named_by_long options flags name;
-    short = λ x. named_by_short options flags x;
-    value = λ name e. value_behind (named_built options flags) a name None (Some 1) (option_value options flags name e);
-    defaults = value_default (named_built options flags) a None (Some 1) (named_default options flags);
-    required = λ before. none_required options flags before;
-  };
-  positions = (refl, value_here (named_built options flags) a a None (Some 1) (own_name a), named_by_index options flags 2);
-  defaults = λ before. ap (defaulted (named_built options flags)) (value_kept a None (Some 1) before);
-}
+-- a rule of an earlier place in front changes none of these
+earlier : (rules : List Rule) (a : Text) (j i : ℕ) (names : List Text) → j < i → i ≤ usize_max → Positions rules i names → Positions (valued a None (Some j) ∷ rules) i names
+earlier rules a j i [] before within p = cond-false (j == i) (Some (valued a None (Some j))) (arg_by_index rules i) (ne_eqb j i (λ same. omega (arith, before, same))) ∙ p
+earlier rules a j i (n ∷ names) before within p = (
+  cond-false (j == i) (Some (valued a None (Some j))) (arg_by_index rules i) (ne_eqb j i (λ same. omega (arith, before, same))) ∙ p.0,
+  value_behind rules a n None (Some j) p.1,
+  earlier rules a j (next_place i) names (omega (arith, before, within)) (omega arith) p.2,
+)
 
-two_table : (a b : Text) (options flags : List Text) → Ruled (record { positionals = a ∷ b ∷ []; options = options; flags = flags }) (two_positionals a b (named_built options flags))
-two_table a b options flags =
-    let inner : List Rule = valued b None (Some 2) ∷ named_built options flags in
+places : (rules : List Rule) → ((i : ℕ) → arg_by_index rules i ≡ None) → (i : ℕ) (names : List Text) → i + length names ≤ usize_max → Positions (numbered i names rules) i names
+places rules none i [] few = none i
+places rules none i (a ∷ names) few = (
+  cond-true (i == i) (Some (valued a None (Some i))) (arg_by_index (numbered (next_place i) names rules) i) (eq-eqb i i refl),
+  value_here (numbered (next_place i) names rules) a a None (Some i) (own_name a),
+  earlier (numbered (next_place i) names rules) a i (next_place i) names (omega (arith, few)) (omega arith) (places rules none (next_place i) names (omega (arith, few))),
+)
+
+numbered_kept : (rules : List Rule) (i : ℕ) (names : List Text) (before : List Row) → defaulted (numbered i names rules) before ≡ defaulted rules before
+numbered_kept rules i [] before = refl
+numbered_kept rules i (a ∷ names) before = ap (defaulted (numbered (next_place i) names rules)) (value_kept a None (Some i) before) ∙ numbered_kept rules (next_place i) names before
+
+ruled_by : (names options flags : List Text) → HasFew names → Ruled (record { positionals = names; options = options; flags = flags }) (numbered 1 names (named_built options flags))
+ruled_by names options flags few =
+    let rules : List Rule = named_built options flags in
     record {
-      is_rules = ap (λ (rs : List Rule). valued a None (Some 1) ∷ valued b None (Some 2) ∷ rs) (named_filled 3 options flags);
+      is_rules = ap (filled_from 1) (append_assoc (map positional_rule names) (map option_rule options) (map flag_rule flags)) ∙ numbered_filled 1 names options flags;
       table = record {
-        long = λ name. named_by_long options flags name;
-        short = λ x. named_by_short options flags x;
-        value = λ name e. value_behind (valued b None (Some 2) ∷ named_built options flags) a name None (Some 1) (value_behind (named_built options flags) b name None (Some 2) (option_value options flags name e));
-        defaults = value_default (valued b None (Some 2) ∷ named_built options flags) a None (Some 1) (value_default (named_built options flags) b None (Some 2) (named_default options flags));
-        required = λ before. none_required options flags before;
+        long = λ name. numbered_by_long rules 1 names name ∙ named_by_long options flags name;
+        short = λ x. numbered_by_short rules 1 names x ∙ named_by_short options flags x;
+        value = λ name e. numbered_value rules 1 names name (option_value options flags name e);
+        defaults = numbered_default rules 1 names (named_default options flags);
+        required = λ before. numbered_required rules 1 names before (none_required options flags before);
       };
-      positions = (refl, value_here (valued b None (Some 2) ∷ named_built options flags) a a None (Some 1) (own_name a), (refl, value_behind (valued b None (Some 2) ∷ named_built options flags) a b None (Some 1) (value_here (named_built options flags) b b None (Some 2) (own_name b)), named_by_index options flags 3));
-      defaults = λ before. ap (λ (xs : List Row). defaulted (valued b None (Some 2) ∷ named_built options flags) xs) (value_kept a None (Some 1) before) ∙ ap (defaulted (named_built options flags)) (value_kept b None (Some 2) before);
+      positions = places rules (named_by_index options flags) 1 names (omega (arith, few));
+      defaults = numbered_kept rules 1 names;
     }
 
-ruled_by : (names options flags : List Text) → HasFew names → (c : List Rule) × Ruled (record { positionals = names; options = options; flags = flags }) c
-ruled_by [] options flags few = absurd few
-ruled_by (a ∷ []) options flags few = (one_positional a (named_built options flags), one_table a options flags)
-ruled_by (a ∷ b ∷ []) options flags few = (two_positionals a b (named_built options flags), two_table a b options flags)
-ruled_by (a ∷ b ∷ x ∷ more) options flags few = absurd few
-
 ruled : (form : Form) → HasFew form.positionals → (c : List Rule) × Ruled form c
-ruled form few = ruled_by form.positionals form.options form.flags few
+ruled form few = (numbered 1 form.positionals (named form), ruled_by form.positionals form.options form.flags few)
 
 -- ---- the whole
 

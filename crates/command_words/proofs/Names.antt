@@ -12,5 +12,5 @@ other_name name other differs = go (bytes_eq name other) refl
     go true e = absurd (differs ((bytes_eq-Decides name other).0 e))
     go false e = refl
 
-pub no_command : (name : Text) (words : List Text) → (name ≡ codes "local" → ⊥) → (name ≡ codes "query" → ⊥) → (name ≡ codes "serve" → ⊥) → (name ≡ codes "make" → ⊥) → None ≡ command_by name words
-no_command name words local query serve make = rw (other_name name (codes "local") local, other_name name (codes "query") query, other_name name (codes "serve") serve, other_name name (codes "make") make) refl
+pub no_command : (name : Text) (words : List Text) → (name ≡ codes "local" → ⊥) → (name ≡ codes "query" → ⊥) → (name ≡ codes "federate" → ⊥) → (name ≡ codes "serve" → ⊥) → (name ≡ codes "make" → ⊥) → None ≡ command_by name words
+no_command name words local query federate serve make = rw (other_name name (codes "local") local, other_name name (codes "query") query, other_name name (codes "federate") federate, other_name name (codes "serve") serve, other_name name (codes "make") make) refl

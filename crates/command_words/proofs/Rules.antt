@@ -1,7 +1,8 @@
 -- The arguments of a form, as clap keeps them once the command is built.
-use Rattle.std.proofs.Common.{ℕ, ◌≡◌, ap, refl, cond, codes, ◌&&◌, ◌||◌, Bool, true, false, not, List, [], ◌∷◌, ◌++◌, map, Option, Some, None}
+use Rattle.std.proofs.Common.{ℕ, ◌≡◌, ◌+◌, min, ap, refl, cond, codes, ◌&&◌, ◌||◌, Bool, true, false, not, List, [], ◌∷◌, ◌++◌, map, Option, Some, None}
 use Rattle.std.specs.List.{list_any}
 use Rattle.std.specs.Str.{bytes_eq}
+use Rattle.clap.specs.Lexer.{usize_max}
 use Rattle.clap.specs.Walk.{Rule, Row, arg_by_id, arg_by_long, arg_by_short, arg_by_index, has_row, with_default}
 use Rattle.clap.specs.Takes.{is_given}
 use Rattle.clap.specs.Kinds.{or_else}
@@ -10,7 +11,7 @@ use Rattle.clap.specs.Simple.{filled_from}
 use Rattle.clap.specs.declared.builder.ArgAction.TheVariants.{Set, SetTrue}
 use Rattle.clap.specs.declared.builder.value_parser.ValueParser.TheVariants as vp
 use Rattle.command_words.specs.Words.{Text, is_among}
-use Rattle.command_words.specs.Apps.{option_rule, flag_rule}
+use Rattle.command_words.specs.Apps.{option_rule, flag_rule, positional_rule}
 use Rattle.command_words.proofs.Joins.{same_name}
 
 -- an argument with a value
@@ -70,12 +71,18 @@ pub named_filled : (i : ℕ) (options flags : List Text) → filled_from i (map 
 named_filled i [] flags = flags_filled i flags
 named_filled i (o ∷ options) flags = ap (λ (rs : List Rule). option_built o ∷ rs) (named_filled i options flags)
 
--- the rules of a form with one positional, and with two
-abbrev pub one_positional : Text → List Rule → List Rule
-one_positional a rules = valued a None (Some 1) ∷ rules
+-- the place behind a place
+abbrev pub next_place : ℕ → ℕ
+next_place i = min (i + 1) usize_max
 
-abbrev pub two_positionals : Text → Text → List Rule → List Rule
-two_positionals a b rules = valued a None (Some 1) ∷ valued b None (Some 2) ∷ rules
+-- positionals that are numbered from here, and the rules behind them
+abbrev pub numbered : ℕ → List Text → List Rule → List Rule
+numbered i [] rules = rules
+numbered i (a ∷ names) rules = valued a None (Some i) ∷ numbered (next_place i) names rules
+
+pub numbered_filled : (i : ℕ) (names options flags : List Text) → filled_from i (map positional_rule names ++ (map option_rule options ++ map flag_rule flags)) ≡ numbered i names (named_built options flags)
+numbered_filled i [] options flags = named_filled i options flags
+numbered_filled i (a ∷ names) options flags = ap (λ (rs : List Rule). valued a None (Some i) ∷ rs) (numbered_filled (next_place i) names options flags)
 
 -- ---- what is found by a name, a letter or a place
 
@@ -165,3 +172,27 @@ pub none_required : (options flags : List Text) (rows : List Row) → list_any (
 none_required [] [] rows = refl
 none_required [] (f ∷ flags) rows = none_required [] flags rows
 none_required (o ∷ options) flags rows = none_required options flags rows
+
+-- ---- what stands behind positionals
+
+module _ (rules : List Rule) where
+  pub numbered_by_long : (i : ℕ) (names : List Text) (name : Text) → arg_by_long (numbered i names rules) name ≡ arg_by_long rules name
+  numbered_by_long i [] name = refl
+  numbered_by_long i (a ∷ names) name = numbered_by_long (next_place i) names name
+
+  pub numbered_by_short : (i : ℕ) (names : List Text) (x : ℕ) → arg_by_short (numbered i names rules) x ≡ arg_by_short rules x
+  numbered_by_short i [] x = refl
+  numbered_by_short i (a ∷ names) x = numbered_by_short (next_place i) names x
+
+  pub numbered_value : (i : ℕ) (names : List Text) (id : Text) → HasValue rules id → HasValue (numbered i names rules) id
+  numbered_value i [] id h = h
+  numbered_value i (a ∷ names) id h = value_behind (numbered (next_place i) names rules) a id None (Some i) (numbered_value (next_place i) names id h)
+
+  pub numbered_default : (i : ℕ) (names : List Text) → ((rows : List Row) → defaults_fault rows rules ≡ []) → (rows : List Row) → defaults_fault rows (numbered i names rules) ≡ []
+  numbered_default i [] none rows = none rows
+  numbered_default i (a ∷ names) none rows = value_default (numbered (next_place i) names rules) a None (Some i) (numbered_default (next_place i) names none) rows
+
+  pub numbered_required : (i : ℕ) (names : List Text) (rows : List Row) → list_any (λ (a : Rule). a.required && not (is_given a.id rows)) rules ≡ false
+      → list_any (λ (a : Rule). a.required && not (is_given a.id rows)) (numbered i names rules) ≡ false
+  numbered_required i [] rows none = none
+  numbered_required i (a ∷ names) rows none = numbered_required (next_place i) names rows none

@@ -1,7 +1,7 @@
 -- Words, and what they give by the definition.
 use Rattle.std.proofs.Common.{◌≡◌, refl, List, [], ◌∷◌, Option, Some, None, codes}
 use Rattle.command_words.specs.Words.{Form, Given, Text, given_by}
-use Rattle.command_words.specs.Commands.{make_form, serve_form}
+use Rattle.command_words.specs.Commands.{federate_form, make_form, serve_form}
 
 abbrev given : Form → List Text → Option Given
 given form words = given_by form words form.positionals None
@@ -73,3 +73,11 @@ one_too_many = refl
 first_equals : given make_form (codes "--run=a=b" ∷ []) ≡ Some ((codes "run", codes "a=b") ∷ [])
 unfolding given_by make_form
 first_equals = refl
+
+several_urls : given federate_form (codes "q" ∷ codes "http://a/" ∷ codes "--links=2" ∷ codes "http://b/" ∷ []) ≡ Some ((codes "QUERYFILE", codes "q") ∷ (codes "URL", codes "http://a/") ∷ (codes "links", codes "2") ∷ (codes "URL2", codes "http://b/") ∷ [])
+unfolding given_by federate_form
+several_urls = refl
+
+nine_urls : given federate_form (codes "q" ∷ codes "a" ∷ codes "b" ∷ codes "c" ∷ codes "d" ∷ codes "e" ∷ codes "f" ∷ codes "g" ∷ codes "h" ∷ codes "i" ∷ []) ≡ None
+unfolding given_by federate_form
+nine_urls = refl

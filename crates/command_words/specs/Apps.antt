@@ -1,6 +1,7 @@
 -- The command of clap that has the arguments of a form, and when it is fit to be asked. It serves the reading of words alone.
-use Rattle.std.specs.Prelude.{◌&&◌, ◌||◌, not, Bool, true, false, List, [], ◌∷◌, ◌++◌, map, codes, Some, None, Option}
+use Rattle.std.specs.Prelude.{◌<◌, ◌&&◌, ◌||◌, not, Bool, true, false, List, [], ◌∷◌, ◌++◌, map, length, codes, Some, None}
 use Rattle.std.specs.Str.{bytes_eq}
+use Rattle.clap.specs.Lexer.{usize_max}
 use Rattle.clap.specs.Words.{App, Rule, Row, new_app, new_rule, first_of, found_of, rows_of}
 use Rattle.clap.specs.declared.parser.matches.ArgMatches.{ArgMatches}
 use Rattle.clap.specs.declared.builder.ArgAction.TheVariants.{Set, SetTrue}
@@ -42,12 +43,9 @@ with_rules app rules = record app { top = record app.top { rules = app.top.rules
 abbrev pub app_of_form : Form → App
 app_of_form form = with_rules (with_rules (with_rules bare_app (map positional_rule form.positionals)) (map option_rule form.options)) (map flag_rule form.flags)
 
--- the command has one positional or two
+-- each positional of the command has a place of its own
 abbrev pub HasFew : List Text → Type 0
-HasFew [] = ⊥
-HasFew (a ∷ []) = Unit {0}
-HasFew (a ∷ b ∷ []) = Unit {0}
-HasFew (a ∷ b ∷ c ∷ more) = ⊥
+HasFew names = length names < usize_max
 
 -- the word names an option whose value comes next
 abbrev pub asks : List Text → Kind → Bool

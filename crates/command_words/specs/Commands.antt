@@ -1,11 +1,11 @@
 -- The words of the command line: which command they are.
 use Rattle.std.specs.Prelude.{ℕ, Bool, true, false, not, List, [], ◌∷◌, ◌+◌, ◌-◌, ◌*◌, ◌&&◌, nat_le, length, is_some, Option, Some, None, if◌then◌else◌, codes}
-use Rattle.std.specs.List.{list_all}
+use Rattle.std.specs.List.{list_all, list_any}
 use Rattle.std.specs.Option.{option_map}
 use Rattle.std.specs.Str.{bytes_eq}
 use Rattle.list_laws.specs.Options.{◌>>=◌, when}
 use Rattle.rdf_terms.specs.Iri.{is_iri, is_digit}
-use Rattle.tpf_base.specs.Addresses.{Address}
+use Rattle.tpf_base.specs.Addresses.{Address, authority_of}
 use Rattle.template_fill.specs.ReadAddress.{read_address}
 use Rattle.template_fill.specs.Configurations.{is_reload_path}
 use Rattle.triple_table.specs.declared.choice.Choice.{Choice}
@@ -13,12 +13,20 @@ use Rattle.triple_table.specs.declared.choice.Choice.TheVariants.{DefaultGraph, 
 use Rattle.command_words.specs.Words.{Form, Text, Values, arguments}
 use Rattle.command_words.specs.declared.command.ClientWords.{ClientWords}
 
+-- what is asked of several servers: the query, of each server the address of a page, and the client's options
+pub record Federated : Type 0 where
+  pub query : Text
+  pub urls : List Address
+  pub client : ClientWords
+
 -- what the program is asked to do
 pub data Command : Type 0 where
   -- to ask a query of a file of data, of which some graphs are served on pages of so many triples: the data, the query, the graphs, the page, the client's options, the seed, and each how-many-th dial fails
   local : Text → Text → Choice → ℕ → ClientWords → ℕ → ℕ → Command
   -- to ask a query of the server at an address
   query : Address → Text → ClientWords → Command
+  -- to ask one of several servers together
+  federate : Federated → Command
   -- to serve a file of data at a base: the data, the base, the graphs, the page, after how many connections to stop, and the path of a reload
   serve : Text → Address → Choice → ℕ → Option ℕ → Option Text → Command
   -- to write the data of so many persons, or to ask a query of them
@@ -54,6 +62,17 @@ make_form = record {
   flags = [];
 }
 
+-- one address to eight
+abbrev pub url_names : List Text
+url_names = codes "URL" ∷ codes "URL2" ∷ codes "URL3" ∷ codes "URL4" ∷ codes "URL5" ∷ codes "URL6" ∷ codes "URL7" ∷ codes "URL8" ∷ []
+
+unfoldable pub federate_form : Form
+federate_form = record {
+  positionals = codes "QUERYFILE" ∷ url_names;
+  options = codes "window" ∷ codes "links" ∷ codes "retries" ∷ codes "budget" ∷ codes "max-body" ∷ [];
+  flags = [];
+}
+
 -- ---- values
 
 -- 1 to 19 digits
@@ -86,6 +105,28 @@ count_of low high (Some text) = option_map (λ n. Some n) (number_of low high te
 -- an address as it is typed has at most 2048 bytes
 abbrev pub url_of : Text → Option Address
 url_of text = when (nat_le (length text) 2048) text >>= read_address
+
+-- the address that a text is, and those behind it; none stands behind a text that is not given
+abbrev pub url_and : Option Text → Option (List Address) → Option (List Address)
+url_and None later = Some []
+url_and (Some text) later = url_of text >>= (λ url. option_map (λ urls. url ∷ urls) later)
+
+-- the addresses that are given under these names
+abbrev pub urls_in : Values → List Text → Option (List Address)
+urls_in values [] = Some []
+urls_in values (name ∷ names) = url_and (values name) (urls_in values names)
+
+abbrev pub has_authority : Address → Address → Bool
+has_authority url other = bytes_eq (authority_of other) (authority_of url)
+
+-- no two addresses have one authority
+abbrev pub are_apart : List Address → Bool
+are_apart [] = true
+are_apart (url ∷ urls) = not (list_any (has_authority url) urls) && are_apart urls
+
+-- one address or more, with different authorities
+abbrev pub servers_in : Values → Option (List Address)
+servers_in values = urls_in values url_names >>= (λ urls. when (nat_le 1 (length urls) && are_apart urls) urls)
 
 -- a base is an address without a query
 abbrev pub without_query : Option Address → Option Address
@@ -155,6 +196,17 @@ query_with values address asked = do
 abbrev pub query_from : Values → Option Command
 query_from values = query_with values (values (codes "URL") >>= url_of) (client_in values)
 
+-- federate QUERYFILE URL ..
+abbrev pub federate_with : Values → Option (List Address) → Option ClientWords → Option Federated
+federate_with values servers asked = do
+  urls ← servers
+  query_name ← values (codes "QUERYFILE")
+  client ← asked
+  Some (record { query = query_name; urls = urls; client = client })
+
+abbrev pub federate_from : Values → Option Command
+federate_from values = option_map federate (federate_with values (servers_in values) (client_in values))
+
 -- serve FILE, with --base; --stop-after 1 to 10^9
 abbrev pub serve_with : Values → Option Choice → Address → Option Text → Option Command
 serve_with values chosen base reload = do
@@ -187,6 +239,9 @@ local_of words = words_of local_form local_from words
 unfoldable pub query_of : List Text → Option Command
 query_of words = words_of query_form query_from words
 
+unfoldable pub federate_of : List Text → Option Command
+federate_of words = words_of federate_form federate_from words
+
 unfoldable pub serve_of : List Text → Option Command
 serve_of words = words_of serve_form serve_from words
 
@@ -197,9 +252,10 @@ abbrev pub command_by : Text → List Text → Option Command
 command_by name words =
     if bytes_eq name (codes "local") then local_of words
     else (if bytes_eq name (codes "query") then query_of words
+    else (if bytes_eq name (codes "federate") then federate_of words
     else (if bytes_eq name (codes "serve") then serve_of words
     else (if bytes_eq name (codes "make") then make_of words
-    else None)))
+    else None))))
 
 -- the command that the words are, if they are one; the first word is the program's name
 abbrev pub command_of : List Text → Option Command

@@ -1,6 +1,6 @@
 -- How the words after a command's name are taken apart.
 -- An option is --name and its value, as one word with = or as two; a flag is --name; the other words are the positionals, in their order. -- ends the options: all words after it are positionals. Before it a word of two or more characters that begins with - is an option or a flag of the command, written whole, and a value that is a word of its own does not begin with -. Nothing is given twice.
-use Rattle.std.specs.Prelude.{ℕ, Bool, true, false, ◌==◌, List, [], ◌∷◌, Option, Some, None, find, codes, if◌then◌else◌}
+use Rattle.std.specs.Prelude.{ℕ, Bool, false, ◌==◌, List, [], ◌∷◌, Option, Some, None, find, codes, if◌then◌else◌}
 use Rattle.std.specs.List.{list_any, before_first, after_first}
 use Rattle.std.specs.Option.{option_map}
 use Rattle.std.specs.Str.{bytes_eq}

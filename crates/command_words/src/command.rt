@@ -20,6 +20,18 @@ pub struct ClientWords {
     pub max_body: u64,
 }
 
+/// `federate QUERYFILE URL ..`: to ask the query of a file of one to eight servers.
+#[derive(Drop)]
+pub struct FederateWords<'a> {
+    /// `QUERYFILE`: the name of the file of the query.
+    pub query: &'a str,
+    /// `URL ..`: of each server the address of a page, from which its search form is read; one address
+    /// to eight, of which no two have one authority.
+    pub urls: Vec<WebAddress>,
+    /// The options of the client.
+    pub client: ClientWords,
+}
+
 /// What the program is asked to do.
 #[derive(Drop)]
 pub enum Command<'a> {
@@ -51,6 +63,8 @@ pub enum Command<'a> {
         /// The options of the client.
         client: ClientWords,
     },
+    /// `federate QUERYFILE URL ..`: to ask the query of a file of several servers together.
+    Federate(FederateWords<'a>),
     /// `serve FILE --base URL`: to serve a file of data.
     Serve {
         /// `FILE`: the name of the file of data.

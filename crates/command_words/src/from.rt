@@ -8,6 +8,7 @@ ghost use Rattle.command_words.specs.CommandViews.{command_view};
 
 use crate::arguments::arguments_of;
 use crate::command::{ClientWords, Command};
+use crate::federate::{QUERY_AND_URLS, federate_from};
 use crate::values::{
     base_of, choice_of, count_of, is_true, number_of, number_or, reload_of, url_of,
 };
@@ -18,7 +19,7 @@ use tpf_base::{OutOfMemory, Text};
 use triple_table::Choice;
 
 /// The value of an argument in the words, where it has one.
-fn value_of<'a>(matches: &ArgMatches<'a>, name: &str) -> Option<&'a str>
+pub(crate) fn value_of<'a>(matches: &ArgMatches<'a>, name: &str) -> Option<&'a str>
     ensures { option_map (λ v. v.now) result ≡ found_in matches.now name.now }
 {
     matches.get_str(name)
@@ -51,7 +52,7 @@ fn small_in(matches: &ArgMatches<'_>, name: &str, low: u32, high: u32, usual: u3
 }
 
 /// The client's options.
-fn client_in(matches: &ArgMatches<'_>) -> Option<ClientWords>
+pub(crate) fn client_in(matches: &ArgMatches<'_>) -> Option<ClientWords>
     ensures { result ≡ client_in (found_in matches.now) }
 {
     let window = small_in(matches, "window", 1, 10000, 16)?;
@@ -232,12 +233,13 @@ static MAKE_OPTIONS: [&str; 1] = ["run"];
 enum Name {
     Local,
     Query,
+    Federate,
     Serve,
     Make,
 }
 
 /// The arguments of a command in the words after its name.
-#[tactic(auto, using(crate::proofs::Shapes::local_is_free, crate::proofs::Shapes::query_is_free, crate::proofs::Shapes::serve_is_free, crate::proofs::Shapes::make_is_free), unfolding(crate::specs::Commands::local_form, crate::specs::Commands::query_form, crate::specs::Commands::serve_form, crate::specs::Commands::make_form))]
+#[tactic(auto, using(crate::proofs::Shapes::local_is_free, crate::proofs::Shapes::query_is_free, crate::proofs::Shapes::federate_is_free, crate::proofs::Shapes::serve_is_free, crate::proofs::Shapes::make_is_free), unfolding(crate::specs::Commands::local_form, crate::specs::Commands::query_form, crate::specs::Commands::federate_form, crate::specs::Commands::serve_form, crate::specs::Commands::make_form))]
 fn arguments_by<'a>(
     alloc: Global,
     name: Name,
@@ -256,6 +258,13 @@ fn arguments_by<'a>(
         Name::Query => arguments_of(
             alloc,
             URL_AND_QUERY.as_slice(),
+            CLIENT_OPTIONS.as_slice(),
+            NONE.as_slice(),
+            words,
+        ),
+        Name::Federate => arguments_of(
+            alloc,
+            QUERY_AND_URLS.as_slice(),
             CLIENT_OPTIONS.as_slice(),
             NONE.as_slice(),
             words,
@@ -287,6 +296,7 @@ fn command_from<'a>(
     match name {
         Name::Local => local_from(alloc, matches),
         Name::Query => query_from(alloc, matches),
+        Name::Federate => federate_from(alloc, matches),
         Name::Serve => serve_from(alloc, matches),
         Name::Make => Ok(make_from(matches)),
     }
@@ -306,7 +316,7 @@ fn command_named<'a>(
 }
 
 /// The command of this name, with the words after it.
-#[tactic(auto, unfolding(crate::specs::Commands::local_of, crate::specs::Commands::query_of, crate::specs::Commands::serve_of, crate::specs::Commands::make_of))]
+#[tactic(auto, unfolding(crate::specs::Commands::local_of, crate::specs::Commands::query_of, crate::specs::Commands::federate_of, crate::specs::Commands::serve_of, crate::specs::Commands::make_of))]
 fn command_by<'a>(
     alloc: Global,
     name: &str,
@@ -317,6 +327,7 @@ fn command_by<'a>(
     match name {
         "local" => command_named(alloc, Name::Local, words),
         "query" => command_named(alloc, Name::Query, words),
+        "federate" => command_named(alloc, Name::Federate, words),
         "serve" => command_named(alloc, Name::Serve, words),
         "make" => command_named(alloc, Name::Make, words),
         _ => Ok(None),

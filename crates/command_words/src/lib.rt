@@ -16,8 +16,9 @@
 
 mod arguments;
 mod command;
+mod federate;
 mod from;
 mod values;
 
-pub use command::{ClientWords, Command};
+pub use command::{ClientWords, Command, FederateWords};
 pub use from::command_of;
