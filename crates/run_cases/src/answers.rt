@@ -2,7 +2,7 @@
 ghost use Rattle.std.specs.Prelude.{◌≡◌};
 
 use crate::commands::command;
-use crate::loops::{looped, sent_over};
+use crate::loops::{looped, sent_over, together};
 use case_rows::{Answers, Case, CaseFault};
 use run_case_rows::{
     Outcome, Runs, alone, changing, each_byte, each_write, fronts, scripted, traffic,
@@ -70,6 +70,7 @@ impl<R: Wait> Answers for Program<'_, R> {
             "scripted" => scripted(self, alloc, case),
             "changing" => changing(self, alloc, case),
             "looped" => looped(self, alloc, case),
+            "together" => together(self, alloc, case),
             "fronts" => fronts(self, alloc, case),
             "each_byte" => each_byte(self, alloc, case),
             "each_write" => each_write(self, alloc, case),

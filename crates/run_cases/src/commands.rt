@@ -1,6 +1,6 @@
 // The words of the command line, and the commands that they are.
 use case_rows::{Case, CaseFault, word_text};
-use command_words::{ClientWords, Command, command_of};
+use command_words::{ClientWords, Command, FederateWords, command_of};
 use run_case_rows::words_of;
 use std::alloc::Global;
 use tpf_base::Text;
@@ -60,6 +60,19 @@ fn query_text(
     Ok(format!(in alloc; "query {address} {name} {client}")?)
 }
 
+/// `federate` in one line: the query, each server, and the numbers of the client.
+fn federate_text(alloc: Global, words: &FederateWords<'_>) -> Result<String, CaseFault> {
+    let mut line = format!(in alloc; "federate {}", words.query)?;
+    for url in &words.urls {
+        line.push(' ')?;
+        line.push_str(url.text())?;
+    }
+    let client = client_text(alloc, &words.client)?;
+    line.push(' ')?;
+    line.push_str(client.as_str())?;
+    Ok(line)
+}
+
 /// `serve` in one line, before the path of a reload.
 fn serve_front(
     alloc: Global,
@@ -109,6 +122,7 @@ fn command_text(alloc: Global, command: &Command<'_>) -> Result<String, CaseFaul
             local_text(alloc, front.as_str(), client, *seed, *fail_every)
         }
         Command::Query { url, query, client } => query_text(alloc, url.text(), *query, client),
+        Command::Federate(words) => federate_text(alloc, words),
         Command::Serve {
             name,
             base,

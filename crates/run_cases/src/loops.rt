@@ -3,16 +3,20 @@ use case_rows::{Case, CaseFault};
 use file_server::server_of_file;
 use fragment_server::{FragmentConnection, FragmentServer};
 use hydra_controls::Config;
-use loop_wire::LoopWire;
+use loop_wire::{Behind, LoopWire, Several};
 use run_case_rows::{
     Failure, Outcome, Runs, Setup, WithDoor, ended_on, failure_of, push_sent, setup_of, show_of,
 };
 use std::alloc::Global;
 use template_fill::WebAddress;
+use tpf_base::{Bytes, MemShelf, Text};
 use triple_table::Choice;
 
 /// What was sent on a wire in one process.
-pub fn sent_over(alloc: Global, wire: &LoopWire<FragmentConnection>) -> Result<String, CaseFault> {
+pub fn sent_over<B: Behind<FragmentConnection>>(
+    alloc: Global,
+    wire: &LoopWire<FragmentConnection, B>,
+) -> Result<String, CaseFault> {
     let mut sent = String::new(alloc);
     for i in 0..wire.links() {
         push_sent(&mut sent, wire.sent_on(i))?;
@@ -20,9 +24,9 @@ pub fn sent_over(alloc: Global, wire: &LoopWire<FragmentConnection>) -> Result<S
     Ok(sent)
 }
 
-/// The configuration of a server at `http://localhost/data` with so many triples a page.
-fn config_of(alloc: Global, page: u64) -> Result<Config, CaseFault> {
-    let Ok(base) = WebAddress::read(alloc, "http://localhost/data") else {
+/// The configuration of a server at this address with so many triples a page.
+fn config_of(alloc: Global, base: &str, page: u64) -> Result<Config, CaseFault> {
+    let Ok(base) = WebAddress::read(alloc, base) else {
         return Err(CaseFault::Row);
     };
     match Config::new(base, page) {
@@ -31,14 +35,24 @@ fn config_of(alloc: Global, page: u64) -> Result<Config, CaseFault> {
     }
 }
 
-/// The server of the file `d`.
-fn server_of(alloc: Global, setup: &Setup, page: u64) -> Result<Box<FragmentServer>, CaseFault> {
-    let mut shelf = setup.shelf(alloc, Failure::Never)?;
-    let config = config_of(alloc, page)?;
-    match server_of_file(alloc, &mut *shelf, "d", &Choice::DefaultGraph, config) {
+/// The server of the file `d` of this shelf at this address.
+fn server_on(
+    alloc: Global,
+    shelf: &mut MemShelf,
+    base: &str,
+    page: u64,
+) -> Result<Box<FragmentServer>, CaseFault> {
+    let config = config_of(alloc, base, page)?;
+    match server_of_file(alloc, shelf, "d", &Choice::DefaultGraph, config) {
         Ok(server) => Ok(Box::new(alloc, server)?),
         Err(_) => Err(CaseFault::Row),
     }
+}
+
+/// The server of the file `d`.
+fn server_of(alloc: Global, setup: &Setup, page: u64) -> Result<Box<FragmentServer>, CaseFault> {
+    let mut shelf = setup.shelf(alloc, Failure::Never)?;
+    server_on(alloc, &mut shelf, "http://localhost/data", page)
 }
 
 /// A wire in one process to the server of the file `d`, with this seed, whose calls fail so.
@@ -56,12 +70,15 @@ fn loop_of(
 }
 
 /// The run over a wire in one process.
-fn over_loop<P: Runs>(
+fn over_loop<P: Runs, B: Behind<FragmentConnection>>(
     program: &P,
     alloc: Global,
     setup: &Setup,
-    wire: &mut WithDoor<LoopWire<FragmentConnection>>,
-) -> Result<Box<Outcome>, CaseFault> {
+    wire: &mut WithDoor<LoopWire<FragmentConnection, B>>,
+) -> Result<Box<Outcome>, CaseFault>
+where
+    <B as Behind<FragmentConnection>>::Servers: Drop,
+{
     let mut outcome = ended_on(program, alloc, setup, wire)?;
     outcome.sent = Some(sent_over(alloc, &wire.wire)?);
     Ok(outcome)
@@ -91,5 +108,63 @@ pub fn looped<P: Runs>(
     let setup = setup_of(program, alloc, case)?;
     let show = show_of(alloc, case)?;
     let outcome = looped_outcome(program, alloc, case, &setup)?;
+    show.outcome(alloc, &outcome)
+}
+
+/// A shelf with one file, `d`, which holds these bytes.
+fn shelf_with(alloc: Global, bytes: Vec<u8>) -> Result<MemShelf, CaseFault> {
+    let Ok(name) = Text::copy(alloc, "d") else {
+        return Err(CaseFault::OutOfMemory);
+    };
+    let mut files = Vec::new(alloc);
+    files.push((name, Bytes::from_vec(bytes)))?;
+    Ok(MemShelf::new(alloc, files, Failure::Never.failing(alloc)?))
+}
+
+/// `at`, `data`, `page`: the server of these data at this address.
+fn server_in(alloc: Global, case: &mut Case<'_>) -> Result<Box<FragmentServer>, CaseFault> {
+    let base = case.text(alloc, "at")?;
+    let page = case.number_if("page")?.unwrap_or(100);
+    let bytes = case.bytes(alloc, "data")?;
+    case.end()?;
+    let mut shelf = shelf_with(alloc, bytes)?;
+    server_on(alloc, &mut shelf, base.as_str(), page)
+}
+
+/// `servers`: each of the servers.
+fn servers_in(alloc: Global, case: &mut Case<'_>) -> Result<Vec<FragmentServer>, CaseFault> {
+    let mut servers = Vec::new(alloc);
+    for server in case.list(alloc, "servers")?.iter_mut() {
+        servers.push(Box::into_inner(server_in(alloc, server)?))?;
+    }
+    Ok(servers)
+}
+
+/// `servers`, `seed`, `wire_fails`: how the run over a wire to these servers ends.
+fn together_outcome<P: Runs>(
+    program: &P,
+    alloc: Global,
+    case: &mut Case<'_>,
+    setup: &Setup,
+) -> Result<Box<Outcome>, CaseFault> {
+    let seed = case.number_if("seed")?.unwrap_or(0);
+    let failing = failure_of(alloc, case, "wire_fails")?.failing(alloc)?;
+    let servers = servers_in(alloc, case)?;
+    let wire: LoopWire<FragmentConnection, Several> = LoopWire::to_servers(
+        alloc, servers, seed, failing,
+    );
+    over_loop(program, alloc, setup, &mut WithDoor::new(wire))
+}
+
+/// The members of `run` but `seeds`, and `servers`, `seed`, `wire_fails`: the run over a wire in one process, with this seed,
+/// to servers each of which serves its `data` `at` an address, with so many triples a `page`.
+pub fn together<P: Runs>(
+    program: &P,
+    alloc: Global,
+    case: &mut Case<'_>,
+) -> Result<String, CaseFault> {
+    let setup = setup_of(program, alloc, case)?;
+    let show = show_of(alloc, case)?;
+    let outcome = together_outcome(program, alloc, case, &setup)?;
     show.outcome(alloc, &outcome)
 }

@@ -19,6 +19,7 @@ fn main(rt: HostRuntime) -> ExitCode {
             "runs.jsonl",
             "faults.jsonl",
             "wires.jsonl",
+            "servers.jsonl",
             "group_examples.jsonl",
             "groups.jsonl",
             "group_faults.jsonl",

@@ -29,12 +29,13 @@ use Rattle.query_command.specs.Loops.{LocalView}
 use Rattle.query_command.specs.Plans.{plan_of, offer_of, MayEnd, MayEndBy, EndsGenerated}
 use Rattle.serve_command.specs.declared.fault.ServiceFault.{ServiceFault}
 use Rattle.serve_command.specs.declared.fault.ServiceFault.TheVariants as services
-use Rattle.command_words.specs.Commands.{Command, local, query, serve, make}
+use Rattle.federate_command.specs.Commands.{ServersAsked}
+use Rattle.command_words.specs.Commands.{Command, Federated, local, query, federate, serve, make}
 use Rattle.tpf_cli.specs.Endings as ends
 use Rattle.tpf_cli.specs.Endings.{EndOfRun, usage, no_words, answered, made, counted, data_status, query_status, client_status, fault_status, answer_status, service_status, made_status, counted_status, status_of, Says}
 use Rattle.tpf_cli.specs.Ranges.{IsInRange}
 use Rattle.tpf_cli.specs.Runs.{Around, WritesNumbers, CountsFile, Does, DoesOf, unwritten, wire_inside, options_of, view_of}
-use Rattle.tpf_cli.specs.Promises.{IsAmong, local_statuses, statuses_of}
+use Rattle.tpf_cli.specs.Promises.{IsAmong, local_statuses, server_statuses, statuses_of}
 
 -- ---- faults, by the statuses that they have
 
@@ -145,12 +146,18 @@ module _ (a : Around) where
   -- ---- a query over a wire
 
   among_server : (name : List ℕ) (url : Address) (options : Options) (result : Result Report AnswerFault) → ServerAsked a.shelf a.shelf' a.allows a.wire a.wire' a.out a.out' name url options result
-      → IsAmong (0 ∷ 4 ∷ 5 ∷ 6 ∷ 7 ∷ 8 ∷ 9 ∷ 10 ∷ 11 ∷ []) (answer_status result)
+      → IsAmong server_statuses (answer_status result)
   among_server name url options (Ok report) h = refl
   among_server name url options (Err (answers.Data fault)) (Plain h) = absurd h.cause
   among_server name url options (Err (answers.Data fault)) (Groups g h) = absurd h.cause
-  among_server name url options (Err (answers.Query fault)) h = of_query (0 ∷ 4 ∷ 5 ∷ 6 ∷ 7 ∷ 8 ∷ 9 ∷ 10 ∷ 11 ∷ []) refl refl refl fault
-  among_server name url options (Err (answers.Client fault)) h = of_client (0 ∷ 4 ∷ 5 ∷ 6 ∷ 7 ∷ 8 ∷ 9 ∷ 10 ∷ 11 ∷ []) refl refl refl refl refl refl fault
+  among_server name url options (Err (answers.Query fault)) h = of_query server_statuses refl refl refl fault
+  among_server name url options (Err (answers.Client fault)) h = of_client server_statuses refl refl refl refl refl refl fault
+
+  among_servers : (several : Federated) (result : Result Report AnswerFault) → ServersAsked a.shelf a.shelf' a.allows a.wire a.wire' a.out a.out' several.query several.urls (options_of several.client) result → IsAmong server_statuses (answer_status result)
+  among_servers several (Ok report) h = refl
+  among_servers several (Err (answers.Data fault)) h = absurd h.ends
+  among_servers several (Err (answers.Query fault)) h = of_query server_statuses refl refl refl fault
+  among_servers several (Err (answers.Client fault)) h = of_client server_statuses refl refl refl refl refl refl fault
 
   -- ---- a service
 
@@ -218,6 +225,12 @@ module _ (a : Around) where
   among_command (query url query_name client) r (ends.served file service) h = absurd h
   among_command (query url query_name client) r (made written) h = absurd h
   among_command (query url query_name client) r (counted asked result) h = absurd h
+  among_command (federate several) r (answered data_name asked answer) h = among_servers several answer h.2
+  among_command (federate several) r usage h = absurd h
+  among_command (federate several) r no_words h = absurd h
+  among_command (federate several) r (ends.served file service) h = absurd h
+  among_command (federate several) r (made written) h = absurd h
+  among_command (federate several) r (counted asked result) h = absurd h
   among_command (serve name base choice page stop_after reload) r (ends.served file service) h = among_service service
   among_command (serve name base choice page stop_after reload) r usage h = absurd h
   among_command (serve name base choice page stop_after reload) r no_words h = absurd h
@@ -243,6 +256,7 @@ module _ (a : Around) where
   among_memory None = refl
   among_memory (Some (local name query_name choice page client seed fail_every)) = all_8 (fail_every == 0)
   among_memory (Some (query url query_name client)) = refl
+  among_memory (Some (federate several)) = refl
   among_memory (Some (serve name base choice page stop_after reload)) = refl
   among_memory (Some (make count None)) = refl
   among_memory (Some (make count (Some name))) = refl

@@ -10,7 +10,8 @@ use Rattle.query_command.specs.Groups.{FileAsked, ServerAsked}
 use Rattle.command_words.specs.declared.command.ClientWords.{ClientWords}
 use Rattle.command_words.specs.CommandViews.{command_view}
 use Rattle.command_words.specs.declared.command.Command as declared_command
-use Rattle.command_words.specs.Commands.{Command, local, query}
+use Rattle.federate_command.specs.Commands.{ServersAsked}
+use Rattle.command_words.specs.Commands.{Command, Federated, local, query, federate}
 use Rattle.tpf_cli.specs.declared.top.Inside.TheVariants.{Unused}
 use Rattle.tpf_cli.specs.Endings.{usage, no_words, answered}
 use Rattle.tpf_cli.specs.Runs.{Around, IsIdle, Does, DoesOf, wire_inside, options_of}
@@ -40,6 +41,11 @@ module _ (a : Around) where
   pub does_query : (given : Command) (url : Address) (query_name : List ℕ) (client : ClientWords) (answer : Result Report AnswerFault) → given ≡ query url query_name client → a.inside' ≡ Unused
       → ServerAsked a.shelf a.shelf' a.allows a.wire a.wire' a.out a.out' query_name url (options_of client) answer → Does a given (answered [] query_name answer)
   does_query given url query_name client answer is unused asked = subst (λ (c : Command). Does a c (answered [] query_name answer)) (sym is) (refl, unused, asked)
+
+  -- a query of several servers
+  pub does_federate : (given : Command) (several : Federated) (answer : Result Report AnswerFault) → given ≡ federate several → a.inside' ≡ Unused
+      → ServersAsked a.shelf a.shelf' a.allows a.wire a.wire' a.out a.out' several.query several.urls (options_of several.client) answer → Does a given (answered [] several.query answer)
+  does_federate given several answer is unused asked = subst (λ (c : Command). Does a c (answered [] several.query answer)) (sym is) (refl, unused, asked)
 
 -- the command that the words are, by what is read of them
 pub words_are_none : (o : Option declared_command.Command) (given : Option Command) → o ≡ None → option_map command_view o ≡ given → None ≡ given

@@ -32,7 +32,7 @@ use Rattle.query_command.specs.Loops.{LocalView, local_config}
 use Rattle.query_command.specs.Groups.{FileAsked, ServerAsked, GeneratedAsked, Plain, Groups, GroupIsWithin, FitsGroupOver}
 use Rattle.query_command.proofs.Complete.{data_memory}
 use Rattle.command_words.specs.declared.command.ClientWords.{ClientWords}
-use Rattle.command_words.specs.Commands.{Command, local, query, serve, make}
+use Rattle.command_words.specs.Commands.{Command, local, query, federate, serve, make}
 use Rattle.tpf_cli.specs.Endings as ends
 use Rattle.tpf_cli.specs.Endings.{EndOfRun, usage, no_words, answered, made, counted, data_status, query_status, client_status, fault_status, answer_status, counted_status, status_of, Says}
 use Rattle.tpf_cli.specs.Lines.{sizes_text}
@@ -143,6 +143,7 @@ module _ (a : Around) where
   done_command (query url query_name client) r (ends.served file service) h = absurd h
   done_command (query url query_name client) r (made written) h = absurd h
   done_command (query url query_name client) r (counted asked result) h = absurd h
+  done_command (federate several) r end h = tt
   done_command (serve name base choice page stop_after reload) r end h = tt
   done_command (make count None) r end h = tt
   done_command (make count (Some name)) r (counted asked result) h = done_counted count name result h.1.1
@@ -156,6 +157,7 @@ module _ (a : Around) where
   memory_done None = tt
   memory_done (Some (local name query_name choice page client seed fail_every)) = λ quiet fine files is triples g serves holds within. inr refl
   memory_done (Some (query url query_name client)) = λ quiet fine files is g holds triples config fits. inr refl
+  memory_done (Some (federate several)) = tt
   memory_done (Some (serve name base choice page stop_after reload)) = tt
   memory_done (Some (make count None)) = tt
   memory_done (Some (make count (Some name))) = λ quiet fine files is triples g serves holds within. inr refl

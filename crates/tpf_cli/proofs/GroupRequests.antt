@@ -13,7 +13,7 @@ use Rattle.query_command.specs.declared.fault.AnswerFault.{AnswerFault}
 use Rattle.query_command.specs.Groups.{FileAsked, Plain, Groups, group_plan_of}
 use Rattle.query_command.specs.Loops.{LocalView, local_config}
 use Rattle.query_command.specs.Plans.{CountsRequests}
-use Rattle.command_words.specs.Commands.{Command, local, query, serve, make}
+use Rattle.command_words.specs.Commands.{Command, local, query, federate, serve, make}
 use Rattle.tpf_cli.specs.Endings as ends
 use Rattle.tpf_cli.specs.Endings.{EndOfRun, usage, no_words, answered, made, counted, Says}
 use Rattle.tpf_cli.specs.Ranges.{IsInRange}
@@ -54,6 +54,7 @@ module _ (a : Around) where
   requests_command (local name query_name choice page client seed fail_every) r (made written) result err err' h s = absurd h
   requests_command (local name query_name choice page client seed fail_every) r (counted asked given) result err err' h s = absurd h
   requests_command (query url query_name client) r end result err err' h s = tt
+  requests_command (federate several) r end result err err' h s = tt
   requests_command (serve name base choice page stop_after reload) r end result err err' h s = tt
   requests_command (make count asked) r end result err err' h s = tt
 
@@ -65,6 +66,7 @@ module _ (a : Around) where
       eight (inl t) z = let is = t.0 in omega (arith, is, z)
       eight (inr t) z = let is = t.0 in omega (arith, is, z)
   no_requests (query url query_name client) end result err err' e s = tt
+  no_requests (federate several) end result err err' e s = tt
   no_requests (serve name base choice page stop_after reload) end result err err' e s = tt
   no_requests (make count asked) end result err err' e s = tt
 

@@ -10,7 +10,7 @@ use Rattle.template_fill.specs.Metadata.{Config}
 use Rattle.triple_table.specs.declared.choice.Choice.{Choice}
 use Rattle.bgp_core.specs.Queries.{QueryData}
 use Rattle.tpf_client.specs.declared.options.Options.{Options}
-use Rattle.tpf_client.specs.Offers.{Offer}
+use Rattle.tpf_client.specs.Offers.{Publisher, Offer}
 use Rattle.tpf_client.specs.declared.options.Report.{Report}
 use Rattle.tpf_client.specs.declared.fault.ClientFault.TheVariants as clients
 use Rattle.data_files.specs.declared.fault.DataFault.{DataFault}
@@ -33,7 +33,8 @@ use Rattle.serve_command.specs.declared.fault.ServiceFault.{ServiceFault}
 use Rattle.serve_command.specs.declared.fault.ServiceFault.TheVariants as services
 use Rattle.serve_command.specs.Services.{ServesFile}
 use Rattle.command_words.specs.declared.command.ClientWords.{ClientWords}
-use Rattle.command_words.specs.Commands.{Command, local, query, serve, make}
+use Rattle.federate_command.specs.Commands.{FitsServers, ServersAsked}
+use Rattle.command_words.specs.Commands.{Command, Federated, local, query, federate, serve, make}
 use Rattle.tpf_cli.specs.Endings as ends
 use Rattle.tpf_cli.specs.Endings.{EndOfRun, usage, no_words, answered, made, counted, data_status, fault_status, answer_status, service_status, made_status, counted_status, status_of, Says}
 use Rattle.tpf_cli.specs.Ranges.{IsInRange, IsTyped}
@@ -112,6 +113,11 @@ module _ (a : Around) where
   server_succeeds name client (Err fault) url typed (Groups g h) quiet fine = λ files is q holds triples config fits. absurd (no_plain a.shelf.told name g h.is_read files is q holds)
   server_succeeds name client (Err fault) url typed (Plain h) quiet fine = λ files is q holds triples config fits. wanting_done fault (h.complete typed quiet fine files is q holds triples config fits)
 
+  servers_succeed : (several : Federated) (answer : Result Report AnswerFault) → ServersAsked a.shelf a.shelf' a.allows a.wire a.wire' a.out a.out' several.query several.urls (options_of several.client) answer → ¬ (Rose a.shelf.faults a.shelf'.faults) → ¬ (Rose a.out.faults a.out'.faults)
+      → OfQuery a.shelf.told several.query (λ q. (publishers : List Publisher) → FitsServers a.allows q several.urls (options_of several.client) publishers a.wire a.wire' → IsDone (answer_status answer))
+  servers_succeed several (Ok report) h quiet fine = λ files is q holds publishers fits. inl refl
+  servers_succeed several (Err fault) h quiet fine = λ files is q holds publishers fits. wanting_done fault (h.complete quiet fine files is q holds publishers fits)
+
   service_succeeds : (name : List ℕ) (choice : Choice) (config : Config) (stop_after : Option ℕ) (result : Result ℕ ServiceFault) → ServesFile a.shelf a.shelf' a.wire a.wire' a.out a.out' name choice config stop_after result
       → ¬ (Rose a.shelf.faults a.shelf'.faults) → ¬ (Rose a.out.faults a.out'.faults) → ¬ (Rose a.wire.door.faults a.wire'.door.faults)
       → IfTold a.shelf.told (λ files. (triples : List Triple) → Serves files name choice (authority_of config.base) triples → IsDone (service_status result))
@@ -145,6 +151,12 @@ module _ (a : Around) where
   table_command (query url query_name client) r (ends.served file service) h = absurd h
   table_command (query url query_name client) r (made written) h = absurd h
   table_command (query url query_name client) r (counted asked result) h = absurd h
+  table_command (federate several) r (answered data_name asked answer) h = not_twelve answer
+  table_command (federate several) r usage h = absurd h
+  table_command (federate several) r no_words h = absurd h
+  table_command (federate several) r (ends.served file service) h = absurd h
+  table_command (federate several) r (made written) h = absurd h
+  table_command (federate several) r (counted asked result) h = absurd h
   table_command (serve name base choice page stop_after reload) r end h = tt
   table_command (make count None) r end h = tt
   table_command (make count (Some name)) r (counted asked result) h = generated_table count name result h.1.1
@@ -167,6 +179,12 @@ module _ (a : Around) where
   succeeds_command (query url query_name client) r (ends.served file service) h = absurd h
   succeeds_command (query url query_name client) r (made written) h = absurd h
   succeeds_command (query url query_name client) r (counted asked result) h = absurd h
+  succeeds_command (federate several) r (answered data_name asked answer) h = servers_succeed several answer h.2
+  succeeds_command (federate several) r usage h = absurd h
+  succeeds_command (federate several) r no_words h = absurd h
+  succeeds_command (federate several) r (ends.served file service) h = absurd h
+  succeeds_command (federate several) r (made written) h = absurd h
+  succeeds_command (federate several) r (counted asked result) h = absurd h
   succeeds_command (serve name base choice page stop_after reload) r (ends.served file service) h = service_succeeds name choice (config_by base page reload) stop_after service h.2
   succeeds_command (serve name base choice page stop_after reload) r usage h = absurd h
   succeeds_command (serve name base choice page stop_after reload) r no_words h = absurd h
@@ -192,6 +210,7 @@ module _ (a : Around) where
   memory_keeps None = tt
   memory_keeps (Some (local name query_name choice page client seed fail_every)) = λ files is triples q serves holds. memory_table fail_every (options_of client) (offer_of triples (local_config page) q) (plan_of triples (local_config page) q)
   memory_keeps (Some (query url query_name client)) = λ e. omega (arith, e)
+  memory_keeps (Some (federate several)) = λ e. omega (arith, e)
   memory_keeps (Some (serve name base choice page stop_after reload)) = tt
   memory_keeps (Some (make count None)) = tt
   memory_keeps (Some (make count (Some name))) = λ files is triples q serves holds. memory_table 0 usual_options (offer_of triples (local_config 100) q) (plan_of triples (local_config 100) q)
@@ -200,6 +219,7 @@ module _ (a : Around) where
   memory_succeeds None = tt
   memory_succeeds (Some (local name query_name choice page client seed fail_every)) = λ quiet fine files is triples q serves holds within. inr refl
   memory_succeeds (Some (query url query_name client)) = λ quiet fine files is q holds triples config fits. inr refl
+  memory_succeeds (Some (federate several)) = λ quiet fine files is q holds publishers fits. inr refl
   memory_succeeds (Some (serve name base choice page stop_after reload)) = λ quiet fine calm files is triples serves. inr refl
   memory_succeeds (Some (make count None)) = λ fine. inr refl
   memory_succeeds (Some (make count (Some name))) = λ quiet fine files is triples q serves holds within. inr refl
@@ -244,6 +264,7 @@ module _ (a : Around) where
   requests_command (local name query_name choice page client seed fail_every) r (made written) result err err' h s = absurd h
   requests_command (local name query_name choice page client seed fail_every) r (counted asked given) result err err' h s = absurd h
   requests_command (query url query_name client) r end result err err' h s = tt
+  requests_command (federate several) r end result err err' h s = tt
   requests_command (serve name base choice page stop_after reload) r end result err err' h s = tt
   requests_command (make count asked) r end result err err' h s = tt
 
@@ -255,6 +276,7 @@ module _ (a : Around) where
       eight (inl t) z = let is = t.0 in omega (arith, is, z)
       eight (inr t) z = let is = t.0 in omega (arith, is, z)
   no_requests (query url query_name client) end result err err' e s = tt
+  no_requests (federate several) end result err err' e s = tt
   no_requests (serve name base choice page stop_after reload) end result err err' e s = tt
   no_requests (make count asked) end result err err' e s = tt
 
@@ -278,6 +300,12 @@ module _ (a : Around) where
   shelf_command (query url query_name client) (ends.served file service) h = absurd h
   shelf_command (query url query_name client) (made written) h = absurd h
   shelf_command (query url query_name client) (counted asked result) h = absurd h
+  shelf_command (federate several) (answered data_name asked answer) h = reads_keep several.query a.shelf a.shelf' (FailsByFile answer) h.2.reads
+  shelf_command (federate several) usage h = absurd h
+  shelf_command (federate several) no_words h = absurd h
+  shelf_command (federate several) (ends.served file service) h = absurd h
+  shelf_command (federate several) (made written) h = absurd h
+  shelf_command (federate several) (counted asked result) h = absurd h
   shelf_command (serve name base choice page stop_after reload) (ends.served file service) h = h.2.keeps
   shelf_command (serve name base choice page stop_after reload) usage h = absurd h
   shelf_command (serve name base choice page stop_after reload) no_words h = absurd h
@@ -310,6 +338,12 @@ module _ (a : Around) where
   output_command (query url query_name client) (ends.served file service) h = absurd h
   output_command (query url query_name client) (made written) h = absurd h
   output_command (query url query_name client) (counted asked result) h = absurd h
+  output_command (federate several) (answered data_name asked answer) h = h.2.output.keeps
+  output_command (federate several) usage h = absurd h
+  output_command (federate several) no_words h = absurd h
+  output_command (federate several) (ends.served file service) h = absurd h
+  output_command (federate several) (made written) h = absurd h
+  output_command (federate several) (counted asked result) h = absurd h
   output_command (serve name base choice page stop_after reload) (ends.served file service) h = h.2.output
   output_command (serve name base choice page stop_after reload) usage h = absurd h
   output_command (serve name base choice page stop_after reload) no_words h = absurd h

@@ -1,15 +1,19 @@
 -- The words of a command keep to their ranges.
-use Rattle.std.proofs.Common.{ℕ, ◌≡◌, ◌≤◌, ◌⊎◌, inl, inr, List, [], ◌∷◌, Bool, true, false, not, ◌&&◌, nat_le, length, is_some, Option, Some, None, codes, if◌then◌else◌, refl, ap, subst, arith}
+use Rattle.std.proofs.Common.{ℕ, ◌≡◌, ◌≤◌, ◌<◌, ◌⊎◌, inl, inr, List, [], ◌∷◌, Bool, true, false, not, ◌&&◌, ◌||◌, nat_le, length, is_some, Option, Some, None, codes, if◌then◌else◌, refl, sym, ap, ◌∙◌, subst, true≢false, option_map, arith}
 use Rattle.std.proofs.lemmas.Bool.Decides.{nat_tests}
+use Rattle.std.proofs.lemmas.List.Elements.{All-nil, All-cons}
+use Rattle.std.proofs.lemmas.Slice.Eq.{bytes_eq-Decides}
 use Rattle.std.specs.Str.{bytes_eq}
+use Rattle.std.specs.List.{All, list_any}
 use Rattle.list_laws.specs.Options.{◌>>=◌, when}
 use Rattle.list_laws.proofs.Options.{bind_some}
-use Rattle.tpf_base.specs.Addresses.{Address}
+use Rattle.tpf_base.specs.Addresses.{Address, authority_of}
 use Rattle.template_fill.specs.Configurations.{HasReloadPath, is_reload_path}
 use Rattle.template_fill.specs.ReadAddress.{read_address}
 use Rattle.command_words.specs.declared.command.ClientWords.{ClientWords}
 use Rattle.command_words.specs.Words.{Text, Values, Form, arguments}
-use Rattle.command_words.specs.Commands.{Command, local_form, query_form, serve_form, make_form, is_number, number_after, number_of, number_or, number_in, count_of, url_of, without_query, base_of, reload_of, choice_in, page_in, client_in, local_from, query_from, serve_from, make_from, words_of, command_of, local_of, query_of, serve_of, make_of}
+use Rattle.command_words.specs.Commands.{Command, Federated, federate, local_form, query_form, federate_form, serve_form, make_form, is_number, number_after, number_of, number_or, number_in, count_of, url_of, without_query, base_of, reload_of, choice_in, page_in, client_in, url_names, urls_in, has_authority, are_apart, servers_in, federate_with, local_from, query_from, federate_from, serve_from, make_from, words_of, command_of, local_of, query_of, federate_of, serve_of, make_of}
+use Rattle.federated_query.specs.Servers.{AreApart}
 use Rattle.tpf_cli.specs.Ranges.{IsClient, IsTyped, IsInRange}
 use Rattle.tpf_cli.proofs.Typed.{read_length}
 
@@ -21,6 +25,18 @@ some_same e = cc
 passes : {A : Type 0} (b : Bool) (x y : A) → (if b then Some x else None) ≡ Some y → (b ≡ true) × (x ≡ y)
 passes true x y e = (refl, some_same e)
 passes false x y e = cc
+
+not_there : (b : Bool) → not b ≡ true → b ≡ false
+not_there true e = cc
+not_there false e = refl
+
+neither_there : (a b : Bool) → (a || b) ≡ false → (a ≡ false) × (b ≡ false)
+neither_there true b e = cc
+neither_there false b e = (refl, e)
+
+mapped : {A B : Type 0} (f : A → B) (o : Option A) (y : B) → option_map f o ≡ Some y → (x : A) × (o ≡ Some x) × (f x ≡ y)
+mapped f None y e = cc
+mapped f (Some x) y e = (x, refl, some_same e)
 
 both : (a b : Bool) → (a && b) ≡ true → (a ≡ true) × (b ≡ true)
 both true b e = (refl, e)
@@ -84,6 +100,36 @@ query_range values c e =
     let text = bind_some (values (codes "URL")) url_of url.0 url.1 in
     subst IsInRange (some_same client.2) (is_typed text.0 url.0 text.2, client_range values client.0 client.1)
 
+-- no later address has the authority of an earlier one
+apart_here : (url : Address) (others : List Address) → list_any (has_authority url) others ≡ false → All (λ other. authority_of url ≡ authority_of other → ⊥) others
+apart_here url [] e = All-nil (λ other. authority_of url ≡ authority_of other → ⊥)
+apart_here url (other ∷ others) e =
+    let p = neither_there (has_authority url other) (list_any (has_authority url) others) e in
+    All-cons (λ x. authority_of url ≡ authority_of x → ⊥) other others
+    (λ same. true≢false (sym ((bytes_eq-Decides (authority_of other) (authority_of url)).1 (sym same)) ∙ p.0)) (apart_here url others p.1)
+
+apart_all : (urls : List Address) → are_apart urls ≡ true → AreApart urls
+apart_all [] e = tt
+apart_all (url ∷ urls) e =
+    let p = both (not (list_any (has_authority url) urls)) (are_apart urls) e in
+    (apart_here url urls (not_there (list_any (has_authority url) urls) p.0), apart_all urls p.1)
+
+federate_range : (values : Values) (c : Command) → federate_from values ≡ Some c → IsInRange c
+federate_range values c e =
+    let found = mapped (λ several. federate several) (federate_with values (servers_in values) (client_in values)) c e in
+    let urls = bind_some (servers_in values) _ found.0 found.1 in
+    let asked = bind_some (values (codes "QUERYFILE")) _ found.0 urls.2 in
+    let client = bind_some (client_in values) _ found.0 asked.2 in
+    let typed = bind_some (urls_in values url_names) _ urls.0 urls.1 in
+    let p = passes (nat_le 1 (length typed.0) && are_apart typed.0) typed.0 urls.0 typed.2 in
+    let q = both (nat_le 1 (length typed.0)) (are_apart typed.0) p.0 in
+    let some : 0 < length typed.0 = grind (arith, nat_tests, q.0) in
+    subst IsInRange found.2 (subst (λ (s : Federated). IsInRange (federate s)) (some_same client.2) (
+      subst (λ (us : List Address). 0 < length us) p.1 some,
+      subst AreApart p.1 (apart_all typed.0 q.1),
+      client_range values client.0 client.1,
+    ))
+
 none_there : {A : Type 0} (o : Option A) → not (is_some o) ≡ true → o ≡ None
 none_there None e = refl
 none_there (Some x) e = cc
@@ -121,23 +167,25 @@ make_range values c e =
 words_range : (form : Form) (from : Values → Option Command) (words : List Text) (c : Command) → ((values : Values) → from values ≡ Some c → IsInRange c) → words_of form from words ≡ Some c → IsInRange c
 words_range form from words c range e = let values = bind_some (arguments form words) from c e in range values.0 values.2
 
--- one of four, or nothing
-chosen : (a b d f : Bool) (w x y z : Option Command) (c : Command) → (if a then w else (if b then x else (if d then y else (if f then z else None)))) ≡ Some c
-    → (w ≡ Some c) ⊎ ((x ≡ Some c) ⊎ ((y ≡ Some c) ⊎ (z ≡ Some c)))
-chosen true b d f w x y z c e = inl e
-chosen false true d f w x y z c e = inr (inl e)
-chosen false false true f w x y z c e = inr (inr (inl e))
-chosen false false false true w x y z c e = inr (inr (inr e))
-chosen false false false false w x y z c e = cc
+-- one of five, or nothing
+chosen : (a b d f h : Bool) (v w x y z : Option Command) (c : Command) → (if a then v else (if b then w else (if d then x else (if f then y else (if h then z else None))))) ≡ Some c
+    → (v ≡ Some c) ⊎ ((w ≡ Some c) ⊎ ((x ≡ Some c) ⊎ ((y ≡ Some c) ⊎ (z ≡ Some c))))
+chosen true b d f h v w x y z c e = inl e
+chosen false true d f h v w x y z c e = inr (inl e)
+chosen false false true f h v w x y z c e = inr (inr (inl e))
+chosen false false false true h v w x y z c e = inr (inr (inr (inl e)))
+chosen false false false false true v w x y z c e = inr (inr (inr (inr e)))
+chosen false false false false false v w x y z c e = cc
 
 pub ranges : (words : List Text) (c : Command) → command_of words ≡ Some c → IsInRange c
-unfolding local_of query_of serve_of make_of
+unfolding local_of query_of federate_of serve_of make_of
 ranges [] c e = cc
 ranges (program ∷ []) c e = cc
-ranges (program ∷ name ∷ words) c e = found (chosen (bytes_eq name (codes "local")) (bytes_eq name (codes "query")) (bytes_eq name (codes "serve")) (bytes_eq name (codes "make")) _ _ _ _ c e)
+ranges (program ∷ name ∷ words) c e = found (chosen (bytes_eq name (codes "local")) (bytes_eq name (codes "query")) (bytes_eq name (codes "federate")) (bytes_eq name (codes "serve")) (bytes_eq name (codes "make")) _ _ _ _ _ c e)
   where
-    found : (words_of local_form local_from words ≡ Some c) ⊎ ((words_of query_form query_from words ≡ Some c) ⊎ ((words_of serve_form serve_from words ≡ Some c) ⊎ (words_of make_form make_from words ≡ Some c))) → IsInRange c
+    found : (words_of local_form local_from words ≡ Some c) ⊎ ((words_of query_form query_from words ≡ Some c) ⊎ ((words_of federate_form federate_from words ≡ Some c) ⊎ ((words_of serve_form serve_from words ≡ Some c) ⊎ (words_of make_form make_from words ≡ Some c)))) → IsInRange c
     found (inl p) = words_range local_form local_from words c (λ values. local_range values c) p
     found (inr (inl p)) = words_range query_form query_from words c (λ values. query_range values c) p
-    found (inr (inr (inl p))) = words_range serve_form serve_from words c (λ values. serve_range values c) p
-    found (inr (inr (inr p))) = words_range make_form make_from words c (λ values. make_range values c) p
+    found (inr (inr (inl p))) = words_range federate_form federate_from words c (λ values. federate_range values c) p
+    found (inr (inr (inr (inl p)))) = words_range serve_form serve_from words c (λ values. serve_range values c) p
+    found (inr (inr (inr (inr p)))) = words_range make_form make_from words c (λ values. make_range values c) p

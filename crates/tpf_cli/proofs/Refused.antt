@@ -1,5 +1,5 @@
 -- Which statuses come of queries with groups in one process, and where a query is refused.
-use Rattle.std.proofs.Common.{ℕ, ◌≡◌, ◌⊎◌, ◌<◌, ◌≤◌, ◌^◌, inl, inr, List, Option, Some, None, Result, Ok, Err, codes, refl, sym, subst, arith}
+use Rattle.std.proofs.Common.{ℕ, ◌≡◌, ◌⊎◌, ◌<◌, ◌≤◌, ◌^◌, inl, inr, List, Option, Some, None, Result, Ok, Err, codes, refl, sym, ap, subst, arith}
 use Rattle.rdf_terms.specs.declared.term.Triple.{Triple}
 use Rattle.tpf_base.specs.Addresses.{Address}
 use Rattle.tpf_base.specs.Causes.{Rose}
@@ -20,8 +20,9 @@ use Rattle.tpf_client.specs.declared.fault.ClientFault.{ClientFault}
 use Rattle.tpf_client.specs.declared.fault.ClientFault.TheVariants as clients
 use Rattle.data_files.specs.declared.fault.DataFault.{DataFault}
 use Rattle.data_files.specs.declared.fault.DataFault.TheVariants as data_faults
+use Rattle.data_files.specs.declared.fault.QueryFileFault.{QueryFileFault}
 use Rattle.data_files.specs.declared.fault.QueryFileFault.TheVariants as query_faults
-use Rattle.data_files.specs.Data.{IfTold, served}
+use Rattle.data_files.specs.Data.{Files, IfTold, served}
 use Rattle.data_files.specs.Queries.{HasQueryFault, reads_groups, refused}
 use Rattle.data_files.specs.Causes.{DataCause, QueryCause, QueryDecides}
 use Rattle.data_files.proofs.Outcomes.{one_outcome, one_query}
@@ -32,12 +33,15 @@ use Rattle.query_command.specs.declared.generated_query.Counts.{Counts}
 use Rattle.query_command.specs.Generated.{usual_options}
 use Rattle.query_command.specs.Loops.{LocalView, local_config}
 use Rattle.query_command.specs.Groups.{group_plan_of, group_offer_of, MayEndGroup, FileAsked, ServerAsked, GeneratedAsked, Plain, Groups}
-use Rattle.command_words.specs.Commands.{Command, local, query, serve, make}
+use Rattle.federate_command.specs.Files.{HasPatternsFault, PatternsCause}
+use Rattle.federate_command.specs.Commands.{ServersAsked}
+use Rattle.command_words.specs.Commands.{Command, Federated, local, query, federate, serve, make}
 use Rattle.tpf_cli.specs.Endings as ends
-use Rattle.tpf_cli.specs.Endings.{EndOfRun, usage, no_words, answered, made, counted, data_status, client_status, fault_status, answer_status, counted_status, status_of, Says}
+use Rattle.tpf_cli.specs.Endings.{EndOfRun, usage, no_words, answered, made, counted, data_status, query_status, client_status, fault_status, answer_status, counted_status, status_of, Says}
 use Rattle.tpf_cli.specs.Ranges.{IsInRange}
 use Rattle.tpf_cli.specs.Runs.{Around, WritesNumbers, CountsFile, IsRead, GivesEnd, Does, DoesOf, unwritten, wire_inside, options_of, view_of}
-use Rattle.tpf_cli.specs.Promises.{KeepsGroupTable, KeepsGroupTableOf, OfGroupFiles, OfGroupGenerated, RefusesBy, RefusesOf}
+use Rattle.tpf_cli.specs.Promises.{KeepsGroupTable, KeepsGroupTableOf, OfGroupFiles, OfGroupGenerated, RefusesBy, RefusesQuery, RefusesOf}
+use Rattle.tpf_cli.proofs.Statuses.{not_four}
 use Rattle.tpf_cli.proofs.Tables.{done_table, memory_table, data_table, query_table, client_table, cut_table}
 use Rattle.tpf_cli.proofs.Grouped.{no_groups, file_gives, server_gives}
 
@@ -101,6 +105,7 @@ module _ (a : Around) where
   group_command (local name query_name choice page client seed fail_every) r (made written) h = absurd h
   group_command (local name query_name choice page client seed fail_every) r (counted asked result) h = absurd h
   group_command (query url query_name client) r end h = tt
+  group_command (federate several) r end h = tt
   group_command (serve name base choice page stop_after reload) r end h = tt
   group_command (make count None) r end h = tt
   group_command (make count (Some name)) r (counted asked result) h = group_numbers count name h.1.1.came result h.1.1.line h.1.1.asks
@@ -114,6 +119,7 @@ module _ (a : Around) where
   memory_groups None = tt
   memory_groups (Some (local name query_name choice page client seed fail_every)) = λ files is triples g serves holds. memory_table fail_every (options_of client) (group_offer_of triples (local_config page) g) (group_plan_of triples (local_config page) g)
   memory_groups (Some (query url query_name client)) = tt
+  memory_groups (Some (federate several)) = tt
   memory_groups (Some (serve name base choice page stop_after reload)) = tt
   memory_groups (Some (make count None)) = tt
   memory_groups (Some (make count (Some name))) = λ files is triples g serves holds. memory_table 0 usual_options (group_offer_of triples (local_config 100) g) (group_plan_of triples (local_config 100) g)
@@ -154,15 +160,7 @@ module _ (shelf shelf' : ShelfState) (name : List ℕ) where
   four_of_data data_faults.OutOfMemory e = absurd (omega (arith, e))
 
   four_of_client : (fault : ClientFault) → client_status fault ≡ 4 → Faulty
-  four_of_client clients.Exchange e = absurd (omega (arith, e))
-  four_of_client clients.Stalled e = absurd (omega (arith, e))
-  four_of_client (clients.Cut received) e = absurd (omega (arith, e))
-  four_of_client (clients.Reply fault received) e = absurd (omega (arith, e))
-  four_of_client (clients.Page fault body) e = absurd (omega (arith, e))
-  four_of_client (clients.Changed first other) e = absurd (omega (arith, e))
-  four_of_client (clients.Budget most) e = absurd (omega (arith, e))
-  four_of_client clients.Sink e = absurd (omega (arith, e))
-  four_of_client clients.OutOfMemory e = absurd (omega (arith, e))
+  four_of_client fault e = absurd (not_four fault e)
 
   four_of : (fault : AnswerFault) → Shows shelf shelf' name fault → fault_status fault ≡ 4 → Faulty
   four_of (answers.Data fault) h e = four_of_data fault e
@@ -191,16 +189,16 @@ module _ (shelf shelf' : ShelfState) (name : List ℕ) where
   refused_of X (answers.Query query_faults.OutOfMemory) h gives quiet = λ files is at why bad. inr (inr refl)
   refused_of X (answers.Client fault) h gives quiet = λ files is at why bad. absurd (not_read at why (gives quiet files is (refused at why) bad))
 
-  fault_refuses : (X : Type 0) (fault : AnswerFault) → Shows shelf shelf' name fault → QueryDecides shelf shelf' name (λ outcome. GivesEnd {X = X} outcome (Err fault)) → RefusesBy shelf shelf' name (fault_status fault)
+  fault_refuses : (X : Type 0) (fault : AnswerFault) → Shows shelf shelf' name fault → QueryDecides shelf shelf' name (λ outcome. GivesEnd {X = X} outcome (Err fault)) → RefusesQuery shelf shelf' name (fault_status fault)
   fault_refuses X fault h gives = record { four = four_of fault h; refused = refused_of X fault h gives }
 
-  done_refuses : {X : Type 0} (answer : X) → QueryDecides shelf shelf' name (λ outcome. GivesEnd outcome (Ok answer)) → RefusesBy shelf shelf' name 0
+  done_refuses : {X : Type 0} (answer : X) → QueryDecides shelf shelf' name (λ outcome. GivesEnd outcome (Ok answer)) → RefusesQuery shelf shelf' name 0
   done_refuses answer gives = record {
     four = λ e. absurd (omega (arith, e));
     refused = λ quiet files is at why bad. absurd (not_read at why (gives quiet files is (refused at why) bad));
   }
 
-  memory_refuses : RefusesBy shelf shelf' name 8
+  memory_refuses : RefusesQuery shelf shelf' name 8
   memory_refuses = record { four = λ e. absurd (omega (arith, e)); refused = λ quiet files is at why bad. inr (inr refl) }
 
 module _ (a : Around) where
@@ -212,7 +210,7 @@ module _ (a : Around) where
   file_shows view (answers.Query fault) (Groups g h) = absurd h.cause
   file_shows view (answers.Client fault) (Groups g h) = tt
 
-  refuses_file : (view : LocalView) (answer : Result Report AnswerFault) → FileAsked a.shelf a.shelf' a.out a.out' (wire_inside a.inside') view answer → RefusesBy a.shelf a.shelf' view.query (answer_status answer)
+  refuses_file : (view : LocalView) (answer : Result Report AnswerFault) → FileAsked a.shelf a.shelf' a.out a.out' (wire_inside a.inside') view answer → RefusesQuery a.shelf a.shelf' view.query (answer_status answer)
   refuses_file view (Ok report) h = done_refuses a.shelf a.shelf' view.query report (file_gives a.shelf a.shelf' a.out a.out' (wire_inside a.inside') view (Ok report) h)
   refuses_file view (Err fault) h = fault_refuses a.shelf a.shelf' view.query Report fault (file_shows view fault h) (file_gives a.shelf a.shelf' a.out a.out' (wire_inside a.inside') view (Err fault) h)
 
@@ -225,7 +223,7 @@ module _ (a : Around) where
     server_shows (answers.Query fault) (Groups g h) = absurd h.cause
     server_shows (answers.Client fault) (Groups g h) = tt
 
-    refuses_server : (answer : Result Report AnswerFault) → ServerAsked a.shelf a.shelf' a.allows a.wire a.wire' a.out a.out' name url options answer → RefusesBy a.shelf a.shelf' name (answer_status answer)
+    refuses_server : (answer : Result Report AnswerFault) → ServerAsked a.shelf a.shelf' a.allows a.wire a.wire' a.out a.out' name url options answer → RefusesQuery a.shelf a.shelf' name (answer_status answer)
     refuses_server (Ok report) h = done_refuses a.shelf a.shelf' name report (server_gives a.shelf a.shelf' name a.allows a.wire a.wire' a.out a.out' url options (Ok report) h)
     refuses_server (Err fault) h = fault_refuses a.shelf a.shelf' name Report fault (server_shows fault h) (server_gives a.shelf a.shelf' name a.allows a.wire a.wire' a.out a.out' url options (Err fault) h)
 
@@ -246,9 +244,33 @@ module _ (a : Around) where
     numbers_show (Ok counts) fault line asks = subst (λ (f : AnswerFault). Shows a.shelf a.shelf' name f) (sym line.is) (unwritten_shows line.cause)
     numbers_show (Err cause) fault line asks = subst (λ (f : AnswerFault). Shows a.shelf a.shelf' name f) line.0 (generated_shows cause asks)
 
-    refuses_counted : (result : Result (Unit {0}) AnswerFault) → CountsFile a.shelf a.shelf' a.out a.out' (wire_inside a.inside') persons name result → RefusesBy a.shelf a.shelf' name (counted_status result)
+    refuses_counted : (result : Result (Unit {0}) AnswerFault) → CountsFile a.shelf a.shelf' a.out a.out' (wire_inside a.inside') persons name result → RefusesQuery a.shelf a.shelf' name (counted_status result)
     refuses_counted (Ok nothing) h = done_refuses a.shelf a.shelf' name nothing h.exact
     refuses_counted (Err fault) h = fault_refuses a.shelf a.shelf' name (Unit {0}) fault (numbers_show h.came fault h.line h.asks) h.exact
+
+  -- ---- a query of several servers
+
+  module _ (several : Federated) where
+    abbrev HasFault : Files → ℕ → GroupWhy → Type 0
+    HasFault files at why = HasPatternsFault files several.query at why
+
+    four_of_patterns : (fault : QueryFileFault) → PatternsCause a.shelf a.shelf' several.query fault → query_status fault ≡ 4 → IfTold a.shelf.told (λ files. (at : ℕ) × (why : GroupWhy) × HasFault files at why)
+    four_of_patterns (query_faults.Bad at why) h e = λ files is. (at, why, h files is)
+    four_of_patterns query_faults.File h e = absurd (omega (arith, e))
+    four_of_patterns query_faults.OutOfMemory h e = absurd (omega (arith, e))
+
+    refused_so : (fault : QueryFileFault) (at : ℕ) (why : GroupWhy) → (fault ≡ query_faults.Bad at why) ⊎ (fault ≡ query_faults.OutOfMemory) → (query_status fault ≡ 3) ⊎ ((query_status fault ≡ 4) ⊎ (query_status fault ≡ 8))
+    refused_so fault at why (inl e) = inr (inl (ap query_status e))
+    refused_so fault at why (inr e) = inr (inr (ap query_status e))
+
+    refuses_servers : (answer : Result Report AnswerFault) → ServersAsked a.shelf a.shelf' a.allows a.wire a.wire' a.out a.out' several.query several.urls (options_of several.client) answer → RefusesBy a.shelf a.shelf' HasFault (answer_status answer)
+    refuses_servers (Ok report) h = record { four = λ e. absurd (omega (arith, e)); refused = λ quiet files is at why bad. absurd (h.exact.refused quiet files is at why bad) }
+    refuses_servers (Err (answers.Data fault)) h = absurd h.ends
+    refuses_servers (Err (answers.Query fault)) h = record { four = four_of_patterns fault h.ends.0; refused = λ quiet files is at why bad. refused_so fault at why (h.exact.refused quiet files is at why bad) }
+    refuses_servers (Err (answers.Client fault)) h = record { four = λ e. absurd (not_four fault e); refused = λ quiet files is at why bad. absurd (h.exact.refused quiet files is at why bad) }
+
+    memory_refuses_servers : RefusesBy a.shelf a.shelf' HasFault 8
+    memory_refuses_servers = record { four = λ e. absurd (omega (arith, e)); refused = λ quiet files is at why bad. inr (inr refl) }
 
   refusal_command : (command : Command) (end : EndOfRun) → Does a command end → RefusesOf a (Some command) (status_of end)
   refusal_command (local name query_name choice page client seed fail_every) (answered data_name asked answer) h = refuses_file (view_of name query_name choice page client seed fail_every) answer h.3
@@ -263,6 +285,12 @@ module _ (a : Around) where
   refusal_command (query url query_name client) (ends.served file service) h = absurd h
   refusal_command (query url query_name client) (made written) h = absurd h
   refusal_command (query url query_name client) (counted asked result) h = absurd h
+  refusal_command (federate several) (answered data_name asked answer) h = refuses_servers several answer h.2
+  refusal_command (federate several) usage h = absurd h
+  refusal_command (federate several) no_words h = absurd h
+  refusal_command (federate several) (ends.served file service) h = absurd h
+  refusal_command (federate several) (made written) h = absurd h
+  refusal_command (federate several) (counted asked result) h = absurd h
   refusal_command (serve name base choice page stop_after reload) end h = tt
   refusal_command (make count None) end h = tt
   refusal_command (make count (Some name)) (counted asked result) h = refuses_counted count name result h.1.1
@@ -276,6 +304,7 @@ module _ (a : Around) where
   memory_refusal None = tt
   memory_refusal (Some (local name query_name choice page client seed fail_every)) = memory_refuses a.shelf a.shelf' query_name
   memory_refusal (Some (query url query_name client)) = memory_refuses a.shelf a.shelf' query_name
+  memory_refusal (Some (federate several)) = memory_refuses_servers several
   memory_refusal (Some (serve name base choice page stop_after reload)) = tt
   memory_refusal (Some (make count None)) = tt
   memory_refusal (Some (make count (Some name))) = memory_refuses a.shelf a.shelf' name

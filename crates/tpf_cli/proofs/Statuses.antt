@@ -1,5 +1,5 @@
 -- The statuses of faults.
-use Rattle.std.proofs.Common.{◌≤◌, arith}
+use Rattle.std.proofs.Common.{◌≡◌, ◌≤◌, arith}
 use Rattle.tpf_client.specs.declared.fault.ClientFault.{ClientFault}
 use Rattle.tpf_client.specs.declared.fault.ClientFault.TheVariants as clients
 use Rattle.data_files.specs.declared.fault.DataFault.{DataFault}
@@ -33,6 +33,18 @@ known_client (clients.Changed first other) = (omega arith, omega arith)
 known_client (clients.Budget most) = (omega arith, omega arith)
 known_client clients.Sink = (omega arith, omega arith)
 known_client clients.OutOfMemory = (omega arith, omega arith)
+
+-- a call over a wire ends with no refused query
+pub not_four : (fault : ClientFault) → client_status fault ≡ 4 → ⊥
+not_four clients.Exchange e = absurd (omega (arith, e))
+not_four clients.Stalled e = absurd (omega (arith, e))
+not_four (clients.Cut received) e = absurd (omega (arith, e))
+not_four (clients.Reply fault received) e = absurd (omega (arith, e))
+not_four (clients.Page fault body) e = absurd (omega (arith, e))
+not_four (clients.Changed first other) e = absurd (omega (arith, e))
+not_four (clients.Budget most) e = absurd (omega (arith, e))
+not_four clients.Sink e = absurd (omega (arith, e))
+not_four clients.OutOfMemory e = absurd (omega (arith, e))
 
 pub known_fault : (fault : AnswerFault) → (3 ≤ fault_status fault) × (fault_status fault ≤ 11)
 known_fault (answers.Data fault) = known_data fault

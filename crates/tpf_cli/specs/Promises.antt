@@ -16,7 +16,7 @@ use Rattle.generated_data.specs.Generated.{generated}
 use Rattle.group_query.specs.Trees.{GroupData}
 use Rattle.group_faults.specs.declared.fault.GroupWhy.{GroupWhy}
 use Rattle.tpf_client.specs.declared.options.Options.{Options}
-use Rattle.tpf_client.specs.Offers.{Offer}
+use Rattle.tpf_client.specs.Offers.{Publisher, Offer}
 use Rattle.tpf_client.specs.Plans.{HasLongPage}
 use Rattle.data_files.specs.Data.{Files, IfTold, Serves}
 use Rattle.data_files.specs.Queries.{HoldsGroup, HasQueryFault}
@@ -26,7 +26,9 @@ use Rattle.query_command.specs.Generated.{usual_options}
 use Rattle.query_command.specs.Loops.{LocalView, local_config}
 use Rattle.query_command.specs.Groups.{group_plan_of, group_offer_of, GroupIsWithin, FitsGroupOver}
 use Rattle.query_command.specs.Plans.{plan_of, offer_of, CountsRequests, FailsOften, PassesBudget, OfFiles, OfGenerated, PlanIsWithin}
-use Rattle.command_words.specs.Commands.{Command, local, query, serve, make}
+use Rattle.federate_command.specs.Files.{HasPatternsFault}
+use Rattle.federate_command.specs.Commands.{FitsServers}
+use Rattle.command_words.specs.Commands.{Command, local, query, federate, serve, make}
 use Rattle.tpf_cli.specs.Endings.{EndOfRun, Says}
 use Rattle.tpf_cli.specs.Lines.{counts_text}
 use Rattle.tpf_cli.specs.Runs.{Around, DoesOf, options_of, view_of}
@@ -38,10 +40,15 @@ abbrev pub local_statuses : Bool → List ℕ
 local_statuses true = 0 ∷ 3 ∷ 4 ∷ 6 ∷ 7 ∷ 8 ∷ 9 ∷ 10 ∷ []
 local_statuses false = 0 ∷ 3 ∷ 4 ∷ 5 ∷ 6 ∷ 7 ∷ 8 ∷ 9 ∷ 10 ∷ []
 
+-- of a query over the handed-in wire: 3 and 12 never come
+abbrev pub server_statuses : List ℕ
+server_statuses = 0 ∷ 4 ∷ 5 ∷ 6 ∷ 7 ∷ 8 ∷ 9 ∷ 10 ∷ 11 ∷ []
+
 abbrev pub statuses_of : Option Command → List ℕ
 statuses_of None = 2 ∷ 8 ∷ []
 statuses_of (Some (local name query_name choice page client seed fail_every)) = local_statuses (fail_every == 0)
-statuses_of (Some (query url query_name client)) = 0 ∷ 4 ∷ 5 ∷ 6 ∷ 7 ∷ 8 ∷ 9 ∷ 10 ∷ 11 ∷ []
+statuses_of (Some (query url query_name client)) = server_statuses
+statuses_of (Some (federate several)) = server_statuses
 statuses_of (Some (serve name base choice page stop_after reload)) = 0 ∷ 3 ∷ 8 ∷ 9 ∷ 10 ∷ 12 ∷ []
 statuses_of (Some (make count None)) = 0 ∷ 8 ∷ 9 ∷ []
 statuses_of (Some (make count (Some asked_name))) = 0 ∷ 4 ∷ 6 ∷ 7 ∷ 8 ∷ 9 ∷ 10 ∷ []
@@ -70,6 +77,7 @@ KeepsTableOf a None status = Unit {0}
 KeepsTableOf a (Some (local name query_name choice page client seed fail_every)) status =
     OfFiles a.shelf.told (view_of name query_name choice page client seed fail_every) (λ triples q. KeepsTable fail_every (options_of client) triples (local_config page) q status)
 KeepsTableOf a (Some (query url query_name client)) status = status ≡ 12 → ⊥
+KeepsTableOf a (Some (federate several)) status = status ≡ 12 → ⊥
 KeepsTableOf a (Some (serve name base choice page stop_after reload)) status = Unit {0}
 KeepsTableOf a (Some (make count None)) status = Unit {0}
 KeepsTableOf a (Some (make count (Some asked_name))) status = OfGenerated a.shelf.told count asked_name (λ triples q. KeepsTable 0 usual_options triples (local_config 100) q status)
@@ -94,25 +102,31 @@ KeepsGroupTableOf a None status = Unit {0}
 KeepsGroupTableOf a (Some (local name query_name choice page client seed fail_every)) status =
     OfGroupFiles a.shelf.told (view_of name query_name choice page client seed fail_every) (λ triples g. KeepsGroupTable fail_every (options_of client) triples (local_config page) g status)
 KeepsGroupTableOf a (Some (query url query_name client)) status = Unit {0}
+KeepsGroupTableOf a (Some (federate several)) status = Unit {0}
 KeepsGroupTableOf a (Some (serve name base choice page stop_after reload)) status = Unit {0}
 KeepsGroupTableOf a (Some (make count None)) status = Unit {0}
 KeepsGroupTableOf a (Some (make count (Some asked_name))) status = OfGroupGenerated a.shelf.told count asked_name (λ triples g. KeepsGroupTable 0 usual_options triples (local_config 100) g status)
 
 -- ---- refused queries
 
--- Status 4 comes only where the text of the file has a fault, with groups or without; and where it has one and no file failed to be read, the query is refused (4), unless the data were before it (3), or memory ran out (8).
-pub record RefusesBy (shelf shelf' : ShelfState) (name : List ℕ) (status : ℕ) : Type 0 where
-  pub four : status ≡ 4 → IfTold shelf.told (λ files. (at : ℕ) × (why : GroupWhy) × HasQueryFault files name at why)
-  pub refused : ¬ (Rose shelf.faults shelf'.faults) → IfTold shelf.told (λ files. (at : ℕ) (why : GroupWhy) → HasQueryFault files name at why → (status ≡ 3) ⊎ ((status ≡ 4) ⊎ (status ≡ 8)))
+-- Status 4 comes only where the files have such a fault; and where they have one and no file failed to be read, the query is refused (4), unless the data were before it (3), or memory ran out (8).
+pub record RefusesBy (shelf shelf' : ShelfState) (HasFault : Files → ℕ → GroupWhy → Type 0) (status : ℕ) : Type 0 where
+  pub four : status ≡ 4 → IfTold shelf.told (λ files. (at : ℕ) × (why : GroupWhy) × HasFault files at why)
+  pub refused : ¬ (Rose shelf.faults shelf'.faults) → IfTold shelf.told (λ files. (at : ℕ) (why : GroupWhy) → HasFault files at why → (status ≡ 3) ⊎ ((status ≡ 4) ⊎ (status ≡ 8)))
 
--- of what the words command
+-- that of the text of the file of a query, with groups or without
+abbrev pub RefusesQuery : ShelfState → ShelfState → List ℕ → ℕ → Type 0
+RefusesQuery shelf shelf' name status = RefusesBy shelf shelf' (λ files at why. HasQueryFault files name at why) status
+
+-- of what the words command; what is asked of several servers is a query without groups
 abbrev pub RefusesOf : Around → Option Command → ℕ → Type 0
 RefusesOf a None status = Unit {0}
-RefusesOf a (Some (local name query_name choice page client seed fail_every)) status = RefusesBy a.shelf a.shelf' query_name status
-RefusesOf a (Some (query url query_name client)) status = RefusesBy a.shelf a.shelf' query_name status
+RefusesOf a (Some (local name query_name choice page client seed fail_every)) status = RefusesQuery a.shelf a.shelf' query_name status
+RefusesOf a (Some (query url query_name client)) status = RefusesQuery a.shelf a.shelf' query_name status
+RefusesOf a (Some (federate several)) status = RefusesBy a.shelf a.shelf' (λ files at why. HasPatternsFault files several.query at why) status
 RefusesOf a (Some (serve name base choice page stop_after reload)) status = Unit {0}
 RefusesOf a (Some (make count None)) status = Unit {0}
-RefusesOf a (Some (make count (Some asked_name))) status = RefusesBy a.shelf a.shelf' asked_name status
+RefusesOf a (Some (make count (Some asked_name))) status = RefusesQuery a.shelf a.shelf' asked_name status
 
 -- ---- the number of requests that is told
 
@@ -129,6 +143,7 @@ TellsRequestsOf a None status err err' = Unit {0}
 TellsRequestsOf a (Some (local name query_name choice page client seed fail_every)) status err err' =
     status ≡ 0 → OfFiles a.shelf.told (view_of name query_name choice page client seed fail_every) (λ triples q. TellsRequests fail_every client.retries (length (plan_of triples (local_config page) q)) err err')
 TellsRequestsOf a (Some (query url query_name client)) status err err' = Unit {0}
+TellsRequestsOf a (Some (federate several)) status err err' = Unit {0}
 TellsRequestsOf a (Some (serve name base choice page stop_after reload)) status err err' = Unit {0}
 TellsRequestsOf a (Some (make count asked)) status err err' = Unit {0}
 
@@ -138,6 +153,7 @@ TellsGroupRequestsOf a None status err err' = Unit {0}
 TellsGroupRequestsOf a (Some (local name query_name choice page client seed fail_every)) status err err' =
     status ≡ 0 → OfGroupFiles a.shelf.told (view_of name query_name choice page client seed fail_every) (λ triples g. TellsRequests fail_every client.retries (length (group_plan_of triples (local_config page) g)) err err')
 TellsGroupRequestsOf a (Some (query url query_name client)) status err err' = Unit {0}
+TellsGroupRequestsOf a (Some (federate several)) status err err' = Unit {0}
 TellsGroupRequestsOf a (Some (serve name base choice page stop_after reload)) status err err' = Unit {0}
 TellsGroupRequestsOf a (Some (make count asked)) status err err' = Unit {0}
 
@@ -147,7 +163,7 @@ TellsGroupRequestsOf a (Some (make count asked)) status err err' = Unit {0}
 abbrev pub IsDone : ℕ → Type 0
 IsDone status = (status ≡ 0) ⊎ (status ≡ 8)
 
--- Where the files are read, no count rose of shelf and output, and of the door of the handed-in wire where that is served, a command is done or memory is wanting: of a query in one process, where none of the causes of the table is there, with nothing assumed of a wire; of a query over the handed-in wire, where that is as a server of some data makes it, and the plan fits; of a service, and of data that are written.
+-- Where the files are read, no count rose of shelf and output, and of the door of the handed-in wire where that is served, a command is done or memory is wanting: of a query in one process, where none of the causes of the table is there, with nothing assumed of a wire; of a query over the handed-in wire, where that is as a server of some data makes it, or several of data that do not change, and the plan fits; of a service, and of data that are written.
 abbrev pub SucceedsOf : Around → Option Command → ℕ → Type 0
 SucceedsOf a None status = Unit {0}
 SucceedsOf a (Some (local name query_name choice page client seed fail_every)) status =
@@ -156,6 +172,9 @@ SucceedsOf a (Some (local name query_name choice page client seed fail_every)) s
 SucceedsOf a (Some (query url query_name client)) status =
     ¬ (Rose a.shelf.faults a.shelf'.faults) → ¬ (Rose a.out.faults a.out'.faults)
     → OfQuery a.shelf.told query_name (λ q. (triples : List Triple) (config : Config) → FitsOver a.allows q url (options_of client) triples config a.wire a.wire' → IsDone status)
+SucceedsOf a (Some (federate several)) status =
+    ¬ (Rose a.shelf.faults a.shelf'.faults) → ¬ (Rose a.out.faults a.out'.faults)
+    → OfQuery a.shelf.told several.query (λ q. (publishers : List Publisher) → FitsServers a.allows q several.urls (options_of several.client) publishers a.wire a.wire' → IsDone status)
 SucceedsOf a (Some (serve name base choice page stop_after reload)) status =
     ¬ (Rose a.shelf.faults a.shelf'.faults) → ¬ (Rose a.out.faults a.out'.faults) → ¬ (Rose a.wire.door.faults a.wire'.door.faults)
     → IfTold a.shelf.told (λ files. (triples : List Triple) → Serves files name choice (authority_of base) triples → IsDone status)
@@ -176,6 +195,7 @@ SucceedsGroupsOf a (Some (local name query_name choice page client seed fail_eve
 SucceedsGroupsOf a (Some (query url query_name client)) status =
     ¬ (Rose a.shelf.faults a.shelf'.faults) → ¬ (Rose a.out.faults a.out'.faults)
     → OfGroupQuery a.shelf.told query_name (λ g. (triples : List Triple) (config : Config) → FitsGroupOver a.allows g url (options_of client) triples config a.wire a.wire' → IsDone status)
+SucceedsGroupsOf a (Some (federate several)) status = Unit {0}
 SucceedsGroupsOf a (Some (serve name base choice page stop_after reload)) status = Unit {0}
 SucceedsGroupsOf a (Some (make count None)) status = Unit {0}
 SucceedsGroupsOf a (Some (make count (Some asked_name))) status =

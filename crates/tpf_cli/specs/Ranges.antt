@@ -1,9 +1,10 @@
 -- What the words of a command keep to.
-use Rattle.std.specs.Prelude.{◌≡◌, ◌≤◌, length, None}
+use Rattle.std.specs.Prelude.{◌≡◌, ◌≤◌, ◌<◌, length, None}
 use Rattle.tpf_base.specs.Addresses.{Address, address_text}
 use Rattle.template_fill.specs.Configurations.{HasReloadPath}
 use Rattle.command_words.specs.declared.command.ClientWords.{ClientWords}
-use Rattle.command_words.specs.Commands.{Command, local, query, serve, make}
+use Rattle.command_words.specs.Commands.{Command, local, query, federate, serve, make}
+use Rattle.federated_query.specs.Servers.{AreApart}
 
 -- the bounds of a client
 pub record IsClient (client : ClientWords) : Type 0 where
@@ -16,9 +17,10 @@ pub record IsClient (client : ClientWords) : Type 0 where
 abbrev pub IsTyped : Address → Type 0
 IsTyped url = length (address_text url) ≤ 65536
 
--- the numbers are in their ranges, an address is no longer than it may be typed, a base has no query part, and the path of a reload is a written one beside the base's
+-- the numbers are in their ranges, an address is no longer than it may be typed, there is a server and no two have one authority, a base has no query part, and the path of a reload is a written one beside the base's
 abbrev pub IsInRange : Command → Type 0
 IsInRange (local name query_name choice page client seed fail_every) = (1 ≤ page) × (page ≤ 1000) × IsClient client
 IsInRange (query url query_name client) = IsTyped url × IsClient client
+IsInRange (federate several) = (0 < length several.urls) × AreApart several.urls × IsClient several.client
 IsInRange (serve name base choice page stop_after reload) = (1 ≤ page) × (page ≤ 1000) × (base.query ≡ None) × HasReloadPath base reload
 IsInRange (make count asked) = (1 ≤ count) × (count ≤ 1000000)

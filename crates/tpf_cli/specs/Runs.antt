@@ -28,7 +28,8 @@ use Rattle.query_command.specs.Groups.{FileAsked, ServerAsked, GeneratedAsked}
 use Rattle.query_command.specs.declared.generated_query.Counts.{Counts}
 use Rattle.serve_command.specs.Services.{ServesFile}
 use Rattle.command_words.specs.declared.command.ClientWords.{ClientWords}
-use Rattle.command_words.specs.Commands.{Command, local, query, serve, make}
+use Rattle.federate_command.specs.Commands.{ServersAsked}
+use Rattle.command_words.specs.Commands.{Command, local, query, federate, serve, make}
 use Rattle.tpf_cli.specs.declared.top.Inside.{Inside}
 use Rattle.tpf_cli.specs.declared.top.Inside.TheVariants.{Unused, Loop}
 use Rattle.tpf_cli.specs.Endings.{EndOfRun, usage, no_words, answered, served, made, counted}
@@ -151,6 +152,14 @@ Does a (query url query_name client) no_words = ⊥
 Does a (query url query_name client) (served file service) = ⊥
 Does a (query url query_name client) (made written) = ⊥
 Does a (query url query_name client) (counted asked result) = ⊥
+Does a (federate several) (answered data_name asked answer) =
+    (asked ≡ several.query) × (a.inside' ≡ Unused)
+    × ServersAsked a.shelf a.shelf' a.allows a.wire a.wire' a.out a.out' several.query several.urls (options_of several.client) answer
+Does a (federate several) usage = ⊥
+Does a (federate several) no_words = ⊥
+Does a (federate several) (served file service) = ⊥
+Does a (federate several) (made written) = ⊥
+Does a (federate several) (counted asked result) = ⊥
 Does a (serve name base choice page stop_after reload) (served file service) =
     (file ≡ name) × (a.inside' ≡ Unused)
     × ServesFile a.shelf a.shelf' a.wire a.wire' a.out a.out' name choice (config_by base page reload) stop_after service
@@ -171,6 +180,7 @@ abbrev pub IsWithoutShelf : Option Command → Type 0
 IsWithoutShelf None = Unit {0}
 IsWithoutShelf (Some (local name query_name choice page client seed fail_every)) = ⊥
 IsWithoutShelf (Some (query url query_name client)) = ⊥
+IsWithoutShelf (Some (federate several)) = ⊥
 IsWithoutShelf (Some (serve name base choice page stop_after reload)) = ⊥
 IsWithoutShelf (Some (make count None)) = Unit {0}
 IsWithoutShelf (Some (make count (Some asked_name))) = ⊥
@@ -185,5 +195,6 @@ abbrev pub IsWithoutWire : Option Command → Type 0
 IsWithoutWire None = Unit {0}
 IsWithoutWire (Some (local name query_name choice page client seed fail_every)) = Unit {0}
 IsWithoutWire (Some (query url query_name client)) = ⊥
+IsWithoutWire (Some (federate several)) = ⊥
 IsWithoutWire (Some (serve name base choice page stop_after reload)) = ⊥
 IsWithoutWire (Some (make count asked)) = Unit {0}

@@ -1,16 +1,19 @@
 // The commands.
-ghost use Rattle.std.specs.Prelude.{◌≡◌, ◌≤◌, None};
+ghost use Rattle.std.specs.Prelude.{◌≡◌, ◌≤◌, ◌<◌, length, None};
 ghost use Rattle.template_fill.specs.Configurations.{HasReloadPath};
 ghost use Rattle.data_files.specs.Kept.{KeepsSink};
 ghost use Rattle.query_command.specs.Loops.{local_view};
 ghost use Rattle.query_command.specs.Groups.{FileAsked, ServerAsked};
+ghost use Rattle.federated_query.specs.Servers.{AreApart};
+ghost use Rattle.federate_command.specs.Commands.{ServersAsked};
 ghost use Rattle.serve_command.specs.Services.{ServesFile, config_of};
 ghost use Rattle.tpf_cli.specs.Ranges.{IsClient, IsTyped};
 ghost use Rattle.tpf_cli.specs.Runs.{WritesNumbers, CountsFile, options_of, unwritten, wire_inside};
 
 use crate::lines::write_sizes;
 use crate::top::Inside;
-use command_words::ClientWords;
+use command_words::{ClientWords, FederateWords};
+use federate_command::query_servers;
 use fragment_server::FragmentConnection;
 use loop_wire::LoopWire;
 use query_command::{AnswerFault, Counts, LocalQuery, local, query, query_generated};
@@ -101,6 +104,27 @@ pub fn ask_server<R: Wait, F: Shelf, W: Dial, K: Sink>(
         wire,
         out,
     )
+}
+
+/// Asks several servers together, by a query without groups.
+pub fn ask_servers<R: Wait, F: Shelf, W: Dial, K: Sink>(
+    rt: &R,
+    alloc: Global,
+    asked: &FederateWords<'_>,
+    shelf: &mut F,
+    wire: &mut W,
+    out: &mut K,
+) -> Result<Report, AnswerFault>
+    requires some { 0 < length asked.now.urls.items }
+    requires apart { AreApart asked.now.urls.items }
+    requires client { IsClient asked.now.client }
+    ensures { ServersAsked (F.state shelf.old) (F.state shelf.new)
+        (W.allows wire.old) (W.state wire.old) (W.state wire.new) (K.state out.old) (K.state out.new)
+        asked.now.query.now asked.now.urls.items (options_of asked.now.client) result }
+{
+    let options = options_of(asked.client);
+    let (query, urls) = (asked.query, asked.urls.as_slice());
+    query_servers(rt, alloc, query, urls, &options, shelf, wire, out)
 }
 
 /// Serves a file.

@@ -8,7 +8,9 @@ ghost use Rattle.tpf_cli.specs.Ranges.{IsInRange};
 ghost use Rattle.tpf_cli.specs.Runs.{Does, DoesOf, Makes, IsWithoutShelf, IsWithoutOutput, IsWithoutWire, around};
 ghost use Rattle.tpf_cli.specs.Promises.{Keeps};
 
-use crate::commands::{ServerQuery, ask_file, ask_generated, ask_server, options_of, serve_file};
+use crate::commands::{
+    ServerQuery, ask_file, ask_generated, ask_server, ask_servers, options_of, serve_file,
+};
 use crate::ending::Ending;
 use crate::say::say;
 use command_words::{Command, command_of};
@@ -109,6 +111,14 @@ fn obey<'a, R: Wait, F: Shelf, W: Dial + Accept, K: Sink>(
                 answer,
             }
         }
+        Command::Federate(words) => {
+            let answer = ask_servers(rt, alloc, &words, shelf, wire, out);
+            Ending::Answered {
+                data: "",
+                query: words.query,
+                answer,
+            }
+        }
         Command::Serve {
             name,
             base,
@@ -165,7 +175,12 @@ fn ending_of<'a, R: Wait, F: Shelf, W: Dial + Accept, K: Sink>(
 /// Query Results JSON. `tpf query URL QUERYFILE` asks the server at an address over `wire`. Both end with
 /// the line `requests R rows S` on `err`.
 ///
-/// The query of a file may have groups: OPTIONAL, UNION, groups in one another, and DISTINCT (SPARQL 1.1, 5 to 7 and
+/// `tpf federate QUERYFILE URL ..` asks the servers at one to eight addresses, no two of one authority, together over
+/// `wire`, and writes the answer over the union of what they hold; a triple that several of them hold counts once. The
+/// words are read first, then the file, then the servers are asked. It ends with the same line and statuses as `query`.
+/// Its query has no groups: one that has is refused, with status 4.
+///
+/// The query of a file of the other commands may have groups: OPTIONAL, UNION, groups in one another, and DISTINCT (SPARQL 1.1, 5 to 7 and
 /// 15.3). Then its blocks of triple patterns are asked for one after another as they are written, each from the start
 /// page on and with what the others left of `--budget`; their rows are put together in memory, and the text is written
 /// behind the last of them. Where two blocks tell different versions of the data the status is 11.
@@ -192,13 +207,13 @@ fn ending_of<'a, R: Wait, F: Shelf, W: Dial + Accept, K: Sink>(
 /// where a body that a block asks for is longer than `--max-body`, and 7, where no dial fails, only where the plan of
 /// all blocks passes `--budget` (`groups`). Of any query 4 comes only where its text has a fault, and always there, if
 /// the data were not refused before it (`refusal`). Where the files are read, none of these causes is there (of a
-/// query with groups: no dial fails), and no output or shelf fails, the status is 0 or 8; so it is of `query` over a
-/// wire whose other ends answer as a server does, where the plan fits, of `serve` where the wire does not fail, and of
+/// query with groups: no dial fails), and no output or shelf fails, the status is 0 or 8; so it is of `query` and
+/// `federate` over a wire whose other ends answer as servers do, where the plan fits, of `serve` where the wire does not fail, and of
 /// `make` (`complete`, `groups_complete`).
 ///
 /// Over any shelf, wire and output, whether they tell what they hold or not, a run ends with one of the statuses
 /// of its command (`among`): no words that are none with another than 2 and 8; `local` never with 11 and 12,
-/// and with 5 only where a dial is to fail; `query` never with 3 and 12; `serve` with 0, 3, 8, 9, 10 and 12 alone;
+/// and with 5 only where a dial is to fail; `query` and `federate` never with 3 and 12; `serve` with 0, 3, 8, 9, 10 and 12 alone;
 /// `make` with 0, 8 and 9, and with `--run` with 4, 6, 7 and 10 beside these.
 ///
 /// Words that are no command leave `shelf`, `wire` and `out` as they are, and `make` without `--run` leaves
