@@ -6,7 +6,7 @@ use crate::files::found_and_dropped;
 use crate::programs::{Server, serve, start};
 use std::io::{Read, Write};
 use std::net::{Ipv4Addr, Net, TcpStream};
-use std::process::{Child, OpenProcess, Output, Processes};
+use std::process::{Child, ExitCode, OpenProcess, Output, Processes};
 use std::rt::Files;
 use std::time::Clock;
 use std::{fs, io};
@@ -228,10 +228,24 @@ fn run_edge<R: Processes + Files + Net + Clock + Print + AllocGlobal>(rt: &R) ->
 
 /// Runs every case, and prints what is seen of each. It fails where one could not be run to its end, with the fault of
 /// the system, or a program ended with another status than the one that is wanted.
-pub fn run_cases<R: Processes + Files + Net + Clock + Print + AllocGlobal + Clone + Drop>(
+fn run_cases<R: Processes + Files + Net + Clock + Print + AllocGlobal + Clone + Drop>(
     rt: &R,
 ) -> io::Result<()> {
     run_plain(rt)?;
     found_and_dropped(rt)?;
     run_edge(rt)
+}
+
+/// Runs every case, and prints what is seen of each. Status 1 where one of them could not be run to its end, with the
+/// fault on the standard error.
+pub fn report<R: Processes + Files + Net + Clock + Print + Eprint + AllocGlobal + Clone + Drop>(
+    rt: &R,
+) -> ExitCode {
+    match run_cases(rt) {
+        Ok(()) => ExitCode::SUCCESS,
+        Err(error) => {
+            let _ = eprintln!(rt; "{error}");
+            ExitCode::FAILURE
+        }
+    }
 }

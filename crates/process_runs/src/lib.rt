@@ -3,14 +3,9 @@
 //! The words that come behind the name of a process make it the program `tpf`; without a word it runs the cases:
 //!
 //! ```rust
-//! fn report(rt: &HostRuntime) -> ExitCode {
-//!     match run_cases(rt) {
-//!         Ok(()) => ExitCode::SUCCESS,
-//!         Err(error) => {
-//!             let _ = eprintln!(rt; "{error}");
-//!             ExitCode::FAILURE
-//!         }
-//!     }
+//! match words_of(&rt) {
+//!     Ok(words) if words.len() < 2 => report(&rt),
+//!     _ => run_process(&rt),
 //! }
 //! ```
 #![tactic(auto)]
@@ -21,4 +16,4 @@ mod edge;
 mod files;
 mod programs;
 
-pub use cases::run_cases;
+pub use cases::report;
