@@ -3,7 +3,7 @@ _tpf() {
     local word="${COMP_WORDS[COMP_CWORD]}" before="${COMP_WORDS[COMP_CWORD - 1]}" options=
     COMPREPLY=()
     if [ "$COMP_CWORD" -eq 1 ]; then
-        mapfile -t COMPREPLY < <(compgen -W "local make query serve help install --help --version" -- "$word")
+        mapfile -t COMPREPLY < <(compgen -W "federate local make query serve help install --help --version" -- "$word")
         return
     fi
     case "$before" in
@@ -11,6 +11,7 @@ _tpf() {
         --base|--budget|--fail-every|--graph|--links|--max-body|--page|--reload|--retries|--seed|--stop-after|--window) return ;;
     esac
     case "${COMP_WORDS[1]}" in
+        federate) options="--links --window --retries --budget --max-body" ;;
         local) options="--graph --union --page --links --window --retries --budget --max-body --seed --fail-every" ;;
         make) options="--run" ;;
         query) options="--links --window --retries --budget --max-body" ;;
