@@ -4,6 +4,7 @@ use crate::answers::show;
 use crate::edge::{addresses, large_page, reload_of_no_file, three_connections};
 use crate::files::found_and_dropped;
 use crate::programs::{Server, serve, start};
+use crate::together::two_servers;
 use std::io::{Read, Write};
 use std::net::{Ipv4Addr, Net, TcpStream};
 use std::process::{Child, ExitCode, OpenProcess, Output, Processes};
@@ -73,7 +74,7 @@ fn reload<R: Net + Print + AllocGlobal>(rt: &R, port: u16) -> io::Result<()> {
 }
 
 /// Waits for the end of a process, which is ended where it may wait for what does not come.
-fn ended_of<R: AllocGlobal, P: OpenProcess + Drop>(
+pub fn ended_of<R: AllocGlobal, P: OpenProcess + Drop>(
     rt: &R,
     mut child: Child<P>,
     is_lost: bool,
@@ -215,7 +216,8 @@ fn run_plain<R: Processes + Files + Net + Print + AllocGlobal>(rt: &R) -> io::Re
     pass_budget(rt)?;
     query(rt)?;
     reload_between_queries(rt)?;
-    reload_between_pages(rt)
+    reload_between_pages(rt)?;
+    two_servers(rt)
 }
 
 /// The cases at the edge of what the system gives.

@@ -245,7 +245,7 @@ fn ask_once<R: Net + Print + AllocGlobal>(
 }
 
 /// Starts this program, waits for its end, and prints how it ended.
-fn run_to_end<R: Processes + Files + Print + AllocGlobal>(
+pub fn run_to_end<R: Processes + Files + Print + AllocGlobal>(
     rt: &R,
     words: &[&str],
     wanted: i32,
@@ -264,10 +264,16 @@ fn serve_twice<R: Processes + Files + Net + Print + AllocGlobal>(
     ask_once(rt, "the first server", port, "GET", "/data")
 }
 
+/// An address at which nobody listens.
+pub fn nobody<R: Net + AllocGlobal>(rt: &R) -> io::Result<String> {
+    let port = free_port(rt)?;
+    Ok(format!(in rt.alloc(); "http://127.0.0.1:{port}/data")?)
+}
+
 /// A query to an address at which nobody listens.
 fn ask_nobody<R: Processes + Files + Net + Print + AllocGlobal>(rt: &R) -> io::Result<()> {
     println!(rt; "a query to an address at which nobody listens")?;
-    let base = format!(in rt.alloc(); "http://127.0.0.1:{}/data", free_port(rt)?)?;
+    let base = nobody(rt)?;
     run_to_end(rt, &["query", base.as_str(), "friends.rq"], 5)
 }
 

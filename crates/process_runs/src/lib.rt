@@ -15,5 +15,6 @@ mod cases;
 mod edge;
 mod files;
 mod programs;
+mod together;
 
 pub use cases::report;
