@@ -21,3 +21,16 @@ slot row (Name n) = slot_of (term_at row n)
 -- the pattern with the bound names filled in
 abbrev pub instance : Pattern → Places → Slots
 instance p row = record { subject = slot row p.subject; predicate = slot row p.predicate; object = slot row p.object }
+
+-- what a row binds of a part: nothing of one that is fixed already
+abbrev pub bound_slot : Places → Part → Slot
+bound_slot row (Fixed t) = slots.Any
+bound_slot row (Name n) = slot_of (term_at row n)
+
+-- what a row binds in a pattern
+abbrev pub bound_places : Pattern → Places → Slots
+bound_places p row = record {
+  subject = bound_slot row p.subject;
+  predicate = bound_slot row p.predicate;
+  object = bound_slot row p.object;
+}

@@ -1,7 +1,7 @@
 // What a pattern under a row asks for.
 ghost use Rattle.std.specs.Prelude.{◌≡◌, IfOk};
 ghost use Rattle.rdf_terms.specs.Askable.{is_iri_term, is_iri_or_literal, slot_allows, askable};
-ghost use Rattle.bgp_core.specs.Instances.{slot, instance};
+ghost use Rattle.bgp_core.specs.Instances.{slot, instance, bound_slot, bound_places};
 
 use crate::{Part, Pattern, Row};
 use rdf_terms::{Slot, Slots, Term};
@@ -30,6 +30,27 @@ pub fn instance(alloc: Global, pattern: &Pattern, row: &Row) -> Result<Slots, Ou
         subject: slot(alloc, &pattern.subject, row)?,
         predicate: slot(alloc, &pattern.predicate, row)?,
         object: slot(alloc, &pattern.object, row)?,
+    })
+}
+
+fn bound_slot(alloc: Global, part: &Part, row: &Row) -> Result<Slot, OutOfMemory>
+    ensures { IfOk result (λ s. s ≡ bound_slot row.now part.now) }
+{
+    match part {
+        Part::Fixed(_) => Ok(Slot::Any),
+        Part::Name(_) => slot(alloc, part, row),
+    }
+}
+
+/// What a row binds in a pattern: the names that the row binds filled in, and all other places free, also
+/// those that the pattern fixes. The only error is out of memory.
+pub fn bound_places(alloc: Global, pattern: &Pattern, row: &Row) -> Result<Slots, OutOfMemory>
+    ensures { IfOk result (λ s. s ≡ bound_places pattern.now row.now) }
+{
+    Ok(Slots {
+        subject: bound_slot(alloc, &pattern.subject, row)?,
+        predicate: bound_slot(alloc, &pattern.predicate, row)?,
+        object: bound_slot(alloc, &pattern.object, row)?,
     })
 }
 

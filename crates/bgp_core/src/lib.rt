@@ -24,7 +24,7 @@ mod pattern;
 mod row;
 mod solve;
 
-pub use asking::{askable, instance, instance_askable};
+pub use asking::{askable, bound_places, instance, instance_askable};
 pub use laws::{
     data_sets_are_distinct, extension_is_one, extensions_commute, fragments_suffice,
     merging_is_union, pattern_order_is_free, triple_order_is_free,
