@@ -5,7 +5,7 @@ use Rattle.std.specs.List.{list_all, list_any}
 use Rattle.std.specs.Char.{is_ascii, is_ascii_digit, is_ascii_uppercase, to_ascii_lowercase}
 use Rattle.std.specs.Str.{str_to_ascii_lowercase, IsUtf8, IsAscii}
 use Rattle.std.proofs.lemmas.List.{length-map}
-use Rattle.std.proofs.lemmas.List.Folds.{list_all-append}
+use Rattle.std.proofs.lemmas.List.Folds.{list_any-append, list_all-append}
 use Rattle.std.proofs.lemmas.Bool.Decides.{nat_tests}
 use Rattle.std.proofs.lemmas.Bool.{agree_below_at, and_from}
 use Rattle.rdf_terms.specs.Iri.{is_iri, is_iri_byte}
@@ -340,3 +340,35 @@ pub query_part : (bytes part : List ℕ) (host_len authority_len port : ℕ) (a 
 query_part bytes part host_len authority_len port a is cut =
     let all = take_all (length bytes - (7 + authority_len)) (drop (7 + authority_len) bytes) (simp length-drop (omega arith)) in
     rw (← is, cut, all) (query-some (kept_target bytes authority_len))
+
+-- nothing before the target holds a ?
+pub unmarked : (p : ℕ → Bool) → ((b : ℕ) → p b ≡ true → (b == 63) ≡ false) → (bytes : List ℕ) → list_all p bytes ≡ true → list_any (λ b. b == 63) bytes ≡ false
+unmarked p apart [] all = refl
+unmarked p apart (b ∷ bytes) all = rw (apart b (and_left (p b) _ all), unmarked p apart bytes (and_right (p b) _ all)) refl
+
+pub unmarked-host : (b : ℕ) → is_host_byte b ≡ true → (b == 63) ≡ false
+unmarked-host b h = grind (arith, nat_tests)
+
+pub unmarked-digit : (b : ℕ) → is_ascii_digit b ≡ true → (b == 63) ≡ false
+unmarked-digit b h = grind (arith, nat_tests)
+
+pub unmarked-port : (port : ℕ) → port < 65536 → list_any (λ b. b == 63) (port_text port) ≡ false
+unmarked-port port high = elim (port == 80) as (λ v. list_any (λ b. b == 63) (cond v [] (codes ":" ++ decimal port)) ≡ false) [
+  | true ↦ refl
+  | false ↦ unmarked is_ascii_digit unmarked-digit (decimal port) (all_digits-decimal port (omega arith))
+]
+
+pub unmarked-authority : (host target : List ℕ) (port : ℕ) → IsNormal host port target → list_any (λ b. b == 63) (authority_text host port) ≡ false
+unmarked-authority host target port n =
+    let own = unmarked is_host_byte unmarked-host host (all_host host n.is_host) in
+    rw (authority-port host port, list_any-append (λ b. b == 63) host (port_text port), own) (unmarked-port port n.high)
+
+-- so an address has a query where its text holds a ?
+pub query_in_text : (bytes part : List ℕ) (host_len authority_len port : ℕ) (a : Address) → IsKept bytes host_len authority_len port → kept_address bytes host_len authority_len port ≡ a → part ≡ take (length bytes - (7 + authority_len)) (drop (7 + authority_len) bytes) → list_any (λ b. b == 63) part ≡ list_any (λ b. b == 63) (address_text a)
+query_in_text bytes part host_len authority_len port a kept is cut =
+    let host = kept_host bytes host_len in
+    let target = kept_target bytes authority_len in
+    let all = take_all (length bytes - (7 + authority_len)) (drop (7 + authority_len) bytes) (simp length-drop (omega arith)) in
+    let whole : list_any (λ b. b == 63) bytes ≡ list_any (λ b. b == 63) target =
+    ap (list_any (λ b. b == 63)) kept.text ∙ list_any-append (λ b. b == 63) (authority_text host port) target ∙ ap (λ (front : Bool). front || list_any (λ b. b == 63) target) (unmarked-authority host target port kept.normal) in
+    ap (list_any (λ b. b == 63)) (cut ∙ all) ∙ sym whole ∙ ap (list_any (λ b. b == 63)) (kept_text bytes host_len authority_len port a kept is)

@@ -11,7 +11,10 @@ pub mod Written
 pub mod Questions
 pub mod WorkedAnswers
 pub mod WorkedResponses
+pub mod WorkedRows
 pub mod Authorities
 pub mod Answered
 pub mod Histories
 pub mod ReadTemplates
+pub mod ReadRows
+pub mod FirstPages

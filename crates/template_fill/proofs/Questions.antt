@@ -1,44 +1,51 @@
 -- What the address of a page asks for.
-use Rattle.std.proofs.Common.{◌≡◌, ◌≢◌, ℕ, ◌<◌, ◌≤◌, List, [], ◌∷◌, ◌++◌, Bool, true, false, not, cond, ◌==◌, ◌&&◌, nat_le, map, filter, length, Option, Some, None, if◌then◌else◌, refl, sym, ap, ◌∙◌, subst, inl, inr, arith, append_assoc, append-nil, All}
+use Rattle.std.proofs.Common.{◌≡◌, ◌≢◌, ℕ, ◌<◌, ◌≤◌, List, [], ◌∷◌, ◌++◌, Bool, true, false, not, cond, ◌==◌, ◌&&◌, nat_le, map, filter, length, Option, Some, None, if◌then◌else◌, refl, sym, ap, ◌∙◌, subst, arith, append_assoc, append-nil, All}
 use Rattle.std.specs.Prelude.{codes, bytes_eq, unwrap_or}
 use Rattle.std.specs.List.{AllByRecursion, list_all}
 use Rattle.std.specs.Char.{is_ascii, is_ascii_digit}
+use Rattle.std.specs.Str.{IsUtf8}
 use Rattle.std.specs.Str.Parse.{digits_value}
 use Rattle.std.proofs.lemmas.Bool.Decides.{nat_tests}
-use Rattle.std.proofs.lemmas.List.{map-append}
+use Rattle.std.proofs.lemmas.List.{map-append, length-map}
 use Rattle.std.proofs.lemmas.List.Concat.{flat_map-cons}
 use Rattle.std.proofs.lemmas.List.Elements.{All-nil, All-cons, filter-append}
 use Rattle.std.proofs.lemmas.List.Folds.{list_all-append}
+use Rattle.list_laws.proofs.Each.{all_append}
 use Rattle.form_urlencoded.specs.Form.{raw_pairs}
 use Rattle.form_urlencoded.proofs.FormLemmas.{raw_pairs-nil}
 use Rattle.rdf_terms.specs.declared.slots.Slot.{Slot}
 use Rattle.rdf_terms.specs.declared.slots.Slot.TheVariants.{Any, Fixed}
 use Rattle.rdf_terms.specs.declared.slots.Slots.{Slots}
+use Rattle.rdf_terms.specs.declared.limits.TheConstants.{MOST_ROWS}
 use Rattle.rdf_terms.specs.Kept.{IsKeptSlot, AreKept}
+use Rattle.rdf_terms.specs.Selections.{Selection, IsKeptSelection}
 use Rattle.tpf_base.specs.Decimals.{decimal_text}
 use Rattle.tpf_base.proofs.DecimalTexts.{decimal_text-digits, decimal_text-some, decimal_text-value}
-use Rattle.tpf_base.specs.Addresses.{Address, IsAddress, IsPortTyped, is_path, is_path_byte, is_address_byte, query_text, target_of, address_text, authority_text}
+use Rattle.tpf_base.specs.Addresses.{Address, IsAddress, is_path_byte, is_address_byte, query_text, target_of, address_text, authority_text}
 use Rattle.template_fill.specs.Explicit.{explicit_form, slot_of}
 use Rattle.template_fill.specs.ReadAddress.{when, ◌>>=◌, with_target}
 use Rattle.template_fill.specs.Templates.{next_mark, pair_text}
 use Rattle.template_fill.specs.Values.{is_unreserved, encoded_byte, encoded_value}
-use Rattle.template_fill.specs.Pages.{slot_text, places_text, page_mark, page_pair, page_address}
+use Rattle.template_fill.specs.Rows.{accepted, row_place, row_text, row_pair, rows_text, rows_of, few_rows_of}
+use Rattle.template_fill.specs.Pages.{slot_text, places_text, selection_text, page_mark, page_pair, page_address}
 use Rattle.template_fill.specs.WebAddress.{IsNormal}
 use Rattle.template_fill.specs.Metadata.{Config}
 use Rattle.template_fill.specs.Configurations.{IsConfig}
-use Rattle.template_fill.specs.Answers.{Question, form_text, parameters, values_under, one_value, accepted, slot_under, page_number, asked_by, question_of, AsksFor, ReadsAddress}
-use Rattle.template_fill.proofs.Addresses.{and_left, and_right, is_host-lower, is_lower-lower, utf8-ascii, is_ascii-address, normal_is_address, target-parts, not_empty}
-use Rattle.template_fill.proofs.PageTexts.{places-next, places-text, more-address}
+use Rattle.template_fill.specs.Answers.{Question, form_text, parameters, values_under, one_value, slot_under, page_number, rows_under, asked_by, question_of, read_as, AsksFor, ReadsAddress}
+use Rattle.template_fill.proofs.Addresses.{and_left, and_right, is_host-lower, is_lower-lower, utf8-ascii, is_ascii-address, normal_is_address, target-parts}
+use Rattle.template_fill.proofs.Authorities.{port_range, IsRootedPath, kept_path}
+use Rattle.template_fill.proofs.PageTexts.{places-next, places-text, more-address, mark-behind, no-rows}
 use Rattle.template_fill.proofs.Passing.{list_all-wider}
 use Rattle.template_fill.proofs.Quotes.{reads_back, forms_are_text}
 use Rattle.template_fill.proofs.Reading.{parts-target, one_address}
-use Rattle.template_fill.proofs.Values.{unreserved-address, digit-unreserved}
+use Rattle.template_fill.proofs.ReadRows.{rows-read}
+use Rattle.template_fill.proofs.Values.{value-address, unreserved-address, digit-unreserved}
 use Rattle.template_fill.proofs.Written.{utf8_bytes, ampersand_apart, value_reads, marked, behind_mark, IsWhole, pairs_read}
 
 -- ---- what is written, and what is read
 
 -- the pair of a fixed place, as it is written and as it is read
-abbrev place_written : List ℕ → Slot → List (List ℕ × List ℕ)
+abbrev pub place_written : List ℕ → Slot → List (List ℕ × List ℕ)
 place_written name Any = []
 place_written name (Fixed term) = (name, encoded_value (explicit_form term)) ∷ []
 
@@ -50,13 +57,27 @@ place_read name (Fixed term) = (name, explicit_form term) ∷ []
 abbrev page_written : ℕ → List (List ℕ × List ℕ)
 page_written k = if k == 1 then [] else (codes "page", decimal_text k) ∷ []
 
-abbrev written : Slots → ℕ → List (List ℕ × List ℕ)
-written slots k =
-    place_written (codes "subject") slots.subject ++ (place_written (codes "predicate") slots.predicate ++ (place_written (codes "object") slots.object ++ page_written k))
+-- the pairs of rows
+abbrev rows_written : List Slots → List (List ℕ × List ℕ)
+rows_written rows = map (λ row. (codes "row", encoded_value (row_text row))) rows
 
-abbrev read : Slots → ℕ → List (List ℕ × List ℕ)
-read slots k =
-    place_read (codes "subject") slots.subject ++ (place_read (codes "predicate") slots.predicate ++ (place_read (codes "object") slots.object ++ page_written k))
+abbrev rows_read : List Slots → List (List ℕ × List ℕ)
+rows_read rows = map (λ row. (codes "row", row_text row)) rows
+
+-- the pairs of the places before others
+abbrev pub places_written : Slots → List (List ℕ × List ℕ) → List (List ℕ × List ℕ)
+places_written slots later =
+    place_written (codes "subject") slots.subject ++ (place_written (codes "predicate") slots.predicate ++ (place_written (codes "object") slots.object ++ later))
+
+abbrev places_read : Slots → List (List ℕ × List ℕ) → List (List ℕ × List ℕ)
+places_read slots later =
+    place_read (codes "subject") slots.subject ++ (place_read (codes "predicate") slots.predicate ++ (place_read (codes "object") slots.object ++ later))
+
+abbrev written : Selection → ℕ → List (List ℕ × List ℕ)
+written s k = places_written s.slots (rows_written s.rows ++ page_written k)
+
+abbrev read : Selection → ℕ → List (List ℕ × List ℕ)
+read s k = places_read s.slots (rows_read s.rows ++ page_written k)
 
 -- ---- the text
 
@@ -71,9 +92,34 @@ page_marked mark k = elim (k == 1) as (λ v. cond v [] (mark ∷ (codes "page=" 
   | false ↦ ap (λ (bytes : List ℕ). mark ∷ bytes) (sym (append-nil (codes "page=" ++ decimal_text k)))
 ]
 
--- what follows the base
-more_marked : (slots : Slots) (k : ℕ) → places_text slots ++ page_pair (page_mark (places_text slots)) k ≡ marked 63 (written slots k)
-more_marked slots k =
+-- the mark behind rows
+abbrev next_of : ℕ → List Slots → ℕ
+next_of mark [] = mark
+next_of mark (row ∷ rows) = 38
+
+next-ampersand : (rows : List Slots) → next_of 38 rows ≡ 38
+next-ampersand [] = refl
+next-ampersand (row ∷ rows) = refl
+
+-- what stands of a selection: its places and then its rows
+selection-parts : (slots : Slots) (rows : List Slots) → selection_text (record { slots = slots; rows = rows }) ≡ places_text slots ++ rows_text (page_mark (places_text slots)) rows
+unfolding selection_text
+selection-parts slots [] = sym (append-nil (places_text slots))
+selection-parts slots (row ∷ rows) = refl
+
+selection-mark : (slots : Slots) (rows : List Slots) → page_mark (selection_text (record { slots = slots; rows = rows })) ≡ next_of (page_mark (places_text slots)) rows
+selection-mark slots [] = ap page_mark (no-rows slots)
+selection-mark slots (row ∷ rows) = mark-behind slots row rows
+
+rows_marked : (mark k : ℕ) (rows : List Slots) → rows_text mark rows ++ page_pair (next_of mark rows) k ≡ marked mark (rows_written rows ++ page_written k)
+rows_marked mark k [] = page_marked mark k
+rows_marked mark k (row ∷ rows) =
+    append_assoc (row_pair mark row) (rows_text 38 rows) (page_pair 38 k)
+    ∙ ap (λ (bytes : List ℕ). row_pair mark row ++ bytes) (ap (λ (m : ℕ). rows_text 38 rows ++ page_pair m k) (sym (next-ampersand rows)) ∙ rows_marked 38 k rows)
+
+-- the places before something else
+pub places_marked : (slots : Slots) (later : List (List ℕ × List ℕ)) (tail : List ℕ) → tail ≡ marked (page_mark (places_text slots)) later → places_text slots ++ tail ≡ marked 63 (places_written slots later)
+places_marked slots later tail is =
     let second = next_mark 63 (slot_text slots.subject) in
     let third = next_mark second (slot_text slots.predicate) in
     let last = next_mark third (slot_text slots.object) in
@@ -82,13 +128,22 @@ more_marked slots k =
     let object = pair_text third (codes "object") (slot_text slots.object) in
     let places : places_text slots ≡ (subject ++ predicate) ++ object = sym (places-text slots second third [] subject (subject ++ predicate) ((subject ++ predicate) ++ object) refl refl refl refl refl) in
     let mark : page_mark (places_text slots) ≡ last = sym (places-next slots second third last refl refl refl) in
-    ap (λ (m : ℕ). places_text slots ++ page_pair m k) mark
-    ∙ ap (λ (front : List ℕ). front ++ page_pair last k) places
-    ∙ append_assoc (subject ++ predicate) object (page_pair last k)
-    ∙ append_assoc subject predicate (object ++ page_pair last k)
-    ∙ place_marked 63 (codes "subject") slots.subject (place_written (codes "predicate") slots.predicate ++ (place_written (codes "object") slots.object ++ page_written k)) (predicate ++ (object ++ page_pair last k))
-    (place_marked second (codes "predicate") slots.predicate (place_written (codes "object") slots.object ++ page_written k) (object ++ page_pair last k)
-    (place_marked third (codes "object") slots.object (page_written k) (page_pair last k) (page_marked last k)))
+    ap (λ (front : List ℕ). front ++ tail) places
+    ∙ append_assoc (subject ++ predicate) object tail
+    ∙ append_assoc subject predicate (object ++ tail)
+    ∙ place_marked 63 (codes "subject") slots.subject (place_written (codes "predicate") slots.predicate ++ (place_written (codes "object") slots.object ++ later)) (predicate ++ (object ++ tail))
+    (place_marked second (codes "predicate") slots.predicate (place_written (codes "object") slots.object ++ later) (object ++ tail)
+    (place_marked third (codes "object") slots.object later tail (is ∙ ap (λ (m : ℕ). marked m later) mark)))
+
+-- what follows the base
+more_marked : (s : Selection) (k : ℕ) → selection_text s ++ page_pair (page_mark (selection_text s)) k ≡ marked 63 (written s k)
+more_marked s k =
+    let places = places_text s.slots in
+    let mark = page_mark places in
+    ap (λ (text : List ℕ). text ++ page_pair (page_mark (selection_text s)) k) (selection-parts s.slots s.rows)
+    ∙ append_assoc places (rows_text mark s.rows) (page_pair (page_mark (selection_text s)) k)
+    ∙ places_marked s.slots (rows_written s.rows ++ page_written k) (rows_text mark s.rows ++ page_pair (page_mark (selection_text s)) k)
+    (ap (λ (m : ℕ). rows_text mark s.rows ++ page_pair m k) (selection-mark s.slots s.rows) ∙ rows_marked mark k s.rows)
 
 -- ---- texts of unreserved characters
 
@@ -117,10 +172,6 @@ unreserved_apart mark (b ∷ text) other all =
 
 -- ---- the pairs
 
-both : {A : Type 0} (P : A → Type 0) (xs ys : List A) → AllByRecursion P xs → AllByRecursion P ys → AllByRecursion P (xs ++ ys)
-both P [] ys one other = other
-both P (x ∷ xs) ys one other = (one.0, both P xs ys one.1 other)
-
 place_whole : (name : List ℕ) (slot : Slot) → list_all is_unreserved name ≡ true → IsKeptSlot slot → AllByRecursion IsWhole (place_written name slot)
 place_whole name Any own kept = tt
 place_whole name (Fixed term) own kept =
@@ -135,11 +186,31 @@ page_whole k digits = elim (k == 1) as (λ v. AllByRecursion IsWhole (cond v [] 
   | false ↦ (record { name = unreserved_apart 38 (codes "page") refl refl; equals = unreserved_apart 61 (codes "page") refl refl; value = unreserved_apart 38 (decimal_text k) refl (digits_unreserved (decimal_text k) digits) }, tt)
 ]
 
-written_whole : (slots : Slots) (k : ℕ) → AreKept slots → list_all is_ascii_digit (decimal_text k) ≡ true → AllByRecursion IsWhole (written slots k)
-written_whole slots k kept digits =
-    both IsWhole (place_written (codes "subject") slots.subject) (place_written (codes "predicate") slots.predicate ++ (place_written (codes "object") slots.object ++ page_written k)) (place_whole (codes "subject") slots.subject refl kept.subject)
-    (both IsWhole (place_written (codes "predicate") slots.predicate) (place_written (codes "object") slots.object ++ page_written k) (place_whole (codes "predicate") slots.predicate refl kept.predicate)
-    (both IsWhole (place_written (codes "object") slots.object) (page_written k) (place_whole (codes "object") slots.object refl kept.object) (page_whole k digits)))
+place-address : (slot : Slot) → list_all is_address_byte (row_place slot) ≡ true
+place-address Any = refl
+place-address (Fixed term) = value-address (explicit_form term)
+
+-- the value of a row is text
+row_is_text : (row : Slots) → IsUtf8 (row_text row)
+unfolding row_text
+row_is_text row =
+    let bytes : list_all is_address_byte (row_place row.subject ++ 44 ∷ (row_place row.predicate ++ 44 ∷ row_place row.object)) ≡ true =
+    rw (list_all-append is_address_byte (row_place row.subject) (44 ∷ (row_place row.predicate ++ 44 ∷ row_place row.object)), place-address row.subject, list_all-append is_address_byte (row_place row.predicate) (44 ∷ row_place row.object), place-address row.predicate) (place-address row.object) in
+    utf8-ascii (row_text row) (list_all-wider is_address_byte is_ascii is_ascii-address (row_text row) bytes)
+
+row_whole : (row : Slots) → IsWhole (codes "row", encoded_value (row_text row))
+row_whole row = record { name = unreserved_apart 38 (codes "row") refl refl; equals = unreserved_apart 61 (codes "row") refl refl; value = ampersand_apart (row_text row) (utf8_bytes (row_text row) (row_is_text row)) }
+
+rows_whole : (rows : List Slots) → AllByRecursion IsWhole (rows_written rows)
+rows_whole [] = tt
+rows_whole (row ∷ rows) = (row_whole row, rows_whole rows)
+
+written_whole : (s : Selection) (k : ℕ) → IsKeptSelection s → list_all is_ascii_digit (decimal_text k) ≡ true → AllByRecursion IsWhole (written s k)
+written_whole s k kept digits =
+    let last = all_append IsWhole (rows_written s.rows) (page_written k) (rows_whole s.rows) (page_whole k digits) in
+    let object = all_append IsWhole (place_written (codes "object") s.slots.object) (rows_written s.rows ++ page_written k) (place_whole (codes "object") s.slots.object refl kept.slots.object) last in
+    let predicate = all_append IsWhole (place_written (codes "predicate") s.slots.predicate) (place_written (codes "object") s.slots.object ++ (rows_written s.rows ++ page_written k)) (place_whole (codes "predicate") s.slots.predicate refl kept.slots.predicate) object in
+    all_append IsWhole (place_written (codes "subject") s.slots.subject) (place_written (codes "predicate") s.slots.predicate ++ (place_written (codes "object") s.slots.object ++ (rows_written s.rows ++ page_written k))) (place_whole (codes "subject") s.slots.subject refl kept.slots.subject) predicate
 
 query_pairs : (pairs : List (List ℕ × List ℕ)) → AllByRecursion IsWhole pairs → raw_pairs (unwrap_or (behind_mark pairs) []) ≡ pairs
 query_pairs [] whole = raw_pairs-nil
@@ -162,11 +233,16 @@ page_decoded k digits = elim (k == 1) as (λ v. map pair_read (cond v [] ((codes
 front_decoded : (xs ys zs ws : List (List ℕ × List ℕ)) → map pair_read xs ≡ zs → map pair_read ys ≡ ws → map pair_read (xs ++ ys) ≡ zs ++ ws
 front_decoded xs ys zs ws front behind = map-append pair_read xs ys ∙ (λ i. front i ++ behind i)
 
-written_decoded : (slots : Slots) (k : ℕ) → AreKept slots → list_all is_ascii_digit (decimal_text k) ≡ true → map pair_read (written slots k) ≡ read slots k
-written_decoded slots k kept digits =
-    front_decoded (place_written (codes "subject") slots.subject) _ (place_read (codes "subject") slots.subject) _ (place_decoded (codes "subject") slots.subject refl kept.subject)
-    (front_decoded (place_written (codes "predicate") slots.predicate) _ (place_read (codes "predicate") slots.predicate) _ (place_decoded (codes "predicate") slots.predicate refl kept.predicate)
-    (front_decoded (place_written (codes "object") slots.object) _ (place_read (codes "object") slots.object) _ (place_decoded (codes "object") slots.object refl kept.object) (page_decoded k digits)))
+rows_decoded : (rows : List Slots) → map pair_read (rows_written rows) ≡ rows_read rows
+rows_decoded [] = refl
+rows_decoded (row ∷ rows) = λ i. (unreserved_reads (codes "row") refl i, value_reads (row_text row) (row_is_text row) i) ∷ rows_decoded rows i
+
+written_decoded : (s : Selection) (k : ℕ) → IsKeptSelection s → list_all is_ascii_digit (decimal_text k) ≡ true → map pair_read (written s k) ≡ read s k
+written_decoded s k kept digits =
+    front_decoded (place_written (codes "subject") s.slots.subject) _ (place_read (codes "subject") s.slots.subject) _ (place_decoded (codes "subject") s.slots.subject refl kept.slots.subject)
+    (front_decoded (place_written (codes "predicate") s.slots.predicate) _ (place_read (codes "predicate") s.slots.predicate) _ (place_decoded (codes "predicate") s.slots.predicate refl kept.slots.predicate)
+    (front_decoded (place_written (codes "object") s.slots.object) _ (place_read (codes "object") s.slots.object) _ (place_decoded (codes "object") s.slots.object refl kept.slots.object)
+    (front_decoded (rows_written s.rows) _ (rows_read s.rows) _ (rows_decoded s.rows) (page_decoded k digits))))
 
 -- ---- what the pairs ask for
 
@@ -197,13 +273,26 @@ values_page name k false is = elim (k == 1) as (λ one. values_under name (cond 
   | false ↦ ap (λ (b : Bool). map (λ (p : List ℕ × List ℕ). p.1) (cond b ((codes "page", decimal_text k) ∷ []) [])) is
 ]
 
-values_are : (name : List ℕ) (slots : Slots) (k : ℕ) (s p o g : Bool) → bytes_eq (codes "subject") name ≡ s → bytes_eq (codes "predicate") name ≡ p → bytes_eq (codes "object") name ≡ o → bytes_eq (codes "page") name ≡ g
-    → values_under name (read slots k) ≡ (if s then place_values slots.subject else []) ++ ((if p then place_values slots.predicate else []) ++ ((if o then place_values slots.object else []) ++ (if g then page_values k else [])))
-values_are name slots k s p o g is_s is_p is_o is_g =
-    values_append name (place_read (codes "subject") slots.subject) (place_read (codes "predicate") slots.predicate ++ (place_read (codes "object") slots.object ++ page_written k))
-    ∙ (λ i. values_place name (codes "subject") slots.subject s is_s i ++ (values_append name (place_read (codes "predicate") slots.predicate) (place_read (codes "object") slots.object ++ page_written k)
-    ∙ (λ j. values_place name (codes "predicate") slots.predicate p is_p j ++ (values_append name (place_read (codes "object") slots.object) (page_written k)
-    ∙ (λ l. values_place name (codes "object") slots.object o is_o l ++ values_page name k g is_g l)) j)) i)
+values_rows : (name : List ℕ) (rows : List Slots) (v : Bool) → bytes_eq (codes "row") name ≡ v → values_under name (rows_read rows) ≡ (if v then map row_text rows else [])
+values_rows name [] true is = refl
+values_rows name [] false is = refl
+values_rows name (row ∷ rows) true is =
+    let more = filter (λ (p : List ℕ × List ℕ). bytes_eq p.0 name) (rows_read rows) in
+    ap (λ (b : Bool). map (λ (p : List ℕ × List ℕ). p.1) (cond b ((codes "row", row_text row) ∷ more) more)) is ∙ ap (λ (values : List (List ℕ)). row_text row ∷ values) (values_rows name rows true is)
+values_rows name (row ∷ rows) false is =
+    let more = filter (λ (p : List ℕ × List ℕ). bytes_eq p.0 name) (rows_read rows) in
+    ap (λ (b : Bool). map (λ (p : List ℕ × List ℕ). p.1) (cond b ((codes "row", row_text row) ∷ more) more)) is ∙ values_rows name rows false is
+
+values_places : (name : List ℕ) (slots : Slots) (later : List (List ℕ × List ℕ)) (s p o : Bool) → bytes_eq (codes "subject") name ≡ s → bytes_eq (codes "predicate") name ≡ p → bytes_eq (codes "object") name ≡ o
+    → values_under name (places_read slots later) ≡ (if s then place_values slots.subject else []) ++ ((if p then place_values slots.predicate else []) ++ ((if o then place_values slots.object else []) ++ values_under name later))
+values_places name slots later s p o is_s is_p is_o =
+    values_append name (place_read (codes "subject") slots.subject) (place_read (codes "predicate") slots.predicate ++ (place_read (codes "object") slots.object ++ later))
+    ∙ (λ i. values_place name (codes "subject") slots.subject s is_s i ++ (values_append name (place_read (codes "predicate") slots.predicate) (place_read (codes "object") slots.object ++ later)
+    ∙ (λ j. values_place name (codes "predicate") slots.predicate p is_p j ++ (values_append name (place_read (codes "object") slots.object) later
+    ∙ (λ l. values_place name (codes "object") slots.object o is_o l ++ values_under name later)) j)) i)
+
+values_later : (name : List ℕ) (rows : List Slots) (k : ℕ) (r g : Bool) → bytes_eq (codes "row") name ≡ r → bytes_eq (codes "page") name ≡ g → values_under name (rows_read rows ++ page_written k) ≡ (if r then map row_text rows else []) ++ (if g then page_values k else [])
+values_later name rows k r g is_r is_g = values_append name (rows_read rows) (page_written k) ∙ (λ i. values_rows name rows r is_r i ++ values_page name k g is_g i)
 
 one_slot : (slot : Slot) → IsKeptSlot slot → (one_value (place_values slot) >>= (λ value. accepted (slot_of value))) ≡ Some slot
 one_slot Any kept = refl
@@ -235,62 +324,73 @@ one_page k all some is low = by (k == 1) refl
     by true one = ap Some (first k one)
     by false other = number_read (decimal_text k) k all some is low
 
-abbrev question_with : Slot → Slot → Slot → ℕ → Question
-question_with subject predicate object page = record { slots = record { subject = subject; predicate = predicate; object = object }; page = page }
-
-asked : (pairs : List (List ℕ × List ℕ)) (slots : Slots) (k : ℕ) → slot_under (codes "subject") pairs ≡ Some slots.subject → slot_under (codes "predicate") pairs ≡ Some slots.predicate → slot_under (codes "object") pairs ≡ Some slots.object
-    → (one_value (values_under (codes "page") pairs) >>= page_number) ≡ Some k → asked_by pairs ≡ Some (record { slots = slots; page = k })
-asked pairs slots k s p o g = parts (slot_under (codes "subject") pairs) (slot_under (codes "predicate") pairs) (slot_under (codes "object") pairs) (one_value (values_under (codes "page") pairs) >>= page_number) s p o g
+-- the rows
+few : (rows : List Slots) → length rows ≤ MOST_ROWS → nat_le (length (map row_text rows)) MOST_ROWS ≡ true
+few rows most = ap (λ n. nat_le n MOST_ROWS) (length-map rows row_text) ∙ within (length rows) MOST_ROWS most
   where
-    parts : (a b c : Option Slot) (d : Option ℕ) → a ≡ Some slots.subject → b ≡ Some slots.predicate → c ≡ Some slots.object → d ≡ Some k
-        → (a >>= (λ subject. b >>= (λ predicate. c >>= (λ object. d >>= (λ page. Some (question_with subject predicate object page)))))) ≡ Some (record { slots = slots; page = k })
-    parts a b c d is_a is_b is_c is_d = rw (is_a, is_b, is_c, is_d) refl
+    within : (n most : ℕ) → n ≤ most → nat_le n most ≡ true
+    within n most h = grind (arith, nat_tests)
 
-read_asks : (slots : Slots) (k : ℕ) → AreKept slots → list_all is_ascii_digit (decimal_text k) ≡ true → 0 < length (decimal_text k) → digits_value 10 (decimal_text k) ≡ k → 1 ≤ k → asked_by (read slots k) ≡ Some (record { slots = slots; page = k })
-read_asks slots k kept all some is low =
-    asked (read slots k) slots k
-    (slot_read (codes "subject") slots.subject (read slots k) (values_are (codes "subject") slots k true false false false refl refl refl refl ∙ append-nil (place_values slots.subject)) kept.subject)
-    (slot_read (codes "predicate") slots.predicate (read slots k) (values_are (codes "predicate") slots k false true false false refl refl refl refl ∙ append-nil (place_values slots.predicate)) kept.predicate)
-    (slot_read (codes "object") slots.object (read slots k) (values_are (codes "object") slots k false false true false refl refl refl refl ∙ append-nil (place_values slots.object)) kept.object)
-    (ap (λ (values : List (List ℕ)). one_value values >>= page_number) (values_are (codes "page") slots k false false false true refl refl refl refl) ∙ one_page k all some is low)
+each_row : (rows : List Slots) → AllByRecursion AreKept rows → rows_of (map row_text rows) ≡ Some rows
+each_row [] kept = refl
+each_row (row ∷ rows) kept = rw (rows-read row kept.0, each_row rows kept.1) refl
+
+rows_asked : (reads_rows : Bool) (s : Selection) (pairs : List (List ℕ × List ℕ)) → IsKeptSelection s → values_under (codes "row") pairs ≡ map row_text s.rows → rows_under reads_rows pairs ≡ Some ((read_as reads_rows s).rows)
+rows_asked false s pairs kept is = refl
+rows_asked true s pairs kept is = ap few_rows_of is ∙ ap (λ (passes : Bool). when passes (map row_text s.rows) >>= rows_of) (few s.rows kept.few) ∙ each_row s.rows kept.rows
+
+abbrev question_with : Slot → Slot → Slot → List Slots → ℕ → Question
+question_with subject predicate object rows page = record { selection = record { slots = record { subject = subject; predicate = predicate; object = object }; rows = rows }; page = page }
+
+asked : (reads_rows : Bool) (pairs : List (List ℕ × List ℕ)) (slots : Slots) (rows : List Slots) (k : ℕ) → slot_under (codes "subject") pairs ≡ Some slots.subject → slot_under (codes "predicate") pairs ≡ Some slots.predicate → slot_under (codes "object") pairs ≡ Some slots.object
+    → rows_under reads_rows pairs ≡ Some rows → (one_value (values_under (codes "page") pairs) >>= page_number) ≡ Some k → asked_by reads_rows pairs ≡ Some (record { selection = record { slots = slots; rows = rows }; page = k })
+asked reads_rows pairs slots rows k s p o r g =
+    parts (slot_under (codes "subject") pairs) (slot_under (codes "predicate") pairs) (slot_under (codes "object") pairs) (rows_under reads_rows pairs) (one_value (values_under (codes "page") pairs) >>= page_number) s p o r g
+  where
+    parts : (a b c : Option Slot) (l : Option (List Slots)) (d : Option ℕ) → a ≡ Some slots.subject → b ≡ Some slots.predicate → c ≡ Some slots.object → l ≡ Some rows → d ≡ Some k
+        → (a >>= (λ subject. b >>= (λ predicate. c >>= (λ object. l >>= (λ rows. d >>= (λ page. Some (question_with subject predicate object rows page))))))) ≡ Some (record { selection = record { slots = slots; rows = rows }; page = k })
+    parts a b c l d is_a is_b is_c is_l is_d = rw (is_a, is_b, is_c, is_l, is_d) refl
+
+read_parts : (reads_rows : Bool) (s : Selection) → record { slots = s.slots; rows = (read_as reads_rows s).rows } ≡ read_as reads_rows s
+read_parts true s = refl
+read_parts false s = refl
+
+read_asks : (reads_rows : Bool) (s : Selection) (k : ℕ) → IsKeptSelection s → list_all is_ascii_digit (decimal_text k) ≡ true → 0 < length (decimal_text k) → digits_value 10 (decimal_text k) ≡ k → 1 ≤ k → asked_by reads_rows (read s k) ≡ Some (record { selection = read_as reads_rows s; page = k })
+read_asks reads_rows s k kept all some is low =
+    let later = rows_read s.rows ++ page_written k in
+    let slots = s.slots in
+    let none : (name : List ℕ) → bytes_eq (codes "row") name ≡ false → bytes_eq (codes "page") name ≡ false → values_under name later ≡ [] = λ name row page. values_later name s.rows k false false row page in
+    let subject = values_places (codes "subject") slots later true false false refl refl refl ∙ ap (λ (values : List (List ℕ)). place_values slots.subject ++ values) (none (codes "subject") refl refl) ∙ append-nil (place_values slots.subject) in
+    let predicate = values_places (codes "predicate") slots later false true false refl refl refl ∙ ap (λ (values : List (List ℕ)). place_values slots.predicate ++ values) (none (codes "predicate") refl refl) ∙ append-nil (place_values slots.predicate) in
+    let object = values_places (codes "object") slots later false false true refl refl refl ∙ ap (λ (values : List (List ℕ)). place_values slots.object ++ values) (none (codes "object") refl refl) ∙ append-nil (place_values slots.object) in
+    let rows = values_places (codes "row") slots later false false false refl refl refl ∙ values_later (codes "row") s.rows k true false refl refl ∙ append-nil (map row_text s.rows) in
+    let page = values_places (codes "page") slots later false false false refl refl refl ∙ values_later (codes "page") s.rows k false true refl refl in
+    asked reads_rows (read s k) slots ((read_as reads_rows s).rows) k
+    (slot_read (codes "subject") slots.subject (read s k) subject kept.slots.subject)
+    (slot_read (codes "predicate") slots.predicate (read s k) predicate kept.slots.predicate)
+    (slot_read (codes "object") slots.object (read s k) object kept.slots.object)
+    (rows_asked reads_rows s (read s k) kept rows)
+    (ap (λ (values : List (List ℕ)). one_value values >>= page_number) page ∙ one_page k all some is low)
+    ∙ ap (λ (selection : Selection). Some (record { selection = selection; page = k })) (read_parts reads_rows s)
 
 -- ---- the base
 
-port_range : (typed : List ℕ) (port : ℕ) → IsPortTyped typed port → (0 < port) × (port < 65536)
-port_range typed port (inl is) = (omega (arith, is.1), omega (arith, is.1))
-port_range typed port (inr is) = (grind (arith, nat_tests), grind (arith, nat_tests))
-
 -- an address without a query
-record IsBase (base : Address) : Type 0 where
-  text : List ℕ
-  address : IsAddress text base
-  no_query : base.query ≡ None
+pub record IsBase (base : Address) : Type 0 where
+  pub text : List ℕ
+  pub address : IsAddress text base
+  pub no_query : base.query ≡ None
 
--- a path of an address, which is not empty
-record IsPath (path : List ℕ) : Type 0 where
-  after_slash : List ℕ
-  slash : path ≡ 47 ∷ after_slash
-  bytes : list_all is_path_byte after_slash ≡ true
-
-path_kept : (typed : List ℕ) → is_path typed ≡ true → IsPath (if length typed == 0 then codes "/" else typed)
-path_kept [] is = record { after_slash = []; slash = refl; bytes = refl }
-path_kept (b ∷ rest) is =
-    let same : b ≡ 47 = first b (and_left (b == 47) (list_all is_path_byte rest) is) in
-    rw (not_empty b rest) (record { after_slash = rest; slash = ap (λ (x : ℕ). x ∷ rest) same; bytes = and_right (b == 47) (list_all is_path_byte rest) is })
-  where
-    first : (b : ℕ) → (b == 47) ≡ true → b ≡ 47
-    first b is = grind (arith, nat_tests)
-
-base_path : (base : Address) → IsBase base → IsPath base.path
-base_path base is = subst IsPath (sym is.address.path_kept) (path_kept is.address.typed_path is.address.path)
+pub base_path : (base : Address) → IsBase base → IsRootedPath base.path
+base_path base is = kept_path is.text base is.address
 
 address_bytes : (path : List ℕ) → list_all is_path_byte path ≡ true → list_all is_address_byte path ≡ true
 address_bytes path all = list_all-wider is_path_byte is_address_byte (λ b own. and_left (is_address_byte b) (not (b == 63)) own) path all
 
-path_bytes : (path : List ℕ) → IsPath path → list_all is_path_byte path ≡ true
+pub path_bytes : (path : List ℕ) → IsRootedPath path → list_all is_path_byte path ≡ true
 path_bytes path is = rw is.slash is.bytes
 
-longer_normal : (base : Address) (more : List ℕ) → IsBase base → list_all is_address_byte more ≡ true → IsNormal base.host base.port (base.path ++ more)
+pub longer_normal : (base : Address) (more : List ℕ) → IsBase base → list_all is_address_byte more ≡ true → IsNormal base.host base.port (base.path ++ more)
 longer_normal base more is all =
     let path = base_path base is in
     let range = port_range is.address.typed_port base.port is.address.port in
@@ -304,20 +404,20 @@ longer_normal base more is all =
       bytes = rw (list_all-append is_address_byte path.after_slash more, address_bytes path.after_slash path.bytes) all;
     }
 
-base_text : (base : Address) (more : List ℕ) → base.query ≡ None → address_text base ++ more ≡ codes "http://" ++ (authority_text base.host base.port ++ (base.path ++ more))
+pub base_text : (base : Address) (more : List ℕ) → base.query ≡ None → address_text base ++ more ≡ codes "http://" ++ (authority_text base.host base.port ++ (base.path ++ more))
 base_text base more none =
     ap (λ (query : Option (List ℕ)). (codes "http://" ++ (authority_text base.host base.port ++ (base.path ++ query_text query))) ++ more) none
     ∙ ap (λ (path : List ℕ). (codes "http://" ++ (authority_text base.host base.port ++ path)) ++ more) (append-nil base.path)
     ∙ ap (λ (rest : List ℕ). codes "http://" ++ rest) (append_assoc (authority_text base.host base.port) base.path more)
 
-page_target : (base : Address) (slots : Slots) (k : ℕ) (address : Address) → IsBase base → list_all is_ascii_digit (decimal_text k) ≡ true → IsAddress (page_address base slots k) address
-    → target_of address ≡ base.path ++ (places_text slots ++ page_pair (page_mark (places_text slots)) k)
+page_target : (base : Address) (s : Selection) (k : ℕ) (address : Address) → IsBase base → list_all is_ascii_digit (decimal_text k) ≡ true → IsAddress (page_address base s k) address
+    → target_of address ≡ base.path ++ (selection_text s ++ page_pair (page_mark (selection_text s)) k)
 unfolding page_address
-page_target base slots k address is digits given =
-    let more : List ℕ = places_text slots ++ page_pair (page_mark (places_text slots)) k in
-    let own = normal_is_address base.host (base.path ++ more) base.port (longer_normal base more is (more-address slots k digits)) in
-    let same : IsAddress (page_address base slots k) (with_target base.host base.port (base.path ++ more)) = subst (λ (text : List ℕ). IsAddress text (with_target base.host base.port (base.path ++ more))) (sym (base_text base more is.no_query)) own in
-    ap target_of (one_address (page_address base slots k) address (with_target base.host base.port (base.path ++ more)) given same) ∙ target-parts (base.path ++ more)
+page_target base s k address is digits given =
+    let more : List ℕ = selection_text s ++ page_pair (page_mark (selection_text s)) k in
+    let own = normal_is_address base.host (base.path ++ more) base.port (longer_normal base more is (more-address s k digits)) in
+    let same : IsAddress (page_address base s k) (with_target base.host base.port (base.path ++ more)) = subst (λ (text : List ℕ). IsAddress text (with_target base.host base.port (base.path ++ more))) (sym (base_text base more is.no_query)) own in
+    ap target_of (one_address (page_address base s k) address (with_target base.host base.port (base.path ++ more)) given same) ∙ target-parts (base.path ++ more)
 
 -- ---- the law
 
@@ -325,27 +425,28 @@ marked_query : (pairs : List (List ℕ × List ℕ)) → marked 63 pairs ≡ que
 marked_query [] = refl
 marked_query (pair ∷ pairs) = refl
 
-target_asks : (base : Address) (slots : Slots) (k : ℕ) → IsBase base → AreKept slots → list_all is_ascii_digit (decimal_text k) ≡ true → 0 < length (decimal_text k) → digits_value 10 (decimal_text k) ≡ k → 1 ≤ k
-    → AsksFor base slots k (base.path ++ query_text (behind_mark (written slots k)))
+target_asks : (config : Config) (s : Selection) (k : ℕ) → IsBase config.base → IsKeptSelection s → list_all is_ascii_digit (decimal_text k) ≡ true → 0 < length (decimal_text k) → digits_value 10 (decimal_text k) ≡ k → 1 ≤ k
+    → AsksFor config (read_as config.rows s) k (config.base.path ++ query_text (behind_mark (written s k)))
 unfolding question_of parameters
-target_asks base slots k is kept digits some number low =
-    let parts = parts-target base.path (behind_mark (written slots k)) (path_bytes base.path (base_path base is)) in
+target_asks config s k is kept digits some number low =
+    let base = config.base in
+    let parts = parts-target base.path (behind_mark (written s k)) (path_bytes base.path (base_path base is)) in
     record {
       path = parts.0;
       question =
-          ap (λ (query : Option (List ℕ)). asked_by (map pair_read (raw_pairs (unwrap_or query [])))) parts.1
-          ∙ ap (λ (pairs : List (List ℕ × List ℕ)). asked_by (map pair_read pairs)) (query_pairs (written slots k) (written_whole slots k kept digits))
-          ∙ ap asked_by (written_decoded slots k kept digits)
-          ∙ read_asks slots k kept digits some number low;
+          ap (λ (query : Option (List ℕ)). asked_by config.rows (map pair_read (raw_pairs (unwrap_or query [])))) parts.1
+          ∙ ap (λ (pairs : List (List ℕ × List ℕ)). asked_by config.rows (map pair_read pairs)) (query_pairs (written s k) (written_whole s k kept digits))
+          ∙ ap (asked_by config.rows) (written_decoded s k kept digits)
+          ∙ read_asks config.rows s k kept digits some number low;
     }
 
 is_base : (config : Config) → IsConfig config → IsBase config.base
 is_base config is = record { text = address_text config.base; address = is.base; no_query = is.no_query }
 
 pub reads_address_back : ReadsAddress
-reads_address_back config slots k address valid kept low given =
+reads_address_back config s k address valid kept low given =
     let base = config.base in
     let is = is_base config valid in
     let digits = decimal_text-digits k in
-    let target = page_target base slots k address is digits given ∙ ap (λ (more : List ℕ). base.path ++ more) (more_marked slots k ∙ marked_query (written slots k)) in
-    subst (AsksFor base slots k) (sym target) (target_asks base slots k is kept digits (decimal_text-some k) (decimal_text-value k) low)
+    let target = page_target base s k address is digits given ∙ ap (λ (more : List ℕ). base.path ++ more) (more_marked s k ∙ marked_query (written s k)) in
+    subst (AsksFor config (read_as config.rows s) k) (sym target) (target_asks config s k is kept digits (decimal_text-some k) (decimal_text-value k) low)

@@ -6,6 +6,7 @@ use Rattle.std.specs.Str.{is_utf8, chars}
 use Rattle.std.specs.Str.Lossy.{utf8_valid_len, utf8_lossy}
 use lib.Utf8.{encode}
 use Rattle.rdf_terms.specs.Fragments.{fragment}
+use Rattle.rdf_terms.specs.Selections.{all_of}
 use Rattle.rdf_terms.specs.Datatype.{xsd_string}
 use Rattle.rdf_terms.specs.declared.term.Term.TheVariants.{Literal}
 use Rattle.rdf_terms.specs.declared.term.Kind.TheVariants.{Plain}
@@ -14,7 +15,7 @@ use Rattle.rdf_terms.specs.declared.slots.Slots.{Slots}
 use Rattle.tpf_base.specs.HttpHeads.{Accepted, Rejected}
 use Rattle.template_fill.specs.Explicit.{read_literal}
 use Rattle.template_fill.specs.Metadata.{Config, foaf, void, hydra, rdf, integer, owl, topic_quads, form_quads, mapping_quads, count_quads, link_quads, version_quads, metadata_at, page_addresses, page_metadata}
-use Rattle.template_fill.specs.Pages.{page_address, places_text}
+use Rattle.template_fill.specs.Pages.{page_address, places_text, selection_text}
 use Rattle.template_fill.specs.Bodies.{page_body}
 use Rattle.tpf_base.specs.Decimals.{digits_up_to, decimal_text}
 use Rattle.template_fill.specs.HttpAnswer.{PlainText, phrase, refusal, answer_fields, head_text, answer_text}
@@ -34,7 +35,7 @@ answers = tt
 
 -- what the body of a page unfolds
 unfoldable pub bodies : ⊤
-unfolding page_body fragment page_metadata page_addresses metadata_at topic_quads form_quads mapping_quads count_quads link_quads version_quads foaf void hydra rdf owl integer page_address places_text xsd_string decimal_text digits_up_to
+unfolding page_body fragment page_metadata page_addresses metadata_at topic_quads form_quads mapping_quads count_quads link_quads version_quads foaf void hydra rdf owl integer page_address selection_text places_text xsd_string decimal_text digits_up_to
 bodies = tt
 
 -- ---- what targets ask for
@@ -46,43 +47,43 @@ unescaped : parameters (codes "/data?subject=%zz") ≡ (codes "subject", codes "
 unfolding targets
 unescaped = refl
 
-no_term : question_of (codes "/data?subject=%zz") ≡ None
+no_term : question_of false (codes "/data?subject=%zz") ≡ None
 unfolding targets
 no_term = refl
 
-leading_zeros : question_of (codes "/data?page=0002") ≡ Some (record { slots = anything; page = 2 })
+leading_zeros : question_of false (codes "/data?page=0002") ≡ Some (record { selection = all_of anything; page = 2 })
 unfolding anything targets
 leading_zeros = refl
 
-other_name : question_of (codes "/data?colour=red") ≡ Some (record { slots = anything; page = 1 })
+other_name : question_of false (codes "/data?colour=red") ≡ Some (record { selection = all_of anything; page = 1 })
 unfolding anything targets
 other_name = refl
 
-no_query : question_of (codes "/data") ≡ Some (record { slots = anything; page = 1 })
+no_query : question_of false (codes "/data") ≡ Some (record { selection = all_of anything; page = 1 })
 unfolding anything targets
 no_query = refl
 
-empty_page : question_of (codes "/data?page=") ≡ Some (record { slots = anything; page = 1 })
+empty_page : question_of false (codes "/data?page=") ≡ Some (record { selection = all_of anything; page = 1 })
 unfolding anything targets
 empty_page = refl
 
-page_twice : question_of (codes "/data?page=1&page=1") ≡ None
+page_twice : question_of false (codes "/data?page=1&page=1") ≡ None
 unfolding targets
 page_twice = refl
 
-page_0 : question_of (codes "/data?page=0") ≡ None
+page_0 : question_of false (codes "/data?page=0") ≡ None
 unfolding targets
 page_0 = refl
 
-long_page : question_of (codes "/data?page=99999999999999999999") ≡ Some (record { slots = anything; page = 99999999999999999999 })
+long_page : question_of false (codes "/data?page=99999999999999999999") ≡ Some (record { selection = all_of anything; page = 99999999999999999999 })
 unfolding anything targets
 long_page = refl
 
-open_quote : question_of (codes "/data?object=%22x") ≡ None
+open_quote : question_of false (codes "/data?object=%22x") ≡ None
 unfolding targets
 open_quote = refl
 
-literal_subject : question_of (codes "/data?subject=%22x%22") ≡ Some (record { slots = record { subject = Fixed (Literal (codes "x") Plain); predicate = Any; object = Any }; page = 1 })
+literal_subject : question_of false (codes "/data?subject=%22x%22") ≡ Some (record { selection = all_of (record { subject = Fixed (Literal (codes "x") Plain); predicate = Any; object = Any }); page = 1 })
 unfolding targets
 literal_subject = refl
 
@@ -99,9 +100,9 @@ refusal_lengths = (refl, refl, refl, refl, refl, refl)
 -- ---- the server of no triples at http://localhost/data
 
 unfoldable pub config : Config
-config = record { base = record { host = codes "localhost"; port = 80; path = codes "/data"; query = None }; page_size = 100; reload = Some (codes "/reload") }
+config = record { base = record { host = codes "localhost"; port = 80; path = codes "/data"; query = None }; page_size = 100; reload = Some (codes "/reload"); rows = false }
 
-empty_body : length (page_body ([] ∷ []) 1 config anything 1) ≡ 2258
+empty_body : length (page_body ([] ∷ []) 1 config (all_of anything) 1) ≡ 2258
 unfolding anything config bodies
 empty_body = refl
 

@@ -3,6 +3,7 @@ use Rattle.std.proofs.Common.{◌≡◌, ℕ, ◌≤◌, List, [], ◌∷◌, �
 use Rattle.std.specs.Prelude.{codes}
 use Rattle.rdf_terms.specs.declared.term.Term.TheVariants.{Iri}
 use Rattle.rdf_terms.specs.declared.term.Triple.{Triple}
+use Rattle.rdf_terms.specs.Selections.{all_of}
 use Rattle.tpf_base.specs.HttpHeads.{Verdict, Accepted}
 use Rattle.tpf_base.specs.HttpConnection.{heads_up_to}
 use Rattle.template_fill.specs.HttpAnswer.{NQuads, text_answer, answer_text}
@@ -35,7 +36,7 @@ post = Accepted (record { method = codes "POST"; target = codes "/reload"; close
 
 first_page : List ℕ
 unfolding history config anything
-first_page = page_body history 1 config anything 1
+first_page = page_body history 1 config (all_of anything) 1
 
 version_line : drop 2143 first_page ≡ codes "<http://localhost/data#dataset> <http://www.w3.org/2002/07/owl#versionInfo> \"1\" <http://localhost/data#metadata> ." ++ 10 ∷ []
 unfolding first_page worked.bodies history config anything
@@ -74,7 +75,7 @@ other_post = refl
 
 page_text : ℕ → List ℕ
 unfolding history config anything
-page_text version = answer_text (record { status = 200; media_type = NQuads; body = page_body history version config anything 1 }) false false
+page_text version = answer_text (record { status = 200; media_type = NQuads; body = page_body history version config (all_of anything) 1 }) false false
 
 between : answers server (get ∷ post ∷ get ∷ []) (Served 1 ∷ Served 2 ∷ Served 2 ∷ [])
     ≡ page_text 1 ++ (answer_text (text_answer 200 (codes "version 2" ++ 10 ∷ [])) false false ++ page_text 2)
@@ -82,7 +83,7 @@ unfolding server get post page_text history config anything worked.answers worke
 between = refl
 
 -- the page of the second data set begins with its triple
-second_page : page_body history 2 config anything 1 ≡ codes "<http://e/s> <http://e/p> <http://e/o> ." ++ 10 ∷ drop 41 (page_body history 2 config anything 1)
+second_page : page_body history 2 config (all_of anything) 1 ≡ codes "<http://e/s> <http://e/p> <http://e/o> ." ++ 10 ∷ drop 41 (page_body history 2 config (all_of anything) 1)
 unfolding history triple config anything worked.bodies
 second_page = refl
 

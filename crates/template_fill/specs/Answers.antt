@@ -1,5 +1,5 @@
 -- The answer to a request head (Triple Pattern Fragments, "Controls" and "Paging"; RFC 9110, 9.3, 15.3, 15.5 and 15.6).
-use Rattle.std.specs.Prelude.{ℕ, ◌≡◌, ◌≤◌, Bool, true, false, ◌&&◌, not, nat_le, List, [], ◌∷◌, ◌++◌, map, filter, codes, bytes_eq, Option, Some, None, unwrap_or, Result, Ok, Err, if◌then◌else◌}
+use Rattle.std.specs.Prelude.{ℕ, ◌≡◌, ◌≤◌, Bool, true, false, ◌&&◌, not, nat_le, List, [], ◌∷◌, ◌++◌, map, filter, codes, bytes_eq, Option, Some, None, unwrap_or, if◌then◌else◌}
 use Rattle.std.specs.List.{list_all}
 use Rattle.std.specs.Char.{is_ascii_digit}
 use Rattle.std.specs.Str.Parse.{digits_value}
@@ -12,22 +12,21 @@ use Rattle.tpf_base.specs.Marks.{Mark, Served, Failed, Starved, version_at}
 use Rattle.rdf_terms.specs.declared.term.Triple.{Triple}
 use Rattle.rdf_terms.specs.declared.slots.Slot.{Slot}
 use Rattle.rdf_terms.specs.declared.slots.Slots.{Slots}
-use Rattle.rdf_terms.specs.Fragments.{last_page}
-use Rattle.rdf_terms.specs.Kept.{AreKept}
+use Rattle.rdf_terms.specs.Selections.{Selection, IsKeptSelection, selected_last}
 use Rattle.template_fill.specs.HttpAnswer.{Answer, NQuads, refusal, text_answer}
 use Rattle.template_fill.specs.ReadAddress.{path_of, query_of, when, ◌>>=◌}
 use Rattle.template_fill.specs.Explicit.{slot_of}
+use Rattle.template_fill.specs.Rows.{accepted, few_rows_of}
 use Rattle.template_fill.specs.Metadata.{Config}
 use Rattle.template_fill.specs.Configurations.{IsConfig}
 use Rattle.template_fill.specs.Pages.{page_address}
 use Rattle.template_fill.specs.Bodies.{version_of, page_body}
-use Rattle.template_fill.specs.declared.fault.ValueFault.{ValueFault}
 
 -- ---- what is asked for
 
--- the fragment of these slots, and a page of it
+-- a selection, and a page of it
 pub record Question : Type 0 where
-  pub slots : Slots
+  pub selection : Selection
   pub page : ℕ
 
 -- a name or a value as it is read: `+` is a space, a bad escape stays, what is not UTF-8 becomes U+FFFD
@@ -48,10 +47,6 @@ one_value [] = Some []
 one_value (value ∷ []) = Some value
 one_value (value ∷ other ∷ more) = None
 
-abbrev pub accepted : Result Slot ValueFault → Option Slot
-accepted (Ok slot) = Some slot
-accepted (Err fault) = None
-
 -- the slot of the one value under a name
 abbrev pub slot_under : List ℕ → List (List ℕ × List ℕ) → Option Slot
 slot_under name pairs = one_value (values_under name pairs) >>= (λ value. accepted (slot_of value))
@@ -62,26 +57,32 @@ page_number [] = Some 1
 page_number (b ∷ digits) =
     when (list_all is_ascii_digit (b ∷ digits) && nat_le 1 (digits_value 10 (b ∷ digits))) (digits_value 10 (b ∷ digits))
 
--- what parameters ask for; None where they give a name twice, a value that is no slot, or no number of a page
-abbrev pub asked_by : List (List ℕ × List ℕ) → Option Question
-asked_by pairs = do
+-- the rows that are given, in their order, where rows are read: None for too many, or where a value is no row; elsewhere they are passed over
+abbrev pub rows_under : Bool → List (List ℕ × List ℕ) → Option (List Slots)
+rows_under false pairs = Some []
+rows_under true pairs = few_rows_of (values_under (codes "row") pairs)
+
+-- what parameters ask for; None where they give a place or the page twice, a value that is no slot, too many rows, a value that is no row, or no number of a page
+abbrev pub asked_by : Bool → List (List ℕ × List ℕ) → Option Question
+asked_by reads_rows pairs = do
   subject ← slot_under (codes "subject") pairs
   predicate ← slot_under (codes "predicate") pairs
   object ← slot_under (codes "object") pairs
+  rows ← rows_under reads_rows pairs
   page ← one_value (values_under (codes "page") pairs) >>= page_number
-  Some (record { slots = record { subject = subject; predicate = predicate; object = object }; page = page })
+  Some (record { selection = record { slots = record { subject = subject; predicate = predicate; object = object }; rows = rows }; page = page })
 
--- what a target asks for
-unfoldable pub question_of : List ℕ → Option Question
-question_of target = asked_by (parameters target)
+-- what a target asks for, where rows are read or passed over
+unfoldable pub question_of : Bool → List ℕ → Option Question
+question_of reads_rows target = asked_by reads_rows (parameters target)
 
 -- ---- answers over a version
 
 -- the page that is asked for, or that it is past the last
 abbrev pub page_answer : List (List Triple) → ℕ → Config → Question → Answer
 page_answer history version config question =
-    if nat_le question.page (last_page (version_of history version) question.slots config.page_size)
-    then record { status = 200; media_type = NQuads; body = page_body history version config question.slots question.page }
+    if nat_le question.page (selected_last (version_of history version) question.selection config.page_size)
+    then record { status = 200; media_type = NQuads; body = page_body history version config question.selection question.page }
     else refusal 404
 
 abbrev pub answer_if : List (List Triple) → ℕ → Config → Option Question → Answer
@@ -97,7 +98,7 @@ unfoldable pub version_answer : List (List Triple) → ℕ → Config → Reques
 version_answer history version config request =
     if not (is_read request.method) then refusal 405
     else (if not (bytes_eq (path_of request.target) config.base.path) then refusal 404
-    else answer_if history version config (question_of request.target))
+    else answer_if history version config (question_of config.rows request.target))
 
 -- ---- reloads
 
@@ -122,13 +123,18 @@ answer_to history mark config request =
 
 -- ---- the law
 
--- the target asks for this page of the fragment of these slots, on the path of the base
-pub record AsksFor (base : Address) (slots : Slots) (k : ℕ) (target : List ℕ) : Type 0 where
-  pub path : path_of target ≡ base.path
-  pub question : question_of target ≡ Some (record { slots = slots; page = k })
+-- what is read of a selection, where rows are read or passed over
+abbrev pub read_as : Bool → Selection → Selection
+read_as true s = s
+read_as false s = record s { rows = [] }
 
--- the address of a page asks for that page
+-- the target asks for this page of a selection, on the path of the base
+pub record AsksFor (config : Config) (s : Selection) (k : ℕ) (target : List ℕ) : Type 0 where
+  pub path : path_of target ≡ config.base.path
+  pub question : question_of config.rows target ≡ Some (record { selection = s; page = k })
+
+-- the address of a page asks for that page, as far as rows are read
 abbrev pub ReadsAddress : Type 0
 ReadsAddress =
-    (config : Config) (slots : Slots) (k : ℕ) (address : Address) → IsConfig config → AreKept slots → 1 ≤ k
-    → IsAddress (page_address config.base slots k) address → AsksFor config.base slots k (target_of address)
+    (config : Config) (s : Selection) (k : ℕ) (address : Address) → IsConfig config → IsKeptSelection s → 1 ≤ k
+    → IsAddress (page_address config.base s k) address → AsksFor config (read_as config.rows s) k (target_of address)

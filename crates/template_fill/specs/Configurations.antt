@@ -34,6 +34,10 @@ pub record IsConfig (config : Config) : Type 0 where
 abbrev pub with_reload : Config → List ℕ → Config
 with_reload config path = record config { reload = Some path }
 
+-- with fragments that are restricted by rows
+abbrev pub reading_rows : Config → Config
+reading_rows config = record config { rows = true }
+
 -- a data set, each of whose terms keeps its rules
 pub record IsValidDataSet (triples : List Triple) : Type 0 where
   pub data_set : IsDataSet triples

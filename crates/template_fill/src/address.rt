@@ -1,10 +1,11 @@
 // Addresses of the Web.
-ghost use Rattle.std.specs.Prelude.{ℕ, ◌≡◌, ◌+◌, ◌≤◌, ◌↔◌, List, ◌++◌, true, map, take, drop, length, is_some, IsTrue, IfOk, OnOk, IsErrOf};
+ghost use Rattle.std.specs.Prelude.{ℕ, ◌≡◌, ◌==◌, ◌+◌, ◌<◌, ◌≤◌, ◌↔◌, List, ◌++◌, true, map, take, drop, length, is_some, IsTrue, IfOk, OnOk, IsErrOf};
 ghost use Rattle.std.specs.String.{string_bytes};
-ghost use Rattle.std.specs.List.{list_all};
+ghost use Rattle.std.specs.List.{list_all, list_any};
 ghost use Rattle.std.specs.Char.{to_ascii_lowercase, is_ascii};
 ghost use Rattle.rdf_terms.specs.Iri.{is_iri};
 ghost use Rattle.tpf_base.specs.Addresses.{Address, IsAddress, is_host_byte, authority_text, authority_of, target_of, address_text};
+ghost use Rattle.template_fill.specs.Forms.{mark_behind};
 ghost use Rattle.template_fill.specs.ReadAddress.{IsSpelled, is_rest, rooted, normal};
 ghost use Rattle.template_fill.specs.Spelled.{spelled_of};
 ghost use Rattle.template_fill.specs.WebAddress.{Extends, OneAddress, port_text, IsNoAddress};
@@ -139,6 +140,7 @@ impl WebAddress {
     pub(crate) fn extended(&self, text: String) -> WebAddress
         requires { Extends self.now (string_bytes text) }
         ensures address { IsAddress (string_bytes text) result }
+        ensures text { address_text result ≡ string_bytes text }
         ensures authority { ShareAuthority self.now result }
     {
         WebAddress {
@@ -197,12 +199,21 @@ impl WebAddress {
 
     /// Whether the address has a `?`.
     pub fn has_query(&self) -> bool
-        ensures { result ≡ is_some self.now.query }
+        ensures query { result ≡ is_some self.now.query }
+        ensures text { result ≡ list_any (λ b. b == 63) (address_text self.now) }
     {
         let text = self.text.as_str();
         let from = 7 + self.authority_len;
         let target = ascii_part(text, from, text.len() - from);
         target.as_bytes().contains(&b'?')
+    }
+
+    /// The mark before a further pair of the query: `&` where the address has a `?`, and `?` else.
+    pub(crate) fn further_mark(&self) -> char
+        ensures mark { result ≡ mark_behind (address_text self.now) }
+        ensures ascii { result < 128 }
+    {
+        if self.has_query() { '&' } else { '?' }
     }
 
     /// Whether the authorities are the same text.

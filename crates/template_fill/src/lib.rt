@@ -11,7 +11,7 @@
 //!     object: Slot::Any,
 //! };
 //! let wanted = "http://localhost/data?predicate=http%3A%2F%2Fe%2Fk&page=3";
-//! assert_eq!(rt; page_address(alloc, &base, &slots, 3)?.text(), wanted);
+//! assert_eq!(rt; page_address(alloc, &base, &slots, &[], 3)?.text(), wanted);
 //! ```
 #![tactic(auto)]
 
@@ -22,6 +22,7 @@ mod form;
 mod history;
 mod page;
 mod part;
+mod rows;
 mod spelled;
 mod template;
 mod value;
@@ -38,6 +39,7 @@ pub use fault::{AddressFault, TemplateFault, ValueFault};
 pub use form::Form;
 pub use history::{versions_are_numbered, versions_are_valid};
 pub use page::{address_reads_back, first_page_is_expansion, page_address, pages_are_answered};
+pub use rows::{read_row, row_length, rows_read_back};
 pub use spelled::is_written_path;
 pub use template::Template;
 pub use value::Value;

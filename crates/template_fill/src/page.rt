@@ -7,10 +7,12 @@ ghost use Rattle.template_fill.specs.Templates.{next_mark, pair_text};
 ghost use Rattle.template_fill.specs.Answers.{ReadsAddress};
 ghost use Rattle.template_fill.specs.Answered.{PagesAreGiven, AnsweredGivePages, OnePageIsAsked};
 ghost use Rattle.template_fill.specs.Authorities.{ShareAuthority};
-ghost use Rattle.template_fill.specs.Pages.{FirstPageIsExpansion, page_address, page_mark, page_pair, places_text, slot_text};
+ghost use Rattle.template_fill.specs.Pages.{FirstPageIsExpansion, FirstPageHasRows, page_address, page_mark, page_pair, places_text, selection_text, slot_text};
+ghost use Rattle.std.specs.List.{AllByRecursion};
 
 use crate::WebAddress;
 use crate::explicit_form::explicit;
+use crate::rows::push_rows;
 use crate::value::push_value;
 use rdf_terms::{Slot, Slots};
 use std::alloc::Global;
@@ -52,6 +54,28 @@ fn push_places(alloc: Global, out: &mut String, slots: &Slots) -> Result<char, O
     Ok(mark)
 }
 
+/// Appends the fixed places and then the rows, and tells the mark that comes before a further pair.
+fn push_selection(
+    alloc: Global,
+    out: &mut String,
+    slots: &Slots,
+    rows: &[Slots],
+) -> Result<char, OutOfMemory>
+    requires slots { HasNoBlank slots.now }
+    requires rows { AllByRecursion HasNoBlank rows.now }
+    ensures next { IfOk result (λ next.
+        next ≡ page_mark (selection_text (record { slots = slots.now; rows = rows.now }))) }
+    ensures text { OnOk result
+        (string_bytes out.new ≡ string_bytes out.old ++ selection_text (record { slots = slots.now; rows = rows.now })) }
+{
+    let mark = push_places(alloc, out, slots)?;
+    if rows.is_empty() {
+        return Ok(mark);
+    }
+    push_rows(alloc, out, mark, rows)?;
+    Ok('&')
+}
+
 /// Appends the number of a page other than 1 after a mark.
 fn push_page(alloc: Global, out: &mut String, mark: char, page: u64) -> Result<(), OutOfMemory>
     requires { mark < 128 }
@@ -66,29 +90,35 @@ fn push_page(alloc: Global, out: &mut String, mark: char, page: u64) -> Result<(
     Ok(())
 }
 
-/// The address of a page of the fragment with these slots (Triple Pattern Fragments, paging): the
-/// expansion of the template `{?subject,predicate,object}` after the base with the explicit forms of
-/// the fixed places, and for every page but 1 `page=` with the number. The authority is that of the
-/// base. Pages count from 1. Condition: no fixed place is a blank node. It fails only when memory ran out.
+/// The address of a page of the fragment with these slots (Triple Pattern Fragments, paging), or of
+/// what these rows leave of it: the expansion of the template `{?subject,predicate,object}` after the
+/// base with the explicit forms of the fixed places, each row as `row=` and its value, and for every
+/// page but 1 `page=` with the number. The authority is that of the base. Pages count from 1.
+/// Condition: no fixed place is a blank node. It fails only when memory ran out.
 pub fn page_address(
     alloc: Global,
     base: &WebAddress,
     slots: &Slots,
+    rows: &[Slots],
     page: u64,
 ) -> Result<WebAddress, OutOfMemory>
-    requires { HasNoBlank slots.now }
-    ensures address { IfOk result (λ address. IsAddress (page_address base.now slots.now page) address) }
+    requires slots { HasNoBlank slots.now }
+    requires rows { AllByRecursion HasNoBlank rows.now }
+    ensures address { IfOk result (λ address.
+        IsAddress (page_address base.now (record { slots = slots.now; rows = rows.now }) page) address) }
     ensures authority { IfOk result (λ address. ShareAuthority base.now address) }
 {
     let mut text = String::from_str(alloc, base.text())?;
-    let mark = push_places(alloc, &mut text, slots)?;
+    let mark = push_selection(alloc, &mut text, slots, rows)?;
     push_page(alloc, &mut text, mark, page)?;
     Ok(base.extended(text))
 }
 
-/// Page 1 has the address that the server's template expands to.
+/// Page 1 of a fragment has the address that the server's template expands to; and page 1 of what rows leave of
+/// it has that address with the rows behind it, where the base has no query.
 pub fn first_page_is_expansion()
-    ensures { FirstPageIsExpansion }
+    ensures alone { FirstPageIsExpansion }
+    ensures rows { FirstPageHasRows }
 {}
 
 /// The target of the address of a page is on the path of the base and asks for the slots and the

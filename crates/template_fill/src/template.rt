@@ -2,7 +2,7 @@
 ghost use Rattle.std.specs.Prelude.{◌≡◌, true, Some, None, IfOk, IsErrOf, MatchOption, IfSome};
 ghost use Rattle.std.specs.List.{list_any};
 ghost use Rattle.std.specs.Option.{option_copied};
-ghost use Rattle.tpf_base.specs.Addresses.{IsAddress};
+ghost use Rattle.tpf_base.specs.Addresses.{IsAddress, address_text};
 ghost use Rattle.template_fill.specs.ReadAddress.{IsSpelled};
 ghost use Rattle.template_fill.specs.Authorities.{ShareAuthority};
 ghost use Rattle.template_fill.specs.Spelled.{spelled_of};
@@ -110,6 +110,7 @@ impl Template {
     #[tactic(auto, unfolding(crate::specs::Templates::expansion))]
     pub fn expand(&self, alloc: Global, values: &[Value]) -> Result<WebAddress, OutOfMemory>
         ensures address { IfOk result (λ address. IsAddress (expansion self.now values.now) address) }
+        ensures text { IfOk result (λ address. address_text address ≡ expansion self.now values.now) }
         ensures authority { IfOk result (λ address. ShareAuthority self.now.start address) }
     {
         let mut text = String::from_str(alloc, self.start.text())?;

@@ -1,5 +1,5 @@
-use Rattle.std.proofs.Common.{refl}
-use Rattle.template_fill.proofs.Addresses.{extended, extended_shares, kept_is_address}
+use Rattle.std.proofs.Common.{refl, sym}
+use Rattle.template_fill.proofs.Addresses.{extended, extended_shares, kept_is_address, kept_text}
 use Rattle.template_fill.proofs.address.WebAddress.extended.Goals as goal
 
 pub invariant_of-result : goal.invariant_of-result
@@ -7,6 +7,9 @@ invariant_of-result c = extended _ _ _ _ _ _ c.self.invariant c.self.view_is c.r
 
 pub returns-clause-address : goal.returns-clause-address
 returns-clause-address c = kept_is_address _ _ _ _ _ (extended _ _ _ _ _ _ c.self.invariant c.self.view_is c.requires) refl
+
+pub returns-clause-text : goal.returns-clause-text
+returns-clause-text c = sym (kept_text _ _ _ _ _ (extended _ _ _ _ _ _ c.self.invariant c.self.view_is c.requires) refl)
 
 pub returns-clause-authority : goal.returns-clause-authority
 returns-clause-authority c = extended_shares _ _ _ _ _ _ c.self.invariant c.self.view_is c.requires
