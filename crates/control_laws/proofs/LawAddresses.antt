@@ -1,25 +1,22 @@
 -- The base of a server, and the texts of addresses that begin with its text.
-use Rattle.std.proofs.Common.{◌≡◌, ℕ, ◌<◌, List, [], ◌∷◌, ◌++◌, Bool, true, false, ◌==◌, ◌&&◌, ◌||◌, cond, if◌then◌else◌, nat_le, Some, Option, length, refl, sym, ◌∙◌, ap, subst, arith, inl, inr, append_assoc}
+use Rattle.std.proofs.Common.{◌≡◌, ℕ, ◌<◌, List, [], ◌∷◌, ◌++◌, Bool, true, false, ◌==◌, ◌&&◌, ◌||◌, if◌then◌else◌, nat_le, Some, Option, length, refl, sym, ◌∙◌, ap, subst, arith, inl, inr, append_assoc}
 use Rattle.std.specs.Prelude.{codes}
 use Rattle.std.specs.List.{list_all, prefix_len}
-use Rattle.std.specs.Char.{is_ascii, is_ascii_digit}
+use Rattle.std.specs.Char.{is_ascii}
 use Rattle.std.proofs.lemmas.List.Folds.{list_all-append}
 use Rattle.std.proofs.lemmas.Bool.Decides.{nat_tests}
 use Rattle.std.proofs.Math.Seq.{drop-append_seam, take-append_seam}
 use Rattle.std.proofs.lemmas.Bool.{and_from}
 use Rattle.rdf_terms.specs.Iri.{is_iri, is_iri_byte, is_letter, is_scheme_byte, has_colon, has_scheme}
-use Rattle.rdf_terms.specs.declared.slots.Slots.{Slots}
+use Rattle.rdf_terms.specs.Selections.{Selection}
 use Rattle.tpf_base.specs.Addresses.{Address, IsAddress, IsPortTyped, is_host_byte, is_host, is_address_byte, is_path_byte, is_path, is_query_part, query_text, authority_text, authority_of, target_of, address_text}
 use Rattle.template_fill.specs.ReadAddress.{read_spelled, with_target}
 use Rattle.template_fill.specs.WebAddress.{IsNormal, Extends, port_text, is_lower}
-use Rattle.template_fill.specs.Forms.{filled}
-use Rattle.template_fill.specs.Pages.{page_address, place_names, places_text, page_mark, page_pair}
+use Rattle.template_fill.specs.Pages.{page_address, page_mark, page_pair, selection_text}
 use Rattle.template_fill.proofs.Addresses.{and_left, and_right, all_host, is_host-lower, is_lower-lower, not_empty, authority-port, is_port_typed, normal_is_address, keeps, kept_iri, is_ascii-address, iri_byte-address}
 use Rattle.template_fill.proofs.Reading.{prefix_len-front, after_scheme-of, IsTail, is_tail, port_part-of, one_address}
 use Rattle.template_fill.proofs.Passing.{list_all-wider}
-use Rattle.template_fill.proofs.Values.{pairs-address, unreserved-address, digit-unreserved}
-use Rattle.tpf_base.specs.Decimals.{decimal_text}
-use Rattle.tpf_base.proofs.DecimalTexts.{decimal_text-digits}
+use Rattle.template_fill.proofs.PageTexts.{page_extends}
 
 -- ---- the base in its normal form
 
@@ -139,33 +136,13 @@ same_authority base next text h e is = ap authority_of (one_address text next (l
 
 -- ---- the texts of pages
 
-digit_address : (b : ℕ) → is_ascii_digit b ≡ true → is_address_byte b ≡ true
-digit_address b h = unreserved-address b (digit-unreserved b h)
-
-pair_bytes : (mark k : ℕ) → is_address_byte mark ≡ true → list_all is_address_byte (page_pair mark k) ≡ true
-pair_bytes mark k own = elim (k == 1) as (λ v. list_all is_address_byte (cond v [] (mark ∷ (codes "page=" ++ decimal_text k))) ≡ true) [
-  | true ↦ refl
-  | false ↦ and_from (is_address_byte mark) _ own (list_all-wider is_ascii_digit is_address_byte digit_address (decimal_text k) (decimal_text-digits k))
-]
-
-mark_byte : (written : List ℕ) → is_address_byte (page_mark written) ≡ true
-mark_byte [] = refl
-mark_byte (b ∷ written) = refl
-
-places_bytes : (slots : Slots) → list_all is_address_byte (places_text slots) ≡ true
-unfolding places_text
-places_bytes slots = pairs-address 63 place_names (filled (codes "subject") (codes "predicate") (codes "object") slots) refl refl
-
 -- they go on from that of the base
-pub page_longer : (base : Address) (slots : Slots) (k : ℕ) → Extends base (page_address base slots k)
-unfolding page_address
-page_longer base slots k =
-    let pair = page_pair (page_mark (places_text slots)) k in
-    record {
-      more = places_text slots ++ pair;
-      is_text = refl;
-      bytes = rw (list_all-append is_address_byte (places_text slots) pair, places_bytes slots) (pair_bytes (page_mark (places_text slots)) k (mark_byte (places_text slots)));
-    }
+pub page_longer : (base : Address) (s : Selection) (k : ℕ) → Extends base (page_address base s k)
+page_longer base s k =
+    let mark = page_mark (selection_text s) in
+    let front = address_text base ++ selection_text s in
+    let both = page_extends base s k mark (address_text base) front (front ++ page_pair mark k) refl refl refl refl in
+    subst (λ (text : List ℕ). Extends base text) both.1 both.0
 
 -- ---- reading the base
 

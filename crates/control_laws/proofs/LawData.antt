@@ -13,13 +13,13 @@ use Rattle.rdf_terms.specs.declared.term.Term.{Term}
 use Rattle.rdf_terms.specs.declared.term.Term.TheVariants.{Iri, Blank, Literal}
 use Rattle.rdf_terms.specs.declared.term.Triple.{Triple}
 use Rattle.rdf_terms.specs.declared.term.Quad.{Quad}
-use Rattle.rdf_terms.specs.declared.slots.Slots.{Slots}
+use Rattle.rdf_terms.specs.Selections.{Selection, selected, selected_page}
 use Rattle.rdf_terms.specs.Same.{triple_eq}
 use Rattle.rdf_terms.specs.EqualityLaws.{triple_decides}
 use Rattle.rdf_terms.specs.Slots.{order_of}
 use Rattle.rdf_terms.specs.Triples.{IsIri, IsIriOrLiteral, IsGroundTriple}
-use Rattle.rdf_terms.specs.Fragments.{fragment, page_of}
-use Rattle.rdf_terms.proofs.FragmentLaws.{order_of_total, fragment_is}
+use Rattle.rdf_terms.proofs.FragmentLaws.{order_of_total}
+use Rattle.rdf_terms.proofs.SelectionLaws.{one-selection}
 use Rattle.template_fill.specs.Bodies.{in_default_graph}
 use Rattle.page_controls.specs.Contents.{firsts, default_triples, page_triples, IsBlank, HoldsBlank, HasBlankData}
 
@@ -77,17 +77,17 @@ ascending_drop R (suc n) (t ∷ ts) h = ascending_drop R n ts h.1
 -- ---- pages
 
 -- a page has each triple once
-pub page_firsts : (triples : List Triple) (slots : Slots) (k size : ℕ) → firsts (page_of triples slots k size) ≡ page_of triples slots k size
-page_firsts triples slots k size =
-    let ascending = ascending_take (order_of slots) size (drop ((k - 1) * size) (fragment triples slots)) (ascending_drop (order_of slots) ((k - 1) * size) (fragment triples slots) (fragment_is triples slots).ascending) in
-    firsts_same (page_of triples slots k size) (ascending_distinct (order_of slots) (order_of_total slots) (page_of triples slots k size) ascending)
+pub page_firsts : (triples : List Triple) (s : Selection) (k size : ℕ) → firsts (selected_page triples s k size) ≡ selected_page triples s k size
+page_firsts triples s k size =
+    let ascending = ascending_take (order_of s.slots) size (drop ((k - 1) * size) (selected triples s)) (ascending_drop (order_of s.slots) ((k - 1) * size) (selected triples s) (one-selection.is triples s).ascending) in
+    firsts_same (selected_page triples s k size) (ascending_distinct (order_of s.slots) (order_of_total s.slots) (selected_page triples s k size) ascending)
 
 -- what holds of each triple of the data holds of each of a page
-pub page_all : (P : Triple → Type 0) (triples : List Triple) (slots : Slots) (k size : ℕ) → AllByRecursion P triples → AllByRecursion P (page_of triples slots k size)
-page_all P triples slots k size all =
+pub page_all : (P : Triple → Type 0) (triples : List Triple) (s : Selection) (k size : ℕ) → AllByRecursion P triples → AllByRecursion P (selected_page triples s k size)
+page_all P triples s k size all =
     let own = All-from_recursion P triples all in
-    let found = All-weaker (Contains (fragment triples slots)) P (λ t h. All-contains P triples t own (((fragment_is triples slots).members t).0 h).0) (fragment triples slots) (All-contains_itself (fragment triples slots)) in
-    recursion_from_All P (page_of triples slots k size) (All-take P size (drop ((k - 1) * size) (fragment triples slots)) (All-drop P ((k - 1) * size) (fragment triples slots) found))
+    let found = All-weaker (Contains (selected triples s)) P (λ t h. All-contains P triples t own (((one-selection.is triples s).members t).0 h).0) (selected triples s) (All-contains_itself (selected triples s)) in
+    recursion_from_All P (selected_page triples s k size) (All-take P size (drop ((k - 1) * size) (selected triples s)) (All-drop P ((k - 1) * size) (selected triples s) found))
 
 -- ---- the default graph
 

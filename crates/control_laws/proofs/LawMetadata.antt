@@ -5,7 +5,7 @@ use Rattle.std.specs.List.{filter}
 use Rattle.rdf_terms.specs.declared.term.Term.{Term}
 use Rattle.rdf_terms.specs.declared.term.Term.TheVariants.{Iri, Blank}
 use Rattle.rdf_terms.specs.declared.term.Quad.{Quad}
-use Rattle.rdf_terms.specs.declared.slots.Slots.{Slots}
+use Rattle.rdf_terms.specs.Selections.{Selection}
 use Rattle.rdf_terms.specs.Fragments.{last_page_of}
 use Rattle.tpf_base.specs.Addresses.{address_text}
 use Rattle.tpf_base.specs.Decimals.{decimal_text}
@@ -38,22 +38,22 @@ metadata there back m =
     ++ link_quads back m.graph m.page (codes "previous") m.previous
     ++ version_quads m.graph m.base m.version
 
-unfoldable pub parts_for : Config → Slots → ℕ → ℕ → ℕ → Parts
-parts_for config slots k count version = record {
-  graph = page_address config.base slots k ++ codes "#metadata";
-  page = page_address config.base slots k;
-  first = page_address config.base slots 1;
+unfoldable pub parts_for : Config → Selection → ℕ → ℕ → ℕ → Parts
+parts_for config s k count version = record {
+  graph = page_address config.base s k ++ codes "#metadata";
+  page = page_address config.base s k;
+  first = page_address config.base s 1;
   base = address_text config.base;
   template = template_text config.base;
-  next = page_address config.base slots (k + 1);
-  previous = page_address config.base slots (k - 1);
+  next = page_address config.base s (k + 1);
+  previous = page_address config.base s (k - 1);
   count = count;
   version = version;
 }
 
-pub metadata_is : (config : Config) (slots : Slots) (k count version : ℕ) → page_metadata config slots k count version ≡ metadata (nat_lt k (last_page_of count config.page_size)) (nat_lt 1 k) (parts_for config slots k count version)
+pub metadata_is : (config : Config) (s : Selection) (k count version : ℕ) → page_metadata config s k count version ≡ metadata (nat_lt k (last_page_of count config.page_size)) (nat_lt 1 k) (parts_for config s k count version)
 unfolding page_metadata metadata_at page_addresses metadata parts_for
-metadata_is config slots k count version = refl
+metadata_is config s k count version = refl
 
 abbrev pub node : Term
 node = Blank (codes "form")

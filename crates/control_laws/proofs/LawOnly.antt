@@ -5,7 +5,7 @@ use Rattle.std.proofs.lemmas.Bool.{cases_lt, le-ltb, lt-ltb}
 use Rattle.rdf_terms.specs.declared.term.Term.{Term}
 use Rattle.rdf_terms.specs.declared.term.Term.TheVariants.{Iri}
 use Rattle.rdf_terms.specs.declared.term.Triple.{Triple}
-use Rattle.rdf_terms.specs.declared.slots.Slots.{Slots}
+use Rattle.rdf_terms.specs.Selections.{Selection}
 use Rattle.tpf_base.specs.Addresses.{Address, IsAddress, address_text, authority_of}
 use Rattle.template_fill.specs.declared.form.Form.{Form}
 use Rattle.template_fill.specs.Templates.{Template, read_template, expansion}
@@ -95,8 +95,8 @@ below_by : (ts : List Triple) (back : Bool) (m : Parts) (k last : ℕ) (authorit
 below_by ts back m k last authority next (inl below) h = (below, next_link ts (nat_lt k last) back m authority next (lt-ltb k last below) h)
 below_by ts back m k last authority next (inr past) h = absurd (no_next ts (nat_lt k last) back m authority next (le-ltb k last past) h)
 
-pub next_taken : (ts : List Triple) (back : Bool) (m : Parts) (config : Config) (slots : Slots) (k last : ℕ) (authority : List ℕ) (next : Option Address) → m.next ≡ page_address config.base slots (k + 1) → IsNext (body ts (nat_lt k last) back m) m.page authority next → IsNextOf config slots k last next
-next_taken ts back m config slots k last authority None is h = last_by ts back m k last authority (cases_lt k last) h
-next_taken ts back m config slots k last authority (Some next) is h =
+pub next_taken : (ts : List Triple) (back : Bool) (m : Parts) (config : Config) (s : Selection) (k last : ℕ) (authority : List ℕ) (next : Option Address) → m.next ≡ page_address config.base s (k + 1) → IsNext (body ts (nat_lt k last) back m) m.page authority next → IsNextOf config s k last next
+next_taken ts back m config s k last authority None is h = last_by ts back m k last authority (cases_lt k last) h
+next_taken ts back m config s k last authority (Some next) is h =
     let found = below_by ts back m k last authority next (cases_lt k last) h in
     (found.0, subst (λ (text : List ℕ). IsAddress text next) is found.1)

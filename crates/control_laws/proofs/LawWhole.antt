@@ -7,11 +7,11 @@ use Rattle.std.proofs.lemmas.List.Folds.{list_all-append}
 use Rattle.std.proofs.lemmas.Bool.{cases_lt, le-ltb, lt-ltb}
 use Rattle.rdf_terms.specs.declared.term.Triple.{Triple}
 use Rattle.rdf_terms.specs.declared.term.Quad.{Quad}
-use Rattle.rdf_terms.specs.declared.slots.Slots.{Slots}
+use Rattle.rdf_terms.specs.Selections.{Selection, selected, selected_page}
 use Rattle.rdf_terms.specs.Canon.{canon}
 use Rattle.rdf_terms.specs.Triples.{IsGroundTriple}
 use Rattle.rdf_terms.specs.Valid.{IsValidTriple}
-use Rattle.rdf_terms.specs.Fragments.{fragment, page_of, last_page_of}
+use Rattle.rdf_terms.specs.Fragments.{last_page_of}
 use Rattle.nquads_text.specs.Reads.{Reads}
 use Rattle.nquads_text.proofs.ReadLaws.{all_readable as what_is_read}
 use Rattle.nquads_text.proofs.RoundTrip.{read_again}
@@ -40,36 +40,36 @@ use Rattle.control_laws.proofs.LawTemplates.{template_reads, home_is}
 
 -- ---- the parts
 
-safe_texts : (config : Config) (slots : Slots) (k count version : ℕ) → IsAddress (address_text config.base) config.base → HasSafeTexts (parts_for config slots k count version)
+safe_texts : (config : Config) (s : Selection) (k count version : ℕ) → IsAddress (address_text config.base) config.base → HasSafeTexts (parts_for config s k count version)
 unfolding parts_for
-safe_texts config slots k count version h =
-    let page = extends_web config.base (page_address config.base slots k) h (page_longer config.base slots k) in
+safe_texts config s k count version h =
+    let page = extends_web config.base (page_address config.base s k) h (page_longer config.base s k) in
     let base = base_web config.base h in
     record {
-      graph = web_more (page_address config.base slots k) (codes "#metadata") page refl refl;
+      graph = web_more (page_address config.base s k) (codes "#metadata") page refl refl;
       page = page;
-      first = extends_web config.base (page_address config.base slots 1) h (page_longer config.base slots 1);
+      first = extends_web config.base (page_address config.base s 1) h (page_longer config.base s 1);
       base = base;
       template = rw (list_all-append is_ascii (address_text config.base) (codes "{?subject,predicate,object}"), base.ascii) refl;
-      next = extends_web config.base (page_address config.base slots (k + 1)) h (page_longer config.base slots (k + 1));
-      previous = extends_web config.base (page_address config.base slots (k - 1)) h (page_longer config.base slots (k - 1));
+      next = extends_web config.base (page_address config.base s (k + 1)) h (page_longer config.base s (k + 1));
+      previous = extends_web config.base (page_address config.base s (k - 1)) h (page_longer config.base s (k - 1));
     }
 
-parts_next : (config : Config) (slots : Slots) (k count version : ℕ) → (parts_for config slots k count version).next ≡ page_address config.base slots (k + 1)
+parts_next : (config : Config) (s : Selection) (k count version : ℕ) → (parts_for config s k count version).next ≡ page_address config.base s (k + 1)
 unfolding parts_for
-parts_next config slots k count version = refl
+parts_next config s k count version = refl
 
-parts_template : (config : Config) (slots : Slots) (k count version : ℕ) → (parts_for config slots k count version).template ≡ template_text config.base
+parts_template : (config : Config) (s : Selection) (k count version : ℕ) → (parts_for config s k count version).template ≡ template_text config.base
 unfolding parts_for
-parts_template config slots k count version = refl
+parts_template config s k count version = refl
 
-parts_count : (config : Config) (slots : Slots) (k count version : ℕ) → (parts_for config slots k count version).count ≡ count
+parts_count : (config : Config) (s : Selection) (k count version : ℕ) → (parts_for config s k count version).count ≡ count
 unfolding parts_for
-parts_count config slots k count version = refl
+parts_count config s k count version = refl
 
-parts_version : (config : Config) (slots : Slots) (k count version : ℕ) → (parts_for config slots k count version).version ≡ version
+parts_version : (config : Config) (s : Selection) (k count version : ℕ) → (parts_for config s k count version).version ≡ version
 unfolding parts_for
-parts_version config slots k count version = refl
+parts_version config s k count version = refl
 
 -- ---- the form
 
@@ -88,16 +88,16 @@ home_given base template authority h is own = (base, subst (λ (text : List ℕ)
 
 -- ---- the next page
 
-next_given : (ts : List Triple) (back : Bool) (m : Parts) (config : Config) (slots : Slots) (k last : ℕ) (authority : List ℕ) (next : Option Address) → IsAddress (address_text config.base) config.base → m.next ≡ page_address config.base slots (k + 1) → authority ≡ authority_of config.base → IsNextOf config slots k last next → IsNext (body ts (nat_lt k last) back m) m.page authority next
-next_given ts back m config slots k last authority None h is own more = no_next_is ts (nat_lt k last) back m (le-ltb k last more) authority
-next_given ts back m config slots k last authority (Some next) h is own more =
+next_given : (ts : List Triple) (back : Bool) (m : Parts) (config : Config) (s : Selection) (k last : ℕ) (authority : List ℕ) (next : Option Address) → IsAddress (address_text config.base) config.base → m.next ≡ page_address config.base s (k + 1) → authority ≡ authority_of config.base → IsNextOf config s k last next → IsNext (body ts (nat_lt k last) back m) m.page authority next
+next_given ts back m config s k last authority None h is own more = no_next_is ts (nat_lt k last) back m (le-ltb k last more) authority
+next_given ts back m config s k last authority (Some next) h is own more =
     next_is ts (nat_lt k last) back m (lt-ltb k last more.0) authority next (subst (λ (text : List ℕ). IsAddress text next) (sym is) more.1)
-    (same_authority config.base next (page_address config.base slots (k + 1)) h (page_longer config.base slots (k + 1)) more.1 ∙ sym own)
+    (same_authority config.base next (page_address config.base s (k + 1)) h (page_longer config.base s (k + 1)) more.1 ∙ sym own)
 
 -- ---- the data
 
-triples_are : (triples : List Triple) (slots : Slots) (k size : ℕ) (there back : Bool) (m : Parts) → page_triples (body (page_of triples slots k size) there back m) ≡ page_of triples slots k size
-triples_are triples slots k size there back m = ap firsts (default_data (page_of triples slots k size) (metadata there back m) (all_named there back m)) ∙ page_firsts triples slots k size
+triples_are : (triples : List Triple) (s : Selection) (k size : ℕ) (there back : Bool) (m : Parts) → page_triples (body (selected_page triples s k size) there back m) ≡ selected_page triples s k size
+triples_are triples s k size there back m = ap firsts (default_data (selected_page triples s k size) (metadata there back m) (all_named there back m)) ∙ page_firsts triples s k size
 
 -- ---- the body
 
@@ -105,53 +105,53 @@ triples_are triples slots k size there back m = ap firsts (default_data (page_of
 moved : (P : List Quad → List ℕ → Type 0) (one other : List Quad) (topic text : List ℕ) → one ≡ other → topic ≡ text → P one topic → P other text
 moved P one other topic text e f h = subst (P other) f (subst (λ (qs : List Quad). P qs topic) e h)
 
-module _ (history : List (List Triple)) (version : ℕ) (config : Config) (slots : Slots) (k : ℕ) (valid : IsValidDataSet (version_of history version)) (web : IsAddress (address_text config.base) config.base) where
+module _ (history : List (List Triple)) (version : ℕ) (config : Config) (s : Selection) (k : ℕ) (valid : IsValidDataSet (version_of history version)) (web : IsAddress (address_text config.base) config.base) where
   abbrev count : ℕ
-  count = length (fragment (version_of history version) slots)
+  count = length (selected (version_of history version) s)
 
   abbrev last : ℕ
   last = last_page_of count config.page_size
 
   abbrev ts : List Triple
-  ts = page_of (version_of history version) slots k config.page_size
+  ts = selected_page (version_of history version) s k config.page_size
 
   abbrev m : Parts
-  m = parts_for config slots k count version
+  m = parts_for config s k count version
 
   abbrev quads : List Quad
   quads = body ts (nat_lt k last) (nat_lt 1 k) m
 
-  quads_are : page_quads history version config slots k ≡ quads
-  quads_are = ap (λ (named : List Quad). map in_default_graph ts ++ named) (metadata_is config slots k count version)
+  quads_are : page_quads history version config s k ≡ quads
+  quads_are = ap (λ (named : List Quad). map in_default_graph ts ++ named) (metadata_is config s k count version)
 
-  text_is : page_body history version config slots k ≡ canon quads
+  text_is : page_body history version config s k ≡ canon quads
   unfolding page_body
   text_is = ap canon quads_are
 
   classes : AllByRecursion IsGroundTriple ts
-  classes = page_all IsGroundTriple (version_of history version) slots k config.page_size valid.data_set.classes
+  classes = page_all IsGroundTriple (version_of history version) s k config.page_size valid.data_set.classes
 
   safe : AllByRecursion IsSafeQuad quads
-  safe = safe_body ts (nat_lt k last) (nat_lt 1 k) m classes (page_all IsValidTriple (version_of history version) slots k config.page_size valid.terms) (safe_texts config slots k count version web)
+  safe = safe_body ts (nat_lt k last) (nat_lt 1 k) m classes (page_all IsValidTriple (version_of history version) s k config.page_size valid.terms) (safe_texts config s k count version web)
 
   page_data : page_triples quads ≡ ts
-  page_data = triples_are (version_of history version) slots k config.page_size (nat_lt k last) (nat_lt 1 k) m
+  page_data = triples_are (version_of history version) s k config.page_size (nat_lt k last) (nat_lt 1 k) m
 
   m_count : m.count ≡ count
-  m_count = parts_count config slots k count version
+  m_count = parts_count config s k count version
 
   m_version : m.version ≡ version
-  m_version = parts_version config slots k count version
+  m_version = parts_version config s k count version
 
   -- the body is read as these quads
-  reads : AllByRecursion (HasShortTerms 4194304) (page_quads history version config slots k) → IsBody (page_body history version config slots k) quads
+  reads : AllByRecursion (HasShortTerms 4194304) (page_quads history version config s k) → IsBody (page_body history version config s k) quads
   reads short = rw text_is (read_again 4194304 quads (all_readable 4194304 quads safe (subst (AllByRecursion (HasShortTerms 4194304)) quads_are short)))
 
   -- and as no others
-  only_quads : (read : List Quad) → IsBody (page_body history version config slots k) read → read ≡ quads
+  only_quads : (read : List Quad) → IsBody (page_body history version config s k) read → read ≡ quads
   only_quads read h = only_reading 4194304 quads read safe (subst (λ (text : List ℕ). Reads text 4194304 read) text_is h)
 
-  taken : (address : Address) (page : Page) → IsVersionNumber version → IsWithinLimits history version config slots k → authority_of address ≡ authority_of config.base → IsPageOf (version_of history version) version config slots k page → Takes (page_body history version config slots k) address page
+  taken : (address : Address) (page : Page) → IsVersionNumber version → IsWithinLimits history version config s k → authority_of address ≡ authority_of config.base → IsPageOf (version_of history version) version config s k page → Takes (page_body history version config s k) address page
   taken address page numbered limits own is = record {
     quads = quads;
     topic = m.page;
@@ -159,15 +159,15 @@ module _ (history : List (List Triple)) (version : ℕ) (config : Config) (slots
     controls = record { body = reads limits.terms; is_topic = topic_is ts (nat_lt k last) (nat_lt 1 k) m (address_text address) };
     count = subst (IsCount quads m.page) (m_count ∙ sym is.count) (count_is ts (nat_lt k last) (nat_lt 1 k) m (rw m_count limits.count));
     least = least_is ts (nat_lt k last) (nat_lt 1 k) m;
-    form = form_given config.base page.form m web (parts_template config slots k count version) is.form;
-    next = next_given ts (nat_lt 1 k) m config slots k last (authority_of address) page.next web (parts_next config slots k count version) own is.next;
+    form = form_given config.base page.form m web (parts_template config s k count version) is.form;
+    next = next_given ts (nat_lt 1 k) m config s k last (authority_of address) page.next web (parts_next config s k count version) own is.next;
     home = home_given config.base page.form.template (authority_of address) web is.form.template own;
     version = subst (IsVersion quads m.page) (ap (λ (n : ℕ). Some n) m_version ∙ sym is.version_is) (version_is ts (nat_lt k last) (nat_lt 1 k) m (rw m_version numbered));
     triples = is.triples_are ∙ sym page_data;
     no_blank = no_blank_data quads ts page_data classes;
   }
 
-  only : (address : Address) (page : Page) → IsVersionNumber version → Takes (page_body history version config slots k) address page → IsReadFrom history version config slots k address page
+  only : (address : Address) (page : Page) → IsVersionNumber version → Takes (page_body history version config s k) address page → IsReadFrom history version config s k address page
   only address page numbered t =
       let there = nat_lt k last in
       let back = nat_lt 1 k in
@@ -177,30 +177,30 @@ module _ (history : List (List Triple)) (version : ℕ) (config : Config) (slots
       let least = moved (λ qs text. IsLeastForm qs text t.texts) t.quads quads t.topic m.page is topic t.least in
       let linked = moved (λ qs text. IsNext qs text (authority_of address) page.next) t.quads quads t.topic m.page is topic t.next in
       let said = moved (λ qs text. IsVersion qs text page.version) t.quads quads t.topic m.page is topic t.version in
-      let form = form_taken config.base m t.texts page.form web (parts_template config slots k count version) (texts_taken ts there back m t.texts least) t.form in
-      let short = all_short 4194304 t.quads (what_is_read (page_body history version config slots k) 4194304 t.quads t.controls.body) in
+      let form = form_taken config.base m t.texts page.form web (parts_template config s k count version) (texts_taken ts there back m t.texts least) t.form in
+      let short = all_short 4194304 t.quads (what_is_read (page_body history version config s k) 4194304 t.quads t.controls.body) in
       record {
         within = record { count = rw (← m_count) (count_fits ts there back m page.count counted); terms = subst (AllByRecursion (HasShortTerms 4194304)) (is ∙ sym quads_are) short };
         authority = home_taken config.base page.form.template (authority_of address) web form.template t.home;
         is_page = record {
           triples_are = t.triples ∙ ap page_triples is ∙ page_data;
           count = count_taken ts there back m page.count counted ∙ m_count;
-          next = next_taken ts back m config slots k last (authority_of address) page.next (parts_next config slots k count version) linked;
+          next = next_taken ts back m config s k last (authority_of address) page.next (parts_next config s k count version) linked;
           form = form;
           version_is = one_version quads m.page page.version (Some m.version) said (version_is ts there back m (rw m_version numbered)) ∙ ap (λ (n : ℕ). Some n) m_version;
         };
       }
 
-  next_there : (next : Option Address) × IsNextOf config slots k last next
+  next_there : (next : Option Address) × IsNextOf config s k last next
   next_there =
-      let text = page_address config.base slots (k + 1) in
-      let more = page_longer config.base slots (k + 1) in
+      let text = page_address config.base s (k + 1) in
+      let more = page_longer config.base s (k + 1) in
       elim (cases_lt k last) [
         | inl below ↦ (Some (longer config.base text more), (below, longer_is config.base text web more))
         | inr past ↦ (None, past)
       ]
 
-  page_there : (page : Page) × IsPageOf (version_of history version) version config slots k page
+  page_there : (page : Page) × IsPageOf (version_of history version) version config s k page
   page_there =
       let next = next_there in (
         record {
@@ -216,10 +216,10 @@ module _ (history : List (List Triple)) (version : ℕ) (config : Config) (slots
 -- ---- the law
 
 pub controls_read_back : ControlsReadBack
-controls_read_back history version config slots k address page is numbered valid = taken history version config slots k (versions history version is) valid.base address page numbered
+controls_read_back history version config s k address page is numbered valid = taken history version config s k (versions history version is) valid.base address page numbered
 
 pub nothing_else_is_read : NothingElseIsRead
-nothing_else_is_read history version config slots k address page is numbered valid = only history version config slots k (versions history version is) valid.base address page numbered
+nothing_else_is_read history version config s k address page is numbered valid = only history version config s k (versions history version is) valid.base address page numbered
 
 pub pages_are_there : PagesAreThere
-pages_are_there history version config slots k is valid = page_there history version config slots k (versions history version is) valid.base
+pages_are_there history version config s k is valid = page_there history version config s k (versions history version is) valid.base

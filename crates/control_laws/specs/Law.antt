@@ -4,9 +4,8 @@ use Rattle.std.specs.List.{AllByRecursion}
 use Rattle.rdf_terms.specs.declared.term.Term.{Term}
 use Rattle.rdf_terms.specs.declared.term.Triple.{Triple}
 use Rattle.rdf_terms.specs.declared.term.Quad.{Quad}
-use Rattle.rdf_terms.specs.declared.slots.Slots.{Slots}
+use Rattle.rdf_terms.specs.Selections.{Selection, selected, selected_page, selected_last}
 use Rattle.rdf_terms.specs.Canon.{canonical_term}
-use Rattle.rdf_terms.specs.Fragments.{fragment, page_of, last_page}
 use Rattle.tpf_base.specs.Addresses.{Address, IsAddress, authority_of}
 use Rattle.template_fill.specs.declared.form.Form.{Form}
 use Rattle.template_fill.specs.Pages.{page_address, server_template}
@@ -31,14 +30,14 @@ pub record HasShortTerms (longest : ℕ) (q : Quad) : Type 0 where
   pub graph : IsShortGraph longest q.graph
 
 -- within the limits of reading: a count of 19 digits at most, and terms of at most 4194304 bytes
-pub record IsWithinLimits (history : List (List Triple)) (version : ℕ) (config : Config) (slots : Slots) (k : ℕ) : Type 0 where
-  pub count : length (fragment (version_of history version) slots) ≤ 9999999999999999999
-  pub terms : AllByRecursion (HasShortTerms 4194304) (page_quads history version config slots k)
+pub record IsWithinLimits (history : List (List Triple)) (version : ℕ) (config : Config) (s : Selection) (k : ℕ) : Type 0 where
+  pub count : length (selected (version_of history version) s) ≤ 9999999999999999999
+  pub terms : AllByRecursion (HasShortTerms 4194304) (page_quads history version config s k)
 
 -- the address of the next page, exactly where k is below the last
-abbrev pub IsNextOf : Config → Slots → ℕ → ℕ → Option Address → Type 0
-IsNextOf config slots k last None = last ≤ k
-IsNextOf config slots k last (Some next) = (k < last) × IsAddress (page_address config.base slots (k + 1)) next
+abbrev pub IsNextOf : Config → Selection → ℕ → ℕ → Option Address → Type 0
+IsNextOf config s k last None = last ≤ k
+IsNextOf config s k last (Some next) = (k < last) × IsAddress (page_address config.base s (k + 1)) next
 
 -- the server's form
 pub record IsServerForm (base : Address) (form : Form) : Type 0 where
@@ -47,11 +46,11 @@ pub record IsServerForm (base : Address) (form : Form) : Type 0 where
   pub predicate : form.predicate ≡ codes "predicate"
   pub object : form.object ≡ codes "object"
 
--- page k of the fragment: its triples, the fragment's length, the next page, the server's form, and the version
-pub record IsPageOf (triples : List Triple) (version : ℕ) (config : Config) (slots : Slots) (k : ℕ) (page : Page) : Type 0 where
-  pub triples_are : page.triples ≡ page_of triples slots k config.page_size
-  pub count : page.count ≡ length (fragment triples slots)
-  pub next : IsNextOf config slots k (last_page triples slots config.page_size) page.next
+-- page k of the selection: its triples, how many are selected, the next page, the server's form, and the version
+pub record IsPageOf (triples : List Triple) (version : ℕ) (config : Config) (s : Selection) (k : ℕ) (page : Page) : Type 0 where
+  pub triples_are : page.triples ≡ selected_page triples s k config.page_size
+  pub count : page.count ≡ length (selected triples s)
+  pub next : IsNextOf config s k (selected_last triples s config.page_size) page.next
   pub form : IsServerForm config.base page.form
   pub version_is : page.version ≡ Some version
 
@@ -62,35 +61,35 @@ IsVersionNumber version = version ≤ most_versions
 -- within these limits, and under each address of the server's authority, the body of a page is read as that page
 abbrev pub ControlsReadBack : Type 0
 ControlsReadBack =
-    (history : List (List Triple)) (version : ℕ) (config : Config) (slots : Slots) (k : ℕ) (address : Address) (page : Page)
+    (history : List (List Triple)) (version : ℕ) (config : Config) (s : Selection) (k : ℕ) (address : Address) (page : Page)
     → IsHistory history
     → IsVersionNumber version
     → IsConfig config
-    → IsWithinLimits history version config slots k
+    → IsWithinLimits history version config s k
     → authority_of address ≡ authority_of config.base
-    → IsPageOf (version_of history version) version config slots k page
-    → Takes (page_body history version config slots k) address page
+    → IsPageOf (version_of history version) version config s k page
+    → Takes (page_body history version config s k) address page
 
 -- what is read from a body that a server's definition gives
-pub record IsReadFrom (history : List (List Triple)) (version : ℕ) (config : Config) (slots : Slots) (k : ℕ) (address : Address) (page : Page) : Type 0 where
-  pub within : IsWithinLimits history version config slots k
+pub record IsReadFrom (history : List (List Triple)) (version : ℕ) (config : Config) (s : Selection) (k : ℕ) (address : Address) (page : Page) : Type 0 where
+  pub within : IsWithinLimits history version config s k
   pub authority : authority_of address ≡ authority_of config.base
-  pub is_page : IsPageOf (version_of history version) version config slots k page
+  pub is_page : IsPageOf (version_of history version) version config s k page
 
 -- nothing else is read from it, and nothing at all past the limits or under another authority
 abbrev pub NothingElseIsRead : Type 0
 NothingElseIsRead =
-    (history : List (List Triple)) (version : ℕ) (config : Config) (slots : Slots) (k : ℕ) (address : Address) (page : Page)
+    (history : List (List Triple)) (version : ℕ) (config : Config) (s : Selection) (k : ℕ) (address : Address) (page : Page)
     → IsHistory history
     → IsVersionNumber version
     → IsConfig config
-    → Takes (page_body history version config slots k) address page
-    → IsReadFrom history version config slots k address page
+    → Takes (page_body history version config s k) address page
+    → IsReadFrom history version config s k address page
 
 -- and there is such a page
 abbrev pub PagesAreThere : Type 0
 PagesAreThere =
-    (history : List (List Triple)) (version : ℕ) (config : Config) (slots : Slots) (k : ℕ)
+    (history : List (List Triple)) (version : ℕ) (config : Config) (s : Selection) (k : ℕ)
     → IsHistory history
     → IsConfig config
-    → (page : Page) × IsPageOf (version_of history version) version config slots k page
+    → (page : Page) × IsPageOf (version_of history version) version config s k page

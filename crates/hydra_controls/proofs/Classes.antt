@@ -44,13 +44,13 @@ version_rdf graph base version = (rdf_statement graph _ _ _ tt tt, tt)
 
 pub metadata_is_rdf : MetadataIsRdf
 unfolding page_metadata metadata_at page_addresses
-metadata_is_rdf config slots k count version =
+metadata_is_rdf config s k count version =
     let base = address_text config.base in
-    let page = page_address config.base slots k in
-    let first = page_address config.base slots 1 in
+    let page = page_address config.base s k in
+    let first = page_address config.base s 1 in
     let graph = page ++ codes "#metadata" in
-    let next = link_rdf (nat_lt k (last_page_of count config.page_size)) graph page (codes "next") (page_address config.base slots (k + 1)) in
-    let previous = link_rdf (nat_lt 1 k) graph page (codes "previous") (page_address config.base slots (k - 1)) in
+    let next = link_rdf (nat_lt k (last_page_of count config.page_size)) graph page (codes "next") (page_address config.base s (k + 1)) in
+    let previous = link_rdf (nat_lt 1 k) graph page (codes "previous") (page_address config.base s (k - 1)) in
     let maps = λ (label name : List ℕ). mapping_rdf graph label name in
     all_append IsRdfQuad _ _
     (all_append IsRdfQuad _ _

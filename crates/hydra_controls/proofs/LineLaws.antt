@@ -1,13 +1,13 @@
 -- The lines of a page's metadata: the quads that they are of, and what is written of them.
-use Rattle.std.proofs.Common.{◌≡◌, ℕ, ◌+◌, ◌-◌, ◌<◌, Bool, nat_lt, List, [], ◌∷◌, ◌++◌, length, take, drop, false, Result, Ok, Err, refl, sym, ap, ap₂, subst, ◌∙◌, arith, append_assoc, append-nil, length-append}
-use Rattle.std.specs.Prelude.{OnOk, codes, slice_index_or}
+use Rattle.std.proofs.Common.{◌≡◌, ℕ, ◌+◌, ◌-◌, ◌<◌, Bool, nat_lt, List, [], ◌∷◌, ◌++◌, length, take, drop, false, sym, ap, ap₂, subst, ◌∙◌, arith, append_assoc, append-nil, length-append}
+use Rattle.std.specs.Prelude.{codes, slice_index_or}
 use Rattle.std.proofs.lemmas.List.{take_all, take_more}
 use Rattle.rdf_terms.specs.Canon.{canonical_line}
 use Rattle.rdf_terms.specs.Fragments.{last_page_of}
 use Rattle.rdf_terms.specs.declared.term.Quad.{Quad}
-use Rattle.rdf_terms.specs.declared.slots.Slots.{Slots}
+use Rattle.rdf_terms.specs.Selections.{Selection}
 use Rattle.tpf_base.specs.Addresses.{Address, address_text}
-use Rattle.template_fill.specs.Pages.{page_address, page_mark, page_pair, places_text, template_text}
+use Rattle.template_fill.specs.Pages.{page_address, page_mark, page_pair, selection_text, template_text}
 use Rattle.template_fill.specs.Metadata.{Config, graph_at, topic_quads, form_quads, version_quads, metadata_at, page_addresses, page_metadata}
 use Rattle.hydra_controls.specs.declared.cut.Cut.{Cut}
 use Rattle.hydra_controls.specs.declared.facts.PageFacts.{PageFacts}
@@ -45,41 +45,41 @@ facts_are f base first value of_first of_page is =
 
 -- ---- the addresses
 
-page_is : (base : Address) (slots : Slots) (first : List ℕ) (fixed : Bool) (k : ℕ) → first ≡ page_address base slots 1 → mark_of fixed ≡ page_mark (places_text slots) → page_text first fixed k ≡ page_address base slots k
+page_is : (base : Address) (s : Selection) (first : List ℕ) (fixed : Bool) (k : ℕ) → first ≡ page_address base s 1 → mark_of fixed ≡ page_mark (selection_text s) → page_text first fixed k ≡ page_address base s k
 unfolding page_address
-page_is base slots first fixed k is mark =
-    let pair = page_pair (page_mark (places_text slots)) k in
+page_is base s first fixed k is mark =
+    let pair = page_pair (page_mark (selection_text s)) k in
     ap (λ (m : ℕ). first ++ page_pair m k) mark
     ∙ ap (λ (l : List ℕ). l ++ pair) is
-    ∙ append_assoc (address_text base) (places_text slots ++ []) pair
-    ∙ ap (λ (l : List ℕ). address_text base ++ (l ++ pair)) (append-nil (places_text slots))
+    ∙ append_assoc (address_text base) (selection_text s ++ []) pair
+    ∙ ap (λ (l : List ℕ). address_text base ++ (l ++ pair)) (append-nil (selection_text s))
 
-addresses_are : (base : Address) (slots : Slots) (first : List ℕ) (fixed : Bool) (k : ℕ) → first ≡ page_address base slots 1 → mark_of fixed ≡ page_mark (places_text slots) → addresses_by first fixed k ≡ page_addresses base slots k
+addresses_are : (base : Address) (s : Selection) (first : List ℕ) (fixed : Bool) (k : ℕ) → first ≡ page_address base s 1 → mark_of fixed ≡ page_mark (selection_text s) → addresses_by first fixed k ≡ page_addresses base s k
 unfolding page_addresses
-addresses_are base slots first fixed k is mark = λ i. record {
-  page = page_is base slots first fixed k is mark i;
-  first = page_is base slots first fixed 1 is mark i;
-  next = page_is base slots first fixed (k + 1) is mark i;
-  previous = page_is base slots first fixed (k - 1) is mark i;
+addresses_are base s first fixed k is mark = λ i. record {
+  page = page_is base s first fixed k is mark i;
+  first = page_is base s first fixed 1 is mark i;
+  next = page_is base s first fixed (k + 1) is mark i;
+  previous = page_is base s first fixed (k - 1) is mark i;
 }
 
 mark_is : (base places : List ℕ) → mark_of (nat_lt (length base) (length (base ++ (places ++ [])))) ≡ page_mark places
 mark_is base [] = ap mark_of (is_above (length base) (length (base ++ [])) (omega (arith, length-append base [])))
 mark_is base (b ∷ places) = ap mark_of (is_below (length base) (length (base ++ (b ∷ (places ++ [])))) (omega (arith, length-append base (b ∷ (places ++ [])))))
 
-mark_by : (base : Address) (slots : Slots) → mark_of (nat_lt (length (address_text base)) (length (page_address base slots 1))) ≡ page_mark (places_text slots)
+mark_by : (base : Address) (s : Selection) → mark_of (nat_lt (length (address_text base)) (length (page_address base s 1))) ≡ page_mark (selection_text s)
 unfolding page_address
-mark_by base slots = mark_is (address_text base) (places_text slots)
+mark_by base s = mark_is (address_text base) (selection_text s)
 
-pub lines_are : (config : Config) (slots : Slots) (k count version last : ℕ) (base first : Address) (fixed : Bool) → base ≡ config.base → address_text first ≡ page_address config.base slots 1
+pub lines_are : (config : Config) (s : Selection) (k count version last : ℕ) (base first : Address) (fixed : Bool) → base ≡ config.base → address_text first ≡ page_address config.base s 1
     → fixed ≡ nat_lt (length (address_text base)) (length (address_text first)) → last ≡ last_page_of count config.page_size
-    → metadata_at base (addresses_by (address_text first) fixed k) (nat_lt k last) (nat_lt 1 k) count version ≡ page_metadata config slots k count version
+    → metadata_at base (addresses_by (address_text first) fixed k) (nat_lt k last) (nat_lt 1 k) count version ≡ page_metadata config s k count version
 unfolding page_metadata
-lines_are config slots k count version last base first fixed of_base of_first of_fixed of_last =
-    let lengths : nat_lt (length (address_text base)) (length (address_text first)) ≡ nat_lt (length (address_text config.base)) (length (page_address config.base slots 1)) =
+lines_are config s k count version last base first fixed of_base of_first of_fixed of_last =
+    let lengths : nat_lt (length (address_text base)) (length (address_text first)) ≡ nat_lt (length (address_text config.base)) (length (page_address config.base s 1)) =
     λ i. nat_lt (length (address_text (of_base i))) (length (of_first i)) in
-    let mark : mark_of fixed ≡ page_mark (places_text slots) = ap mark_of (of_fixed ∙ lengths) ∙ mark_by config.base slots in
-    let addresses = addresses_are config.base slots (address_text first) fixed k of_first mark in
+    let mark : mark_of fixed ≡ page_mark (selection_text s) = ap mark_of (of_fixed ∙ lengths) ∙ mark_by config.base s in
+    let addresses = addresses_are config.base s (address_text first) fixed k of_first mark in
     λ i. metadata_at (of_base i) (addresses i) (nat_lt k (of_last i)) (nat_lt 1 k) count version
 
 -- ---- one line

@@ -5,11 +5,11 @@ use Rattle.std.specs.List.{list_all}
 use Rattle.std.specs.Str.{str_to_ascii_lowercase}
 use Rattle.std.proofs.lemmas.Bool.Decides.{nat_tests}
 use Rattle.std.proofs.lemmas.List.Folds.{list_all-append}
-use Rattle.rdf_terms.specs.declared.slots.Slots.{Slots}
+use Rattle.rdf_terms.specs.Selections.{Selection}
 use Rattle.tpf_base.specs.Addresses.{Address, IsAddress, IsPortTyped, is_address_byte, address_text, authority_text, query_text}
 use Rattle.template_fill.specs.ReadAddress.{Spelled, IsSpelled, Spells, rooted, with_target, normal}
 use Rattle.template_fill.specs.WebAddress.{IsNormal, Extends}
-use Rattle.template_fill.specs.Pages.{page_address, page_mark, page_pair, places_text}
+use Rattle.template_fill.specs.Pages.{page_address, page_mark, page_pair, selection_text}
 use Rattle.template_fill.proofs.Addresses.{four, normal_is_address, normal-spelled, text-parts}
 use Rattle.template_fill.proofs.Reading.{is_tail, one_address, spells_is_address}
 use Rattle.template_fill.proofs.PageTexts.{page_extends}
@@ -90,21 +90,21 @@ extended_text base a text more n all is r =
 
 -- ---- pages
 
-pub page_is_longer : (base : Address) (slots : Slots) (k : ℕ) → Extends base (page_address base slots k)
-page_is_longer base slots k =
-    let whole = (address_text base ++ places_text slots) ++ page_pair (page_mark (places_text slots)) k in
-    let both = page_extends base slots k (page_mark (places_text slots)) (address_text base) (address_text base ++ places_text slots) whole refl refl refl refl in
+pub page_is_longer : (base : Address) (s : Selection) (k : ℕ) → Extends base (page_address base s k)
+page_is_longer base s k =
+    let whole = (address_text base ++ selection_text s) ++ page_pair (page_mark (selection_text s)) k in
+    let both = page_extends base s k (page_mark (selection_text s)) (address_text base) (address_text base ++ selection_text s) whole refl refl refl refl in
     subst (λ (x : List ℕ). Extends base x) both.1 both.0
 
 -- the address that the text of a page's address is has this text
-pub page_text : (base a : Address) (slots : Slots) (k : ℕ) → IsAddress (address_text base) base → IsAddress (page_address base slots k) a → address_text a ≡ page_address base slots k
-page_text base a slots k own r =
-    let e = page_is_longer base slots k in
-    extended_text base a (page_address base slots k) e.more (normal_parts (address_text base) base own) e.bytes e.is_text r
+pub page_text : (base a : Address) (s : Selection) (k : ℕ) → IsAddress (address_text base) base → IsAddress (page_address base s k) a → address_text a ≡ page_address base s k
+page_text base a s k own r =
+    let e = page_is_longer base s k in
+    extended_text base a (page_address base s k) e.more (normal_parts (address_text base) base own) e.bytes e.is_text r
 
 -- the same of the answer of a call
-pub each_page_text : {E : Type 0} (base given : Address) (text : List ℕ) (slots : Slots) (k : ℕ) (r : Result Address E) → given ≡ base → text ≡ address_text given → IsAddress text given → IfOk r (λ a. IsAddress (page_address given slots k) a) → IfOk r (λ a. address_text a ≡ page_address base slots k)
-each_page_text base given text slots k (Err e) same is own h = tt
-each_page_text base given text slots k (Ok a) same is own h =
+pub each_page_text : {E : Type 0} (base given : Address) (text : List ℕ) (s : Selection) (k : ℕ) (r : Result Address E) → given ≡ base → text ≡ address_text given → IsAddress text given → IfOk r (λ a. IsAddress (page_address given s k) a) → IfOk r (λ a. address_text a ≡ page_address base s k)
+each_page_text base given text s k (Err e) same is own h = tt
+each_page_text base given text s k (Ok a) same is own h =
     let normal : IsAddress (address_text given) given = subst (λ (x : List ℕ). IsAddress x given) is own in
-    page_text given a slots k normal h ∙ ap (λ (x : Address). page_address x slots k) same
+    page_text given a s k normal h ∙ ap (λ (x : Address). page_address x s k) same

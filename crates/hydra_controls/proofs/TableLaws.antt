@@ -10,7 +10,7 @@ use Rattle.rdf_terms.specs.declared.term.Term.TheVariants.{Iri}
 use Rattle.rdf_terms.specs.declared.term.Quad.{Quad}
 use Rattle.tpf_base.specs.Decimals.{decimal_text}
 use Rattle.template_fill.specs.Pages.{page_pair}
-use Rattle.template_fill.specs.Metadata.{graph_at, hydra, statement, topic_quads, form_quads, mapping_quads, count_quads, link_quads, version_quads}
+use Rattle.template_fill.specs.Metadata.{graph_at, statement, topic_quads, form_quads, mapping_quads, count_quads, link_quads, version_quads}
 use Rattle.hydra_controls.specs.declared.facts.PageFacts.{PageFacts}
 use Rattle.hydra_controls.specs.Facts.{addresses_of, closing_of, counts_of, form_of, links_of, mapping_of, mappings_of, mark_of, next_of, previous_of, quads_of, topic_of, version_of}
 use Rattle.hydra_controls.proofs.Iris.{all_joined, decimal-iri, is_iri-append}

@@ -11,7 +11,7 @@ use Rattle.hydra_controls.specs.declared.term_text.TermText.{TermText}
 use Rattle.hydra_controls.specs.declared.quad_text.QuadText.{QuadText}
 use Rattle.hydra_controls.specs.declared.cut.Cut.{Cut}
 use Rattle.hydra_controls.specs.Cuts.{Cuts}
-use Rattle.hydra_controls.specs.TermTexts.{IsTerm, IsTextOf, closing, digits_of, is_plain_byte, opening, quad_of, term_as, term_of, text_of, xsd_integer}
+use Rattle.hydra_controls.specs.TermTexts.{IsTerm, IsTextOf, closing, digits_of, is_plain_byte, opening, quad_of, term_as, term_of, text_of}
 use Rattle.hydra_controls.proofs.CutLaws.{cuts_same, cuts_then}
 
 -- ---- forms

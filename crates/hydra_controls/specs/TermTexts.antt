@@ -1,5 +1,5 @@
 -- Terms and quads by the texts that they are written with.
-use Rattle.std.specs.Prelude.{ℕ, ◌≡◌, Bool, not, true, List, [], ◌∷◌, ◌++◌, codes, Option, Some, None}
+use Rattle.std.specs.Prelude.{ℕ, ◌≡◌, Bool, not, true, List, [], ◌++◌, codes, Option, Some, None}
 use Rattle.std.specs.List.{list_all}
 use Rattle.rdf_terms.specs.Canon.{is_marked}
 use Rattle.rdf_terms.specs.Iri.{is_iri}

@@ -1,22 +1,23 @@
 // Where the fragments of a server stand.
 ghost use Rattle.std.specs.Prelude.{◌≡◌, ◌≤◌, ◌↔◌, false, None, IsNone, IfSome};
 ghost use Rattle.template_fill.specs.Answers.{is_path_of_reload};
-ghost use Rattle.template_fill.specs.Configurations.{IsConfig, is_reload_path, with_reload};
+ghost use Rattle.template_fill.specs.Configurations.{IsConfig, is_reload_path, reading_rows, with_reload};
 
 use std::marker::Model;
 use template_fill::{WebAddress, is_written_path};
 use tpf_base::Text;
 
-/// Where the fragments of a server stand, how many triples a page has at most, and the path on which
-/// a request has the data read again, if there is one.
+/// Where the fragments of a server stand, how many triples a page has at most, the path on which
+/// a request has the data read again, if there is one, and whether rows that a request carries are read.
 ///
 /// The base has no query part, the page size is 1 to 1000, and the path is written and not that of
-/// the base. Contracts see it as the record of the three.
+/// the base. Contracts see it as the record of the four.
 #[derive(Debug, Drop)]
 pub struct Config {
     base: WebAddress,
     page_size: u64,
     reload: Option<Text>,
+    rows: bool,
 }
 
 impl Model for Config {
@@ -26,19 +27,21 @@ impl Model for Config {
 
     ghost Value = { definitions.Config };
 
-    ghost view = { λ c. record { base = c.base; page_size = c.page_size; reload = c.reload } };
+    ghost view = { λ c. record { base = c.base; page_size = c.page_size; reload = c.reload; rows = c.rows } };
 
     ghost invariant = { λ c. (c.base.query ≡ None) × (1 ≤ c.page_size) × (c.page_size ≤ 1000) × HasReloadPath c.base c.reload };
 }
 
 impl Config {
     /// Fragments whose template stands after this base, on pages of so many triples, without a path on
-    /// which a request has the data read again. `None` exactly where the base has a query part, or the
-    /// page size is not 1 to 1000. It takes no memory.
+    /// which a request has the data read again; rows that a request carries are passed over. `None` exactly
+    /// where the base has a query part, or the page size is not 1 to 1000. It takes no memory.
     pub fn new(base: WebAddress, page_size: u64) -> Option<Config>
-        ensures config { IfSome result (λ config. (config.base ≡ base) × (config.page_size ≡ page_size) × (config.reload ≡ None)) }
+        ensures config { IfSome result (λ config.
+            (config.base ≡ base) × (config.page_size ≡ page_size) × (config.reload ≡ None) × (config.rows ≡ false)) }
         ensures valid { IfSome result IsConfig }
-        ensures refused { IsNone result ↔ ¬ (IsConfig (record { base = base; page_size = page_size; reload = None })) }
+        ensures refused { IsNone result
+            ↔ ¬ (IsConfig (record { base = base; page_size = page_size; reload = None; rows = false })) }
     {
         base.is_valid();
         if base.has_query() || page_size == 0 || page_size > 1000 {
@@ -48,6 +51,7 @@ impl Config {
             base,
             page_size,
             reload: None,
+            rows: false,
         })
     }
 
@@ -68,7 +72,23 @@ impl Config {
             base: self.base,
             page_size: self.page_size,
             reload: Some(path),
+            rows: self.rows,
         })
+    }
+
+    /// The same, where the rows that a request carries are read: they restrict a fragment to the triples
+    /// that match one of them (brTPF). It takes no memory.
+    pub fn with_rows(self) -> Config
+        ensures config { result ≡ reading_rows self }
+        ensures valid { IsConfig result }
+    {
+        self.base.is_valid();
+        Config {
+            base: self.base,
+            page_size: self.page_size,
+            reload: self.reload,
+            rows: true,
+        }
     }
 
     /// The base is an address without a query part, the page size is 1 to 1000, and the path of a reload
@@ -96,6 +116,13 @@ impl Config {
     {
         self.base.is_valid();
         self.page_size
+    }
+
+    /// Whether the rows that a request carries are read.
+    pub fn reads_rows(&self) -> bool
+        ensures { result ≡ self.now.rows }
+    {
+        self.rows
     }
 
     /// Whether a path is the one on which a request has the data read again.

@@ -5,7 +5,7 @@
 //! first (`FIRST`) tells what the page is about:
 //!
 //! ```rust
-//! let lines = MetadataLines::new(rt.alloc(), &config, &free(), 1, 0, 1)?;
+//! let lines = MetadataLines::new(rt.alloc(), &config, &free(), &[], 1, 0, 1)?;
 //! let mut text = Vec::new(rt.alloc());
 //! for i in 0..lines.count() {
 //!     lines.write(i, &mut text)?;

@@ -1,5 +1,6 @@
 // The lines of a page's metadata, each made when it is written.
 ghost use Rattle.std.specs.Prelude.{◌≡◌, ◌-◌, ◌≤◌, ◌<◌, ◌^◌, ◌++◌, length, take, drop, nat_lt, slice_index_or, IfOk, OnOk, OnErr};
+ghost use Rattle.std.specs.List.{AllByRecursion};
 ghost use Rattle.rdf_terms.specs.Canon.{canonical_line};
 ghost use Rattle.rdf_terms.specs.declared.term.Quad.{Quad};
 ghost use Rattle.list_laws.specs.Begins.{Begins};
@@ -85,24 +86,27 @@ fn taken_back(
 }
 
 impl MetadataLines {
-    /// The lines of the metadata of a page of the fragment with these slots, which has so many
-    /// triples, in data of this version (Triple Pattern Fragments, "Metadata" and "Controls"). No fixed
-    /// place is a blank node, and the page is 1 or more.
+    /// The lines of the metadata of a page of the fragment with these slots, or of what these rows leave
+    /// of it (brTPF), which has so many triples, in data of this version (Triple Pattern Fragments,
+    /// "Metadata" and "Controls"). No fixed place is a blank node, and the page is 1 or more.
     ///
     /// `OutOfMemory` comes only when memory ran out.
     pub fn new(
         alloc: Global,
         config: &Config,
         slots: &Slots,
+        rows: &[Slots],
         page: u64,
         count: u64,
         version: u64,
     ) -> Result<MetadataLines, OutOfMemory>
         requires slots { HasNoBlank slots.now }
+        requires rows { AllByRecursion HasNoBlank rows.now }
         requires page { 1 ≤ page }
-        ensures { IfOk result (λ lines. lines ≡ page_metadata config.now slots.now page count version) }
+        ensures { IfOk result (λ lines.
+            lines ≡ page_metadata config.now (record { slots = slots.now; rows = rows.now }) page count version) }
     {
-        let first = address(alloc, config, slots, 1)?;
+        let first = address(alloc, config, slots, rows, 1)?;
         let base = config.base().copy(alloc)?;
         let fixed = has_fixed(&base, &first);
         Ok(MetadataLines {

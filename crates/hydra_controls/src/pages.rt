@@ -1,5 +1,6 @@
 // The addresses and the metadata of pages.
 ghost use Rattle.std.specs.Prelude.{◌≡◌, ◌≤◌, IfOk};
+ghost use Rattle.std.specs.List.{AllByRecursion};
 ghost use Rattle.rdf_terms.specs.Fragments.{last_page_of};
 ghost use Rattle.tpf_base.specs.Addresses.{IsAddress, address_text};
 ghost use Rattle.template_fill.specs.Authorities.{ShareAuthority};
@@ -13,24 +14,29 @@ use std::alloc::Global;
 use template_fill::{WebAddress, page_address};
 use tpf_base::OutOfMemory;
 
-/// The address of a page of the fragment with these slots (Triple Pattern Fragments, "Paging"):
-/// the base with the fixed places in a query part, and above page 1 with `page=` and the number.
-/// Its authority is that of the base. No fixed place is a blank node, and the page is 1 or more.
+/// The address of a page of the fragment with these slots (Triple Pattern Fragments, "Paging"), or of
+/// what these rows leave of it (brTPF): the base with the fixed places and then the rows in a query
+/// part, and above page 1 with `page=` and the number. Its authority is that of the base. No fixed
+/// place is a blank node, and the page is 1 or more.
 ///
 /// `OutOfMemory` comes only when memory ran out.
 pub fn address(
     alloc: Global,
     config: &Config,
     slots: &Slots,
+    rows: &[Slots],
     page: u64,
 ) -> Result<WebAddress, OutOfMemory>
     requires slots { HasNoBlank slots.now }
+    requires rows { AllByRecursion HasNoBlank rows.now }
     requires page { 1 ≤ page }
-    ensures text { IfOk result (λ address. address_text address ≡ page_address config.now.base slots.now page) }
-    ensures address { IfOk result (λ address. IsAddress (page_address config.now.base slots.now page) address) }
+    ensures text { IfOk result (λ address.
+        address_text address ≡ page_address config.now.base (record { slots = slots.now; rows = rows.now }) page) }
+    ensures address { IfOk result (λ address.
+        IsAddress (page_address config.now.base (record { slots = slots.now; rows = rows.now }) page) address) }
     ensures authority { IfOk result (λ address. ShareAuthority config.now.base address) }
 {
-    page_address(alloc, config.base(), slots, page)
+    page_address(alloc, config.base(), slots, rows, page)
 }
 
 /// The last page of so many triples, of which a page has at most `size`.
@@ -41,11 +47,12 @@ pub(crate) fn last_page(count: u64, size: u64) -> u64
     count.div_ceil(size).max(1)
 }
 
-/// The metadata of a page of the fragment with these slots, which has so many triples, in data of
-/// this version: 19 to 21 quads of the graph that is named by the page's address and `#metadata`
-/// (Triple Pattern Fragments, "Metadata" and "Controls"; Hydra Core Vocabulary). They say what the
-/// page is about, how many triples its fragment has, where the first, next and previous pages are, by
-/// which form the other fragments are asked for and, last, the version of the data (OWL 2, section 3.5).
+/// The metadata of a page of the fragment with these slots, or of what these rows leave of it, which
+/// has so many triples, in data of this version: 19 to 21 quads of the graph that is named by the
+/// page's address and `#metadata` (Triple Pattern Fragments, "Metadata" and "Controls"; Hydra Core
+/// Vocabulary). They say what the page is about, how many triples its fragment has, where the first,
+/// next and previous pages are, by which form the other fragments are asked for and, last, the version
+/// of the data (OWL 2, section 3.5).
 ///
 /// Each quad has its own terms, so the page's address stands in them 27 times and more;
 /// [`MetadataLines`] are the same quads as lines that are made one by one. No fixed place is a blank
@@ -54,14 +61,17 @@ pub fn metadata(
     alloc: Global,
     config: &Config,
     slots: &Slots,
+    rows: &[Slots],
     page: u64,
     count: u64,
     version: u64,
 ) -> Result<Vec<Quad>, OutOfMemory>
     requires slots { HasNoBlank slots.now }
+    requires rows { AllByRecursion HasNoBlank rows.now }
     requires page { 1 ≤ page }
     requires last { page ≤ last_page_of count config.now.page_size }
-    ensures { IfOk result (λ quads. quads.items ≡ page_metadata config.now slots.now page count version) }
+    ensures { IfOk result (λ quads.
+        quads.items ≡ page_metadata config.now (record { slots = slots.now; rows = rows.now }) page count version) }
 {
-    MetadataLines::new(alloc, config, slots, page, count, version)?.quads(alloc)
+    MetadataLines::new(alloc, config, slots, rows, page, count, version)?.quads(alloc)
 }

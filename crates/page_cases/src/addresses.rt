@@ -1,5 +1,5 @@
 // Addresses.
-use crate::slots::slots_of;
+use crate::slots::{rows_of, slots_of};
 use case_rows::{Case, CaseFault, debug_text, truth_text, word_text};
 use std::alloc::Global;
 use template_fill::{AddressFault, WebAddress, page_address};
@@ -63,7 +63,7 @@ pub fn same_authority(alloc: Global, case: &mut Case<'_>) -> Result<String, Case
     truth_text(alloc, one.same_authority(&other))
 }
 
-/// `subject`, `predicate`, `object`: the address of the page with this number.
+/// `subject`, `predicate`, `object`, `rows`: the address of the page with this number.
 fn page_at(
     alloc: Global,
     case: &mut Case<'_>,
@@ -71,10 +71,11 @@ fn page_at(
     page: u64,
 ) -> Result<String, CaseFault> {
     let slots = slots_of(alloc, case)?;
-    given(alloc, page_address(alloc, base, &slots, page))
+    let rows = rows_of(alloc, case)?;
+    given(alloc, page_address(alloc, base, &slots, &rows, page))
 }
 
-/// `base`, `subject`, `predicate`, `object`, `page`: the address of the page.
+/// `base`, `subject`, `predicate`, `object`, `rows`, `page`: the address of the page.
 pub fn page(alloc: Global, case: &mut Case<'_>) -> Result<String, CaseFault> {
     let page = case.number("page")?;
     let base = address_of(alloc, case, "base")?;

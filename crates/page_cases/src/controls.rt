@@ -1,7 +1,7 @@
 // What a server says of its fragments: its configuration, and the addresses of pages.
 use crate::addresses::{address_of, given};
-use crate::slots::slots_of;
-use case_rows::{Case, CaseFault, word_text};
+use crate::slots::{rows_of, slots_of};
+use case_rows::{Case, CaseFault, truth_text, word_text};
 use hydra_controls::{Config, address};
 use std::alloc::Global;
 use text_base::Text;
@@ -72,7 +72,18 @@ pub fn reload(alloc: Global, case: &mut Case<'_>) -> Result<String, CaseFault> {
     }
 }
 
-/// `subject`, `predicate`, `object`: the address of the page with this number.
+/// `base`, `page_size`: whether the rows of a request are read, first as a configuration is made and then with rows,
+/// and the configuration.
+pub fn reads_rows(alloc: Global, case: &mut Case<'_>) -> Result<String, CaseFault> {
+    let made = config_of(alloc, case)?;
+    let before = truth_text(alloc, made.reads_rows())?;
+    let config = made.with_rows();
+    let after = truth_text(alloc, config.reads_rows())?;
+    let text = config_text(alloc, &config)?;
+    Ok(format!(in alloc; "{} {} {}", before.as_str(), after.as_str(), text.as_str())?)
+}
+
+/// `subject`, `predicate`, `object`, `rows`: the address of the page with this number.
 fn address_in(
     alloc: Global,
     case: &mut Case<'_>,
@@ -83,10 +94,11 @@ fn address_in(
         return Err(CaseFault::Row);
     }
     let slots = slots_of(alloc, case)?;
-    given(alloc, address(alloc, config, &slots, page))
+    let rows = rows_of(alloc, case)?;
+    given(alloc, address(alloc, config, &slots, &rows, page))
 }
 
-/// `base`, `page_size`, `subject`, `predicate`, `object`, `page`: the address of the page.
+/// `base`, `page_size`, `subject`, `predicate`, `object`, `rows`, `page`: the address of the page.
 pub fn fragment_address(alloc: Global, case: &mut Case<'_>) -> Result<String, CaseFault> {
     let page = case.number("page")?;
     let config = config_of(alloc, case)?;

@@ -25,9 +25,13 @@ fn answer_below(alloc: Global, call: &str, case: &mut Case<'_>) -> Result<String
         "expand" => templates::expand(alloc, case),
         "names" => templates::names(alloc, case),
         "form" => templates::form(alloc, case),
+        "selection_form" => templates::selection_form(alloc, case),
         "explicit" => slots::explicit_form(alloc, case),
+        "row" => slots::row(alloc, case),
+        "row_length" => slots::length(alloc, case),
         "config" => controls::config(alloc, case),
         "reload" => controls::reload(alloc, case),
+        "reads_rows" => controls::reads_rows(alloc, case),
         "fragment_address" => controls::fragment_address(alloc, case),
         _ => Err(CaseFault::Row),
     }

@@ -1,10 +1,11 @@
 // The metadata of a page.
 ghost use Rattle.std.specs.Prelude.{◌≡◌, ◌≤◌};
+ghost use Rattle.std.specs.List.{AllByRecursion};
 ghost use Rattle.rdf_terms.specs.Fragments.{last_page_of};
 ghost use Rattle.template_fill.specs.Forms.{HasNoBlank};
 
 use crate::controls::config_of;
-use crate::slots::slots_of;
+use crate::slots::{rows_of, slots_of};
 use case_rows::{Case, CaseFault, number_text, push_number};
 use hydra_controls::{Config, MetadataLines, metadata};
 use nquads_text::write_quad;
@@ -93,9 +94,11 @@ fn quads_of(
     alloc: Global,
     config: &Config,
     slots: &Slots,
+    rows: &[Slots],
     numbers: Numbers,
 ) -> Result<Vec<Quad>, CaseFault>
-    requires { HasNoBlank slots.now }
+    requires slots { HasNoBlank slots.now }
+    requires rows { AllByRecursion HasNoBlank rows.now }
 {
     let Numbers {
         page,
@@ -105,7 +108,7 @@ fn quads_of(
     if page == 0 || page > last_page(count, config.page_size()) {
         return Err(CaseFault::Row);
     }
-    match metadata(alloc, config, slots, page, count, version) {
+    match metadata(alloc, config, slots, rows, page, count, version) {
         Ok(quads) => Ok(quads),
         Err(_) => Err(CaseFault::OutOfMemory),
     }
@@ -116,11 +119,13 @@ fn wanted_of(
     alloc: Global,
     config: &Config,
     slots: &Slots,
+    rows: &[Slots],
     numbers: Numbers,
 ) -> Result<Lines, CaseFault>
-    requires { HasNoBlank slots.now }
+    requires slots { HasNoBlank slots.now }
+    requires rows { AllByRecursion HasNoBlank rows.now }
 {
-    let quads = quads_of(alloc, config, slots, numbers)?;
+    let quads = quads_of(alloc, config, slots, rows, numbers)?;
     written(alloc, quads.as_slice())
 }
 
@@ -129,9 +134,11 @@ fn made_of(
     alloc: Global,
     config: &Config,
     slots: &Slots,
+    rows: &[Slots],
     numbers: Numbers,
 ) -> Result<MetadataLines, CaseFault>
-    requires { HasNoBlank slots.now }
+    requires slots { HasNoBlank slots.now }
+    requires rows { AllByRecursion HasNoBlank rows.now }
 {
     let Numbers {
         page,
@@ -141,7 +148,7 @@ fn made_of(
     if page == 0 {
         return Err(CaseFault::Row);
     }
-    match MetadataLines::new(alloc, config, slots, page, count, version) {
+    match MetadataLines::new(alloc, config, slots, rows, page, count, version) {
         Ok(lines) => Ok(lines),
         Err(_) => Err(CaseFault::OutOfMemory),
     }
@@ -152,12 +159,14 @@ fn is_made(
     alloc: Global,
     config: &Config,
     slots: &Slots,
+    rows: &[Slots],
     numbers: Numbers,
     wanted: &Lines,
 ) -> Result<bool, CaseFault>
-    requires { HasNoBlank slots.now }
+    requires slots { HasNoBlank slots.now }
+    requires rows { AllByRecursion HasNoBlank rows.now }
 {
-    let lines = made_of(alloc, config, slots, numbers)?;
+    let lines = made_of(alloc, config, slots, rows, numbers)?;
     are_made(alloc, &lines, wanted)
 }
 
@@ -166,18 +175,20 @@ fn agreed(
     alloc: Global,
     config: &Config,
     slots: &Slots,
+    rows: &[Slots],
     numbers: Numbers,
 ) -> Result<Lines, CaseFault>
-    requires { HasNoBlank slots.now }
+    requires slots { HasNoBlank slots.now }
+    requires rows { AllByRecursion HasNoBlank rows.now }
 {
-    let wanted = wanted_of(alloc, config, slots, numbers)?;
-    if is_made(alloc, config, slots, numbers, &wanted)? {
+    let wanted = wanted_of(alloc, config, slots, rows, numbers)?;
+    if is_made(alloc, config, slots, rows, numbers, &wanted)? {
         return Ok(wanted);
     }
     Err(CaseFault::Differs)
 }
 
-/// `subject`, `predicate`, `object`: the same of the page with these numbers.
+/// `subject`, `predicate`, `object`, `rows`: the same of the page with these numbers.
 fn lines_in(
     alloc: Global,
     case: &mut Case<'_>,
@@ -185,11 +196,12 @@ fn lines_in(
     numbers: Numbers,
 ) -> Result<Lines, CaseFault> {
     let slots = slots_of(alloc, case)?;
-    agreed(alloc, config, &slots, numbers)
+    let rows = rows_of(alloc, case)?;
+    agreed(alloc, config, &slots, &rows, numbers)
 }
 
-/// `base`, `page_size`, `subject`, `predicate`, `object`, `page`, `count`, `version`: the metadata of the page. They
-/// are made one by one too, which has to give the same lines.
+/// `base`, `page_size`, `subject`, `predicate`, `object`, `rows`, `page`, `count`, `version`: the metadata of the page.
+/// They are made one by one too, which has to give the same lines.
 pub fn lines_of(alloc: Global, case: &mut Case<'_>) -> Result<Lines, CaseFault> {
     let numbers = numbers_of(case)?;
     let config = config_of(alloc, case)?;

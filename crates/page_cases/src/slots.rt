@@ -1,13 +1,14 @@
 // The slots of a fragment, by the explicit forms of their terms.
 ghost use Rattle.std.specs.Prelude.{IfOk, OnOk};
+ghost use Rattle.std.specs.List.{AllByRecursion};
 ghost use Rattle.rdf_terms.specs.Valid.{IsNotBlank};
 ghost use Rattle.template_fill.specs.Forms.{HasNoBlank, HasNoBlankSlot};
 
-use case_rows::{Case, CaseFault, debug_text, text_of_bytes, word_text};
+use case_rows::{Case, CaseFault, debug_text, number_text, text_of_bytes, word_text};
 use nquads_text::canonical;
 use rdf_terms::{Slot, Slots, Term};
 use std::alloc::Global;
-use template_fill::{ValueFault, explicit, read_explicit};
+use template_fill::{ValueFault, explicit, read_explicit, read_row, row_length};
 
 /// A term in canonical text.
 fn canonical_text(alloc: Global, term: &Term) -> Result<String, CaseFault> {
@@ -122,4 +123,74 @@ pub fn slots_of(alloc: Global, case: &mut Case<'_>) -> Result<Box<Slots>, CaseFa
     let mut slots = Box::new(alloc, free())?;
     set_slots(alloc, case, &mut slots)?;
     Ok(slots)
+}
+
+/// `subject`, `predicate`, `object`: a row without a blank node.
+fn row_of(alloc: Global, case: &mut Case<'_>) -> Result<Slots, CaseFault>
+    ensures { IfOk result HasNoBlank }
+{
+    let slots = slots_of(alloc, case)?;
+    case.end()?;
+    Ok(Box::into_inner(slots))
+}
+
+/// The rows of a list, each with `subject`, `predicate` and `object`.
+fn rows_in(alloc: Global, list: &mut [Case<'_>]) -> Result<Vec<Slots>, CaseFault>
+    ensures { IfOk result (λ rows. AllByRecursion HasNoBlank rows.items) }
+{
+    let mut rows = Vec::new(alloc);
+    for row in list.iter_mut() {
+        rows.push(row_of(alloc, row)?)?;
+    }
+    Ok(rows)
+}
+
+/// `rows`: the rows that restrict a fragment, none where the row of the case has no such member.
+pub fn rows_of(alloc: Global, case: &mut Case<'_>) -> Result<Vec<Slots>, CaseFault>
+    ensures { IfOk result (λ rows. AllByRecursion HasNoBlank rows.items) }
+{
+    let mut list = case.list(alloc, "rows")?;
+    rows_in(alloc, list.as_mut_slice())
+}
+
+/// Appends the term of a place in canonical text, or the word `any`, with a blank behind it.
+fn push_place(place: &Slot, out: &mut Vec<u8>) -> Result<(), CaseFault> {
+    match place {
+        Slot::Any => out.extend_from_slice(b"any")?,
+        Slot::Fixed(term) => {
+            if canonical(term, out).is_err() {
+                return Err(CaseFault::OutOfMemory);
+            }
+        }
+    }
+    Ok(out.push(b' ')?)
+}
+
+/// The places of a row.
+fn row_text(alloc: Global, row: &Slots) -> Result<String, CaseFault> {
+    let mut out = Vec::new(alloc);
+    push_place(&row.subject, &mut out)?;
+    push_place(&row.predicate, &mut out)?;
+    push_place(&row.object, &mut out)?;
+    text_of_bytes(out)
+}
+
+/// `text`: the places of the row that is read of it: the canonical text of each term, or `any`, with a blank behind it;
+/// `none`, where it is no row.
+pub fn row(alloc: Global, case: &mut Case<'_>) -> Result<String, CaseFault> {
+    let text = case.text(alloc, "text")?;
+    match read_row(alloc, text.as_str()) {
+        Ok(Some(row)) => row_text(alloc, &row),
+        Ok(None) => word_text(alloc, "none"),
+        Err(_) => Err(CaseFault::OutOfMemory),
+    }
+}
+
+/// `subject`, `predicate`, `object`: how many bytes the row takes in an address.
+pub fn length(alloc: Global, case: &mut Case<'_>) -> Result<String, CaseFault> {
+    let row = slots_of(alloc, case)?;
+    match row_length(alloc, &row) {
+        Ok(length) => number_text(alloc, length as u64),
+        Err(_) => Err(CaseFault::OutOfMemory),
+    }
 }

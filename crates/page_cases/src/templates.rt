@@ -1,6 +1,6 @@
 // Templates, and forms over them.
 use crate::addresses::given;
-use crate::slots::slots_of;
+use crate::slots::{rows_of, slots_of};
 use case_rows::{Case, CaseFault, truth_text, word_text};
 use std::alloc::Global;
 use template_fill::{Form, Template, TemplateFault, Value};
@@ -89,4 +89,21 @@ fn address_of(alloc: Global, case: &mut Case<'_>, form: &Form) -> Result<String,
 pub fn form(alloc: Global, case: &mut Case<'_>) -> Result<String, CaseFault> {
     let form = form_of(alloc, case)?;
     address_of(alloc, case, &form)
+}
+
+/// `subject`, `predicate`, `object`, `rows`: the address that a form gives.
+fn selection_address_of(
+    alloc: Global,
+    case: &mut Case<'_>,
+    form: &Form,
+) -> Result<String, CaseFault> {
+    let slots = slots_of(alloc, case)?;
+    let rows = rows_of(alloc, case)?;
+    given(alloc, form.selection_address(alloc, &slots, &rows))
+}
+
+/// `template`, `subject`, `predicate`, `object`, `rows`: the address that a form with these three names gives.
+pub fn selection_form(alloc: Global, case: &mut Case<'_>) -> Result<String, CaseFault> {
+    let form = form_of(alloc, case)?;
+    selection_address_of(alloc, case, &form)
 }

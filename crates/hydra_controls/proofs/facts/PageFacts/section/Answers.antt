@@ -1,8 +1,7 @@
-use Rattle.std.proofs.Common.{ap, ◌∙◌}
+use Rattle.std.proofs.Common.{ap}
 use Rattle.rdf_terms.specs.declared.term.Term.TheVariants.{Iri}
 use Rattle.hydra_controls.specs.TermTexts.{term_of}
-use Rattle.hydra_controls.proofs.TableLaws.{page_1, page_above, page_above-iri}
-use Rattle.hydra_controls.specs.Facts.{mark_of}
+use Rattle.hydra_controls.proofs.TableLaws.{page_above, page_above-iri}
 use Rattle.hydra_controls.proofs.facts.PageFacts.section.Goals as goal
 
 pub returns-clause-term : goal.returns-clause-term

@@ -1,4 +1,4 @@
-use Rattle.std.proofs.Common.{◌≡◌, ◌<◌, length, arith}
+use Rattle.std.proofs.Common.{arith}
 use Rattle.hydra_controls.specs.Facts.{quads_of}
 use Rattle.hydra_controls.specs.TermTexts.{quad_of}
 use Rattle.hydra_controls.proofs.LineLaws.{placed, quad_taken}

@@ -1,4 +1,4 @@
-use Rattle.std.proofs.Common.{◌∙◌, length}
+use Rattle.std.proofs.Common.{◌∙◌}
 use Rattle.std.specs.Prelude.{slice_index_or}
 use Rattle.rdf_terms.specs.Canon.{canonical_line}
 use Rattle.hydra_controls.proofs.LineLaws.{whole_appended}

@@ -1,7 +1,4 @@
 use Rattle.list_laws.proofs.Begins.{begins_on}
-use Rattle.hydra_controls.proofs.CutLaws.{cuts_then}
-use Rattle.hydra_controls.specs.TermTexts.{digits_of}
-use Rattle.std.proofs.Common.{◌++◌}
 use Rattle.hydra_controls.proofs.TermLaws.{text_cut}
 use Rattle.hydra_controls.proofs.term_text.TermText.write_text.Goals as goal
 
