@@ -7,4 +7,6 @@ mod pages;
 #[cfg(test)]
 mod plain;
 #[cfg(test)]
+mod restricted;
+#[cfg(test)]
 mod serving;

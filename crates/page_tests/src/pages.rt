@@ -17,7 +17,10 @@ fn is_third<R: Abort + AllocGlobal>(rt: &R, base: &WebAddress, slots: &Slots) ->
     requires { HasNoBlank slots.now }
 {
     let wanted = "http://localhost/data?predicate=http%3A%2F%2Fe%2Fk&page=3";
-    assert_eq!(rt; page_address(rt.alloc(), base, slots, 3)?.text(), wanted);
+    assert_eq!(rt;
+        page_address(rt.alloc(), base, slots, &[], 3)?.text(),
+        wanted
+    );
     Ok(())
 }
 
@@ -73,7 +76,7 @@ fn write_all<R: Abort + AllocGlobal>(rt: &R, lines: &MetadataLines) -> Result<()
 }
 
 fn write_first<R: Abort + AllocGlobal>(rt: &R, config: &Config) -> Result<(), Fail> {
-    let lines = MetadataLines::new(rt.alloc(), config, &free(), 1, 0, 1)?;
+    let lines = MetadataLines::new(rt.alloc(), config, &free(), &[], 1, 0, 1)?;
     write_all(rt, &lines)
 }
 

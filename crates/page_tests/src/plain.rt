@@ -24,13 +24,13 @@ const DATA: &str = "<http://e/c> <http://e/n> \"C\" .
 _:x <http://e/k> <http://e/a1> .
 ";
 
-fn host() -> &'static str
+pub(crate) fn host() -> &'static str
     ensures { IsAuthority result.now }
 {
     "localhost"
 }
 
-fn quads_of(alloc: Global, text: &str) -> Result<Vec<Quad>, Fail>
+pub(crate) fn quads_of(alloc: Global, text: &str) -> Result<Vec<Quad>, Fail>
     ensures { IfOk result (λ v. All IsRdfQuad v.items) }
 {
     match read_all(alloc, text.as_bytes(), 1000) {
@@ -60,7 +60,7 @@ fn set_slots(alloc: Global, texts: (&str, &str, &str), slots: &mut Slots) -> Res
 }
 
 /// Slots of which none is fixed.
-fn free() -> Slots {
+pub(crate) fn free() -> Slots {
     Slots {
         subject: Slot::Any,
         predicate: Slot::Any,
