@@ -381,7 +381,7 @@ unfolding version_answer
 version_status history version config request =
     page_status (not (is_read request.method)) _ _ (inr (inr (inr (inl refl))))
     (page_status (not (bytes_eq (path_of request.target) config.base.path)) _ _ (inr (inr (inl refl)))
-    (question_status history version config (question_of request.target)))
+    (question_status history version config (question_of config.rows request.target)))
 
 pub answers_have_status : AnswersHaveStatus
 unfolding answer_to
@@ -409,7 +409,7 @@ unfolding version_answer
 version_page history version config request =
     page_if (not (is_read request.method)) _ _ (no_page 405 (λ ok. absurd (omega (arith, ok))))
     (page_if (not (bytes_eq (path_of request.target) config.base.path)) _ _ (no_page 404 (λ ok. absurd (omega (arith, ok))))
-    (page_question history version config (question_of request.target)))
+    (page_question history version config (question_of config.rows request.target)))
 
 pub pages_are_nquads : PagesAreNQuads
 unfolding answer_to
@@ -465,7 +465,7 @@ unfolding version_answer
 small_version history version config request =
     small_if (not (is_read request.method)) _ _ small_405
     (small_if (not (bytes_eq (path_of request.target) config.base.path)) _ _ small_404
-    (small_question history version config (question_of request.target)))
+    (small_question history version config (question_of config.rows request.target)))
 
 small_answer : (history : List (List Triple)) (mark : Mark) (config : Config) (request : Request) → IsSmall (answer_to history mark config request)
 unfolding answer_to

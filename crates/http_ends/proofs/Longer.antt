@@ -5,9 +5,8 @@ use Rattle.std.specs.List.{AllByRecursion, AllZip}
 use Rattle.tpf_base.specs.HttpHeads.{Request, Verdict, Accepted, Rejected}
 use Rattle.tpf_base.specs.HttpConnection.{heads_of}
 use Rattle.rdf_terms.specs.declared.term.Triple.{Triple}
-use Rattle.rdf_terms.specs.declared.slots.Slots.{Slots}
 use Rattle.rdf_terms.specs.Canon.{canon}
-use Rattle.rdf_terms.specs.Fragments.{fragment, page_of, last_page}
+use Rattle.rdf_terms.specs.Selections.{Selection, selected, selected_last, selected_page}
 use Rattle.template_fill.specs.HttpAnswer.{Answer, NQuads, answer_text, refusal}
 use Rattle.template_fill.specs.ReadAddress.{path_of}
 use Rattle.template_fill.specs.Metadata.{Config, page_metadata}
@@ -20,15 +19,15 @@ use Rattle.template_fill.proofs.Histories.{versions_stay}
 module _ (history more : List (List Triple)) (config : Config) where
   -- ---- answers
 
-  same_body : (version : ℕ) (slots : Slots) (k : ℕ) → version_of (history ++ more) version ≡ version_of history version → page_body (history ++ more) version config slots k ≡ page_body history version config slots k
+  same_body : (version : ℕ) (s : Selection) (k : ℕ) → version_of (history ++ more) version ≡ version_of history version → page_body (history ++ more) version config s k ≡ page_body history version config s k
   unfolding page_body
-  same_body version slots k same =
-      ap (λ (triples : List Triple). canon (map in_default_graph (page_of triples slots k config.page_size) ++ page_metadata config slots k (length (fragment triples slots)) version)) same
+  same_body version s k same =
+      ap (λ (triples : List Triple). canon (map in_default_graph (selected_page triples s k config.page_size) ++ page_metadata config s k (length (selected triples s)) version)) same
 
   same_page : (version : ℕ) (question : Question) → version_of (history ++ more) version ≡ version_of history version → page_answer (history ++ more) version config question ≡ page_answer history version config question
   same_page version question same =
       ap₂ (λ (last : ℕ) (body : List ℕ). if nat_le question.page last then record { status = 200; media_type = NQuads; body = body } else refusal 404)
-      (ap (λ (triples : List Triple). last_page triples question.slots config.page_size) same) (same_body version question.slots question.page same)
+      (ap (λ (triples : List Triple). selected_last triples question.selection config.page_size) same) (same_body version question.selection question.page same)
 
   same_if : (version : ℕ) (question : Option Question) → version_of (history ++ more) version ≡ version_of history version → answer_if (history ++ more) version config question ≡ answer_if history version config question
   same_if version None same = refl
@@ -37,7 +36,7 @@ module _ (history more : List (List Triple)) (config : Config) where
   same_version : (version : ℕ) (request : Request) → version_of (history ++ more) version ≡ version_of history version → version_answer (history ++ more) version config request ≡ version_answer history version config request
   unfolding version_answer
   same_version version request same =
-      ap (λ (answer : Answer). if not (is_read request.method) then refusal 405 else (if not (bytes_eq (path_of request.target) config.base.path) then refusal 404 else answer)) (same_if version (question_of request.target) same)
+      ap (λ (answer : Answer). if not (is_read request.method) then refusal 405 else (if not (bytes_eq (path_of request.target) config.base.path) then refusal 404 else answer)) (same_if version (question_of config.rows request.target) same)
 
   same_answer : (mark : Mark) (request : Request) → IsVersion (length history) mark → answer_to (history ++ more) mark config request ≡ answer_to history mark config request
   unfolding answer_to

@@ -183,6 +183,7 @@ fn told_step(
 struct Scene<'a> {
     data: &'a str,
     page: u64,
+    reads_rows: bool,
     /// The marks and the texts of the steps.
     steps: &'a [String],
 }
@@ -219,7 +220,7 @@ fn differs_with(
 
 /// What differs first, where what is fed comes in pieces of a length.
 fn differs(alloc: Global, scene: &Scene<'_>, length: usize) -> Result<Option<String>, CaseFault> {
-    let mut server = server_of(alloc, scene.data, scene.page)?;
+    let mut server = server_of(alloc, scene.data, scene.page, scene.reads_rows)?;
     differs_with(alloc, &mut server, scene.steps, length)
 }
 
@@ -234,20 +235,22 @@ fn told_of(alloc: Global, scene: &Scene<'_>) -> Result<String, CaseFault> {
     }
 }
 
-/// `data`, `page`, `steps`: `as told`, or the first step that differs, where what is fed comes whole and byte by byte.
-/// A step is a mark and a text. `>` feeds the text; `<` takes as many bytes as the text has, which are these; `skip`
-/// takes so many bytes, and `rest` all that is owed, where the text stands; with `~` the text stands in what is
-/// pending, which it `lacks`, or where it stands so many `times` as a number says; `slowly` takes all a thousand bytes
-/// at a time. `reload` gives the outcome of the reload that is waited for, `failed`, `memory` or the data of the next
-/// version, and `new` the next version without one. `open`, `owes`, `waits` and `ended` say how the connection stands,
-/// and `empty` that nothing is pending.
+/// `data`, `page`, `rows` if rows are read, `steps`: `as told`, or the first step that differs, where what is fed comes
+/// whole and byte by byte. A step is a mark and a text. `>` feeds the text; `<` takes as many bytes as the text has,
+/// which are these; `skip` takes so many bytes, and `rest` all that is owed, where the text stands; with `~` the text
+/// stands in what is pending, which it `lacks`, or where it stands so many `times` as a number says; `slowly` takes all
+/// a thousand bytes at a time. `reload` gives the outcome of the reload that is waited for, `failed`, `memory` or the
+/// data of the next version, and `new` the next version without one. `open`, `owes`, `waits` and `ended` say how the
+/// connection stands, and `empty` that nothing is pending.
 pub fn conversation(alloc: Global, case: &mut Case<'_>) -> Result<String, CaseFault> {
     let page = case.number("page")?;
+    let reads_rows = case.flag("rows")?;
     let data = case.text(alloc, "data")?;
     let steps = case.texts(alloc, "steps")?;
     let scene = Scene {
         data: data.as_str(),
         page,
+        reads_rows,
         steps: steps.as_slice(),
     };
     told_of(alloc, &scene)

@@ -22,5 +22,10 @@ impl Answers for OneServer {
 }
 
 fn main(rt: HostRuntime) -> ExitCode {
-    run(&rt, &OneServer, "names.json", &["conversations.jsonl"])
+    run(
+        &rt,
+        &OneServer,
+        "names.json",
+        &["conversations.jsonl", "rows.jsonl"],
+    )
 }

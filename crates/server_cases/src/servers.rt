@@ -41,21 +41,31 @@ pub fn table_of(alloc: Global, text: &str) -> Result<Table, CaseFault> {
     }
 }
 
-/// A configuration at `http://localhost/data` with so many triples a page, which reloads at `/reload`.
-fn config_of(alloc: Global, page: u64) -> Result<Config, CaseFault> {
+/// A configuration at `http://localhost/data` with so many triples a page, which reloads at `/reload`, and which reads
+/// rows or passes them over.
+fn config_of(alloc: Global, page: u64, reads_rows: bool) -> Result<Config, CaseFault> {
     let Ok(base) = WebAddress::read(alloc, "http://localhost/data") else {
         return Err(CaseFault::OutOfMemory);
     };
     let path = Text::from_string(String::from_str(alloc, "/reload")?);
-    match Config::new(base, page) {
-        Some(config) => config.with_reload(path).ok_or(CaseFault::Row),
+    let Some(config) = Config::new(base, page) else {
+        return Err(CaseFault::Row);
+    };
+    match config.with_reload(path) {
+        Some(config) if reads_rows => Ok(config.with_rows()),
+        Some(config) => Ok(config),
         None => Err(CaseFault::Row),
     }
 }
 
-/// A server of N-Quads text.
-pub fn server_of(alloc: Global, data: &str, page: u64) -> Result<Server, CaseFault> {
-    let config = config_of(alloc, page)?;
+/// A server of N-Quads text, which reads rows or passes them over.
+pub fn server_of(
+    alloc: Global,
+    data: &str,
+    page: u64,
+    reads_rows: bool,
+) -> Result<Server, CaseFault> {
+    let config = config_of(alloc, page, reads_rows)?;
     let table = table_of(alloc, data)?;
     match Server::new(alloc, table, config) {
         Ok(server) => Ok(server),

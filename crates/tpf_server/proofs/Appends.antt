@@ -1,5 +1,5 @@
 -- How what is appended piece by piece stands together.
-use Rattle.std.proofs.Common.{◌≡◌, ℕ, List, [], ◌∷◌, ◌++◌, refl, ap, sym, ◌∙◌, append_assoc, append-nil}
+use Rattle.std.proofs.Common.{◌≡◌, ℕ, List, [], ◌∷◌, ◌++◌, ap, sym, ◌∙◌, append_assoc, append-nil}
 
 pub line_stands : (old s p o : List ℕ)
     → ((old ++ (s ++ 32 ∷ [])) ++ (p ++ 32 ∷ [])) ++ (o ++ 32 ∷ 46 ∷ 10 ∷ []) ≡ old ++ (s ++ 32 ∷ (p ++ 32 ∷ (o ++ [] ++ 32 ∷ 46 ∷ 10 ∷ [])))

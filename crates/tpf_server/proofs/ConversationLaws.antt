@@ -1,23 +1,21 @@
 -- What each call does to a conversation.
 use Rattle.std.proofs.Common.{◌≡◌, ℕ, zero, suc, ◌+◌, ◌-◌, ◌<◌, ◌≤◌, ◌⊎◌, Bool, true, false, List, [], ◌∷◌, ◌++◌, length, take, drop, Option, None, refl, ap, ap₂, sym, subst, ◌∙◌, inl, inr, arith, append_assoc, append-nil, length-append, length-drop, if◌then◌else◌}
 use Rattle.std.specs.Prelude.{nat_lt, ◌||◌, ◌&&◌, not, bytes_eq, codes}
-use Rattle.std.specs.List.{AllByRecursion, concat}
+use Rattle.std.specs.List.{concat}
 use Rattle.std.proofs.lemmas.List.{drop-drop, take-append-drop}
 use Rattle.std.proofs.lemmas.Bool.{or_cases, or_parts, true≢false}
 use Rattle.rdf_terms.specs.declared.term.Triple.{Triple}
 use Rattle.rdf_terms.specs.declared.term.Quad.{Quad}
 use Rattle.rdf_terms.specs.Canon.{canonical_line}
-use Rattle.triple_table.specs.Stored.{listed}
-use Rattle.tpf_base.specs.Decimals.{decimal_text}
 use Rattle.tpf_base.specs.HttpHeads.{Request, Verdict, Accepted, Incomplete, next_request, blank_length, least_below, ends_empty}
-use Rattle.tpf_base.specs.HttpConnection.{Heads, heads_of}
+use Rattle.tpf_base.specs.HttpConnection.{heads_of}
 use Rattle.http_wire.specs.Requests.{Held, fed, fed_to, holding}
 use Rattle.template_fill.specs.Metadata.{Config}
 use Rattle.template_fill.specs.Bodies.{in_default_graph}
-use Rattle.template_fill.specs.HttpAnswer.{Answer, MediaType, answer_text, head_text, phrase, refusal}
-use Rattle.tpf_base.specs.Marks.{Mark, Served, Failed, Starved, version_at}
-use Rattle.template_fill.specs.Answers.{answer_to, is_path_of_reload, is_read, is_reload, reload_answer, version_answer}
-use Rattle.template_fill.specs.Responses.{AreMarks, FitsHead, answering, answers, asks_reload, head_answer, reload_version, reload_versions}
+use Rattle.template_fill.specs.HttpAnswer.{Answer, answer_text, head_text}
+use Rattle.tpf_base.specs.Marks.{Mark, Served, version_at}
+use Rattle.template_fill.specs.Answers.{answer_to, is_reload, reload_answer, version_answer}
+use Rattle.template_fill.specs.Responses.{AreMarks, FitsHead, answering, answers, head_answer, reload_version, reload_versions}
 use Rattle.http_ends.proofs.Lists.{zip_length}
 use Rattle.http_ends.proofs.Growing.{answers_append}
 use Rattle.tpf_server.specs.declared.asked.Queued.{Queued}
@@ -27,21 +25,21 @@ use Rattle.tpf_server.specs.declared.reading.Reading.{Reading}
 use Rattle.tpf_server.specs.declared.reading.Reading.TheVariants.{Reads, Waits, Ended}
 use Rattle.tpf_server.specs.declared.rest.Rest.{Rest}
 use Rattle.tpf_server.specs.declared.rest.Rest.TheVariants.{Nothing, Line, Words, Page}
-use Rattle.tpf_server.specs.declared.status.Status.{Status}
-use Rattle.tpf_server.specs.Statuses.{code, version_line}
+use Rattle.tpf_server.specs.Statuses.{version_line}
 use Rattle.tpf_server.specs.Serving.{Serving, IsHistoryOf, data_of}
 use Rattle.tpf_server.specs.Asked.{answer_of}
 use Rattle.tpf_server.specs.Lines.{quad_lines, triple_line, triple_lines}
-use Rattle.tpf_server.specs.PageRests.{IsPart, PageLines, lines_left, page_left, page_text}
+use Rattle.tpf_server.specs.PageRests.{ArePart, PageLines, lines_left, page_left, page_text, triples_left, triples_of}
 use Rattle.tpf_server.specs.Rests.{IsWithin, is_left, rest_text}
 use Rattle.tpf_server.specs.Owed.{Fills, Fits, debt_left, debt_text, queue_text, queued_text}
-use Rattle.tpf_server.specs.Read.{IsReload, ReadsHeads, Stands, served_marks}
+use Rattle.tpf_server.specs.Read.{ReadsHeads, Stands, served_marks}
 use Rattle.tpf_server.specs.Reading.{is_ended, waits, when_starved}
 use Rattle.tpf_server.specs.Reloads.{IsOutcome, ReadsOn, outcome_asking, outcome_mark, outcome_numbers, outcome_queued}
 use Rattle.tpf_server.specs.Conversation.{Answers, AreServed, Conversation, Feeds, Makes, ReadsFurther, Reloads, opening, owed_text, owes}
 use Rattle.tpf_server.proofs.LineLengths.{line_length}
 use Rattle.tpf_server.proofs.Readings.{queue_more}
 use Rattle.tpf_server.proofs.StatusLaws.{body_some}
+use Rattle.tpf_server.proofs.RestLaws.{below_is, some_triples}
 use Rattle.tpf_server.proofs.DebtLaws.{debt_done, long_head}
 use Rattle.tpf_server.proofs.HeadsLaws.{ended_on, left_heads, reads_on, reload_ends, reload_goes, stands_kept, waits_on}
 use Rattle.tpf_server.proofs.MarkLaws.{AreAt, are_served, marked_before, marks_behind, numbers_append, numbers_front, plain_none, served_at, served_marked}
@@ -462,21 +460,18 @@ long_triples : (triples : List Triple) → 0 < length triples → 0 < length (co
 long_triples [] some = absurd (omega arith)
 long_triples (t ∷ triples) some = long_first (triple_line t) (triple_lines triples) (long_line (in_default_graph t))
 
-below_is : (a b : ℕ) → nat_lt a b ≡ true → a < b
-below_is a b h = grind (arith, h)
-
-long_lines : (page : PageLines) → IsPart page.table page.triples → lines_left page ≡ true → 0 < length (concat (triple_lines (listed page.table page.triples)) ++ concat (quad_lines page.quads))
+long_lines : (page : PageLines) → ArePart page.table page.triples → lines_left page ≡ true → 0 < length (concat (triple_lines (triples_of page.table page.triples)) ++ concat (quad_lines page.quads))
 long_lines page part left =
-    let sum = length-append (concat (triple_lines (listed page.table page.triples))) (concat (quad_lines page.quads)) in
-    elim (or_cases (nat_lt page.triples.from page.triples.to) (nat_lt 0 (length page.quads)) left) as (λ e. 0 < length (concat (triple_lines (listed page.table page.triples)) ++ concat (quad_lines page.quads))) [
-      | inl h ↦ omega (arith, sum, long_triples (listed page.table page.triples) (omega (arith, part.lists, below_is page.triples.from page.triples.to h)))
+    let sum = length-append (concat (triple_lines (triples_of page.table page.triples))) (concat (quad_lines page.quads)) in
+    elim (or_cases (triples_left page.triples) (nat_lt 0 (length page.quads)) left) as (λ e. 0 < length (concat (triple_lines (triples_of page.table page.triples)) ++ concat (quad_lines page.quads))) [
+      | inl h ↦ omega (arith, sum, long_triples (triples_of page.table page.triples) (some_triples page.table page.triples part h))
       | inr h ↦ omega (arith, sum, long_quads page.quads (below_is 0 (length page.quads) h))
     ]
 
-long_page : (page : PageLines) → IsPart page.table page.triples → page_left page ≡ true → 0 < length (page_text page)
+long_page : (page : PageLines) → ArePart page.table page.triples → page_left page ≡ true → 0 < length (page_text page)
 unfolding page_text
 long_page page part left =
-    let lines = concat (triple_lines (listed page.table page.triples)) ++ concat (quad_lines page.quads) in
+    let lines = concat (triple_lines (triples_of page.table page.triples)) ++ concat (quad_lines page.quads) in
     let sum = length-append page.begun lines in
     elim (or_cases (nat_lt 0 (length page.begun)) (lines_left page) left) as (λ e. 0 < length (page.begun ++ lines)) [
       | inl h ↦ omega (arith, sum, below_is 0 (length page.begun) h)

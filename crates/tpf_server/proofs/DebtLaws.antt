@@ -1,5 +1,5 @@
 -- What is owed, and how it becomes less part by part.
-use Rattle.std.proofs.Common.{◌≡◌, ℕ, ◌+◌, ◌-◌, ◌<◌, ◌≤◌, Bool, true, false, List, [], ◌∷◌, ◌++◌, length, take, Result, Ok, Err, refl, ap, ap₂, sym, subst, ◌∙◌, arith, append_assoc, append-nil, length-append, if◌then◌else◌}
+use Rattle.std.proofs.Common.{◌≡◌, ℕ, ◌-◌, ◌<◌, ◌≤◌, Bool, true, false, List, [], ◌∷◌, ◌++◌, length, take, Result, Ok, Err, refl, ap, ap₂, sym, subst, ◌∙◌, arith, append_assoc, append-nil, length-append, if◌then◌else◌}
 use Rattle.std.specs.Prelude.{nat_lt, ◌||◌, OnErr, OnOk}
 use Rattle.std.specs.List.{AllByRecursion}
 use Rattle.std.proofs.lemmas.Bool.{or_parts, true≢false}
@@ -12,7 +12,7 @@ use Rattle.tpf_server.specs.declared.pages.Opened.{Opened}
 use Rattle.tpf_server.specs.declared.rest.Rest.{Rest}
 use Rattle.tpf_server.specs.declared.rest.Rest.TheVariants.{Nothing}
 use Rattle.tpf_server.specs.Statuses.{code, media_of}
-use Rattle.tpf_server.specs.Asked.{IsAsked, answer_of}
+use Rattle.tpf_server.specs.Asked.{IsAsked}
 use Rattle.tpf_server.specs.Given.{IsGiven}
 use Rattle.tpf_server.specs.Rests.{IsWithin, is_left, rest_text}
 use Rattle.tpf_server.specs.Opened.{Opens}

@@ -1,12 +1,11 @@
 -- A part of a line was given, as what is left of the line that was begun.
-use Rattle.std.proofs.Common.{◌≡◌, ℕ, ◌+◌, ◌-◌, ◌<◌, ◌≤◌, Bool, true, false, List, [], ◌++◌, length, take, drop, sym, ap, ◌∙◌}
+use Rattle.std.proofs.Common.{◌≡◌, ℕ, ◌+◌, ◌-◌, ◌<◌, ◌≤◌, true, false, List, ◌++◌, length, take, drop}
 use Rattle.std.specs.Prelude.{nat_lt, slice_index_or}
 use Rattle.std.specs.List.{concat}
 use Rattle.rdf_terms.specs.declared.term.Quad.{Quad}
 use Rattle.rdf_terms.specs.Canon.{canonical_line}
 use Rattle.triple_table.specs.declared.ids.IdTriple.{IdTriple}
 use Rattle.triple_table.specs.Stored.{Stored, IsIdTriple, held_terms, triple_at}
-use Rattle.tpf_server.specs.declared.parts.Begun.{Begun}
 use Rattle.tpf_server.specs.declared.parts.Begun.TheVariants.{Nothing, Triple, Line}
 use Rattle.tpf_server.specs.Given.{IsGiven}
 use Rattle.tpf_server.specs.Lines.{some_quad, triple_line}

@@ -1,5 +1,5 @@
 -- The answers to the heads at the front of bytes, one after another.
-use Rattle.std.proofs.Common.{◌≡◌, ℕ, ◌+◌, ◌-◌, ◌⊎◌, Bool, true, false, List, [], ◌∷◌, ◌++◌, map, length, take, drop, Option, Some, None, refl, ap, ap₂, sym, subst, ◌∙◌, inl, inr, arith, append-nil, length-drop, if◌then◌else◌}
+use Rattle.std.proofs.Common.{◌≡◌, ℕ, ◌+◌, ◌⊎◌, Bool, true, false, List, [], ◌∷◌, ◌++◌, map, length, take, drop, Option, Some, None, refl, ap, ap₂, sym, subst, ◌∙◌, inl, inr, arith, length-drop, if◌then◌else◌}
 use Rattle.std.specs.Prelude.{codes, bytes_eq, not, nat_lt, nat_le, ◌&&◌}
 use Rattle.std.proofs.lemmas.Bool.{true≢false}
 use Rattle.tpf_base.specs.HttpHeads.{Request, Verdict, Accepted, Rejected, NextRequest, Incomplete, Taken, Refused, next_request, next_at, with_length, judged, judged_head, head_limit, blank_length, head_length, field_lines, taken_whole, names_host, is_target}
@@ -10,22 +10,21 @@ use Rattle.http_wire.specs.declared.message.Asked.TheVariants.{Get, Head, Other}
 use Rattle.http_wire.proofs.StayLemmas.{taken_within}
 use Rattle.rdf_terms.specs.declared.term.Triple.{Triple}
 use Rattle.rdf_terms.specs.Canon.{canon}
-use Rattle.rdf_terms.specs.Fragments.{fragment, last_page, page_of}
+use Rattle.rdf_terms.specs.Selections.{selected, selected_last, selected_page}
 use Rattle.template_fill.specs.ReadAddress.{path_of}
-use Rattle.template_fill.specs.Metadata.{Config, page_metadata}
+use Rattle.template_fill.specs.Metadata.{page_metadata}
 use Rattle.template_fill.specs.Bodies.{in_default_graph, page_body, version_of}
-use Rattle.template_fill.specs.HttpAnswer.{Answer, NQuads, answer_text, head_text, refusal}
+use Rattle.template_fill.specs.HttpAnswer.{Answer, NQuads, answer_text, refusal}
 use Rattle.tpf_base.specs.Marks.{Served}
 use Rattle.template_fill.specs.Answers.{Question, answer_if, answer_to, is_path_of_reload, is_read, is_reload, page_answer, question_of, reload_answer, version_answer}
 use Rattle.template_fill.proofs.Histories.{last_served}
-use Rattle.tpf_base.specs.HttpConnection.{Heads, after_taken, closes, heads_from, heads_of, last_head, unread_of, with_head}
+use Rattle.tpf_base.specs.HttpConnection.{after_taken, heads_from, heads_of, last_head, with_head}
 use Rattle.template_fill.specs.Responses.{answering, head_answer}
 use Rattle.http_wire.proofs.ConnectionLemmas.{heads_read}
-use Rattle.tpf_server.specs.declared.asked.Asking.{Asking}
 use Rattle.tpf_server.specs.declared.asked.Asking.TheVariants as asks
 use Rattle.tpf_server.specs.declared.asked.Queued.{Queued}
 use Rattle.tpf_server.specs.Statuses.{code}
-use Rattle.tpf_server.specs.Serving.{Serving, IsHistoryOf, data_of, served}
+use Rattle.tpf_server.specs.Serving.{Serving, IsHistoryOf, data_of}
 use Rattle.tpf_server.specs.Asked.{IsAsked, answer_at, answer_by, answer_for, answer_for_target, answer_of, body_at, is_head, is_other, page_answer_at, refused_with}
 use Rattle.tpf_server.specs.Owed.{queued_text}
 use Rattle.tpf_server.specs.Read.{IsAnswered, asks_for}
@@ -34,11 +33,11 @@ use Rattle.triple_table.proofs.Bytes.{bytes_eq_same}
 -- ---- a request over a history whose last version is served
 
 module _ (history : List (List Triple)) (server : Serving) where
-  page_is : (question : Question) → version_of history server.version ≡ data_of server → page_answer_at server question.slots question.page ≡ page_answer history server.version server.config question
+  page_is : (question : Question) → version_of history server.version ≡ data_of server → page_answer_at server question.selection question.page ≡ page_answer history server.version server.config question
   unfolding body_at page_body
   page_is question same =
-      sym (ap (λ (triples : List Triple). if nat_le question.page (last_page triples question.slots server.config.page_size)
-      then record { status = 200; media_type = NQuads; body = canon (map in_default_graph (page_of triples question.slots question.page server.config.page_size) ++ page_metadata server.config question.slots question.page (length (fragment triples question.slots)) server.version) }
+      sym (ap (λ (triples : List Triple). if nat_le question.page (selected_last triples question.selection server.config.page_size)
+      then record { status = 200; media_type = NQuads; body = canon (map in_default_graph (selected_page triples question.selection question.page server.config.page_size) ++ page_metadata server.config question.selection question.page (length (selected triples question.selection)) server.version) }
       else refusal 404) same)
 
   asked_is : (question : Option Question) → version_of history server.version ≡ data_of server → answer_by server question ≡ answer_if history server.version server.config question
@@ -46,9 +45,9 @@ module _ (history : List (List Triple)) (server : Serving) where
   asked_is (Some question) same = page_is question same
 
   target_is : (target : List ℕ) → version_of history server.version ≡ data_of server
-      → answer_for_target server target ≡ (if not (bytes_eq (path_of target) server.config.base.path) then refusal 404 else answer_if history server.version server.config (question_of target))
+      → answer_for_target server target ≡ (if not (bytes_eq (path_of target) server.config.base.path) then refusal 404 else answer_if history server.version server.config (question_of server.config.rows target))
   unfolding answer_for_target answer_at
-  target_is target same = ap (λ (a : Answer). if not (bytes_eq (path_of target) server.config.base.path) then refusal 404 else a) (asked_is (question_of target) same)
+  target_is target same = ap (λ (a : Answer). if not (bytes_eq (path_of target) server.config.base.path) then refusal 404 else a) (asked_is (question_of server.config.rows target) same)
 
 abbrev known : Bool → Bool → Asked
 known get head = if get then Get else (if head then Head else Other)

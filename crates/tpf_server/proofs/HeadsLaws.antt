@@ -1,7 +1,6 @@
 -- How the heads of more bytes stand behind those that were read.
-use Rattle.std.proofs.Common.{◌≡◌, ℕ, zero, suc, ◌+◌, ◌≤◌, Bool, true, false, List, [], ◌∷◌, ◌++◌, drop, length, refl, ap, sym, subst, ◌∙◌, arith, append_assoc, append-nil, if◌then◌else◌}
-use Rattle.std.proofs.lemmas.Bool.{true≢false}
-use Rattle.tpf_base.specs.HttpHeads.{Verdict, Accepted, Incomplete, Taken, next_request}
+use Rattle.std.proofs.Common.{◌≡◌, ℕ, zero, suc, ◌≤◌, Bool, true, false, List, [], ◌∷◌, ◌++◌, drop, length, refl, ap, sym, subst, ◌∙◌, arith, append_assoc, append-nil, if◌then◌else◌}
+use Rattle.tpf_base.specs.HttpHeads.{Verdict, Accepted, Taken}
 use Rattle.tpf_base.specs.HttpConnection.{Heads, heads_of, last_head, with_head, with_more}
 use Rattle.http_wire.proofs.ConnectionLemmas.{more_heads}
 use Rattle.http_wire.proofs.StayLemmas.{taken_stays, taken_within}
@@ -9,7 +8,7 @@ use Rattle.template_fill.specs.Metadata.{Config}
 use Rattle.tpf_server.specs.declared.reading.Reading.{Reading}
 use Rattle.tpf_server.specs.declared.reading.Reading.TheVariants.{Reads, Waits, Ended}
 use Rattle.tpf_server.specs.Reading.{is_ended}
-use Rattle.tpf_server.specs.Read.{IsReload, Stands, closed_heads, heads_then}
+use Rattle.tpf_server.specs.Read.{IsReload, Stands, heads_then}
 use Rattle.tpf_server.proofs.HeadAnswers.{heads_at}
 use Rattle.tpf_server.proofs.Readings.{then_head}
 

@@ -1,5 +1,6 @@
-pub mod Gathered
 pub mod Questions
+pub mod RowLaws
+pub mod Gathered
 pub mod Targets
 pub mod Numbers
 pub mod LineLengths

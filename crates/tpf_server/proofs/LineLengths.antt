@@ -1,5 +1,5 @@
 -- The lengths of lines.
-use Rattle.std.proofs.Common.{◌≡◌, ℕ, zero, suc, ◌+◌, ◌<◌, ◌≤◌, List, [], ◌∷◌, ◌++◌, length, drop, refl, ap, sym, ◌∙◌, arith, length-append, append-nil, length-drop}
+use Rattle.std.proofs.Common.{◌≡◌, ℕ, zero, suc, ◌+◌, ◌<◌, List, [], ◌∷◌, ◌++◌, map, length, drop, refl, ap, ◌∙◌, arith, length-append}
 use Rattle.std.specs.Prelude.{slice_index_or}
 use Rattle.std.specs.List.{concat}
 use Rattle.rdf_terms.specs.declared.term.Triple.{Triple}
@@ -37,3 +37,11 @@ next_triple triples i d h =
     let e : suc i ≡ i + 1 = omega arith in
     ap (λ (l : List Triple). length (concat (triple_lines l))) (drop_at triples i d h ∙ ap (λ (n : ℕ). slice_index_or triples i d ∷ drop n triples) e)
     ∙ length-append (triple_line (slice_index_or triples i d)) (concat (triple_lines (drop (i + 1) triples)))
+
+-- of triples by ids
+pub next_ids : {A : Type 0} (f : A → Triple) (ids : List A) (i : ℕ) (d : A) → i < length ids
+    → length (concat (triple_lines (map f (drop i ids)))) ≡ length (triple_line (f (slice_index_or ids i d))) + length (concat (triple_lines (map f (drop (i + 1) ids))))
+next_ids {A = A} f ids i d h =
+    let e : suc i ≡ i + 1 = omega arith in
+    ap (λ (l : List A). length (concat (triple_lines (map f l)))) (drop_at ids i d h ∙ ap (λ (n : ℕ). slice_index_or ids i d ∷ drop n ids) e)
+    ∙ length-append (triple_line (f (slice_index_or ids i d))) (concat (triple_lines (map f (drop (i + 1) ids))))

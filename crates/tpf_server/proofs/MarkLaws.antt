@@ -1,5 +1,5 @@
 -- Marks of further heads, and the numbers that reload requests among them are told.
-use Rattle.std.proofs.Common.{◌≡◌, ℕ, ◌≤◌, Bool, true, false, List, [], ◌∷◌, ◌++◌, map, length, refl, ap, ap₂, sym, subst, ◌∙◌, arith, append_assoc}
+use Rattle.std.proofs.Common.{◌≡◌, ℕ, ◌≤◌, Bool, false, List, [], ◌∷◌, ◌++◌, refl, ap, ap₂, sym, subst, ◌∙◌, arith, append_assoc}
 use Rattle.std.specs.List.{AllByRecursion, AllZip}
 use Rattle.tpf_base.specs.HttpHeads.{Verdict}
 use Rattle.tpf_base.specs.Marks.{Mark, Served, version_at}

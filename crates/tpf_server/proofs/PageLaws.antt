@@ -1,23 +1,24 @@
 -- A page as lines: of the triples that it shows, and of its metadata.
-use Rattle.std.proofs.Common.{◌≡◌, ℕ, zero, suc, ◌+◌, ◌-◌, ◌*◌, ◌<◌, ◌≤◌, Bool, true, false, List, [], ◌∷◌, ◌++◌, map, length, take, drop, refl, ap, ap₂, sym, subst, ◌∙◌, arith, length-append, length-take, length-drop, append_assoc, if◌then◌else◌, le-leb}
-use Rattle.std.specs.Prelude.{nat_le}
+use Rattle.std.proofs.Common.{◌≡◌, ℕ, zero, suc, ◌+◌, ◌-◌, ◌*◌, ◌≤◌, List, [], ◌∷◌, ◌++◌, map, length, take, drop, refl, ap, ap₂, sym, ◌∙◌, arith, length-append, length-take, length-drop}
 use Rattle.std.specs.List.{concat}
-use Rattle.std.proofs.lemmas.List.{map-append, length-map}
+use Rattle.std.proofs.lemmas.List.{map-append}
 use Rattle.rdf_terms.specs.declared.term.Triple.{Triple}
 use Rattle.rdf_terms.specs.declared.term.Quad.{Quad}
 use Rattle.rdf_terms.specs.declared.slots.Slots.{Slots}
 use Rattle.rdf_terms.specs.Canon.{canon, canonical_line}
-use Rattle.rdf_terms.specs.Fragments.{fragment, last_page, page_of}
+use Rattle.rdf_terms.specs.Fragments.{fragment}
+use Rattle.rdf_terms.specs.Selections.{Selection, selected, selected_page}
 use Rattle.triple_table.specs.declared.ids.Row.{Row}
 use Rattle.triple_table.specs.declared.ids.Range.{Range}
 use Rattle.triple_table.specs.Rows.{id_triple_of}
 use Rattle.triple_table.specs.Stored.{Stored, IsRange, listed, rows_in, triple_at, triples_in}
 use Rattle.fragment_pages.specs.declared.view.PageView.{PageView}
-use Rattle.fragment_pages.specs.Pages.{IsPage, IsPageNumber, shown}
-use Rattle.template_fill.specs.Metadata.{Config, page_metadata}
+use Rattle.fragment_pages.specs.Pages.{IsPage, shown}
+use Rattle.template_fill.specs.Metadata.{page_metadata}
 use Rattle.template_fill.specs.Bodies.{in_default_graph}
 use Rattle.tpf_server.specs.Lines.{quad_lines, triple_lines}
-use Rattle.tpf_server.specs.PageRests.{IsPart, page_text}
+use Rattle.tpf_server.specs.PageRests.{IsPart, page_text, triples_of}
+use Rattle.tpf_server.specs.declared.rest.PageTriples.{PageTriples}
 use Rattle.tpf_server.specs.Serving.{Serving, data_of}
 use Rattle.tpf_server.specs.Asked.{body_at}
 use Rattle.tpf_server.proofs.PartLaws.{concat_more}
@@ -89,24 +90,25 @@ default_lines (t ∷ triples) = ap (λ (l : List (List ℕ)). canonical_line (in
 lines_join : (triples : List Triple) (quads : List Quad) → quad_lines (map in_default_graph triples ++ quads) ≡ triple_lines triples ++ quad_lines quads
 lines_join triples quads = map-append canonical_line (map in_default_graph triples) quads ∙ ap (λ (l : List (List ℕ)). l ++ quad_lines quads) (default_lines triples)
 
-module _ (server : Serving) (slots : Slots) (page : ℕ) where
-  pub page_text_is : (range : Range) (quads : List Quad) → listed server.table range ≡ page_of (data_of server) slots page server.config.page_size
-      → quads ≡ page_metadata server.config slots page (length (fragment (data_of server) slots)) server.version
-      → page_text (record { begun = []; table = server.table; triples = range; quads = quads }) ≡ body_at server slots page
+module _ (server : Serving) (s : Selection) (page : ℕ) where
+  pub page_text_is : (triples : PageTriples) (quads : List Quad) → triples_of server.table triples ≡ selected_page (data_of server) s page server.config.page_size
+      → quads ≡ page_metadata server.config s page (length (selected (data_of server) s)) server.version
+      → page_text (record { begun = []; table = server.table; triples = triples; quads = quads }) ≡ body_at server s page
   unfolding page_text body_at
-  page_text_is range quads same meta =
-      let triples = page_of (data_of server) slots page server.config.page_size in
-      let metadata = page_metadata server.config slots page (length (fragment (data_of server) slots)) server.version in
+  page_text_is triples quads same meta =
+      let shown = selected_page (data_of server) s page server.config.page_size in
+      let metadata = page_metadata server.config s page (length (selected (data_of server) s)) server.version in
       ap₂ (λ (l : List Triple) (qs : List Quad). concat (triple_lines l) ++ concat (quad_lines qs)) same meta
-      ∙ sym (concat_more (triple_lines triples) (quad_lines metadata))
-      ∙ ap concat (sym (lines_join triples metadata))
-      ∙ sym (canon_is (map in_default_graph triples ++ metadata))
+      ∙ sym (concat_more (triple_lines shown) (quad_lines metadata))
+      ∙ ap concat (sym (lines_join shown metadata))
+      ∙ sym (canon_is (map in_default_graph shown ++ metadata))
 
-  pub page_length : (range : Range) (quads : List Quad) (a b : ℕ) → listed server.table range ≡ page_of (data_of server) slots page server.config.page_size
-      → quads ≡ page_metadata server.config slots page (length (fragment (data_of server) slots)) server.version
-      → a ≡ length (concat (triple_lines (listed server.table range))) → b ≡ length (concat (quad_lines quads))
-      → a + b ≡ length (body_at server slots page)
+  pub page_length : (triples : PageTriples) (quads : List Quad) (a : ℕ) → triples_of server.table triples ≡ selected_page (data_of server) s page server.config.page_size
+      → quads ≡ page_metadata server.config s page (length (selected (data_of server) s)) server.version
+      → a ≡ length (concat (triple_lines (triples_of server.table triples)))
+      → a + length (concat (quad_lines quads)) ≡ length (body_at server s page)
   unfolding page_text
-  page_length range quads a b same meta of_triples of_quads =
-      let whole : concat (triple_lines (listed server.table range)) ++ concat (quad_lines quads) ≡ body_at server slots page = page_text_is range quads same meta in
-      omega (arith, of_triples, of_quads, length-append (concat (triple_lines (listed server.table range))) (concat (quad_lines quads)), ap (λ (l : List ℕ). length l) whole)
+  page_length triples quads a same meta of_triples =
+      let lines = concat (triple_lines (triples_of server.table triples)) in
+      let whole : lines ++ concat (quad_lines quads) ≡ body_at server s page = page_text_is triples quads same meta in
+      omega (arith, of_triples, length-append lines (concat (quad_lines quads)), ap (λ (l : List ℕ). length l) whole)

@@ -1,15 +1,13 @@
 -- The parts of a line, and what each byte of its source is written as.
 use Rattle.std.proofs.Common.{◌≡◌, ℕ, zero, suc, ◌+◌, ◌-◌, ◌*◌, ◌<◌, ◌≤◌, min, if◌then◌else◌, Bool, true, false, List, [], ◌∷◌, ◌++◌, map, length, take, drop, refl, ap, ap₂, sym, subst, ◌∙◌, arith, append_assoc, append-nil, length-append, length-take, length-drop}
-use Rattle.std.specs.Prelude.{nat_lt, slice_index_or}
+use Rattle.std.specs.Prelude.{nat_lt}
 use Rattle.std.specs.List.{AllByRecursion, concat}
 use Rattle.std.proofs.lemmas.List.{drop-drop, map-append, length-map, take-append-drop}
-use Rattle.list_laws.proofs.Each.{all_append, all_back, all_front, all_always, all_map}
+use Rattle.list_laws.proofs.Each.{all_append, all_back, all_front}
 use Rattle.rdf_terms.specs.declared.term.Term.{Term}
 use Rattle.rdf_terms.specs.declared.term.Term.TheVariants.{Iri, Blank, Literal}
-use Rattle.rdf_terms.specs.declared.term.Kind.{Kind}
 use Rattle.rdf_terms.specs.declared.term.Triple.{Triple}
-use Rattle.rdf_terms.specs.declared.term.Quad.{Quad}
-use Rattle.rdf_terms.specs.Canon.{after_mark, canonical_byte, canonical_form, canonical_kind, canonical_line, canonical_term, is_marked}
+use Rattle.rdf_terms.specs.Canon.{after_mark, canonical_byte, canonical_form, canonical_kind, canonical_term, is_marked}
 use Rattle.hydra_controls.specs.declared.cut.Cut.{Cut}
 use Rattle.hydra_controls.specs.Cuts.{Cuts, cut_behind, cut_of}
 use Rattle.hydra_controls.proofs.CutLaws.{behind_all, behind_append, between, cut_append}

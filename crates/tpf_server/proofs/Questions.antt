@@ -6,10 +6,10 @@ use Rattle.rdf_terms.specs.Tag.{is_tag, lower}
 use Rattle.rdf_terms.specs.Kinds.{typed_kind}
 use Rattle.rdf_terms.specs.Datatype.{is_lang_string}
 use Rattle.rdf_terms.specs.declared.term.Term.{Term}
-use Rattle.rdf_terms.specs.declared.term.Term.TheVariants.{Iri, Blank, Literal}
-use Rattle.rdf_terms.specs.declared.term.Kind.TheVariants.{Plain, Typed, Tagged}
+use Rattle.rdf_terms.specs.declared.term.Term.TheVariants.{Iri, Literal}
+use Rattle.rdf_terms.specs.declared.term.Kind.TheVariants.{Tagged}
 use Rattle.rdf_terms.specs.declared.slots.Slot.{Slot}
-use Rattle.rdf_terms.specs.declared.slots.Slot.TheVariants.{Any, Fixed}
+use Rattle.rdf_terms.specs.declared.slots.Slot.TheVariants.{Any}
 use Rattle.rdf_terms.specs.declared.slots.Slots.{Slots}
 use Rattle.template_fill.specs.declared.fault.ValueFault.{ValueFault}
 use Rattle.template_fill.specs.declared.fault.ValueFault.TheVariants as faults
@@ -17,11 +17,12 @@ use Rattle.template_fill.specs.ReadAddress.{◌>>=◌}
 use Rattle.template_fill.specs.Forms.{HasNoBlank, HasNoBlankSlot}
 use Rattle.rdf_terms.specs.Valid.{IsNotBlank}
 use Rattle.template_fill.specs.Explicit.{slot_of, fixed, read_literal, read_iri, cut_literal, cut_last, suffixed_literal, marked_literal, typed_literal, tagged_literal}
-use Rattle.template_fill.specs.Answers.{Question, accepted, asked_by, one_value, page_number, slot_under, values_under}
+use Rattle.template_fill.specs.Rows.{accepted}
+use Rattle.template_fill.specs.Answers.{Question, asked_by, one_value, page_number, rows_under, slot_under, values_under}
 use Rattle.tpf_server.specs.declared.parameters.Values.{Values}
 use Rattle.tpf_server.specs.declared.parameters.Values.TheVariants.{Absent, One, Several}
 use Rattle.tpf_server.specs.declared.parameters.Parameters.{Parameters}
-use Rattle.tpf_server.specs.Parameters.{found, found_in, page_in, question_in, slot_in, slots_in}
+use Rattle.tpf_server.specs.Parameters.{found, found_in, page_in, question_in, rows_found, rows_in, slot_in, slots_in}
 
 -- ---- the question of the gathered values is that of the pairs
 
@@ -35,45 +36,53 @@ page_is [] = refl
 page_is (value ∷ []) = refl
 page_is (value ∷ other ∷ more) = refl
 
-abbrev in_turn : Option Slot → Option Slot → Option Slot → Option ℕ → Option Question
-in_turn s p o k = do
+rows_are : (rows : Option (List Slots)) → rows_in (rows_found rows) ≡ rows
+rows_are None = refl
+rows_are (Some rows) = refl
+
+abbrev in_turn : Option Slot → Option Slot → Option Slot → Option (List Slots) → Option ℕ → Option Question
+in_turn s p o r k = do
   subject ← s
   predicate ← p
   object ← o
+  rows ← r
   page ← k
-  Some (record { slots = record { subject = subject; predicate = predicate; object = object }; page = page })
+  Some (record { selection = record { slots = record { subject = subject; predicate = predicate; object = object }; rows = rows }; page = page })
 
-abbrev slots_first : Option Slot → Option Slot → Option Slot → Option Slots
+abbrev pub slots_first : Option Slot → Option Slot → Option Slot → Option Slots
 slots_first s p o = do
   subject ← s
   predicate ← p
   object ← o
   Some (record { subject = subject; predicate = predicate; object = object })
 
-abbrev with_page : Option Slots → Option ℕ → Option Question
-with_page slots k = do
+abbrev pub with_page : Option Slots → Option (List Slots) → Option ℕ → Option Question
+with_page slots r k = do
   s ← slots
+  rows ← r
   page ← k
-  Some (record { slots = s; page = page })
+  Some (record { selection = record { slots = s; rows = rows }; page = page })
 
-same_turn : (s p o : Option Slot) (k : Option ℕ) → with_page (slots_first s p o) k ≡ in_turn s p o k
-same_turn None p o k = refl
-same_turn (Some s) None o k = refl
-same_turn (Some s) (Some p) None k = refl
-same_turn (Some s) (Some p) (Some o) k = refl
+same_turn : (s p o : Option Slot) (r : Option (List Slots)) (k : Option ℕ) → with_page (slots_first s p o) r k ≡ in_turn s p o r k
+same_turn None p o r k = refl
+same_turn (Some s) None o r k = refl
+same_turn (Some s) (Some p) None r k = refl
+same_turn (Some s) (Some p) (Some o) r k = refl
 
-pub question_is : (pairs : List (List ℕ × List ℕ)) → question_in (found_in pairs) ≡ asked_by pairs
+pub question_is : (reads : Bool) (pairs : List (List ℕ × List ℕ)) → question_in (found_in reads pairs) ≡ asked_by reads pairs
 unfolding found_in
-question_is pairs =
+question_is reads pairs =
     let vs = values_under (codes "subject") pairs in
     let vp = values_under (codes "predicate") pairs in
     let vo = values_under (codes "object") pairs in
     let vk = values_under (codes "page") pairs in
-    same_turn (slot_in (found vs)) (slot_in (found vp)) (slot_in (found vo)) (page_in (found vk))
-    ∙ ap (λ (s : Option Slot). in_turn s (slot_in (found vp)) (slot_in (found vo)) (page_in (found vk))) (slot_is vs)
-    ∙ ap (λ (p : Option Slot). in_turn (slot_under (codes "subject") pairs) p (slot_in (found vo)) (page_in (found vk))) (slot_is vp)
-    ∙ ap (λ (o : Option Slot). in_turn (slot_under (codes "subject") pairs) (slot_under (codes "predicate") pairs) o (page_in (found vk))) (slot_is vo)
-    ∙ ap (λ (k : Option ℕ). in_turn (slot_under (codes "subject") pairs) (slot_under (codes "predicate") pairs) (slot_under (codes "object") pairs) k) (page_is vk)
+    let rows = rows_under reads pairs in
+    same_turn (slot_in (found vs)) (slot_in (found vp)) (slot_in (found vo)) (rows_in (rows_found rows)) (page_in (found vk))
+    ∙ ap (λ (s : Option Slot). in_turn s (slot_in (found vp)) (slot_in (found vo)) (rows_in (rows_found rows)) (page_in (found vk))) (slot_is vs)
+    ∙ ap (λ (p : Option Slot). in_turn (slot_under (codes "subject") pairs) p (slot_in (found vo)) (rows_in (rows_found rows)) (page_in (found vk))) (slot_is vp)
+    ∙ ap (λ (o : Option Slot). in_turn (slot_under (codes "subject") pairs) (slot_under (codes "predicate") pairs) o (rows_in (rows_found rows)) (page_in (found vk))) (slot_is vo)
+    ∙ ap (λ (r : Option (List Slots)). in_turn (slot_under (codes "subject") pairs) (slot_under (codes "predicate") pairs) (slot_under (codes "object") pairs) r (page_in (found vk))) (rows_are rows)
+    ∙ ap (λ (k : Option ℕ). in_turn (slot_under (codes "subject") pairs) (slot_under (codes "predicate") pairs) (slot_under (codes "object") pairs) rows k) (page_is vk)
 
 -- ---- no blank node is asked for
 
@@ -119,7 +128,7 @@ fixed_fits : (r : Result Term ValueFault) → NoBlankTerm r → NoBlankRead (fix
 fixed_fits (Ok term) h = h
 fixed_fits (Err fault) h = tt
 
-slot_fits : (text : List ℕ) → NoBlankRead (slot_of text)
+pub slot_fits : (text : List ℕ) → NoBlankRead (slot_of text)
 slot_fits [] = tt
 slot_fits (b ∷ rest) =
     either_slot (b == 63) (Ok Any) (if b == 34 then fixed (read_literal rest) else fixed (read_iri (b ∷ rest))) tt
@@ -127,7 +136,7 @@ slot_fits (b ∷ rest) =
     (fixed_fits (read_literal rest) (literal_fits rest))
     (fixed_fits (read_iri (b ∷ rest)) (either (is_iri (b ∷ rest)) (Ok (Iri (b ∷ rest))) (Err faults.Iri) tt tt)))
 
-accepted_fits : (r : Result Slot ValueFault) → NoBlankRead r → IfSome (accepted r) HasNoBlankSlot
+pub accepted_fits : (r : Result Slot ValueFault) → NoBlankRead r → IfSome (accepted r) HasNoBlankSlot
 accepted_fits (Ok slot) h = h
 accepted_fits (Err fault) h = tt
 
@@ -136,7 +145,7 @@ in_fits Absent = tt
 in_fits (One text) = accepted_fits (slot_of text) (slot_fits text)
 in_fits Several = tt
 
-all_fit : (s p o : Option Slot) → IfSome s HasNoBlankSlot → IfSome p HasNoBlankSlot → IfSome o HasNoBlankSlot → IfSome (slots_first s p o) HasNoBlank
+pub all_fit : (s p o : Option Slot) → IfSome s HasNoBlankSlot → IfSome p HasNoBlankSlot → IfSome o HasNoBlankSlot → IfSome (slots_first s p o) HasNoBlank
 all_fit None p o hs hp ho = tt
 all_fit (Some s) None o hs hp ho = tt
 all_fit (Some s) (Some p) None hs hp ho = tt

@@ -1,5 +1,5 @@
 -- Heads that are read one after another, and what the feed of requests tells of each.
-use Rattle.std.proofs.Common.{◌≡◌, ℕ, ◌+◌, Bool, true, false, List, [], ◌∷◌, ◌++◌, Option, Some, None, Result, Ok, Err, refl, ap, ap₂, sym, subst, ◌∙◌, append_assoc, append-nil, drop, if◌then◌else◌}
+use Rattle.std.proofs.Common.{◌≡◌, ℕ, Bool, true, false, List, [], ◌∷◌, ◌++◌, None, Result, Ok, Err, refl, ap, ap₂, sym, subst, ◌∙◌, append_assoc, append-nil, drop, if◌then◌else◌}
 use Rattle.std.specs.Prelude.{IfOk}
 use Rattle.std.specs.List.{AllByRecursion}
 use Rattle.std.proofs.lemmas.Bool.{true≢false}
@@ -12,7 +12,6 @@ use Rattle.http_wire.specs.Requests.{Held, after_answer, after_if, after_next, h
 use Rattle.tpf_base.specs.HttpConnection.{Heads, heads_of, last_head, with_head}
 use Rattle.template_fill.specs.Metadata.{Config}
 use Rattle.tpf_base.specs.Marks.{Served}
-use Rattle.template_fill.specs.Answers.{is_reload}
 use Rattle.template_fill.specs.Responses.{Answering, answering, answers, asks_reload, head_answer}
 use Rattle.http_ends.proofs.Lists.{all_append}
 use Rattle.tpf_server.specs.declared.asked.Queued.{Queued}
@@ -24,9 +23,9 @@ use Rattle.tpf_server.specs.declared.reading.Reading.TheVariants.{Reads, Waits, 
 use Rattle.tpf_server.specs.Serving.{Serving, IsHistoryOf}
 use Rattle.tpf_server.specs.Asked.{IsAsked}
 use Rattle.tpf_server.specs.Owed.{queue_text, queued_text}
-use Rattle.tpf_server.specs.Read.{ArePlain, IsAnswered, IsQueued, IsReload, ReadsHead, ReadsHeads, asks_for, closed_heads, heads_then, served_marks}
+use Rattle.tpf_server.specs.Read.{ArePlain, IsAnswered, IsQueued, IsReload, ReadsHead, ReadsHeads, heads_then, served_marks}
 use Rattle.tpf_server.specs.Reloads.{ReadsOn, outcome_queued}
-use Rattle.tpf_server.proofs.HeadAnswers.{heads_at, refused_reads, refusing_with, reload_is, taken_reads}
+use Rattle.tpf_server.proofs.HeadAnswers.{refused_reads, refusing_with, reload_is, taken_reads}
 
 -- ---- what the feed tells
 

@@ -2,6 +2,7 @@
 use Rattle.std.proofs.Common.{◌≡◌, ℕ, zero, suc, ◌+◌, ◌-◌, ◌<◌, ◌≤◌, Bool, true, false, List, [], ◌∷◌, ◌++◌, map, length, take, drop, refl, ap, ap₂, sym, subst, ◌∙◌, arith, append_assoc, append-nil, length-drop}
 use Rattle.std.specs.Prelude.{slice_index_or, nat_lt, ◌||◌}
 use Rattle.std.specs.List.{concat}
+use Rattle.std.proofs.lemmas.List.{drop_all, length-map}
 use Rattle.std.proofs.lemmas.Bool.{ltb-false, or_parts, true≢false}
 use Rattle.std.proofs.lemmas.Bool.Decides.{nat_tests}
 use Rattle.rdf_terms.specs.declared.term.Triple.{Triple}
@@ -21,13 +22,15 @@ use Rattle.tpf_server.specs.Statuses.{code}
 use Rattle.tpf_server.specs.Lines.{quad_lines, some_quad, triple_line, triple_lines}
 use Rattle.tpf_server.specs.Parts.{triple_marks}
 use Rattle.tpf_server.specs.Given.{IsGiven}
-use Rattle.tpf_server.specs.PageRests.{IsBegun, IsPart, PageLines, begun_text, lines_left, page_left, page_text}
+use Rattle.tpf_server.specs.declared.rest.PageTriples.{PageTriples}
+use Rattle.tpf_server.specs.declared.rest.PageTriples.TheVariants.{Part, Listed}
+use Rattle.tpf_server.specs.PageRests.{ArePart, IsBegun, IsPart, PageLines, begun_text, lines_left, page_left, page_text, triples_left, triples_of}
 use Rattle.tpf_server.specs.declared.rest.Rest.{Rest}
 use Rattle.tpf_server.specs.declared.rest.Rest.TheVariants.{Nothing, Line, Words, Page}
 use Rattle.tpf_server.specs.Rests.{IsWithin, is_left, rest_text}
 use Rattle.tpf_server.proofs.StatusLaws.{body_few, body_some}
 use Rattle.tpf_server.proofs.LineLengths.{drop_at, line_length}
-use Rattle.tpf_server.proofs.PartLaws.{AreMarks, are_dropped, marks_low, triple_are, triple_some, triple_text}
+use Rattle.tpf_server.proofs.PartLaws.{are_dropped, marks_low, triple_are, triple_some, triple_text}
 
 drop_one : {A : Type 0} (xs : List A) (n : ℕ) → drop 1 (drop n xs) ≡ drop (suc n) xs
 drop_one [] zero = refl
@@ -76,6 +79,40 @@ part_passed s range part some =
       lists = omega (arith, next, part.lists, some);
     }
 
+-- ---- the triples of a page
+
+pub below_is : (a b : ℕ) → nat_lt a b ≡ true → a < b
+below_is a b h = grind (arith, h)
+
+part_first : (s : Stored) (range : Range) (ids : IdTriple) → range.from < range.to → IsPart s range → ((d : Triple) → slice_index_or (listed s range) 0 d ≡ triple_at (held_terms s) ids)
+    → listed s range ≡ triple_at (held_terms s) ids ∷ listed s (passed range)
+part_first s range ids some part is =
+    let first = triple_at (held_terms s) ids in
+    next_listed s range first some part.lists ∙ ap (λ (x : Triple). x ∷ listed s (passed range)) (is first)
+
+pub part_passes : (s : Stored) (triples : PageTriples) (range : Range) (ids : IdTriple) → triples ≡ Part range → ArePart s triples → triples_left triples ≡ true
+    → ((d : Triple) → slice_index_or (listed s range) 0 d ≡ triple_at (held_terms s) ids) → triples_of s triples ≡ triple_at (held_terms s) ids ∷ triples_of s (Part (passed range))
+part_passes s triples range ids is part left first =
+    ap (triples_of s) is
+    ∙ part_first s range ids (below_is range.from range.to (subst (λ (x : PageTriples). triples_left x ≡ true) is left)) (subst (ArePart s) is part) first
+
+pub ids_first : (s : Stored) (ids : List IdTriple) (next : ℕ) (d : IdTriple) → next < length ids
+    → map (triple_at (held_terms s)) (drop next ids) ≡ triple_at (held_terms s) (slice_index_or ids next d) ∷ map (triple_at (held_terms s)) (drop (next + 1) ids)
+ids_first s ids next d within =
+    let e : suc next ≡ next + 1 = omega arith in
+    ap (λ (l : List IdTriple). map (triple_at (held_terms s)) l) (drop_at ids next d within ∙ ap (λ (n : ℕ). slice_index_or ids next d ∷ drop n ids) e)
+
+-- of triples that are left there is one, and of others none
+pub some_triples : (s : Stored) (triples : PageTriples) → ArePart s triples → triples_left triples ≡ true → 0 < length (triples_of s triples)
+some_triples s (Part range) part left = omega (arith, part.lists, below_is range.from range.to left)
+some_triples s (Listed ids next) part left =
+    omega (arith, below_is next (length ids.items) left, length-map (drop next ids.items) (triple_at (held_terms s)), length-drop next ids.items)
+
+pub no_triples : (s : Stored) (triples : PageTriples) → triples_left triples ≡ false → triples_of s triples ≡ []
+no_triples s (Part range) none = none_listed s range (ltb-false range.from range.to none)
+no_triples s (Listed ids next) none =
+    ap (λ (l : List IdTriple). map (triple_at (held_terms s)) l) (drop_all next ids.items (ltb-false next (length ids.items) none))
+
 -- ---- the line that was begun
 
 is_below : (a b : ℕ) → a < b → nat_lt a b ≡ true
@@ -94,10 +131,10 @@ unfolding begun_text
 line_long s quads place from fits = omega (arith, fits.1, length-drop from (canonical_line (slice_index_or quads place some_quad)))
 
 -- what is left where this line was begun
-abbrev pub lines_at : Stored → List Quad → Begun → Range → ℕ → PageLines
-lines_at s quads b range i = record { begun = begun_text s quads b; table = s; triples = range; quads = drop i quads }
+abbrev pub lines_at : Stored → List Quad → Begun → PageTriples → ℕ → PageLines
+lines_at s quads b triples i = record { begun = begun_text s quads b; table = s; triples = triples; quads = drop i quads }
 
-module _ (s : Stored) (quads : List Quad) (b : Begun) (range : Range) (i : ℕ) (p : PageLines) (same : lines_at s quads b range i ≡ p) where
+module _ (s : Stored) (quads : List Quad) (b : Begun) (triples : PageTriples) (i : ℕ) (p : PageLines) (same : lines_at s quads b triples i ≡ p) where
   pub none_begun : b ≡ begins.Nothing → false ≡ nat_lt 0 (length p.begun)
   unfolding begun_text
   none_begun is = ap (λ (x : Begun). nat_lt 0 (length (begun_text s quads x))) (sym is) ∙ ap (λ (x : PageLines). nat_lt 0 (length x.begun)) same
@@ -116,28 +153,28 @@ module _ (s : Stored) (quads : List Quad) (b : Begun) (range : Range) (i : ℕ) 
   not_none is some = true≢false (sym some ∙ sym (none_begun is))
 
   -- a part of what is left of it was given
-  pub given_on : (new : Begun) (before after : List ℕ) → IsGiven (begun_text s quads b) (begun_text s quads new) before after → IsGiven (page_text p) (page_text (lines_at s quads new range i)) before after
+  pub given_on : (new : Begun) (before after : List ℕ) → IsGiven (begun_text s quads b) (begun_text s quads new) before after → IsGiven (page_text p) (page_text (lines_at s quads new triples i)) before after
   unfolding page_text
   given_on new before after given = record {
     part = given.part;
     text =
         sym (ap page_text same)
-        ∙ ap (λ (l : List ℕ). l ++ (concat (triple_lines (listed s range)) ++ concat (quad_lines (drop i quads)))) given.text
-        ∙ append_assoc given.part (begun_text s quads new) (concat (triple_lines (listed s range)) ++ concat (quad_lines (drop i quads)));
+        ∙ ap (λ (l : List ℕ). l ++ (concat (triple_lines (triples_of s triples)) ++ concat (quad_lines (drop i quads)))) given.text
+        ∙ append_assoc given.part (begun_text s quads new) (concat (triple_lines (triples_of s triples)) ++ concat (quad_lines (drop i quads)));
     appended = given.appended;
     some = given.some;
     few = given.few;
   }
 
   pub given_triple : (held : Stored) (ids : IdTriple) (from : ℕ) (new : Begun) (before after : List ℕ) → held ≡ s → b ≡ begins.Triple ids from
-      → IsGiven (begun_text held quads (begins.Triple ids from)) (begun_text held quads new) before after → IsGiven (page_text p) (page_text (lines_at s quads new range i)) before after
+      → IsGiven (begun_text held quads (begins.Triple ids from)) (begun_text held quads new) before after → IsGiven (page_text p) (page_text (lines_at s quads new triples i)) before after
   given_triple held ids from new before after of is given =
       given_on new before after
       (subst (λ (x : Begun). IsGiven (begun_text s quads x) (begun_text s quads new) before after) (sym is)
       (subst (λ (x : Stored). IsGiven (begun_text x quads (begins.Triple ids from)) (begun_text x quads new) before after) of given))
 
   pub given_line : (place from : ℕ) (new : Begun) (before after : List ℕ) → b ≡ begins.Line place from
-      → IsGiven (begun_text s quads (begins.Line place from)) (begun_text s quads new) before after → IsGiven (page_text p) (page_text (lines_at s quads new range i)) before after
+      → IsGiven (begun_text s quads (begins.Line place from)) (begun_text s quads new) before after → IsGiven (page_text p) (page_text (lines_at s quads new triples i)) before after
   given_line place from new before after is given =
       given_on new before after (subst (λ (x : Begun). IsGiven (begun_text s quads x) (begun_text s quads new) before after) (sym is) given)
 
@@ -167,50 +204,42 @@ first_line s quads place within = (within, omega (arith, line_length (slice_inde
 pub first_line_long : (s : Stored) (quads : List Quad) (place : ℕ) → place < length quads → nat_lt 0 (length (begun_text s quads (begins.Line place 0))) ≡ true
 first_line_long s quads place within = is_below 0 (length (begun_text s quads (begins.Line place 0))) (line_long s quads place 0 (first_line s quads place within))
 
-pub triple_stands : (s : Stored) (range : Range) (all quads : List Quad) (t : List ℕ) (ids : IdTriple) (p : PageLines) → record { begun = t; table = s; triples = range; quads = quads } ≡ p
-    → p.begun ≡ [] → p.triples.from < p.triples.to → length (listed p.table p.triples) ≡ p.triples.to - p.triples.from
-    → ((d : Triple) → slice_index_or (listed s range) 0 d ≡ triple_at (held_terms s) ids)
-    → page_text (record { begun = begun_text s all (begins.Triple ids 0); table = s; triples = passed range; quads = quads }) ≡ page_text p
+pub triple_stands : (s : Stored) (old new : PageTriples) (all quads : List Quad) (t : List ℕ) (ids : IdTriple) (p : PageLines) → record { begun = t; table = s; triples = old; quads = quads } ≡ p
+    → p.begun ≡ [] → triples_of s old ≡ triple_at (held_terms s) ids ∷ triples_of s new
+    → page_text (record { begun = begun_text s all (begins.Triple ids 0); table = s; triples = new; quads = quads }) ≡ page_text p
 unfolding page_text begun_text
-triple_stands s range all quads t ids p same none some count is =
-    let first = triple_at (held_terms s) ids in
+triple_stands s old new all quads t ids p same none first =
     let rest = concat (quad_lines quads) in
-    let next : listed s range ≡ first ∷ listed s (passed range) =
-    next_listed s range first (subst (λ (x : PageLines). x.triples.from < x.triples.to) (sym same) some) (subst (λ (x : PageLines). length (listed x.table x.triples) ≡ x.triples.to - x.triples.from) (sym same) count)
-    ∙ ap (λ (x : Triple). x ∷ listed s (passed range)) (is first) in
-    ap (λ (l : List ℕ). l ++ (concat (triple_lines (listed s (passed range))) ++ rest)) (triple_text first)
-    ∙ sym (append_assoc (triple_line first) (concat (triple_lines (listed s (passed range)))) rest)
-    ∙ ap (λ (l : List Triple). concat (triple_lines l) ++ rest) (sym next)
-    ∙ ap (λ (l : List ℕ). l ++ (concat (triple_lines (listed s range)) ++ rest)) (sym (ap (λ (x : PageLines). x.begun) same ∙ none))
+    let triple = triple_at (held_terms s) ids in
+    ap (λ (l : List ℕ). l ++ (concat (triple_lines (triples_of s new)) ++ rest)) (triple_text triple)
+    ∙ sym (append_assoc (triple_line triple) (concat (triple_lines (triples_of s new))) rest)
+    ∙ ap (λ (l : List Triple). concat (triple_lines l) ++ rest) (sym first)
+    ∙ ap (λ (l : List ℕ). l ++ (concat (triple_lines (triples_of s old)) ++ rest)) (sym (ap (λ (x : PageLines). x.begun) same ∙ none))
     ∙ ap page_text same
 
-pub line_stands : (s : Stored) (range : Range) (quads : List Quad) (i : ℕ) (t : List ℕ) (p : PageLines) → record { begun = t; table = s; triples = range; quads = drop i quads } ≡ p
-    → p.begun ≡ [] → p.triples.to ≤ p.triples.from → 0 < length p.quads
-    → page_text (record { begun = begun_text s quads (begins.Line i 0); table = s; triples = range; quads = drop (i + 1) quads }) ≡ page_text p
+pub line_stands : (s : Stored) (triples : PageTriples) (quads : List Quad) (i : ℕ) (t : List ℕ) (p : PageLines) → record { begun = t; table = s; triples = triples; quads = drop i quads } ≡ p
+    → p.begun ≡ [] → triples_left p.triples ≡ false → 0 < length p.quads
+    → page_text (record { begun = begun_text s quads (begins.Line i 0); table = s; triples = triples; quads = drop (i + 1) quads }) ≡ page_text p
 unfolding page_text begun_text
-line_stands s range quads i t p same none past some =
-    let over : range.to ≤ range.from = subst (λ (x : PageLines). x.triples.to ≤ x.triples.from) (sym same) past in
+line_stands s triples quads i t p same none past some =
+    let over : triples_left triples ≡ false = subst (λ (x : PageLines). triples_left x.triples ≡ false) (sym same) past in
     let more : 0 < length (drop i quads) = subst (λ (x : PageLines). 0 < length x.quads) (sym same) some in
     let within : i < length quads = omega (arith, more, length-drop i quads) in
     let e : suc i ≡ i + 1 = omega arith in
     let line = canonical_line (slice_index_or quads i some_quad) in
-    ap (λ (l : List Triple). line ++ (concat (triple_lines l) ++ concat (quad_lines (drop (i + 1) quads)))) (none_listed s range over)
+    ap (λ (l : List Triple). line ++ (concat (triple_lines l) ++ concat (quad_lines (drop (i + 1) quads)))) (no_triples s triples over)
     ∙ ap (λ (l : List Quad). concat (quad_lines l)) (sym (drop_at quads i some_quad within ∙ ap (λ (n : ℕ). slice_index_or quads i some_quad ∷ drop n quads) e))
-    ∙ ap (λ (l : List Triple). concat (triple_lines l) ++ concat (quad_lines (drop i quads))) (sym (none_listed s range over))
-    ∙ ap (λ (l : List ℕ). l ++ (concat (triple_lines (listed s range)) ++ concat (quad_lines (drop i quads)))) (sym (ap (λ (x : PageLines). x.begun) same ∙ none))
+    ∙ ap (λ (l : List Triple). concat (triple_lines l) ++ concat (quad_lines (drop i quads))) (sym (no_triples s triples over))
+    ∙ ap (λ (l : List ℕ). l ++ (concat (triple_lines (triples_of s triples)) ++ concat (quad_lines (drop i quads)))) (sym (ap (λ (x : PageLines). x.begun) same ∙ none))
     ∙ ap page_text same
 
-pub part_behind : (s : Stored) (range : Range) (quads : List Quad) (t : List ℕ) (p : PageLines) → record { begun = t; table = s; triples = range; quads = quads } ≡ p → IsPart p.table p.triples → p.triples.from < p.triples.to → IsPart s (passed range)
-part_behind s range quads t p same part some =
-    part_passed s range (subst (λ (x : PageLines). IsPart x.table x.triples) (sym same) part) (subst (λ (x : PageLines). x.triples.from < x.triples.to) (sym same) some)
-
-pub quads_within : (s : Stored) (range : Range) (quads : List Quad) (i : ℕ) (t : List ℕ) (p : PageLines) → record { begun = t; table = s; triples = range; quads = drop i quads } ≡ p → 0 < length p.quads → i < length quads
-quads_within s range quads i t p same some =
+pub quads_within : (s : Stored) (triples : PageTriples) (quads : List Quad) (i : ℕ) (t : List ℕ) (p : PageLines) → record { begun = t; table = s; triples = triples; quads = drop i quads } ≡ p → 0 < length p.quads → i < length quads
+quads_within s triples quads i t p same some =
     let more : 0 < length (drop i quads) = subst (λ (x : PageLines). 0 < length x.quads) (sym same) some in
     omega (arith, more, length-drop i quads)
 
-pub part_kept : (p q : PageLines) → q.table ≡ p.table → q.triples ≡ p.triples → IsPart p.table p.triples → IsPart q.table q.triples
-part_kept p q table triples part = subst (λ (x : Stored). IsPart x q.triples) (sym table) (subst (λ (x : Range). IsPart p.table x) (sym triples) part)
+pub part_kept : (p q : PageLines) → q.table ≡ p.table → q.triples ≡ p.triples → ArePart p.table p.triples → ArePart q.table q.triples
+part_kept p q table triples part = subst (λ (x : Stored). ArePart x q.triples) (sym table) (subst (λ (x : PageTriples). ArePart p.table x) (sym triples) part)
 
 -- ---- what is left
 
@@ -232,20 +261,16 @@ lines_of p left none = sym (ap (λ (b : Bool). b || lines_left p) none) ∙ left
 some_of : (quads : List Quad) → nat_lt 0 (length quads) ≡ true → 0 < length quads
 some_of quads h = grind (arith, h)
 
-pub quads_left : (p : PageLines) → lines_left p ≡ true → p.triples.to ≤ p.triples.from → 0 < length p.quads
-quads_left p left past =
-    some_of p.quads (sym (ap (λ (b : Bool). b || nat_lt 0 (length p.quads)) (not_before p.triples.from p.triples.to past)) ∙ left)
-  where
-    not_before : (from to : ℕ) → to ≤ from → nat_lt from to ≡ false
-    not_before from to h = grind (arith, nat_tests)
+pub quads_left : (p : PageLines) → lines_left p ≡ true → triples_left p.triples ≡ false → 0 < length p.quads
+quads_left p left past = some_of p.quads (sym (ap (λ (b : Bool). b || nat_lt 0 (length p.quads)) past) ∙ left)
 
 pub page_done : (page : PageLines) → page_left page ≡ false → page_text page ≡ []
 unfolding page_text
 page_done page h =
     let none = or_parts (nat_lt 0 (length page.begun)) (lines_left page) h in
-    let p = or_parts (nat_lt page.triples.from page.triples.to) (nat_lt 0 (length page.quads)) none.1 in
-    ap (λ (l : List ℕ). l ++ (concat (triple_lines (listed page.table page.triples)) ++ concat (quad_lines page.quads))) (no_bytes page.begun none.0)
-    ∙ ap₂ (λ (l : List Triple) (quads : List Quad). concat (triple_lines l) ++ concat (quad_lines quads)) (none_listed page.table page.triples (ltb-false page.triples.from page.triples.to p.0)) (no_quads page.quads p.1)
+    let p = or_parts (triples_left page.triples) (nat_lt 0 (length page.quads)) none.1 in
+    ap (λ (l : List ℕ). l ++ (concat (triple_lines (triples_of page.table page.triples)) ++ concat (quad_lines page.quads))) (no_bytes page.begun none.0)
+    ∙ ap₂ (λ (l : List Triple) (quads : List Quad). concat (triple_lines l) ++ concat (quad_lines quads)) (no_triples page.table page.triples p.0) (no_quads page.quads p.1)
 
 below_none : (i : ℕ) → nat_lt i 0 ≡ false
 below_none i = grind arith
@@ -258,8 +283,8 @@ left_is quads zero = refl
 left_is [] (suc i) = below_none (suc i)
 left_is (q ∷ quads) (suc i) = below_suc i (length quads) ∙ left_is quads i
 
-pub quads_are : (s : Stored) (range : Range) (quads : List Quad) (i n : ℕ) (t : List ℕ) (p : PageLines) → record { begun = t; table = s; triples = range; quads = drop i quads } ≡ p → n ≡ length quads → nat_lt i n ≡ nat_lt 0 (length p.quads)
-quads_are s range quads i n t p same size = ap (nat_lt i) size ∙ left_is quads i ∙ ap (λ (x : PageLines). nat_lt 0 (length x.quads)) same
+pub quads_are : (s : Stored) (triples : PageTriples) (quads : List Quad) (i n : ℕ) (t : List ℕ) (p : PageLines) → record { begun = t; table = s; triples = triples; quads = drop i quads } ≡ p → n ≡ length quads → nat_lt i n ≡ nat_lt 0 (length p.quads)
+quads_are s triples quads i n t p same size = ap (nat_lt i) size ∙ left_is quads i ∙ ap (λ (x : PageLines). nat_lt 0 (length x.quads)) same
 
 -- ---- bodies
 

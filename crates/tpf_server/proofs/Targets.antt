@@ -1,6 +1,5 @@
 -- The path and the query of a target.
-use Rattle.std.proofs.Common.{◌≡◌, ℕ, zero, suc, ◌+◌, ◌<◌, List, [], ◌∷◌, ◌++◌, length, take, drop, get_or, Some, refl, ap, sym, ◌∙◌, arith, drop-cons, if◌then◌else◌}
-use Rattle.std.specs.Prelude.{codes, ◌==◌}
+use Rattle.std.proofs.Common.{◌≡◌, ℕ, List, ◌++◌, take, drop}
 use Rattle.template_fill.specs.ReadAddress.{path_of, query_of}
 
 -- the first mark stands at a place, or behind it

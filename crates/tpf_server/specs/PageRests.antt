@@ -1,12 +1,15 @@
 -- What is left of the text of a page.
-use Rattle.std.specs.Prelude.{ℕ, ◌≡◌, ◌-◌, ◌<◌, ◌||◌, Bool, nat_lt, List, [], ◌++◌, length, drop, slice_index_or}
-use Rattle.std.specs.List.{concat}
+use Rattle.std.specs.Prelude.{ℕ, ◌≡◌, ◌-◌, ◌<◌, ◌||◌, Bool, nat_lt, List, [], ◌++◌, map, length, drop, slice_index_or}
+use Rattle.std.specs.List.{All, concat}
 use Rattle.rdf_terms.specs.Canon.{canonical_line}
+use Rattle.rdf_terms.specs.declared.term.Triple as terms
 use Rattle.rdf_terms.specs.declared.term.Quad.{Quad}
 use Rattle.triple_table.specs.declared.ids.Range.{Range}
 use Rattle.triple_table.specs.Stored.{Stored, IsIdTriple, IsRange, held_terms, listed, triple_at}
 use Rattle.tpf_server.specs.declared.parts.Begun.{Begun}
 use Rattle.tpf_server.specs.declared.parts.Begun.TheVariants.{Nothing, Triple, Line}
+use Rattle.tpf_server.specs.declared.rest.PageTriples.{PageTriples}
+use Rattle.tpf_server.specs.declared.rest.PageTriples.TheVariants.{Part, Listed}
 use Rattle.tpf_server.specs.Lines.{quad_lines, some_quad, triple_lines}
 use Rattle.tpf_server.specs.Parts.{triple_marks}
 
@@ -22,20 +25,29 @@ IsBegun s quads Nothing = Unit {0}
 IsBegun s quads (Triple ids from) = IsIdTriple (held_terms s) ids × (from < length (triple_marks (triple_at (held_terms s) ids)))
 IsBegun s quads (Line place from) = (place < length quads) × (from < length (canonical_line (slice_index_or quads place some_quad)))
 
+-- the triples of a range, or of a list from a place on
+abbrev pub triples_of : Stored → PageTriples → List terms.Triple
+triples_of table (Part range) = listed table range
+triples_of table (Listed triples next) = map (triple_at (held_terms table)) (drop next triples.items)
+
+abbrev pub triples_left : PageTriples → Bool
+triples_left (Part range) = nat_lt range.from range.to
+triples_left (Listed triples next) = nat_lt next (length triples.items)
+
 -- what is left of the line that was begun, and the table, its triples on the page, and the quads of the page's metadata of which no line was begun
 pub record PageLines : Type 0 where
   pub begun : List ℕ
   pub table : Stored
-  pub triples : Range
+  pub triples : PageTriples
   pub quads : List Quad
 
 -- the text of their lines
 unfoldable pub page_text : PageLines → List ℕ
-page_text page = page.begun ++ (concat (triple_lines (listed page.table page.triples)) ++ concat (quad_lines page.quads))
+page_text page = page.begun ++ (concat (triple_lines (triples_of page.table page.triples)) ++ concat (quad_lines page.quads))
 
 -- a line of which no byte was given is left
 abbrev pub lines_left : PageLines → Bool
-lines_left page = nat_lt page.triples.from page.triples.to || nat_lt 0 (length page.quads)
+lines_left page = triples_left page.triples || nat_lt 0 (length page.quads)
 
 abbrev pub page_left : PageLines → Bool
 page_left page = nat_lt 0 (length page.begun) || lines_left page
@@ -44,3 +56,8 @@ page_left page = nat_lt 0 (length page.begun) || lines_left page
 pub record IsPart (table : Stored) (part : Range) : Type 0 where
   pub range : IsRange table part
   pub lists : length (listed table part) ≡ part.to - part.from
+
+-- the range is such a part, and the ids of the list are ids of the table
+abbrev pub ArePart : Stored → PageTriples → Type 0
+ArePart table (Part range) = IsPart table range
+ArePart table (Listed triples next) = All (IsIdTriple (held_terms table)) triples.items

@@ -1,5 +1,5 @@
 -- What each byte of a triple's source is written as. A long line is written in parts, each of which is what so many bytes of the source are written as.
-use Rattle.std.specs.Prelude.{ℕ, ◌≡◌, ◌≤◌, List, [], ◌∷◌, ◌++◌, map, length}
+use Rattle.std.specs.Prelude.{ℕ, ◌≡◌, List, [], ◌∷◌, ◌++◌, map, length}
 use Rattle.std.specs.List.{concat}
 use Rattle.rdf_terms.specs.Canon.{canonical_byte, canonical_kind}
 use Rattle.rdf_terms.specs.declared.term.Term.{Term}

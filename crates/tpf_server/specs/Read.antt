@@ -1,5 +1,5 @@
 -- How the heads of requests are read: up to the first that closes, or that asks for a reload.
-use Rattle.std.specs.Prelude.{ℕ, ◌≡◌, ◌<◌, ◌&&◌, Bool, true, false, List, [], ◌∷◌, ◌++◌, map, drop, length, Option, None, if◌then◌else◌}
+use Rattle.std.specs.Prelude.{ℕ, ◌≡◌, ◌<◌, ◌&&◌, Bool, true, false, List, [], ◌∷◌, ◌++◌, map, drop, length, None, if◌then◌else◌}
 use Rattle.std.specs.List.{AllByRecursion}
 use Rattle.http_wire.specs.Requests.{Held}
 use Rattle.http_wire.specs.declared.message.RequestHead.{RequestHead}

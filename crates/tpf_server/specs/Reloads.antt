@@ -1,6 +1,5 @@
 -- How a reload request is answered.
 use Rattle.std.specs.Prelude.{ℕ, ◌≡◌, Bool, true, false, List, [], ◌∷◌, ◌++◌}
-use Rattle.std.specs.List.{AllByRecursion}
 use Rattle.http_wire.specs.Requests.{Held}
 use Rattle.tpf_base.specs.Marks.{Mark, Served, Failed, Starved}
 use Rattle.tpf_server.specs.declared.asked.Asking.{Asking}

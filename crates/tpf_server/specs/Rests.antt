@@ -1,10 +1,10 @@
 -- What is left of the body of an answer that was begun.
-use Rattle.std.specs.Prelude.{ℕ, ◌≡◌, ◌<◌, ◌≤◌, Bool, true, false, List, [], length}
+use Rattle.std.specs.Prelude.{ℕ, ◌<◌, ◌≤◌, Bool, true, false, List, [], length}
 use Rattle.template_fill.specs.HttpAnswer.{refusal}
 use Rattle.tpf_server.specs.declared.rest.Rest.{Rest}
 use Rattle.tpf_server.specs.declared.rest.Rest.TheVariants.{Nothing, Line, Words, Page}
 use Rattle.tpf_server.specs.Statuses.{code}
-use Rattle.tpf_server.specs.PageRests.{IsPart, page_left, page_text}
+use Rattle.tpf_server.specs.PageRests.{ArePart, page_left, page_text}
 
 -- the text that is left of a body
 unfoldable pub rest_text : Rest → List ℕ
@@ -19,9 +19,9 @@ is_left (Line status) = true
 is_left (Words text) = true
 is_left (Page page) = page_left page
 
--- the range is a part of its table, and a text has a byte and is short
+-- the triples are of their table, and a text has a byte and is short
 abbrev pub IsWithin : Rest → Type 0
 IsWithin Nothing = Unit {0}
 IsWithin (Line status) = Unit {0}
 IsWithin (Words text) = (0 < length text) × (length text ≤ 16384)
-IsWithin (Page page) = IsPart page.table page.triples
+IsWithin (Page page) = ArePart page.table page.triples

@@ -2,13 +2,14 @@
 ghost use Rattle.std.specs.Prelude.{◌≡◌, ◌≤◌, ◌+◌, ◌^◌, ◌&&◌, ℕ, Some, None, bytes_eq, drop, length, is_some, IfOk, [], true, false};
 ghost use Rattle.template_fill.specs.ReadAddress.{path_of};
 ghost use Rattle.template_fill.specs.Answers.{is_path_of_reload};
-ghost use Rattle.tpf_server.specs.Parameters.{page_in, question_in};
+ghost use Rattle.tpf_server.specs.Parameters.{page_in, question_in, rows_in};
 ghost use Rattle.tpf_server.specs.Asked.{IsAsked, answer_at, answer_for, answer_for_target, answer_of, is_head, is_other, refused_with};
 ghost use Rattle.tpf_server.specs.Reloads.{outcome_queued};
 
 use crate::Server;
 use crate::outcome::Reloaded;
 use crate::parameters::{PageNumber, Parameters, found_in, page, path_length, slots};
+use crate::rows::{RowValues, Rows};
 use crate::snapshot::Snapshot;
 use crate::status::Status;
 use http_wire::{Asked, RequestHead};
@@ -17,13 +18,14 @@ use std::alloc::Global;
 use tpf_base::OutOfMemory;
 
 /// What is to be answered: a status without a page, the number of the version that a reload reached, or
-/// a page of a version of the data, which may be past the last.
+/// a page of what is selected of a version of the data, which may be past the last.
 #[derive(Drop)]
 pub enum Asking {
     Refused(Status),
     Reloaded(u64),
     Page {
         slots: Slots,
+        rows: Rows,
         page: u64,
         snapshot: Snapshot,
     },
@@ -40,32 +42,38 @@ pub struct Queued {
 }
 
 /// What parameters ask for whose page has this number.
-#[tactic(auto, using(crate::proofs::AskedLaws::numbered_answer, crate::proofs::AskedLaws::no_slots_answer, crate::proofs::AskedLaws::some_fit))]
+#[tactic(auto, using(crate::proofs::AskedLaws::numbered_answer, crate::proofs::AskedLaws::no_slots_answer, crate::proofs::AskedLaws::no_rows_answer, crate::proofs::AskedLaws::some_fit))]
 fn asked_by_number(
     alloc: Global,
     server: &Server,
-    found: &Parameters,
+    found: Parameters,
     page: u64,
 ) -> Result<Asking, OutOfMemory>
-    requires number { page_in found.now.page ≡ Some page }
+    requires number { page_in found.page ≡ Some page }
     requires some { 1 ≤ page }
     ensures asked { IfOk result IsAsked }
-    ensures answer { IfOk result (λ asking. answer_of server.now.config asking ≡ answer_at server.now (question_in found.now)) }
+    ensures answer { IfOk result (λ asking. answer_of server.now.config asking ≡ answer_at server.now (question_in found)) }
 {
-    match slots(alloc, found)? {
-        Some(slots) => Ok(Asking::Page {
+    let Some(slots) = slots(alloc, &found)? else {
+        return Ok(Asking::Refused(Status::BadRequest));
+    };
+    let rows = found.rows;
+    match rows {
+        RowValues::Read(rows) => Ok(Asking::Page {
             slots,
+            rows,
             page,
             snapshot: server.share()?,
         }),
-        None => Ok(Asking::Refused(Status::BadRequest)),
+        RowValues::Refused => Ok(Asking::Refused(Status::BadRequest)),
     }
 }
 
-fn are_some(slots: Option<Slots>) -> bool
-    ensures { result ≡ is_some slots }
+/// Whether slots and rows are given.
+fn are_given(slots: Option<Slots>, rows: &RowValues) -> bool
+    ensures { result ≡ (is_some slots && is_some (rows_in rows.now)) }
 {
-    slots.is_some()
+    slots.is_some() && matches!(rows, RowValues::Read(_))
 }
 
 /// What parameters ask for whose page has a number that 64 bits do not hold: a page has at least one
@@ -78,7 +86,7 @@ fn asked_beyond(alloc: Global, server: &Server, found: &Parameters) -> Result<As
     let _triples = server.table().len();
     let _size = server.config().page_size();
     let slots = slots(alloc, found)?;
-    if are_some(slots) {
+    if are_given(slots, &found.rows) {
         Ok(Asking::Refused(Status::NotFound))
     } else {
         Ok(Asking::Refused(Status::BadRequest))
@@ -90,14 +98,14 @@ fn asked_beyond(alloc: Global, server: &Server, found: &Parameters) -> Result<As
 fn asked_by_parameters(
     alloc: Global,
     server: &Server,
-    found: &Parameters,
+    found: Parameters,
 ) -> Result<Asking, OutOfMemory>
     ensures asked { IfOk result IsAsked }
-    ensures answer { IfOk result (λ asking. answer_of server.now.config asking ≡ answer_at server.now (question_in found.now)) }
+    ensures answer { IfOk result (λ asking. answer_of server.now.config asking ≡ answer_at server.now (question_in found)) }
 {
     match page(&found.page) {
         PageNumber::Number(page) => asked_by_number(alloc, server, found, page),
-        PageNumber::Beyond => asked_beyond(alloc, server, found),
+        PageNumber::Beyond => asked_beyond(alloc, server, &found),
         PageNumber::Refused => Ok(Asking::Refused(Status::BadRequest)),
     }
 }
@@ -131,8 +139,9 @@ fn asked_by_target(alloc: Global, server: &Server, target: &[u8]) -> Result<Aski
     if !is_base(server, &target[..path]) {
         return Ok(Asking::Refused(Status::NotFound));
     }
-    let found = found_in(alloc, query_after(target, path))?;
-    asked_by_parameters(alloc, server, &found)
+    let reads_rows = server.config().reads_rows();
+    let found = found_in(alloc, reads_rows, query_after(target, path))?;
+    asked_by_parameters(alloc, server, found)
 }
 
 /// What a request for a target asks for.

@@ -1,4 +1,6 @@
 //! A server of Triple Pattern Fragments from bytes to bytes: the response to what a connection brings.
+//! Where its configuration reads rows, a request may restrict a fragment by up to 64 of them (brTPF), and
+//! is answered with what they leave, page by page.
 //!
 //! A request comes, and the first page of all triples is made and taken:
 //!
@@ -24,6 +26,7 @@ mod parameters;
 mod parts;
 mod reading;
 mod rest;
+mod rows;
 mod server;
 mod snapshot;
 mod status;

@@ -1,6 +1,6 @@
 // The lines of a page: their lengths, and the bytes of those of triples.
-ghost use Rattle.std.specs.Prelude.{ℕ, ◌≡◌, ◌+◌, ◌*◌, ◌-◌, ◌<◌, ◌≤◌, ◌^◌, ◌++◌, ◌∷◌, [], Some, None, List, length, take, drop, OnOk};
-ghost use Rattle.std.specs.List.{concat};
+ghost use Rattle.std.specs.Prelude.{ℕ, ◌≡◌, ◌+◌, ◌*◌, ◌-◌, ◌<◌, ◌≤◌, ◌^◌, ◌++◌, ◌∷◌, [], Some, None, List, length, map, take, drop, OnOk};
+ghost use Rattle.std.specs.List.{All, concat};
 ghost use Rattle.rdf_terms.specs.declared.term.Triple.{Triple};
 ghost use Rattle.rdf_terms.specs.Canon.{canonical_term, canonical_line};
 ghost use Rattle.list_laws.specs.Begins.{Begins};
@@ -50,6 +50,21 @@ pub fn triples_length(table: &Table, range: &Range) -> u128
     let mut sum = 0;
     for i in 0..table.count(range) {
         sum += triple_length(table, table.at(range, i));
+    }
+    sum
+}
+
+/// The length of the lines of triples of the table, of which there are at most 1000.
+#[tactic(auto, using(crate::proofs::LineLengths::next_ids))]
+pub fn listed_length(table: &Table, triples: &[IdTriple]) -> u128
+    requires ids { All (IsIdTriple (held_terms table.now)) triples.now }
+    requires few { length triples.now ≤ 1000 }
+    ensures length { result ≡ length (concat (triple_lines (map (triple_at (held_terms table.now)) triples.now))) }
+    ensures small { result ≤ 1000 * 2 ^ 70 }
+{
+    let mut sum = 0;
+    for triple in triples {
+        sum += triple_length(table, *triple);
     }
     sum
 }

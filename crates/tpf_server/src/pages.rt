@@ -1,24 +1,28 @@
 // What an answer says, found before any of its body is made.
-ghost use Rattle.std.specs.Prelude.{ℕ, ◌≡◌, ◌-◌, ◌<◌, ◌≤◌, length, IfOk, MatchOption};
+ghost use Rattle.std.specs.Prelude.{ℕ, ◌≡◌, ◌*◌, ◌^◌, ◌-◌, ◌<◌, ◌≤◌, length, IfOk, MatchOption};
+ghost use Rattle.std.specs.List.{AllByRecursion};
+ghost use Rattle.rdf_terms.specs.Selections.{all_of};
 ghost use Rattle.triple_table.specs.Stored.{listed};
 ghost use Rattle.fragment_pages.specs.Pages.{IsPage, IsPageNumber, shown};
 ghost use Rattle.template_fill.specs.Forms.{HasNoBlank};
+ghost use Rattle.restricted_pages.specs.Pages.{IsSelectedAnswer, IsSelectedNumber, IsSelectedPage, chosen};
 ghost use Rattle.tpf_server.specs.Statuses.{body_text, version_line};
 ghost use Rattle.tpf_server.specs.Serving.{served};
 ghost use Rattle.tpf_server.specs.Asked.{IsAsked};
 ghost use Rattle.tpf_server.specs.PageRests.{IsPart};
-ghost use Rattle.tpf_server.specs.Opened.{Opens, OpensNumber, OpensPage};
+ghost use Rattle.tpf_server.specs.Opened.{Opens, OpensNumber, OpensPage, lines_opened};
 
 use crate::asked::Asking;
 use crate::head::MediaType;
-use crate::lines::{metadata_length, triples_length};
-use crate::rest::{PageRest, Rest};
+use crate::lines::{listed_length, metadata_length, triples_length};
+use crate::rest::{PageRest, PageTriples, Rest};
 use crate::snapshot::Snapshot;
 use crate::status::Status;
 use fragment_pages::{PageView, page};
 use hydra_controls::{Config, MetadataLines};
 use itoa::Buffer;
 use rdf_terms::Slots;
+use restricted_pages::{RestrictedPage, restricted_page};
 use std::alloc::Global;
 use std::marker::Brand;
 use std::sync::ledger::{Blank, Ledger};
@@ -77,7 +81,26 @@ fn shown_range(table: &Table, slots: &Slots, number: u64, size: u64, view: &Page
     }
 }
 
-/// The answer that is this page of a version of the data.
+/// The answer that is a page of a version of the data: triples, whose lines have so many bytes, and metadata.
+fn open_lines(
+    snapshot: &Snapshot,
+    triples: PageTriples,
+    bytes: u128,
+    metadata: MetadataLines,
+) -> Result<Opened, OutOfMemory>
+    requires { bytes ≤ 1000 * 2 ^ 70 }
+    ensures { IfOk result (λ o. o ≡ lines_opened snapshot.now.table triples bytes metadata) }
+{
+    let length = bytes + metadata_length(&metadata);
+    Ok(Opened {
+        status: Status::Success,
+        media: MediaType::NQuads,
+        length,
+        body: Rest::Page(PageRest::new(snapshot.share()?, triples, metadata)),
+    })
+}
+
+/// The answer that is this page of a fragment of a version of the data.
 fn open_page(
     alloc: Global,
     config: &Config,
@@ -89,22 +112,17 @@ fn open_page(
     requires slots { HasNoBlank slots.now }
     requires number { IsPageNumber snapshot.now.table slots.now number config.now.page_size }
     requires page { IsPage snapshot.now.table slots.now number config.now.page_size view.now }
-    ensures { IfOk result (OpensPage (served snapshot.now config.now) slots.now number) }
+    ensures { IfOk result (OpensPage (served snapshot.now config.now) (all_of slots.now) number) }
 {
     let table = snapshot.table();
     let triples = shown_range(table, slots, number, config.page_size(), view);
     let version = snapshot.number();
-    let metadata = MetadataLines::new(alloc, config, slots, number, view.count, version)?;
-    let length = triples_length(table, &triples) + metadata_length(&metadata);
-    Ok(Opened {
-        status: Status::Success,
-        media: MediaType::NQuads,
-        length,
-        body: Rest::Page(PageRest::new(snapshot.share()?, triples, metadata)),
-    })
+    let metadata = MetadataLines::new(alloc, config, slots, &[], number, view.count, version)?;
+    let bytes = triples_length(table, &triples);
+    open_lines(snapshot, PageTriples::Part(triples), bytes, metadata)
 }
 
-/// The answer that is this page of a version of the data, or that it is past the last.
+/// The answer that is this page of a fragment, or that it is past the last.
 fn open_numbered(
     alloc: Global,
     config: &Config,
@@ -114,11 +132,123 @@ fn open_numbered(
 ) -> Result<Opened, OutOfMemory>
     requires slots { HasNoBlank slots.now }
     requires number { 1 ≤ number }
-    ensures { IfOk result (OpensNumber (served snapshot.now config.now) slots.now number) }
+    ensures { IfOk result (OpensNumber (served snapshot.now config.now) (all_of slots.now) number) }
 {
     match page_view(snapshot.table(), slots, number, config.page_size()) {
         Some(view) => open_page(alloc, config, snapshot, slots, number, &view),
         None => Ok(open_status(Status::NotFound)),
+    }
+}
+
+fn counted_restricted<L: Ledger>(
+    alloc: Global,
+    config: &Config,
+    snapshot: &Snapshot,
+    slots: &Slots,
+    rows: &[Slots],
+    number: u64,
+    blank: Blank,
+) -> Result<Option<RestrictedPage>, OutOfMemory>
+    requires rows { 1 ≤ length rows.now }
+    requires name { blank.name ≡ L.name }
+    requires parts { blank.parts ≡ L.parts }
+    requires some { 0 < blank.parts }
+    ensures { IfOk result (IsSelectedAnswer snapshot.now.table slots.now rows.now number config.now.page_size) }
+{
+    let mut steps: Steps<L> = Steps::new(blank);
+    let size = config.page_size();
+    restricted_page(
+        alloc,
+        snapshot.table(),
+        slots,
+        rows,
+        number,
+        size,
+        &mut steps,
+    )
+}
+
+/// The page of a version of the data that rows restrict, or `None` where the number is past the last.
+fn restricted_view(
+    alloc: Global,
+    config: &Config,
+    snapshot: &Snapshot,
+    slots: &Slots,
+    rows: &[Slots],
+    number: u64,
+) -> Result<Option<RestrictedPage>, OutOfMemory>
+    requires { 1 ≤ length rows.now }
+    ensures { IfOk result (IsSelectedAnswer snapshot.now.table slots.now rows.now number config.now.page_size) }
+{
+    counted_restricted::<Brand>(alloc, config, snapshot, slots, rows, number, Blank::new(1))
+}
+
+/// The answer that is this page of what rows leave of a fragment of a version of the data.
+fn open_listed(
+    alloc: Global,
+    config: &Config,
+    snapshot: &Snapshot,
+    slots: &Slots,
+    rows: &[Slots],
+    number: u64,
+    page: RestrictedPage,
+) -> Result<Opened, OutOfMemory>
+    requires slots { HasNoBlank slots.now }
+    requires rows { AllByRecursion HasNoBlank rows.now }
+    requires number { IsSelectedNumber snapshot.now.table slots.now rows.now number config.now.page_size }
+    requires page { IsSelectedPage snapshot.now.table slots.now rows.now number config.now.page_size page }
+    ensures { IfOk result (OpensPage (served snapshot.now config.now) (chosen slots.now rows.now) number) }
+{
+    let _size = config.page_size();
+    let version = snapshot.number();
+    let metadata = MetadataLines::new(alloc, config, slots, rows, number, page.count, version)?;
+    let bytes = listed_length(snapshot.table(), page.triples.as_slice());
+    let triples = PageTriples::Listed {
+        triples: page.triples,
+        next: 0,
+    };
+    open_lines(snapshot, triples, bytes, metadata)
+}
+
+/// The answer that is this page of what rows leave of a fragment, or that it is past the last.
+fn open_restricted(
+    alloc: Global,
+    config: &Config,
+    snapshot: &Snapshot,
+    slots: &Slots,
+    rows: &[Slots],
+    number: u64,
+) -> Result<Opened, OutOfMemory>
+    requires slots { HasNoBlank slots.now }
+    requires rows { AllByRecursion HasNoBlank rows.now }
+    requires some { 1 ≤ length rows.now }
+    requires number { 1 ≤ number }
+    ensures { IfOk result (OpensNumber (served snapshot.now config.now) (chosen slots.now rows.now) number) }
+{
+    match restricted_view(alloc, config, snapshot, slots, rows, number)? {
+        Some(page) => open_listed(alloc, config, snapshot, slots, rows, number, page),
+        None => Ok(open_status(Status::NotFound)),
+    }
+}
+
+/// The answer that is this page of what is selected, or that it is past the last.
+fn open_selected(
+    alloc: Global,
+    config: &Config,
+    snapshot: &Snapshot,
+    slots: &Slots,
+    rows: &[Slots],
+    number: u64,
+) -> Result<Opened, OutOfMemory>
+    requires slots { HasNoBlank slots.now }
+    requires rows { AllByRecursion HasNoBlank rows.now }
+    requires number { 1 ≤ number }
+    ensures { IfOk result (OpensNumber (served snapshot.now config.now) (chosen slots.now rows.now) number) }
+{
+    if rows.is_empty() {
+        open_numbered(alloc, config, snapshot, slots, number)
+    } else {
+        open_restricted(alloc, config, snapshot, slots, rows, number)
     }
 }
 
@@ -172,8 +302,9 @@ pub fn open_answer(alloc: Global, config: &Config, asking: &Asking) -> Result<Op
         Asking::Reloaded(number) => open_version(alloc, *number),
         Asking::Page {
             slots,
+            rows,
             page,
             snapshot,
-        } => open_numbered(alloc, config, snapshot, slots, *page),
+        } => open_selected(alloc, config, snapshot, slots, rows.as_slice(), *page),
     }
 }

@@ -5,9 +5,11 @@ ghost use Rattle.std.specs.Char.{is_ascii_digit};
 ghost use Rattle.form_urlencoded.specs.Form.{raw_pairs};
 ghost use Rattle.template_fill.specs.ReadAddress.{path_of, query_of};
 ghost use Rattle.template_fill.specs.Explicit.{slot_of};
-ghost use Rattle.template_fill.specs.Answers.{accepted, page_number};
-ghost use Rattle.tpf_server.specs.Parameters.{IsPage, decoded, found_in, noted, noted_if, noted_pair, page_in, slot_in, slots_in};
+ghost use Rattle.template_fill.specs.Answers.{page_number};
+ghost use Rattle.template_fill.specs.Rows.{accepted};
+ghost use Rattle.tpf_server.specs.Parameters.{IsPage, decoded, found_in, noted, noted_if, noted_pair, page_in, row_noted_if, slot_in, slots_in};
 
+use crate::rows::{RowValues, Rows};
 use rdf_terms::{Slot, Slots};
 use std::alloc::Global;
 use template_fill::{ValueFault, read_explicit};
@@ -21,13 +23,14 @@ pub enum Values {
     Several,
 }
 
-/// The values of the names that ask for a page.
+/// The values of the names that ask for a page. There are no rows where they are passed over.
 #[derive(Debug, Drop)]
 pub struct Parameters {
     pub subject: Values,
     pub predicate: Values,
     pub object: Values,
     pub page: Values,
+    pub rows: RowValues,
 }
 
 /// A number of a page as parameters give it.
@@ -82,36 +85,55 @@ fn note_if(
     Ok(())
 }
 
-/// Notes a pair; other names are passed over.
+/// Notes a row, where rows are read and the name is theirs.
+fn note_row(
+    rows: &mut RowValues,
+    alloc: Global,
+    reads_rows: bool,
+    name: &str,
+    value: &str,
+) -> Result<(), OutOfMemory>
+    ensures { OnOk result (rows.new ≡ row_noted_if reads_rows name.now value.now rows.old) }
+{
+    if reads_rows && name == "row" {
+        rows.note(alloc, value)?;
+    }
+    Ok(())
+}
+
+/// Notes a pair; other names are passed over, and rows where they are not read.
 #[tactic(auto, unfolding(crate::specs::Parameters::noted_pair))]
 fn note_pair(
     found: &mut Parameters,
     alloc: Global,
+    reads_rows: bool,
     name: &str,
     value: &str,
 ) -> Result<(), OutOfMemory>
-    ensures { OnOk result (found.new ≡ noted_pair found.old (name.now, value.now)) }
+    ensures { OnOk result (found.new ≡ noted_pair reads_rows found.old (name.now, value.now)) }
 {
     note_if(&mut found.subject, alloc, "subject", name, value)?;
     note_if(&mut found.predicate, alloc, "predicate", name, value)?;
     note_if(&mut found.object, alloc, "object", name, value)?;
-    note_if(&mut found.page, alloc, "page", name, value)
+    note_if(&mut found.page, alloc, "page", name, value)?;
+    note_row(&mut found.rows, alloc, reads_rows, name, value)
 }
 
-/// The values that a query part gives.
+/// The values that a query part gives, where rows are read or passed over.
 #[tactic(auto, using(crate::proofs::Gathered::all_found))]
-pub fn found_in(alloc: Global, query: &[u8]) -> Result<Parameters, OutOfMemory>
-    ensures { IfOk result (λ found. found ≡ found_in (decoded (raw_pairs query.now))) }
+pub fn found_in(alloc: Global, reads_rows: bool, query: &[u8]) -> Result<Parameters, OutOfMemory>
+    ensures { IfOk result (λ found. found ≡ found_in reads_rows (decoded (raw_pairs query.now))) }
 {
     let mut found = Parameters {
         subject: Values::Absent,
         predicate: Values::Absent,
         object: Values::Absent,
         page: Values::Absent,
+        rows: RowValues::Read(Rows::new(alloc)),
     };
     for pair in form_urlencoded::parse(alloc, query) {
         let (name, value) = pair?;
-        note_pair(&mut found, alloc, name.as_str(), value.as_str())?;
+        note_pair(&mut found, alloc, reads_rows, name.as_str(), value.as_str())?;
     }
     Ok(found)
 }

@@ -2,7 +2,8 @@
 ghost use Rattle.std.specs.Prelude.{ℕ, ◌≡◌, ◌++◌, ◌∷◌, [], ◌<◌, ◌≤◌, length, drop, nat_lt, false, true, IsTrue, OnOk, ◌↔◌};
 ghost use Rattle.list_laws.specs.Begins.{Begins};
 ghost use Rattle.tpf_server.specs.Given.{IsGiven};
-ghost use Rattle.tpf_server.specs.PageRests.{IsPart, lines_left, page_left, page_text};
+ghost use Rattle.triple_table.specs.Stored.{IsIdTriple, held_terms, triple_at};
+ghost use Rattle.tpf_server.specs.PageRests.{ArePart, lines_left, page_left, page_text, triples_left, triples_of};
 ghost use Rattle.tpf_server.specs.Rests.{IsWithin, is_left, rest_text};
 
 use crate::parts::{Begun, write_line_part, write_triple_part};
@@ -11,15 +12,57 @@ use crate::status::Status;
 use hydra_controls::MetadataLines;
 use std::marker::Model;
 use tpf_base::{OutOfMemory, Text};
-use triple_table::Range;
+use triple_table::{IdTriple, Range, Table};
 
-/// The lines of a page that are left: the rest of the line that was begun, a range of the table, and then
-/// the metadata from a place on. The text of a line is made when it is given.
+/// Triples of a page, in their order: a range of the table, or those of a list from a place on.
+#[derive(Drop)]
+pub enum PageTriples {
+    Part(Range),
+    Listed { triples: Vec<IdTriple>, next: usize },
+}
+
+impl PageTriples {
+    /// Whether there is one.
+    fn is_left(&self) -> bool
+        ensures { result ≡ triples_left self.now }
+    {
+        match self {
+            PageTriples::Part(range) => range.from < range.to,
+            PageTriples::Listed { triples, next } => *next < triples.len(),
+        }
+    }
+
+    /// Passes the first one, and tells its ids.
+    fn pass(&mut self, table: &Table) -> IdTriple
+        requires part { ArePart table.now self.old }
+        requires some { triples_left self.old ≡ true }
+        ensures ids { IsIdTriple (held_terms table.now) result }
+        ensures first { triples_of table.now self.old ≡ triple_at (held_terms table.now) result ∷ triples_of table.now self.new }
+        ensures part { ArePart table.now self.new }
+    {
+        match self {
+            PageTriples::Part(range) => {
+                let _end = range.to;
+                let ids = table.at(range, 0);
+                range.from += 1;
+                ids
+            }
+            PageTriples::Listed { triples, next } => {
+                let ids = triples[*next];
+                *next += 1;
+                ids
+            }
+        }
+    }
+}
+
+/// The lines of a page that are left: the rest of the line that was begun, triples, and then the metadata
+/// from a place on. The text of a line is made when it is given.
 #[derive(Drop)]
 pub struct PageRest {
     snapshot: Snapshot,
     begun: Begun,
-    triples: Range,
+    triples: PageTriples,
     metadata: MetadataLines,
     next: usize,
 }
@@ -37,7 +80,7 @@ impl Model for PageRest {
 
 impl PageRest {
     #[tactic(auto, unfolding(crate::specs::PageRests::begun_text))]
-    pub fn new(snapshot: Snapshot, triples: Range, metadata: MetadataLines) -> PageRest
+    pub fn new(snapshot: Snapshot, triples: PageTriples, metadata: MetadataLines) -> PageRest
         ensures { result ≡ record { begun = []; table = snapshot.table; triples = triples; quads = metadata } }
     {
         PageRest {
@@ -62,9 +105,9 @@ impl PageRest {
 
     /// Whether triples are left of whose lines no byte was given.
     fn has_triples(&self) -> bool
-        ensures { result ≡ nat_lt self.now.triples.from self.now.triples.to }
+        ensures { result ≡ triples_left self.now.triples }
     {
-        self.triples.from < self.triples.to
+        self.triples.is_left()
     }
 
     /// Whether lines of the metadata are left of which no byte was given.
@@ -89,24 +132,22 @@ impl PageRest {
     }
 
     /// Begins the next line of a triple.
-    #[tactic(auto, using(crate::proofs::RestLaws::part_behind))]
     fn begin_triple(&mut self)
-        requires part { IsPart self.old.table self.old.triples }
+        requires part { ArePart self.old.table self.old.triples }
         requires none { self.old.begun ≡ [] }
-        requires some { self.old.triples.from < self.old.triples.to }
+        requires some { triples_left self.old.triples ≡ true }
         ensures text { page_text self.new ≡ page_text self.old }
         ensures begun { nat_lt 0 (length self.new.begun) ≡ true }
-        ensures part { IsPart self.new.table self.new.triples }
+        ensures part { ArePart self.new.table self.new.triples }
     {
-        let _end = self.triples.to;
-        self.begun = Begun::Triple(self.snapshot.table().at(&self.triples, 0), 0);
-        self.triples.from += 1;
+        let ids = self.triples.pass(self.snapshot.table());
+        self.begun = Begun::Triple(ids, 0);
     }
 
     /// Begins the next line of the metadata.
     fn begin_line(&mut self)
         requires none { self.old.begun ≡ [] }
-        requires past { self.old.triples.to ≤ self.old.triples.from }
+        requires past { triples_left self.old.triples ≡ false }
         requires some { 0 < length self.old.quads }
         ensures text { page_text self.new ≡ page_text self.old }
         ensures begun { nat_lt 0 (length self.new.begun) ≡ true }
@@ -121,12 +162,12 @@ impl PageRest {
     /// Begins the next line.
     #[tactic(auto, using(crate::proofs::RestLaws::quads_left, crate::proofs::RestLaws::part_kept))]
     fn begin(&mut self)
-        requires part { IsPart self.old.table self.old.triples }
+        requires part { ArePart self.old.table self.old.triples }
         requires none { self.old.begun ≡ [] }
         requires some { lines_left self.old ≡ true }
         ensures text { page_text self.new ≡ page_text self.old }
         ensures begun { nat_lt 0 (length self.new.begun) ≡ true }
-        ensures part { IsPart self.new.table self.new.triples }
+        ensures part { ArePart self.new.table self.new.triples }
     {
         if self.has_triples() {
             self.begin_triple();
@@ -138,11 +179,11 @@ impl PageRest {
     /// Begins the next line, unless a byte is left of the one before.
     #[tactic(auto, using(crate::proofs::RestLaws::no_bytes, crate::proofs::RestLaws::lines_of))]
     fn begin_next(&mut self)
-        requires part { IsPart self.old.table self.old.triples }
+        requires part { ArePart self.old.table self.old.triples }
         requires some { page_left self.old ≡ true }
         ensures text { page_text self.new ≡ page_text self.old }
         ensures begun { nat_lt 0 (length self.new.begun) ≡ true }
-        ensures part { IsPart self.new.table self.new.triples }
+        ensures part { ArePart self.new.table self.new.triples }
     {
         if !self.is_begun() {
             self.begin();
@@ -173,10 +214,10 @@ impl PageRest {
     /// Appends the next part.
     #[tactic(auto, using(crate::proofs::RestLaws::part_kept))]
     fn give(&mut self, out: &mut Vec<u8>) -> Result<(), OutOfMemory>
-        requires part { IsPart self.old.table self.old.triples }
+        requires part { ArePart self.old.table self.old.triples }
         requires some { page_left self.old ≡ true }
         ensures ok { OnOk result (IsGiven (page_text self.old) (page_text self.new) out.old.items out.new.items) }
-        ensures part { IsPart self.new.table self.new.triples }
+        ensures part { ArePart self.new.table self.new.triples }
         ensures front { Begins out.old.items out.new.items }
     {
         self.begin_next();

@@ -6,4 +6,4 @@ use Rattle.tpf_server.proofs.Gathered.{noted_all, nothing}
 use Rattle.tpf_server.proofs.parameters.found_in.Given as goal
 
 abbrev pub invariant-loop-pair : goal.invariant-loop-pair
-invariant-loop-pair l = noted_all l.found (decoded (pairs_left l.pair-iterator)) ≡ noted_all nothing (decoded (raw_pairs l.fn.query))
+invariant-loop-pair l = noted_all l.fn.reads_rows l.found (decoded (pairs_left l.pair-iterator)) ≡ noted_all l.fn.reads_rows nothing (decoded (raw_pairs l.fn.query))

@@ -1,4 +1,4 @@
-use Rattle.std.proofs.Common.{ℕ, List, ◌++◌, subst}
+use Rattle.std.proofs.Common.{ℕ, List, subst}
 use Rattle.tpf_server.specs.Parts.{CutsMarks, plain_marks}
 use Rattle.tpf_server.proofs.DebtLaws.{on_ok}
 use Rattle.tpf_server.proofs.PartLaws.{cuts_then}
