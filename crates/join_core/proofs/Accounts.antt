@@ -35,7 +35,7 @@ account w old new (Gave row ∷ es) r =
 pub gives-all : (w : World) (patterns : List Pattern) (row : Places) (old new : JoinData) (es : List Event) → Begins w patterns row old → RunsTo w old es new → IsPermutation (solutions w.triples patterns row) (given es ++ owed w new)
 gives-all w patterns row old new es b r = IsPermutation-trans _ _ _ b.owed (account w old new es r).rows
 
-pub asks-all : (w : World) (patterns : List Pattern) (row : Places) (old new : JoinData) (es : List Event) → Begins w patterns row old → RunsTo w old es new → IsPermutation (round_plan w patterns row) (asks es ++ left_over w new)
+pub asks-all : (w : World) (patterns : List Pattern) (row : Places) (old new : JoinData) (es : List Event) → Begins w patterns row old → RunsTo w old es new → IsPermutation (round_plan w patterns (row ∷ [])) (asks es ++ left_over w new)
 asks-all w patterns row old new es b r = IsPermutation-trans _ _ _ b.left (account w old new es r).rounds
 
 pub done-owed : (w : World) (j : JoinData) → IsDone j → owed w j ≡ []
@@ -44,8 +44,8 @@ done-owed w j d = ap (λ (l : List Places). l ++ flat_map (future w) (nodes j.le
 pub done-left : (w : World) (j : JoinData) → IsDone j → left_over w j ≡ []
 done-left w j d = ap (λ (l : List NodeData). flat_map (left w) l) d.nodes
 
-pub ends-whole : (w : World) (patterns : List Pattern) (row : Places) (old new : JoinData) (es : List Event) → Begins w patterns row old → RunsTo w old es new → IsDone new → IsPermutation (solutions w.triples patterns row) (given es) × IsPermutation (round_plan w patterns row) (asks es)
+pub ends-whole : (w : World) (patterns : List Pattern) (row : Places) (old new : JoinData) (es : List Event) → Begins w patterns row old → RunsTo w old es new → IsDone new → IsPermutation (solutions w.triples patterns row) (given es) × IsPermutation (round_plan w patterns (row ∷ [])) (asks es)
 ends-whole w patterns row old new es b r d = (
   subst (λ (l : List Places). IsPermutation (solutions w.triples patterns row) l) (ap (λ (l : List Places). given es ++ l) (done-owed w new d) ∙ append-nil (given es)) (gives-all w patterns row old new es b r),
-  subst (λ (l : List RoundData). IsPermutation (round_plan w patterns row) l) (ap (λ (l : List RoundData). asks es ++ l) (done-left w new d) ∙ append-nil (asks es)) (asks-all w patterns row old new es b r),
+  subst (λ (l : List RoundData). IsPermutation (round_plan w patterns (row ∷ [])) l) (ap (λ (l : List RoundData). asks es ++ l) (done-left w new d) ∙ append-nil (asks es)) (asks-all w patterns row old new es b r),
 )

@@ -152,14 +152,14 @@ next-by : (t u : ℕ) (c : Bool) → cond c 1 0 + 0 ≡ 0 → is_some (if c then
 next-by t u true e = absurd (omega (arith, e))
 next-by t u false e = refl
 
-none-in : (t : ℕ) (row : Places) (ps : List Pattern) (s : Stage) → times t (tickets_of (node row ps s)) ≡ 0 → is_some (waits_for t (node row ps s)) ≡ false
-none-in t row ps (Asking fs) e = none-map ForFirst (first_waiting t fs) (first-none t fs e)
-none-in t row ps (Walking p k next None) e = refl
-none-in t row ps (Walking p k next (Some u)) e = next-by t u (u == t) (sym (times-cons t u []) ∙ e)
+none-in : (t : ℕ) (rows : List Places) (ps : List Pattern) (s : Stage) → times t (tickets_of (node rows ps s)) ≡ 0 → is_some (waits_for t (node rows ps s)) ≡ false
+none-in t rows ps (Asking fs) e = none-map ForFirst (first_waiting t fs) (first-none t fs e)
+none-in t rows ps (Walking p k next None) e = refl
+none-in t rows ps (Walking p k next (Some u)) e = next-by t u (u == t) (sym (times-cons t u []) ∙ e)
 
 pub none-waits : (t : ℕ) (n : NodeData) → times t (tickets_of n) ≡ 0 → is_some (waits_for t n) ≡ false
-none-waits t n e = none-in t n.row n.rest n.stage e
+none-waits t n e = none-in t n.rows n.rest n.stage e
 
 -- a node that waits for nothing under a ticket does not have it
 pub waits-none : (t : ℕ) (n : NodeData) → waits_for t n ≡ None → times t (tickets_of n) ≡ 0
-waits-none t n e = no-times t (tickets_of n) (no-ticket-in t n.row n.rest n.stage (ap is_some e))
+waits-none t n e = no-times t (tickets_of n) (no-ticket-in t n.rows n.rest n.stage (ap is_some e))

@@ -1,5 +1,5 @@
 -- A join over one server, as an evaluation.
-use Rattle.std.proofs.Common.{ℕ, ◌≡◌, ◌≤◌, ◌<◌, ◌+◌, ◌*◌, ◌&&◌, ◌==◌, true, List, [], ◌∷◌, ◌++◌, map, length, Option, Some, None, inl, inr, ◌⊎◌, refl, ap, sym, subst, ◌∙◌, Ok, Err, arith}
+use Rattle.std.proofs.Common.{ℕ, ◌≡◌, ◌≤◌, ◌<◌, ◌*◌, ◌&&◌, ◌==◌, true, List, [], ◌∷◌, ◌++◌, map, length, Option, Some, None, inl, inr, ◌⊎◌, ap, sym, subst, ◌∙◌, Ok, Err, arith}
 use Rattle.std.specs.Prelude.{Result, IfOk, OnOk, MatchOption, ⊤}
 use Rattle.std.specs.Option.{option_map}
 use Rattle.std.specs.List.{All, Contains}
@@ -111,13 +111,13 @@ begun-suits w patterns row (Ok j) one h = (one, h.suits)
 begun-suits w patterns row (Err e) one h = tt
 
 pub begun-owes : {E : Type 0} (w : World) (patterns : List Pattern) (row : Places) (r : Result JoinData E) → IfOk r (Begins w patterns row) → IfOk r (λ j. BeginsWith (solutions w.triples patterns row) (plan w patterns row) (account_of w j))
-begun-owes w patterns row (Ok j) h = record { owed = h.owed; left = turned (round_plan w patterns row) (left_over w j) h.left; out = ap (λ (l : List (ℕ × RoundData)). pairs_in l) h.out }
+begun-owes w patterns row (Ok j) h = record { owed = h.owed; left = turned (round_plan w patterns (row ∷ [])) (left_over w j) h.left; out = ap (λ (l : List (ℕ × RoundData)). pairs_in l) h.out }
 begun-owes w patterns row (Err e) h = tt
 
 -- ---- pages
 
 one-round : (w : World) (j : JoinData) → SuitsOne w j → (ticket : ℕ) (round : RoundData) → Contains (out w j) (ticket, round) → (address : Address) × (round ≡ round_of_one address)
-one-round w j s ticket round h = let i = out-is-round w j s.1 ticket round h in let a = s.0 i.slots i.number in (a.0, sym i.is ∙ a.1)
+one-round w j s ticket round h = let i = out-is-round w j s.1 ticket round h in let a = s.0 i.selection i.number in (a.0, sym i.is ∙ a.1)
 
 pub one-true : (w : World) (j : JoinData) (ticket : ℕ) (page : Page) → SuitsOne w j → ((address : Address) → Contains (account_of w j).out (ticket, address) → IsPageAt w address page) → IsTrueFor w j ticket (joint_page page)
 one-true w j ticket page s told = λ round h.

@@ -1,6 +1,18 @@
 pub mod Valid
-pub mod Unaskable
+pub mod Blanks
+pub mod Lists
+pub mod Under
+pub mod Cuts
+pub mod Alike
+pub mod Asked
+pub mod Matching
+pub mod Grown
+pub mod RowByRow
+pub mod Targets
+pub mod Distinct
+pub mod Lengths
 pub mod Over
+pub mod Expanding
 pub mod Pages
 pub mod Replacing
 pub mod Turns
@@ -8,6 +20,7 @@ pub mod Taken
 pub mod Outs
 pub mod Least
 pub mod Marks
+pub mod Cutting
 pub mod Promises
 pub mod Accounts
 pub mod Scans

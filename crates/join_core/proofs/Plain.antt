@@ -9,7 +9,7 @@ use Rattle.join_core.specs.Nodes.{NodeData}
 use Rattle.join_core.specs.Joins.{nodes, Stands, IsAt, level_at, settled, levels_after}
 use Rattle.join_core.specs.Levels.{Seed, seed_node, LevelData, level, nodes_of, plain, level_of, is_key, spot, found_at, index_at, made_levels, with_node_in}
 use Rattle.join_core.proofs.Kept.{nodes-found}
-use Rattle.join_core.proofs.Scans.{front}
+use Rattle.join_core.proofs.Lists.{front}
 
 pub plain-level : (ls : List LevelData) (d : ℕ) → level_at (plain ls) d ≡ nodes_of (level_of ls d)
 plain-level [] d = refl

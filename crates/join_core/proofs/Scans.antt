@@ -6,8 +6,9 @@ use Rattle.std.proofs.lemmas.List.Sums.{sum_by-append}
 use Rattle.join_core.specs.Events.{works}
 use Rattle.std.proofs.lemmas.List.{take_more, take_all}
 use Rattle.std.proofs.lemmas.List.Concat.{flat_map-append}
-use Rattle.std.proofs.lemmas.List.Elements.{All-nil, All-cons, All-head, All-tail, All-append}
+use Rattle.std.proofs.lemmas.List.Elements.{All-nil, All-append}
 use Rattle.join_core.specs.Nodes.{NodeData}
+use Rattle.join_core.proofs.Lists.{front}
 use Rattle.join_core.specs.Joins.{nodes, NoneIn}
 
 -- the same for the nodes of levels, level by level
@@ -63,10 +64,6 @@ back-end old test back h a =
     subst (λ k. All (λ n. test n ≡ false) (nodes (drop k old))) zero' a
 
 -- ---- one level of those that a scan passed
-
-pub front : {X : Type 0} (P : X → Type 0) (xs ys : List X) → All P (xs ++ ys) → All P xs × All P ys
-front P [] ys a = (All-nil P, a)
-front P (x ∷ xs) ys a = let more = front P xs ys (All-tail P x (xs ++ ys) a) in (All-cons P x xs (All-head P x (xs ++ ys) a) more.0, more.1)
 
 level-of : (P : NodeData → Type 0) (ls : List (List NodeData)) (e : ℕ) → All P (nodes ls) → All P (get_or ls e [])
 level-of P [] e a = All-nil P

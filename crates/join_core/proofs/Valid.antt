@@ -1,8 +1,9 @@
 -- What is bound under a valid row by a valid triple is valid.
 use Rattle.std.proofs.Common.{ℕ, zero, suc, ◌≡◌, ◌+◌, ◌<◌, ◌⊎◌, inl, inr, Bool, true, false, ◌&&◌, List, [], ◌∷◌, length, map, drop, drop-cons, get_or, Option, Some, None, slice_get, refl, ap, sym, subst, ◌∙◌, arith}
-use Rattle.std.specs.List.{AllByRecursion, list_all, remove}
+use Rattle.std.specs.List.{All, AllByRecursion, flat_map, list_all, remove}
 use Rattle.std.proofs.lemmas.List.{get_or_default}
 use Rattle.std.proofs.lemmas.Bool.{cases_eq}
+use Rattle.std.proofs.lemmas.List.Elements.{All-nil, All-cons, All-weaker}
 use Rattle.rdf_terms.specs.declared.term.Term.{Term}
 use Rattle.rdf_terms.specs.declared.term.Triple.{Triple}
 use Rattle.rdf_terms.specs.Askable.{askable}
@@ -11,12 +12,15 @@ use Rattle.rdf_terms.specs.Kept.{IsValidSlot, AreValid}
 use Rattle.bgp_core.specs.declared.pattern.Part.{Part}
 use Rattle.bgp_core.specs.declared.pattern.Part.TheVariants.{Fixed, Name}
 use Rattle.bgp_core.specs.declared.pattern.Pattern.{Pattern}
-use Rattle.bgp_core.specs.Solutions.{Places, joined, extension}
+use Rattle.bgp_core.specs.Solutions.{Places, joined, extension, rows_from}
 use Rattle.bgp_core.specs.Instances.{slot_of, slot, instance}
 use Rattle.bgp_core.specs.Extends.{Becomes, IsNameOf}
-use Rattle.bgp_core.specs.Queries.{IsValidPart, IsValidPattern}
+use Rattle.bgp_core.specs.Queries.{IsValidPart, IsValidPattern, HasPlacesFor}
 use Rattle.bgp_core.proofs.Extending.{extension-some}
-use Rattle.join_core.specs.Nodes.{IsValidRow, all_askable}
+use Rattle.bgp_core.proofs.Lengths.{IfLength, extension-length}
+use Rattle.join_core.specs.Shown.{HavePlacesFor}
+use Rattle.join_core.specs.Nodes.{IsValidRow, found, all_askable}
+use Rattle.join_core.proofs.Lists.{all-flat_map}
 
 name_or_not : (k : ℕ) (p : Part) → IsNameOf k p ⊎ (IsNameOf k p → ⊥)
 name_or_not k (Fixed u) = inr (λ h. h)
@@ -42,12 +46,39 @@ valid-extension p row t new e valid ok =
       ]
     ]
 
-name-valid : (row : Places) (n : ℕ) (o : Option (Option Term)) → slice_get row n ≡ o → IsValidRow row → IsValidSlot (slot_of (joined o))
+one-made : (P : Places → Type 0) (o : Option Places) → ((r : Places) → o ≡ Some r → P r) → All P (rows_from o (λ r. r ∷ []))
+one-made P None h = All-nil P
+one-made P (Some r) h = All-cons P r [] (h r refl) (All-nil P)
+
+-- what triples make of rows has what each triple leaves
+pub found-all : (Q : Triple → Type 0) (P : Places → Type 0) (p : Pattern) (rows : List Places) (ts : List Triple) → ((row : Places) (t : Triple) (r : Places) → extension p row t ≡ Some r → P row → Q t → P r) → All Q ts → All P rows → All P (found p rows ts)
+found-all Q P p rows ts step ok a =
+    all-flat_map Q P (λ t. flat_map (λ row. rows_from (extension p row t) (λ r. r ∷ [])) rows) ts ok
+    (λ t h. all-flat_map P P (λ row. rows_from (extension p row t) (λ r. r ∷ [])) rows a (λ row k. one-made P (extension p row t) (λ r e. step row t r e k h)))
+
+-- what valid triples make of valid rows is valid
+pub found-valid : (p : Pattern) (rows : List Places) (ts : List Triple) → All IsValidTriple ts → All IsValidRow rows → All IsValidRow (found p rows ts)
+found-valid p rows ts ok v = found-all IsValidTriple IsValidRow p rows ts (λ row t r e k h. valid-extension p row t r e k h) ok v
+
+every-triple : (ts : List Triple) → All (λ t. Unit {0}) ts
+every-triple [] = All-nil (λ t. Unit {0})
+every-triple (t ∷ ts) = All-cons (λ x. Unit {0}) t ts tt (every-triple ts)
+
+if-long : (n : ℕ) (o : Option Places) (r : Places) → IfLength n o → o ≡ Some r → length r ≡ n
+if-long n None r h e = cc
+if-long n (Some x) r h e = let same : x ≡ r = cc in subst (λ (y : Places). length y ≡ n) same h
+
+-- each row that triples make is as long as the row that it comes of
+pub found-long : (P : ℕ → Type 0) (p : Pattern) (rows : List Places) (ts : List Triple) → All (λ row. P (length row)) rows → All (λ row. P (length row)) (found p rows ts)
+found-long P p rows ts a =
+    found-all (λ t. Unit {0}) (λ row. P (length row)) p rows ts (λ row t r e k h. subst P (sym (if-long (length row) (extension p row t) r (extension-length (length row) p row t refl) e)) k) (every-triple ts) a
+
+pub name-valid : (row : Places) (n : ℕ) (o : Option (Option Term)) → slice_get row n ≡ o → IsValidRow row → IsValidSlot (slot_of (joined o))
 name-valid row n None e h = tt
 name-valid row n (Some None) e h = tt
 name-valid row n (Some (Some u)) e h = h n u e
 
-slot-valid : (row : Places) (q : Part) → IsValidPart q → IsValidRow row → IsValidSlot (slot row q)
+pub slot-valid : (row : Places) (q : Part) → IsValidPart q → IsValidRow row → IsValidSlot (slot row q)
 slot-valid row (Fixed t) v h = v
 slot-valid row (Name n) v h = name-valid row n (slice_get row n) refl h
 
@@ -67,6 +98,9 @@ list_all-at test (y ∷ ys) (suc i) x h l e = list_all-at test ys i x (both (tes
 
 pub askable-at : (row : Places) (ps : List Pattern) (i : ℕ) (p : Pattern) → all_askable row ps ≡ true → i < length ps → p ≡ get_or ps i p → askable (instance p row) ≡ true
 askable-at row ps i p h l e = list_all-at (λ q. askable (instance q row)) ps i p h l e
+
+pub askable-all-at : (rows : List Places) (ps : List Pattern) (i : ℕ) (p : Pattern) → All (λ row. all_askable row ps ≡ true) rows → i < length ps → p ≡ get_or ps i p → All (λ row. askable (instance p row) ≡ true) rows
+askable-all-at rows ps i p a l e = All-weaker (λ row. all_askable row ps ≡ true) (λ row. askable (instance p row) ≡ true) (λ row h. askable-at row ps i p h l e) rows a
 
 pub every-at : {X : Type 0} (P : X → Type 0) (xs : List X) (i : ℕ) (x : X) → AllByRecursion P xs → i < length xs → x ≡ get_or xs i x → P x
 every-at P [] i x h l e = absurd (omega arith)
@@ -109,6 +143,18 @@ askable-no row ps i found r l is e f =
 
 pub found-every : (P : Pattern → Type 0) (ps : List Pattern) (i : ℕ) (found : Pattern) → AllByRecursion P ps → i < length ps → ((p : Pattern) → p ≡ get_or ps i p → found ≡ p) → P found
 found-every P ps i found h l is = let p = pattern-at ps i l in subst P (sym (is p.0 p.1)) (every-at P ps i p.0 h l p.1)
+
+pub places-remove : (ps : List Pattern) (rows : List Places) (i : ℕ) → HavePlacesFor ps rows → HavePlacesFor (remove ps i) rows
+places-remove ps rows i a = All-weaker (λ row. AllByRecursion (HasPlacesFor (length row)) ps) (λ row. AllByRecursion (HasPlacesFor (length row)) (remove ps i)) (λ row h. every-remove (HasPlacesFor (length row)) ps i h) rows a
+
+pub places-found : (ps : List Pattern) (rows : List Places) (i : ℕ) (found : Pattern) → HavePlacesFor ps rows → i < length ps → ((p : Pattern) → p ≡ get_or ps i p → found ≡ p) → All (λ row. HasPlacesFor (length row) found) rows
+places-found ps rows i found a l is = All-weaker (λ row. AllByRecursion (HasPlacesFor (length row)) ps) (λ row. HasPlacesFor (length row) found) (λ row h. found-every (HasPlacesFor (length row)) ps i found h l is) rows a
+
+pub found-places : (ps : List Pattern) (p : Pattern) (rows : List Places) (ts : List Triple) → HavePlacesFor ps rows → HavePlacesFor ps (found p rows ts)
+found-places ps p rows ts a = found-long (λ n. AllByRecursion (HasPlacesFor n) ps) p rows ts a
+
+pub found-askable-all : (rows : List Places) (ps : List Pattern) (i : ℕ) (found : Pattern) → All (λ row. all_askable row ps ≡ true) rows → i < length ps → ((p : Pattern) → p ≡ get_or ps i p → found ≡ p) → All (λ row. askable (instance found row) ≡ true) rows
+found-askable-all rows ps i found a l is = All-weaker (λ row. all_askable row ps ≡ true) (λ row. askable (instance found row) ≡ true) (λ row h. found-askable row ps i found h l is) rows a
 
 pub map-remove : {A B : Type 0} (f : A → B) (xs : List A) (i : ℕ) → map f (remove xs i) ≡ remove (map f xs) i
 map-remove f [] zero = refl

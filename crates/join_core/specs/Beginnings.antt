@@ -25,11 +25,12 @@ pub record BeginsWith (rows : List Places) (addresses : List Address) (account :
 
 -- ---- one server
 
--- the world is that of one server, whose first pages have the addresses of the forms
-pub record FitsWorld (w : World) (forms : List Form) : Type 0 where
+-- the world is that of one server, whose first pages have the addresses of the forms, and whose rounds ask for as many rows
+pub record FitsWorld (w : World) (forms : List Form) (block : ℕ) : Type 0 where
   pub world : IsWorld w
   pub one : IsOneServer w
   pub forms_are : HasForms w forms
+  pub rows : w.block ≡ block
 
 -- the solutions over the triples of the world
 abbrev pub world_rows : World → QueryData → List Places

@@ -1,5 +1,5 @@
 -- Serves proofs alone: the laws of a join as an evaluation.
-use Rattle.std.proofs.Common.{ℕ, suc, ◌≡◌, ◌+◌, ◌*◌, ◌<◌, ◌≤◌, ◌&&◌, cond, Bool, true, false, List, [], ◌∷◌, ◌++◌, length, slice_index_or, Some, None, refl, ap, subst, ◌∙◌, arith, length-append}
+use Rattle.std.proofs.Common.{ℕ, suc, ◌≡◌, ◌+◌, ◌*◌, ◌<◌, ◌≤◌, ◌&&◌, cond, Bool, true, false, List, [], ◌∷◌, ◌++◌, length, slice_index_or, Some, None, refl, ap, ◌∙◌, arith, length-append}
 use Rattle.std.specs.Prelude.{◌==◌}
 use Rattle.std.specs.List.{All, flat_map, count_by}
 use Rattle.std.specs.List.Sorted.{IsPermutation}
@@ -65,7 +65,7 @@ tickets-are-below terms j k = k.tickets
 -- ---- before the first event
 
 pub begun-left : (w : World) (patterns : List Pattern) (row : Places) (j : JoinData) → Begins w patterns row j → IsPermutation (plan w patterns row) (account_of w j).left
-begun-left w patterns row j b = flat_map-IsPermutation (λ (round : RoundData). round.addresses) (round_plan w patterns row) (left_over w j) b.left
+begun-left w patterns row j b = flat_map-IsPermutation (λ (round : RoundData). round.addresses) (round_plan w patterns (row ∷ [])) (left_over w j) b.left
 
 pub begun-out : (w : World) (patterns : List Pattern) (row : Places) (j : JoinData) → Begins w patterns row j → (account_of w j).out ≡ []
 begun-out w patterns row j b = ap (λ (l : List (ℕ × RoundData)). pairs_in l) b.out
@@ -78,11 +78,11 @@ first-few (Out ticket ∷ fs) = let more = first-few fs in omega (arith, more)
 first-few (Got page ∷ fs) = let more = first-few fs in omega (arith, more)
 
 -- a node has no more tickets out than patterns to match, and none where it does not work
-node-few : (terms : Terms) (n : ℕ) (row : Places) (rest : List Pattern) (stage : Stage) → KeepsNode terms (node row rest stage) → unmatched rest stage ≤ n → length (tickets_of (node row rest stage)) ≤ n * cond (works (node row rest stage)) 1 0
-node-few terms n row rest (Asking []) k h = omega arith
-node-few terms n row rest (Asking (f ∷ fs)) k h = let few = first-few (f ∷ fs) in omega (arith, few, k.asking.within, h)
-node-few terms n row rest (Walking p taken next None) k h = omega arith
-node-few terms n row rest (Walking p taken next (Some ticket)) k h = omega (arith, h)
+node-few : (terms : Terms) (n : ℕ) (rows : List Places) (rest : List Pattern) (stage : Stage) → KeepsNode terms (node rows rest stage) → unmatched rest stage ≤ n → length (tickets_of (node rows rest stage)) ≤ n * cond (works (node rows rest stage)) 1 0
+node-few terms n rows rest (Asking []) k h = omega arith
+node-few terms n rows rest (Asking (f ∷ fs)) k h = let few = first-few (f ∷ fs) in omega (arith, few, k.asking.within, h)
+node-few terms n rows rest (Walking p taken next None) k h = omega arith
+node-few terms n rows rest (Walking p taken next (Some ticket)) k h = omega (arith, h)
 
 count-more : (n : ℕ) (x : NodeData) (xs : List NodeData) → n * count_by works (x ∷ xs) ≡ n * cond (works x) 1 0 + n * count_by works xs
 count-more n x xs = ap (λ (k : ℕ). n * k) (sum_by-cons (λ y. cond (works y) 1 0) x xs) ∙ mul-add n (cond (works x) 1 0) (count_by works xs)
@@ -90,7 +90,7 @@ count-more n x xs = ap (λ (k : ℕ). n * k) (sum_by-cons (λ y. cond (works y) 
 all-few : (terms : Terms) (n : ℕ) (xs : List NodeData) → All (KeepsNode terms) xs → All (λ x. unmatched x.rest x.stage ≤ n) xs → length (flat_map tickets_of xs) ≤ n * count_by works xs
 all-few terms n [] k h = omega arith
 all-few terms n (x ∷ xs) k h =
-    let one = node-few terms n x.row x.rest x.stage (All-head (KeepsNode terms) x xs k) (All-head (λ y. unmatched y.rest y.stage ≤ n) x xs h) in
+    let one = node-few terms n x.rows x.rest x.stage (All-head (KeepsNode terms) x xs k) (All-head (λ y. unmatched y.rest y.stage ≤ n) x xs h) in
     let more = all-few terms n xs (All-tail (KeepsNode terms) x xs k) (All-tail (λ y. unmatched y.rest y.stage ≤ n) x xs h) in
     omega (arith, one, more, length-append (tickets_of x) (flat_map tickets_of xs), count-more n x xs)
 

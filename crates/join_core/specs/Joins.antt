@@ -5,12 +5,12 @@ use Rattle.std.specs.List.Sorted.{IsPermutation}
 use Rattle.join_core.specs.Rounds.{RoundData}
 use Rattle.bgp_core.specs.declared.pattern.Pattern.{Pattern}
 use Rattle.bgp_core.specs.Solutions.{Places, solutions}
-use Rattle.bgp_core.specs.Instances.{instance}
 use Rattle.template_fill.specs.declared.form.Form.{Form}
 use Rattle.join_core.specs.declared.joint_page.JointPage.{JointPage}
 use Rattle.join_core.specs.declared.first.First.{First}
 use Rattle.join_core.specs.declared.first.First.TheVariants.{Out, Got}
 use Rattle.join_core.specs.declared.node.Waits.TheVariants.{First as ForFirst, Next as ForNext}
+use Rattle.join_core.specs.Blocks.{Cut, forms_cut, selection_for}
 use Rattle.join_core.specs.Worlds.{World, IsWorld, HasForms, IsRoundPageAt}
 use Rattle.join_core.specs.Nodes.{Stage, NodeData, future, left, round_plan, Holds, nodes_in, rows_out}
 use Rattle.join_core.specs.Nodes.Stage.{Asking, Walking}
@@ -19,10 +19,15 @@ use Rattle.join_core.specs.Events.{works, is_idle, has_ask, is_full, CanAsk, ask
 pub record JoinData : Type 0 where
   pub forms : List Form
   pub window : ℕ
+  pub block : ℕ
   pub tickets : ℕ
   pub longest : ℕ
   pub levels : List (List NodeData)
   pub waiting : List Places
+
+-- how the rows of a page are cut into blocks
+abbrev pub cut_in : JoinData → Cut
+cut_in j = forms_cut j.forms j.block
 
 abbrev pub nodes : List (List NodeData) → List NodeData
 nodes levels = flat_map (λ l. l) levels
@@ -36,22 +41,22 @@ abbrev pub left_over : World → JoinData → List RoundData
 left_over w j = flat_map (left w) (nodes j.levels)
 
 -- the first pages that are out, each by its ticket and the round of its pattern's first page
-abbrev pub first_outs : World → Places → List Pattern → List First → List (ℕ × RoundData)
-first_outs w row [] fs = []
-first_outs w row (p ∷ ps) [] = []
-first_outs w row (p ∷ ps) (Out ticket ∷ fs) = (ticket, w.round (instance p row) 1) ∷ first_outs w row ps fs
-first_outs w row (p ∷ ps) (Got page ∷ fs) = first_outs w row ps fs
+abbrev pub first_outs : World → List Places → List Pattern → List First → List (ℕ × RoundData)
+first_outs w rows [] fs = []
+first_outs w rows (p ∷ ps) [] = []
+first_outs w rows (p ∷ ps) (Out ticket ∷ fs) = (ticket, w.round (selection_for p rows) 1) ∷ first_outs w rows ps fs
+first_outs w rows (p ∷ ps) (Got page ∷ fs) = first_outs w rows ps fs
 
 abbrev pub next_outs : RoundData → Option ℕ → List (ℕ × RoundData)
 next_outs next None = []
 next_outs next (Some ticket) = (ticket, next) ∷ []
 
-abbrev pub outs_of : World → Places → List Pattern → Stage → List (ℕ × RoundData)
-outs_of w row rest (Asking fs) = first_outs w row rest fs
-outs_of w row rest (Walking p k next out) = next_outs next out
+abbrev pub outs_of : World → List Places → List Pattern → Stage → List (ℕ × RoundData)
+outs_of w rows rest (Asking fs) = first_outs w rows rest fs
+outs_of w rows rest (Walking p k next out) = next_outs next out
 
 abbrev pub outs : World → NodeData → List (ℕ × RoundData)
-outs w n = outs_of w n.row n.rest n.stage
+outs w n = outs_of w n.rows n.rest n.stage
 
 -- the tickets that are out, each with its round
 abbrev pub out : World → JoinData → List (ℕ × RoundData)
@@ -80,10 +85,11 @@ tickets_out j = flat_map tickets_of (nodes j.levels)
 
 -- ---- the promises
 
--- the pages that the join holds are true for a world that has its forms
+-- the pages that the join holds are true for a world that has its forms, and whose rounds ask for as many rows
 pub record Suits (w : World) (j : JoinData) : Type 0 where
   pub world : IsWorld w
   pub forms : HasForms w j.forms
+  pub block : w.block ≡ j.block
   pub holds : All (Holds w) (nodes j.levels)
 
 -- what is owed and what is left to ask stay
@@ -122,14 +128,14 @@ pub record GivesRow (w : World) (old new : JoinData) (row : Places) : Type 0 whe
 pub record Begins (w : World) (patterns : List Pattern) (row : Places) (j : JoinData) : Type 0 where
   pub suits : Suits w j
   pub owed : IsPermutation (solutions w.triples patterns row) (owed w j)
-  pub left : IsPermutation (round_plan w patterns row) (left_over w j)
+  pub left : IsPermutation (round_plan w patterns (row ∷ [])) (left_over w j)
   pub out : out w j ≡ []
 
 -- the nodes and rows of a join before its first event: the row with all patterns is a node, or waits where there is no
 -- pattern; where one cannot be asked for there is nothing
 pub record Opens (patterns : List Pattern) (row : Places) (j : JoinData) : Type 0 where
-  pub nodes : nodes j.levels ≡ nodes_in patterns row
-  pub rows : j.waiting ≡ rows_out patterns row
+  pub nodes : nodes j.levels ≡ nodes_in (cut_in j) patterns (row ∷ [])
+  pub rows : j.waiting ≡ rows_out patterns (row ∷ [])
 
 -- ---- how events change the nodes
 
@@ -163,14 +169,14 @@ abbrev pub levels_after : List (List NodeData) → ℕ → List NodeData → Lis
 levels_after levels depth made = if nat_lt depth (length levels) then slice_set levels depth (slice_index_or levels depth [] ++ made) else levels ++ made ∷ []
 
 abbrev pub with_levels : JoinData → List (List NodeData) → JoinData
-with_levels j levels = record { forms = j.forms; window = j.window; tickets = j.tickets; longest = j.longest; levels = levels; waiting = j.waiting }
+with_levels j levels = record { forms = j.forms; window = j.window; block = j.block; tickets = j.tickets; longest = j.longest; levels = levels; waiting = j.waiting }
 
 -- the same join with another longest page
 abbrev pub with_longest : JoinData → ℕ → JoinData
-with_longest j longest = record { forms = j.forms; window = j.window; tickets = j.tickets; longest = longest; levels = j.levels; waiting = j.waiting }
+with_longest j longest = record { forms = j.forms; window = j.window; block = j.block; tickets = j.tickets; longest = longest; levels = j.levels; waiting = j.waiting }
 
 abbrev pub with_made : JoinData → List (List NodeData) → List Places → JoinData
-with_made j levels rows = record { forms = j.forms; window = j.window; tickets = j.tickets; longest = j.longest; levels = levels; waiting = j.waiting ++ rows }
+with_made j levels rows = record { forms = j.forms; window = j.window; block = j.block; tickets = j.tickets; longest = j.longest; levels = levels; waiting = j.waiting ++ rows }
 
 -- the join after a page made nodes and rows of the node at a place
 abbrev pub taken_at : JoinData → ℕ → ℕ → List NodeData → List Places → Option NodeData → JoinData
@@ -206,6 +212,7 @@ abbrev pub asked_at : JoinData → ℕ → ℕ → NodeData → JoinData
 asked_at j depth index n = record {
   forms = j.forms;
   window = j.window;
+  block = j.block;
   tickets = j.tickets + 1;
   longest = j.longest;
   levels = slice_set j.levels depth (slice_set (level_at j.levels depth) index (asked j.tickets n));
@@ -236,14 +243,14 @@ pub record AsksAt (old new : JoinData) (round : RoundData) : Type 0 where
 
 -- the next page of the node at a place was taken
 abbrev pub walked_at : JoinData → ℕ → ℕ → NodeData → JointPage → JoinData
-walked_at j depth index n page = taken_at j depth index (opened_by n page.triples) (out_by n page.triples) (after_by n page.next)
+walked_at j depth index n page = taken_at j depth index (opened_by (cut_in j) n page.triples) (out_by n page.triples) (after_by n page.next)
 
 -- the first page with the least count was taken, of this node at a place
 pub record ChoosesAt (old new : JoinData) (depth index : ℕ) (n : NodeData) : Type 0 where
   pub made : List NodeData
   pub rows : List Places
   pub after : Option NodeData
-  pub chosen : IsChosen n made rows after
+  pub chosen : IsChosen (cut_in old) n made rows after
   pub done : new ≡ taken_at old depth index made rows after
 
 -- a first page of the node at a place came; where it was the last to come, the pattern with the least count is chosen

@@ -1,7 +1,11 @@
 pub mod Rounds
 pub mod JointPages
+pub mod Blocks
 pub mod Worlds
 pub mod Nodes
+pub mod RowPlans
+pub mod BlockLaws
+pub mod Targets
 pub mod NextPages
 pub mod Shown
 pub mod Events

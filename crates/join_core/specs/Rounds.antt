@@ -3,9 +3,9 @@ use Rattle.std.specs.Prelude.{◌≡◌, List, [], ◌∷◌, Option, Some, None
 use Rattle.std.specs.List.{All, flat_map}
 use Rattle.tpf_base.specs.Addresses.{Address, IsAddress}
 use Rattle.rdf_terms.specs.declared.term.Triple.{Triple}
-use Rattle.rdf_terms.specs.declared.slots.Slots.{Slots}
+use Rattle.rdf_terms.specs.Selections.{Selection}
 use Rattle.template_fill.specs.declared.form.Form.{Form}
-use Rattle.template_fill.specs.Forms.{form_text}
+use Rattle.template_fill.specs.Forms.{selection_form_text}
 use Rattle.template_fill.specs.Authorities.{ShareAuthority}
 use Rattle.join_core.specs.Evaluations.{HasHome}
 
@@ -30,14 +30,14 @@ addresses_in rounds = flat_map (λ round. round.addresses) rounds
 
 -- ---- the first round
 
--- each form gives the address of the first page for the slots
-abbrev pub AreFirst : List Form → Slots → List Address → Type 0
+-- each form gives the address of the first page for the selection
+abbrev pub AreFirst : List Form → Selection → List Address → Type 0
 AreFirst [] s [] = ⊤
 AreFirst [] s (address ∷ addresses) = ⊥
 AreFirst (form ∷ forms) s [] = ⊥
-AreFirst (form ∷ forms) s (address ∷ addresses) = IsAddress (form_text form s) address × AreFirst forms s addresses
+AreFirst (form ∷ forms) s (address ∷ addresses) = IsAddress (selection_form_text form s) address × AreFirst forms s addresses
 
-pub record IsFirstRound (forms : List Form) (s : Slots) (round : RoundData) : Type 0 where
+pub record IsFirstRound (forms : List Form) (s : Selection) (round : RoundData) : Type 0 where
   pub addresses : AreFirst forms s round.addresses
   pub none : round.taken ≡ []
 

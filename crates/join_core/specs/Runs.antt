@@ -48,7 +48,7 @@ abbrev pub GivesAll : Type 0
 GivesAll = (w : World) (patterns : List Pattern) (row : Places) (old new : JoinData) (es : List Event) → Begins w patterns row old → RunsTo w old es new → IsPermutation (solutions w.triples patterns row) (given es ++ owed w new)
 
 abbrev pub AsksAll : Type 0
-AsksAll = (w : World) (patterns : List Pattern) (row : Places) (old new : JoinData) (es : List Event) → Begins w patterns row old → RunsTo w old es new → IsPermutation (round_plan w patterns row) (asks es ++ left_over w new)
+AsksAll = (w : World) (patterns : List Pattern) (row : Places) (old new : JoinData) (es : List Event) → Begins w patterns row old → RunsTo w old es new → IsPermutation (round_plan w patterns (row ∷ [])) (asks es ++ left_over w new)
 
 abbrev pub EndsWhole : Type 0
-EndsWhole = (w : World) (patterns : List Pattern) (row : Places) (old new : JoinData) (es : List Event) → Begins w patterns row old → RunsTo w old es new → IsDone new → IsPermutation (solutions w.triples patterns row) (given es) × IsPermutation (round_plan w patterns row) (asks es)
+EndsWhole = (w : World) (patterns : List Pattern) (row : Places) (old new : JoinData) (es : List Event) → Begins w patterns row old → RunsTo w old es new → IsDone new → IsPermutation (solutions w.triples patterns row) (given es) × IsPermutation (round_plan w patterns (row ∷ [])) (asks es)

@@ -1,5 +1,5 @@
 -- What a join keeps, whatever pages came.
-use Rattle.std.specs.Prelude.{ℕ, suc, ◌≡◌, ◌+◌, ◌<◌, ◌≤◌, List, length, Option, Some, None}
+use Rattle.std.specs.Prelude.{ℕ, suc, ◌≡◌, ◌+◌, ◌*◌, ◌<◌, ◌≤◌, List, length, Option, Some, None}
 use Rattle.std.specs.List.{All}
 use Rattle.tpf_base.specs.Addresses.{Address}
 use Rattle.bgp_core.specs.declared.pattern.Pattern.{Pattern}
@@ -34,9 +34,9 @@ AsksRoundAtHome homes None = Unit {0}
 AsksRoundAtHome homes (Some ask) = RoundAtHome homes ask.round
 
 pub record KeepsNode (terms : Terms) (n : NodeData) : Type 0 where
-  pub width : length n.row ≡ terms.width
+  pub width : All (λ row. length row ≡ terms.width) n.rows
   pub home : StageAtHome terms.homes n.stage
-  pub asking : AsksRightly n.row n.rest n.stage
+  pub asking : AsksRightly n.rows n.rest n.stage
 
 -- asks keep to the authorities and rows to the places, no node holds all first pages, since it then chose, and tickets are
 -- below the next one
@@ -68,11 +68,13 @@ unmatched rest (Walking p k next out) = suc (length rest)
 abbrev pub IsOfDepth : ℕ → ℕ → NodeData → Type 0
 IsOfDepth n d x = (unmatched x.rest x.stage + d ≡ n) × (d < n)
 
--- of n patterns, with pages of at most m triples: one node at most at the top, each node at the depth of its patterns, and
--- the bound for each depth
+-- of n patterns, with pages of at most m triples and blocks of at most so many rows, so that a page opens at most m times so many
+-- nodes: one node at most at the top, each node at the depth of its patterns and with no more rows, and the bound for each depth
 pub record IsKeptSmall (n m : ℕ) (j : JoinData) : Type 0 where
   pub some : 0 < m
-  pub bounded : IsBounded m j.window j.levels
+  pub some_rows : 0 < j.block
+  pub bounded : IsBounded (m * j.block) j.window j.levels
+  pub blocks : All (λ x. length x.rows ≤ j.block) (nodes j.levels)
   pub held : All (λ x. StageAtMost m x.stage) (nodes j.levels)
   pub root : open_at j.levels 0 ≤ 1
   pub depths : (d : ℕ) → All (IsOfDepth n d) (level_at j.levels d)

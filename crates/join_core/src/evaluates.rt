@@ -6,9 +6,9 @@ ghost use Rattle.join_core.specs.Sound.{KeepsTo, KeepsSizes};
 ghost use Rattle.join_core.specs.JoinAccounts.{account_of, standing_of};
 ghost use Rattle.join_core.specs.JoinLaws.{done-owes-nothing, done-is-quiet, tickets-are-below, out-is-small};
 
-use crate::FormList;
 use crate::evaluation::{Answered, Ask, Evaluates};
 use crate::join::Join;
+use crate::{BlockSize, FormList};
 use bgp_core::{Query, Row};
 use fragment_page::Page;
 use std::alloc::Global;
@@ -42,8 +42,9 @@ impl Evaluates for Join {
         query: &Query,
         forms: FormList,
         window: u32,
+        block: BlockSize,
     ) -> Result<Join, OutOfMemory> {
-        Join::new(alloc, query, forms, window)
+        Join::in_blocks(alloc, query, forms, window, block)
     }
 
     fn report_version(first: Option<u64>) -> Option<u64> {

@@ -10,7 +10,7 @@ ghost use Rattle.join_core.specs.Rounds.{FormsAtHome};
 ghost use Rattle.join_core.specs.Beginnings.{BeginsWith};
 ghost use Rattle.join_core.specs.Evaluations.{Account, nothing, GivesOwed, OwesAfterAsk, OwesAfterAnswer, Standing, TakesOne, StandsAfterAsk, StandsAfterAnswer, EndsInQuiet, Terms, AsksAtHome, NextAtHome, Sizes};
 
-use crate::FormList;
+use crate::{BlockSize, FormList};
 use bgp_core::{Query, Row};
 use fragment_page::Page;
 use std::alloc::Global;
@@ -60,8 +60,8 @@ pub trait Evaluates {
     /// It is of a query with so many patterns, and extends no more rows at a time, each counted once for each server.
     ghost keeps_small: { Sizes → Self → Type 0 };
 
-    /// The forms of the start pages are those of a source.
-    ghost fits: { Self.Source → List Form → Type 0 };
+    /// The forms of the start pages are those of a source, which is asked for as many rows at once.
+    ghost fits: { Self.Source → List Form → ℕ → Type 0 };
 
     /// The rows of a query over a source, in some order.
     ghost rows: { Self.Source → QueryData → List Places };
@@ -73,18 +73,19 @@ pub trait Evaluates {
     ghost reported: { Option ℕ → Option ℕ };
 
     /// The evaluation of a query, whose first pages have the addresses of these forms, with at most `window` rows extended at
-    /// a time, each over the servers of all forms. It has given no ticket. Conditions: the window is at least 1, and there is
-    /// a form. The only error is out of memory.
+    /// a time, each over the servers of all forms, in blocks of at most `block` rows where it asks for several rows at once. It has
+    /// given no ticket. Conditions: the window is at least 1, and there is a form. The only error is out of memory.
     fn begin(
         alloc: Global,
         query: &Query,
         forms: FormList,
         window: u32,
+        block: BlockSize,
     ) -> Result<Self, OutOfMemory>
         requires window { 1 ≤ window }
         requires some { 0 < length forms }
-        ensures suits { (source : Self.Source) → fits source forms → IfOk result (λ e. suits source e) }
-        ensures owes { (source : Self.Source) → fits source forms → IfOk result (λ e. BeginsWith (rows source query.now) (plan source query.now) (account source e)) }
+        ensures suits { (source : Self.Source) → fits source forms block → IfOk result (λ e. suits source e) }
+        ensures owes { (source : Self.Source) → fits source forms block → IfOk result (λ e. BeginsWith (rows source query.now) (plan source query.now) (account source e)) }
         ensures keeps { (homes : List Address) → FormsAtHome homes forms → IfOk result (λ e. keeps_to (record { homes = homes; width = length query.now.names }) e) }
         ensures small { IfOk result (λ e. keeps_small (record { patterns = length query.now.patterns; window = window * length forms }) e) }
         ensures stands { IfOk result (λ e. ((standing e).given ≡ 0) × ((standing e).out ≡ [])) };

@@ -1,12 +1,15 @@
-// What the triples of a page make of a row.
-ghost use Rattle.std.specs.Prelude.{◌≡◌, ◌++◌, length, map, OnOk, drop};
-ghost use Rattle.std.specs.List.{AllByRecursion};
+// What the triples of a page make of a block of rows.
+ghost use Rattle.std.specs.Prelude.{◌≡◌, ◌<◌, ◌++◌, ◌∷◌, [], length, map, IfOk, OnOk, drop};
+ghost use Rattle.std.specs.List.{All, flat_map};
 ghost use Rattle.bgp_core.specs.Queries.{HasPlacesFor};
 ghost use Rattle.bgp_core.specs.Solutions.{extension, rows_from};
-ghost use Rattle.join_core.specs.Nodes.{put_out, opened, rows_out, nodes_in, all_askable};
+ghost use Rattle.join_core.specs.Blocks.{forms_cut};
+ghost use Rattle.join_core.specs.Nodes.{found, nodes_in, rows_out, all_askable, askable_rows};
+ghost use Rattle.join_core.specs.Shown.{HavePlacesFor};
 ghost use Rattle.join_core.specs.Levels.{seed_node};
 
 use crate::binding::extension;
+use crate::block::{Cut, RowBlock, cut_rows};
 use crate::opening::Opening;
 use crate::pattern_list::PatternList;
 use bgp_core::{Pattern, Row, instance_askable, match_triple};
@@ -26,93 +29,169 @@ fn askable_from(patterns: &PatternList, index: usize, row: &Row) -> bool
 }
 
 /// Whether each of the patterns can be asked for under a row.
-pub(crate) fn are_askable(patterns: &PatternList, row: &Row) -> bool
+fn are_askable(patterns: &PatternList, row: &Row) -> bool
     ensures { result ≡ all_askable row.now patterns.now }
 {
     askable_from(patterns, 0, row)
 }
 
-/// A row with no pattern left is put out, and any other becomes a node, unless one of its patterns cannot be asked for.
-pub(crate) fn add_match(
+/// The rows under which all patterns can be asked for.
+fn askable_rows(
     alloc: Global,
-    others: &Rc<PatternList>,
-    row: Row,
-    nodes: &mut Vec<Opening>,
-    rows: &mut Vec<Row>,
-) -> Result<(), OutOfMemory>
-    requires { AllByRecursion (HasPlacesFor (length row)) others.now.value }
-    ensures nodes { OnOk result (map seed_node nodes.new.items ≡ map seed_node nodes.old.items ++ nodes_in others.now.value row) }
-    ensures rows { OnOk result (rows.new.items ≡ rows.old.items ++ rows_out others.now.value row) }
+    patterns: &PatternList,
+    rows: Vec<Row>,
+) -> Result<Vec<Row>, OutOfMemory>
+    ensures { IfOk result (λ kept. kept.items ≡ askable_rows patterns.now rows.items) }
 {
-    if others.len() == 0 {
-        rows.push(row)?;
-    } else if are_askable(others, &row) {
-        nodes.push(Opening::new(row, others.clone()?))?;
+    let mut kept = Vec::with_capacity(alloc, rows.len())?;
+    for row in rows {
+        if are_askable(patterns, &row) {
+            kept.push(row)?;
+        }
+    }
+    Ok(kept)
+}
+
+/// Adds a node for each block of the rows, but for those under which a pattern cannot be asked for. There is a pattern.
+fn add_nodes(
+    alloc: Global,
+    cut: &Cut,
+    others: &Rc<PatternList>,
+    rows: Vec<Row>,
+    nodes: &mut Vec<Opening>,
+) -> Result<(), OutOfMemory>
+    requires places { HavePlacesFor others.now.value rows.items }
+    requires some { 0 < length others.now.value }
+    ensures { OnOk result (map seed_node nodes.new.items ≡ map seed_node nodes.old.items ++ nodes_in (forms_cut cut.now.forms cut.now.block) others.now.value rows.items) }
+{
+    let kept = askable_rows(alloc, others, rows)?;
+    for block in cut_rows(alloc, cut, others, kept)? {
+        nodes.push(Opening::new(block, others.clone()?))?;
     }
     Ok(())
 }
 
-/// Adds what a triple makes of a row. It is moved into the row, or dropped.
+/// Rows with no pattern left are put out. The others become blocks, but for those under which a pattern that is left cannot be
+/// asked for.
+pub(crate) fn add_rows(
+    alloc: Global,
+    cut: &Cut,
+    others: &Rc<PatternList>,
+    found: Vec<Row>,
+    nodes: &mut Vec<Opening>,
+    rows: &mut Vec<Row>,
+) -> Result<(), OutOfMemory>
+    requires { HavePlacesFor others.now.value found.items }
+    ensures nodes { OnOk result (map seed_node nodes.new.items ≡ map seed_node nodes.old.items ++ nodes_in (forms_cut cut.now.forms cut.now.block) others.now.value found.items) }
+    ensures rows { OnOk result (rows.new.items ≡ rows.old.items ++ rows_out others.now.value found.items) }
+{
+    if others.len() > 0 {
+        return add_nodes(alloc, cut, others, found, nodes);
+    }
+    let mut found = found;
+    rows.append(&mut found)?;
+    Ok(())
+}
+
+/// Adds what a triple that stays held makes of a row. A term that is bound anew is copied.
+fn add_match(
+    alloc: Global,
+    chosen: &Pattern,
+    row: &Row,
+    triple: &Triple,
+    into: &mut Vec<Row>,
+) -> Result<(), OutOfMemory>
+    requires { HasPlacesFor (length row.now) chosen.now }
+    ensures { OnOk result (into.new.items ≡ into.old.items ++ rows_from (extension chosen.now row.now triple.now) (λ r. r ∷ [])) }
+{
+    if let Some(next) = match_triple(alloc, chosen, row, triple)? {
+        into.push(next)?;
+    }
+    Ok(())
+}
+
+/// Adds what a triple makes of a row. Its terms are moved into the row that it makes, or dropped.
+fn add_extension(
+    alloc: Global,
+    chosen: &Pattern,
+    row: &Row,
+    triple: Triple,
+    into: &mut Vec<Row>,
+) -> Result<(), OutOfMemory>
+    requires { HasPlacesFor (length row.now) chosen.now }
+    ensures { OnOk result (into.new.items ≡ into.old.items ++ rows_from (extension chosen.now row.now triple) (λ r. r ∷ [])) }
+{
+    if let Some(next) = extension(alloc, chosen, row, triple)? {
+        into.push(next)?;
+    }
+    Ok(())
+}
+
+/// Adds what a triple that stays held makes of the rows of a block, in their order.
+fn add_held(
+    alloc: Global,
+    chosen: &Pattern,
+    block: &RowBlock,
+    triple: &Triple,
+    into: &mut Vec<Row>,
+) -> Result<(), OutOfMemory>
+    requires { All (λ row. HasPlacesFor (length row) chosen.now) block.now }
+    ensures { OnOk result (into.new.items ≡ into.old.items ++ flat_map (λ row. rows_from (extension chosen.now row triple.now) (λ r. r ∷ [])) block.now) }
+{
+    add_match(alloc, chosen, block.first(), triple, into)?;
+    for row in block.others() {
+        add_match(alloc, chosen, row, triple, into)?;
+    }
+    Ok(())
+}
+
+/// Adds what a triple makes of the rows of a block, in their order.
 fn add_triple(
     alloc: Global,
     chosen: &Pattern,
-    others: &Rc<PatternList>,
-    row: &Row,
+    block: &RowBlock,
     triple: Triple,
-    nodes: &mut Vec<Opening>,
-    rows: &mut Vec<Row>,
+    into: &mut Vec<Row>,
 ) -> Result<(), OutOfMemory>
-    requires chosen { HasPlacesFor (length row.now) chosen.now }
-    requires others { AllByRecursion (HasPlacesFor (length row.now)) others.now.value }
-    ensures nodes { OnOk result (map seed_node nodes.new.items ≡ map seed_node nodes.old.items ++ rows_from (extension chosen.now row.now triple) (nodes_in others.now.value)) }
-    ensures rows { OnOk result (rows.new.items ≡ rows.old.items ++ rows_from (extension chosen.now row.now triple) (rows_out others.now.value)) }
+    requires { All (λ row. HasPlacesFor (length row) chosen.now) block.now }
+    ensures { OnOk result (into.new.items ≡ into.old.items ++ flat_map (λ row. rows_from (extension chosen.now row triple) (λ r. r ∷ [])) block.now) }
 {
-    match extension(alloc, chosen, row, triple)? {
-        None => Ok(()),
-        Some(next) => add_match(alloc, others, next, nodes, rows),
+    if block.others().is_empty() {
+        return add_extension(alloc, chosen, block.first(), triple, into);
     }
+    add_held(alloc, chosen, block, &triple, into)
 }
 
-/// Adds what the triples of a page make of a row. Each is moved into a row or dropped as it is walked.
+/// The rows that the triples of a page make of a block, by the triples in their order and then the rows.
 pub(crate) fn expand(
     alloc: Global,
     chosen: &Pattern,
-    others: &Rc<PatternList>,
-    row: &Row,
+    block: &RowBlock,
     triples: Vec<Triple>,
-    nodes: &mut Vec<Opening>,
-    rows: &mut Vec<Row>,
-) -> Result<(), OutOfMemory>
-    requires chosen { HasPlacesFor (length row.now) chosen.now }
-    requires others { AllByRecursion (HasPlacesFor (length row.now)) others.now.value }
-    ensures nodes { OnOk result (map seed_node nodes.new.items ≡ map seed_node nodes.old.items ++ opened chosen.now others.now.value row.now triples.items) }
-    ensures rows { OnOk result (rows.new.items ≡ rows.old.items ++ put_out chosen.now others.now.value row.now triples.items) }
+) -> Result<Vec<Row>, OutOfMemory>
+    requires { All (λ row. HasPlacesFor (length row) chosen.now) block.now }
+    ensures { IfOk result (λ f. f.items ≡ found chosen.now block.now triples.items) }
 {
+    let mut found = Vec::new(alloc);
     for triple in triples {
-        add_triple(alloc, chosen, others, row, triple, nodes, rows)?;
+        add_triple(alloc, chosen, block, triple, &mut found)?;
     }
-    Ok(())
+    Ok(found)
 }
 
-/// Adds what the triples of a page that is held, and stays held, make of a row. A term that is bound anew is copied.
+/// The same of a page that is held, and stays held.
 pub(crate) fn expand_held(
     alloc: Global,
     chosen: &Pattern,
-    others: &Rc<PatternList>,
-    row: &Row,
+    block: &RowBlock,
     held: &[Triple],
-    nodes: &mut Vec<Opening>,
-    rows: &mut Vec<Row>,
-) -> Result<(), OutOfMemory>
-    requires chosen { HasPlacesFor (length row.now) chosen.now }
-    requires others { AllByRecursion (HasPlacesFor (length row.now)) others.now.value }
-    ensures nodes { OnOk result (map seed_node nodes.new.items ≡ map seed_node nodes.old.items ++ opened chosen.now others.now.value row.now held.now) }
-    ensures rows { OnOk result (rows.new.items ≡ rows.old.items ++ put_out chosen.now others.now.value row.now held.now) }
+) -> Result<Vec<Row>, OutOfMemory>
+    requires { All (λ row. HasPlacesFor (length row) chosen.now) block.now }
+    ensures { IfOk result (λ f. f.items ≡ found chosen.now block.now held.now) }
 {
+    let mut found = Vec::new(alloc);
     for triple in held {
-        if let Some(next) = match_triple(alloc, chosen, row, triple)? {
-            add_match(alloc, others, next, nodes, rows)?;
-        }
+        add_held(alloc, chosen, block, triple, &mut found)?;
     }
-    Ok(())
+    Ok(found)
 }

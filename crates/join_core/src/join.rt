@@ -14,6 +14,7 @@ ghost use Rattle.join_core.specs.Ones.{SuitsOne, round_ask, AskStartsOne};
 ghost use Rattle.join_core.specs.Runs.{IsDone};
 ghost use Rattle.join_core.specs.JoinAccounts.{is_over};
 
+use crate::block::BlockSize;
 use crate::evaluation::{Answered, Ask};
 use crate::{FormList, JointPage, RoundJoin};
 use bgp_core::{Query, Row};
@@ -22,7 +23,7 @@ use std::alloc::Global;
 use std::marker::Model;
 use tpf_base::OutOfMemory;
 
-/// The join of a query's patterns over the pages of their fragments, where one server has them. A node is a row with the
+/// The join of a query's patterns over the pages of their fragments, where one server has them. A node is a block of rows with the
 /// patterns that are still to be matched; its depth is the number of patterns that were. The deepest node is started first, and
 /// at most a window of nodes work at a time. It is the join in rounds (`RoundJoin`), of which each has one address.
 #[derive(Debug, Drop)]
@@ -40,8 +41,9 @@ impl Model for Join {
 
 impl Join {
     /// The join of a query's patterns, whose first pages have the addresses of the server's form, with at most `window` nodes
-    /// at work. One node is open, the empty row with all patterns; for a query without patterns the empty row waits at once.
-    /// Of several forms the first server alone is asked. Condition: the window is at least 1. The only error is out of memory.
+    /// at work, each of one row. One node is open, the empty row with all patterns; for a query without patterns the empty row waits
+    /// at once. Of several forms the first server alone is asked. Condition: the window is at least 1. The only error is out of
+    /// memory.
     pub fn new(
         alloc: Global,
         query: &Query,
@@ -49,16 +51,43 @@ impl Join {
         window: u32,
     ) -> Result<Join, OutOfMemory>
         requires { 1 ≤ window }
-        ensures begins { (w : World) → IsWorld w → HasForms w forms → IfOk result (Begins w query.now.patterns (replicate (length query.now.names) None)) }
+        ensures begins { (w : World) → IsWorld w → HasForms w forms → w.block ≡ 1 → IfOk result (Begins w query.now.patterns (replicate (length query.now.names) None)) }
         ensures opens { IfOk result (Opens query.now.patterns (replicate (length query.now.names) None)) }
         ensures forms { IfOk result (λ j. j.forms ≡ forms) }
         ensures window { IfOk result (λ j. j.window ≡ window) }
+        ensures block { IfOk result (λ j. j.block ≡ 1) }
         ensures longest { IfOk result (λ j. j.longest ≡ 1) }
         ensures keeps { (homes : List Address) → FormsAtHome homes forms → IfOk result (KeepsTo (record { homes = homes; width = length query.now.names })) }
         ensures small { IfOk result (IsKeptSmall (length query.now.patterns) 1) }
         ensures tickets { IfOk result (λ j. (j.tickets ≡ 0) × (tickets_out j ≡ [])) }
     {
         let join = RoundJoin::new(alloc, query, forms, window)?;
+        Ok(Join { join })
+    }
+
+    /// The same with nodes of blocks of at most `block` rows, each of which asks for what all its rows need at once by one address
+    /// (bindings-restricted Triple Pattern Fragments). The rows that a page makes are cut from the front into blocks, each the longest
+    /// for which no target of a first page has more than 65536 bytes, and of at least one row. Condition: the window is at least 1.
+    /// The only error is out of memory.
+    pub fn in_blocks(
+        alloc: Global,
+        query: &Query,
+        forms: FormList,
+        window: u32,
+        block: BlockSize,
+    ) -> Result<Join, OutOfMemory>
+        requires { 1 ≤ window }
+        ensures begins { (w : World) → IsWorld w → HasForms w forms → w.block ≡ block → IfOk result (Begins w query.now.patterns (replicate (length query.now.names) None)) }
+        ensures opens { IfOk result (Opens query.now.patterns (replicate (length query.now.names) None)) }
+        ensures forms { IfOk result (λ j. j.forms ≡ forms) }
+        ensures window { IfOk result (λ j. j.window ≡ window) }
+        ensures block { IfOk result (λ j. j.block ≡ block) }
+        ensures longest { IfOk result (λ j. j.longest ≡ 1) }
+        ensures keeps { (homes : List Address) → FormsAtHome homes forms → IfOk result (KeepsTo (record { homes = homes; width = length query.now.names })) }
+        ensures small { IfOk result (IsKeptSmall (length query.now.patterns) 1) }
+        ensures tickets { IfOk result (λ j. (j.tickets ≡ 0) × (tickets_out j ≡ [])) }
+    {
+        let join = RoundJoin::in_blocks(alloc, query, forms, window, block)?;
         Ok(Join { join })
     }
 
@@ -140,11 +169,11 @@ impl Join {
         self.join.take_row()
     }
 
-    /// How many nodes are open; the count stands still at 2^64 - 1. With n patterns and pages of at most m triples they are at
-    /// most 1 + (n - 1) m `window`. It takes no memory.
+    /// How many nodes are open; the count stands still at 2^64 - 1. With n patterns, pages of at most m triples and
+    /// blocks of at most b rows they are at most 1 + (n - 1) m b `window`. It takes no memory.
     pub fn open_rows(&self) -> usize
         ensures value { result ≡ min (length (nodes self.now.levels)) (2 ^ 64 - 1) }
-        ensures small { (n m : ℕ) → IsKeptSmall n m self.now → result ≤ 1 + (n - 1) * (m * self.now.window) }
+        ensures small { (n m : ℕ) → IsKeptSmall n m self.now → result ≤ 1 + (n - 1) * ((m * self.now.block) * self.now.window) }
     {
         self.join.open_rows()
     }

@@ -15,6 +15,7 @@
 #![tactic(auto)]
 
 mod binding;
+mod block;
 mod choice;
 mod evaluates;
 mod evaluation;
@@ -33,9 +34,12 @@ mod round;
 mod round_join;
 mod started;
 
+pub use block::{BlockSize, LONGEST_TARGET};
 pub use evaluation::{Answered, Ask, Evaluates};
 pub use join::Join;
 pub use joint_page::JointPage;
-pub use laws::{a_run_asks_the_plan, a_run_gives_the_solutions};
+pub use laws::{
+    a_run_asks_the_plan, a_run_gives_the_solutions, blocks_are_cut, blocks_of_one_are_rows,
+};
 pub use round::{FormList, Round, RoundAsk, TripleSet};
 pub use round_join::RoundJoin;

@@ -5,21 +5,24 @@ ghost use Rattle.bgp_core.specs.declared.pattern.Pattern.{Pattern};
 ghost use Rattle.bgp_core.specs.Queries.{HasPlacesFor};
 ghost use Rattle.bgp_core.specs.Instances.{instance};
 ghost use Rattle.rdf_terms.specs.Askable.{askable};
+ghost use Rattle.join_core.specs.Blocks.{forms_cut, selection_for};
 ghost use Rattle.join_core.specs.Rounds.{IsFirstRound, ShareForms};
+ghost use Rattle.join_core.specs.Shown.{IsBlockFor, HavePlacesFor};
 ghost use Rattle.join_core.specs.Sound.{IsAskedBy};
 ghost use Rattle.join_core.specs.Nodes.{all_askable, fresh, node, opened, put_out, is_got};
 ghost use Rattle.join_core.specs.Nodes.Stage.{Walking};
 ghost use Rattle.join_core.specs.Events.{CanAsk, asked, IsNextRound, waits_for, first_waiting, with_first_at, is_full, next_walk, chosen_page, IsFirstOf, first_at, least_in, opened_by, out_by, after_by, MadeOf, IsChosen, has_ask, is_idle};
 ghost use Rattle.join_core.specs.Levels.{seed_node};
 
+use crate::block::{Cut, RowBlock, selection_of};
 use crate::choice::least_count;
-use crate::expand::{expand, expand_held};
+use crate::expand::{add_rows, expand, expand_held};
 use crate::first::First;
 use crate::next_page::NextPage;
 use crate::opening::Opening;
 use crate::pattern_list::PatternList;
 use crate::{FormList, JointPage, Round};
-use bgp_core::{Pattern, Row, instance};
+use bgp_core::{Pattern, Row};
 use fragment_page::TripleList;
 use std::alloc::Global;
 use std::marker::Model;
@@ -57,41 +60,40 @@ pub(crate) struct Made {
     pub(crate) after: Option<Node>,
 }
 
-/// A row with the patterns that are still to be matched.
+/// A block of rows with the patterns that are still to be matched.
 #[derive(Debug, Drop)]
 pub(crate) struct Node {
-    row: Row,
+    rows: RowBlock,
     rest: Rc<PatternList>,
     progress: Progress,
 }
 
 impl Model for Node {
-    ghost use Rattle.std.specs.Prelude.{length};
-    ghost use Rattle.std.specs.List.{AllByRecursion};
-    ghost use Rattle.bgp_core.specs.Queries.{HasPlacesFor};
     ghost use Rattle.join_core.specs.Nodes.{NodeData};
-    ghost use Rattle.join_core.specs.Shown.{stage_of, IsMadeStage};
+    ghost use Rattle.join_core.specs.Shown.{stage_of, HavePlacesFor, IsMadeStage};
 
     ghost Value = { NodeData };
 
-    ghost view = { λ n. record { row = n.row; rest = n.rest.value; stage = stage_of n.progress } };
+    ghost view = { λ n. record { rows = n.rows; rest = n.rest.value; stage = stage_of n.progress } };
 
-    ghost invariant = { λ n. AllByRecursion (HasPlacesFor (length n.row)) n.rest.value × IsMadeStage n.row n.rest.value (stage_of n.progress) };
+    ghost invariant = { λ n. HavePlacesFor n.rest.value n.rows × IsMadeStage n.rows n.rest.value (stage_of n.progress) };
 }
 
-/// The round of the first pages of a pattern under a row.
+/// The round of the first pages that a block asks of a pattern.
 fn first_round(
     alloc: Global,
     forms: &FormList,
     pattern: &Pattern,
-    row: &Row,
+    rows: &RowBlock,
 ) -> Result<Round, OutOfMemory>
-    requires { askable (instance pattern.now row.now) ≡ true }
-    ensures first { IfOk result (λ r. IsFirstRound forms.now (instance pattern.now row.now) r) }
+    requires { All (λ row. askable (instance pattern.now row) ≡ true) rows.now }
+    ensures first { IfOk result (λ r. IsFirstRound forms.now (selection_for pattern.now rows.now) r) }
     ensures shared { IfOk result (λ r. ShareForms forms.now r.addresses) }
 {
-    let slots = instance(alloc, pattern, row)?;
-    forms.first_round(alloc, &slots)
+    // That there is a row: contracts see a block as a list.
+    let _first = rows.first();
+    let (slots, restricted) = selection_of(alloc, pattern, rows)?;
+    forms.first_round(alloc, &slots, restricted.as_slice())
 }
 
 /// The place of the first page that is out under a ticket.
@@ -121,14 +123,12 @@ fn are_got(firsts: &[First]) -> bool
 
 impl Node {
     /// A node that has asked for nothing.
-    pub(crate) fn fresh(alloc: Global, row: Row, rest: Rc<PatternList>) -> Node
-        requires places { AllByRecursion (HasPlacesFor (length row)) rest.value }
-        requires some { 0 < length rest.value }
-        requires askable { all_askable row rest.value ≡ true }
-        ensures { result ≡ fresh rest.value row }
+    pub(crate) fn fresh(alloc: Global, rows: RowBlock, rest: Rc<PatternList>) -> Node
+        requires { IsBlockFor rest.value rows }
+        ensures { result ≡ fresh rest.value rows }
     {
         Node {
-            row,
+            rows,
             rest,
             progress: Progress::Asks(Vec::new(alloc)),
         }
@@ -150,7 +150,7 @@ impl Node {
         match &mut self.progress {
             Progress::Asks(firsts) => {
                 let pattern = self.rest.at(firsts.len());
-                let round = first_round(alloc, forms, pattern, &self.row)?;
+                let round = first_round(alloc, forms, pattern, &self.rows)?;
                 firsts.push(First::Out(ticket))?;
                 Ok(round)
             }
@@ -188,10 +188,10 @@ impl Node {
         ensures after { self.new ≡ with_first_at index first self.old }
         ensures before { result ≡ first_at index self.old }
     {
-        match &mut self.progress {
-            Progress::Asks(firsts) => Some(mem::replace(&mut firsts[index], first)),
-            Progress::Walks(_) => None,
-        }
+        let Progress::Asks(firsts) = &mut self.progress else {
+            return None;
+        };
+        Some(mem::replace(&mut firsts[index], first))
     }
 
     /// Whether it holds all first pages.
@@ -230,15 +230,15 @@ impl Node {
 /// The node that walks over the pages of the chosen pattern, from a round on.
 fn walking(
     alloc: Global,
-    row: &Row,
+    rows: &RowBlock,
     rest: &Rc<PatternList>,
     chosen: &Rc<Pattern>,
     pages: u64,
     round: Round,
 ) -> Result<Node, OutOfMemory>
-    requires places { AllByRecursion (HasPlacesFor (length row.now)) rest.now.value }
-    requires chosen { HasPlacesFor (length row.now) chosen.now.value }
-    ensures { IfOk result (λ n. n ≡ node row.now rest.now.value (Walking chosen.now.value pages round None)) }
+    requires places { HavePlacesFor rest.now.value rows.now }
+    requires chosen { All (λ row. HasPlacesFor (length row) chosen.now.value) rows.now }
+    ensures { IfOk result (λ n. n ≡ node rows.now rest.now.value (Walking chosen.now.value pages round None)) }
 {
     let walk = Walk {
         chosen: chosen.clone()?,
@@ -246,7 +246,7 @@ fn walking(
         next: NextPage::Held(round),
     };
     Ok(Node {
-        row: row.copy(alloc)?,
+        rows: rows.copy(alloc)?,
         rest: rest.clone()?,
         progress: Progress::Walks(walk),
     })
@@ -255,47 +255,48 @@ fn walking(
 /// The node that walks on after some pages, if there is a further one, whose round it takes.
 fn walk_on(
     alloc: Global,
-    row: &Row,
+    rows: &RowBlock,
     rest: &Rc<PatternList>,
     chosen: &Rc<Pattern>,
     pages: u64,
     next: Option<Round>,
 ) -> Result<Option<Node>, OutOfMemory>
-    requires places { AllByRecursion (HasPlacesFor (length row.now)) rest.now.value }
-    requires chosen { HasPlacesFor (length row.now) chosen.now.value }
-    ensures { IfOk result (λ o. o ≡ next_walk chosen.now.value rest.now.value row.now pages next) }
+    requires places { HavePlacesFor rest.now.value rows.now }
+    requires chosen { All (λ row. HasPlacesFor (length row) chosen.now.value) rows.now }
+    ensures { IfOk result (λ o. o ≡ next_walk chosen.now.value rest.now.value rows.now pages next) }
 {
     match next {
         None => Ok(None),
-        Some(round) => Ok(Some(walking(alloc, row, rest, chosen, pages, round)?)),
+        Some(round) => Ok(Some(walking(alloc, rows, rest, chosen, pages, round)?)),
     }
 }
 
-/// What a page of a pattern makes of a row. Its triples are moved or dropped one by one.
+/// What a page of a pattern makes of a block. Its triples are moved or dropped one by one.
 fn made_of(
     alloc: Global,
-    row: &Row,
+    cut: &Cut,
+    rows: &RowBlock,
     rest: &Rc<PatternList>,
     chosen: &Rc<Pattern>,
     pages: u64,
     page: JointPage,
 ) -> Result<Made, OutOfMemory>
-    requires places { AllByRecursion (HasPlacesFor (length row.now)) rest.now.value }
-    requires chosen { HasPlacesFor (length row.now) chosen.now.value }
-    ensures opened { IfOk result (λ m. map seed_node m.opened.items ≡ opened chosen.now.value rest.now.value row.now page.triples) }
-    ensures rows { IfOk result (λ m. m.rows.items ≡ put_out chosen.now.value rest.now.value row.now page.triples) }
-    ensures after { IfOk result (λ m. m.after ≡ next_walk chosen.now.value rest.now.value row.now pages page.next) }
+    requires places { HavePlacesFor rest.now.value rows.now }
+    requires chosen { All (λ row. HasPlacesFor (length row) chosen.now.value) rows.now }
+    ensures opened { IfOk result (λ m. map seed_node m.opened.items ≡ opened (forms_cut cut.now.forms cut.now.block) chosen.now.value rest.now.value rows.now page.triples) }
+    ensures rows { IfOk result (λ m. m.rows.items ≡ put_out chosen.now.value rest.now.value rows.now page.triples) }
+    ensures after { IfOk result (λ m. m.after ≡ next_walk chosen.now.value rest.now.value rows.now pages page.next) }
     ensures idle { IfOk result (λ m. All (λ n. is_idle n ≡ true) (map seed_node m.opened.items ++ option_to_list m.after)) }
 {
     let JointPage { triples, next, .. } = page;
-    let after = walk_on(alloc, row, rest, chosen, pages, next)?;
+    let after = walk_on(alloc, rows, rest, chosen, pages, next)?;
     let mut opened = Vec::new(alloc);
-    let mut rows = Vec::new(alloc);
-    let triples = triples.into_vec();
-    expand(alloc, chosen, rest, row, triples, &mut opened, &mut rows)?;
+    let mut out = Vec::new(alloc);
+    let found = expand(alloc, chosen, rows, triples.into_vec())?;
+    add_rows(alloc, cut, rest, found, &mut opened, &mut out)?;
     Ok(Made {
         opened,
-        rows,
+        rows: out,
         after,
     })
 }
@@ -310,31 +311,32 @@ fn copy_next(alloc: Global, next: &Option<Round>) -> Result<Option<Round>, OutOf
     }
 }
 
-/// What a page that stays held makes of a row, as `made_of`.
+/// What a page that stays held makes of a block, as `made_of`.
 fn made_of_held(
     alloc: Global,
-    row: &Row,
+    cut: &Cut,
+    rows: &RowBlock,
     rest: &Rc<PatternList>,
     chosen: &Rc<Pattern>,
     pages: u64,
     page: &JointPage,
 ) -> Result<Made, OutOfMemory>
-    requires places { AllByRecursion (HasPlacesFor (length row.now)) rest.now.value }
-    requires chosen { HasPlacesFor (length row.now) chosen.now.value }
-    ensures opened { IfOk result (λ m. map seed_node m.opened.items ≡ opened chosen.now.value rest.now.value row.now page.now.triples) }
-    ensures rows { IfOk result (λ m. m.rows.items ≡ put_out chosen.now.value rest.now.value row.now page.now.triples) }
-    ensures after { IfOk result (λ m. m.after ≡ next_walk chosen.now.value rest.now.value row.now pages page.now.next) }
+    requires places { HavePlacesFor rest.now.value rows.now }
+    requires chosen { All (λ row. HasPlacesFor (length row) chosen.now.value) rows.now }
+    ensures opened { IfOk result (λ m. map seed_node m.opened.items ≡ opened (forms_cut cut.now.forms cut.now.block) chosen.now.value rest.now.value rows.now page.now.triples) }
+    ensures rows { IfOk result (λ m. m.rows.items ≡ put_out chosen.now.value rest.now.value rows.now page.now.triples) }
+    ensures after { IfOk result (λ m. m.after ≡ next_walk chosen.now.value rest.now.value rows.now pages page.now.next) }
     ensures idle { IfOk result (λ m. All (λ n. is_idle n ≡ true) (map seed_node m.opened.items ++ option_to_list m.after)) }
 {
     let further = copy_next(alloc, &page.next)?;
-    let after = walk_on(alloc, row, rest, chosen, pages, further)?;
+    let after = walk_on(alloc, rows, rest, chosen, pages, further)?;
     let mut opened = Vec::new(alloc);
-    let mut rows = Vec::new(alloc);
-    let triples = page.triples.as_slice();
-    expand_held(alloc, chosen, rest, row, triples, &mut opened, &mut rows)?;
+    let mut out = Vec::new(alloc);
+    let found = expand_held(alloc, chosen, rows, page.triples.as_slice())?;
+    add_rows(alloc, cut, rest, found, &mut opened, &mut out)?;
     Ok(Made {
         opened,
-        rows,
+        rows: out,
         after,
     })
 }
@@ -374,32 +376,38 @@ fn chosen_part(alloc: Global, page: JointPage) -> JointPage
     page
 }
 
-/// What the first page of the chosen pattern makes of a row where it stays held: nothing where
+/// What the first page of the chosen pattern makes of a block where it stays held: nothing where
 /// its count is 0.
 fn made_first_held(
     alloc: Global,
-    row: &Row,
+    cut: &Cut,
+    rows: &RowBlock,
     rest: &Rc<PatternList>,
     chosen: &Rc<Pattern>,
     page: &JointPage,
 ) -> Result<Made, OutOfMemory>
-    requires places { AllByRecursion (HasPlacesFor (length row.now)) rest.now.value }
-    requires chosen { HasPlacesFor (length row.now) chosen.now.value }
-    ensures opened { IfOk result (λ m. map seed_node m.opened.items ≡ opened chosen.now.value rest.now.value row.now (chosen_page page.now).triples) }
-    ensures rows { IfOk result (λ m. m.rows.items ≡ put_out chosen.now.value rest.now.value row.now (chosen_page page.now).triples) }
-    ensures after { IfOk result (λ m. m.after ≡ next_walk chosen.now.value rest.now.value row.now 1 (chosen_page page.now).next) }
+    requires places { HavePlacesFor rest.now.value rows.now }
+    requires chosen { All (λ row. HasPlacesFor (length row) chosen.now.value) rows.now }
+    ensures opened { IfOk result (λ m. map seed_node m.opened.items ≡ opened (forms_cut cut.now.forms cut.now.block) chosen.now.value rest.now.value rows.now (chosen_page page.now).triples) }
+    ensures rows { IfOk result (λ m. m.rows.items ≡ put_out chosen.now.value rest.now.value rows.now (chosen_page page.now).triples) }
+    ensures after { IfOk result (λ m. m.after ≡ next_walk chosen.now.value rest.now.value rows.now 1 (chosen_page page.now).next) }
     ensures idle { IfOk result (λ m. All (λ n. is_idle n ≡ true) (map seed_node m.opened.items ++ option_to_list m.after)) }
 {
     if counts_none(page) {
         return Ok(nothing(alloc));
     }
-    made_of_held(alloc, row, rest, chosen, 1, page)
+    made_of_held(alloc, cut, rows, rest, chosen, 1, page)
 }
 
 impl Node {
     /// What the next page of a walk makes of the node.
-    pub(crate) fn next_page(&self, alloc: Global, page: JointPage) -> Result<Made, OutOfMemory>
-        ensures opened { IfOk result (λ m. map seed_node m.opened.items ≡ opened_by self.now page.triples) }
+    pub(crate) fn next_page(
+        &self,
+        alloc: Global,
+        cut: &Cut,
+        page: JointPage,
+    ) -> Result<Made, OutOfMemory>
+        ensures opened { IfOk result (λ m. map seed_node m.opened.items ≡ opened_by (forms_cut cut.now.forms cut.now.block) self.now page.triples) }
         ensures rows { IfOk result (λ m. m.rows.items ≡ out_by self.now page.triples) }
         ensures after { IfOk result (λ m. m.after ≡ after_by self.now page.next) }
         ensures idle { IfOk result (λ m. All (λ n. is_idle n ≡ true) (map seed_node m.opened.items ++ option_to_list m.after)) }
@@ -408,14 +416,22 @@ impl Node {
             return Ok(nothing(alloc));
         };
         let pages = walk.pages.saturating_add(1);
-        made_of(alloc, &self.row, &self.rest, &walk.chosen, pages, page)
+        made_of(
+            alloc,
+            cut,
+            &self.rows,
+            &self.rest,
+            &walk.chosen,
+            pages,
+            page,
+        )
     }
 
     /// The patterns but the one at a place.
     fn others(&self, alloc: Global, index: usize) -> Result<Rc<PatternList>, OutOfMemory>
         requires { index < length self.now.rest }
         ensures patterns { IfOk result (λ rest. rest.value ≡ remove self.now.rest index) }
-        ensures places { IfOk result (λ rest. AllByRecursion (HasPlacesFor (length self.now.row)) rest.value) }
+        ensures places { IfOk result (λ rest. HavePlacesFor rest.value self.now.rows) }
     {
         let patterns = self.rest.without(alloc, index)?;
         let rest = Rc::new(alloc, patterns)?;
@@ -423,14 +439,20 @@ impl Node {
     }
 
     /// What the first page of the pattern at a place makes of the node: nothing where the count is 0.
-    fn go_on(&self, alloc: Global, index: usize, page: JointPage) -> Result<Made, OutOfMemory>
+    fn go_on(
+        &self,
+        alloc: Global,
+        cut: &Cut,
+        index: usize,
+        page: JointPage,
+    ) -> Result<Made, OutOfMemory>
         requires { index < length self.now.rest }
-        ensures made { IfOk result (λ m. (p : Pattern) → p ≡ slice_index_or self.now.rest index p → MadeOf p (remove self.now.rest index) self.now.row (1) (chosen_page page) (map seed_node m.opened.items) m.rows.items m.after) }
+        ensures made { IfOk result (λ m. (p : Pattern) → p ≡ slice_index_or self.now.rest index p → MadeOf (forms_cut cut.now.forms cut.now.block) p (remove self.now.rest index) self.now.rows (1) (chosen_page page) (map seed_node m.opened.items) m.rows.items m.after) }
         ensures idle { IfOk result (λ m. All (λ n. is_idle n ≡ true) (map seed_node m.opened.items ++ option_to_list m.after)) }
     {
         let rest = self.others(alloc, index)?;
         let page = chosen_part(alloc, page);
-        made_of(alloc, &self.row, &rest, self.rest.at(index), 1, page)
+        made_of(alloc, cut, &self.rows, &rest, self.rest.at(index), 1, page)
     }
 
     /// The place of the least count of the first pages, the first on a tie.
@@ -444,9 +466,9 @@ impl Node {
     }
 
     /// What the held first page of the pattern with the least count makes of the node, as `go_on`. The page stays held.
-    fn choose(&self, alloc: Global) -> Result<Made, OutOfMemory>
+    fn choose(&self, alloc: Global, cut: &Cut) -> Result<Made, OutOfMemory>
         requires { is_full self.now ≡ true }
-        ensures chosen { IfOk result (λ m. IsChosen self.now (map seed_node m.opened.items) m.rows.items m.after) }
+        ensures chosen { IfOk result (λ m. IsChosen (forms_cut cut.now.forms cut.now.block) self.now (map seed_node m.opened.items) m.rows.items m.after) }
         ensures idle { IfOk result (λ m. All (λ n. is_idle n ≡ true) (map seed_node m.opened.items ++ option_to_list m.after)) }
     {
         let Progress::Asks(firsts) = &self.progress else {
@@ -460,20 +482,26 @@ impl Node {
             return Ok(nothing(alloc));
         };
         let rest = self.others(alloc, index)?;
-        made_first_held(alloc, &self.row, &rest, self.rest.at(index), page)
+        made_first_held(alloc, cut, &self.rows, &rest, self.rest.at(index), page)
     }
 
     /// Puts a ticket back in the place of the page that came last and has the least count, and goes on with the page.
-    fn choose_last(&mut self, alloc: Global, index: usize, ticket: u64) -> Result<Made, OutOfMemory>
+    fn choose_last(
+        &mut self,
+        alloc: Global,
+        cut: &Cut,
+        index: usize,
+        ticket: u64,
+    ) -> Result<Made, OutOfMemory>
         requires full { is_full self.old ≡ true }
         requires place { IsFirstOf index self.old }
         requires least { least_in self.old.stage ≡ index }
         ensures back { self.new ≡ with_first_at index (First.Out ticket) self.old }
-        ensures chosen { IfOk result (λ m. IsChosen self.old (map seed_node m.opened.items) m.rows.items m.after) }
+        ensures chosen { IfOk result (λ m. IsChosen (forms_cut cut.now.forms cut.now.block) self.old (map seed_node m.opened.items) m.rows.items m.after) }
         ensures idle { IfOk result (λ m. All (λ n. is_idle n ≡ true) (map seed_node m.opened.items ++ option_to_list m.after)) }
     {
         match self.swap_first(index, First::Out(ticket)) {
-            Some(First::Got(page)) => self.go_on(alloc, index, page),
+            Some(First::Got(page)) => self.go_on(alloc, cut, index, page),
             Some(First::Out(_)) => unreachable!(),
             None => unreachable!(),
         }
@@ -482,17 +510,23 @@ impl Node {
     /// What the pattern with the least count makes of a node that holds all first pages, the last of which came to a place.
     /// That page is moved where it is chosen, and gone either way: the ticket stands there again. A page that was held before
     /// stays held, since it has to be there if memory runs out, and what is new of it is copied.
-    fn take_last(&mut self, alloc: Global, index: usize, ticket: u64) -> Result<Made, OutOfMemory>
+    fn take_last(
+        &mut self,
+        alloc: Global,
+        cut: &Cut,
+        index: usize,
+        ticket: u64,
+    ) -> Result<Made, OutOfMemory>
         requires full { is_full self.old ≡ true }
         requires place { IsFirstOf index self.old }
         ensures back { self.new ≡ with_first_at index (First.Out ticket) self.old }
-        ensures chosen { IfOk result (λ m. IsChosen self.old (map seed_node m.opened.items) m.rows.items m.after) }
+        ensures chosen { IfOk result (λ m. IsChosen (forms_cut cut.now.forms cut.now.block) self.old (map seed_node m.opened.items) m.rows.items m.after) }
         ensures idle { IfOk result (λ m. All (λ n. is_idle n ≡ true) (map seed_node m.opened.items ++ option_to_list m.after)) }
     {
         if self.least() == index {
-            return self.choose_last(alloc, index, ticket);
+            return self.choose_last(alloc, cut, index, ticket);
         }
-        let made = self.choose(alloc);
+        let made = self.choose(alloc, cut);
         self.set_first(index, First::Out(ticket));
         made
     }
@@ -502,6 +536,7 @@ impl Node {
     pub(crate) fn take_first(
         &mut self,
         alloc: Global,
+        cut: &Cut,
         index: usize,
         ticket: u64,
         page: JointPage,
@@ -509,7 +544,7 @@ impl Node {
         requires { waits_for ticket self.old ≡ Some (Waits.First index) }
         ensures held { IfOk result (λ o. IfNone o ((is_full (with_first_at index (First.Got page) self.old) ≡ false) × (self.new ≡ with_first_at index (First.Got page) self.old))) }
         ensures full { IfOk result (λ o. IfSome o (λ m. (is_full (with_first_at index (First.Got page) self.old) ≡ true) × (self.new ≡ self.old))) }
-        ensures chosen { IfOk result (λ o. IfSome o (λ m. IsChosen (with_first_at index (First.Got page) self.old) (map seed_node m.opened.items) m.rows.items m.after)) }
+        ensures chosen { IfOk result (λ o. IfSome o (λ m. IsChosen (forms_cut cut.now.forms cut.now.block) (with_first_at index (First.Got page) self.old) (map seed_node m.opened.items) m.rows.items m.after)) }
         ensures idle { IfOk result (λ o. IfSome o (λ m. All (λ n. is_idle n ≡ true) (map seed_node m.opened.items ++ option_to_list m.after))) }
         ensures failed { OnErr result (self.new ≡ self.old) }
     {
@@ -517,7 +552,7 @@ impl Node {
         if !self.is_full() {
             return Ok(None);
         }
-        match self.take_last(alloc, index, ticket) {
+        match self.take_last(alloc, cut, index, ticket) {
             Ok(made) => Ok(Some(made)),
             Err(error) => Err(error),
         }

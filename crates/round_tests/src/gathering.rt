@@ -25,8 +25,7 @@ fn add_triples(
     new: &mut Vec<Triple>,
 ) -> Result<(), Fail> {
     for triple in triples {
-        if !seen.holds(triple) {
-            seen.add(alloc, triple)?;
+        if seen.insert(triple.copy(alloc)?)? {
             new.push(triple.copy(alloc)?)?;
         }
     }
@@ -83,7 +82,7 @@ fn add_taken(
 ) -> Result<(), Fail> {
     if let Some(taken) = taken {
         for triple in taken.as_set() {
-            seen.add(alloc, triple)?;
+            seen.insert(triple.copy(alloc)?)?;
         }
     }
     Ok(())

@@ -1,6 +1,6 @@
-use Rattle.std.proofs.Common.{◌≡◌, Some, true, sym, subst}
+use Rattle.std.proofs.Common.{◌≡◌, true, sym, subst}
 use Rattle.bgp_core.specs.Fits.{fits}
-use Rattle.bgp_core.specs.Solutions.{Places, extension}
+use Rattle.bgp_core.specs.Solutions.{Places}
 use Rattle.bgp_core.proofs.Fitting.{extension-none}
 use Rattle.join_core.proofs.binding.extension.Goals as goal
 

@@ -12,27 +12,27 @@ use Rattle.join_core.proofs.levels.take_first.Goals as goal
 pub take_made-requires-clause-waits : goal.take_made-requires-clause-waits
 take_made-requires-clause-waits c =
     let ls = c.args.levels.now.items in
-    let d = c.args.place.depth in
+    let d = c.args.first.place.depth in
     let l = c.index_mut.result.now in
-    let e : lookup (is_key c.args.place.key) l.started ≡ Some c.requires.waiter = found-level ls d c.args.place.key l c.requires.waiter c.requires.deep c.index_mut.ensures.value c.requires.found in
+    let e : lookup (is_key c.args.first.place.key) l.started ≡ Some c.requires.waiter = found-level ls d c.args.first.place.key l c.requires.waiter c.requires.deep c.index_mut.ensures.value c.requires.found in
     let full = rw c.in-Some.is at (c.in_ok-take_first.ensures.full c.requires.waiter e) in
-    let settles : MaySettle l.started c.args.place.key c.args.ticket = first-settles l.started c.args.place.key c.args.ticket c.args.index c.args.page c.requires.waiter e c.requires.waits full.0 in
-    subst (λ (x : LevelData). MaySettle x.started c.args.place.key c.args.ticket) (sym full.1 ∙ sym (set-level ls d c.take_first.new.self c.requires.deep)) settles
+    let settles : MaySettle l.started c.args.first.place.key c.args.ticket = first-settles l.started c.args.first.place.key c.args.ticket c.args.first.index c.args.page c.requires.waiter e c.requires.waits full.0 in
+    subst (λ (x : LevelData). MaySettle x.started c.args.first.place.key c.args.ticket) (sym full.1 ∙ sym (set-level ls d c.take_first.new.self c.requires.deep)) settles
 
 pub returns-in-None-clause-taken : goal.returns-in-None-clause-taken
 returns-in-None-clause-taken c = λ n g.
     let ls = c.args.levels.now.items in
-    let d = c.args.place.depth in
+    let d = c.args.first.place.depth in
     let l = c.index_mut.result.now in
-    let e : lookup (is_key c.args.place.key) l.started ≡ Some n = found-level ls d c.args.place.key l n c.requires.deep c.index_mut.ensures.value g in
+    let e : lookup (is_key c.args.first.place.key) l.started ≡ Some n = found-level ls d c.args.first.place.key l n c.requires.deep c.index_mut.ensures.value g in
     let held = rw c.in-None.is at (c.in_ok-take_first.ensures.held n e) in
-    inl (held.0, asked-level ls d c.args.place.key l c.take_first.new.self (with_first_at c.args.index (Got c.args.page) n) c.requires.deep c.index_mut.ensures.value held.1, refl)
+    inl (held.0, asked-level ls d c.args.first.place.key l c.take_first.new.self (with_first_at c.args.first.index (Got c.args.page) n) c.requires.deep c.index_mut.ensures.value held.1, refl)
 
 pub returns-in-Some-clause-taken : goal.returns-in-Some-clause-taken
 returns-in-Some-clause-taken c = λ n g.
     let ls = c.args.levels.now.items in
-    let d = c.args.place.depth in
-    let k = c.args.place.key in
+    let d = c.args.first.place.depth in
+    let k = c.args.first.place.key in
     let l = c.index_mut.result.now in
     let e : lookup (is_key k) l.started ≡ Some n = found-level ls d k l n c.requires.deep c.index_mut.ensures.value g in
     let full = rw c.in-Some.is at (c.in_ok-take_first.ensures.full n e) in

@@ -1,4 +1,4 @@
-use Rattle.std.proofs.Common.{◌≡◌, sym, subst, ◌∙◌}
+use Rattle.std.proofs.Common.{sym, subst, ◌∙◌}
 use Rattle.std.specs.List.{All}
 use Rattle.join_core.specs.Joins.{JoinData, Suits}
 use Rattle.join_core.specs.Sound.{KeepsTo, IsKeptSmall}

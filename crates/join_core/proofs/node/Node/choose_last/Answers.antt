@@ -2,6 +2,7 @@ use Rattle.std.proofs.Common.{◌≡◌, ◌<◌, length, map, get_or, sym, subs
 use Rattle.std.specs.List.{remove}
 use Rattle.std.proofs.lemmas.Result.{IfOk-weaker}
 use Rattle.bgp_core.specs.declared.pattern.Pattern.{Pattern}
+use Rattle.join_core.specs.Blocks.{forms_cut}
 use Rattle.join_core.specs.Nodes.{NodeData}
 use Rattle.join_core.specs.Events.{MadeOf, chosen_page}
 use Rattle.join_core.specs.Levels.{seed_node}
@@ -21,6 +22,6 @@ pub returns-clause-chosen : goal.returns-clause-chosen
 returns-clause-chosen c =
     let at = page-there c.args.self.now c.args.index c.swap_first.result c.in-Some-Got.field-0 c.in-Some-Got.page c.swap_first.ensures.before c.in-Some-Got.is c.in-Some-Got.field-0-is in
     IfOk-weaker c.go_on.result _ _
-    (λ m made. last-chosen c.args.self.now c.args.index c.in-Some-Got.page (map seed_node m.opened.items) m.rows.items m.after c.requires.least at
-    (subst (λ (n : NodeData). (p : Pattern) → p ≡ get_or n.rest c.args.index p → MadeOf p (remove n.rest c.args.index) n.row (1) (chosen_page c.in-Some-Got.page) (map seed_node m.opened.items) m.rows.items m.after) c.swap_first.ensures.after made))
+    (λ m made. last-chosen (forms_cut c.args.cut.now.forms c.args.cut.now.block) c.args.self.now c.args.index c.in-Some-Got.page (map seed_node m.opened.items) m.rows.items m.after c.requires.least at
+    (subst (λ (n : NodeData). (p : Pattern) → p ≡ get_or n.rest c.args.index p → MadeOf (forms_cut c.args.cut.now.forms c.args.cut.now.block) p (remove n.rest c.args.index) n.rows (1) (chosen_page c.in-Some-Got.page) (map seed_node m.opened.items) m.rows.items m.after) c.swap_first.ensures.after made))
     c.go_on.ensures.made

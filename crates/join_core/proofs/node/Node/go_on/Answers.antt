@@ -1,11 +1,14 @@
 use Rattle.std.proofs.Common.{◌<◌, length, ◌∙◌, ap, sym, subst, get_or}
-use Rattle.bgp_core.specs.Queries.{HasPlacesFor}
 use Rattle.join_core.specs.Nodes.{NodeData}
-use Rattle.join_core.proofs.Valid.{found-every}
+use Rattle.join_core.specs.Shown.{HavePlacesFor}
+use Rattle.join_core.proofs.Valid.{places-found}
 use Rattle.join_core.proofs.node.Node.go_on.Goals as goal
 
 pub made_of-requires-clause-chosen : goal.made_of-requires-clause-chosen
 made_of-requires-clause-chosen c =
     let below : c.args.index < length c.self.inside.rest.value = subst (λ (n : NodeData). c.args.index < length n.rest) (sym c.self.view_is) c.requires in
-    found-every (λ p. HasPlacesFor (length c.self.inside.row) p) c.self.inside.rest.value c.args.index c.at.result.now.value c.self.invariant.0 below
+    places-found c.self.inside.rest.value c.self.inside.rows c.args.index c.at.result.now.value c.self.invariant.0 below
     (λ p e. c.at.ensures p (e ∙ ap (λ l. get_or l c.args.index p) (sym c.deref.ensures)))
+
+pub made_of-requires-clause-places : goal.made_of-requires-clause-places
+made_of-requires-clause-places c = subst (λ (n : NodeData). HavePlacesFor c.in_ok-rest.rest.value n.rows) (sym c.self.view_is) c.in_ok-rest.ensures.places
