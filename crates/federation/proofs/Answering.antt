@@ -1,6 +1,6 @@
 -- A federation that takes a page.
-use Rattle.std.proofs.Common.{ℕ, ◌≡◌, ◌+◌, ◌-◌, ◌<◌, inl, inr, true, List, [], ◌∷◌, length, Ok, Err, refl, ap, sym, subst, ◌∙◌, arith, length-append}
-use Rattle.std.specs.Prelude.{Result, IfOk, OnOk}
+use Rattle.std.proofs.Common.{ℕ, ◌≡◌, ◌+◌, ◌-◌, ◌<◌, inl, inr, Bool, true, List, [], ◌∷◌, length, Ok, Err, refl, ap, sym, subst, ◌∙◌, arith, length-append}
+use Rattle.std.specs.Prelude.{◌==◌, Result, IfOk, OnOk}
 use Rattle.std.specs.List.{All, Contains}
 use Rattle.std.specs.List.Sorted.{IsPermutation}
 use Rattle.std.proofs.lemmas.List.Elements.{All-tail, All-weaker}
@@ -21,14 +21,15 @@ use Rattle.join_core.specs.Evaluations.{Terms, Sizes, NextAtHome, EndsTicket, En
 use Rattle.join_core.specs.Sound.{KeepsTo, IsKeptSmall}
 use Rattle.plan_laws.specs.JointWorlds.{joint_world}
 use Rattle.joint_pages.specs.Parts.{pages_in}
-use Rattle.joint_pages.specs.Joined.{joined}
+use Rattle.joint_pages.specs.Joined.{joined_as}
 use Rattle.joint_pages.specs.Gatherings.{GatheringData, tickets_of, outs_of, is_whole}
-use Rattle.joint_pages.specs.Truths.{AreServers, IsPageOfAll, HoldsTrue, IsJointPageOf}
+use Rattle.joint_pages.specs.Truths.{AreServers, is_one, IsPageOfAll, HoldsTrue, IsJointPageOf}
 use Rattle.federation.specs.Federations.{FederationData, SuitsAll, KeepsAll, KeepsSmall, KeepsRound, IsItsRound, AreSame, account_of, standing_of, all_wanted, all_tickets, all_outs, numbers_of}
 use Rattle.federation.specs.Changes.{StaysOpen, ComesOut}
 use Rattle.federation.specs.Steps.{TakesOne, TakesLast, JoinsRound, AnswersJoin, Answers}
+use Rattle.federation.proofs.Counting.{one-server}
 use Rattle.federation.proofs.Lists.{one-of-all, all-changed, all-left, all-among, parts-keep, parts-lose, parts-end, same-more, same-less, stands-often, never-stands, count-less}
-use Rattle.federation.proofs.Gathered.{taken-outs, taken-tickets, taken-round, taken-true, taken-keeps, next-home, whole-wants, whole-outs, whole-tickets}
+use Rattle.federation.proofs.Gathered.{taken-outs, taken-tickets, taken-round, taken-true, taken-keeps, joined-home, whole-wants, whole-outs, whole-tickets}
 use Rattle.federation.proofs.Asking.{its-round, number-below}
 
 -- a page was taken by one of the rounds
@@ -141,18 +142,20 @@ done-numbers j k number page Stranger before after a s h =
     absurd (omega (arith, some, none, is))
 
 -- the join took the joint page of a round
-pub joins-round : {E : Type 0} (old new : JoinData) (g : GatheringData) (page : JointPage) (number : ℕ) (result : Result Answered E) → number ≡ g.number → page ≡ joined g.taken (pages_in g.parts)
-    → ((worlds : List World) → AreServers worlds → HoldsTrue worlds g → is_whole g ≡ true → IsJointPageOf worlds g page)
+pub joins-round : {E : Type 0} (old new : JoinData) (g : GatheringData) (page : JointPage) (number : ℕ) (alone : Bool) (result : Result Answered E) → number ≡ g.number → alone ≡ (length old.forms == 1) → page ≡ joined_as alone g.taken (pages_in g.parts)
+    → ((worlds : List World) → AreServers worlds → alone ≡ is_one worlds → HoldsTrue worlds g → is_whole g ≡ true → IsJointPageOf worlds g page)
     → ((w : World) → Suits w old → IsTrueFor w old number page → IfOk result (AnswerDone w old new number)) → IfOk result (AnswerNumbered old new number) → (result ≡ Ok Stranger → All (λ t. t ≡ number → ⊥) (tickets_out old))
     → ((terms : Terms) → KeepsTo terms old → NextRoundAtHome terms.homes page.next → KeepsTo terms new) → ((n : ℕ) → IsKeptSmall n old.longest old → IsKeptSmall n new.longest new) → WaitsMore old new → new.tickets ≡ old.tickets → IfOk result (JoinsRound old new g)
-joins-round old new g page number (Ok answered) e is together taken numbered stranger keeps small grows kept = record {
+joins-round old new g page number alone (Ok answered) e one is together taken numbered stranger keeps small grows kept = record {
   page = page;
+  alone = alone;
+  is_alone = one;
   is = is;
   together = together;
   joins = subst (λ (n : ℕ). AnswersJoin old new n page answered) e
       (record { taken = taken; numbered = numbered; stranger = λ h. stranger (ap (λ (a : Answered). Ok a) h); keeps = keeps; small = small; grows = grows; tickets = kept });
 }
-joins-round old new g page number (Err x) e is together taken numbered stranger keeps small grows kept = tt
+joins-round old new g page number alone (Err x) e one is together taken numbered stranger keeps small grows kept = tt
 
 -- ---- the last page of its round
 
@@ -182,7 +185,7 @@ module _ (old : FederationData) (j : JoinData) (changed : List GatheringData) (a
       let is : IsPageOfAll worlds a.takes.part.address page = told a.takes.part.address (Contains-permutation ((ticket, a.takes.part.address) ∷ all_outs changed) (all_outs old.rounds) (ticket, a.takes.part.address) (IsPermutation-sym _ _ last-outs) (at_head (ticket, a.takes.part.address) (all_outs changed))) in
       let holds : HoldsTrue worlds after = taken-true worlds a.round after ticket page a.takes is (one-of-all (HoldsTrue worlds) old.rounds h.others a.round a.was s.pages) in
       let its : IsItsRound w old.join after = its-round w old.join a.round after a.takes.number (taken-round a.round after ticket page a.takes) (one-of-all (IsItsRound w old.join) old.rounds h.others a.round a.was s.rounds) in
-      let true_ : IsTrueFor w old.join after.number b.page = λ round m. subst (λ (r : RoundData). IsRoundPageAt w r b.page) (sym (its round m)) (b.together worlds s.servers holds h.whole) in
+      let true_ : IsTrueFor w old.join after.number b.page = λ round m. subst (λ (r : RoundData). IsRoundPageAt w r b.page) (sym (its round m)) (b.together worlds s.servers (b.is_alone ∙ one-server worlds old.join s.servers s.join) holds h.whole) in
       b.joins.taken w s.join true_
 
   last-suits : (worlds : List World) → SuitsAll worlds old → IsTrueAt worlds old.rounds ticket page → SuitsAll worlds (with-last old j changed)
@@ -223,7 +226,7 @@ module _ (old : FederationData) (j : JoinData) (changed : List GatheringData) (a
   last-keeps terms home k =
       let a = h.among in
       let pages = (taken-keeps terms.homes a.round after ticket page a.takes home (one-of-all (KeepsRound terms.homes) old.rounds h.others a.round a.was k.rounds)).1 in
-      let next : NextRoundAtHome terms.homes b.page.next = subst (λ (p : JointPage). NextRoundAtHome terms.homes p.next) (sym b.is) (next-home terms.homes after.parts _ pages) in
+      let next : NextRoundAtHome terms.homes b.page.next = subst (λ (p : JointPage). NextRoundAtHome terms.homes p.next) (sym b.is) (joined-home terms.homes b.alone after.parts after.taken pages) in
       record {
         join = b.joins.keeps terms k.join next;
         rounds = all-left (KeepsRound terms.homes) old.rounds changed h.others a.round a.was h.now k.rounds;

@@ -2,6 +2,7 @@
 use Rattle.std.proofs.Common.{ℕ, suc, ◌≡◌, Bool, true, false, ◌&&◌, List, [], ◌∷◌, ◌++◌, length, map, Option, Some, None, refl, ap, ap₂, sym, subst, ◌∙◌, arith, append-nil}
 use Rattle.std.specs.Prelude.{◌==◌, is_some, option_to_list}
 use Rattle.std.specs.List.{All, flat_map}
+use Rattle.std.specs.Option.{option_map}
 use Rattle.std.specs.List.Sorted.{IsPermutation}
 use Rattle.std.proofs.lemmas.Bool.{and_parts}
 use Rattle.std.proofs.lemmas.Bool.Decides.{nat_tests}
@@ -16,11 +17,11 @@ use Rattle.tpf_base.specs.Addresses.{Address}
 use Rattle.fragment_page.specs.declared.page.Page.{Page}
 use Rattle.bgp_core.proofs.Patterns.{same}
 use Rattle.join_core.specs.Evaluations.{HasHome, NextAtHome}
-use Rattle.join_core.specs.Rounds.{RoundData, NextRoundAtHome}
+use Rattle.join_core.specs.Rounds.{RoundData, round_of_one, NextRoundAtHome}
 use Rattle.join_core.specs.Worlds.{World}
 use Rattle.joint_pages.specs.Parts.{PartData, awaited, came, ticket_while, out_while, page_of, tickets_in, pages_in, are_there}
 use Rattle.joint_pages.specs.Gatherings.{GatheringData, HandsPart, TakesPart, round_of, tickets_of, outs_of, is_whole}
-use Rattle.joint_pages.specs.Joined.{nexts_of, next_round}
+use Rattle.joint_pages.specs.Joined.{added, nexts_of, next_round, new_triples, joined_as}
 use Rattle.joint_pages.specs.Truths.{IsPageOfAll, IsTruePart, HoldsTrue}
 use Rattle.federation.specs.Federations.{PageAtHome, KeepsRound}
 
@@ -187,8 +188,21 @@ nexts-home homes (p ∷ parts) all = by p.page (All-head (λ (q : PartData). Pag
   by (Some page) h more = with-next page.next (pages_in parts) page refl h more
 
 -- the next round of the pages that came
-pub next-home : (homes : List Address) (parts : List PartData) (taken : List Triple) → All (λ p. PageAtHome homes p.page) parts → NextRoundAtHome homes (next_round (nexts_of (pages_in parts)) taken)
+next-home : (homes : List Address) (parts : List PartData) (taken : List Triple) → All (λ p. PageAtHome homes p.page) parts → NextRoundAtHome homes (next_round (nexts_of (pages_in parts)) taken)
 next-home homes parts taken all = by (nexts_of (pages_in parts)) (nexts-home homes parts all) where
   by : (nexts : List Address) → All (HasHome homes) nexts → NextRoundAtHome homes (next_round nexts taken)
   by [] h = tt
   by (a ∷ nexts) h = h
+
+-- the next round of the page of one server alone
+one-home : (homes : List Address) (next : Option Address) (rest : List Address) → All (HasHome homes) (option_to_list next ++ rest) → NextRoundAtHome homes (option_map round_of_one next)
+one-home homes None rest h = tt
+one-home homes (Some a) rest h = All-cons (HasHome homes) a [] (All-head (HasHome homes) a rest h) (All-nil (HasHome homes))
+
+-- that of the joint page
+pub joined-home : (homes : List Address) (alone : Bool) (parts : List PartData) (taken : List Triple) → All (λ p. PageAtHome homes p.page) parts → NextRoundAtHome homes (joined_as alone taken (pages_in parts)).next
+joined-home homes false parts taken all = next-home homes parts (added taken (new_triples taken (pages_in parts))) all
+joined-home homes true parts taken all = by (pages_in parts) (nexts-home homes parts all) where
+  by : (pages : List Page) → All (HasHome homes) (nexts_of pages) → NextRoundAtHome homes (joined_as true taken pages).next
+  by [] h = tt
+  by (page ∷ pages) h = one-home homes page.next (nexts_of pages) h

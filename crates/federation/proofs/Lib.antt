@@ -1,5 +1,6 @@
 pub mod Lists
 pub mod Places
+pub mod Counting
 pub mod Gathered
 pub mod Asking
 pub mod Answering

@@ -1,5 +1,5 @@
 -- What an evaluation over several servers owes before its first turn.
-use Rattle.std.specs.Prelude.{ℕ, ◌*◌, min, List, Option, None}
+use Rattle.std.specs.Prelude.{ℕ, ◌≡◌, ◌*◌, min, List, Option, None}
 use Rattle.tpf_base.specs.Addresses.{Address}
 use Rattle.template_fill.specs.declared.form.Form.{Form}
 use Rattle.bgp_core.specs.Queries.{QueryData}
@@ -10,10 +10,15 @@ use Rattle.join_core.specs.Beginnings.{no_names_bound, solutions_of}
 use Rattle.plan_laws.specs.JointWorlds.{joint_world}
 use Rattle.joint_pages.specs.Truths.{AreServers}
 
--- what each of several servers has, and the forms give the addresses of the first pages at all of them
+-- what each of several servers has, the forms give the addresses of the first pages at all of them, and they are asked row by row
 pub record FitWorlds (worlds : List World) (forms : List Form) : Type 0 where
   pub servers : AreServers worlds
   pub forms_are : HasForms (joint_world worlds) forms
+  pub row_by_row : (joint_world worlds).block ≡ 1
+
+-- the same, whatever the size of blocks
+abbrev pub FitByRows : List World → List Form → ℕ → Type 0
+FitByRows worlds forms block = FitWorlds worlds forms
 
 -- the solutions over the union of their triples
 abbrev pub joint_rows : List World → QueryData → List Places

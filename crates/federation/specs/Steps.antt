@@ -1,5 +1,5 @@
 -- What the calls of a federation make of it.
-use Rattle.std.specs.Prelude.{ℕ, ◌≡◌, ◌+◌, ◌-◌, ◌<◌, ◌≤◌, ◌⊎◌, List, [], ◌∷◌, ◌++◌, length, Option, Some, None, MatchOption, ⊤, true}
+use Rattle.std.specs.Prelude.{ℕ, Bool, ◌≡◌, ◌==◌, ◌+◌, ◌-◌, ◌<◌, ◌≤◌, ◌⊎◌, List, [], ◌∷◌, ◌++◌, length, Option, Some, None, MatchOption, ⊤, true}
 use Rattle.std.specs.List.{All}
 use Rattle.tpf_base.specs.Addresses.{Address}
 use Rattle.fragment_page.specs.declared.page.Page.{Page}
@@ -17,8 +17,8 @@ use Rattle.join_core.specs.Evaluations.{Terms}
 use Rattle.join_core.specs.Sound.{KeepsTo, IsKeptSmall}
 use Rattle.joint_pages.specs.Parts.{pages_in}
 use Rattle.joint_pages.specs.Gatherings.{GatheringData, HandsPart, begun, is_whole}
-use Rattle.joint_pages.specs.Joined.{joined}
-use Rattle.joint_pages.specs.Truths.{AreServers, HoldsTrue, IsJointPageOf}
+use Rattle.joint_pages.specs.Joined.{joined_as}
+use Rattle.joint_pages.specs.Truths.{AreServers, is_one, HoldsTrue, IsJointPageOf}
 use Rattle.federation.specs.declared.evaluation.Begun.{Begun}
 use Rattle.federation.specs.Federations.{FederationData}
 use Rattle.federation.specs.Changes.{NoneWant, IsUnknown, HandsAmong, StaysOpen, ComesOut}
@@ -101,11 +101,13 @@ pub record AnswersJoin (old new : JoinData) (ticket : ℕ) (page : JointPage) (a
   pub grows : WaitsMore old new
   pub tickets : new.tickets ≡ old.tickets
 
--- this page is the joint page of the round
+-- this page is the joint page of the round, that of one server alone or of several
 pub record JoinsRound (old new : JoinData) (g : GatheringData) (answered : Answered) : Type 0 where
   pub page : JointPage
-  pub is : page ≡ joined g.taken (pages_in g.parts)
-  pub together : (worlds : List World) → AreServers worlds → HoldsTrue worlds g → is_whole g ≡ true → IsJointPageOf worlds g page
+  pub alone : Bool
+  pub is_alone : alone ≡ (length old.forms == 1)
+  pub is : page ≡ joined_as alone g.taken (pages_in g.parts)
+  pub together : (worlds : List World) → AreServers worlds → alone ≡ is_one worlds → HoldsTrue worlds g → is_whole g ≡ true → IsJointPageOf worlds g page
   pub joins : AnswersJoin old new g.number page answered
 
 -- a page was taken, and another of its round is awaited

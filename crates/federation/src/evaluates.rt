@@ -2,14 +2,14 @@
 ghost use Rattle.std.specs.Prelude.{List};
 ghost use Rattle.join_core.specs.Worlds.{World};
 ghost use Rattle.joint_pages.specs.Truths.{IsPageOfAll};
-ghost use Rattle.federation.specs.Beginnings.{FitWorlds, joint_rows, joint_plan, none_reported};
+ghost use Rattle.federation.specs.Beginnings.{FitByRows, joint_rows, joint_plan, none_reported};
 ghost use Rattle.federation.specs.Federations.{SuitsAll, KeepsAll, KeepsSmall, account_of, standing_of};
 ghost use Rattle.federation.specs.FederationLaws.{done-owes-nothing, done-is-quiet, tickets-are-below, out-is-small};
 
 use crate::evaluation::Federation;
 use bgp_core::{Query, Row};
 use fragment_page::Page;
-use join_core::{Answered, Ask, Evaluates, FormList};
+use join_core::{Answered, Ask, BlockSize, Evaluates, FormList};
 use std::alloc::Global;
 use tpf_base::OutOfMemory;
 
@@ -28,7 +28,7 @@ impl Evaluates for Federation {
 
     ghost keeps_small = { KeepsSmall };
 
-    ghost fits = { FitWorlds };
+    ghost fits = { FitByRows };
 
     ghost rows = { joint_rows };
 
@@ -41,7 +41,9 @@ impl Evaluates for Federation {
         query: &Query,
         forms: FormList,
         window: u32,
+        block: BlockSize,
     ) -> Result<Federation, OutOfMemory> {
+        let _block = block;
         Federation::new(alloc, query, forms, window)
     }
 

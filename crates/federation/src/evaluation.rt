@@ -90,7 +90,8 @@ fn join_round(
     ensures tickets { join.new.tickets ≡ join.old.tickets }
 {
     let number = round.number();
-    let page = round.joint_page(alloc)?;
+    let alone = join.asks_one();
+    let page = round.joint_page(alloc, alone)?;
     join.answer(alloc, number, page)
 }
 

@@ -4,7 +4,7 @@ ghost use Rattle.std.specs.Prelude.{◌≡◌, ◌<◌, ◌+◌, ◌*◌, ◌≤
 use crate::servers::{form_of, page_at};
 use bgp_core::{Query, Row};
 use federation::Federation;
-use join_core::{Answered, Ask, Evaluates, FormList};
+use join_core::{Answered, Ask, BlockSize, Evaluates, FormList};
 use nquads_text::canonical;
 use pattern_parser::parse;
 use std::alloc::Global;
@@ -45,7 +45,7 @@ fn begin(alloc: Global, servers: &str, window: u32) -> Result<Federation, Fail>
         return Err(Fail::new("no server or window"));
     }
     let forms = FormList::from_vec(forms);
-    Ok(Federation::begin(alloc, &query, forms, window)?)
+    Ok(Federation::begin(alloc, &query, forms, window, BlockSize::one())?)
 }
 
 /// Adds the term of a name in canonical form, with a space behind it.

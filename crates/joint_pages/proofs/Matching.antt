@@ -10,12 +10,11 @@ use Rattle.std.proofs.lemmas.List.Sums.{sum_by-cons}
 use Rattle.list_laws.proofs.Members.{at_head, in_tail}
 use Rattle.list_laws.proofs.Options.{some_same, none_not_some, some_not_none}
 use Rattle.rdf_terms.specs.declared.term.Triple.{Triple}
-use Rattle.rdf_terms.specs.declared.slots.Slots.{Slots}
-use Rattle.rdf_terms.specs.Askable.{askable}
-use Rattle.rdf_terms.specs.Kept.{AreValid}
+use Rattle.rdf_terms.specs.Selections.{Selection, IsValidSelection}
 use Rattle.tpf_base.specs.Addresses.{Address}
 use Rattle.fragment_page.specs.declared.page.Page.{Page}
 use Rattle.join_core.specs.Rounds.{RoundData, round_of_one}
+use Rattle.join_core.specs.Blocks.{is_askable}
 use Rattle.join_core.specs.JointPages.{joint_page}
 use Rattle.join_core.specs.Worlds.{World, IsWorld, IsOneServer, IsPageAt, IsPageAfter}
 use Rattle.plan_laws.specs.JointWorlds.{joint_count, joint_last, all_items, addresses_at}
@@ -45,7 +44,7 @@ parts-matched worlds (p ∷ parts) e is =
 -- ---- the pages of some servers
 
 -- what stands on them, where they go on, and how many triples the first of them tell of
-pub record AreJoint (servers : List World) (s : Slots) (k : ℕ) (pages : List Page) : Type 0 where
+pub record AreJoint (servers : List World) (s : Selection) (k : ℕ) (pages : List Page) : Type 0 where
   pub triples : all_triples pages ≡ all_items servers s k
   pub nexts : nexts_of pages ≡ flat_map (addresses_at s (suc (suc k))) servers
   pub count : k ≡ 0 → count_of pages ≡ joint_count servers s
@@ -62,11 +61,11 @@ next-is None round false e = refl
 next-is (Some address) round true e = ap (λ (r : RoundData). r.addresses) (some_same e)
 next-is (Some address) round false e = absurd (some_not_none e)
 
-no-page : (s : Slots) (k : ℕ) (pages : List Page) (worlds : List World) → Matched worlds [] pages → AreJoint [] s k pages
+no-page : (s : Selection) (k : ℕ) (pages : List Page) (worlds : List World) → Matched worlds [] pages → AreJoint [] s k pages
 no-page s k [] worlds m = record { triples = refl; nexts = refl; count = λ e. refl }
 no-page s k (page ∷ pages) worlds m = absurd m
 
-module _ (worlds : List World) (s : Slots) (k : ℕ) (valid : AreValid s) (asked : askable s ≡ true) where
+module _ (worlds : List World) (s : Selection) (k : ℕ) (valid : IsValidSelection s) (asked : is_askable s ≡ true) where
   -- one more server, which has no page of this number
   past : (w : World) (servers : List World) (pages : List Page) → IsWorld w → w.last s ≤ k → AreJoint servers s k pages → AreJoint (w ∷ servers) s k pages
   past w servers pages is h j = record {
@@ -115,17 +114,17 @@ module _ (worlds : List World) (s : Slots) (k : ℕ) (valid : AreValid s) (asked
 
 -- ---- whether there is a further round
 
-far : (w : World) (s : Slots) (k : ℕ) → w.last s ≤ k → addresses_at s (suc k) w ≡ []
+far : (w : World) (s : Selection) (k : ℕ) → w.last s ≤ k → addresses_at s (suc k) w ≡ []
 far w s k h = ap (λ (b : Bool). if b then (w.round s (suc k)).addresses else []) (lt-leb (suc k) (w.last s) (omega (arith, h)))
 
-pub none-far : (worlds : List World) (s : Slots) (k : ℕ) → joint_last worlds s ≤ k → flat_map (addresses_at s (suc k)) worlds ≡ []
+pub none-far : (worlds : List World) (s : Selection) (k : ℕ) → joint_last worlds s ≤ k → flat_map (addresses_at s (suc k)) worlds ≡ []
 none-far [] s k h = refl
 none-far (w ∷ worlds) s k h = ap (λ (l : List Address). l ++ flat_map (addresses_at s (suc k)) worlds) (far w s k (omega (arith, h))) ∙ none-far worlds s k (omega (arith, h))
 
 abbrev HasFirst : List Address → Type 0
 HasFirst addresses = (first : Address) × (rest : List Address) × (addresses ≡ first ∷ rest)
 
-pub some-near : (worlds : List World) (s : Slots) (k : ℕ) → All IsOneServer worlds → k < joint_last worlds s → HasFirst (flat_map (addresses_at s (suc k)) worlds)
+pub some-near : (worlds : List World) (s : Selection) (k : ℕ) → All IsOneServer worlds → k < joint_last worlds s → HasFirst (flat_map (addresses_at s (suc k)) worlds)
 some-near [] s k one h = absurd (omega (arith, h))
 some-near (w ∷ worlds) s k one h = by (nat_le (suc k) (w.last s)) refl (some-near worlds s k (All-tail IsOneServer w worlds one)) where
   by : (b : Bool) → nat_le (suc k) (w.last s) ≡ b → (k < joint_last worlds s → HasFirst (flat_map (addresses_at s (suc k)) worlds)) → HasFirst ((if b then (w.round s (suc k)).addresses else []) ++ flat_map (addresses_at s (suc k)) worlds)

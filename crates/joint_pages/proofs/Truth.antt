@@ -5,12 +5,14 @@ use Rattle.std.specs.List.{filter, flat_map, Contains}
 use Rattle.std.specs.List.Sorted.{IsStrictlySortedBy}
 use Rattle.std.proofs.lemmas.Bool.{and_parts}
 use Rattle.std.proofs.lemmas.Bool.Decides.{nat_tests}
+use Rattle.std.proofs.lemmas.List.Elements.{All-head}
 use Rattle.std.proofs.lemmas.List.Sorted.{IsPermutation-middle, IsPermutation-sym, Contains-permutation}
 use Rattle.list_laws.proofs.Told.{one_list}
 use Rattle.rdf_terms.specs.declared.term.Triple.{Triple}
 use Rattle.rdf_terms.specs.declared.slots.Slot.TheVariants.{Any}
 use Rattle.rdf_terms.specs.declared.slots.Slots.{Slots}
 use Rattle.rdf_terms.specs.Fragments.{IsFragment, fragment, sorted}
+use Rattle.rdf_terms.specs.Selections.{Selection}
 use Rattle.rdf_terms.specs.Slots.{matches}
 use Rattle.rdf_terms.specs.Order.{triple_order}
 use Rattle.rdf_terms.specs.OrderLaws.{triple_total}
@@ -20,15 +22,16 @@ use Rattle.tpf_base.specs.Addresses.{Address}
 use Rattle.fragment_page.specs.declared.page.Page.{Page}
 use Rattle.join_core.specs.Rounds.{RoundData}
 use Rattle.join_core.specs.declared.joint_page.JointPage.{JointPage}
-use Rattle.join_core.specs.Worlds.{World, IsPageAfter}
-use Rattle.plan_laws.specs.JointWorlds.{joint_last, all_items, taken_before, joint_items, addresses_at, joint_round, joint_world}
+use Rattle.join_core.specs.JointPages.{joint_page}
+use Rattle.join_core.specs.Worlds.{World, IsOneServer, IsPageAt, IsPageAfter, IsRoundPageAt}
+use Rattle.plan_laws.specs.JointWorlds.{joint_last, all_items, taken_before, joint_items, addresses_at, joint_round, several_world}
 use Rattle.plan_laws.proofs.JointWorlds.{from-sorted, in-sorted}
 use Rattle.joint_pages.specs.Parts.{PartData, pages_in, are_there}
-use Rattle.joint_pages.specs.Gatherings.{GatheringData, is_whole}
-use Rattle.joint_pages.specs.Joined.{added, nexts_of, next_round, new_triples, joined}
-use Rattle.joint_pages.specs.Truths.{AreServers, HoldsTrue, IsJointPageOf}
+use Rattle.joint_pages.specs.Gatherings.{GatheringData, round_of, is_whole}
+use Rattle.joint_pages.specs.Joined.{added, nexts_of, next_round, new_triples, joined, joined_as}
+use Rattle.joint_pages.specs.Truths.{AreServers, is_one, HoldsTrue, IsJointPageOf}
 use Rattle.joint_pages.proofs.News.{Stands, any-sorted, distinct-same}
-use Rattle.joint_pages.proofs.Matching.{AreJoint, parts-matched, pages-joint, none-far, some-near}
+use Rattle.joint_pages.proofs.Matching.{AreJoint, Matched, parts-matched, pages-joint, none-far, some-near}
 
 -- ---- sets in their order
 
@@ -63,7 +66,7 @@ added-sorted xs (y ∷ ys) = added-sorted (y ∷ xs) ys ∙ front-or-middle xs y
 next-some : (addresses : List Address) (taken : List Triple) (first : Address) (rest : List Address) → addresses ≡ first ∷ rest → next_round addresses taken ≡ Some (record { addresses = addresses; taken = taken })
 next-some addresses taken first rest e = subst (λ (l : List Address). next_round l taken ≡ Some (record { addresses = l; taken = taken })) (sym e) refl
 
-module _ (worlds : List World) (s : Slots) (k : ℕ) (taken : List Triple) (pages : List Page) (servers : AreServers worlds) (before : taken ≡ sorted triple_order (taken_before worlds s k)) (are : AreJoint worlds s k pages) where
+module _ (worlds : List World) (s : Selection) (k : ℕ) (taken : List Triple) (pages : List Page) (servers : AreServers worlds) (before : taken ≡ sorted triple_order (taken_before worlds s k)) (are : AreJoint worlds s k pages) where
   stands-same : (u : Triple) → Stands taken u ≡ Stands (taken_before worlds s k) u
   stands-same u = ap (λ (l : List Triple). Stands l u) before ∙ any-sorted (taken_before worlds s k) u
 
@@ -87,7 +90,7 @@ module _ (worlds : List World) (s : Slots) (k : ℕ) (taken : List Triple) (page
       let high : joint_last worlds s ≤ suc k = grind (arith, nat_tests) in
       ap (λ (l : List Address). next_round l (added taken (new_triples taken pages))) (are.nexts ∙ none-far worlds s (suc k) high)
 
-  joint-after : IsPageAfter (joint_world worlds) s k (joined taken pages)
+  joint-after : IsPageAfter (several_world worlds) s k (joined taken pages)
   joint-after = record { triples = new-are; count = are.count; next = goes-on (nat_lt (suc k) (joint_last worlds s)) refl }
 
 -- ---- the round
@@ -101,8 +104,8 @@ wanted-none (a ∷ wanted) b e = absurd (no-suc (length wanted) (and_parts (suc 
 all-asked : (parts : List PartData) (wanted : List Address) → wanted ≡ [] → map (λ p. p.address) parts ++ wanted ≡ map (λ p. p.address) parts
 all-asked parts wanted e = ap (λ (l : List Address). map (λ (p : PartData). p.address) parts ++ l) e ∙ append-nil (map (λ (p : PartData). p.address) parts)
 
-pub joint-true : (worlds : List World) (g : GatheringData) → AreServers worlds → HoldsTrue worlds g → is_whole g ≡ true → IsJointPageOf worlds g (joined g.taken (pages_in g.parts))
-joint-true worlds g servers told whole = record {
+several-true : (worlds : List World) (g : GatheringData) → AreServers worlds → HoldsTrue worlds g → is_whole g ≡ true → IsRoundPageAt (several_world worlds) (round_of g) (joined g.taken (pages_in g.parts))
+several-true worlds g servers told whole = record {
   stands = λ s k valid asked is h.
       let ends = wanted-none g.wanted (are_there g.parts) whole in
       let one : suc k - 1 ≡ k = omega arith in
@@ -112,7 +115,32 @@ joint-true worlds g servers told whole = record {
       joint-after worlds s k g.taken (pages_in g.parts) servers before are;
 }
 
+-- of one server alone it is the page of the one address
+only-page : (w : World) (s : Selection) (k : ℕ) (address : Address) (taken : List Triple) (pages : List Page) → ((page : Page) → IsPageAt w address page → IsPageAfter w s k (joint_page page)) → Matched (w ∷ []) (address ∷ []) pages → IsPageAfter w s k (joined_as true taken pages)
+only-page w s k address taken [] after m = absurd m
+only-page w s k address taken (page ∷ pages) after m = after page (All-head (λ v. IsPageAt v address page) w [] m.0)
+
+alone-true : (w : World) (g : GatheringData) → IsOneServer w → HoldsTrue (w ∷ []) g → is_whole g ≡ true → IsRoundPageAt w (round_of g) (joined_as true g.taken (pages_in g.parts))
+alone-true w g one told whole = record {
+  stands = λ s k valid asked is h.
+      let ends = wanted-none g.wanted (are_there g.parts) whole in
+      let a = one s (suc k) in
+      let addresses : map (λ p. p.address) g.parts ≡ a.0 ∷ [] = sym (all-asked g.parts g.wanted ends.0) ∙ ap (λ (r : RoundData). r.addresses) (is ∙ a.1) in
+      only-page w s k a.0 g.taken (pages_in g.parts) (λ page at. at.stands s k valid asked (sym a.1) h)
+      (subst (λ (l : List Address). Matched (w ∷ []) l (pages_in g.parts)) addresses (parts-matched (w ∷ []) g.parts ends.1 told));
+}
+
+not-one : (n : ℕ) → (suc (suc n) == 1) ≡ false
+not-one n = grind (arith, nat_tests)
+
+pub joint-true : (worlds : List World) (g : GatheringData) (alone : Bool) → AreServers worlds → alone ≡ is_one worlds → HoldsTrue worlds g → is_whole g ≡ true → IsJointPageOf worlds g (joined_as alone g.taken (pages_in g.parts))
+joint-true [] g alone servers e told whole = let some = servers.some in absurd (omega (arith, some))
+joint-true (w ∷ []) g alone servers e told whole =
+    subst (λ (b : Bool). IsRoundPageAt w (round_of g) (joined_as b g.taken (pages_in g.parts))) (sym e) (alone-true w g (All-head IsOneServer w [] servers.are_one) told whole)
+joint-true (w ∷ v ∷ worlds) g alone servers e told whole =
+    subst (λ (b : Bool). IsRoundPageAt (several_world (w ∷ v ∷ worlds)) (round_of g) (joined_as b g.taken (pages_in g.parts))) (sym (e ∙ not-one (length worlds))) (several-true (w ∷ v ∷ worlds) g servers told whole)
+
 -- the page that a call gives
-pub together : {E : Type 0} (worlds : List World) (g : GatheringData) (result : Result JointPage E) → IfOk result (λ page. page ≡ joined g.taken (pages_in g.parts)) → AreServers worlds → HoldsTrue worlds g → is_whole g ≡ true → IfOk result (IsJointPageOf worlds g)
-together worlds g (Ok page) e servers told whole = subst (λ (p : JointPage). IsJointPageOf worlds g p) (sym e) (joint-true worlds g servers told whole)
-together worlds g (Err x) e servers told whole = tt
+pub together : {E : Type 0} (worlds : List World) (g : GatheringData) (alone : Bool) (result : Result JointPage E) → IfOk result (λ page. page ≡ joined_as alone g.taken (pages_in g.parts)) → AreServers worlds → alone ≡ is_one worlds → HoldsTrue worlds g → is_whole g ≡ true → IfOk result (IsJointPageOf worlds g)
+together worlds g alone (Ok page) e servers one told whole = subst (λ (p : JointPage). IsJointPageOf worlds g p) (sym e) (joint-true worlds g alone servers one told whole)
+together worlds g alone (Err x) e servers one told whole = tt

@@ -1,5 +1,5 @@
 -- The page of a round, made of the pages of the servers.
-use Rattle.std.specs.Prelude.{ℕ, List, [], ◌∷◌, Option, Some, None, option_to_list}
+use Rattle.std.specs.Prelude.{ℕ, Bool, true, false, List, [], ◌∷◌, Option, Some, None, option_to_list}
 use Rattle.std.specs.List.{flat_map, sum_by}
 use Rattle.rdf_terms.specs.declared.term.Triple.{Triple}
 use Rattle.rdf_terms.specs.Fragments.{put}
@@ -7,6 +7,7 @@ use Rattle.rdf_terms.specs.Order.{triple_order}
 use Rattle.bgp_core.specs.Solutions.{distinct_after}
 use Rattle.tpf_base.specs.Addresses.{Address}
 use Rattle.fragment_page.specs.declared.page.Page.{Page}
+use Rattle.join_core.specs.JointPages.{joint_page}
 use Rattle.join_core.specs.Rounds.{RoundData}
 use Rattle.join_core.specs.declared.joint_page.JointPage.{JointPage}
 
@@ -42,3 +43,9 @@ joined taken pages = record {
   count = count_of pages;
   next = next_round (nexts_of pages) (added taken (new_triples taken pages));
 }
+
+-- the page of a round of one server alone is its page; that of a round of several is made of all of theirs
+abbrev pub joined_as : Bool → List Triple → List Page → JointPage
+joined_as true taken [] = joined taken []
+joined_as true taken (page ∷ pages) = joint_page page
+joined_as false taken pages = joined taken pages

@@ -1,5 +1,5 @@
 -- What it is for pages to be true for several servers.
-use Rattle.std.specs.Prelude.{◌<◌, List, length, Option, Some, None, ⊤}
+use Rattle.std.specs.Prelude.{◌<◌, ◌==◌, Bool, List, length, Option, Some, None, ⊤}
 use Rattle.std.specs.List.{All}
 use Rattle.tpf_base.specs.Addresses.{Address}
 use Rattle.fragment_page.specs.declared.page.Page.{Page}
@@ -14,6 +14,10 @@ pub record AreServers (worlds : List World) : Type 0 where
   pub are_worlds : All IsWorld worlds
   pub are_one : All IsOneServer worlds
   pub some : 0 < length worlds
+
+-- there is one alone
+abbrev pub is_one : List World → Bool
+is_one worlds = length worlds == 1
 
 -- the page is what each server has that has an address like this
 abbrev pub IsPageOfAll : List World → Address → Page → Type 0

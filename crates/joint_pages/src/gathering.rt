@@ -6,10 +6,11 @@ ghost use Rattle.join_core.specs.Rounds.{taken_of};
 ghost use Rattle.join_core.specs.Worlds.{World};
 ghost use Rattle.joint_pages.specs.Parts.{PartData, came, pages_in, are_there};
 ghost use Rattle.joint_pages.specs.Gatherings.{begun, HandsNext, AwaitsAt, IsStranger, TakesPart, is_whole};
-ghost use Rattle.joint_pages.specs.Joined.{joined};
-ghost use Rattle.joint_pages.specs.Truths.{AreServers, HoldsTrue, IsJointPageOf};
+ghost use Rattle.joint_pages.specs.Joined.{joined_as};
+ghost use Rattle.joint_pages.specs.Truths.{AreServers, is_one, HoldsTrue, IsJointPageOf};
 
 use crate::joining::join_parts;
+use crate::only::only_page;
 use crate::part::Part;
 use fragment_page::Page;
 use join_core::{JointPage, RoundAsk, TripleSet};
@@ -49,7 +50,7 @@ fn copy_set(alloc: Global, set: &TripleSet) -> Result<TripleSet, OutOfMemory>
     let triples = set.as_set().iter();
     let mut copy = TripleSet::new(alloc);
     for triple in triples {
-        copy.add(alloc, triple)?;
+        copy.insert(triple.copy(alloc)?)?;
     }
     Ok(copy)
 }
@@ -182,13 +183,16 @@ impl Gathering {
         is_none(&self.wanted) && all_there(self.parts.as_slice())
     }
 
-    /// The joint page of the pages that are there: the triples that are new, each once, the sum of the counts, and the next
-    /// round, where a server has a further page. Where the gathering is whole and each page is true for the servers, it is the
-    /// page of the round of all servers together. The only error is out of memory.
-    pub fn joint_page(self, alloc: Global) -> Result<JointPage, OutOfMemory>
-        ensures joined { IfOk result (λ page. page ≡ joined self.taken (pages_in self.parts)) }
-        ensures together { (worlds : List World) → AreServers worlds → HoldsTrue worlds self → is_whole self ≡ true → IfOk result (IsJointPageOf worlds self) }
+    /// The joint page of the pages that are there: of one server alone, the page as it is; of several the triples that are new,
+    /// each once, the sum of the counts, and the next round, where a server has a further page. Where the gathering is whole and
+    /// each page is true for the servers, it is the page of the round of all servers together. The only error is out of memory.
+    pub fn joint_page(self, alloc: Global, alone: bool) -> Result<JointPage, OutOfMemory>
+        ensures joined { IfOk result (λ page. page ≡ joined_as alone self.taken (pages_in self.parts)) }
+        ensures together { (worlds : List World) → AreServers worlds → alone ≡ is_one worlds → HoldsTrue worlds self → is_whole self ≡ true → IfOk result (IsJointPageOf worlds self) }
     {
+        if alone {
+            return Ok(only_page(alloc, self.parts));
+        }
         let taken = owned(alloc, self.taken)?;
         join_parts(alloc, self.parts, taken)
     }

@@ -43,11 +43,9 @@ fn take_one(
     ensures triples { OnOk result (triples.new.items ≡ triples.old.items ++ unless_before taken.old triple) }
     ensures taken { OnOk result (taken.new ≡ added taken.old (unless_before taken.old triple)) }
 {
-    if taken.holds(&triple) {
-        return Ok(());
+    if taken.insert(triple.copy(alloc)?)? {
+        triples.push(triple)?;
     }
-    taken.add(alloc, &triple)?;
-    triples.push(triple)?;
     Ok(())
 }
 

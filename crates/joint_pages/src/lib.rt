@@ -4,6 +4,7 @@
 
 mod gathering;
 mod joining;
+mod only;
 mod part;
 
 pub use gathering::Gathering;

@@ -1,13 +1,15 @@
--- The slots that a target asks for are no longer than the target.
-use Rattle.std.proofs.Common.{ℕ, zero, suc, ◌≡◌, ◌+◌, ◌*◌, ◌≤◌, ◌==◌, Bool, true, false, List, [], ◌∷◌, ◌++◌, map, filter, length, take, drop, Option, Some, None, Result, Ok, Err, codes, bytes_eq, if◌then◌else◌, subst, arith, length-append, length-take, length-drop}
-use Rattle.std.specs.List.{AllByRecursion, position_or_len}
+-- What a target asks for is not much longer than the target.
+use Rattle.std.proofs.Common.{ℕ, zero, suc, ◌≡◌, ◌+◌, ◌*◌, ◌≤◌, ◌==◌, Bool, true, false, List, [], ◌∷◌, ◌++◌, map, filter, length, take, drop, Option, Some, None, Result, Ok, Err, codes, bytes_eq, if◌then◌else◌, nat_le, refl, ap, sym, subst, ◌∙◌, arith, length-append, length-take, length-drop}
+use Rattle.std.specs.List.{position_or_len, slice_split, onto_first as put_first}
 use Rattle.std.specs.Option.{option_map, unwrap_or}
+use Rattle.std.specs.Str.{is_utf8}
 use Rattle.std.specs.Str.Lossy.{utf8_lossy, utf8_lossy_within, utf8_valid_len, utf8_invalid_len, after_first_chunk, replacement_bytes}
 use Rattle.std.specs.Char.{digit_value, to_ascii_lowercase}
+use Rattle.std.proofs.lemmas.Bool.Decides.{nat_tests}
 use Rattle.std.proofs.lemmas.List.{length-map}
 use Rattle.form_urlencoded.specs.Form.{split_pair, onto_first, split, is_nonempty, raw_pairs, plus_to_space, decode, ampersand, equals_sign}
 use Rattle.percent_encoding.specs.Percent.{is_escape, percent_decode}
-use Rattle.tpf_base.specs.Addresses.{Address}
+use Rattle.list_laws.proofs.Options.{some_same}
 use Rattle.rdf_terms.specs.Iri.{is_iri}
 use Rattle.rdf_terms.specs.Tag.{is_tag, lower}
 use Rattle.rdf_terms.specs.Kinds.{typed_kind}
@@ -18,13 +20,18 @@ use Rattle.rdf_terms.specs.declared.term.Kind.TheVariants.{Plain, Typed, Tagged}
 use Rattle.rdf_terms.specs.declared.slots.Slot.{Slot}
 use Rattle.rdf_terms.specs.declared.slots.Slot.TheVariants.{Any, Fixed}
 use Rattle.rdf_terms.specs.declared.slots.Slots.{Slots}
-use Rattle.template_fill.specs.ReadAddress.{query_of, ◌>>=◌}
+use Rattle.rdf_terms.specs.declared.limits.TheConstants.{MOST_ROWS}
+use Rattle.rdf_terms.specs.Selections.{Selection}
+use Rattle.template_fill.specs.Metadata.{Config}
+use Rattle.template_fill.specs.ReadAddress.{query_of, when, ◌>>=◌}
+use Rattle.template_fill.specs.Rows.{accepted, three_of, places_between, slot_in_row, row_of, rows_of, few_rows_of, row_pair, rows_text}
 use Rattle.template_fill.specs.Explicit.{suffix, explicit_form, first_of, cut_last, tagged_literal, typed_literal, marked_literal, suffixed_literal, cut_literal, read_literal, read_iri, fixed, slot_of}
 use Rattle.template_fill.specs.declared.fault.ValueFault.{ValueFault}
 use Rattle.template_fill.specs.declared.fault.ValueFault.TheVariants as faults
-use Rattle.template_fill.specs.Answers.{Question, form_text, parameters, values_under, one_value, accepted, slot_under, page_number, asked_by, question_of, AsksFor}
-use Rattle.template_fill.proofs.Reading.{bind-inv}
-use Rattle.plan_laws.proofs.Lengths.{IsShortSlot, AreShort}
+use Rattle.template_fill.specs.Answers.{Question, form_text, parameters, values_under, one_value, slot_under, page_number, rows_under, asked_by, question_of, AsksFor}
+use Rattle.template_fill.proofs.Reading.{bind-inv, when-inv}
+use Rattle.triple_table.proofs.Bytes.{bytes_eq_same}
+use Rattle.plan_laws.proofs.Lengths.{IsShortSlot, IsShort, places_short, row_short, selection_long}
 
 -- ---- texts
 
@@ -72,44 +79,46 @@ query_short (b ∷ rest) = by (b == 63) (query_short rest)
 
 -- ---- pieces
 
-abbrev IsWithin : ℕ → List ℕ → Type 0
-IsWithin most text = length text ≤ most
+-- how many bytes some texts have together
+abbrev together : List (List ℕ) → ℕ
+together [] = 0
+together (text ∷ texts) = length text + together texts
 
-all_within : (few most : ℕ) (texts : List (List ℕ)) → few ≤ most → AllByRecursion (IsWithin few) texts → AllByRecursion (IsWithin most) texts
-all_within few most [] le h = tt
-all_within few most (text ∷ texts) le h = let first = h.0 in (omega (arith, first, le), all_within few most texts le h.1)
+onto_sum : (b : ℕ) (pieces : List (List ℕ)) → together (onto_first b pieces) ≤ suc (together pieces)
+onto_sum b [] = omega arith
+onto_sum b (piece ∷ pieces) = omega arith
 
-onto_short : (few b : ℕ) (pieces : List (List ℕ)) → AllByRecursion (IsWithin few) pieces → AllByRecursion (IsWithin (suc few)) (onto_first b pieces)
-onto_short few b [] h = (omega arith, tt)
-onto_short few b (piece ∷ pieces) h = let first = h.0 in (omega (arith, first), all_within few (suc few) pieces (omega arith) h.1)
-
-split_short : (bytes : List ℕ) → AllByRecursion (IsWithin (length bytes)) (split ampersand bytes)
+split_sum : (bytes : List ℕ) → together (split ampersand bytes) ≤ length bytes
 unfolding split
-split_short [] = (omega arith, tt)
-split_short (b ∷ bytes) = by (b == ampersand) (split_short bytes)
+split_sum [] = omega arith
+split_sum (b ∷ bytes) = by (b == ampersand) (split_sum bytes)
   where
-    by : (t : Bool) → AllByRecursion (IsWithin (length bytes)) (split ampersand bytes) → AllByRecursion (IsWithin (suc (length bytes))) (if t then [] ∷ split ampersand bytes else onto_first b (split ampersand bytes))
-    by true h = (omega arith, all_within (length bytes) (suc (length bytes)) (split ampersand bytes) (omega arith) h)
-    by false h = onto_short (length bytes) b (split ampersand bytes) h
+    by : (t : Bool) → together (split ampersand bytes) ≤ length bytes → together (if t then [] ∷ split ampersand bytes else onto_first b (split ampersand bytes)) ≤ suc (length bytes)
+    by true h = omega (arith, h)
+    by false h = omega (arith, h, onto_sum b (split ampersand bytes))
 
-abbrev HasShortValue : ℕ → List ℕ × List ℕ → Type 0
-HasShortValue most pair = length pair.1 ≤ most
+-- how many bytes the values have together
+abbrev values_of : List (List ℕ × List ℕ) → ℕ
+values_of [] = 0
+values_of (p ∷ pairs) = length p.1 + values_of pairs
 
-value_short : (few : ℕ) (piece : List ℕ) → length piece ≤ few → length (form_text (split_pair piece).1) ≤ 4 * few
-value_short few piece h = omega (arith, h, form_short (split_pair piece).1, length-drop (position_or_len (λ b. b == equals_sign) piece + 1) piece)
+value_short : (piece : List ℕ) → length (form_text (split_pair piece).1) ≤ 4 * length piece
+value_short piece = omega (arith, form_short (split_pair piece).1, length-drop (position_or_len (λ b. b == equals_sign) piece + 1) piece)
 
-pairs_short : (few : ℕ) (pieces : List (List ℕ)) → AllByRecursion (IsWithin few) pieces → AllByRecursion (HasShortValue (4 * few)) (map (λ p. (form_text p.0, form_text p.1)) (map split_pair (filter is_nonempty pieces)))
-pairs_short few [] h = tt
-pairs_short few (piece ∷ pieces) h = by (is_nonempty piece) (pairs_short few pieces h.1)
+pairs_sum : (pieces : List (List ℕ)) → values_of (map (λ p. (form_text p.0, form_text p.1)) (map split_pair (filter is_nonempty pieces))) ≤ 4 * together pieces
+pairs_sum [] = omega arith
+pairs_sum (piece ∷ pieces) = by (is_nonempty piece) (pairs_sum pieces)
   where
-    by : (t : Bool) → AllByRecursion (HasShortValue (4 * few)) (map (λ p. (form_text p.0, form_text p.1)) (map split_pair (filter is_nonempty pieces)))
-        → AllByRecursion (HasShortValue (4 * few)) (map (λ p. (form_text p.0, form_text p.1)) (map split_pair (if t then piece ∷ filter is_nonempty pieces else filter is_nonempty pieces)))
-    by true k = (value_short few piece h.0, k)
-    by false k = k
+    by : (t : Bool) → values_of (map (λ p. (form_text p.0, form_text p.1)) (map split_pair (filter is_nonempty pieces))) ≤ 4 * together pieces
+        → values_of (map (λ p. (form_text p.0, form_text p.1)) (map split_pair (if t then piece ∷ filter is_nonempty pieces else filter is_nonempty pieces))) ≤ 4 * (length piece + together pieces)
+    by true k = omega (arith, k, value_short piece)
+    by false k = omega (arith, k)
 
-parameters_short : (target : List ℕ) → AllByRecursion (HasShortValue (4 * length (unwrap_or (query_of target) []))) (parameters target)
+parameters_sum : (target : List ℕ) → values_of (parameters target) ≤ 4 * length target
 unfolding parameters raw_pairs
-parameters_short target = pairs_short (length (unwrap_or (query_of target) [])) (split ampersand (unwrap_or (query_of target) [])) (split_short (unwrap_or (query_of target) []))
+parameters_sum target =
+    let query = unwrap_or (query_of target) [] in
+    omega (arith, pairs_sum (split ampersand query), split_sum query, query_short target)
 
 -- ---- literals
 
@@ -203,60 +212,183 @@ slot_short (b ∷ rest) = by (b == 63) (b == 34)
     by false true = fixed_short (suc (length rest)) (read_literal rest) (literal_short rest)
     by false false = fixed_short (suc (length rest)) (read_iri (b ∷ rest)) (iri_short (b ∷ rest))
 
+accepted_short : (most : ℕ) (r : Result Slot ValueFault) (slot : Slot) → IsShortResult most r → accepted r ≡ Some slot → IsShortSlot most slot
+accepted_short most (Ok s) slot h e = let same : s ≡ slot = cc in subst (IsShortSlot most) same h
+accepted_short most (Err fault) slot h e = absurd (cc)
+
+-- ---- places
+
+-- how many bytes the values under a name have together
+abbrev under : List ℕ → List (List ℕ × List ℕ) → ℕ
+under name pairs = together (values_under name pairs)
+
+one_sum : (values : List (List ℕ)) (value : List ℕ) → one_value values ≡ Some value → length value ≤ together values
+one_sum [] value e = let same : [] ≡ value = cc in subst (λ (v : List ℕ). length v ≤ 0) same (omega arith)
+one_sum (x ∷ []) value e = let same : x ≡ value = cc in subst (λ (v : List ℕ). length v ≤ together (x ∷ [])) same (omega arith)
+one_sum (x ∷ y ∷ more) value e = absurd (cc)
+
 wider : (few most : ℕ) (slot : Slot) → few ≤ most → IsShortSlot few slot → IsShortSlot most slot
 wider few most Any le h = tt
 wider few most (Fixed term) le h = omega (arith, h, le)
 
-accepted_short : (few most : ℕ) (r : Result Slot ValueFault) (slot : Slot) → few ≤ most → IsShortResult few r → accepted r ≡ Some slot → IsShortSlot most slot
-accepted_short few most (Ok s) slot le h e = let same : s ≡ slot = cc in subst (IsShortSlot most) same (wider few most s le h)
-accepted_short few most (Err fault) slot le h e = absurd (cc)
+place_short : (name : List ℕ) (pairs : List (List ℕ × List ℕ)) (slot : Slot) → slot_under name pairs ≡ Some slot → IsShortSlot (under name pairs) slot
+place_short name pairs slot e =
+    let found = bind-inv (one_value (values_under name pairs)) (λ value. accepted (slot_of value)) slot e in
+    wider (length found.0) (under name pairs) slot (one_sum (values_under name pairs) found.0 found.1) (accepted_short (length found.0) (slot_of found.0) slot (slot_short found.0) found.2)
+
+-- no value stands under two of the names
+apart : (key a b : List ℕ) → bytes_eq a b ≡ false → bytes_eq key a ≡ true → bytes_eq key b ≡ false
+apart key a b e same = subst (λ (k : List ℕ). bytes_eq k b ≡ false) (sym (bytes_eq_same key a same)) e
+
+abbrev subject_name : List ℕ
+subject_name = codes "subject"
+
+abbrev predicate_name : List ℕ
+predicate_name = codes "predicate"
+
+abbrev object_name : List ℕ
+object_name = codes "object"
+
+abbrev row_name : List ℕ
+row_name = codes "row"
+
+under_step : (name : List ℕ) (p : List ℕ × List ℕ) (pairs : List (List ℕ × List ℕ)) (b : Bool) → bytes_eq p.0 name ≡ b → under name (p ∷ pairs) ≡ (if b then length p.1 else 0) + under name pairs
+under_step name p pairs true e =
+    ap (λ (b : Bool). together (map (λ (q : List ℕ × List ℕ). q.1) (if b then p ∷ filter (λ (q : List ℕ × List ℕ). bytes_eq q.0 name) pairs else filter (λ (q : List ℕ × List ℕ). bytes_eq q.0 name) pairs))) e
+under_step name p pairs false e =
+    ap (λ (b : Bool). together (map (λ (q : List ℕ × List ℕ). q.1) (if b then p ∷ filter (λ (q : List ℕ × List ℕ). bytes_eq q.0 name) pairs else filter (λ (q : List ℕ × List ℕ). bytes_eq q.0 name) pairs))) e
+    ∙ omega arith
+
+-- at most one of four tests
+abbrev once : ℕ → Bool → ℕ
+once n b = if b then n else 0
+
+four_names : (p : List ℕ × List ℕ) (s q o r : Bool) → bytes_eq p.0 subject_name ≡ s → bytes_eq p.0 predicate_name ≡ q → bytes_eq p.0 object_name ≡ o → bytes_eq p.0 row_name ≡ r
+    → once (length p.1) s + (once (length p.1) q + (once (length p.1) o + once (length p.1) r)) ≤ length p.1
+four_names p false false false false es eq eo er = omega arith
+four_names p false false false true es eq eo er = omega arith
+four_names p false false true false es eq eo er = omega arith
+four_names p false false true true es eq eo er = let other = apart p.0 object_name row_name refl eo in absurd (cc)
+four_names p false true false false es eq eo er = omega arith
+four_names p false true false true es eq eo er = let other = apart p.0 predicate_name row_name refl eq in absurd (cc)
+four_names p false true true r es eq eo er = let other = apart p.0 predicate_name object_name refl eq in absurd (cc)
+four_names p true false false false es eq eo er = omega arith
+four_names p true false false true es eq eo er = let other = apart p.0 subject_name row_name refl es in absurd (cc)
+four_names p true false true r es eq eo er = let other = apart p.0 subject_name object_name refl es in absurd (cc)
+four_names p true true o r es eq eo er = let other = apart p.0 subject_name predicate_name refl es in absurd (cc)
+
+all_under : (pairs : List (List ℕ × List ℕ)) → under subject_name pairs + (under predicate_name pairs + (under object_name pairs + under row_name pairs)) ≤ values_of pairs
+all_under [] = omega arith
+all_under (p ∷ pairs) =
+    let s = bytes_eq p.0 subject_name in
+    let q = bytes_eq p.0 predicate_name in
+    let o = bytes_eq p.0 object_name in
+    let r = bytes_eq p.0 row_name in
+    omega (
+      arith,
+      all_under pairs,
+      four_names p s q o r refl refl refl refl,
+      under_step subject_name p pairs s refl,
+      under_step predicate_name p pairs q refl,
+      under_step object_name p pairs o refl,
+      under_step row_name p pairs r refl,
+    )
+
+-- ---- rows
+
+slices_sum : (bytes : List ℕ) → together (slice_split (λ b. b == 44) bytes) ≤ length bytes
+slices_sum [] = omega arith
+slices_sum (b ∷ bytes) = by (b == 44) (slices_sum bytes)
+  where
+    put_sum : (pieces : List (List ℕ)) → together (put_first b pieces) ≤ suc (together pieces)
+    put_sum [] = omega arith
+    put_sum (piece ∷ pieces) = omega arith
+
+    by : (t : Bool) → together (slice_split (λ c. c == 44) bytes) ≤ length bytes → together (if t then [] ∷ slice_split (λ c. c == 44) bytes else put_first b (slice_split (λ c. c == 44) bytes)) ≤ suc (length bytes)
+    by true h = omega (arith, h)
+    by false h = omega (arith, h, put_sum (slice_split (λ c. c == 44) bytes))
+
+abbrev Three : Type 0
+Three = List ℕ × List ℕ × List ℕ
+
+three_sum : (parts : List (List ℕ)) (t : Three) → three_of parts ≡ Some t → length t.0 + (length t.1 + length t.2) ≤ together parts
+three_sum [] t e = absurd (cc)
+three_sum (s ∷ []) t e = absurd (cc)
+three_sum (s ∷ p ∷ []) t e = absurd (cc)
+three_sum (s ∷ p ∷ o ∷ []) t e =
+    let same : ◌≡◌ {A = Three} (s, p, o) t = some_same e in
+    subst (λ (u : Three). length u.0 + (length u.1 + length u.2) ≤ together (s ∷ p ∷ o ∷ [])) same (omega arith)
+three_sum (s ∷ p ∷ o ∷ more ∷ rest) t e = absurd (cc)
+
+in_row_short : (text : List ℕ) (slot : Slot) → slot_in_row text ≡ Some slot → IsShortSlot (length text) slot
+in_row_short text slot e =
+    let decoded = percent_decode text in
+    let found = bind-inv (when (is_utf8 decoded) decoded) (λ form. accepted (slot_of form)) slot e in
+    let read = when-inv (is_utf8 decoded) decoded found.0 found.1 in
+    wider (length found.0) (length text) slot (omega (arith, percent_short text, ap length read.1)) (accepted_short (length found.0) (slot_of found.0) slot (slot_short found.0) found.2)
+
+abbrev row_with : Slot → Slot → Slot → Slots
+row_with s p o = record { subject = s; predicate = p; object = o }
+
+row_of_short : (text : List ℕ) (r : Slots) → row_of text ≡ Some r → length (row_pair 38 r) ≤ 11 + 9 * length text
+unfolding row_of
+row_of_short text r e =
+    let t = bind-inv (places_between text) (λ places. slot_in_row places.0 >>= (λ s. slot_in_row places.1 >>= (λ p. slot_in_row places.2 >>= (λ o. Some (row_with s p o))))) r e in
+    let s = bind-inv (slot_in_row t.0.0) (λ s. slot_in_row t.0.1 >>= (λ p. slot_in_row t.0.2 >>= (λ o. Some (row_with s p o)))) r t.2 in
+    let p = bind-inv (slot_in_row t.0.1) (λ p. slot_in_row t.0.2 >>= (λ o. Some (row_with s.0 p o))) r s.2 in
+    let o = bind-inv (slot_in_row t.0.2) (λ o. Some (row_with s.0 p.0 o)) r p.2 in
+    let same : row_with s.0 p.0 o.0 ≡ r = some_same {x = row_with s.0 p.0 o.0} {y = r} o.2 in
+    let short = row_short 38 (row_with s.0 p.0 o.0) (length t.0.0) (length t.0.1) (length t.0.2) (in_row_short t.0.0 s.0 s.1) (in_row_short t.0.1 p.0 p.1) (in_row_short t.0.2 o.0 o.1) in
+    subst (λ (x : Slots). length (row_pair 38 x) ≤ 11 + 9 * length text) same (omega (arith, short, three_sum (slice_split (λ b. b == 44) text) t.0 t.1, slices_sum text))
+
+rows_of_short : (texts : List (List ℕ)) (rows : List Slots) → rows_of texts ≡ Some rows → length (rows_text 38 rows) ≤ 11 * length texts + 9 * together texts
+rows_of_short [] rows e = let same : [] ≡ rows = some_same e in subst (λ (l : List Slots). length (rows_text 38 l) ≤ 0) same (omega arith)
+rows_of_short (text ∷ texts) rows e =
+    let first = bind-inv (row_of text) (λ r. rows_of texts >>= (λ more. Some (r ∷ more))) rows e in
+    let others = bind-inv (rows_of texts) (λ more. Some (first.0 ∷ more)) rows first.2 in
+    let same : first.0 ∷ others.0 ≡ rows = some_same {x = first.0 ∷ others.0} {y = rows} others.2 in
+    subst (λ (l : List Slots). length (rows_text 38 l) ≤ 11 * length (text ∷ texts) + 9 * together (text ∷ texts)) same
+    (omega (arith, row_of_short text first.0 first.1, rows_of_short texts others.0 others.1, length-append (row_pair 38 first.0) (rows_text 38 others.0)))
+
+few_short : (texts : List (List ℕ)) (rows : List Slots) → few_rows_of texts ≡ Some rows → length (rows_text 38 rows) ≤ 704 + 9 * together texts
+few_short texts rows e =
+    let found = bind-inv (when (nat_le (length texts) MOST_ROWS) texts) rows_of rows e in
+    let few = when-inv (nat_le (length texts) MOST_ROWS) texts found.0 found.1 in
+    let most : length texts ≤ 64 = grind (arith, nat_tests, few.0) in
+    omega (arith, most, rows_of_short texts rows (ap rows_of few.1 ∙ found.2))
+
+rows_short : (reads : Bool) (pairs : List (List ℕ × List ℕ)) (rows : List Slots) → rows_under reads pairs ≡ Some rows → length (rows_text 38 rows) ≤ 704 + 9 * under row_name pairs
+rows_short false pairs rows e = let same : [] ≡ rows = some_same e in subst (λ (l : List Slots). length (rows_text 38 l) ≤ 704 + 9 * under row_name pairs) same (omega arith)
+rows_short true pairs rows e = few_short (values_under (codes "row") pairs) rows e
 
 -- ---- what is asked for
 
-under_short : (most : ℕ) (name : List ℕ) (pairs : List (List ℕ × List ℕ)) → AllByRecursion (HasShortValue most) pairs → AllByRecursion (IsWithin most) (values_under name pairs)
-under_short most name [] h = tt
-under_short most name (p ∷ pairs) h = by (bytes_eq p.0 name) (under_short most name pairs h.1)
-  where
-    by : (t : Bool) → AllByRecursion (IsWithin most) (values_under name pairs) → AllByRecursion (IsWithin most) (map (λ (q : List ℕ × List ℕ). q.1) (if t then p ∷ filter (λ (q : List ℕ × List ℕ). bytes_eq q.0 name) pairs else filter (λ (q : List ℕ × List ℕ). bytes_eq q.0 name) pairs))
-    by true k = (h.0, k)
-    by false k = k
+abbrev question_with : Slot → Slot → Slot → List Slots → ℕ → Question
+question_with s p o rows page = record { selection = record { slots = record { subject = s; predicate = p; object = o }; rows = rows }; page = page }
 
-one_short : (most : ℕ) (values : List (List ℕ)) (value : List ℕ) → AllByRecursion (IsWithin most) values → one_value values ≡ Some value → length value ≤ most
-one_short most [] value h e = let same : [] ≡ value = cc in subst (IsWithin most) same (omega arith)
-one_short most (x ∷ []) value h e = let same : x ≡ value = cc in subst (IsWithin most) same h.0
-one_short most (x ∷ y ∷ more) value h e = absurd (cc)
+selection_short : (pairs : List (List ℕ × List ℕ)) (s : Selection) → values_of pairs ≤ 262144 → IsShortSlot (under subject_name pairs) s.slots.subject → IsShortSlot (under predicate_name pairs) s.slots.predicate → IsShortSlot (under object_name pairs) s.slots.object
+    → length (rows_text 38 s.rows) ≤ 704 + 9 * under row_name pairs → IsShort s
+selection_short pairs s few hs hp ho hr = record {
+  short = omega (arith, few, hr, all_under pairs, selection_long s, places_short s.slots (under subject_name pairs) (under predicate_name pairs) (under object_name pairs) hs hp ho);
+}
 
-place_short : (most : ℕ) (name : List ℕ) (pairs : List (List ℕ × List ℕ)) (slot : Slot) → AllByRecursion (HasShortValue most) pairs → slot_under name pairs ≡ Some slot → IsShortSlot most slot
-place_short most name pairs slot h e =
-    let found = bind-inv (one_value (values_under name pairs)) (λ value. accepted (slot_of value)) slot e in
-    accepted_short (length found.0) most (slot_of found.0) slot (one_short most (values_under name pairs) found.0 (under_short most name pairs h) found.1) (slot_short found.0) found.2
-
-abbrev question_with : Slot → Slot → Slot → ℕ → Question
-question_with subject predicate object page = record { slots = record { subject = subject; predicate = predicate; object = object }; page = page }
-
-same_slots : (most : ℕ) (one other : Question) → Some one ≡ Some other → AreShort most one.slots → AreShort most other.slots
-same_slots most one other e h = let same : one ≡ other = cc in subst (λ (q : Question). AreShort most q.slots) same h
-
-asked_short : (most : ℕ) (pairs : List (List ℕ × List ℕ)) (question : Question) → AllByRecursion (HasShortValue most) pairs → asked_by pairs ≡ Some question → AreShort most question.slots
-asked_short most pairs question h is =
+asked_short : (reads : Bool) (pairs : List (List ℕ × List ℕ)) (question : Question) → values_of pairs ≤ 262144 → asked_by reads pairs ≡ Some question → IsShort question.selection
+asked_short reads pairs question few is =
     let pages : Option ℕ = one_value (values_under (codes "page") pairs) >>= page_number in
-    let s = bind-inv (slot_under (codes "subject") pairs) (λ subject. slot_under (codes "predicate") pairs >>= (λ predicate. slot_under (codes "object") pairs >>= (λ object. pages >>= (λ page. Some (question_with subject predicate object page))))) question is in
-    let p = bind-inv (slot_under (codes "predicate") pairs) (λ predicate. slot_under (codes "object") pairs >>= (λ object. pages >>= (λ page. Some (question_with s.0 predicate object page)))) question s.2 in
-    let o = bind-inv (slot_under (codes "object") pairs) (λ object. pages >>= (λ page. Some (question_with s.0 p.0 object page))) question p.2 in
-    let n = bind-inv pages (λ page. Some (question_with s.0 p.0 o.0 page)) question o.2 in
-    same_slots most (question_with s.0 p.0 o.0 n.0) question n.2 (record {
-      subject = place_short most (codes "subject") pairs s.0 h s.1;
-      predicate = place_short most (codes "predicate") pairs p.0 h p.1;
-      object = place_short most (codes "object") pairs o.0 h o.1;
-    })
+    let s = bind-inv (slot_under (codes "subject") pairs) (λ s. slot_under (codes "predicate") pairs >>= (λ p. slot_under (codes "object") pairs >>= (λ o. rows_under reads pairs >>= (λ rows. pages >>= (λ page. Some (question_with s p o rows page)))))) question is in
+    let p = bind-inv (slot_under (codes "predicate") pairs) (λ p. slot_under (codes "object") pairs >>= (λ o. rows_under reads pairs >>= (λ rows. pages >>= (λ page. Some (question_with s.0 p o rows page))))) question s.2 in
+    let o = bind-inv (slot_under (codes "object") pairs) (λ o. rows_under reads pairs >>= (λ rows. pages >>= (λ page. Some (question_with s.0 p.0 o rows page)))) question p.2 in
+    let r = bind-inv (rows_under reads pairs) (λ rows. pages >>= (λ page. Some (question_with s.0 p.0 o.0 rows page))) question o.2 in
+    let n = bind-inv pages (λ page. Some (question_with s.0 p.0 o.0 r.0 page)) question r.2 in
+    let q = question_with s.0 p.0 o.0 r.0 n.0 in
+    let same : q ≡ question = some_same {x = question_with s.0 p.0 o.0 r.0 n.0} {y = question} n.2 in
+    subst (λ (x : Question). IsShort x.selection) same
+    (selection_short pairs q.selection few (place_short subject_name pairs s.0 s.1) (place_short predicate_name pairs p.0 p.1) (place_short object_name pairs o.0 o.1) (rows_short reads pairs r.0 r.1))
 
-question_short : (target : List ℕ) (question : Question) → question_of target ≡ Some question → AreShort (4 * length (unwrap_or (query_of target) [])) question.slots
+question_short : (reads : Bool) (target : List ℕ) (question : Question) → length target ≤ 65536 → question_of reads target ≡ Some question → IsShort question.selection
 unfolding question_of
-question_short target question is = asked_short (4 * length (unwrap_or (query_of target) [])) (parameters target) question (parameters_short target) is
+question_short reads target question few is = asked_short reads (parameters target) question (omega (arith, few, parameters_sum target)) is
 
-wider_slots : (few most : ℕ) (slots : Slots) → few ≤ most → AreShort few slots → AreShort most slots
-wider_slots few most slots le h = record { subject = wider few most slots.subject le h.subject; predicate = wider few most slots.predicate le h.predicate; object = wider few most slots.object le h.object }
-
-pub target_short : (base : Address) (slots : Slots) (k : ℕ) (target : List ℕ) → length target ≤ 65536 → AsksFor base slots k target → AreShort 262208 slots
-target_short base slots k target few asks =
-    wider_slots (4 * length (unwrap_or (query_of target) [])) 262208 slots (omega (arith, few, query_short target)) (question_short target (record { slots = slots; page = k }) asks.question)
+-- what a target of at most 65536 bytes asks for is no longer than a plan's selections are
+pub target_short : (config : Config) (s : Selection) (k : ℕ) (target : List ℕ) → length target ≤ 65536 → AsksFor config s k target → IsShort s
+target_short config s k target few asks = question_short config.rows target (record { selection = s; page = k }) few asks.question

@@ -1,11 +1,11 @@
 -- Several worlds together are a world: that of the union of their triples.
-use Rattle.std.proofs.Common.{ℕ, zero, suc, ◌≡◌, ◌+◌, ◌-◌, ◌<◌, ◌≤◌, ◌^◌, ◌⊎◌, inl, inr, max, nat_lt, Bool, true, false, if◌then◌else◌, List, [], ◌∷◌, ◌++◌, length, map, refl, ap, sym, subst, ◌∙◌, arith, append-nil, append_assoc, ⊎_elim}
-use Rattle.std.specs.List.{filter, flat_map, list_any, All, AllByRecursion, Contains}
+use Rattle.std.proofs.Common.{ℕ, zero, suc, ◌≡◌, ◌+◌, ◌<◌, ◌≤◌, ◌^◌, ◌⊎◌, inl, inr, nat_lt, ◌&&◌, Bool, true, false, if◌then◌else◌, List, [], ◌∷◌, ◌++◌, length, map, refl, ap, sym, subst, ◌∙◌, arith, append-nil, append_assoc, ⊎_elim}
+use Rattle.std.specs.List.{filter, flat_map, list_any, All, Contains}
 use Rattle.std.specs.List.Sorted.{IsPermutation, IsStrictlySortedBy}
 use Rattle.std.specs.Ordering.{is_eq}
 use Rattle.std.specs.declared.cmp.Ordering.{Ordering}
 use Rattle.std.specs.declared.cmp.Ordering.TheVariants.{Less, Equal, Greater}
-use Rattle.std.proofs.lemmas.Bool.{cases_lt}
+use Rattle.std.proofs.lemmas.Bool.{and_from, cases_lt}
 use Rattle.std.proofs.lemmas.Bool.Decides.{nat_tests}
 use Rattle.std.proofs.lemmas.List.Elements.{All-nil, All-cons, All-head, All-tail, All-contains, Contains-append_left, Contains-append_right, Contains-append_cases}
 use Rattle.std.proofs.lemmas.List.Kept.{IsStrictlySortedBy-filter}
@@ -15,17 +15,17 @@ use Rattle.list_laws.proofs.Told.{one_list}
 use Rattle.rdf_terms.specs.declared.term.Triple.{Triple}
 use Rattle.rdf_terms.specs.declared.slots.Slot.TheVariants.{Any}
 use Rattle.rdf_terms.specs.declared.slots.Slots.{Slots}
-use Rattle.rdf_terms.specs.Askable.{askable}
 use Rattle.rdf_terms.specs.Fragments.{IsFragment, fragment, sorted}
 use Rattle.rdf_terms.specs.Order.{triple_order}
 use Rattle.rdf_terms.specs.OrderLaws.{triple_total, triple_equal, triple_ties}
 use Rattle.rdf_terms.specs.Same.{triple_eq}
-use Rattle.rdf_terms.specs.Slots.{matches, order_of}
+use Rattle.rdf_terms.specs.Selections.{Selection, all_of}
+use Rattle.rdf_terms.specs.Slots.{matches}
 use Rattle.rdf_terms.specs.Valid.{IsValidTriple}
 use Rattle.rdf_terms.proofs.FragmentLaws.{fragment_is}
-use Rattle.bgp_core.specs.Solutions.{unless_before, distinct_after}
+use Rattle.bgp_core.specs.Solutions.{distinct_after}
 use Rattle.join_core.specs.Worlds.{World, IsWorld, numbers, items_after}
-use Rattle.plan_laws.specs.JointWorlds.{WorldsAreJoined, union, joint_count, joint_last, items_at, all_items, taken_before, joint_items, joint_world}
+use Rattle.plan_laws.specs.JointWorlds.{WorldsAreJoined, union, joint_count, joint_last, items_at, all_items, taken_before, joint_items, holds, joint_keeps, several_world}
 use Rattle.join_core.proofs.Pages.{items-first}
 use Rattle.plan_laws.proofs.Servers.{Apart, AllApart, sorted-turned}
 
@@ -54,6 +54,13 @@ from-sorted xs t h = (((sorted-is xs).members t).0 h).0
 pub in-sorted : (xs : List Triple) (t : Triple) → Contains xs t → Contains (sorted triple_order xs) t
 unfolding no-slots
 in-sorted xs t h = ((sorted-is xs).members t).1 (h, record { subject = tt; predicate = tt; object = tt })
+
+-- data in their order are the union of themselves alone
+pub one-union : (set : List Triple) → IsStrictlySortedBy triple_order set → union (set ∷ []) ≡ set
+unfolding union
+one-union set up =
+    ap (λ (l : List Triple). sorted triple_order l) (append-nil set)
+    ∙ one_list triple_total (sorted triple_order set) set (ascends set) up (λ t m. from-sorted set t m) (λ t m. in-sorted set t m)
 
 -- ---- triples, each once
 
@@ -153,7 +160,7 @@ told xs ys a s f g =
 
 -- ---- the pages of all worlds
 
-module _ (worlds : List World) (s : Slots) where
+module _ (worlds : List World) (s : Selection) where
   taken-apart : (k : ℕ) → AllApart triple_order (taken_before worlds s k)
   taken-apart zero = tt
   taken-apart (suc k) = apart-join (taken_before worlds s k) (joint_items worlds s k) (taken-apart k) (new-apart (taken_before worlds s k) (all_items worlds s k)) (λ t m n. new-alone (taken_before worlds s k) (all_items worlds s k) t n m)
@@ -189,8 +196,8 @@ module _ (worlds : List World) (s : Slots) where
   pages-are zero = refl
   pages-are (suc n) = ap (λ l. flat_map (joint_items worlds s) l) (numbers-last 0 n ∙ ap (λ i. numbers 0 n ++ i ∷ []) (from-zero n)) ∙ flat-last (joint_items worlds s) (numbers 0 n) n ∙ ap (λ l. l ++ joint_items worlds s n) (pages-are n)
 
-  pub items-are : items_after (joint_world worlds) s 0 ≡ taken_before worlds s (joint_last worlds s)
-  items-are = items-first (joint_world worlds) s ∙ pages-are (joint_last worlds s)
+  pub items-are : items_after (several_world worlds) s 0 ≡ taken_before worlds s (joint_last worlds s)
+  items-are = items-first (several_world worlds) s ∙ pages-are (joint_last worlds s)
 
 -- what stands on pages stands on one of them
 part-of : (f : ℕ → List Triple) (a n : ℕ) (t : Triple) → Contains (flat_map f (numbers a n)) t → (k : ℕ) × (k < a + n) × Contains (f k) t
@@ -204,15 +211,15 @@ of-part f a (suc n) k t low high m = ⊎_elim (λ (l : a < k). Contains-append_r
   here : k ≤ a → Contains (flat_map f (numbers a (suc n))) t
   here l = let e : k ≡ a = omega (arith, low, l) in Contains-append_left (f a) (flat_map f (numbers (suc a) n)) t (subst (λ i. Contains (f i) t) e m)
 
-last-least : (worlds : List World) (s : Slots) (w : World) → Contains worlds w → w.last s ≤ joint_last worlds s
+last-least : (worlds : List World) (s : Selection) (w : World) → Contains worlds w → w.last s ≤ joint_last worlds s
 last-least [] s w h = absurd (none_in w h)
 last-least (v ∷ worlds) s w h = ⊎_elim (λ (e : v ≡ w). let l : v.last s ≡ w.last s = ap (λ (x : World). x.last s) e in omega (arith, l)) (λ (m : Contains worlds w). let l = last-least worlds s w m in omega (arith, l)) (head_or_tail v w worlds h)
 
-at-if : (s : Slots) (k : ℕ) (w : World) (t : Triple) (b : Bool) → nat_lt k (w.last s) ≡ b → Contains (if b then w.items s k else []) t → (k < w.last s) × Contains (w.items s k) t
+at-if : (s : Selection) (k : ℕ) (w : World) (t : Triple) (b : Bool) → nat_lt k (w.last s) ≡ b → Contains (if b then w.items s k else []) t → (k < w.last s) × Contains (w.items s k) t
 at-if s k w t true e h = (grind (arith, nat_tests), h)
 at-if s k w t false e h = absurd (none_in t h)
 
-if-at : (s : Slots) (k : ℕ) (w : World) (t : Triple) (b : Bool) → nat_lt k (w.last s) ≡ b → k < w.last s → Contains (w.items s k) t → Contains (if b then w.items s k else []) t
+if-at : (s : Selection) (k : ℕ) (w : World) (t : Triple) (b : Bool) → nat_lt k (w.last s) ≡ b → k < w.last s → Contains (w.items s k) t → Contains (if b then w.items s k else []) t
 if-at s k w t true e l h = h
 if-at s k w t false e l h = absurd (grind (arith, nat_tests))
 
@@ -222,25 +229,54 @@ triples-in worlds = map (λ w. w.triples) worlds
 abbrev AreWorlds : List World → Type 0
 AreWorlds worlds = All IsWorld worlds
 
-module _ (worlds : List World) (are : AreWorlds worlds) (s : Slots) where
+-- ---- what is kept
+
+both-true : (a b : Bool) → (a && b) ≡ true → (a ≡ true) × (b ≡ true)
+both-true true b e = (refl, e)
+both-true false b e = cc
+
+kept-by : (worlds : List World) (rows : List Slots) (t : Triple) (w : World) → Contains worlds w → holds w t ≡ true → w.keeps rows t ≡ true → joint_keeps worlds rows t ≡ true
+kept-by worlds rows t w m h k =
+    ap (λ (b : Bool). if b then list_any (λ v. holds v t && v.keeps rows t) worlds else true) (any_of (λ v. holds v t) worlds w m h)
+    ∙ any_of (λ v. holds v t && v.keeps rows t) worlds w m (and_from (holds w t) (w.keeps rows t) h k)
+
+keeper : (worlds : List World) (rows : List Slots) (t : Triple) (w : World) → Contains worlds w → holds w t ≡ true → joint_keeps worlds rows t ≡ true → (v : World) × Contains worlds v × (holds v t ≡ true) × (v.keeps rows t ≡ true)
+keeper worlds rows t w m h k =
+    let any = sym (ap (λ (b : Bool). if b then list_any (λ v. holds v t && v.keeps rows t) worlds else true) (any_of (λ v. holds v t) worlds w m h)) ∙ k in
+    let r = some_of (λ v. holds v t && v.keeps rows t) worlds any in
+    let e = both-true (holds r.0 t) (r.0.keeps rows t) r.2 in
+    (r.0, r.1, e.0, e.1)
+
+kept-where : (worlds : List World) (rows : List Slots) (t : Triple) → ((w : World) → Contains worlds w → w.keeps rows t ≡ true) → (b : Bool) → list_any (λ w. holds w t) worlds ≡ b → joint_keeps worlds rows t ≡ true
+kept-where worlds rows t each false e = ap (λ (b : Bool). if b then list_any (λ w. holds w t && w.keeps rows t) worlds else true) e
+kept-where worlds rows t each true e = let r = some_of (λ w. holds w t) worlds e in kept-by worlds rows t r.0 r.1 r.2 (each r.0 r.1)
+
+module _ (worlds : List World) (are : AreWorlds worlds) (s : Selection) where
   abbrev joint : List Triple
   joint = taken_before worlds s (joint_last worlds s)
 
   world-is : (w : World) → Contains worlds w → IsWorld w
   world-is w m = All-contains IsWorld worlds w are m
 
-  -- a triple of the joint pages is one of the matching triples of a world
-  from-joint : (t : Triple) → Contains joint t → (w : World) × Contains worlds w × Contains (filter (matches s) w.triples) t
+  -- the matching triples that a world keeps, and that are kept together
+  abbrev kept : World → Triple → Bool
+  kept w t = matches s.slots t && w.keeps s.rows t
+
+  abbrev all-kept : Triple → Bool
+  all-kept t = matches s.slots t && joint_keeps worlds s.rows t
+
+  -- a triple of the joint pages is one of the matching triples that a world keeps
+  from-joint : (t : Triple) → Contains joint t → (w : World) × Contains worlds w × Contains (filter (kept w) w.triples) t
   from-joint t h =
       let r = from-taken worlds s (joint_last worlds s) t h in
       let v = from_flat_map (items_at s r.0) worlds t r.2 in
       let p = at-if s r.0 v.0 t (nat_lt r.0 (v.0.last s)) refl v.2 in
       let stands : Contains (items_after v.0 s 0) t = subst (λ (l : List Triple). Contains l t) (sym (items-first v.0 s)) (of-part (v.0.items s) 0 (v.0.last s) r.0 t (omega arith) (omega (arith, p.0)) p.1) in
-      (v.0, v.1, Contains-permutation (items_after v.0 s 0) (filter (matches s) v.0.triples) t (IsPermutation-sym (filter (matches s) v.0.triples) (items_after v.0 s 0) ((world-is v.0 v.1).fragments s)) stands)
+      (v.0, v.1, Contains-permutation (items_after v.0 s 0) (filter (kept v.0) v.0.triples) t (IsPermutation-sym (filter (kept v.0) v.0.triples) (items_after v.0 s 0) ((world-is v.0 v.1).fragments s)) stands)
 
-  in-joint : (w : World) (t : Triple) → Contains worlds w → Contains (filter (matches s) w.triples) t → Contains joint t
+  in-joint : (w : World) (t : Triple) → Contains worlds w → Contains (filter (kept w) w.triples) t → Contains joint t
   in-joint w t m h =
-      let stands = subst (λ (l : List Triple). Contains l t) (items-first w s) (Contains-permutation (filter (matches s) w.triples) (items_after w s 0) t ((world-is w m).fragments s) h) in
+      let stands = subst (λ (l : List Triple). Contains l t) (items-first w s) (Contains-permutation (filter (kept w) w.triples) (items_after w s 0) t ((world-is w m).fragments s) h) in
       let p = part-of (w.items s) 0 (w.last s) t stands in
       let most = last-least worlds s w m in
       let low : p.0 < w.last s = omega (arith, p.1) in
@@ -265,15 +301,23 @@ module _ (worlds : List World) (are : AreWorlds worlds) (s : Slots) where
     by more true e k = ⊎_elim (λ (q : x ≡ t). ap p (sym q) ∙ e) more (head_or_tail x t (filter p xs) k)
     by more false e k = more k
 
-  union-ascends : IsStrictlySortedBy triple_order (filter (matches s) (union (triples-in worlds)))
+  union-ascends : IsStrictlySortedBy triple_order (filter all-kept (union (triples-in worlds)))
   unfolding union
-  union-ascends = IsStrictlySortedBy-filter triple_order (matches s) (sorted triple_order (flat_map (λ set. set) (triples-in worlds))) (ascends (flat_map (λ set. set) (triples-in worlds)))
+  union-ascends = IsStrictlySortedBy-filter triple_order all-kept (sorted triple_order (flat_map (λ set. set) (triples-in worlds))) (ascends (flat_map (λ set. set) (triples-in worlds)))
 
   -- the joint pages hold the matching triples of the union
-  pub joint-turned : IsPermutation (filter (matches s) (union (triples-in worlds))) joint
-  joint-turned = told joint (filter (matches s) (union (triples-in worlds))) (taken-apart worlds s (joint_last worlds s)) union-ascends
-      (λ t m. let r = from-joint t m in in_filter (matches s) (union (triples-in worlds)) t (passes (matches s) r.0.triples t r.2) (in-union r.0 t r.1 (from_filter (matches s) r.0.triples t r.2)))
-      (λ t m. let r = from-union t (from_filter (matches s) (union (triples-in worlds)) t m) in in-joint r.0 t r.1 (in_filter (matches s) r.0.triples t (passes (matches s) (union (triples-in worlds)) t m) r.2))
+  pub joint-turned : IsPermutation (filter all-kept (union (triples-in worlds))) joint
+  joint-turned = told joint (filter all-kept (union (triples-in worlds))) (taken-apart worlds s (joint_last worlds s)) union-ascends
+      (λ t m.
+      let r = from-joint t m in
+      let there = from_filter (kept r.0) r.0.triples t r.2 in
+      let e = both-true (matches s.slots t) (r.0.keeps s.rows t) (passes (kept r.0) r.0.triples t r.2) in
+      in_filter all-kept (union (triples-in worlds)) t (and_from (matches s.slots t) (joint_keeps worlds s.rows t) e.0 (kept-by worlds s.rows t r.0 r.1 (in-stands r.0.triples t there) e.1)) (in-union r.0 t r.1 there))
+      (λ t m.
+      let r = from-union t (from_filter all-kept (union (triples-in worlds)) t m) in
+      let e = both-true (matches s.slots t) (joint_keeps worlds s.rows t) (passes all-kept (union (triples-in worlds)) t m) in
+      let v = keeper worlds s.rows t r.0 r.1 (in-stands r.0.triples t r.2) e.1 in
+      in-joint v.0 t v.1 (in_filter (kept v.0) v.0.triples t (and_from (matches s.slots t) (v.0.keeps s.rows t) e.0 v.3) (stands-in v.0.triples t v.2)))
 
 -- ---- the world
 
@@ -281,23 +325,23 @@ no-member : (xs : List Triple) → ((t : Triple) → Contains xs t → ⊥) → 
 no-member [] h = refl
 no-member (x ∷ xs) h = absurd (h x (at_head x xs))
 
-some-last : (worlds : List World) → AreWorlds worlds → 0 < length worlds → (s : Slots) → 0 < joint_last worlds s
+some-last : (worlds : List World) → AreWorlds worlds → 0 < length worlds → (s : Selection) → 0 < joint_last worlds s
 some-last [] are some s = absurd (omega (arith, some))
 some-last (w ∷ worlds) are some s = let h = (All-head IsWorld w worlds are).some s in omega (arith, h)
 
-few-last : (worlds : List World) → AreWorlds worlds → (s : Slots) → joint_last worlds s < 2 ^ 64
+few-last : (worlds : List World) → AreWorlds worlds → (s : Selection) → joint_last worlds s < 2 ^ 64
 few-last [] are s = omega arith
 few-last (w ∷ worlds) are s = let h = (All-head IsWorld w worlds are).few s in let k = few-last worlds (All-tail IsWorld w worlds are) s in omega (arith, h, k)
 
-count-none : (worlds : List World) (s : Slots) (w : World) → joint_count worlds s ≡ 0 → Contains worlds w → w.count s ≡ 0
+count-none : (worlds : List World) (s : Selection) (w : World) → joint_count worlds s ≡ 0 → Contains worlds w → w.count s ≡ 0
 count-none [] s w e m = absurd (none_in w m)
 count-none (v ∷ worlds) s w e m = ⊎_elim (λ (q : v ≡ w). let l : v.count s ≡ w.count s = ap (λ (x : World). x.count s) q in omega (arith, e, l)) (λ (n : Contains worlds w). count-none worlds s w (omega (arith, e)) n) (head_or_tail v w worlds m)
 
-last-most : (worlds : List World) (s : Slots) → ((w : World) → Contains worlds w → w.last s ≤ 1) → joint_last worlds s ≤ 1
+last-most : (worlds : List World) (s : Selection) → ((w : World) → Contains worlds w → w.last s ≤ 1) → joint_last worlds s ≤ 1
 last-most [] s h = omega arith
 last-most (w ∷ worlds) s h = let one = h w (at_head w worlds) in let more = last-most worlds s (λ v m. h v (in_tail w v worlds m)) in omega (arith, one, more)
 
-none-at : (worlds : List World) (s : Slots) (k : ℕ) → ((w : World) → Contains worlds w → w.items s k ≡ []) → all_items worlds s k ≡ []
+none-at : (worlds : List World) (s : Selection) (k : ℕ) → ((w : World) → Contains worlds w → w.items s k ≡ []) → all_items worlds s k ≡ []
 none-at [] s k h = refl
 none-at (w ∷ worlds) s k h = by (none-at worlds s k (λ v m. h v (in_tail w v worlds m))) (nat_lt k (w.last s)) where
   by : all_items worlds s k ≡ [] → (b : Bool) → (if b then w.items s k else []) ++ all_items worlds s k ≡ []
@@ -310,9 +354,12 @@ all-valid worlds are (x ∷ xs) h =
     let r = h x (at_head x xs) in
     All-cons IsValidTriple x xs (All-contains IsValidTriple r.0.triples x (All-contains IsWorld worlds r.0 are r.1).valid r.2) (all-valid worlds are xs (λ t m. h t (in_tail x t xs m)))
 
-pub joint-is-world : WorldsAreJoined
-joint-is-world worlds are some = record {
-  fragments = λ s. subst (λ (l : List Triple). IsPermutation (filter (matches s) (union (map (λ w. w.triples) worlds))) l) (sym (items-are worlds s)) (joint-turned worlds are s);
+several-is-world : (worlds : List World) → AreWorlds worlds → 0 < length worlds → IsWorld (several_world worlds)
+several-is-world worlds are some = record {
+  fragments = λ s. subst (λ (l : List Triple). IsPermutation (filter (λ t. matches s.slots t && joint_keeps worlds s.rows t) (union (map (λ w. w.triples) worlds))) l) (sym (items-are worlds s)) (joint-turned worlds are s);
+  keeps_all = λ t. kept-where worlds [] t (λ w m. (All-contains IsWorld worlds w are m).keeps_all t) (list_any (λ w. holds w t) worlds) refl;
+  keeps_rows = λ rows t e. kept-where worlds rows t (λ w m. (All-contains IsWorld worlds w are m).keeps_rows rows t e) (list_any (λ w. holds w t) worlds) refl;
+  block = (omega arith, omega arith);
   some = some-last worlds are some;
   few = few-last worlds are;
   alone = λ s e.
@@ -322,7 +369,12 @@ joint-is-world worlds are some = record {
   none = λ s e. ap (λ l. distinct_after [] l) (none-at worlds s 0 (λ w m. (All-contains IsWorld worlds w are m).none s (count-none worlds s w e m)));
   unasked = λ s e. items-are worlds s ∙ no-member (taken_before worlds s (joint_last worlds s)) (λ t m.
       let r = from-joint worlds are s t m in
-      let stands = Contains-permutation (filter (matches s) r.0.triples) (items_after r.0 s 0) t ((All-contains IsWorld worlds r.0 are r.1).fragments s) r.2 in
+      let stands = Contains-permutation (filter (λ u. matches s.slots u && r.0.keeps s.rows u) r.0.triples) (items_after r.0 s 0) t ((All-contains IsWorld worlds r.0 are r.1).fragments s) r.2 in
       none_in t (subst (λ (l : List Triple). Contains l t) ((All-contains IsWorld worlds r.0 are r.1).unasked s e) stands));
-  valid = all-valid worlds are (union (map (λ w. w.triples) worlds)) (λ t m. from-union worlds are no-slots t m);
+  valid = all-valid worlds are (union (map (λ w. w.triples) worlds)) (λ t m. from-union worlds are (all_of no-slots) t m);
 }
+
+pub joint-is-world : WorldsAreJoined
+joint-is-world [] are some = several-is-world [] are some
+joint-is-world (w ∷ []) are some = All-head IsWorld w [] are
+joint-is-world (w ∷ v ∷ worlds) are some = several-is-world (w ∷ v ∷ worlds) are some

@@ -1,8 +1,11 @@
 pub mod Lengths
 pub mod Metadata
 pub mod Slots
+pub mod Selections
 pub mod Asked
 pub mod Plans
 pub mod Reading
 pub mod Servers
 pub mod JointWorlds
+pub mod JointPlans
+pub mod Starts

@@ -11,19 +11,20 @@ use Rattle.tpf_base.specs.HttpText.{request_text}
 use Rattle.tpf_base.specs.Marks.{Mark, version_at}
 use Rattle.rdf_terms.specs.declared.term.Term.{Term}
 use Rattle.rdf_terms.specs.declared.term.Triple.{Triple}
-use Rattle.rdf_terms.specs.declared.slots.Slot.{Slot}
 use Rattle.rdf_terms.specs.declared.slots.Slot.TheVariants as slots
 use Rattle.rdf_terms.specs.declared.slots.Slots.{Slots}
 use Rattle.rdf_terms.specs.Askable.{AskableAreKept}
 use Rattle.rdf_terms.specs.Canon.{canonical_term}
-use Rattle.rdf_terms.specs.Fragments.{put_by, put, sorted, fragment, last_page_of, last_page, page_of}
-use Rattle.rdf_terms.specs.Kept.{IsValidSlot, AreValid}
+use Rattle.rdf_terms.specs.declared.limits.TheConstants.{MOST_ROWS}
+use Rattle.rdf_terms.specs.Fragments.{put_by, put, sorted, fragment, last_page_of}
+use Rattle.rdf_terms.specs.Selections.{Selection, IsKeptSelection, all_of, matches_one, restricted, selected, selected_last, selected_page}
 use Rattle.rdf_terms.specs.Slots.{matches, order_of}
-use Rattle.rdf_terms.specs.Valid.{IsValidTerm, IsValidTriple}
+use Rattle.rdf_terms.specs.Valid.{IsValidTriple}
 use Rattle.triple_table.specs.Served.{terms_in, terms_of}
 use Rattle.template_fill.specs.ReadAddress.{path_of, query_of, with_target}
-use Rattle.template_fill.specs.Explicit.{explicit_form, FormsAreShort}
-use Rattle.template_fill.specs.Pages.{places_text, page_address}
+use Rattle.template_fill.specs.Explicit.{FormsAreShort}
+use Rattle.template_fill.specs.Pages.{places_text, selection_text, page_address}
+use Rattle.template_fill.specs.Answers.{read_as}
 use Rattle.template_fill.specs.Authorities.{ShareAuthority, PagesAreAddresses, PagesShareAuthority, address_of_page}
 use Rattle.template_fill.specs.Metadata.{Config}
 use Rattle.template_fill.specs.Configurations.{VersionsAreValid}
@@ -42,10 +43,11 @@ use Rattle.http_ends.specs.Requests.{request_for}
 use Rattle.plan_laws.specs.Servers.{server_world}
 use Rattle.join_core.specs.Nodes.{plan}
 use Rattle.plan_laws.specs.Fitting.{IsRead, AreServable, IsAskablePart, IsAskable, IsServable}
-use Rattle.plan_laws.proofs.Lengths.{IsShortSlot, AreShort, address_short}
+use Rattle.plan_laws.proofs.Lengths.{IsShort, fragment_short, passed_short, address_short}
 use Rattle.plan_laws.proofs.Metadata.{AreFitting, HasFittingTexts, HasFittingTerms, joined, metadata_fits, data_fits}
-use Rattle.plan_laws.proofs.Slots.{Binds, HasTerms, IsPart, HasParts, IsSlot, HasSlots}
-use Rattle.plan_laws.proofs.Plans.{IsPlanned, low_last, plan_planned}
+use Rattle.plan_laws.proofs.Slots.{Binds, HasTerms, IsPart, HasParts}
+use Rattle.plan_laws.proofs.Selections.{IsGood, IsGoodSelection, good_for, good_passed}
+use Rattle.plan_laws.proofs.Plans.{IsPlanned, low_last, addresses_planned, items_all, page_planned}
 use Rattle.plan_laws.proofs.Asked.{target_short}
 
 -- ---- lengths of lists
@@ -74,6 +76,13 @@ filter_length test (x ∷ xs) = by (test x) (filter_length test xs)
 pub fragment_length : (triples : List Triple) (slots : Slots) → length (fragment triples slots) ≤ length triples
 unfolding fragment
 fragment_length triples slots = omega (arith, sorted_length (order_of slots) (filter (matches slots) triples), filter_length (matches slots) triples)
+
+restricted_length : (rows : List Slots) (items : List Triple) → length (restricted rows items) ≤ length items
+restricted_length [] items = omega arith
+restricted_length (row ∷ rows) items = filter_length (matches_one (row ∷ rows)) items
+
+pub selected_length : (triples : List Triple) (s : Selection) → length (selected triples s) ≤ length triples
+selected_length triples s = omega (arith, fragment_length triples s.slots, restricted_length s.rows (fragment triples s.slots))
 
 pages_few : (count size : ℕ) → size ≤ 1000 → count ≤ 9999999999999999999 → last_page_of count size ≤ 10000000000000000999
 pages_few count size small few = within ((count + (size - 1)) / size) (div-le_self (count + (size - 1)) size)
@@ -115,9 +124,9 @@ request_fits : (address : Address) → length (authority_of address) + length (t
 request_fits address h = omega (arith, h, request_short (authority_of address) (target_of address))
 
 -- the address of a page is no longer than its text
-page_parts : (base : Address) (slots : Slots) (k : ℕ) → length (authority_of (address_of_page base slots k)) + length (target_of (address_of_page base slots k)) ≤ length (page_address base slots k)
+page_parts : (base : Address) (s : Selection) (k : ℕ) → length (authority_of (address_of_page base s k)) + length (target_of (address_of_page base s k)) ≤ length (page_address base s k)
 unfolding address_of_page page_address
-page_parts base slots k = by (_)
+page_parts base s k = by (_)
   where
     by : (more : List ℕ) → length (authority_of base) + length (target_of (with_target base.host base.port (target_of base ++ more))) ≤ length (address_text base ++ more)
     by more =
@@ -131,28 +140,11 @@ page_parts base slots k = by (_)
 
 -- ---- terms
 
-abbrev IsGood : Term → Type 0
-IsGood term = IsValidTerm term × (length (explicit_form term) ≤ 262208)
-
-slot_valid : (s : Slot) → IsSlot IsGood s → IsValidSlot s
-slot_valid slots.Any h = tt
-slot_valid (slots.Fixed t) h = h.0
-
-slot_short : (s : Slot) → IsSlot IsGood s → IsShortSlot 262208 s
-slot_short slots.Any h = tt
-slot_short (slots.Fixed t) h = h.1
-
-slots_valid : (s : Slots) → HasSlots IsGood s → AreValid s
-slots_valid s h = record { subject = slot_valid s.subject h.subject; predicate = slot_valid s.predicate h.predicate; object = slot_valid s.object h.object }
-
-slots_short : (s : Slots) → HasSlots IsGood s → AreShort 262208 s
-slots_short s h = record { subject = slot_short s.subject h.subject; predicate = slot_short s.predicate h.predicate; object = slot_short s.object h.object }
-
 part_good : FormsAreShort → (part : Part) → IsValidPart part → IsAskablePart part → IsPart IsGood part
 part_good short (Fixed t) valid few = (valid, omega (arith, few, short.texts t))
 part_good short (Name n) valid few = tt
 
-patterns_good : FormsAreShort → (ps : List Pattern) → AllByRecursion IsAskable ps → AllByRecursion (HasParts IsGood) ps
+pub patterns_good : FormsAreShort → (ps : List Pattern) → AllByRecursion IsAskable ps → AllByRecursion (HasParts IsGood) ps
 patterns_good short [] h = tt
 patterns_good short (p ∷ ps) h =
     let a = h.0 in
@@ -185,7 +177,7 @@ fitting_triple t h = record {
   object = record { short = let few = h.object in omega (arith, few) };
 }
 
-good_triples : FormsAreShort → (triples : List Triple) → AllByRecursion IsValidTriple triples → AreServable triples → AllByRecursion (HasTerms IsGood) triples
+pub good_triples : FormsAreShort → (triples : List Triple) → AllByRecursion IsValidTriple triples → AreServable triples → AllByRecursion (HasTerms IsGood) triples
 good_triples short triples valid s =
     all_from (HasTerms IsGood) triples (λ t there. good_triple short t (all_in IsValidTriple triples t valid there) (terms_each triples IsBrief s.terms t there))
 
@@ -197,7 +189,7 @@ none_bound zero k t e = cc
 none_bound (suc n) zero t e = cc
 none_bound (suc n) (suc k) t e = none_bound n k t e
 
-binds_none : (P : Term → Type 0) (n : ℕ) → Binds P (replicate n None)
+pub binds_none : (P : Term → Type 0) (n : ℕ) → Binds P (replicate n None)
 binds_none P n = record { each = λ k t e. absurd (none_bound n k t e) }
 
 -- ---- pages
@@ -208,17 +200,17 @@ data_set_long = refl
 template_long : length (codes "{?subject,predicate,object}") ≡ 27
 template_long = refl
 
--- the texts of a page of short slots fit
-texts_fit : (config : Config) (slots : Slots) (k count version : ℕ) → length (address_text config.base) ≤ 65536 → AreShort 262208 slots → k + 1 < 2 ^ 64 → count < 2 ^ 64 → version < 2 ^ 64 → HasFittingTexts (parts_for config slots k count version)
+-- the texts of a page of a selection that is not long fit
+texts_fit : (config : Config) (u : Selection) (k count version : ℕ) → length (address_text config.base) ≤ 65536 → IsShort u → k + 1 < 2 ^ 64 → count < 2 ^ 64 → version < 2 ^ 64 → HasFittingTexts (parts_for config u k count version)
 unfolding parts_for
-texts_fit config slots k count version base h fits few number = record {
-  graph = omega (arith, base, address_short config.base 262208 slots k h (omega (arith, fits)), length-append (page_address config.base slots k) (codes "#metadata"), data_set_long);
-  page = omega (arith, base, address_short config.base 262208 slots k h (omega (arith, fits)));
-  first = omega (arith, base, address_short config.base 262208 slots 1 h (omega arith));
+texts_fit config u k count version base h fits few number = record {
+  graph = omega (arith, base, address_short config.base u k h (omega (arith, fits)), length-append (page_address config.base u k) (codes "#metadata"), data_set_long);
+  page = omega (arith, base, address_short config.base u k h (omega (arith, fits)));
+  first = omega (arith, base, address_short config.base u 1 h (omega arith));
   base = omega (arith, base);
   template = omega (arith, base, length-append (address_text config.base) (codes "{?subject,predicate,object}"), template_long);
-  next = omega (arith, base, address_short config.base 262208 slots (k + 1) h fits);
-  previous = omega (arith, base, address_short config.base 262208 slots (k - 1) h (omega (arith, fits)));
+  next = omega (arith, base, address_short config.base u (k + 1) h fits);
+  previous = omega (arith, base, address_short config.base u (k - 1) h (omega (arith, fits)));
   count = few;
   version = number;
 }
@@ -227,9 +219,15 @@ texts_fit config slots k count version base h fits few number = record {
 abbrev free : Slots
 free = record { subject = slots.Any; predicate = slots.Any; object = slots.Any }
 
-base_address : (base : Address) → page_address base free 1 ≡ address_text base
-unfolding page_address places_text
+base_address : (base : Address) → page_address base (all_of free) 1 ≡ address_text base
+unfolding page_address selection_text places_text
 base_address base = append-nil (address_text base)
+
+free_kept : IsKeptSelection (all_of free)
+free_kept = record { slots = record { subject = tt; predicate = tt; object = tt }; rows = tt; few = omega arith }
+
+free_short : (rows : Bool) → IsShort (read_as rows (all_of free))
+free_short rows = passed_short rows (all_of free) (fragment_short free (record { subject = tt; predicate = tt; object = tt }))
 
 module _ (forms : FormsAreShort) (given : PagesAreGiven) (answered : AnsweredGivePages) (addresses : PagesAreAddresses) (authorities : PagesShareAuthority) (kept : AskableAreKept)
     (reads : ControlsReadBack) (there : PagesAreThere) (versions : VersionsAreValid)
@@ -240,71 +238,84 @@ module _ (forms : FormsAreShort) (given : PagesAreGiven) (answered : AnsweredGiv
   abbrev triples : List Triple
   triples = version_of history version
 
-  quads_fit : (slots : Slots) (k : ℕ) → AreShort 262208 slots → k ≤ last_page triples slots config.page_size → AreFitting (page_quads history version config slots k)
-  quads_fit slots k h high =
-      let count = length (fragment triples slots) in
-      let few : count ≤ 9999999999999999999 = omega (arith, fragment_length triples slots, s.triples.few) in
+  few_selected : (u : Selection) → length (selected triples u) ≤ 9999999999999999999
+  few_selected u = omega (arith, selected_length triples u, s.triples.few)
+
+  quads_fit : (u : Selection) (k : ℕ) → IsShort u → k ≤ selected_last triples u config.page_size → AreFitting (page_quads history version config u k)
+  quads_fit u k h high =
+      let count = length (selected triples u) in
+      let few = few_selected u in
       let pages = pages_few count config.page_size s.is_config.high few in
       let number : version < 2 ^ 64 = omega (arith, s.version.high, s.is_history.high) in
-      let m = parts_for config slots k count version in
-      let texts = texts_fit config slots k count version s.base h (omega (arith, pages, high)) (omega (arith, few)) number in
+      let m = parts_for config u k count version in
+      let texts = texts_fit config u k count version s.base h (omega (arith, pages, high)) (omega (arith, few)) number in
       let said = metadata_fits (nat_lt k (last_page_of count config.page_size)) (nat_lt 1 k) m texts in
-      joined (data_fits (page_of triples slots k config.page_size) (page_all HasFittingTerms triples slots k config.page_size (fitting_triples triples s.triples)))
-      (subst AreFitting (sym (metadata_is config slots k count version)) said)
+      joined (data_fits (selected_page triples u k config.page_size) (page_all HasFittingTerms triples u k config.page_size (fitting_triples triples s.triples)))
+      (subst AreFitting (sym (metadata_is config u k count version)) said)
 
-  limits : (slots : Slots) (k : ℕ) → AreShort 262208 slots → k ≤ last_page triples slots config.page_size → IsWithinLimits history version config slots k
-  limits slots k h high = record {
-    count = omega (arith, fragment_length triples slots, s.triples.few);
-    terms = (quads_fit slots k h high).each;
-  }
+  limits : (u : Selection) (k : ℕ) → IsShort u → k ≤ selected_last triples u config.page_size → IsWithinLimits history version config u k
+  limits u k h high = record { count = few_selected u; terms = (quads_fit u k h high).each }
 
-  -- what gives a page of short slots is read
-  read_of : (address : Address) (slots : Slots) (k : ℕ) → GivesPage history mark config address slots k → AreShort 262208 slots → authority_of address ≡ authority_of config.base
+  -- what gives a page of a selection that is not long is read
+  read_of : (address : Address) (u : Selection) (k : ℕ) → GivesPage history mark config address u k → IsShort u → authority_of address ≡ authority_of config.base
       → length (authority_of address) + length (target_of address) ≤ 4194000 → IsRead history mark config address
-  read_of address slots k g h same short =
-      let page = there history version config slots k s.is_history s.is_config in
+  read_of address u k g h same short =
+      let page = there history version config u k s.is_history s.is_config in
       let most : version ≤ 9999999999999999999 = omega (arith, s.version.high, s.is_history.high) in
       record {
         short = request_fits address short;
-        answered = (answered history mark config address).1 slots k g;
+        answered = (answered history mark config address).1 u k g;
         page = page.0;
-        taken = subst (λ (a : Answer). Takes a.body address page.0) (sym g.answer) (reads history version config slots k address page.0 s.is_history most s.is_config (limits slots k h g.high) same page.1);
+        taken = subst (λ (a : Answer). Takes a.body address page.0) (sym g.answer) (reads history version config u k address page.0 s.is_history most s.is_config (limits u k h g.high) same page.1);
       }
 
   same_authority : (address : Address) → ShareAuthority config.base address → authority_of address ≡ authority_of config.base
   same_authority address share =
       ap (λ (host : List ℕ). authority_of (record address { host = host })) share.host ∙ ap (λ (port : ℕ). authority_of (record address { host = config.base.host; port = port })) share.port
 
-  read_planned : (address : Address) → IsPlanned IsGood triples config address → IsRead history mark config address
-  read_planned address p =
-      let own = address_of_page config.base p.slots p.k in
-      let is : IsAddress (page_address config.base p.slots p.k) own = addresses config.base p.slots p.k s.is_config.base in
-      let valid = slots_valid p.slots p.terms in
-      let g = given history mark config p.slots p.k own s.is_config (kept p.slots p.asked valid) p.low p.high is in
-      let few : length (fragment triples p.slots) ≤ 9999999999999999999 = omega (arith, fragment_length triples p.slots, s.triples.few) in
-      let pages = pages_few (length (fragment triples p.slots)) config.page_size s.is_config.high few in
-      let fits : p.k < 2 ^ 64 = omega (arith, pages, p.high) in
-      let short : length (authority_of own) + length (target_of own) ≤ 4194000 = omega (arith, page_parts config.base p.slots p.k, address_short config.base 262208 p.slots p.k (slots_short p.slots p.terms) fits, s.base) in
-      subst (IsRead history mark config) (sym p.address_is)
-      (read_of own p.slots p.k g (slots_short p.slots p.terms) (same_authority own (authorities config.base p.slots p.k own s.is_config.base is)) short)
+  -- the address of a page has the authority of the base
+  pub own_authority : (address : Address) → IsPlanned IsGoodSelection triples config address → authority_of address ≡ authority_of config.base
+  own_authority address p =
+      let own = address_of_page config.base p.selection p.k in
+      let is : IsAddress (page_address config.base p.selection p.k) own = addresses config.base p.selection p.k s.is_config.base in
+      ap authority_of p.address_is ∙ same_authority own (authorities config.base p.selection p.k own s.is_config.base is)
 
-  all_read : (list : List Address) → AllByRecursion (IsPlanned IsGood triples config) list → AllByRecursion (IsRead history mark config) list
+  pub read_planned : (address : Address) → IsPlanned IsGoodSelection triples config address → IsRead history mark config address
+  read_planned address p =
+      let own = address_of_page config.base p.selection p.k in
+      let is : IsAddress (page_address config.base p.selection p.k) own = addresses config.base p.selection p.k s.is_config.base in
+      let given_as = read_as config.rows p.selection in
+      let g = given history mark config p.selection p.k own s.is_config p.good.kept p.low p.high is in
+      let pages = pages_few (length (selected triples given_as)) config.page_size s.is_config.high (few_selected given_as) in
+      let fits : p.k < 2 ^ 64 = omega (arith, pages, p.high) in
+      let short : length (authority_of own) + length (target_of own) ≤ 4194000 = omega (arith, page_parts config.base p.selection p.k, address_short config.base p.selection p.k p.good.short fits, s.base) in
+      subst (IsRead history mark config) (sym p.address_is)
+      (read_of own given_as p.k g (passed_short config.rows p.selection p.good.short) (same_authority own (authorities config.base p.selection p.k own s.is_config.base is)) short)
+
+  all_read : (list : List Address) → AllByRecursion (IsPlanned IsGoodSelection triples config) list → AllByRecursion (IsRead history mark config) list
   all_read [] h = tt
   all_read (address ∷ list) h = (read_planned address h.0, all_read list h.1)
 
-  pub plan_read : (patterns : List Pattern) (names : ℕ) → AllByRecursion IsAskable patterns → AllByRecursion (IsRead history mark config) (plan (server_world triples config) patterns (replicate names None))
-  plan_read patterns names h =
-      all_read (plan (server_world triples config) patterns (replicate names None))
-      (plan_planned IsGood triples config (length patterns) patterns (replicate names None) (good_triples forms triples (versions history version s.is_history).terms s.triples) (patterns_good forms patterns h) (binds_none IsGood names))
+  -- the addresses of a plan are those of such pages
+  pub plan_planned : (block : ℕ) → 1 ≤ block → block ≤ MOST_ROWS → (patterns : List Pattern) (names : ℕ) → AllByRecursion IsAskable patterns → AllByRecursion (IsPlanned IsGoodSelection triples config) (plan (server_world block triples config) patterns (replicate names None))
+  plan_planned block low high patterns names h =
+      let data_set = good_triples forms triples (versions history version s.is_history).terms s.triples in
+      addresses_planned IsGood (IsPlanned IsGoodSelection triples config) IsGoodSelection (server_world block triples config) (λ u. low_last (length (selected triples (read_as config.rows u))) config.page_size) low
+      (λ p rows own some binds asked few short. good_for kept block triples config p rows own some binds asked (omega (arith, few, high)) short)
+      (λ u k own least most. (page_planned IsGoodSelection triples config (good_passed config.rows) u k own least most, tt)) (λ u k. items_all IsGoodSelection triples config block (HasTerms IsGood) u k data_set) (length patterns) patterns (replicate names None) (patterns_good forms patterns h) (binds_none IsGood names)
+
+  pub plan_read : (block : ℕ) → 1 ≤ block → block ≤ MOST_ROWS → (patterns : List Pattern) (names : ℕ) → AllByRecursion IsAskable patterns → AllByRecursion (IsRead history mark config) (plan (server_world block triples config) patterns (replicate names None))
+  plan_read block low high patterns names h = all_read (plan (server_world block triples config) patterns (replicate names None)) (plan_planned block low high patterns names h)
 
   pub start_read : (start : Address) → authority_of start ≡ authority_of config.base → length (target_of start) ≤ 65536 → is_answered history mark config start ≡ true → IsRead history mark config start
   start_read start same few is =
       let g = (answered history mark config start).0 is in
-      read_of start g.slots g.k g.gives (target_short config.base g.slots g.k (target_of start) few g.gives.asks) same
+      read_of start g.selection g.k g.gives (target_short config g.selection g.k (target_of start) few g.gives.asks) same
       (omega (arith, few, ap length same, parts_short config.base, s.base))
 
   pub base_read : IsRead history mark config config.base
   base_read =
-      let is : IsAddress (page_address config.base free 1) config.base = subst (λ (text : List ℕ). IsAddress text config.base) (sym (base_address config.base)) s.is_config.base in
-      let g = given history mark config free 1 config.base s.is_config (record { subject = tt; predicate = tt; object = tt }) (omega arith) (low_last (length (fragment triples free)) config.page_size) is in
-      read_of config.base free 1 g (record { subject = tt; predicate = tt; object = tt }) refl (omega (arith, parts_short config.base, s.base))
+      let is : IsAddress (page_address config.base (all_of free) 1) config.base = subst (λ (text : List ℕ). IsAddress text config.base) (sym (base_address config.base)) s.is_config.base in
+      let given_as = read_as config.rows (all_of free) in
+      let g = given history mark config (all_of free) 1 config.base s.is_config free_kept (omega arith) (low_last (length (selected triples given_as)) config.page_size) is in
+      read_of config.base given_as 1 g (free_short config.rows) refl (omega (arith, parts_short config.base, s.base))

@@ -1,5 +1,5 @@
 -- A server of fragments is a world.
-use Rattle.std.proofs.Common.{ℕ, zero, suc, ◌≡◌, ◌+◌, ◌-◌, ◌*◌, ◌/◌, ◌%◌, ◌<◌, ◌≤◌, ◌^◌, ◌⊎◌, inl, inr, max, take-append-drop, drop-drop, nat_lt, Bool, true, false, if◌then◌else◌, List, [], ◌∷◌, ◌++◌, length, drop, take, Option, Some, None, refl, ap, sym, subst, ◌∙◌, arith, codes, append-nil, append_assoc}
+use Rattle.std.proofs.Common.{ℕ, zero, suc, ◌≡◌, ◌+◌, ◌-◌, ◌*◌, ◌/◌, ◌%◌, ◌<◌, ◌≤◌, ◌^◌, ◌⊎◌, inl, inr, max, take-append-drop, drop-drop, nat_lt, ◌&&◌, Bool, true, false, if◌then◌else◌, List, [], ◌∷◌, ◌++◌, length, drop, take, Option, Some, None, refl, ap, sym, subst, ◌∙◌, arith, codes, append-nil, append_assoc}
 use Rattle.std.proofs.Math.Nat.{suc-mul, zero-mul, mul_comm, div-add-mod, mod-lt, div-eq_of_lt, add-mul}
 use Rattle.std.proofs.Math.Seq.{take-nil, drop-nil}
 use Rattle.std.proofs.lemmas.Nat.{mul-le}
@@ -10,31 +10,34 @@ use Rattle.std.specs.List.Sorted.{IsPermutation, IsStrictlySortedBy}
 use Rattle.std.specs.declared.cmp.Ordering.{Ordering}
 use Rattle.std.specs.declared.cmp.Ordering.TheVariants.{Less, Equal, Greater}
 use Rattle.std.proofs.lemmas.Bool.Decides.{nat_tests}
-use Rattle.std.proofs.lemmas.List.Elements.{All-nil, All-cons, All-head, All-tail}
+use Rattle.std.proofs.lemmas.List.Elements.{All-nil, All-cons, All-head, All-tail, filter_agree}
 use Rattle.std.proofs.lemmas.List.Sorted.{IsPermutation-refl, IsPermutation-trans, IsPermutation-cons, IsPermutation-append_left, IsPermutation-append_comm, All-permutation, length_permutation}
 use Rattle.tpf_base.specs.Addresses.{Address, IsAddress}
 use Rattle.rdf_terms.specs.declared.term.Triple.{Triple}
 use Rattle.rdf_terms.specs.declared.slots.Slots.{Slots}
 use Rattle.rdf_terms.specs.Askable.{UnaskedMatchNothing}
 use Rattle.rdf_terms.specs.Order.{triple_order}
+use Rattle.rdf_terms.specs.Selections.{Selection, matches_one, restricted, selected, selected_last}
 use Rattle.rdf_terms.specs.Slots.{matches, order_of}
 use Rattle.rdf_terms.specs.Fragments.{fragment, put_by, put, sorted, last_page_of}
 use Rattle.rdf_terms.specs.Valid.{IsValidTriple}
 use Rattle.rdf_terms.proofs.FragmentLaws.{order_of_tells}
 use Rattle.template_fill.specs.declared.form.Form.{Form}
 use Rattle.template_fill.specs.WebAddress.{OneAddress}
+use Rattle.template_fill.specs.Answers.{read_as}
 use Rattle.template_fill.specs.Authorities.{PagesAreAddresses, address_of_page}
-use Rattle.template_fill.specs.Pages.{FirstPageIsExpansion, page_address, server_template}
-use Rattle.template_fill.specs.Forms.{form_text, filled}
+use Rattle.template_fill.specs.Pages.{FirstPageHasRows, page_address, server_template}
+use Rattle.template_fill.specs.Forms.{form_text, filled, rows_behind, selection_form_text}
 use Rattle.template_fill.specs.Templates.{Template, expansion}
 use Rattle.template_fill.specs.Metadata.{Config}
 use Rattle.template_fill.specs.Configurations.{IsValidDataSet, VersionsAreValid}
 use Rattle.template_fill.specs.Bodies.{version_of}
+use Rattle.bgp_core.proofs.Orders.{flat_map-IsPermutation}
 use Rattle.control_laws.specs.Law.{IsServerForm, IsPageOf, IsNextOf, NothingElseIsRead}
 use Rattle.join_core.proofs.Pages.{items-first}
 use Rattle.join_core.specs.Rounds.{RoundData, round_of_one}
-use Rattle.join_core.specs.Worlds.{World, numbers, items_after}
-use Rattle.plan_laws.specs.Servers.{server_world, ServersAreWorlds, ServersHaveForms, ServersPagesAreTrue}
+use Rattle.join_core.specs.Worlds.{numbers, items_after}
+use Rattle.plan_laws.specs.Servers.{kept_by, asked_at, server_world, ServersAreWorlds, ServersHaveForms, ServersPagesAreTrue}
 
 -- ---- a fragment holds the matching triples, each as often as they
 
@@ -94,6 +97,64 @@ fragment-turned triples slots same s = sorted-turned (order_of slots) (filter (m
 all-from : {X : Type 0} (P : X → Type 0) (xs : List X) → AllByRecursion P xs → All P xs
 all-from P [] a = All-nil P
 all-from P (x ∷ xs) a = All-cons P x xs a.0 (all-from P xs a.1)
+
+-- ---- what is selected holds the matching triples that are kept
+
+kept-one : {X : Type 0} (x : X) (ys : List X) (b : Bool) → (if b then x ∷ ys else ys) ≡ ((if b then x ∷ [] else []) ++ ys)
+kept-one x ys true = refl
+kept-one x ys false = refl
+
+filter-is : {X : Type 0} (q : X → Bool) (xs : List X) → filter q xs ≡ flat_map (λ x. if q x then x ∷ [] else []) xs
+filter-is q [] = refl
+filter-is q (x ∷ xs) = kept-one x (filter q xs) (q x) ∙ ap (λ l. (if q x then x ∷ [] else []) ++ l) (filter-is q xs)
+
+filter-turned : {X : Type 0} (q : X → Bool) (xs ys : List X) → IsPermutation xs ys → IsPermutation (filter q xs) (filter q ys)
+filter-turned q xs ys p =
+    subst (λ l. IsPermutation l (filter q ys)) (sym (filter-is q xs)) (subst (λ l. IsPermutation (flat_map (λ x. if q x then x ∷ [] else []) xs) l) (sym (filter-is q ys)) (flat_map-IsPermutation (λ x. if q x then x ∷ [] else []) xs ys p))
+
+-- two tests at once
+twice-step : {X : Type 0} (q : X → Bool) (x : X) (ys : List X) (a b : Bool) → q x ≡ b → (if a && b then x ∷ filter q ys else filter q ys) ≡ filter q (if a then x ∷ ys else ys)
+twice-step q x ys true b e = sym (ap (λ (c : Bool). if c then x ∷ filter q ys else filter q ys) e)
+twice-step q x ys false b e = refl
+
+twice : {X : Type 0} (p q : X → Bool) (xs : List X) → filter (λ t. p t && q t) xs ≡ filter q (filter p xs)
+twice p q [] = refl
+twice p q (x ∷ xs) = ap (λ l. if p x && q x then x ∷ l else l) (twice p q xs) ∙ twice-step q x (filter p xs) (p x) (q x) refl
+
+and-true : (b : Bool) → (b && true) ≡ b
+and-true true = refl
+and-true false = refl
+
+all-turned : (triples : List Triple) (slots : Slots) → IsPermutation (filter (matches slots) triples) (fragment triples slots) → IsPermutation (filter (λ t. matches slots t && true) triples) (fragment triples slots)
+all-turned triples slots p =
+    subst (λ (l : List Triple). IsPermutation l (fragment triples slots)) (sym (filter_agree (λ t. matches slots t && true) (matches slots) (λ t. and-true (matches slots t)) triples)) p
+
+by-rows : (triples : List Triple) (slots : Slots) (rows : List Slots) → IsPermutation (filter (matches slots) triples) (fragment triples slots) → IsPermutation (filter (λ t. matches slots t && kept_by true rows t) triples) (restricted rows (fragment triples slots))
+by-rows triples slots [] p = all-turned triples slots p
+by-rows triples slots (row ∷ rows) p =
+    subst (λ (l : List Triple). IsPermutation l (filter (matches_one (row ∷ rows)) (fragment triples slots))) (sym (twice (matches slots) (matches_one (row ∷ rows)) triples))
+    (filter-turned (matches_one (row ∷ rows)) (filter (matches slots) triples) (fragment triples slots) p)
+
+kept-turned : (triples : List Triple) (rows : Bool) (s : Selection) → IsPermutation (filter (matches s.slots) triples) (fragment triples s.slots) → IsPermutation (filter (λ t. matches s.slots t && kept_by rows s.rows t) triples) (selected triples (read_as rows s))
+kept-turned triples false s p = all-turned triples s.slots p
+kept-turned triples true s p = by-rows triples s.slots s.rows p
+
+kept-all : (rows : Bool) (t : Triple) → kept_by rows [] t ≡ true
+kept-all false t = refl
+kept-all true t = refl
+
+kept-rows : (read : Bool) (rows : List Slots) (t : Triple) → matches_one rows t ≡ true → kept_by read rows t ≡ true
+kept-rows false rows t e = refl
+kept-rows true [] t e = refl
+kept-rows true (row ∷ rows) t e = e
+
+restricted-none : (rows : List Slots) (items : List Triple) → items ≡ [] → restricted rows items ≡ []
+restricted-none [] items e = e
+restricted-none (row ∷ rows) items e = ap (λ (l : List Triple). filter (matches_one (row ∷ rows)) l) e
+
+selected-none : (triples : List Triple) (rows : Bool) (s : Selection) → fragment triples s.slots ≡ [] → selected triples (read_as rows s) ≡ []
+selected-none triples false s e = e
+selected-none triples true s e = restricted-none s.rows (fragment triples s.slots) e
 
 one-longer : {X : Type 0} (x : X) (ys : List X) (n : ℕ) (b : Bool) → length ys ≤ n → length (if b then x ∷ ys else ys) ≤ suc n
 one-longer x ys n true h = omega (arith, h)
@@ -177,21 +238,27 @@ some-page : (q : ℕ) → 0 < max 1 q
 some-page q = omega arith
 
 pub world-of : ((a b : Triple) → a ≡ b → triple_order a b ≡ Equal) → UnaskedMatchNothing → VersionsAreValid → ServersAreWorlds
-world-of same unasked versions history version config h c few =
+world-of same unasked versions block history version config low high h c few =
     let triples = version_of history version in
     let size = config.page_size in
+    let rows = config.rows in
     let valid : IsValidDataSet triples = versions history version h in
-    let turned : (s : Slots) → IsPermutation (filter (matches s) triples) (fragment triples s) = λ s. fragment-turned triples s same valid.data_set.ascending in
+    let given : Selection → List Triple = λ s. selected triples (read_as rows s) in
+    let kept : Selection → List Triple = λ s. filter (λ t. matches s.slots t && kept_by rows s.rows t) triples in
+    let turned : (s : Selection) → IsPermutation (kept s) (given s) = λ s. kept-turned triples rows s (fragment-turned triples s.slots same valid.data_set.ascending) in
     let sized : 0 < size = omega (arith, c.low) in
-    let whole : (s : Slots) → items_after (server_world triples config) s 0 ≡ fragment triples s = λ s. items-first (server_world triples config) s ∙ pages-whole (fragment triples s) size sized in
-    let counted : (s : Slots) → length (fragment triples s) < 2 ^ 64 = λ s. omega (arith, few, filter-length (matches s) triples, length_permutation _ _ (turned s)) in
+    let whole : (s : Selection) → items_after (server_world block triples config) s 0 ≡ given s = λ s. items-first (server_world block triples config) s ∙ pages-whole (given s) size sized in
+    let counted : (s : Selection) → length (given s) < 2 ^ 64 = λ s. omega (arith, few, filter-length (λ t. matches s.slots t && kept_by rows s.rows t) triples, length_permutation _ _ (turned s)) in
     record {
-      fragments = λ s. subst (λ (l : List Triple). IsPermutation (filter (matches s) triples) l) (sym (whole s)) (turned s);
-      some = λ s. some-page ((length (fragment triples s) + (size - 1)) / size);
-      few = λ s. few-pages (length (fragment triples s)) size sized (counted s);
-      alone = λ s e. one-page (length (fragment triples s)) size e sized;
-      none = λ s e. none-in (fragment triples s) size (0 * size) e;
-      unasked = λ s e. whole s ∙ unasked triples s e valid.data_set.classes;
+      fragments = λ s. subst (λ (l : List Triple). IsPermutation (kept s) l) (sym (whole s)) (turned s);
+      keeps_all = kept-all rows;
+      keeps_rows = kept-rows rows;
+      block = (low, high);
+      some = λ s. some-page ((length (given s) + (size - 1)) / size);
+      few = λ s. few-pages (length (given s)) size sized (counted s);
+      alone = λ s e. one-page (length (given s)) size e sized;
+      none = λ s e. none-in (given s) size (0 * size) e;
+      unasked = λ s e. whole s ∙ selected-none triples rows s (unasked triples s.slots e valid.data_set.classes);
       valid = all-from IsValidTriple triples valid.terms;
     }
 
@@ -202,23 +269,25 @@ form-is base form s f =
     ∙ ap (λ (x : List ℕ). expansion (server_template base) (filled (codes "subject") x form.object s)) f.predicate
     ∙ ap (λ (x : List ℕ). expansion (server_template base) (filled (codes "subject") (codes "predicate") x s)) f.object
 
-pub form-of : PagesAreAddresses → FirstPageIsExpansion → ServersHaveForms
-form-of addresses first triples config form c f = record {
-  one = λ s k. (address_of_page config.base s k, refl);
+pub form-of : PagesAreAddresses → FirstPageHasRows → ServersHaveForms
+form-of addresses first block triples config form c f = record {
+  one = λ s k. (address_of_page config.base (asked_at config.rows k s) k, refl);
   forms = record {
-    first = λ s e. record {
-      addresses = (subst (λ (x : List ℕ). IsAddress x (address_of_page config.base s 1)) (first config.base s ∙ sym (form-is config.base form s f)) (addresses config.base s 1 c.base), tt);
-      none = refl;
-    };
+    first = λ s e.
+        let text : page_address config.base s 1 ≡ selection_form_text form s = first config.base s c.base c.no_query ∙ ap (λ (x : List ℕ). rows_behind x s.rows) (sym (form-is config.base form s.slots f)) in
+        record {
+          addresses = (subst (λ (x : List ℕ). IsAddress x (address_of_page config.base s 1)) text (addresses config.base s 1 c.base), tt);
+          none = refl;
+        };
   };
 }
 
-next-is : (w : World) (base : Address) (config : Config) (s : Slots) (k last : ℕ) (a : Address) (o : Option Address) (b : Bool) → nat_lt (suc k) last ≡ b → OneAddress → (IsAddress (page_address config.base s (suc k + 1)) a) → IsNextOf config s (suc k) last o
+next-is : (config : Config) (s : Selection) (k last : ℕ) (a : Address) (o : Option Address) (b : Bool) → nat_lt (suc k) last ≡ b → OneAddress → (IsAddress (page_address config.base s (suc k + 1)) a) → IsNextOf config s (suc k) last o
     → option_map round_of_one o ≡ (if b then Some (round_of_one a) else None)
-next-is w base config s k last a None true e one at n = let h : last ≤ suc k = n in absurd (grind (arith, nat_tests))
-next-is w base config s k last a None false e one at n = refl
-next-is w base config s k last a (Some next) true e one at n = ap (λ (x : Address). let r : Option RoundData = Some (round_of_one x) in r) (one _ _ _ n.1 at)
-next-is w base config s k last a (Some next) false e one at n = let h = n.0 in absurd (grind (arith, nat_tests))
+next-is config s k last a None true e one at n = let h : last ≤ suc k = n in absurd (grind (arith, nat_tests))
+next-is config s k last a None false e one at n = refl
+next-is config s k last a (Some next) true e one at n = ap (λ (x : Address). let r : Option RoundData = Some (round_of_one x) in r) (one _ _ _ n.1 at)
+next-is config s k last a (Some next) false e one at n = let h = n.0 in absurd (grind (arith, nat_tests))
 
 -- the address of a round for one server
 head-of : Address → List Address → Address
@@ -230,16 +299,18 @@ unfolding head-of
 one-address a b e = ap (λ (r : RoundData). head-of a r.addresses) e
 
 pub pages-of : PagesAreAddresses → OneAddress → NothingElseIsRead → ServersPagesAreTrue
-pages-of addresses one only history version config address page h number_is c read = record {
+pages-of addresses one only block history version config address page h number_is c read = record {
   stands = λ s k valid ask at below.
       let triples = version_of history version in
-      let w = server_world triples config in
-      let is : IsPageOf triples version config s (suc k) page = (only history version config s (suc k) address page h number_is c (read s k valid ask (one-address address (address_of_page config.base s (suc k)) at) below)).is_page in
+      let r = read_as config.rows s in
+      let last = selected_last triples r config.page_size in
+      let further = address_of_page config.base r (suc (suc k)) in
+      let is : IsPageOf triples version config r (suc k) page = (only history version config r (suc k) address page h number_is c (read s k valid ask (one-address address (address_of_page config.base (asked_at config.rows (suc k) s) (suc k)) at) below)).is_page in
       let number : suc k + 1 ≡ suc (suc k) = omega arith in
-      let there : IsAddress (page_address config.base s (suc k + 1)) (address_of_page config.base s (suc (suc k))) = subst (λ (n : ℕ). IsAddress (page_address config.base s n) (address_of_page config.base s (suc (suc k)))) (sym number) (addresses config.base s (suc (suc k)) c.base) in
+      let there : IsAddress (page_address config.base r (suc k + 1)) further = subst (λ (n : ℕ). IsAddress (page_address config.base r n) further) (sym number) (addresses config.base r (suc (suc k)) c.base) in
       record {
-        triples = is.triples_are ∙ ap (λ (n : ℕ). take config.page_size (drop (n * config.page_size) (fragment triples s))) (let one : suc k - 1 ≡ k = omega arith in one);
+        triples = is.triples_are ∙ ap (λ (n : ℕ). take config.page_size (drop (n * config.page_size) (selected triples r))) (let one : suc k - 1 ≡ k = omega arith in one);
         count = λ e. is.count;
-        next = next-is w config.base config s k (w.last s) (address_of_page config.base s (suc (suc k))) page.next (nat_lt (suc k) (w.last s)) refl one there is.next;
+        next = next-is config r k last further page.next (nat_lt (suc k) last) refl one there is.next;
       };
 }

@@ -6,6 +6,7 @@ use Rattle.tpf_base.specs.HttpHeads.{head_limit}
 use Rattle.tpf_base.specs.Marks.{Mark, version_at}
 use Rattle.rdf_terms.specs.declared.term.Term.{Term}
 use Rattle.rdf_terms.specs.declared.term.Triple.{Triple}
+use Rattle.rdf_terms.specs.declared.limits.TheConstants.{MOST_ROWS}
 use Rattle.rdf_terms.specs.Canon.{canonical_term}
 use Rattle.rdf_terms.specs.Sizes.{term_size}
 use Rattle.triple_table.specs.Served.{terms_of}
@@ -60,13 +61,15 @@ pub record IsServable (history : List (List Triple)) (mark : Mark) (config : Con
 
 -- ---- the laws
 
--- each address of a plan is read
+-- each address of a plan is read, where a request carries at most so many rows
 abbrev pub PlansAreRead : Type 0
 PlansAreRead =
-    (history : List (List Triple)) (mark : Mark) (config : Config) (patterns : List Pattern) (names : ℕ)
+    (block : ℕ) (history : List (List Triple)) (mark : Mark) (config : Config) (patterns : List Pattern) (names : ℕ)
+    → 1 ≤ block
+    → block ≤ MOST_ROWS
     → IsServable history mark config
     → AllByRecursion IsAskable patterns
-    → AllByRecursion (IsRead history mark config) (plan (server_world (version_of history (version_at mark)) config) patterns (replicate names None))
+    → AllByRecursion (IsRead history mark config) (plan (server_world block (version_of history (version_at mark)) config) patterns (replicate names None))
 
 -- the base is answered with the first page of all triples, which is read
 abbrev pub BasesAreRead : Type 0

@@ -1,3 +1,4 @@
 pub mod Fitting
 pub mod Servers
 pub mod JointWorlds
+pub mod JointFitting

@@ -15,6 +15,7 @@
 #![tactic(auto)]
 
 ghost use Rattle.plan_laws.specs.Fitting.{PlansAreRead, BasesAreRead, StartsAreRead};
+ghost use Rattle.plan_laws.specs.JointFitting.{JointPlansAreRead};
 ghost use Rattle.plan_laws.specs.JointWorlds.{WorldsAreJoined};
 ghost use Rattle.plan_laws.specs.Servers.{ServersAreWorlds, ServersHaveForms, ServersPagesAreTrue};
 
@@ -28,7 +29,8 @@ use template_fill::{
 /// Over data whose terms have canonical texts of at most 262144 bytes, and for patterns whose fixed
 /// terms have texts of at most 262204 bytes, a server answers each address of a plan with the status
 /// 200, and the body is read as a page of that address (`plan`): the addresses that stand in its
-/// metadata are short enough. So it does for its own base (`base`), and for each other address of its
+/// metadata are short enough. It holds row by row and in blocks of at most 64 rows, whether the server reads
+/// the rows of an address or passes them over. So it does for its own base (`base`), and for each other address of its
 /// authority that it answers so at all (`start`). The number of triples has at most 19 digits, and the
 /// base and the start at most 65536 bytes.
 pub fn plans_are_read()
@@ -44,8 +46,22 @@ pub fn plans_are_read()
     versions_are_valid();
 }
 
-/// A server of fragments is a world: the data of a version of its history, their fragments in pages of its size, and the
-/// addresses of these. The form that its pages tell gives the addresses of the first pages, and a page that is read from
+/// Over several servers within the same limits, each address of the plan of all of them together has the authority of the base of
+/// one of them, which answers it with the status 200 and a body that is read as a page of that address.
+pub fn joint_plans_are_read()
+    ensures { JointPlansAreRead }
+{
+    controls_read_back();
+    askable_slots_are_kept();
+    explicit_forms_are_short();
+    pages_are_answered();
+    pages_share_authority();
+    versions_are_valid();
+}
+
+/// A server of fragments is a world: the data of a version of its history, what it gives of them in pages of its size, and the
+/// addresses of these. One that reads the rows of an address gives of a fragment what matches one of them; one that passes them
+/// over gives the fragment, and its further pages stand where those of the fragment do. The form that its pages tell gives the addresses of the first pages, and a page that is read from
 /// the body which the server's definition gives under an address is true for it.
 pub fn a_server_is_a_world()
     ensures world { ServersAreWorlds }

@@ -13,7 +13,7 @@ returns-clause-suits c = λ worlds fit.
     let j = c.in_ok-join.join in
     let most = c.most_awaited-most.result in
     let is = c.worlds_together_are_a_world.ensures worlds fit.servers.are_worlds fit.servers.some in
-    subst (λ (l : List GatheringData). SuitsAll worlds (fresh-of j l most)) (sym c.new-2.ensures.items) (fresh-suits worlds c.args.query.now j most fit.servers (c.in_ok-join.ensures.begins (joint_world worlds) is fit.forms_are))
+    subst (λ (l : List GatheringData). SuitsAll worlds (fresh-of j l most)) (sym c.new-2.ensures.items) (fresh-suits worlds c.args.query.now j most fit.servers (c.in_ok-join.ensures.begins (joint_world worlds) is fit.forms_are fit.row_by_row))
 
 pub returns-clause-owes : goal.returns-clause-owes
 returns-clause-owes c = λ worlds fit.
@@ -21,7 +21,7 @@ returns-clause-owes c = λ worlds fit.
     let j = c.in_ok-join.join in
     let most = c.most_awaited-most.result in
     let is = c.worlds_together_are_a_world.ensures worlds fit.servers.are_worlds fit.servers.some in
-    subst (λ (l : List GatheringData). BeginsWith (joint_rows worlds q) (joint_plan worlds q) (account_of worlds (fresh-of j l most))) (sym c.new-2.ensures.items) (fresh-owes worlds q j most (c.in_ok-join.ensures.begins (joint_world worlds) is fit.forms_are))
+    subst (λ (l : List GatheringData). BeginsWith (joint_rows worlds q) (joint_plan worlds q) (account_of worlds (fresh-of j l most))) (sym c.new-2.ensures.items) (fresh-owes worlds q j most (c.in_ok-join.ensures.begins (joint_world worlds) is fit.forms_are fit.row_by_row))
 
 pub returns-clause-keeps : goal.returns-clause-keeps
 returns-clause-keeps c = λ homes home.
