@@ -1,5 +1,5 @@
 // One call of a client, and what came of it.
-ghost use Rattle.std.specs.Prelude.{◌≤◌};
+ghost use Rattle.std.specs.Prelude.{◌≡◌, ◌≤◌};
 
 use bgp_core::Query;
 use control_reader::PageFault;
@@ -10,7 +10,7 @@ use std::sync::Wait;
 use std::test::Fail;
 use template_fill::WebAddress;
 use tpf_base::{Dial, Failing, MemSink};
-use tpf_client::{ClientFault, Options, Report, query};
+use tpf_client::{BlockSize, ClientFault, Options, Report, query};
 
 /// The query of a text.
 pub fn query_of(alloc: Global, text: &str) -> Result<Query, Fail> {
@@ -20,14 +20,20 @@ pub fn query_of(alloc: Global, text: &str) -> Result<Query, Fail> {
     }
 }
 
-/// One page after another is asked for over four links, none twice.
-pub const OPTIONS: Options = Options {
-    window: 4,
-    links: 4,
-    retries: 0,
-    budget: 10,
-    max_body: 16777216,
-};
+/// One page after another is asked for over four links, none twice, and one row at a time.
+pub fn default_options() -> Options
+    ensures window { result.window ≡ 4 }
+    ensures links { result.links ≡ 4 }
+{
+    Options {
+        window: 4,
+        block: BlockSize::one(),
+        links: 4,
+        retries: 0,
+        budget: 10,
+        max_body: 16777216,
+    }
+}
 
 /// The name of a fault of a page.
 fn page_name(fault: &PageFault) -> &'static str {

@@ -1,5 +1,5 @@
 // A server in one process, over a wire one of whose calls fails.
-use crate::asked::{Came, OPTIONS, ask, same};
+use crate::asked::{Came, ask, default_options, same};
 use crate::servers::server_of;
 use fragment_server::{FragmentConnection, FragmentServer};
 use loop_wire::LoopWire;
@@ -54,7 +54,10 @@ fn came_of<R: Wait>(
         seed,
         Failing::At(calls),
     );
-    let options = Options { retries, ..OPTIONS };
+    let options = Options {
+        retries,
+        ..default_options()
+    };
     ask(rt, alloc, query, &options, &mut wire, Failing::Never)
 }
 

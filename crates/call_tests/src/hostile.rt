@@ -1,7 +1,7 @@
 // Servers that say what no server should, and sinks that fail.
 ghost use Rattle.std.specs.Prelude.{◌≤◌};
 
-use crate::asked::{Came, OPTIONS, ask, same};
+use crate::asked::{Came, ask, default_options, same};
 use crate::replies::wire_of;
 use std::alloc::Global;
 use std::sync::Wait;
@@ -20,7 +20,7 @@ const ONE: &str =
 fn asked<R: Wait>(rt: &R, alloc: Global, words: &str, max_body: u64) -> Result<Came, Fail> {
     let options = Options {
         max_body,
-        ..OPTIONS
+        ..default_options()
     };
     let mut wire = wire_of(alloc, words, 0)?;
     ask(rt, alloc, ALL, &options, &mut wire, Failing::Never)
@@ -104,7 +104,10 @@ fn asked_at_once<R: Wait>(rt: &R, alloc: Global, links: u32) -> Result<Came, Fai
     requires some { 1 ≤ links }
     requires few { links ≤ 256 }
 {
-    let options = Options { links, ..OPTIONS };
+    let options = Options {
+        links,
+        ..default_options()
+    };
     let mut wire = wire_of(alloc, "f7 f0 f0 f0 f0", 5)?;
     ask(rt, alloc, FOUR, &options, &mut wire, Failing::Never)
 }
@@ -125,7 +128,7 @@ fn over_one_link_the_first_reply_is_waited_for(rt: HostRuntime) -> Result<(), Fa
 fn asked_into<R: Wait>(rt: &R, alloc: Global, most: usize) -> Result<Came, Fail> {
     let mut wire = wire_of(alloc, "f1v f1vd", 0)?;
     let fails = Failing::AfterBytes(most as u64);
-    ask(rt, alloc, ALL, &OPTIONS, &mut wire, fails)
+    ask(rt, alloc, ALL, &default_options(), &mut wire, fails)
 }
 
 /// Whether the sink is said to have failed where it did, and took so many bytes of the result.

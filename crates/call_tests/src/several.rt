@@ -1,5 +1,5 @@
 // Several servers in one process, each with data of its own.
-use crate::asked::{OPTIONS, ask_at, same};
+use crate::asked::{ask_at, default_options, same};
 use crate::servers::server_at;
 use fragment_server::FragmentConnection;
 use loop_wire::{LoopWire, Several};
@@ -32,7 +32,15 @@ fn check<R: Wait>(
     wanted: &str,
 ) -> Result<(), Fail> {
     let query = "SELECT * WHERE { ?x <http://e/k> ?y }";
-    let came = ask_at(rt, alloc, base, query, &OPTIONS, wire, Failing::Never)?;
+    let came = ask_at(
+        rt,
+        alloc,
+        base,
+        query,
+        &default_options(),
+        wire,
+        Failing::Never,
+    )?;
     same(came.told.as_str(), wanted)
 }
 

@@ -1,7 +1,7 @@
 // How many nodes of a join work at once, seen on the one link of a client.
 ghost use Rattle.std.specs.Prelude.{◌≤◌};
 
-use crate::asked::{OPTIONS, ask, same};
+use crate::asked::{ask, default_options, same};
 use crate::servers::server_of;
 use fragment_server::FragmentConnection;
 use loop_wire::LoopWire;
@@ -79,7 +79,7 @@ fn asked_over<R: Wait>(
         window,
         links: 1,
         budget: 1000,
-        ..OPTIONS
+        ..default_options()
     };
     let came = ask(rt, alloc, QUERY, &options, wire, Failing::Never)?;
     Ok((came.told, is_deep_first(wire)?))

@@ -10,7 +10,7 @@ use std::alloc::Global;
 use std::sync::Wait;
 use template_fill::WebAddress;
 use tpf_base::{Dial, Failing, MemSink};
-use tpf_client::Options;
+use tpf_client::{BlockSize, Options};
 
 /// The member that is a number, or this one where the row lacks it.
 pub fn number_or(case: &mut Case<'_>, member: &str, other: u64) -> Result<u64, CaseFault> {
@@ -51,6 +51,7 @@ fn options_of(budget: u64) -> Options
 {
     Options {
         window: 16,
+        block: BlockSize::one(),
         links: 8,
         retries: 0,
         budget,

@@ -16,8 +16,8 @@ use Rattle.tpf_client.specs.declared.fault.ClientFault.TheVariants as faults
 use Rattle.tpf_client.specs.Traffic.{Event}
 use Rattle.tpf_client.specs.Calls.{RunsPool, StartsFew, AsksFew, most_asked, IsSpent, IsReceived, IsCutShort, IsRefusedReply, IsReplyBody, IsNoPageOf, IsOtherVersion, IsCause}
 use Rattle.tpf_client.specs.Honest.{IsHonestWire}
-use Rattle.tpf_client.specs.Offers.{Publisher, Offer, server_offer}
-use Rattle.tpf_client.specs.Ends.{server_ends}
+use Rattle.tpf_client.specs.Offers.{Publisher, Offer, offer_in_blocks}
+use Rattle.tpf_client.specs.Ends.{ends_in_blocks}
 use Rattle.tpf_client.specs.Requests.{AnswersAll, DialsAtMost, GivesAtMost, RequestsAreTries}
 use Rattle.tpf_client.specs.Requested.{AnswersPlan}
 use Rattle.tpf_client.specs.Plans.{SendsAsked, StartedIn, CountsRises, PacesRequests, IsHonestCause, IsLivelyCause}
@@ -145,15 +145,15 @@ module _ (old new : List ℕ → ℕ → List ℕ → List ℕ → Type 0) (same
 
     -- ---- all of it
 
-    module _ (start : Address) (q : QueryData) {A : Type 0} (told : A → Report) (r : Result A ClientFault) (a : ActsOnWire new (server_ends q start) options (start ∷ []) (most_asked options q) r told since now) where
+    module _ (start : Address) (q : QueryData) {A : Type 0} (told : A → Report) (r : Result A ClientFault) (a : ActsOnWire new (ends_in_blocks options.block q start) options (start ∷ []) (most_asked options q) r told since now) where
       module _ (p : Publisher) (honest : IsHonestWire old p.history p.config since) where
         abbrev by : IsHonestWire new p.history p.config since
         by = honest-so p.history p.config since honest
 
       abbrev offer-of : Publisher → Offer
-      offer-of p = server_offer p q start
+      offer-of p = offer_in_blocks options.block p q start
 
-      abbrev plan-so : ActsByPlan old (server_ends q start) (StartedIn old options since now) options (reported told r) (λ report. report) since now
+      abbrev plan-so : ActsByPlan old (ends_in_blocks options.block q start) (StartedIn old options since now) options (reported told r) (λ report. report) since now
       plan-so = record {
         requests = λ p honest. if-told told r (λ report. RequestsAreTries (offer-of p) options report) (λ report. RequestsAreTries (offer-of p) options report) (λ report s. s) (a.plan.requests p (by p honest));
         planned = λ p honest. a.plan.planned p (by p honest);
@@ -173,7 +173,7 @@ module _ (old new : List ℕ → ℕ → List ℕ → List ℕ → Type 0) (same
         unprovoked = λ p honest. a.plan.unprovoked p (by p honest);
       }
 
-      pub acts-so : ActsOnWire old (server_ends q start) options (start ∷ []) (most_asked options q) (reported told r) (λ report. report) since now
+      pub acts-so : ActsOnWire old (ends_in_blocks options.block q start) options (start ∷ []) (most_asked options q) (reported told r) (λ report. report) since now
       acts-so = record {
         closed = a.closed;
         peers = a.peers;

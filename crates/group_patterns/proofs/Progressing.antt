@@ -23,8 +23,8 @@ use Rattle.tpf_client.specs.declared.fault.ClientFault.{ClientFault}
 use Rattle.tpf_client.specs.declared.fault.ClientFault.TheVariants as faults
 use Rattle.tpf_client.specs.Sources.{world_sources}
 use Rattle.tpf_client.specs.Calls.{most_asked, Returns}
-use Rattle.tpf_client.specs.Offers.{publisher, server_offer}
-use Rattle.tpf_client.specs.Ends.{server_ends}
+use Rattle.tpf_client.specs.Offers.{publisher, offer_in_blocks}
+use Rattle.tpf_client.specs.Ends.{ends_in_blocks}
 use Rattle.tpf_client.specs.Honest.{IsSolutions}
 use Rattle.tpf_client.specs.Plans.{OverHonest}
 use Rattle.tpf_client.specs.Acts.{ActsOnWire}
@@ -42,8 +42,8 @@ have-width width [] a = tt
 have-width width (row ∷ rows) a = (sym (All-head (λ (r : Places). length r ≡ width) row rows a), have-width width rows (All-tail (λ (r : Places). length r ≡ width) row rows a))
 
 module _ (allows : List ℕ → ℕ → List ℕ → List ℕ → Type 0) (options : Options) (start : Address) (names : List (List ℕ)) (ps : List Pattern) (since now : WireState) (some : 1 ≤ options.budget) (alone : OpensGiven now) {A : Type 0} (told : A → Report) (rows : A → List Places) where
-  gave : (r : Result A ClientFault) → ActsOnWire allows (server_ends (block_query names ps) start) options (start ∷ []) (most_asked options (block_query names ps)) r told since now → OverHonest allows since (λ history config. IfOk r (λ x. IsSolutions (server_offer (publisher history config) (block_query names ps) start) (told x).version (rows x)))
-      → (ran : List Event → Pooled → Type 0) → IfOk r (λ x. Returns ran world_sources (block_query names ps) (start ∷ []) (told x) (rows x)) → IfOk r (λ x. GivesRows allows options start (block_query names ps) (record { report = told x; rows = rows x }) since now)
+  gave : (r : Result A ClientFault) → ActsOnWire allows (ends_in_blocks options.block (block_query names ps) start) options (start ∷ []) (most_asked options (block_query names ps)) r told since now → OverHonest allows since (λ history config. IfOk r (λ x. IsSolutions (offer_in_blocks options.block (publisher history config) (block_query names ps) start) (told x).version (rows x)))
+      → (ran : List Event → Pooled → Type 0) → IfOk r (λ x. Returns ran (world_sources options.block) (block_query names ps) (start ∷ []) (told x) (rows x)) → IfOk r (λ x. GivesRows allows options start (block_query names ps) (record { report = told x; rows = rows x }) since now)
   gave (Ok x) acts solutions ran returns = record {
     some = some;
     acts = acts-so allows allows (same-allowed allows) options since now start (block_query names ps) told (Ok x) acts;
@@ -54,7 +54,7 @@ module _ (allows : List ℕ → ℕ → List ℕ → List ℕ → Type 0) (optio
   }
   gave (Err fault) acts solutions ran returns = tt
 
-  ended : (r : Result A ClientFault) → ActsOnWire allows (server_ends (block_query names ps) start) options (start ∷ []) (most_asked options (block_query names ps)) r told since now → (IsErrOf r faults.Sink → ⊥) → IfErr r (λ fault. CallEnds allows options start names ps fault since now)
+  ended : (r : Result A ClientFault) → ActsOnWire allows (ends_in_blocks options.block (block_query names ps) start) options (start ∷ []) (most_asked options (block_query names ps)) r told since now → (IsErrOf r faults.Sink → ⊥) → IfErr r (λ fault. CallEnds allows options start names ps fault since now)
   ended (Ok x) acts sink = tt
   ended (Err fault) acts sink = Called (record {
     some = some;
@@ -63,15 +63,15 @@ module _ (allows : List ℕ → ℕ → List ℕ → List ℕ → Type 0) (optio
     alone = alone;
   })
 
-  pub call-gave : (q : QueryData) → q ≡ block_query names ps → (r : Result A ClientFault) → ActsOnWire allows (server_ends q start) options (start ∷ []) (most_asked options q) r told since now → OverHonest allows since (λ history config. IfOk r (λ x. IsSolutions (server_offer (publisher history config) q start) (told x).version (rows x)))
-      → (ran : List Event → Pooled → Type 0) → IfOk r (λ x. Returns ran world_sources q (start ∷ []) (told x) (rows x)) → IfOk r (λ x. GivesRows allows options start (block_query names ps) (record { report = told x; rows = rows x }) since now)
+  pub call-gave : (q : QueryData) → q ≡ block_query names ps → (r : Result A ClientFault) → ActsOnWire allows (ends_in_blocks options.block q start) options (start ∷ []) (most_asked options q) r told since now → OverHonest allows since (λ history config. IfOk r (λ x. IsSolutions (offer_in_blocks options.block (publisher history config) q start) (told x).version (rows x)))
+      → (ran : List Event → Pooled → Type 0) → IfOk r (λ x. Returns ran (world_sources options.block) q (start ∷ []) (told x) (rows x)) → IfOk r (λ x. GivesRows allows options start (block_query names ps) (record { report = told x; rows = rows x }) since now)
   call-gave q e r acts solutions ran returns =
-      gave r (subst (λ (x : QueryData). ActsOnWire allows (server_ends x start) options (start ∷ []) (most_asked options x) r told since now) e acts)
-      (subst (λ (y : QueryData). OverHonest allows since (λ history config. IfOk r (λ x. IsSolutions (server_offer (publisher history config) y start) (told x).version (rows x)))) e solutions)
-      ran (subst (λ (y : QueryData). IfOk r (λ x. Returns ran world_sources y (start ∷ []) (told x) (rows x))) e returns)
+      gave r (subst (λ (x : QueryData). ActsOnWire allows (ends_in_blocks options.block x start) options (start ∷ []) (most_asked options x) r told since now) e acts)
+      (subst (λ (y : QueryData). OverHonest allows since (λ history config. IfOk r (λ x. IsSolutions (offer_in_blocks options.block (publisher history config) y start) (told x).version (rows x)))) e solutions)
+      ran (subst (λ (y : QueryData). IfOk r (λ x. Returns ran (world_sources options.block) y (start ∷ []) (told x) (rows x))) e returns)
 
-  pub call-ended : (q : QueryData) → q ≡ block_query names ps → (r : Result A ClientFault) → ActsOnWire allows (server_ends q start) options (start ∷ []) (most_asked options q) r told since now → (IsErrOf r faults.Sink → ⊥) → IfErr r (λ fault. CallEnds allows options start names ps fault since now)
-  call-ended q e r acts sink = ended r (subst (λ (x : QueryData). ActsOnWire allows (server_ends x start) options (start ∷ []) (most_asked options x) r told since now) e acts) sink
+  pub call-ended : (q : QueryData) → q ≡ block_query names ps → (r : Result A ClientFault) → ActsOnWire allows (ends_in_blocks options.block q start) options (start ∷ []) (most_asked options q) r told since now → (IsErrOf r faults.Sink → ⊥) → IfErr r (λ fault. CallEnds allows options start names ps fault since now)
+  call-ended q e r acts sink = ended r (subst (λ (x : QueryData). ActsOnWire allows (ends_in_blocks options.block x start) options (start ∷ []) (most_asked options x) r told since now) e acts) sink
 
 -- ---- faults that are not the sink's
 

@@ -14,8 +14,8 @@ use Rattle.tpf_client.specs.declared.options.Report.{Report}
 use Rattle.tpf_client.specs.declared.fault.ClientFault.{ClientFault}
 use Rattle.tpf_client.specs.declared.fault.ClientFault.TheVariants as faults
 use Rattle.tpf_client.specs.Calls.{most_asked}
-use Rattle.tpf_client.specs.Offers.{publisher, server_offer}
-use Rattle.tpf_client.specs.Ends.{server_ends}
+use Rattle.tpf_client.specs.Offers.{publisher, offer_in_blocks}
+use Rattle.tpf_client.specs.Ends.{ends_in_blocks}
 use Rattle.tpf_client.specs.Honest.{IsSolutions}
 use Rattle.tpf_client.specs.Plans.{OverHonest}
 use Rattle.tpf_client.specs.Acts.{ActsOnWire}
@@ -46,9 +46,9 @@ version_told (b ∷ bs) = b.report.version
 abbrev pub TellOneVersion : List BlockRows → Type 0
 TellOneVersion bs = AllByRecursion (λ b. b.report.version ≡ version_told bs) bs
 
--- the options with another budget
+-- the options of the call for a block, which asks row by row, with another budget
 abbrev pub with_budget : Options → ℕ → Options
-with_budget options budget = record options { budget = budget }
+with_budget options budget = record options { budget = budget; block = 1 }
 
 -- what these blocks leave of the budget
 abbrev pub left_by : Options → List BlockRows → Options
@@ -57,8 +57,8 @@ left_by options bs = with_budget options (options.budget - requests_of bs)
 -- The call for a block gave these rows: there was something of the budget, and each row has a place for every name. What it did on its wire, where no link is open but those that were given; over honest other ends the rows are the block's solutions over the version that it told.
 pub record GivesRows (allows : List ℕ → ℕ → List ℕ → List ℕ → Type 0) (options : Options) (start : Address) (q : QueryData) (b : BlockRows) (since now : WireState) : Type 0 where
   pub some : 1 ≤ options.budget
-  pub acts : ActsOnWire allows (server_ends q start) options (start ∷ []) (most_asked options q) (Ok b.report) (λ report. report) since now
-  pub solutions : OverHonest allows since (λ history config. IsSolutions (server_offer (publisher history config) q start) b.report.version b.rows)
+  pub acts : ActsOnWire allows (ends_in_blocks options.block q start) options (start ∷ []) (most_asked options q) (Ok b.report) (λ report. report) since now
+  pub solutions : OverHonest allows since (λ history config. IsSolutions (offer_in_blocks options.block (publisher history config) q start) b.report.version b.rows)
   pub width : HaveWidth (length q.names) b.rows
   pub count : b.report.rows ≡ counted_by (length b.rows) 0
   pub alone : OpensGiven now
@@ -97,7 +97,7 @@ of_block budget faults.OutOfMemory = faults.OutOfMemory
 -- The call for a block ended with a fault: there was something of the budget, and no sink. What it did on its wire, and the cause.
 pub record EndsBlock (allows : List ℕ → ℕ → List ℕ → List ℕ → Type 0) (options : Options) (start : Address) (q : QueryData) (fault : ClientFault) (since now : WireState) : Type 0 where
   pub some : 1 ≤ options.budget
-  pub acts : ActsOnWire allows (server_ends q start) options (start ∷ []) (most_asked options q) (Err fault) (λ (report : Report). report) since now
+  pub acts : ActsOnWire allows (ends_in_blocks options.block q start) options (start ∷ []) (most_asked options q) (Err fault) (λ (report : Report). report) since now
   pub no_sink : fault ≢ faults.Sink
   pub alone : OpensGiven now
 

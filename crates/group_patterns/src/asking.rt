@@ -11,6 +11,7 @@ use crate::fault::of_block;
 use bgp_core::{Pattern, Row};
 use group_query::Step;
 use group_rows::Rows;
+use join_core::BlockSize;
 use std::alloc::Global;
 use std::collections::VecDeque;
 use std::marker::Model;
@@ -118,6 +119,7 @@ impl Asking {
         }
         let own = Options {
             window: options.window,
+            block: BlockSize::one(),
             links: options.links,
             retries: options.retries,
             budget: self.left,

@@ -13,6 +13,7 @@ use Rattle.template_fill.specs.Answered.{is_answered}
 use Rattle.template_fill.specs.Templates.{Template}
 use Rattle.request_pool.specs.Pools.{Pooled, empty_pool}
 use Rattle.pool_laws.specs.Answers.{IsBodyOf}
+use Rattle.join_core.specs.Blocks.{IsBlockSize}
 use Rattle.plan_laws.specs.Servers.{server_world}
 use Rattle.tpf_client.specs.declared.options.Options.{Options}
 use Rattle.tpf_client.specs.Traffic.{Event, Came, EndsWith, IsLawful}
@@ -43,7 +44,7 @@ module _ (history : List (List Triple)) (config : Config) where
   pub answer-last : (event : Event) (events : List Event) → EndsWith event events → AllByRecursion (IsAnswer history config) events → IsAnswer history config event
   answer-last event events e h = (answers-behind e.before (event ∷ []) (subst (λ (l : List Event). AllByRecursion (IsAnswer history config) l) e.is_last h)).0
 
-module _ (laws : Laws) (allows : List ℕ → ℕ → List ℕ → List ℕ → Type 0) (history : List (List Triple)) (config : Config) (options : Options) (since now : WireState) (honest : IsHonestWire allows history config since) (lawful : IsLawful allows since) (limit : options.max_body < 2 ^ 64) (start : Address) where
+module _ (laws : Laws) (allows : List ℕ → ℕ → List ℕ → List ℕ → Type 0) (history : List (List Triple)) (config : Config) (options : Options) (since now : WireState) (honest : IsHonestWire allows history config since) (lawful : IsLawful allows since) (limit : options.max_body < 2 ^ 64) (start : Address) (block : ℕ) (sized : IsBlockSize block) where
   begins-so : Keeps allows laws.puts laws.steps laws.faults (empty_pool options.links options.retries options.budget options.max_body) since
   begins-so = record {
     given = lawful.given;
@@ -82,11 +83,11 @@ module _ (laws : Laws) (allows : List ℕ → ℕ → List ℕ → List ℕ → 
 
   -- the world of the start page
   pub world-of : (first later : List Event) (pool : Pooled) → RunsPool allows options since now (first ++ later) pool → (page : Page) (reads : ReadsStart start page first)
-      → (version : ℕ) × IsVersionOf history version × (page.version ≡ Some version) × IsSourceOf world_sources (server_world (version_of history version) config) (page.form ∷ []) (λ address. page.version) later
+      → (version : ℕ) × IsVersionOf history version × (page.version ≡ Some version) × IsSourceOf (world_sources block) (server_world block (version_of history version) config) (page.form ∷ []) (λ address. page.version) later
   world-of first later pool r page reads =
       let all = all-of (first ++ later) pool r in
       let b : IsBodyOf history config start reads.reply.body = answer-last history config (Came (start_ask start) reads.reply) first reads.last (answers-front history config first later all) in
-      start-world laws.given laws.answered laws.only laws.worlds laws.forms laws.pages laws.kept laws.addresses history config honest.is_history honest.is_config start reads.reply.body page later honest.few b reads.taken (answers-behind history config first later all)
+      start-world laws.given laws.answered laws.only laws.worlds laws.forms laws.pages laws.kept laws.addresses history config honest.is_history honest.is_config block sized start reads.reply.body page later honest.few b reads.taken (answers-behind history config first later all)
 
   pub first-version : IsVersionOf history 1
   first-version = record { low = omega arith; high = honest.is_history.low }

@@ -58,19 +58,19 @@ all-asked : (a : Account) (asked x : List Address) → IsPermutation x a.left �
 all-asked a asked x p b o e = subst (λ (l : List Address). IsPermutation x l) (append-nil asked) (subst (λ (l : List Address). IsPermutation x (asked ++ l)) e (IsPermutation-trans x a.left (asked ++ b.left) p o))
 
 -- an evaluation by its ghost members, and what it is where it begins
-pub record Begun {Source Eval : Type 0} (suits : Source → Eval → Type 0) (account : Source → Eval → Account) (keeps_to : Terms → Eval → Type 0) (keeps_small : Sizes → Eval → Type 0) (standing : Eval → Standing) (fits : Source → List Form → Type 0)
-    (rows : Source → QueryData → List Places) (plan : Source → QueryData → List Address) (q : QueryData) (starts : List Address) (forms : List Form) (window : ℕ) (e : Eval) : Type 0 where
+pub record Begun {Source Eval : Type 0} (suits : Source → Eval → Type 0) (account : Source → Eval → Account) (keeps_to : Terms → Eval → Type 0) (keeps_small : Sizes → Eval → Type 0) (standing : Eval → Standing) (fits : Source → List Form → ℕ → Type 0)
+    (rows : Source → QueryData → List Places) (plan : Source → QueryData → List Address) (q : QueryData) (starts : List Address) (forms : List Form) (window block : ℕ) (e : Eval) : Type 0 where
   pub keeps : keeps_to (record { homes = starts; width = length q.names }) e
   pub small : keeps_small (record { patterns = length q.patterns; window = window * length forms }) e
   pub none_out : (standing e).out ≡ []
-  pub is_suited : (source : Source) → fits source forms → suits source e
-  pub owes : (source : Source) → fits source forms → BeginsWith (rows source q) (plan source q) (account source e)
+  pub is_suited : (source : Source) → fits source forms block → suits source e
+  pub owes : (source : Source) → fits source forms block → BeginsWith (rows source q) (plan source q) (account source e)
 
-module _ {Source Eval : Type 0} (suits : Source → Eval → Type 0) (account : Source → Eval → Account) (keeps_to : Terms → Eval → Type 0) (keeps_small : Sizes → Eval → Type 0) (standing : Eval → Standing) (is_true : Source → Address → Page → Type 0) (fits : Source → List Form → Type 0)
-    (rows : Source → QueryData → List Places) (plan : Source → QueryData → List Address) (reported : Option ℕ → Option ℕ) (allows : List ℕ → ℕ → List ℕ → List ℕ → Type 0) (q : QueryData) (starts : List Address) (forms : List Form) (versions : Versions) (window : ℕ) (e : Eval)
-    (old new : Pooled) (wire wire' : WireState) (none : held old ≡ []) (no_fault : old.fault ≡ None) (begun : Begun suits account keeps_to keeps_small standing fits rows plan q starts forms window e) where
+module _ {Source Eval : Type 0} (suits : Source → Eval → Type 0) (account : Source → Eval → Account) (keeps_to : Terms → Eval → Type 0) (keeps_small : Sizes → Eval → Type 0) (standing : Eval → Standing) (is_true : Source → Address → Page → Type 0) (fits : Source → List Form → ℕ → Type 0)
+    (rows : Source → QueryData → List Places) (plan : Source → QueryData → List Address) (reported : Option ℕ → Option ℕ) (allows : List ℕ → ℕ → List ℕ → List ℕ → Type 0) (q : QueryData) (starts : List Address) (forms : List Form) (versions : Versions) (window block : ℕ) (e : Eval)
+    (old new : Pooled) (wire wire' : WireState) (none : held old ≡ []) (no_fault : old.fault ≡ None) (begun : Begun suits account keeps_to keeps_small standing fits rows plan q starts forms window block e) where
   abbrev from : Sources
-  from = sources_of Source fits is_true rows plan reported
+  from = sources_of Source fits is_true rows plan reported block
 
   abbrev limits : Limits
   limits = limits-of starts q (window * length forms)

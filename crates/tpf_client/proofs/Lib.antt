@@ -44,3 +44,4 @@ pub mod Starting
 pub mod Several
 pub mod Sinks
 pub mod Single
+pub mod Fitting

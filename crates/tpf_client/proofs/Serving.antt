@@ -9,6 +9,7 @@ use Rattle.template_fill.specs.Answered.{is_answered}
 use Rattle.bgp_core.specs.Queries.{QueryData}
 use Rattle.request_pool.specs.Pools.{Pooled}
 use Rattle.join_core.specs.Nodes.{plan}
+use Rattle.join_core.specs.Blocks.{IsBlockSize}
 use Rattle.plan_laws.specs.Servers.{server_world}
 use Rattle.tpf_client.specs.declared.options.Options.{Options}
 use Rattle.tpf_client.specs.Traffic.{Event, IsLawful}
@@ -19,7 +20,7 @@ use Rattle.tpf_client.specs.Told.{told_at, first_of}
 use Rattle.tpf_client.specs.Starts.{ReadsStarts, forms_of, versions_of}
 use Rattle.tpf_client.specs.Sources.{IsSourceOf, world_sources}
 use Rattle.tpf_client.specs.Calls.{RunsPool}
-use Rattle.tpf_client.specs.Offers.{Publisher, IsVersionOf, is_served, addresses_of, server_offer}
+use Rattle.tpf_client.specs.Offers.{Publisher, IsVersionOf, is_served, addresses_in_blocks, offer_in_blocks}
 use Rattle.tpf_client.specs.Honest.{Laws, IsHonestWire}
 use Rattle.tpf_client.specs.Plans.{AtEach}
 use Rattle.tpf_client.proofs.Covered.{SomeChoice, ChoiceBehind, Covered}
@@ -27,9 +28,9 @@ use Rattle.tpf_client.proofs.Homes.{one-read}
 use Rattle.tpf_client.proofs.Headline.{start-is-served, world-of, first-version}
 
 module _ (laws : Laws) (allows : List ℕ → ℕ → List ℕ → List ℕ → Type 0) (options : Options) (since now : WireState) (lawful : IsLawful allows since) (limit : options.max_body < 2 ^ 64)
-    (p : Publisher) (honest : IsHonestWire allows p.history p.config since) (start : Address) (q : QueryData) where
+    (p : Publisher) (honest : IsHonestWire allows p.history p.config since) (start : Address) (q : QueryData) (block : ℕ) (sized : IsBlockSize block) where
   abbrev whole : ℕ → List Address
-  whole version = plan (server_world (version_of p.history version) p.config) q.patterns (no_names_bound q)
+  whole version = plan (server_world block (version_of p.history version) p.config) q.patterns (no_names_bound q)
 
   abbrev rest : ℕ → List Address
   rest version = if is_served p start version then whole version else []
@@ -38,23 +39,23 @@ module _ (laws : Laws) (allows : List ℕ → ℕ → List ℕ → List ℕ → 
   unfolding is_served
   is-served version e = e
 
-  served-whole : (version : ℕ) → is_served p start version ≡ true → start ∷ whole version ≡ addresses_of p q start version
+  served-whole : (version : ℕ) → is_served p start version ≡ true → start ∷ whole version ≡ addresses_in_blocks block p q start version
   served-whole version e = ap (λ (l : List Address). start ∷ l) (sym (ap (λ (b : Bool). if b then whole version else []) e))
 
-  first-choice : SomeChoice (server_offer p q start) (start ∷ [])
+  first-choice : SomeChoice (offer_in_blocks block p q start) (start ∷ [])
   first-choice = record {
     choice = 1;
-    is_choice = first-version laws allows p.history p.config options since now honest lawful limit start;
+    is_choice = first-version laws allows p.history p.config options since now honest lawful limit start block sized;
     versions = λ address. 1;
     has = λ address own. refl;
     rest = rest 1;
     addresses = refl;
   }
 
-  choice-behind : (first later : List Event) (pool : Pooled) → RunsPool allows options since now (first ++ later) pool → AsksAt (start ∷ []) (first ++ later) → (told : List Page) (reads : ReadsStarts (start ∷ []) told first) → ChoiceBehind world_sources (server_offer p q start) q (start ∷ []) first later told reads
+  choice-behind : (first later : List Event) (pool : Pooled) → RunsPool allows options since now (first ++ later) pool → AsksAt (start ∷ []) (first ++ later) → (told : List Page) (reads : ReadsStarts (start ∷ []) told first) → ChoiceBehind (world_sources block) (offer_in_blocks block p q start) q (start ∷ []) first later told reads
   choice-behind first later pool r asks told reads =
       let o = one-read start told first reads in
-      let v = world-of laws allows p.history p.config options since now honest lawful limit start first later pool r o.page o.reads in
+      let v = world-of laws allows p.history p.config options since now honest lawful limit start block sized first later pool r o.page o.reads in
       record {
         choice = v.0;
         is_choice = v.1;
@@ -62,13 +63,13 @@ module _ (laws : Laws) (allows : List ℕ → ℕ → List ℕ → List ℕ → 
         tells = λ address. subst (λ (l : List Page). told_at (start ∷ []) (versions_of l) address ≡ Some v.0) (sym o.is) v.2;
         is_reported = subst (λ (l : List Page). first_of (versions_of l) ≡ Some v.0) (sym o.is) v.2;
         has = λ address own. refl;
-        source = server_world (version_of p.history v.0) p.config;
-        is_source = subst (λ (l : List Page). IsSourceOf world_sources (server_world (version_of p.history v.0) p.config) (forms_of l) (told_at (start ∷ []) (versions_of l)) later) (sym o.is) v.3;
+        source = server_world block (version_of p.history v.0) p.config;
+        is_source = subst (λ (l : List Page). IsSourceOf (world_sources block) (server_world block (version_of p.history v.0) p.config) (forms_of l) (told_at (start ∷ []) (versions_of l)) later) (sym o.is) v.3;
         rows = refl;
-        addresses = served-whole v.0 (is-served v.0 (start-is-served laws allows p.history p.config options since now honest lawful limit start first later pool v.0 r o.page o.reads v.2));
+        addresses = served-whole v.0 (is-served v.0 (start-is-served laws allows p.history p.config options since now honest lawful limit start block sized first later pool v.0 r o.page o.reads v.2));
       }
 
-  pub server-covered : Covered world_sources (server_offer p q start) allows options since now (start ∷ []) q
+  pub server-covered : Covered (world_sources block) (offer_in_blocks block p q start) allows options since now (start ∷ []) q
   server-covered = record {
     tells = honest.tells;
     begins = first-choice;
@@ -80,5 +81,5 @@ module _ (laws : Laws) (allows : List ℕ → ℕ → List ℕ → List ℕ → 
 
 -- ---- what holds of the one server holds at each address of each server that stands there
 
-pub at-server : (p : Publisher) (q : QueryData) (start : Address) (holds : Publisher → Address → Type 0) (address : Address) → holds p address → AtEach (server_offer p q start) holds address
-at-server p q start holds address h = λ server stands. subst (λ (s : Publisher). holds s address) (sym stands) h
+pub at-server : (block : ℕ) (p : Publisher) (q : QueryData) (start : Address) (holds : Publisher → Address → Type 0) (address : Address) → holds p address → AtEach (offer_in_blocks block p q start) holds address
+at-server block p q start holds address h = λ server stands. subst (λ (s : Publisher). holds s address) (sym stands) h

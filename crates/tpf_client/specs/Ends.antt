@@ -7,7 +7,7 @@ use Rattle.template_fill.specs.Bodies.{version_of}
 use Rattle.template_fill.specs.Configurations.{IsConfig, IsHistory}
 use Rattle.template_fill.specs.Responses.{answering, IsHonestAt}
 use Rattle.bgp_core.specs.Queries.{QueryData}
-use Rattle.tpf_client.specs.Offers.{Publisher, Offer, server_offer, servers_offer}
+use Rattle.tpf_client.specs.Offers.{Publisher, Offer, offer_in_blocks, servers_offer}
 use Rattle.tpf_client.specs.Honest.{IsHonestWire}
 
 -- What a call is spoken of over: who may hold the data, what it is for a wire to have them at its other ends, and what they offer to the call.
@@ -30,9 +30,13 @@ OverLivelyEnds ends allows since holds = (holder : ends.Holder) → ends.AreHone
 abbrev pub publisher_ends : (Publisher → Offer) → Ends
 publisher_ends offer = record { Holder = Publisher; AreHonest = λ allows p wire. IsHonestWire allows p.history p.config wire; offer = offer }
 
--- one server, of which one query is asked from a start
+-- one server, of which one query is asked from a start, for at most so many rows at once
+abbrev pub ends_in_blocks : ℕ → QueryData → Address → Ends
+ends_in_blocks block q start = publisher_ends (λ p. offer_in_blocks block p q start)
+
+-- the same row by row
 abbrev pub server_ends : QueryData → Address → Ends
-server_ends q start = publisher_ends (λ p. server_offer p q start)
+server_ends = ends_in_blocks 1
 
 -- ---- several servers
 

@@ -50,21 +50,30 @@ pub record Offer : Type 1 where
 unfoldable pub is_served : Publisher → Address → ℕ → Bool
 is_served p start version = is_answered p.history (Served version) p.config start && bytes_eq (authority_of start) (authority_of p.config.base)
 
--- the addresses that a query asks for over one version of the data: the start, and, where it is served, the plan of its join
-abbrev pub addresses_of : Publisher → QueryData → Address → ℕ → List Address
-addresses_of p q start version = start ∷ (if is_served p start version then plan (server_world (version_of p.history version) p.config) q.patterns (no_names_bound q) else [])
+-- the addresses that a query asks for over one version of the data, each for at most so many rows: the start, and, where it is served, the plan of its join
+abbrev pub addresses_in_blocks : ℕ → Publisher → QueryData → Address → ℕ → List Address
+addresses_in_blocks block p q start version =
+    start ∷ (if is_served p start version then plan (server_world block (version_of p.history version) p.config) q.patterns (no_names_bound q) else [])
 
--- One server, which stands at every address. A choice is a version, which is reported.
-abbrev pub server_offer : Publisher → QueryData → Address → Offer
-server_offer p q start = record {
+-- those of a query that asks row by row
+abbrev pub addresses_of : Publisher → QueryData → Address → ℕ → List Address
+addresses_of = addresses_in_blocks 1
+
+-- One server, which stands at every address and is asked for at most so many rows at once. A choice is a version, which is reported.
+abbrev pub offer_in_blocks : ℕ → Publisher → QueryData → Address → Offer
+offer_in_blocks block p q start = record {
   Choice = ℕ;
   IsChoice = IsVersionOf p.history;
   IsReported = λ version reported. reported ≡ Some version;
   rows = λ version. solutions_of (version_of p.history version) q;
-  addresses = addresses_of p q start;
+  addresses = addresses_in_blocks block p q start;
   StandsAt = λ address server. server ≡ p;
   HasVersion = λ version address told. told ≡ version;
 }
+
+-- the same row by row
+abbrev pub server_offer : Publisher → QueryData → Address → Offer
+server_offer = offer_in_blocks 1
 
 -- ---- several servers, each of which stands at the authority of the start at its place
 
@@ -76,7 +85,7 @@ AreVersions publishers versions = AllZip (λ p version. IsVersionOf p.history ve
 abbrev pub worlds_of : List Publisher → List ℕ → List World
 worlds_of [] versions = []
 worlds_of (p ∷ publishers) [] = []
-worlds_of (p ∷ publishers) (version ∷ versions) = server_world (version_of p.history version) p.config ∷ worlds_of publishers versions
+worlds_of (p ∷ publishers) (version ∷ versions) = server_world 1 (version_of p.history version) p.config ∷ worlds_of publishers versions
 
 abbrev pub data_of : List Publisher → List ℕ → List (List Triple)
 data_of [] versions = []

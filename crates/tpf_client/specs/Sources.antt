@@ -21,9 +21,18 @@ pub record Sources : Type 1 where
   pub plan : Source → QueryData → List Address
   pub reported : Option ℕ → Option ℕ
 
--- the sources of an evaluation, by what it says of each
-abbrev pub sources_of : (Source : Type 0) → (Source → List Form → Type 0) → (Source → Address → Page → Type 0) → (Source → QueryData → List Places) → (Source → QueryData → List Address) → (Option ℕ → Option ℕ) → Sources
-sources_of Source fits is_true rows plan reported = record { Source = Source; Fits = fits; is_true = is_true; rows = rows; plan = plan; reported = reported }
+-- the sources of an evaluation, by what it says of each, that are asked for at most so many rows at once
+abbrev pub sources_of :
+    (Source : Type 0) → (Source → List Form → ℕ → Type 0) → (Source → Address → Page → Type 0) → (Source → QueryData → List Places)
+    → (Source → QueryData → List Address) → (Option ℕ → Option ℕ) → ℕ → Sources
+sources_of Source fits is_true rows plan reported block = record {
+  Source = Source;
+  Fits = λ source forms. fits source forms block;
+  is_true = is_true;
+  rows = rows;
+  plan = plan;
+  reported = reported;
+}
 
 -- a source of these forms, for which all pages are true that came
 pub record IsSourceOf (sources : Sources) (source : sources.Source) (forms : List Form) (versions : Versions) (events : List Event) : Type 0 where
@@ -44,6 +53,6 @@ pub record GivesSome (sources : Sources) (source : sources.Source) (q : QueryDat
 
 -- ---- one server
 
--- each the world of one server, which gives the solutions over its triples
-abbrev pub world_sources : Sources
-world_sources = sources_of World FitsWorld IsPageAt world_rows world_plan world_reported
+-- each the world of one server, which gives the solutions over its triples and is asked for at most so many rows at once
+abbrev pub world_sources : ℕ → Sources
+world_sources block = sources_of World FitsWorld IsPageAt world_rows world_plan world_reported block

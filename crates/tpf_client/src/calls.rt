@@ -2,6 +2,7 @@
 ghost use Rattle.std.specs.Prelude.{ℕ, ◌≡◌, ◌≤◌, ◌<◌, ◌⊎◌, ◌*◌, ◌^◌, [], ◌∷◌, List, length, true, IfOk, IfErr, OnOk, OnErr, IsErrOf, None};
 ghost use Rattle.std.specs.Io.KnownBytes.{Appends};
 ghost use Rattle.tpf_base.specs.Causes.{Rose, counted_by};
+ghost use Rattle.rdf_terms.specs.declared.limits.TheConstants.{MOST_ROWS};
 ghost use Rattle.result_json.specs.Results.{result_text};
 ghost use Rattle.tpf_client.specs.Rows.{begun};
 ghost use Rattle.tpf_base.specs.Links.{SameAllowed};
@@ -17,8 +18,8 @@ ghost use Rattle.tpf_client.specs.Shown.{ShowsGiven, ShowsRest};
 ghost use Rattle.tpf_client.specs.Told.{told_at, told_by};
 ghost use Rattle.tpf_client.specs.Sources.{sources_of, world_sources};
 ghost use Rattle.tpf_client.specs.WireActs.{ActsAt};
-ghost use Rattle.tpf_client.specs.Offers.{publisher, server_offer};
-ghost use Rattle.tpf_client.specs.Ends.{server_ends};
+ghost use Rattle.tpf_client.specs.Offers.{publisher, offer_in_blocks};
+ghost use Rattle.tpf_client.specs.Ends.{ends_in_blocks};
 ghost use Rattle.tpf_client.specs.Honest.{Laws, IsSolutions, WritesSolutions, WritesSolutionsFront};
 ghost use Rattle.tpf_client.specs.Requests.{TrafficLaws};
 ghost use Rattle.tpf_client.specs.Plans.{OverHonest, RisesFew, PlanFits, MayStill};
@@ -33,7 +34,7 @@ use crate::{ClientFault, Options, Report};
 use bgp_core::{Query, Row};
 use control_laws::controls_read_back;
 use control_reader::a_body_is_one_page;
-use join_core::{Evaluates, FormList, Join};
+use join_core::{BlockSize, Evaluates, FormList, Join};
 use plan_laws::a_server_is_a_world;
 use pool_laws::{
     a_step_has_a_cause, asks_are_answered, exchanges_are_counted, failures_are_ends,
@@ -56,29 +57,29 @@ fn join_pages<R: Wait, E: Evaluates + Drop, W: Dial, B, T: TakesRows<B>>(
     alloc: Global,
     query: &Query,
     forms: FormList,
-    window: u32,
+    options: &Options,
     bounds: Bounds<'_>,
     asks: &mut Asks,
     wire: &mut W,
     rows: &mut T,
     behind: &mut B,
 ) -> Result<(), ClientFault>
-    requires window { 1 ≤ window }
+    requires window { 1 ≤ options.now.window }
     requires some { 0 < length forms }
     requires home { FormsAtHome bounds.starts.now forms }
     requires none { held asks.old ≡ [] }
     requires no_fault { asks.old.fault ≡ None }
     requires suits { SuitsWire asks.old (W.state wire.old) }
-    ensures joins { OnOk result ((events : List Event) × (given : List Places) × Joins (W.allows wire.old) (sources_of E.Source E.fits E.is_true E.rows E.plan E.reported) query.now bounds.entry.starts.now forms (told_by bounds.entry) events given asks.old asks.new (W.state wire.old) (W.state wire.new)
+    ensures joins { OnOk result ((events : List Event) × (given : List Places) × Joins (W.allows wire.old) (sources_of E.Source E.fits E.is_true E.rows E.plan E.reported options.now.block) query.now bounds.entry.starts.now forms (told_by bounds.entry) events given asks.old asks.new (W.state wire.old) (W.state wire.new)
         × T.takes given rows.old rows.new behind.old behind.new) }
-    ensures some { IfErr result (λ fault. (events : List Event) × (given : List Places) × JoinsSome (W.allows wire.old) (sources_of E.Source E.fits E.is_true E.rows E.plan E.reported) query.now bounds.entry.starts.now forms (told_by bounds.entry) bounds.entry.budget fault events given asks.old asks.new (W.state wire.old) (W.state wire.new)
+    ensures some { IfErr result (λ fault. (events : List Event) × (given : List Places) × JoinsSome (W.allows wire.old) (sources_of E.Source E.fits E.is_true E.rows E.plan E.reported options.now.block) query.now bounds.entry.starts.now forms (told_by bounds.entry) bounds.entry.budget fault events given asks.old asks.new (W.state wire.old) (W.state wire.new)
         × T.takes_front given rows.old rows.new behind.old behind.new × (IsLocal fault ⊎ T.takes given rows.old rows.new behind.old behind.new)) }
-    ensures few { RanFew (W.allows wire.old) (length query.now.patterns * (window * length forms)) asks.old asks.new
+    ensures few { RanFew (W.allows wire.old) (length query.now.patterns * (options.now.window * length forms)) asks.old asks.new
         (W.state wire.old) (W.state wire.new) }
     ensures sink { LeavesSink (T.sink behind.old) (T.sink behind.new) result }
     ensures allowed { SameAllowed (W.allows wire.old) (W.allows wire.new) }
 {
-    match E::begin(alloc, query, forms, window) {
+    match E::begin(alloc, query, forms, options.window, options.block) {
         Err(_) => Err(ClientFault::OutOfMemory),
         Ok(evaluation) => {
             let mut evaluation = evaluation;
@@ -97,32 +98,32 @@ fn write_joined<'a, 'b, R: Wait, E: Evaluates + Drop, W: Dial, K: Sink>(
     query: &Query,
     forms: FormList,
     bounds: Bounds<'b>,
-    window: u32,
+    options: &Options,
     asks: &mut Asks,
     wire: &mut W,
     text: &mut ResultText<'a>,
     out: &mut K,
 ) -> Result<(), ClientFault>
-    requires window { 1 ≤ window }
+    requires window { 1 ≤ options.now.window }
     requires some { 0 < length forms }
     requires home { FormsAtHome bounds.starts.now forms }
     requires none { held asks.old ≡ [] }
     requires no_fault { asks.old.fault ≡ None }
     requires suits { SuitsWire asks.old (W.state wire.old) }
     requires fresh { text.old ≡ begun query.now }
-    ensures ok { OnOk result ((events : List Event) × (rows : List Places) × Joins (W.allows wire.old) (sources_of E.Source E.fits E.is_true E.rows E.plan E.reported) query.now bounds.entry.starts.now forms (told_by bounds.entry) events rows asks.old asks.new (W.state wire.old) (W.state wire.new)
+    ensures ok { OnOk result ((events : List Event) × (rows : List Places) × Joins (W.allows wire.old) (sources_of E.Source E.fits E.is_true E.rows E.plan E.reported options.now.block) query.now bounds.entry.starts.now forms (told_by bounds.entry) events rows asks.old asks.new (W.state wire.old) (W.state wire.new)
         × Appends (K.state out.old).taken (K.state out.new).taken (result_text query.now rows) × (text.new.count ≡ counted_by (length rows) 0)) }
-    ensures err { IfErr result (λ fault. WritesLess (W.allows wire.old) (sources_of E.Source E.fits E.is_true E.rows E.plan E.reported) query.now bounds.entry.starts.now forms (told_by bounds.entry) bounds.entry.budget fault asks.old asks.new (W.state wire.old) (W.state wire.new) (K.state out.old).taken (K.state out.new).taken) }
-    ensures shown { IfErr result (λ fault. (less : WritesLess (W.allows wire.old) (sources_of E.Source E.fits E.is_true E.rows E.plan E.reported) query.now bounds.entry.starts.now forms (told_by bounds.entry) bounds.entry.budget fault asks.old asks.new (W.state wire.old) (W.state wire.new) (K.state out.old).taken (K.state out.new).taken)
-        × ShowsRest (W.allows wire.old) (sources_of E.Source E.fits E.is_true E.rows E.plan E.reported) query.now bounds.entry.starts.now forms (told_by bounds.entry) bounds.entry.budget fault asks.old asks.new (W.state wire.old) (W.state wire.new) (K.state out.old).faults (K.state out.new).faults (K.state out.old).taken (K.state out.new).taken less) }
-    ensures few { RanFew (W.allows wire.old) (length query.now.patterns * (window * length forms)) asks.old asks.new
+    ensures err { IfErr result (λ fault. WritesLess (W.allows wire.old) (sources_of E.Source E.fits E.is_true E.rows E.plan E.reported options.now.block) query.now bounds.entry.starts.now forms (told_by bounds.entry) bounds.entry.budget fault asks.old asks.new (W.state wire.old) (W.state wire.new) (K.state out.old).taken (K.state out.new).taken) }
+    ensures shown { IfErr result (λ fault. (less : WritesLess (W.allows wire.old) (sources_of E.Source E.fits E.is_true E.rows E.plan E.reported options.now.block) query.now bounds.entry.starts.now forms (told_by bounds.entry) bounds.entry.budget fault asks.old asks.new (W.state wire.old) (W.state wire.new) (K.state out.old).taken (K.state out.new).taken)
+        × ShowsRest (W.allows wire.old) (sources_of E.Source E.fits E.is_true E.rows E.plan E.reported options.now.block) query.now bounds.entry.starts.now forms (told_by bounds.entry) bounds.entry.budget fault asks.old asks.new (W.state wire.old) (W.state wire.new) (K.state out.old).faults (K.state out.new).faults (K.state out.old).taken (K.state out.new).taken less) }
+    ensures few { RanFew (W.allows wire.old) (length query.now.patterns * (options.now.window * length forms)) asks.old asks.new
         (W.state wire.old) (W.state wire.new) }
     ensures sink { LeavesSink (K.state out.old) (K.state out.new) result }
     ensures allowed { SameAllowed (W.allows wire.old) (W.allows wire.new) }
 {
     pieces_make_the_text();
     match join_pages(
-        rt, how, alloc, query, forms, window, bounds, asks, wire, text, out,
+        rt, how, alloc, query, forms, options, bounds, asks, wire, text, out,
     ) {
         Ok(()) => match text.finish(out) {
             Ok(()) => Ok(()),
@@ -156,10 +157,10 @@ fn write_rows<R: Wait, E: Evaluates + Drop, W: Dial, K: Sink>(
     requires none { held asks.old ≡ [] }
     requires no_fault { asks.old.fault ≡ None }
     requires suits { SuitsWire asks.old (W.state wire.old) }
-    ensures ok { IfOk result (λ report. WritesRest (W.allows wire.old) (sources_of E.Source E.fits E.is_true E.rows E.plan E.reported) query.now starts.now pages.forms pages.versions.items report asks.old asks.new (W.state wire.old) (W.state wire.new) (K.state out.old).taken (K.state out.new).taken) }
-    ensures err { IfErr result (λ fault. WritesLess (W.allows wire.old) (sources_of E.Source E.fits E.is_true E.rows E.plan E.reported) query.now starts.now pages.forms (told_at starts.now pages.versions.items) options.now.budget fault asks.old asks.new (W.state wire.old) (W.state wire.new) (K.state out.old).taken (K.state out.new).taken) }
-    ensures shown { IfErr result (λ fault. (less : WritesLess (W.allows wire.old) (sources_of E.Source E.fits E.is_true E.rows E.plan E.reported) query.now starts.now pages.forms (told_at starts.now pages.versions.items) options.now.budget fault asks.old asks.new (W.state wire.old) (W.state wire.new) (K.state out.old).taken (K.state out.new).taken)
-        × ShowsRest (W.allows wire.old) (sources_of E.Source E.fits E.is_true E.rows E.plan E.reported) query.now starts.now pages.forms (told_at starts.now pages.versions.items) options.now.budget fault asks.old asks.new (W.state wire.old) (W.state wire.new) (K.state out.old).faults (K.state out.new).faults (K.state out.old).taken (K.state out.new).taken less) }
+    ensures ok { IfOk result (λ report. WritesRest (W.allows wire.old) (sources_of E.Source E.fits E.is_true E.rows E.plan E.reported options.now.block) query.now starts.now pages.forms pages.versions.items report asks.old asks.new (W.state wire.old) (W.state wire.new) (K.state out.old).taken (K.state out.new).taken) }
+    ensures err { IfErr result (λ fault. WritesLess (W.allows wire.old) (sources_of E.Source E.fits E.is_true E.rows E.plan E.reported options.now.block) query.now starts.now pages.forms (told_at starts.now pages.versions.items) options.now.budget fault asks.old asks.new (W.state wire.old) (W.state wire.new) (K.state out.old).taken (K.state out.new).taken) }
+    ensures shown { IfErr result (λ fault. (less : WritesLess (W.allows wire.old) (sources_of E.Source E.fits E.is_true E.rows E.plan E.reported options.now.block) query.now starts.now pages.forms (told_at starts.now pages.versions.items) options.now.budget fault asks.old asks.new (W.state wire.old) (W.state wire.new) (K.state out.old).taken (K.state out.new).taken)
+        × ShowsRest (W.allows wire.old) (sources_of E.Source E.fits E.is_true E.rows E.plan E.reported options.now.block) query.now starts.now pages.forms (told_at starts.now pages.versions.items) options.now.budget fault asks.old asks.new (W.state wire.old) (W.state wire.new) (K.state out.old).faults (K.state out.new).faults (K.state out.old).taken (K.state out.new).taken less) }
     ensures few { RanFew (W.allows wire.old) (length query.now.patterns * (options.now.window * length pages.forms)) asks.old asks.new
         (W.state wire.old) (W.state wire.new) }
     ensures sink { LeavesSink (K.state out.old) (K.state out.new) result }
@@ -176,17 +177,7 @@ fn write_rows<R: Wait, E: Evaluates + Drop, W: Dial, K: Sink>(
         Ok(writer) => {
             let mut text = ResultText::new(writer);
             match write_joined(
-                rt,
-                how,
-                alloc,
-                query,
-                forms,
-                bounds,
-                options.window,
-                asks,
-                wire,
-                &mut text,
-                out,
+                rt, how, alloc, query, forms, bounds, options, asks, wire, &mut text, out,
             ) {
                 Err(fault) => Err(fault),
                 Ok(()) => Ok(Report {
@@ -216,10 +207,10 @@ fn write_result<R: Wait, E: Evaluates + Drop, W: Dial, K: Sink>(
     requires none { held asks.old ≡ [] }
     requires no_fault { asks.old.fault ≡ None }
     requires suits { SuitsWire asks.old (W.state wire.old) }
-    ensures ok { IfOk result (λ report. WritesAll (Ran (W.allows wire.old) asks.old asks.new (W.state wire.old) (W.state wire.new)) (sources_of E.Source E.fits E.is_true E.rows E.plan E.reported) query.now starts.now report (K.state out.old).taken (K.state out.new).taken) }
-    ensures err { IfErr result (λ fault. WritesSome (Ran (W.allows wire.old) asks.old asks.new (W.state wire.old) (W.state wire.new)) (sources_of E.Source E.fits E.is_true E.rows E.plan E.reported) query.now starts.now options.now.budget fault (K.state out.old).taken (K.state out.new).taken) }
-    ensures shown { IfErr result (λ fault. (some : WritesSome (Ran (W.allows wire.old) asks.old asks.new (W.state wire.old) (W.state wire.new)) (sources_of E.Source E.fits E.is_true E.rows E.plan E.reported) query.now starts.now options.now.budget fault (K.state out.old).taken (K.state out.new).taken)
-        × ShowsGiven (Ran (W.allows wire.old) asks.old asks.new (W.state wire.old) (W.state wire.new)) (sources_of E.Source E.fits E.is_true E.rows E.plan E.reported) query.now starts.now options.now.budget fault (K.state out.old).faults (K.state out.new).faults (K.state out.old).taken (K.state out.new).taken some) }
+    ensures ok { IfOk result (λ report. WritesAll (Ran (W.allows wire.old) asks.old asks.new (W.state wire.old) (W.state wire.new)) (sources_of E.Source E.fits E.is_true E.rows E.plan E.reported options.now.block) query.now starts.now report (K.state out.old).taken (K.state out.new).taken) }
+    ensures err { IfErr result (λ fault. WritesSome (Ran (W.allows wire.old) asks.old asks.new (W.state wire.old) (W.state wire.new)) (sources_of E.Source E.fits E.is_true E.rows E.plan E.reported options.now.block) query.now starts.now options.now.budget fault (K.state out.old).taken (K.state out.new).taken) }
+    ensures shown { IfErr result (λ fault. (some : WritesSome (Ran (W.allows wire.old) asks.old asks.new (W.state wire.old) (W.state wire.new)) (sources_of E.Source E.fits E.is_true E.rows E.plan E.reported options.now.block) query.now starts.now options.now.budget fault (K.state out.old).taken (K.state out.new).taken)
+        × ShowsGiven (Ran (W.allows wire.old) asks.old asks.new (W.state wire.old) (W.state wire.new)) (sources_of E.Source E.fits E.is_true E.rows E.plan E.reported options.now.block) query.now starts.now options.now.budget fault (K.state out.old).faults (K.state out.new).faults (K.state out.old).taken (K.state out.new).taken some) }
     ensures few { RanFew (W.allows wire.old) (most_over options.now query.now (length starts.now)) asks.old asks.new
         (W.state wire.old) (W.state wire.new) }
     ensures suits { SuitsWire asks.new (W.state wire.new) }
@@ -270,6 +261,14 @@ fn is_bounded(max_body: u64)
     ensures { max_body < 2 ^ 64 }
 {}
 
+/// A block has one row at least, and no more than an address may have.
+fn is_sized(block: BlockSize)
+    ensures low { 1 ≤ block }
+    ensures high { block ≤ MOST_ROWS }
+{
+    block.get();
+}
+
 /// Asks the servers of the start pages for what a query needs, and writes the text of its result. What it asks for and the
 /// rows that it writes are those of an evaluation that begins behind the start pages, which are asked for one after another:
 /// `query` is the call over one server, by `Join`. Condition: there is a start.
@@ -293,10 +292,10 @@ pub fn evaluate_to<R: Wait, E: Evaluates + Drop, W: Dial, K: Sink>(
     requires few { options.now.links ≤ 256 }
     ensures whole { IfOk result (λ report. WritesResult query.now report.rows (K.state out.old).taken (K.state out.new).taken) }
     ensures front { OnErr result (WritesPrefix query.now (K.state out.old).taken (K.state out.new).taken) }
-    ensures ok { IfOk result (λ report. WritesAll (RunsPool (W.allows wire.old) options.now (W.state wire.old) (W.state wire.new)) (sources_of E.Source E.fits E.is_true E.rows E.plan E.reported) query.now starts.now report (K.state out.old).taken (K.state out.new).taken) }
-    ensures err { IfErr result (λ fault. WritesSome (RunsPool (W.allows wire.old) options.now (W.state wire.old) (W.state wire.new)) (sources_of E.Source E.fits E.is_true E.rows E.plan E.reported) query.now starts.now options.now.budget fault (K.state out.old).taken (K.state out.new).taken) }
-    ensures shown { IfErr result (λ fault. (some : WritesSome (RunsPool (W.allows wire.old) options.now (W.state wire.old) (W.state wire.new)) (sources_of E.Source E.fits E.is_true E.rows E.plan E.reported) query.now starts.now options.now.budget fault (K.state out.old).taken (K.state out.new).taken)
-        × ShowsGiven (RunsPool (W.allows wire.old) options.now (W.state wire.old) (W.state wire.new)) (sources_of E.Source E.fits E.is_true E.rows E.plan E.reported) query.now starts.now options.now.budget fault (K.state out.old).faults (K.state out.new).faults (K.state out.old).taken (K.state out.new).taken some) }
+    ensures ok { IfOk result (λ report. WritesAll (RunsPool (W.allows wire.old) options.now (W.state wire.old) (W.state wire.new)) (sources_of E.Source E.fits E.is_true E.rows E.plan E.reported options.now.block) query.now starts.now report (K.state out.old).taken (K.state out.new).taken) }
+    ensures err { IfErr result (λ fault. WritesSome (RunsPool (W.allows wire.old) options.now (W.state wire.old) (W.state wire.new)) (sources_of E.Source E.fits E.is_true E.rows E.plan E.reported options.now.block) query.now starts.now options.now.budget fault (K.state out.old).taken (K.state out.new).taken) }
+    ensures shown { IfErr result (λ fault. (some : WritesSome (RunsPool (W.allows wire.old) options.now (W.state wire.old) (W.state wire.new)) (sources_of E.Source E.fits E.is_true E.rows E.plan E.reported options.now.block) query.now starts.now options.now.budget fault (K.state out.old).taken (K.state out.new).taken)
+        × ShowsGiven (RunsPool (W.allows wire.old) options.now (W.state wire.old) (W.state wire.new)) (sources_of E.Source E.fits E.is_true E.rows E.plan E.reported options.now.block) query.now starts.now options.now.budget fault (K.state out.old).faults (K.state out.new).faults (K.state out.old).taken (K.state out.new).taken some) }
     ensures acts { ActsAt (W.allows wire.old) options.now starts.now query.now result (λ report. report) (W.state wire.old) (W.state wire.new) }
     ensures sink { LeavesSink (K.state out.old) (K.state out.new) result }
     ensures allowed { SameAllowed (W.allows wire.old) (W.allows wire.new) }
@@ -345,15 +344,15 @@ pub fn query<R: Wait, W: Dial, K: Sink>(
     requires few { options.now.links ≤ 256 }
     ensures whole { IfOk result (λ report. WritesResult query.now report.rows (K.state out.old).taken (K.state out.new).taken) }
     ensures front { OnErr result (WritesPrefix query.now (K.state out.old).taken (K.state out.new).taken) }
-    ensures ok { IfOk result (λ report. WritesAll (RunsPool (W.allows wire.old) options.now (W.state wire.old) (W.state wire.new)) world_sources query.now (start.now ∷ []) report (K.state out.old).taken (K.state out.new).taken) }
-    ensures err { IfErr result (λ fault. WritesSome (RunsPool (W.allows wire.old) options.now (W.state wire.old) (W.state wire.new)) world_sources query.now (start.now ∷ []) options.now.budget fault (K.state out.old).taken (K.state out.new).taken) }
-    ensures shown { IfErr result (λ fault. (some : WritesSome (RunsPool (W.allows wire.old) options.now (W.state wire.old) (W.state wire.new)) world_sources query.now (start.now ∷ []) options.now.budget fault (K.state out.old).taken (K.state out.new).taken)
-        × ShowsGiven (RunsPool (W.allows wire.old) options.now (W.state wire.old) (W.state wire.new)) world_sources query.now (start.now ∷ []) options.now.budget fault (K.state out.old).faults (K.state out.new).faults (K.state out.old).taken (K.state out.new).taken some) }
-    ensures headline { OverHonest (W.allows wire.old) (W.state wire.old) (λ history config. IfOk result (λ report. WritesSolutions (server_offer (publisher history config) query.now start.now) query.now report.version report.rows (K.state out.old).taken (K.state out.new).taken)) }
-    ensures prefix { OverHonest (W.allows wire.old) (W.state wire.old) (λ history config. OnErr result (WritesSolutionsFront (server_offer (publisher history config) query.now start.now) query.now (K.state out.old).taken (K.state out.new).taken)) }
-    ensures acts { ActsOnWire (W.allows wire.old) (server_ends query.now start.now) options.now (start.now ∷ []) (most_asked options.now query.now) result (λ report. report) (W.state wire.old) (W.state wire.new) }
+    ensures ok { IfOk result (λ report. WritesAll (RunsPool (W.allows wire.old) options.now (W.state wire.old) (W.state wire.new)) (world_sources options.now.block) query.now (start.now ∷ []) report (K.state out.old).taken (K.state out.new).taken) }
+    ensures err { IfErr result (λ fault. WritesSome (RunsPool (W.allows wire.old) options.now (W.state wire.old) (W.state wire.new)) (world_sources options.now.block) query.now (start.now ∷ []) options.now.budget fault (K.state out.old).taken (K.state out.new).taken) }
+    ensures shown { IfErr result (λ fault. (some : WritesSome (RunsPool (W.allows wire.old) options.now (W.state wire.old) (W.state wire.new)) (world_sources options.now.block) query.now (start.now ∷ []) options.now.budget fault (K.state out.old).taken (K.state out.new).taken)
+        × ShowsGiven (RunsPool (W.allows wire.old) options.now (W.state wire.old) (W.state wire.new)) (world_sources options.now.block) query.now (start.now ∷ []) options.now.budget fault (K.state out.old).faults (K.state out.new).faults (K.state out.old).taken (K.state out.new).taken some) }
+    ensures headline { OverHonest (W.allows wire.old) (W.state wire.old) (λ history config. IfOk result (λ report. WritesSolutions (offer_in_blocks options.now.block (publisher history config) query.now start.now) query.now report.version report.rows (K.state out.old).taken (K.state out.new).taken)) }
+    ensures prefix { OverHonest (W.allows wire.old) (W.state wire.old) (λ history config. OnErr result (WritesSolutionsFront (offer_in_blocks options.now.block (publisher history config) query.now start.now) query.now (K.state out.old).taken (K.state out.new).taken)) }
+    ensures acts { ActsOnWire (W.allows wire.old) (ends_in_blocks options.now.block query.now start.now) options.now (start.now ∷ []) (most_asked options.now query.now) result (λ report. report) (W.state wire.old) (W.state wire.new) }
     ensures complete { OverHonest (W.allows wire.old) (W.state wire.old) (λ history config. (W.state wire.old).nature.lively ≡ true → (rise : ℕ) → RisesFew options.now rise (W.state wire.old) (W.state wire.new)
-        → PlanFits (server_offer (publisher history config) query.now start.now) options.now rise → (Rose (K.state out.old).faults (K.state out.new).faults → ⊥) → IfErr result (MayStill (server_offer (publisher history config) query.now start.now))) }
+        → PlanFits (offer_in_blocks options.now.block (publisher history config) query.now start.now) options.now rise → (Rose (K.state out.old).faults (K.state out.new).faults → ⊥) → IfErr result (MayStill (offer_in_blocks options.now.block (publisher history config) query.now start.now))) }
     ensures sink { LeavesSink (K.state out.old) (K.state out.new) result }
     ensures allowed { SameAllowed (W.allows wire.old) (W.allows wire.new) }
 {
@@ -361,6 +360,7 @@ pub fn query<R: Wait, W: Dial, K: Sink>(
     solutions_rest_on_laws();
     traffic_rests_on_laws(wire);
     is_bounded(options.max_body);
+    is_sized(options.block);
     evaluate_to(
         rt,
         PhantomData::<Join>,
@@ -392,8 +392,8 @@ fn gather_rows<R: Wait, E: Evaluates + Drop, W: Dial>(
     requires none { held asks.old ≡ [] }
     requires no_fault { asks.old.fault ≡ None }
     requires suits { SuitsWire asks.old (W.state wire.old) }
-    ensures ok { IfOk result (λ r. GathersRest (W.allows wire.old) (sources_of E.Source E.fits E.is_true E.rows E.plan E.reported) query.now starts.now pages.forms pages.versions.items r.1 r.0.items asks.old asks.new (W.state wire.old) (W.state wire.new)) }
-    ensures err { IfErr result (λ fault. WritesLess (W.allows wire.old) (sources_of E.Source E.fits E.is_true E.rows E.plan E.reported) query.now starts.now pages.forms (told_at starts.now pages.versions.items) options.now.budget fault asks.old asks.new (W.state wire.old) (W.state wire.new) None None) }
+    ensures ok { IfOk result (λ r. GathersRest (W.allows wire.old) (sources_of E.Source E.fits E.is_true E.rows E.plan E.reported options.now.block) query.now starts.now pages.forms pages.versions.items r.1 r.0.items asks.old asks.new (W.state wire.old) (W.state wire.new)) }
+    ensures err { IfErr result (λ fault. WritesLess (W.allows wire.old) (sources_of E.Source E.fits E.is_true E.rows E.plan E.reported options.now.block) query.now starts.now pages.forms (told_at starts.now pages.versions.items) options.now.budget fault asks.old asks.new (W.state wire.old) (W.state wire.new) None None) }
     ensures few { RanFew (W.allows wire.old) (length query.now.patterns * (options.now.window * length pages.forms)) asks.old asks.new
         (W.state wire.old) (W.state wire.new) }
     ensures sink { IsErrOf result ClientFault.Sink → ⊥ }
@@ -412,7 +412,7 @@ fn gather_rows<R: Wait, E: Evaluates + Drop, W: Dial>(
         alloc,
         query,
         forms,
-        options.window,
+        options,
         bounds,
         asks,
         wire,
@@ -448,8 +448,8 @@ fn gather<R: Wait, E: Evaluates + Drop, W: Dial>(
     requires none { held asks.old ≡ [] }
     requires no_fault { asks.old.fault ≡ None }
     requires suits { SuitsWire asks.old (W.state wire.old) }
-    ensures ok { IfOk result (λ r. Returns (Ran (W.allows wire.old) asks.old asks.new (W.state wire.old) (W.state wire.new)) (sources_of E.Source E.fits E.is_true E.rows E.plan E.reported) query.now starts.now r.1 r.0.items) }
-    ensures err { IfErr result (λ fault. WritesSome (Ran (W.allows wire.old) asks.old asks.new (W.state wire.old) (W.state wire.new)) (sources_of E.Source E.fits E.is_true E.rows E.plan E.reported) query.now starts.now options.now.budget fault None None) }
+    ensures ok { IfOk result (λ r. Returns (Ran (W.allows wire.old) asks.old asks.new (W.state wire.old) (W.state wire.new)) (sources_of E.Source E.fits E.is_true E.rows E.plan E.reported options.now.block) query.now starts.now r.1 r.0.items) }
+    ensures err { IfErr result (λ fault. WritesSome (Ran (W.allows wire.old) asks.old asks.new (W.state wire.old) (W.state wire.new)) (sources_of E.Source E.fits E.is_true E.rows E.plan E.reported options.now.block) query.now starts.now options.now.budget fault None None) }
     ensures few { RanFew (W.allows wire.old) (most_over options.now query.now (length starts.now)) asks.old asks.new
         (W.state wire.old) (W.state wire.new) }
     ensures suits { SuitsWire asks.new (W.state wire.new) }
@@ -478,8 +478,8 @@ pub fn evaluate_rows<R: Wait, E: Evaluates + Drop, W: Dial>(
     requires window { 1 ≤ options.now.window }
     requires some { 1 ≤ options.now.links }
     requires few { options.now.links ≤ 256 }
-    ensures ok { IfOk result (λ r. Returns (RunsPool (W.allows wire.old) options.now (W.state wire.old) (W.state wire.new)) (sources_of E.Source E.fits E.is_true E.rows E.plan E.reported) query.now starts.now r.1 r.0.items) }
-    ensures err { IfErr result (λ fault. WritesSome (RunsPool (W.allows wire.old) options.now (W.state wire.old) (W.state wire.new)) (sources_of E.Source E.fits E.is_true E.rows E.plan E.reported) query.now starts.now options.now.budget fault None None) }
+    ensures ok { IfOk result (λ r. Returns (RunsPool (W.allows wire.old) options.now (W.state wire.old) (W.state wire.new)) (sources_of E.Source E.fits E.is_true E.rows E.plan E.reported options.now.block) query.now starts.now r.1 r.0.items) }
+    ensures err { IfErr result (λ fault. WritesSome (RunsPool (W.allows wire.old) options.now (W.state wire.old) (W.state wire.new)) (sources_of E.Source E.fits E.is_true E.rows E.plan E.reported options.now.block) query.now starts.now options.now.budget fault None None) }
     ensures acts { ActsAt (W.allows wire.old) options.now starts.now query.now result (λ r. r.1) (W.state wire.old) (W.state wire.new) }
     ensures sink { IsErrOf result ClientFault.Sink → ⊥ }
     ensures allowed { SameAllowed (W.allows wire.old) (W.allows wire.new) }
@@ -507,12 +507,12 @@ pub fn collect<R: Wait, W: Dial>(
     requires window { 1 ≤ options.now.window }
     requires some { 1 ≤ options.now.links }
     requires few { options.now.links ≤ 256 }
-    ensures ok { IfOk result (λ r. Returns (RunsPool (W.allows wire.old) options.now (W.state wire.old) (W.state wire.new)) world_sources query.now (start.now ∷ []) r.1 r.0.items) }
-    ensures err { IfErr result (λ fault. WritesSome (RunsPool (W.allows wire.old) options.now (W.state wire.old) (W.state wire.new)) world_sources query.now (start.now ∷ []) options.now.budget fault None None) }
-    ensures headline { OverHonest (W.allows wire.old) (W.state wire.old) (λ history config. IfOk result (λ r. IsSolutions (server_offer (publisher history config) query.now start.now) r.1.version r.0.items)) }
-    ensures acts { ActsOnWire (W.allows wire.old) (server_ends query.now start.now) options.now (start.now ∷ []) (most_asked options.now query.now) result (λ r. r.1) (W.state wire.old) (W.state wire.new) }
+    ensures ok { IfOk result (λ r. Returns (RunsPool (W.allows wire.old) options.now (W.state wire.old) (W.state wire.new)) (world_sources options.now.block) query.now (start.now ∷ []) r.1 r.0.items) }
+    ensures err { IfErr result (λ fault. WritesSome (RunsPool (W.allows wire.old) options.now (W.state wire.old) (W.state wire.new)) (world_sources options.now.block) query.now (start.now ∷ []) options.now.budget fault None None) }
+    ensures headline { OverHonest (W.allows wire.old) (W.state wire.old) (λ history config. IfOk result (λ r. IsSolutions (offer_in_blocks options.now.block (publisher history config) query.now start.now) r.1.version r.0.items)) }
+    ensures acts { ActsOnWire (W.allows wire.old) (ends_in_blocks options.now.block query.now start.now) options.now (start.now ∷ []) (most_asked options.now query.now) result (λ r. r.1) (W.state wire.old) (W.state wire.new) }
     ensures complete { OverHonest (W.allows wire.old) (W.state wire.old) (λ history config. (W.state wire.old).nature.lively ≡ true → (rise : ℕ) → RisesFew options.now rise (W.state wire.old) (W.state wire.new)
-        → PlanFits (server_offer (publisher history config) query.now start.now) options.now rise → IfErr result (MayStill (server_offer (publisher history config) query.now start.now))) }
+        → PlanFits (offer_in_blocks options.now.block (publisher history config) query.now start.now) options.now rise → IfErr result (MayStill (offer_in_blocks options.now.block (publisher history config) query.now start.now))) }
     ensures sink { IsErrOf result ClientFault.Sink → ⊥ }
     ensures allowed { SameAllowed (W.allows wire.old) (W.allows wire.new) }
 {
@@ -520,6 +520,7 @@ pub fn collect<R: Wait, W: Dial>(
     solutions_rest_on_laws();
     traffic_rests_on_laws(wire);
     is_bounded(options.max_body);
+    is_sized(options.block);
     evaluate_rows(
         rt,
         PhantomData::<Join>,

@@ -26,4 +26,5 @@ pub use calls::{
     collect, evaluate_rows, evaluate_to, query, solutions_rest_on_laws, traffic_rests_on_laws,
 };
 pub use fault::ClientFault;
+pub use join_core::BlockSize;
 pub use options::{Options, Report};

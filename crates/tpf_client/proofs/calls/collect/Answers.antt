@@ -6,8 +6,8 @@ use Rattle.tpf_client.specs.Calls.{RunsPool, Returns, WritesSome, most_asked}
 use Rattle.tpf_client.specs.Sources.{world_sources}
 use Rattle.tpf_client.specs.WireActs.{ActsAt}
 use Rattle.tpf_client.specs.Acts.{ActsOnWire}
-use Rattle.tpf_client.specs.Offers.{publisher, server_offer}
-use Rattle.tpf_client.specs.Ends.{server_ends}
+use Rattle.tpf_client.specs.Offers.{publisher, offer_in_blocks}
+use Rattle.tpf_client.specs.Ends.{ends_in_blocks}
 use Rattle.tpf_client.proofs.Shutting.{if-ok}
 use Rattle.tpf_client.proofs.Covered.{solutions-given}
 use Rattle.tpf_client.proofs.Completing.{completes}
@@ -17,15 +17,15 @@ use Rattle.tpf_client.proofs.calls.collect.Goals as goal
 
 -- ---- by the one start
 
-rows-given : (g : given.Over) (c : goal.After-evaluate_rows g) → IfOk c.evaluate_rows.result (λ r. Returns (RunsPool (g.W.Wire.allows c.args.wire.now) c.args.options.now (g.W.Wire.state c.args.wire.now) (g.W.Wire.state c.evaluate_rows.new.wire)) world_sources c.args.query.now (c.args.start.now ∷ []) r.1 r.0.items)
-rows-given g c = subst (λ (l : List Address). IfOk c.evaluate_rows.result (λ r. Returns (RunsPool (g.W.Wire.allows c.args.wire.now) c.args.options.now (g.W.Wire.state c.args.wire.now) (g.W.Wire.state c.evaluate_rows.new.wire)) world_sources c.args.query.now l r.1 r.0.items)) c.from_ref.ensures.value c.evaluate_rows.ensures.ok
+rows-given : (g : given.Over) (c : goal.After-evaluate_rows g) → IfOk c.evaluate_rows.result (λ r. Returns (RunsPool (g.W.Wire.allows c.args.wire.now) c.args.options.now (g.W.Wire.state c.args.wire.now) (g.W.Wire.state c.evaluate_rows.new.wire)) (world_sources c.args.options.now.block) c.args.query.now (c.args.start.now ∷ []) r.1 r.0.items)
+rows-given g c = subst (λ (l : List Address). IfOk c.evaluate_rows.result (λ r. Returns (RunsPool (g.W.Wire.allows c.args.wire.now) c.args.options.now (g.W.Wire.state c.args.wire.now) (g.W.Wire.state c.evaluate_rows.new.wire)) (world_sources c.args.options.now.block) c.args.query.now l r.1 r.0.items)) c.from_ref.ensures.value c.evaluate_rows.ensures.ok
 
-some-given : (g : given.Over) (c : goal.After-evaluate_rows g) → IfErr c.evaluate_rows.result (λ fault. WritesSome (RunsPool (g.W.Wire.allows c.args.wire.now) c.args.options.now (g.W.Wire.state c.args.wire.now) (g.W.Wire.state c.evaluate_rows.new.wire)) world_sources c.args.query.now (c.args.start.now ∷ []) c.args.options.now.budget fault None None)
-some-given g c = subst (λ (l : List Address). IfErr c.evaluate_rows.result (λ fault. WritesSome (RunsPool (g.W.Wire.allows c.args.wire.now) c.args.options.now (g.W.Wire.state c.args.wire.now) (g.W.Wire.state c.evaluate_rows.new.wire)) world_sources c.args.query.now l c.args.options.now.budget fault None None)) c.from_ref.ensures.value c.evaluate_rows.ensures.err
+some-given : (g : given.Over) (c : goal.After-evaluate_rows g) → IfErr c.evaluate_rows.result (λ fault. WritesSome (RunsPool (g.W.Wire.allows c.args.wire.now) c.args.options.now (g.W.Wire.state c.args.wire.now) (g.W.Wire.state c.evaluate_rows.new.wire)) (world_sources c.args.options.now.block) c.args.query.now (c.args.start.now ∷ []) c.args.options.now.budget fault None None)
+some-given g c = subst (λ (l : List Address). IfErr c.evaluate_rows.result (λ fault. WritesSome (RunsPool (g.W.Wire.allows c.args.wire.now) c.args.options.now (g.W.Wire.state c.args.wire.now) (g.W.Wire.state c.evaluate_rows.new.wire)) (world_sources c.args.options.now.block) c.args.query.now l c.args.options.now.budget fault None None)) c.from_ref.ensures.value c.evaluate_rows.ensures.err
 
-acts : (g : given.Over) (c : goal.After-evaluate_rows g) → ActsOnWire (g.W.Wire.allows c.args.wire.now) (server_ends c.args.query.now c.args.start.now) c.args.options.now (c.args.start.now ∷ []) (most_asked c.args.options.now c.args.query.now) c.evaluate_rows.result (λ r. r.1) (g.W.Wire.state c.args.wire.now) (g.W.Wire.state c.evaluate_rows.new.wire)
+acts : (g : given.Over) (c : goal.After-evaluate_rows g) → ActsOnWire (g.W.Wire.allows c.args.wire.now) (ends_in_blocks c.args.options.now.block c.args.query.now c.args.start.now) c.args.options.now (c.args.start.now ∷ []) (most_asked c.args.options.now c.args.query.now) c.evaluate_rows.result (λ r. r.1) (g.W.Wire.state c.args.wire.now) (g.W.Wire.state c.evaluate_rows.new.wire)
 acts g c =
-    acts-so c.solutions_rest_on_laws.ensures c.traffic_rests_on_laws.ensures (g.W.Wire.allows c.args.wire.now) c.args.options.now (g.W.Wire.state c.args.wire.now) (g.W.Wire.state c.evaluate_rows.new.wire) c.is_lawful.ensures c.is_bounded.ensures c.args.start.now c.args.query.now c.requires.some c.evaluate_rows.result (λ r. r.1) _ _ _ (rows-given g c) (some-given g c) (λ r w. (r.0.items, w))
+    acts-so c.solutions_rest_on_laws.ensures c.traffic_rests_on_laws.ensures (g.W.Wire.allows c.args.wire.now) c.args.options.now (g.W.Wire.state c.args.wire.now) (g.W.Wire.state c.evaluate_rows.new.wire) c.is_lawful.ensures c.is_bounded.ensures c.args.start.now c.args.query.now c.args.options.now.block (c.is_sized.ensures.low, c.is_sized.ensures.high) c.requires.some c.evaluate_rows.result (λ r. r.1) _ _ _ (rows-given g c) (some-given g c) (λ r w. (r.0.items, w))
     (subst (λ (l : List Address). ActsAt (g.W.Wire.allows c.args.wire.now) c.args.options.now l c.args.query.now c.evaluate_rows.result (λ r. r.1) (g.W.Wire.state c.args.wire.now) (g.W.Wire.state c.evaluate_rows.new.wire)) c.from_ref.ensures.value c.evaluate_rows.ensures.acts)
 
 -- ---- the result
@@ -39,8 +39,8 @@ returns-clause-err g c = some-given g c
 pub returns-clause-headline : goal.returns-clause-headline
 returns-clause-headline g c = λ history config honest.
     if-ok c.evaluate_rows.result _ _ (λ r w.
-    solutions-given world_sources (server_offer (publisher history config) c.args.query.now c.args.start.now) (g.W.Wire.allows c.args.wire.now) c.args.options.now (g.W.Wire.state c.args.wire.now) (g.W.Wire.state c.evaluate_rows.new.wire) (c.args.start.now ∷ []) c.args.query.now
-    (covers c.solutions_rest_on_laws.ensures c.traffic_rests_on_laws.ensures (g.W.Wire.allows c.args.wire.now) c.args.options.now (g.W.Wire.state c.args.wire.now) (g.W.Wire.state c.evaluate_rows.new.wire) c.is_lawful.ensures c.is_bounded.ensures c.args.start.now c.args.query.now (publisher history config) honest) r.1 r.0.items w) (rows-given g c)
+    solutions-given (world_sources c.args.options.now.block) (offer_in_blocks c.args.options.now.block (publisher history config) c.args.query.now c.args.start.now) (g.W.Wire.allows c.args.wire.now) c.args.options.now (g.W.Wire.state c.args.wire.now) (g.W.Wire.state c.evaluate_rows.new.wire) (c.args.start.now ∷ []) c.args.query.now
+    (covers c.solutions_rest_on_laws.ensures c.traffic_rests_on_laws.ensures (g.W.Wire.allows c.args.wire.now) c.args.options.now (g.W.Wire.state c.args.wire.now) (g.W.Wire.state c.evaluate_rows.new.wire) c.is_lawful.ensures c.is_bounded.ensures c.args.start.now c.args.query.now c.args.options.now.block (c.is_sized.ensures.low, c.is_sized.ensures.high) (publisher history config) honest) r.1 r.0.items w) (rows-given g c)
 
 -- ---- the wire
 
@@ -52,5 +52,5 @@ returns-clause-acts g c = acts g c
 
 pub returns-clause-complete : goal.returns-clause-complete
 returns-clause-complete g c = λ history config honest alive rise few fits.
-    completes (server_offer (publisher history config) c.args.query.now c.args.start.now) c.args.options.now (g.W.Wire.state c.args.wire.now) (g.W.Wire.state c.evaluate_rows.new.wire) rise few fits c.evaluate_rows.result ((acts g c).plan.honest_cause (publisher history config) honest)
+    completes (offer_in_blocks c.args.options.now.block (publisher history config) c.args.query.now c.args.start.now) c.args.options.now (g.W.Wire.state c.args.wire.now) (g.W.Wire.state c.evaluate_rows.new.wire) rise few fits c.evaluate_rows.result ((acts g c).plan.honest_cause (publisher history config) honest)
     ((acts g c).plan.lively_cause (publisher history config) honest alive) c.evaluate_rows.ensures.sink

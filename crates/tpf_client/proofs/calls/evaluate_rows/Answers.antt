@@ -45,8 +45,8 @@ returns-clause-sink g c = c.gather-ended.ensures.sink
 pub returns-clause-acts : goal.returns-clause-acts
 returns-clause-acts g c =
     acts-at c.solutions_rest_on_laws.ensures c.traffic_rests_on_laws.ensures (g.W.Wire.allows c.args.wire.now) c.args.options.now (g.W.Wire.state c.args.wire.now) (g.W.Wire.state c.close.new.wire) c.is_lawful.ensures c.args.starts.now
-    (sources_of g.E.Evaluates.Source g.E.Evaluates.fits g.E.Evaluates.is_true g.E.Evaluates.rows g.E.Evaluates.plan g.E.Evaluates.reported) c.args.query.now
+    (sources_of g.E.Evaluates.Source g.E.Evaluates.fits g.E.Evaluates.is_true g.E.Evaluates.rows g.E.Evaluates.plan g.E.Evaluates.reported c.args.options.now.block) c.args.query.now
     c.gather-ended.result (λ r. r.1) _ _ _
-    (if-ok c.gather-ended.result _ _ (λ r w. returns-so _ _ (closes g c) (sources_of g.E.Evaluates.Source g.E.Evaluates.fits g.E.Evaluates.is_true g.E.Evaluates.rows g.E.Evaluates.plan g.E.Evaluates.reported) c.args.query.now c.args.starts.now r.1 r.0.items w) c.gather-ended.ensures.ok)
-    (if-err c.gather-ended.result _ _ (λ fault w. writes-some-so _ _ (closes g c) (sources_of g.E.Evaluates.Source g.E.Evaluates.fits g.E.Evaluates.is_true g.E.Evaluates.rows g.E.Evaluates.plan g.E.Evaluates.reported) c.args.query.now c.args.starts.now c.args.options.now.budget fault _ _ w) c.gather-ended.ensures.err)
+    (if-ok c.gather-ended.result _ _ (λ r w. returns-so _ _ (closes g c) (sources_of g.E.Evaluates.Source g.E.Evaluates.fits g.E.Evaluates.is_true g.E.Evaluates.rows g.E.Evaluates.plan g.E.Evaluates.reported c.args.options.now.block) c.args.query.now c.args.starts.now r.1 r.0.items w) c.gather-ended.ensures.ok)
+    (if-err c.gather-ended.result _ _ (λ fault w. writes-some-so _ _ (closes g c) (sources_of g.E.Evaluates.Source g.E.Evaluates.fits g.E.Evaluates.is_true g.E.Evaluates.rows g.E.Evaluates.plan g.E.Evaluates.reported c.args.options.now.block) c.args.query.now c.args.starts.now c.args.options.now.budget fault _ _ w) c.gather-ended.ensures.err)
     (λ r w. (r.0.items, w)) (few g c)

@@ -55,8 +55,8 @@ returns-clause-front g c = on-err-of c.write_result-ended.result _ _ (λ fault w
 pub returns-clause-acts : goal.returns-clause-acts
 returns-clause-acts g c =
     acts-at c.solutions_rest_on_laws.ensures c.traffic_rests_on_laws.ensures (g.W.Wire.allows c.args.wire.now) c.args.options.now (g.W.Wire.state c.args.wire.now) (g.W.Wire.state c.close.new.wire) c.is_lawful.ensures c.args.starts.now
-    (sources_of g.E.Evaluates.Source g.E.Evaluates.fits g.E.Evaluates.is_true g.E.Evaluates.rows g.E.Evaluates.plan g.E.Evaluates.reported) c.args.query.now
+    (sources_of g.E.Evaluates.Source g.E.Evaluates.fits g.E.Evaluates.is_true g.E.Evaluates.rows g.E.Evaluates.plan g.E.Evaluates.reported c.args.options.now.block) c.args.query.now
     c.write_result-ended.result (λ report. report) _ _ _
-    (if-ok c.write_result-ended.result _ _ (λ report w. writes-all-so _ _ (closes g c) (sources_of g.E.Evaluates.Source g.E.Evaluates.fits g.E.Evaluates.is_true g.E.Evaluates.rows g.E.Evaluates.plan g.E.Evaluates.reported) c.args.query.now c.args.starts.now report _ _ w) c.write_result-ended.ensures.ok)
-    (if-err c.write_result-ended.result _ _ (λ fault w. writes-some-so _ _ (closes g c) (sources_of g.E.Evaluates.Source g.E.Evaluates.fits g.E.Evaluates.is_true g.E.Evaluates.rows g.E.Evaluates.plan g.E.Evaluates.reported) c.args.query.now c.args.starts.now c.args.options.now.budget fault _ _ w) c.write_result-ended.ensures.err)
+    (if-ok c.write_result-ended.result _ _ (λ report w. writes-all-so _ _ (closes g c) (sources_of g.E.Evaluates.Source g.E.Evaluates.fits g.E.Evaluates.is_true g.E.Evaluates.rows g.E.Evaluates.plan g.E.Evaluates.reported c.args.options.now.block) c.args.query.now c.args.starts.now report _ _ w) c.write_result-ended.ensures.ok)
+    (if-err c.write_result-ended.result _ _ (λ fault w. writes-some-so _ _ (closes g c) (sources_of g.E.Evaluates.Source g.E.Evaluates.fits g.E.Evaluates.is_true g.E.Evaluates.rows g.E.Evaluates.plan g.E.Evaluates.reported c.args.options.now.block) c.args.query.now c.args.starts.now c.args.options.now.budget fault _ _ w) c.write_result-ended.ensures.err)
     (λ report w. (w.rows, w.returns)) (few g c)

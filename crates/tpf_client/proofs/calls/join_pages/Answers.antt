@@ -10,7 +10,7 @@ use Rattle.tpf_client.proofs.Written.{nothing-joined, nothing-ran}
 use Rattle.tpf_client.proofs.calls.join_pages.Given as given
 use Rattle.tpf_client.proofs.calls.join_pages.Goals as goal
 
-begins : (g : given.Over) (c : goal.After-drop-evaluation g) → Begun g.E.Evaluates.suits g.E.Evaluates.account g.E.Evaluates.keeps_to g.E.Evaluates.keeps_small g.E.Evaluates.standing g.E.Evaluates.fits g.E.Evaluates.rows g.E.Evaluates.plan c.args.query.now c.args.bounds.starts.now c.args.forms c.args.window c.in-Ok.evaluation
+begins : (g : given.Over) (c : goal.After-drop-evaluation g) → Begun g.E.Evaluates.suits g.E.Evaluates.account g.E.Evaluates.keeps_to g.E.Evaluates.keeps_small g.E.Evaluates.standing g.E.Evaluates.fits g.E.Evaluates.rows g.E.Evaluates.plan c.args.query.now c.args.bounds.starts.now c.args.forms c.args.options.now.window c.args.options.now.block c.in-Ok.evaluation
 begins g c = record {
   keeps = c.in-Ok.ensures.keeps c.args.bounds.starts.now c.requires.home;
   small = c.in-Ok.ensures.small;
@@ -21,7 +21,7 @@ begins g c = record {
 
 pub evaluate-requires-clause-meets : goal.evaluate-requires-clause-meets
 evaluate-requires-clause-meets g c =
-    let limits : Limits = limits-of c.args.bounds.starts.now c.args.query.now (c.args.window * length c.args.forms) in
+    let limits : Limits = limits-of c.args.bounds.starts.now c.args.query.now (c.args.options.now.window * length c.args.forms) in
     (limits, begins-meets limits (keeps_both g.E.Evaluates.keeps_to g.E.Evaluates.keeps_small limits c.in-Ok.evaluation) (g.E.Evaluates.standing c.in-Ok.evaluation) c.args.asks.now (c.in-Ok.ensures.keeps c.args.bounds.starts.now c.requires.home, c.in-Ok.ensures.small) c.in-Ok.ensures.stands.1 c.requires.none c.requires.no_fault)
 
 pub evaluate-requires-clause-given : goal.evaluate-requires-clause-given
@@ -33,7 +33,7 @@ returns-in-Ok-clause-joins g c =
     (λ done went. (
       went.0,
       went.1,
-      joins-of g.E.Evaluates.suits g.E.Evaluates.account g.E.Evaluates.keeps_to g.E.Evaluates.keeps_small g.E.Evaluates.standing g.E.Evaluates.is_true g.E.Evaluates.fits g.E.Evaluates.rows g.E.Evaluates.plan g.E.Evaluates.reported (g.W.Wire.allows c.args.wire.now) c.args.query.now c.args.bounds.starts.now c.args.forms (told_by c.args.bounds) c.args.window c.in-Ok.evaluation c.args.asks.now c.evaluate.new.asks (g.W.Wire.state c.args.wire.now) (g.W.Wire.state c.evaluate.new.wire)
+      joins-of g.E.Evaluates.suits g.E.Evaluates.account g.E.Evaluates.keeps_to g.E.Evaluates.keeps_small g.E.Evaluates.standing g.E.Evaluates.is_true g.E.Evaluates.fits g.E.Evaluates.rows g.E.Evaluates.plan g.E.Evaluates.reported (g.W.Wire.allows c.args.wire.now) c.args.query.now c.args.bounds.starts.now c.args.forms (told_by c.args.bounds) c.args.options.now.window c.args.options.now.block c.in-Ok.evaluation c.args.asks.now c.evaluate.new.asks (g.W.Wire.state c.args.wire.now) (g.W.Wire.state c.evaluate.new.wire)
           c.requires.none c.requires.no_fault (begins g c) g.met.E.Evaluates.done_owes_nothing g.met.E.Evaluates.done_is_quiet c.evaluate.new.evaluation went.0 went.1 done went.2,
       went.3,
     ))
@@ -44,7 +44,7 @@ returns-in-Ok-clause-some g c =
     (λ fault f. (
       f.0,
       f.1,
-      some-of g.E.Evaluates.suits g.E.Evaluates.account g.E.Evaluates.keeps_to g.E.Evaluates.keeps_small g.E.Evaluates.standing g.E.Evaluates.is_true g.E.Evaluates.fits g.E.Evaluates.rows g.E.Evaluates.plan g.E.Evaluates.reported (g.W.Wire.allows c.args.wire.now) c.args.query.now c.args.bounds.starts.now c.args.forms (told_by c.args.bounds) c.args.window c.in-Ok.evaluation c.args.asks.now c.evaluate.new.asks (g.W.Wire.state c.args.wire.now) (g.W.Wire.state c.evaluate.new.wire)
+      some-of g.E.Evaluates.suits g.E.Evaluates.account g.E.Evaluates.keeps_to g.E.Evaluates.keeps_small g.E.Evaluates.standing g.E.Evaluates.is_true g.E.Evaluates.fits g.E.Evaluates.rows g.E.Evaluates.plan g.E.Evaluates.reported (g.W.Wire.allows c.args.wire.now) c.args.query.now c.args.bounds.starts.now c.args.forms (told_by c.args.bounds) c.args.options.now.window c.args.options.now.block c.in-Ok.evaluation c.args.asks.now c.evaluate.new.asks (g.W.Wire.state c.args.wire.now) (g.W.Wire.state c.evaluate.new.wire)
           c.requires.none c.requires.no_fault (begins g c) c.args.bounds.budget fault f.0 f.1 f.2,
       f.3,
       f.4,
@@ -53,9 +53,9 @@ returns-in-Ok-clause-some g c =
 pub returns-in-Ok-clause-few : goal.returns-in-Ok-clause-few
 returns-in-Ok-clause-few g c =
     either-on c.evaluate.result _ _ _ c.evaluate.ensures.went c.evaluate.ensures.failed
-    (λ went. few-of g.E.Evaluates.suits g.E.Evaluates.account g.E.Evaluates.keeps_to g.E.Evaluates.keeps_small g.E.Evaluates.standing g.E.Evaluates.is_true g.E.Evaluates.fits g.E.Evaluates.rows g.E.Evaluates.plan g.E.Evaluates.reported (g.W.Wire.allows c.args.wire.now) c.args.query.now c.args.bounds.starts.now c.args.forms (told_by c.args.bounds) c.args.window c.in-Ok.evaluation c.args.asks.now c.evaluate.new.asks (g.W.Wire.state c.args.wire.now) (g.W.Wire.state c.evaluate.new.wire)
+    (λ went. few-of g.E.Evaluates.suits g.E.Evaluates.account g.E.Evaluates.keeps_to g.E.Evaluates.keeps_small g.E.Evaluates.standing g.E.Evaluates.is_true g.E.Evaluates.fits g.E.Evaluates.rows g.E.Evaluates.plan g.E.Evaluates.reported (g.W.Wire.allows c.args.wire.now) c.args.query.now c.args.bounds.starts.now c.args.forms (told_by c.args.bounds) c.args.options.now.window c.args.options.now.block c.in-Ok.evaluation c.args.asks.now c.evaluate.new.asks (g.W.Wire.state c.args.wire.now) (g.W.Wire.state c.evaluate.new.wire)
     c.requires.none c.requires.no_fault (begins g c) c.evaluate.new.evaluation went.0 went.1 went.2)
-    (λ fault f. few-failed g.E.Evaluates.suits g.E.Evaluates.account g.E.Evaluates.keeps_to g.E.Evaluates.keeps_small g.E.Evaluates.standing g.E.Evaluates.is_true g.E.Evaluates.fits g.E.Evaluates.rows g.E.Evaluates.plan g.E.Evaluates.reported (g.W.Wire.allows c.args.wire.now) c.args.query.now c.args.bounds.starts.now c.args.forms (told_by c.args.bounds) c.args.window c.in-Ok.evaluation c.args.asks.now c.evaluate.new.asks (g.W.Wire.state c.args.wire.now) (g.W.Wire.state c.evaluate.new.wire)
+    (λ fault f. few-failed g.E.Evaluates.suits g.E.Evaluates.account g.E.Evaluates.keeps_to g.E.Evaluates.keeps_small g.E.Evaluates.standing g.E.Evaluates.is_true g.E.Evaluates.fits g.E.Evaluates.rows g.E.Evaluates.plan g.E.Evaluates.reported (g.W.Wire.allows c.args.wire.now) c.args.query.now c.args.bounds.starts.now c.args.forms (told_by c.args.bounds) c.args.options.now.window c.args.options.now.block c.in-Ok.evaluation c.args.asks.now c.evaluate.new.asks (g.W.Wire.state c.args.wire.now) (g.W.Wire.state c.evaluate.new.wire)
     c.requires.none c.requires.no_fault (begins g c) c.args.bounds.budget fault f.0 f.1 f.2)
 
 pub returns-in-Err-clause-few : goal.returns-in-Err-clause-few

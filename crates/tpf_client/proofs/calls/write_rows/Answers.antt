@@ -33,10 +33,10 @@ pub returns-in-Err-write_joined-clause-sink : goal.returns-in-Err-write_joined-c
 returns-in-Err-write_joined-clause-sink g c = leaves-as _ _ c.in-Err-write_joined.fault c.in-Err-write_joined.ensures.sink
 
 pub returns-in-Err-write_joined-clause-err : goal.returns-in-Err-write_joined-clause-err
-returns-in-Err-write_joined-clause-err g c = subst (λ (l : List (Option ℕ)). WritesLess (g.W.Wire.allows c.args.wire.now) (sources_of g.E.Evaluates.Source g.E.Evaluates.fits g.E.Evaluates.is_true g.E.Evaluates.rows g.E.Evaluates.plan g.E.Evaluates.reported) c.args.query.now c.args.starts.now c.args.pages.forms (told_at c.args.starts.now l) c.args.options.now.budget c.in-Err-write_joined.fault c.args.asks.now c.write_joined.new.asks (g.W.Wire.state c.args.wire.now) (g.W.Wire.state c.write_joined.new.wire) (g.K.Sink.state c.args.out.now).taken (g.K.Sink.state c.write_joined.new.out).taken) c.as_slice.ensures.value c.in-Err-write_joined.ensures.err
+returns-in-Err-write_joined-clause-err g c = subst (λ (l : List (Option ℕ)). WritesLess (g.W.Wire.allows c.args.wire.now) (sources_of g.E.Evaluates.Source g.E.Evaluates.fits g.E.Evaluates.is_true g.E.Evaluates.rows g.E.Evaluates.plan g.E.Evaluates.reported c.args.options.now.block) c.args.query.now c.args.starts.now c.args.pages.forms (told_at c.args.starts.now l) c.args.options.now.budget c.in-Err-write_joined.fault c.args.asks.now c.write_joined.new.asks (g.W.Wire.state c.args.wire.now) (g.W.Wire.state c.write_joined.new.wire) (g.K.Sink.state c.args.out.now).taken (g.K.Sink.state c.write_joined.new.out).taken) c.as_slice.ensures.value c.in-Err-write_joined.ensures.err
 
 pub returns-in-Err-write_joined-clause-shown : goal.returns-in-Err-write_joined-clause-shown
-returns-in-Err-write_joined-clause-shown g c = subst (λ (l : List (Option ℕ)). (less : WritesLess (g.W.Wire.allows c.args.wire.now) (sources_of g.E.Evaluates.Source g.E.Evaluates.fits g.E.Evaluates.is_true g.E.Evaluates.rows g.E.Evaluates.plan g.E.Evaluates.reported) c.args.query.now c.args.starts.now c.args.pages.forms (told_at c.args.starts.now l) c.args.options.now.budget c.in-Err-write_joined.fault c.args.asks.now c.write_joined.new.asks (g.W.Wire.state c.args.wire.now) (g.W.Wire.state c.write_joined.new.wire) (g.K.Sink.state c.args.out.now).taken (g.K.Sink.state c.write_joined.new.out).taken) × ShowsRest (g.W.Wire.allows c.args.wire.now) (sources_of g.E.Evaluates.Source g.E.Evaluates.fits g.E.Evaluates.is_true g.E.Evaluates.rows g.E.Evaluates.plan g.E.Evaluates.reported) c.args.query.now c.args.starts.now c.args.pages.forms (told_at c.args.starts.now l) c.args.options.now.budget c.in-Err-write_joined.fault c.args.asks.now c.write_joined.new.asks (g.W.Wire.state c.args.wire.now) (g.W.Wire.state c.write_joined.new.wire) (g.K.Sink.state c.args.out.now).faults (g.K.Sink.state c.write_joined.new.out).faults (g.K.Sink.state c.args.out.now).taken (g.K.Sink.state c.write_joined.new.out).taken less) c.as_slice.ensures.value c.in-Err-write_joined.ensures.shown
+returns-in-Err-write_joined-clause-shown g c = subst (λ (l : List (Option ℕ)). (less : WritesLess (g.W.Wire.allows c.args.wire.now) (sources_of g.E.Evaluates.Source g.E.Evaluates.fits g.E.Evaluates.is_true g.E.Evaluates.rows g.E.Evaluates.plan g.E.Evaluates.reported c.args.options.now.block) c.args.query.now c.args.starts.now c.args.pages.forms (told_at c.args.starts.now l) c.args.options.now.budget c.in-Err-write_joined.fault c.args.asks.now c.write_joined.new.asks (g.W.Wire.state c.args.wire.now) (g.W.Wire.state c.write_joined.new.wire) (g.K.Sink.state c.args.out.now).taken (g.K.Sink.state c.write_joined.new.out).taken) × ShowsRest (g.W.Wire.allows c.args.wire.now) (sources_of g.E.Evaluates.Source g.E.Evaluates.fits g.E.Evaluates.is_true g.E.Evaluates.rows g.E.Evaluates.plan g.E.Evaluates.reported c.args.options.now.block) c.args.query.now c.args.starts.now c.args.pages.forms (told_at c.args.starts.now l) c.args.options.now.budget c.in-Err-write_joined.fault c.args.asks.now c.write_joined.new.asks (g.W.Wire.state c.args.wire.now) (g.W.Wire.state c.write_joined.new.wire) (g.K.Sink.state c.args.out.now).faults (g.K.Sink.state c.write_joined.new.out).faults (g.K.Sink.state c.args.out.now).taken (g.K.Sink.state c.write_joined.new.out).taken less) c.as_slice.ensures.value c.in-Err-write_joined.ensures.shown
 
 pub returns-clause-ok : goal.returns-clause-ok
 returns-clause-ok g c =
@@ -44,7 +44,7 @@ returns-clause-ok g c =
     record {
       events = j.0;
       rows = j.1;
-      joins = subst (λ (l : List (Option ℕ)). Joins (g.W.Wire.allows c.args.wire.now) (sources_of g.E.Evaluates.Source g.E.Evaluates.fits g.E.Evaluates.is_true g.E.Evaluates.rows g.E.Evaluates.plan g.E.Evaluates.reported) c.args.query.now c.args.starts.now c.args.pages.forms (told_at c.args.starts.now l) j.0 j.1 c.args.asks.now c.write_joined.new.asks (g.W.Wire.state c.args.wire.now) (g.W.Wire.state c.write_joined.new.wire)) c.as_slice.ensures.value j.2;
+      joins = subst (λ (l : List (Option ℕ)). Joins (g.W.Wire.allows c.args.wire.now) (sources_of g.E.Evaluates.Source g.E.Evaluates.fits g.E.Evaluates.is_true g.E.Evaluates.rows g.E.Evaluates.plan g.E.Evaluates.reported c.args.options.now.block) c.args.query.now c.args.starts.now c.args.pages.forms (told_at c.args.starts.now l) j.0 j.1 c.args.asks.now c.write_joined.new.asks (g.W.Wire.state c.args.wire.now) (g.W.Wire.state c.write_joined.new.wire)) c.as_slice.ensures.value j.2;
       is_version = c.report_version.ensures ∙ ap g.E.Evaluates.reported (first-at c.args.pages.versions.items c.index.result.now c.requires.told c.index.ensures);
       requests = c.started.ensures;
       count = c.count.ensures ∙ j.4;
