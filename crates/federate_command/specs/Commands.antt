@@ -1,6 +1,6 @@
 -- What a query of a file over a wire to several servers came to.
-use Rattle.std.specs.Prelude.{ℕ, ◌≡◌, ◌⊎◌, true, List, length, None, Option, Result, Ok, Err, IfOk, IfErr, OnErr}
-use Rattle.std.specs.List.{AllByRecursion}
+use Rattle.std.specs.Prelude.{ℕ, ◌≡◌, ◌⊎◌, ◌+◌, ◌≤◌, true, List, length, None, Option, Result, Ok, Err, IfOk, IfErr, OnErr}
+use Rattle.std.specs.List.{AllByRecursion, AllZip}
 use Rattle.tpf_base.specs.Addresses.{Address}
 use Rattle.tpf_base.specs.Causes.{Rose}
 use Rattle.tpf_base.specs.Links.{WireState}
@@ -15,22 +15,24 @@ use Rattle.tpf_client.specs.Calls.{WritesAll, WritesSome, RunsPool, WritesResult
 use Rattle.tpf_client.specs.Ends.{AreHonestServers, servers_ends}
 use Rattle.tpf_client.specs.Honest.{WritesSolutions, WritesSolutionsFront}
 use Rattle.tpf_client.specs.Offers.{Publisher, servers_offer}
-use Rattle.tpf_client.specs.Plans.{RisesFew, PlanFits, MayStill}
+use Rattle.tpf_client.specs.Plans.{AtEach, IsSmallByAll, RisesFew, PlanFits, MayStill}
 use Rattle.tpf_client.specs.Shown.{ShowsGiven}
 use Rattle.tpf_client.specs.Sinks.{LeavesSink}
 use Rattle.group_faults.specs.declared.fault.GroupWhy.{GroupWhy}
 use Rattle.data_files.specs.declared.fault.QueryFileFault.TheVariants as query_faults
+use Rattle.data_files.specs.declared.query.Grammar.TheVariants as grammars
 use Rattle.data_files.specs.Data.{Files, IfTold}
-use Rattle.data_files.specs.Queries.{HoldsQuery, IsOfQueryFile}
+use Rattle.data_files.specs.Queries.{IsOfQueryFile, HasQueryFault}
 use Rattle.data_files.specs.Kept.{ReadsNamed}
+use Rattle.data_files.specs.Causes.{QueryCause}
 use Rattle.query_command.specs.declared.fault.AnswerFault.{AnswerFault}
 use Rattle.query_command.specs.declared.fault.AnswerFault.TheVariants as faults
 use Rattle.query_command.specs.Answers.{IsWanting, OfQuery}
 use Rattle.query_command.specs.Files.{FailsByFile, KeepsOutput}
+use Rattle.federated_query.specs.Limits.{IsShortStart, ServesStart, first_addresses, ServersFit}
 use Rattle.federated_query.specs.Servers.{joint_sources, OverServers}
-use Rattle.federate_command.specs.Files.{HasPatternsFault, PatternsCause}
 
--- What a query over several servers promised of its wire and its output: the text of some rows was written, or a front of one; over a wire that is honest for several servers, of the solutions over the union of what they hold; what was done on the wire and why, by their plan; where that fits and the faults are few a fault is want of memory, or the data of a server changed; no version is told; and the output did not fail unless that is the fault.
+-- What a query over several servers promised of its wire and its output: the text of some rows was written, or a front of one; over a wire that is honest for several servers, of the solutions over the union of what they hold; what was done on the wire and why, by their plan; where that fits and the faults are few a fault is want of memory, or the data of a server changed, and it fits where the servers are within the limits; no version is told; and the output did not fail unless that is the fault.
 pub record Federates (allows : List ℕ → ℕ → List ℕ → List ℕ → Type 0) (q : QueryData) (starts : List Address) (options : Options) (result : Result Report ClientFault) (old new : WireState) (out out' : SinkState) : Type 0 where
   pub whole : IfOk result (λ report. WritesResult q report.rows out.taken out'.taken)
   pub front : OnErr result (WritesPrefix q out.taken out'.taken)
@@ -41,6 +43,7 @@ pub record Federates (allows : List ℕ → ℕ → List ℕ → List ℕ → Ty
   pub prefix : OverServers allows starts old (λ publishers. OnErr result (WritesSolutionsFront (servers_offer publishers q starts) q out.taken out'.taken))
   pub acts : ActsOnWire allows (servers_ends q starts) options starts (most_over options q (length starts)) result (λ report. report) old new
   pub complete : OverServers allows starts old (λ publishers. old.nature.lively ≡ true → (rise : ℕ) → RisesFew options rise old new → PlanFits (servers_offer publishers q starts) options rise → (Rose out.faults out'.faults → ⊥) → IfErr result (MayStill (servers_offer publishers q starts)))
+  pub limits : OverServers allows starts old (λ publishers. old.nature.lively ≡ true → (rise : ℕ) → RisesFew options rise old new → ServersFit publishers q starts options rise → (Rose out.faults out'.faults → ⊥) → IfErr result (MayStill (servers_offer publishers q starts)))
   pub version : IfOk result (λ report. report.version ≡ None)
   pub sink : LeavesSink out out' result
 
@@ -54,7 +57,7 @@ pub record AsksTogether (told : Option Files) (name : List ℕ) (allows : List �
 abbrev pub EndsTogether : ShelfState → ShelfState → List ℕ → (List ℕ → ℕ → List ℕ → List ℕ → Type 0) → List Address → Options → WireState → WireState → SinkState → SinkState → Result Report AnswerFault → Type 0
 EndsTogether shelf shelf' name allows starts options wire wire' out out' (Ok report) = AsksTogether shelf.told name allows starts options (Ok report) wire wire' out out'
 EndsTogether shelf shelf' name allows starts options wire wire' out out' (Err (faults.Data fault)) = ⊥
-EndsTogether shelf shelf' name allows starts options wire wire' out out' (Err (faults.Query fault)) = PatternsCause shelf shelf' name fault × (wire' ≡ wire) × (out' ≡ out)
+EndsTogether shelf shelf' name allows starts options wire wire' out out' (Err (faults.Query fault)) = QueryCause grammars.Patterns shelf shelf' name fault × (wire' ≡ wire) × (out' ≡ out)
 EndsTogether shelf shelf' name allows starts options wire wire' out out' (Err (faults.Client fault)) = AsksTogether shelf.told name allows starts options (Err fault) wire wire' out out'
 
 -- ---- what the file holds is answered by itself
@@ -75,27 +78,24 @@ IsRefusedFor at why (Err (faults.Client fault)) = ⊥
 -- Where the shelf did not fail, a query without groups is not refused, and a text that is none is refused for its first fault.
 pub record DecidesPatterns (shelf shelf' : ShelfState) (name : List ℕ) (result : Result Report AnswerFault) : Type 0 where
   pub asked : ¬ (Rose shelf.faults shelf'.faults) → OfQuery shelf.told name (λ q. IfErr result IsNoRefusal)
-  pub refused : ¬ (Rose shelf.faults shelf'.faults) → IfTold shelf.told (λ files. (at : ℕ) (why : GroupWhy) → HasPatternsFault files name at why → IsRefusedFor at why result)
+  pub refused : ¬ (Rose shelf.faults shelf'.faults) → IfTold shelf.told (λ files. (at : ℕ) (why : GroupWhy) → HasQueryFault grammars.Patterns files name at why → IsRefusedFor at why result)
 
 -- ---- completeness
 
--- there is one version of the data
-abbrev pub StandsStill : Publisher → Type 0
-StandsStill p = length p.history ≡ 1
-
--- Nothing stands in the way of a query over several servers: the other ends answer, at each start, as a server of these data does, which do not change; never 1000 waits follow one another; the faults rise at most as often as a request may be asked again; and the plan over all servers fits.
+-- Nothing stands in the way of a query over several servers: the other ends answer, at each start, as a server of these data does, which do not change and are within the limits of what is served; each serves its start; never 1000 waits follow one another; the faults rise at most as often as a request may be asked again; each body of the plan over all servers is within the limit; and the addresses and the rise are within the budget.
 pub record FitsServers (allows : List ℕ → ℕ → List ℕ → List ℕ → Type 0) (q : QueryData) (starts : List Address) (options : Options) (publishers : List Publisher) (old new : WireState) : Type 0 where
   pub honest : AreHonestServers allows starts publishers old
-  pub still : AllByRecursion StandsStill publishers
+  pub servers : AllZip ServesStart starts publishers
   pub lively : old.nature.lively ≡ true
   pub rise : ℕ
   pub rises : RisesFew options rise old new
-  pub fits : PlanFits (servers_offer publishers q starts) options rise
+  pub small : AllByRecursion (AtEach (servers_offer publishers q starts) (IsSmallByAll options.max_body)) (first_addresses publishers q starts)
+  pub within : length (first_addresses publishers q starts) + rise ≤ options.budget
 
--- where nothing stands in the way, and shelf and output did not fail, memory is wanting or the call succeeded
+-- where the texts of the starts are short, nothing stands in the way, and shelf and output did not fail, memory is wanting or the call succeeded
 abbrev pub SucceedsTogether : ShelfState → ShelfState → List ℕ → (List ℕ → ℕ → List ℕ → List ℕ → Type 0) → List Address → Options → WireState → WireState → SinkState → SinkState → Result Report AnswerFault → Type 0
 SucceedsTogether shelf shelf' name allows starts options wire wire' out out' result =
-    ¬ (Rose shelf.faults shelf'.faults) → ¬ (Rose out.faults out'.faults)
+    AllByRecursion IsShortStart starts → ¬ (Rose shelf.faults shelf'.faults) → ¬ (Rose out.faults out'.faults)
     → OfQuery shelf.told name (λ q. (publishers : List Publisher) → FitsServers allows q starts options publishers wire wire' → IfErr result IsWanting)
 
 -- ---- the command

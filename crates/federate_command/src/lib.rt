@@ -10,7 +10,6 @@
 //! ```
 #![tactic(auto)]
 
-mod reading;
 mod servers;
 
 pub use servers::query_servers;

@@ -4,10 +4,9 @@ ghost use Rattle.tpf_base.specs.Links.{SameAllowed};
 ghost use Rattle.federated_query.specs.Servers.{AreApart};
 ghost use Rattle.federate_command.specs.Commands.{ServersAsked};
 
-use crate::reading::read_patterns;
+use data_files::read_patterns;
 use federated_query::federate;
-use pattern_parser::one_query;
-use query_command::AnswerFault;
+use query_command::{AnswerFault, commands_keep_limits};
 use std::alloc::Global;
 use std::sync::Wait;
 use template_fill::WebAddress;
@@ -24,9 +23,11 @@ use tpf_client::{Options, Report};
 /// file is asked for once and no other is, and files found before are left as they were (`reads`). A faultless output does not fail
 /// (`output`).
 ///
-/// The call over the wire promises all that `federate` of `federated_query` does (`ends`). Over a wire whose other ends answer as
-/// servers do, each of one version of data and at a start of its own, where the plan fits, the faults of the wire rise at most as
-/// often as a request may be sent again, and shelf and output do not fail, it succeeds unless memory runs out (`complete`).
+/// The call over the wire promises all that `federate` of `federated_query` does (`ends`). Where the texts of the starts have at
+/// most 65536 bytes, the wire's other ends answer as servers do, each of one version of data within the limits of what is served
+/// and at a start of its own, which it answers, the bodies and the number of the requests are within the options, the faults of the
+/// wire rise at most as often as a request may be sent again, and shelf and output do not fail, it succeeds unless memory runs out
+/// (`complete`).
 pub fn query_servers<R: Wait, F: Shelf, W: Dial, K: Sink>(
     rt: &R,
     alloc: Global,
@@ -47,11 +48,12 @@ pub fn query_servers<R: Wait, F: Shelf, W: Dial, K: Sink>(
         name.now starts.now options.now result }
     ensures allowed { SameAllowed (W.allows wire.old) (W.allows wire.new) }
 {
-    one_query();
+    commands_keep_limits();
     let query = match read_patterns(alloc, shelf, name) {
         Ok(query) => query,
         Err(fault) => return Err(AnswerFault::Query(fault)),
     };
+    let _patterns = query.patterns();
     match federate(rt, alloc, &query, starts, options, wire, out) {
         Ok(report) => Ok(report),
         Err(fault) => Err(AnswerFault::Client(fault)),

@@ -1,24 +1,32 @@
 -- A call over several honest servers is covered by what they offer together.
-use Rattle.std.proofs.Common.{ℕ, suc, ◌≡◌, ◌<◌, ◌^◌, ◌++◌, Bool, true, if◌then◌else◌, List, [], ◌∷◌, map, length, Option, refl, sym, ap, ◌∙◌, arith}
-use Rattle.std.specs.List.{AllByRecursion, AllZip}
+use Rattle.std.proofs.Common.{ℕ, suc, ◌≡◌, ◌<◌, ◌^◌, ◌++◌, Bool, true, if◌then◌else◌, List, [], ◌∷◌, map, length, Option, refl, sym, ap, subst, ◌∙◌, arith, append-nil}
+use Rattle.std.specs.List.{All, AllByRecursion, AllZip, flat_map}
+use Rattle.std.proofs.lemmas.Bool.{le-leb}
+use Rattle.std.proofs.lemmas.List.Elements.{All-head}
 use Rattle.rdf_terms.specs.declared.term.Triple.{Triple}
+use Rattle.rdf_terms.specs.Selections.{Selection}
 use Rattle.tpf_base.specs.Addresses.{Address}
 use Rattle.tpf_base.specs.Links.{WireState}
+use Rattle.template_fill.specs.declared.form.Form.{Form}
 use Rattle.template_fill.specs.Bodies.{version_of}
+use Rattle.template_fill.specs.Configurations.{IsHistory, VersionsAreValid}
 use Rattle.fragment_page.specs.declared.page.Page.{Page}
 use Rattle.bgp_core.specs.Queries.{QueryData}
 use Rattle.request_pool.specs.Pools.{Pooled, Ask, empty_pool, held}
+use Rattle.join_core.specs.Blocks.{is_askable}
 use Rattle.join_core.specs.Beginnings.{no_names_bound, solutions_of}
 use Rattle.join_core.specs.Evaluations.{HasHome}
 use Rattle.join_core.specs.Nodes.{plan}
-use Rattle.join_core.specs.Worlds.{World}
-use Rattle.plan_laws.specs.JointWorlds.{union, joint_world}
+use Rattle.join_core.specs.Rounds.{RoundData, AreFirst}
+use Rattle.join_core.specs.Worlds.{World, IsWorld, IsOneServer, HasForms}
+use Rattle.plan_laws.specs.JointWorlds.{union, addresses_at, joint_world}
+use Rattle.plan_laws.proofs.JointWorlds.{one-union}
 use Rattle.joint_pages.specs.Truths.{IsPageOfAll}
 use Rattle.tpf_client.specs.declared.options.Options.{Options}
 use Rattle.tpf_client.specs.Traffic.{Event, Asked, Came, Waited, Broke, Moves, Travels, IsLawful, Comes}
 use Rattle.tpf_client.specs.Turns.{AsksAt, AreTrue, asked_in}
 use Rattle.tpf_client.specs.Told.{told_at}
-use Rattle.tpf_client.specs.Starts.{ReadsStarts, versions_of}
+use Rattle.tpf_client.specs.Starts.{ReadsStarts, forms_of, versions_of}
 use Rattle.tpf_client.specs.Calls.{RunsPool}
 use Rattle.tpf_client.specs.Offers.{Publisher, AreVersions, are_served, worlds_of, data_of, servers_offer, joint_addresses}
 use Rattle.tpf_client.specs.Ends.{AnswersAs, AreHonestServers}
@@ -30,9 +38,10 @@ use Rattle.tpf_client.proofs.Keeping.{Between, all-permuted, between-after}
 use Rattle.tpf_client.proofs.Known.{begun}
 use Rattle.tpf_client.proofs.Traveling.{one-event}
 use Rattle.federated_query.specs.Servers.{AreApart, joint_sources}
+use Rattle.federated_query.specs.Limits.{first_versions}
 use Rattle.federated_query.proofs.Standing.{servers-stand, servers-number}
 use Rattle.federated_query.proofs.Numbers.{number_at, told-number, has-number}
-use Rattle.federated_query.proofs.Together.{Together, together, front-all, behind-all}
+use Rattle.federated_query.proofs.Together.{Together, together, front-all, behind-all, some-page}
 
 -- ---- of each ask whose reply came holds what holds of those that were put
 
@@ -57,17 +66,13 @@ module _ (allows : List ℕ → ℕ → List ℕ → List ℕ → Type 0) (base 
 
 -- ---- the first versions
 
-abbrev ones : List Publisher → List ℕ
-ones [] = []
-ones (p ∷ publishers) = 1 ∷ ones publishers
-
-ones-are : (allows : List ℕ → ℕ → List ℕ → List ℕ → Type 0) (starts : List Address) (publishers : List Publisher) → AllZip (AnswersAs allows) starts publishers → AreVersions publishers (ones publishers)
+ones-are : (allows : List ℕ → ℕ → List ℕ → List ℕ → Type 0) (starts : List Address) (publishers : List Publisher) → AllZip (AnswersAs allows) starts publishers → AreVersions publishers (first_versions publishers)
 ones-are allows [] [] a = tt
 ones-are allows [] (p ∷ publishers) a = absurd a
 ones-are allows (start ∷ starts) [] a = absurd a
 ones-are allows (start ∷ starts) (p ∷ publishers) a = (record { low = omega arith; high = a.0.is_publisher.is_history.low }, ones-are allows starts publishers a.1)
 
-ones-many : (allows : List ℕ → ℕ → List ℕ → List ℕ → Type 0) (starts : List Address) (publishers : List Publisher) → AllZip (AnswersAs allows) starts publishers → length starts ≡ length (ones publishers)
+ones-many : (allows : List ℕ → ℕ → List ℕ → List ℕ → Type 0) (starts : List Address) (publishers : List Publisher) → AllZip (AnswersAs allows) starts publishers → length starts ≡ length (first_versions publishers)
 ones-many allows [] [] a = refl
 ones-many allows [] (p ∷ publishers) a = absurd a
 ones-many allows (start ∷ starts) [] a = absurd a
@@ -80,10 +85,45 @@ triples-are [] versions = refl
 triples-are (p ∷ publishers) [] = refl
 triples-are (p ∷ publishers) (version ∷ versions) = ap (λ (l : List (List Triple)). version_of p.history version ∷ l) (triples-are publishers versions)
 
+-- the data of histories
+are-histories : (allows : List ℕ → ℕ → List ℕ → List ℕ → Type 0) (starts : List Address) (publishers : List Publisher) → AllZip (AnswersAs allows) starts publishers → AllByRecursion (λ p. IsHistory p.history) publishers
+are-histories allows [] [] a = tt
+are-histories allows [] (p ∷ publishers) a = absurd a
+are-histories allows (start ∷ starts) [] a = absurd a
+are-histories allows (start ∷ starts) (p ∷ publishers) a = (a.0.is_publisher.is_history, are-histories allows starts publishers a.1)
+
+-- the data of the world of all servers are the union of theirs
+data-are : VersionsAreValid → (publishers : List Publisher) (versions : List ℕ) → AllByRecursion (λ p. IsHistory p.history) publishers → (joint_world (worlds_of publishers versions)).triples ≡ union (data_of publishers versions)
+data-are valid [] versions h = refl
+data-are valid (p ∷ publishers) [] h = refl
+data-are valid (p ∷ []) (version ∷ versions) h = sym (one-union (version_of p.history version) (valid p.history version h.0).data_set.ascending)
+data-are valid (p ∷ q ∷ publishers) (version ∷ []) h = sym (one-union (version_of p.history version) (valid p.history version h.0).data_set.ascending)
+data-are valid (p ∷ q ∷ publishers) (version ∷ other ∷ versions) h = ap union (triples-are (p ∷ q ∷ publishers) (version ∷ other ∷ versions))
+
+-- the forms give the first pages of the world of all servers
+has-forms : (worlds : List World) → All IsWorld worlds → All IsOneServer worlds → (forms : List Form) → ((s : Selection) → is_askable s ≡ true → AreFirst forms s (flat_map (addresses_at s 1) worlds)) → HasForms (joint_world worlds) forms
+has-forms [] are one forms h = record { first = λ s ask. record { addresses = h s ask; none = refl } }
+has-forms (w ∷ []) are one forms h = record {
+  first = λ s ask. record {
+    addresses = subst (λ (l : List Address). AreFirst forms s l)
+        (append-nil (addresses_at s 1 w) ∙ ap (λ (b : Bool). if b then (w.round s 1).addresses else []) (le-leb 1 (w.last s) (some-page (w.last s) ((All-head IsWorld w [] are).some s)))) (h s ask);
+    none = ap (λ (r : RoundData). r.taken) (All-head IsOneServer w [] one s 1).1;
+  };
+}
+has-forms (w ∷ v ∷ worlds) are one forms h = record { first = λ s ask. record { addresses = h s ask; none = refl } }
+
+-- which asks row by row
+by-rows : (publishers : List Publisher) (versions : List ℕ) → (joint_world (worlds_of publishers versions)).block ≡ 1
+by-rows [] versions = refl
+by-rows (p ∷ publishers) [] = refl
+by-rows (p ∷ []) (version ∷ versions) = refl
+by-rows (p ∷ q ∷ publishers) (version ∷ []) = refl
+by-rows (p ∷ q ∷ publishers) (version ∷ other ∷ versions) = refl
+
 few-less : (n m : ℕ) → 0 < n → n ≡ m → 0 < m
 few-less n m l e = omega (arith, l, e)
 
-module _ (laws : Laws) (allows : List ℕ → ℕ → List ℕ → List ℕ → Type 0) (options : Options) (since now : WireState) (lawful : IsLawful allows since) (limit : options.max_body < 2 ^ 64)
+module _ (laws : Laws) (valid : VersionsAreValid) (allows : List ℕ → ℕ → List ℕ → List ℕ → Type 0) (options : Options) (since now : WireState) (lawful : IsLawful allows since) (limit : options.max_body < 2 ^ 64)
     (publishers : List Publisher) (starts : List Address) (some : 0 < length starts) (apart : AreApart starts) (honest : AreHonestServers allows starts publishers since) (q : QueryData) where
   begins-so : Keeps allows laws.puts laws.steps laws.faults (empty_pool options.links options.retries options.budget options.max_body) since
   begins-so = record {
@@ -107,11 +147,11 @@ module _ (laws : Laws) (allows : List ℕ → ℕ → List ℕ → List ℕ → 
 
   first-choice : SomeChoice (servers_offer publishers q starts) starts
   first-choice = record {
-    choice = ones publishers;
+    choice = first_versions publishers;
     is_choice = ones-are allows starts publishers honest.servers;
-    versions = number_at starts (ones publishers);
-    has = λ address home. has-number starts (ones publishers) (ones-many allows starts publishers honest.servers) apart address home.0 home.1 home.2;
-    rest = if are_served publishers starts (ones publishers) then plan (joint_world (worlds_of publishers (ones publishers))) q.patterns (no_names_bound q) else [];
+    versions = number_at starts (first_versions publishers);
+    has = λ address home. has-number starts (first_versions publishers) (ones-many allows starts publishers honest.servers) apart address home.0 home.1 home.2;
+    rest = if are_served publishers starts (first_versions publishers) then plan (joint_world (worlds_of publishers (first_versions publishers))) q.patterns (no_names_bound q) else [];
     addresses = refl;
   }
 
@@ -146,11 +186,12 @@ module _ (laws : Laws) (allows : List ℕ → ℕ → List ℕ → List ℕ → 
         is_source = record {
           fits = record {
             servers = record { are_worlds = t.worlds; are_one = t.one; some = few-less (length starts) (length (worlds_of publishers t.versions)) some (sym t.many_worlds) };
-            forms_are = record { first = λ s ask. record { addresses = t.forms s ask; none = refl } };
+            forms_are = has-forms (worlds_of publishers t.versions) t.worlds t.one (forms_of told) t.forms;
+            row_by_row = by-rows publishers t.versions;
           };
           pages = true-all told t later (behind-all (IsAnyAnswer allows) first later any) came;
         };
-        rows = ap (λ (sets : List (List Triple)). solutions_of (union sets) q) (triples-are publishers t.versions);
+        rows = ap (λ (triples : List Triple). solutions_of triples q) (data-are valid publishers t.versions (are-histories allows starts publishers honest.servers));
         addresses = whole-plan t.versions t.served;
       }
 

@@ -3,3 +3,4 @@ pub mod Numbers
 pub mod Together
 pub mod Covering
 pub mod Tested
+pub mod Fitting

@@ -7,8 +7,7 @@ use Rattle.std.proofs.lemmas.Slice.Eq.{bytes_eq-Decides}
 use Rattle.std.proofs.lemmas.List.Elements.{All-nil, All-cons, All-head, All-tail}
 use Rattle.list_laws.proofs.Members.{head_or_tail, none_in}
 use Rattle.rdf_terms.specs.declared.term.Triple.{Triple}
-use Rattle.rdf_terms.specs.declared.slots.Slots.{Slots}
-use Rattle.rdf_terms.specs.Askable.{askable}
+use Rattle.rdf_terms.specs.Selections.{Selection}
 use Rattle.tpf_base.specs.Addresses.{Address, authority_of}
 use Rattle.tpf_base.specs.Marks.{Served, version_at}
 use Rattle.http_wire.specs.declared.message.Reply.{Reply}
@@ -22,10 +21,11 @@ use Rattle.control_reader.specs.Takes.{Takes}
 use Rattle.control_laws.specs.Law.{IsServerForm}
 use Rattle.request_pool.specs.Pools.{Ask}
 use Rattle.pool_laws.specs.Answers.{IsBodyOf}
+use Rattle.join_core.specs.Blocks.{IsBlockSize, is_askable}
 use Rattle.join_core.specs.Rounds.{RoundData, round_of_one, AreFirst}
 use Rattle.join_core.specs.Worlds.{World, IsWorld, IsOneServer, IsPageAt}
 use Rattle.plan_laws.specs.JointWorlds.{addresses_at}
-use Rattle.plan_laws.specs.Servers.{server_world}
+use Rattle.plan_laws.specs.Servers.{asked_at, server_world}
 use Rattle.joint_pages.specs.Truths.{IsPageOfAll}
 use Rattle.tpf_client.specs.Traffic.{Event, Came, EndsWith}
 use Rattle.tpf_client.specs.Told.{told_at}
@@ -65,14 +65,14 @@ one-address one other e = same (ap (λ (r : RoundData). r.addresses) e)
     same : one ∷ [] ≡ other ∷ [] → one ≡ other
     same f = cc
 
-page-authority : (base : Address) (s : Slots) (k : ℕ) (address : Address) → address ≡ address_of_page base s k → authority_of base ≡ authority_of address
+page-authority : (base : Address) (s : Selection) (k : ℕ) (address : Address) → address ≡ address_of_page base s k → authority_of base ≡ authority_of address
 unfolding address_of_page
 page-authority base s k address e = sym (ap (λ (a : Address). authority_of a) e)
 
 -- a server has nothing at an address of another authority
-elsewhere : (triples : List Triple) (config : Config) (address : Address) (page : Page) → (authority_of config.base ≡ authority_of address → ⊥) → IsPageAt (server_world triples config) address page
+elsewhere : (triples : List Triple) (config : Config) (address : Address) (page : Page) → (authority_of config.base ≡ authority_of address → ⊥) → IsPageAt (server_world 1 triples config) address page
 elsewhere triples config address page apart = record {
-  stands = λ s k valid ask at below. absurd (apart (page-authority config.base s (suc k) address (one-address address (address_of_page config.base s (suc k)) at)));
+  stands = λ s k valid ask at below. absurd (apart (page-authority config.base (asked_at config.rows (suc k) s) (suc k) address (one-address address (address_of_page config.base (asked_at config.rows (suc k) s) (suc k)) at)));
 }
 
 -- those behind a start have another authority than its addresses
@@ -89,8 +89,12 @@ skip-so : (start home : Address) (starts : List Address) (version : Option ℕ) 
 skip-so start home [] version versions address m e = absurd (none_in home m)
 skip-so start home (next ∷ starts) version versions address m e = other-so start next starts version versions address e
 
-some-page : (n : ℕ) → 0 < n → 1 ≤ n
+pub some-page : (n : ℕ) → 0 < n → 1 ≤ n
 some-page n h = omega (arith, h)
+
+-- one row at a time
+one-row : IsBlockSize 1
+one-row = (omega arith, omega arith)
 
 -- ---- the servers, start by start
 
@@ -136,7 +140,7 @@ module _ (laws : Laws) (allows : List ℕ → ℕ → List ℕ → List ℕ → 
     pub many_worlds : length (worlds_of publishers versions) ≡ length starts
     pub worlds : All IsWorld (worlds_of publishers versions)
     pub one : All IsOneServer (worlds_of publishers versions)
-    pub forms : (s : Slots) → askable s ≡ true → AreFirst (forms_of told) s (flat_map (addresses_at s 1) (worlds_of publishers versions))
+    pub forms : (s : Selection) → is_askable s ≡ true → AreFirst (forms_of told) s (flat_map (addresses_at s 1) (worlds_of publishers versions))
     pub others : (address : Address) (page : Page) → All (λ start. authority_of start ≡ authority_of address → ⊥) starts → IsPageOfAll (worlds_of publishers versions) address page
     pub pages : AreApart starts → (ask : Ask) (reply : Reply) → IsAnswerOfAny allows ask reply → (page : Page) → Takes reply.body ask.address page → (home : Address) → Contains starts home → ShareAuthority home ask.address
         → page.version ≡ told_at starts (versions_of told) ask.address → IsPageOfAll (worlds_of publishers versions) ask.address page
@@ -158,21 +162,21 @@ module _ (laws : Laws) (allows : List ℕ → ℕ → List ℕ → List ℕ → 
 
   module _ (p : Publisher) (start : Address) (page : Page) (publishers : List Publisher) (starts : List Address) (told : List Page) (a : AnswersAs allows start p) (s : ServesStart p start page) (r : Together publishers starts told) where
     abbrev own-world : World
-    own-world = server_world (version_of p.history s.version) p.config
+    own-world = server_world 1 (version_of p.history s.version) p.config
 
     abbrev worlds-behind : List World
     worlds-behind = worlds_of publishers r.versions
 
     is-world : IsWorld own-world
-    is-world = laws.worlds p.history s.version p.config a.is_publisher.is_history a.is_publisher.is_config (a.is_publisher.few s.version)
+    is-world = laws.worlds 1 p.history s.version p.config one-row.0 one-row.1 a.is_publisher.is_history a.is_publisher.is_config (a.is_publisher.few s.version)
 
-    first-pages : (slots : Slots) → askable slots ≡ true → AreFirst (page.form ∷ forms_of told) slots (addresses_at slots 1 own-world ++ flat_map (addresses_at slots 1) worlds-behind)
-    first-pages slots ask =
-        let form = laws.forms (version_of p.history s.version) p.config page.form a.is_publisher.is_config s.form in
-        let first = form.forms.first slots ask in
-        let has : 1 ≤ own-world.last slots = some-page (own-world.last slots) (is-world.some slots) in
-        subst (λ (b : Bool). AreFirst (page.form ∷ forms_of told) slots ((if b then address_of_page p.config.base slots 1 ∷ [] else []) ++ flat_map (addresses_at slots 1) worlds-behind)) (sym (le-leb 1 (own-world.last slots) has))
-        (first.addresses.0, r.forms slots ask)
+    first-pages : (asked : Selection) → is_askable asked ≡ true → AreFirst (page.form ∷ forms_of told) asked (addresses_at asked 1 own-world ++ flat_map (addresses_at asked 1) worlds-behind)
+    first-pages asked ask =
+        let form = laws.forms 1 (version_of p.history s.version) p.config page.form a.is_publisher.is_config s.form in
+        let first = form.forms.first asked ask in
+        let has : 1 ≤ own-world.last asked = some-page (own-world.last asked) (is-world.some asked) in
+        subst (λ (b : Bool). AreFirst (page.form ∷ forms_of told) asked ((if b then address_of_page p.config.base asked 1 ∷ [] else []) ++ flat_map (addresses_at asked 1) worlds-behind)) (sym (le-leb 1 (own-world.last asked) has))
+        (first.addresses.0, r.forms asked ask)
 
     -- its base has the authority of its start
     not-of : (address : Address) → (authority_of start ≡ authority_of address → ⊥) → authority_of p.config.base ≡ authority_of address → ⊥
@@ -195,7 +199,7 @@ module _ (laws : Laws) (allows : List ℕ → ℕ → List ℕ → List ℕ → 
           let there = at-share allows start ask.address p own a in
           let b : IsBodyOf p.history p.config ask.address reply.body = any.body p.history p.config there.is_honest in
           All-cons (λ w. IsPageAt w ask.address came) own-world worlds-behind
-          (true-page laws.given laws.answered laws.only laws.worlds laws.forms laws.pages laws.kept laws.addresses p.history p.config a.is_publisher.is_history a.is_publisher.is_config s.version ask.address reply.body came b takes v-is)
+          (true-page laws.given laws.answered laws.only laws.worlds laws.forms laws.pages laws.kept laws.addresses p.history p.config a.is_publisher.is_history a.is_publisher.is_config 1 one-row s.version ask.address reply.body came b takes v-is)
           (r.others ask.address came (apart-all start ask.address starts apart.0 own))
 
       -- it is of one behind
@@ -220,7 +224,7 @@ module _ (laws : Laws) (allows : List ℕ → ℕ → List ℕ → List ℕ → 
       as_many = ap (λ (n : ℕ). suc n) r.as_many;
       many_worlds = ap (λ (n : ℕ). suc n) r.many_worlds;
       worlds = All-cons IsWorld own-world worlds-behind is-world r.worlds;
-      one = All-cons IsOneServer own-world worlds-behind (laws.forms (version_of p.history s.version) p.config page.form a.is_publisher.is_config s.form).one r.one;
+      one = All-cons IsOneServer own-world worlds-behind (laws.forms 1 (version_of p.history s.version) p.config page.form a.is_publisher.is_config s.form).one r.one;
       forms = first-pages;
       others = none-there;
       pages = λ apart ask reply any came takes home m own e. all-pages apart ask reply any came takes e home m own;

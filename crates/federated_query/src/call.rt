@@ -11,13 +11,15 @@ ghost use Rattle.tpf_client.specs.Plans.{RisesFew, PlanFits, MayStill};
 ghost use Rattle.tpf_client.specs.Shown.{ShowsGiven};
 ghost use Rattle.tpf_client.specs.Sinks.{LeavesSink};
 ghost use Rattle.federated_query.specs.Servers.{AreApart, joint_sources, OverServers};
+ghost use Rattle.federated_query.specs.Limits.{ServersFit};
 
 use bgp_core::Query;
 use federation::Federation;
+use plan_laws::{joint_plans_are_read, plans_are_read};
 use std::alloc::Global;
 use std::marker::PhantomData;
 use std::sync::Wait;
-use template_fill::WebAddress;
+use template_fill::{WebAddress, pages_are_answered, versions_are_valid};
 use tpf_base::{Dial, Sink};
 use tpf_client::{
     ClientFault, Options, Report, evaluate_to, is_lawful, solutions_rest_on_laws,
@@ -42,7 +44,9 @@ fn is_bounded(max_body: u64)
 /// Over a wire whose other ends answer as a server does at each start, each with data of its own, requests are sent for the starts
 /// and the plan of a join over all servers alone: each pattern is asked for at every server, and the sum of their counts says
 /// which one is matched first. Where each answer is a page within the options, and the wire fails at most as often as a request
-/// may be sent again, the answer is `Ok`, `OutOfMemory`, or `Changed` where the data of a server did change.
+/// may be sent again, the answer is `Ok`, `OutOfMemory`, or `Changed` where the data of a server did change (`complete`). Each
+/// answer is a page where the data of no server change, each is within the limits of what is served and answers its start, and the
+/// starts and the terms of the query are short (`limits`).
 ///
 /// The faults come as with `query` of `tpf_client`; `Changed` where a page tells another version of the data than the start page
 /// of its own server.
@@ -71,6 +75,8 @@ pub fn federate<R: Wait, W: Dial, K: Sink>(
     ensures acts { ActsOnWire (W.allows wire.old) (servers_ends query.now starts.now) options.now starts.now (most_over options.now query.now (length starts.now)) result (λ report. report) (W.state wire.old) (W.state wire.new) }
     ensures complete { OverServers (W.allows wire.old) starts.now (W.state wire.old) (λ publishers. (W.state wire.old).nature.lively ≡ true → (rise : ℕ) → RisesFew options.now rise (W.state wire.old) (W.state wire.new)
         → PlanFits (servers_offer publishers query.now starts.now) options.now rise → (Rose (K.state out.old).faults (K.state out.new).faults → ⊥) → IfErr result (MayStill (servers_offer publishers query.now starts.now))) }
+    ensures limits { OverServers (W.allows wire.old) starts.now (W.state wire.old) (λ publishers. (W.state wire.old).nature.lively ≡ true → (rise : ℕ) → RisesFew options.now rise (W.state wire.old) (W.state wire.new)
+        → ServersFit publishers query.now starts.now options.now rise → (Rose (K.state out.old).faults (K.state out.new).faults → ⊥) → IfErr result (MayStill (servers_offer publishers query.now starts.now))) }
     ensures version { IfOk result (λ report. report.version ≡ None) }
     ensures sink { LeavesSink (K.state out.old) (K.state out.new) result }
     ensures allowed { SameAllowed (W.allows wire.old) (W.allows wire.new) }
@@ -79,6 +85,10 @@ pub fn federate<R: Wait, W: Dial, K: Sink>(
     solutions_rest_on_laws();
     traffic_rests_on_laws(wire);
     is_bounded(options.max_body);
+    plans_are_read();
+    joint_plans_are_read();
+    pages_are_answered();
+    versions_are_valid();
     evaluate_to(
         rt,
         PhantomData::<Federation>,

@@ -1,5 +1,5 @@
 // One query over several servers, and what came of it.
-ghost use Rattle.std.specs.Prelude.{◌≤◌};
+ghost use Rattle.std.specs.Prelude.{◌≡◌, ◌≤◌};
 
 use bgp_core::Query;
 use federated_query::{are_apart, federate};
@@ -11,16 +11,22 @@ use std::sync::Wait;
 use std::test::Fail;
 use template_fill::WebAddress;
 use tpf_base::{Failing, MemSink};
-use tpf_client::{ClientFault, Options, Report};
+use tpf_client::{BlockSize, ClientFault, Options, Report};
 
-/// Up to four pages are asked for at once over four links, each at most three times.
-pub const OPTIONS: Options = Options {
-    window: 4,
-    links: 4,
-    retries: 2,
-    budget: 30,
-    max_body: 16777216,
-};
+/// Up to four pages are asked for at once over four links, each at most three times, and one row at a time.
+pub fn default_options() -> Options
+    ensures window { result.window ≡ 4 }
+    ensures links { result.links ≡ 4 }
+{
+    Options {
+        window: 4,
+        block: BlockSize::one(),
+        links: 4,
+        retries: 2,
+        budget: 30,
+        max_body: 16777216,
+    }
+}
 
 fn query_of(alloc: Global, text: &str) -> Result<Query, Fail> {
     match parse(alloc, text.as_bytes()) {

@@ -1,5 +1,5 @@
 // What several servers hold together.
-use crate::asked::{Came, OPTIONS, ask, same, starts_of};
+use crate::asked::{Came, ask, default_options, same, starts_of};
 use crate::servers::server_at;
 use federated_query::are_apart;
 use fragment_server::FragmentConnection;
@@ -36,7 +36,14 @@ fn ask_both<R: Wait>(
 ) -> Result<Came, Fail> {
     let mut wire = wire_of(alloc, first, second, page_size)?;
     let addresses = ["http://a/data", "http://b/data"];
-    ask(rt, alloc, query, addresses.as_slice(), &OPTIONS, &mut wire)
+    ask(
+        rt,
+        alloc,
+        query,
+        addresses.as_slice(),
+        &default_options(),
+        &mut wire,
+    )
 }
 
 #[test]
@@ -84,7 +91,14 @@ fn a_server_that_cannot_be_dialled_ends_the_query(rt: HostRuntime) -> Result<(),
     let data = "<http://e/s> <http://e/p> <http://e/o> .\n";
     let mut wire = wire_of(alloc, data, data, 100)?;
     let addresses = ["http://a/data", "http://c/data"];
-    let came = ask(&rt, alloc, PAIRS, addresses.as_slice(), &OPTIONS, &mut wire)?;
+    let came = ask(
+        &rt,
+        alloc,
+        PAIRS,
+        addresses.as_slice(),
+        &default_options(),
+        &mut wire,
+    )?;
     same(came.told.as_str(), "exchange")?;
     same(came.text.as_str(), "")
 }

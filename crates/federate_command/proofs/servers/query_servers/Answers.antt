@@ -1,24 +1,24 @@
 -- What the call over the servers promised is what the command came to.
-use Rattle.std.proofs.Common.{Ok, Err, refl}
+use Rattle.std.proofs.Common.{refl}
 use Rattle.data_files.specs.KeptLaws.{reads_as, sink_none}
-use Rattle.query_command.specs.declared.fault.AnswerFault.TheVariants as faults
-use Rattle.federate_command.proofs.Asking.{servers_asked}
+use Rattle.query_command.proofs.Locals.{valid_read}
+use Rattle.federate_command.proofs.Asking.{none_asked, servers_asked, servers_failed}
 use Rattle.federate_command.proofs.servers.query_servers.Goals as goal
 
 pub returns-in-Err-clause-asks : goal.returns-in-Err-clause-asks
 returns-in-Err-clause-asks g c =
-    servers_asked c.one_query.ensures _ _ c.args.name.now _ c.args.starts.now c.args.options.now _ _ _ _ (Err (faults.Query c.in-Err.fault)) (c.in-Err.ensures.err, refl, refl)
+    none_asked _ _ c.args.name.now _ c.args.starts.now c.args.options.now _ _ _ _ c.in-Err.fault (c.in-Err.ensures.err, refl, refl)
     (reads_as _ _ _ _ _ (λ e. cc) (λ e. cc) c.in-Err.ensures.reads)
     (record { keeps = sink_none _; spared = λ fine. tt })
 
 pub returns-in-Ok-federate-clause-asks : goal.returns-in-Ok-federate-clause-asks
 returns-in-Ok-federate-clause-asks g c =
     let e = c.in-Ok-federate.ensures in
-    servers_asked c.one_query.ensures _ _ c.args.name.now _ c.args.starts.now c.args.options.now _ _ _ _ (Ok c.in-Ok-federate.report)
+    servers_asked _ _ c.args.name.now _ c.args.starts.now c.args.options.now _ _ _ _ c.in-Ok-federate.report
     (record {
       q = c.in-Ok.query;
       is_read = c.in-Ok.ensures.ok;
-      call = record { whole = e.whole; front = e.front; ok = e.ok; err = e.err; shown = e.shown; headline = e.headline; prefix = e.prefix; acts = e.acts; complete = e.complete; version = e.version; sink = e.sink };
+      call = record { whole = e.whole; front = e.front; ok = e.ok; err = e.err; shown = e.shown; headline = e.headline; prefix = e.prefix; acts = e.acts; complete = e.complete; limits = e.limits; version = e.version; sink = e.sink };
     })
     (reads_as _ _ _ _ _ (λ e. cc) (λ e. absurd e) c.in-Ok.ensures.reads)
     (record { keeps = record { later = e.sink.later; faultless = e.sink.faultless; spared = λ fine. (e.sink.spared fine).0 }; spared = λ fine. tt })
@@ -26,11 +26,12 @@ returns-in-Ok-federate-clause-asks g c =
 pub returns-clause-asks : goal.returns-clause-asks
 returns-clause-asks g c =
     let e = c.in-Err-federate.ensures in
-    servers_asked c.one_query.ensures _ _ c.args.name.now _ c.args.starts.now c.args.options.now _ _ _ _ (Err (faults.Client c.in-Err-federate.fault))
+    servers_failed _ _ c.args.name.now _ c.args.starts.now c.args.options.now _ _ _ _ c.commands_keep_limits.ensures.queries c.in-Err-federate.fault
     (record {
       q = c.in-Ok.query;
       is_read = c.in-Ok.ensures.ok;
-      call = record { whole = e.whole; front = e.front; ok = e.ok; err = e.err; shown = e.shown; headline = e.headline; prefix = e.prefix; acts = e.acts; complete = e.complete; version = e.version; sink = e.sink };
+      call = record { whole = e.whole; front = e.front; ok = e.ok; err = e.err; shown = e.shown; headline = e.headline; prefix = e.prefix; acts = e.acts; complete = e.complete; limits = e.limits; version = e.version; sink = e.sink };
     })
+    (valid_read c.in-Ok.query _ c.patterns-patterns.ensures.value c.patterns-patterns.ensures.valid)
     (reads_as _ _ _ _ _ (λ e. cc) (λ e. absurd e) c.in-Ok.ensures.reads)
     (record { keeps = record { later = e.sink.later; faultless = e.sink.faultless; spared = λ fine. (e.sink.spared fine).0 }; spared = λ fine is. (e.sink.spared fine).1 (cc) })

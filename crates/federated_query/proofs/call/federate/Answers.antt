@@ -1,15 +1,19 @@
 -- What the servers offer together covers the call.
-use Rattle.std.proofs.Common.{ℕ, ◌≤◌, List, length, arith}
+use Rattle.std.proofs.Common.{ℕ, ◌≡◌, ◌≤◌, true, List, length, arith}
+use Rattle.std.specs.Prelude.{IfErr}
+use Rattle.tpf_base.specs.Causes.{Rose}
 use Rattle.tpf_client.specs.Acts.{ActsOnWire}
 use Rattle.tpf_client.specs.Calls.{most_over}
 use Rattle.tpf_client.specs.Ends.{AreHonestServers, servers_ends}
 use Rattle.tpf_client.specs.Offers.{Publisher, servers_offer}
+use Rattle.tpf_client.specs.Plans.{RisesFew, PlanFits, MayStill}
 use Rattle.tpf_client.proofs.Shutting.{if-ok, on-err-of}
 use Rattle.tpf_client.proofs.Clauses.{acts-by-plan, acts-on-wire}
 use Rattle.tpf_client.proofs.Completing.{completes}
 use Rattle.tpf_client.proofs.Covered.{Covered, solutions-written, front-written}
 use Rattle.federated_query.specs.Servers.{joint_sources}
 use Rattle.federated_query.proofs.Covering.{servers-covered}
+use Rattle.federated_query.proofs.Fitting.{plan-fits}
 use Rattle.federated_query.proofs.call.federate.Given as given
 use Rattle.federated_query.proofs.call.federate.Goals as goal
 
@@ -19,7 +23,7 @@ same-most n = omega arith
 covers : (g : given.Over) (c : goal.After-evaluate_to g) (publishers : List Publisher) → AreHonestServers (g.W.Wire.allows c.args.wire.now) c.args.starts.now publishers (g.W.Wire.state c.args.wire.now)
     → Covered joint_sources (servers_offer publishers c.args.query.now c.args.starts.now) (g.W.Wire.allows c.args.wire.now) c.args.options.now (g.W.Wire.state c.args.wire.now) (g.W.Wire.state c.evaluate_to.new.wire) c.args.starts.now c.args.query.now
 covers g c publishers honest =
-    servers-covered c.solutions_rest_on_laws.ensures (g.W.Wire.allows c.args.wire.now) c.args.options.now (g.W.Wire.state c.args.wire.now) (g.W.Wire.state c.evaluate_to.new.wire) c.is_lawful.ensures c.is_bounded.ensures publishers c.args.starts.now c.requires.starts c.requires.apart honest c.args.query.now
+    servers-covered c.solutions_rest_on_laws.ensures c.versions_are_valid.ensures.versions (g.W.Wire.allows c.args.wire.now) c.args.options.now (g.W.Wire.state c.args.wire.now) (g.W.Wire.state c.evaluate_to.new.wire) c.is_lawful.ensures c.is_bounded.ensures publishers c.args.starts.now c.requires.starts c.requires.apart honest c.args.query.now
 
 acts : (g : given.Over) (c : goal.After-evaluate_to g)
     → ActsOnWire (g.W.Wire.allows c.args.wire.now) (servers_ends c.args.query.now c.args.starts.now) c.args.options.now c.args.starts.now (most_over c.args.options.now c.args.query.now (length c.args.starts.now)) c.evaluate_to.result (λ report. report) (g.W.Wire.state c.args.wire.now) (g.W.Wire.state c.evaluate_to.new.wire)
@@ -43,10 +47,22 @@ returns-clause-prefix g c = λ publishers honest.
 pub returns-clause-acts : goal.returns-clause-acts
 returns-clause-acts g c = acts g c
 
-pub returns-clause-complete : goal.returns-clause-complete
-returns-clause-complete g c = λ publishers honest alive rise few fits none.
+-- where the plan fits
+complete : (g : given.Over) (c : goal.After-evaluate_to g) (publishers : List Publisher) → AreHonestServers (g.W.Wire.allows c.args.wire.now) c.args.starts.now publishers (g.W.Wire.state c.args.wire.now)
+    → (g.W.Wire.state c.args.wire.now).nature.lively ≡ true → (rise : ℕ) → RisesFew c.args.options.now rise (g.W.Wire.state c.args.wire.now) (g.W.Wire.state c.evaluate_to.new.wire)
+    → PlanFits (servers_offer publishers c.args.query.now c.args.starts.now) c.args.options.now rise → (Rose (g.K.Sink.state c.args.out.now).faults (g.K.Sink.state c.evaluate_to.new.out).faults → ⊥)
+    → IfErr c.evaluate_to.result (MayStill (servers_offer publishers c.args.query.now c.args.starts.now))
+complete g c publishers honest alive rise few fits none =
     completes (servers_offer publishers c.args.query.now c.args.starts.now) c.args.options.now (g.W.Wire.state c.args.wire.now) (g.W.Wire.state c.evaluate_to.new.wire) rise few fits c.evaluate_to.result ((acts g c).plan.honest_cause publishers honest)
     ((acts g c).plan.lively_cause publishers honest alive) (λ e. none (c.evaluate_to.ensures.sink.sink e))
+
+pub returns-clause-complete : goal.returns-clause-complete
+returns-clause-complete g c = complete g c
+
+pub returns-clause-limits : goal.returns-clause-limits
+returns-clause-limits g c = λ publishers honest alive rise few within none.
+    complete g c publishers honest alive rise few
+    (plan-fits c.joint_plans_are_read.ensures c.plans_are_read.ensures.start c.pages_are_answered.ensures.answered (g.W.Wire.allows c.args.wire.now) publishers c.args.query.now c.args.starts.now c.args.options.now rise c.requires.starts c.requires.apart honest.servers within) none
 
 pub returns-clause-version : goal.returns-clause-version
 returns-clause-version g c = if-ok c.evaluate_to.result _ _ (λ report w. w.returns.is_version) c.evaluate_to.ensures.ok
