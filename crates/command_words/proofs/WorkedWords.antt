@@ -54,6 +54,10 @@ flag_twice : given serve_form (codes "--union" ∷ codes "--union" ∷ []) ≡ N
 unfolding given_by serve_form
 flag_twice = refl
 
+two_flags : given serve_form (codes "--rows" ∷ codes "d" ∷ codes "--union" ∷ []) ≡ Some ((codes "rows", codes "true") ∷ (codes "FILE", codes "d") ∷ (codes "union", codes "true") ∷ [])
+unfolding given_by serve_form
+two_flags = refl
+
 flag_with_a_value : given serve_form (codes "--union=true" ∷ []) ≡ None
 unfolding given_by serve_form
 flag_with_a_value = refl

@@ -12,5 +12,5 @@ abbrev pub command_view : declared_command.Command → Command
 command_view (commands.Local name query_name choice page client seed fail_every) = local name.now query_name.now choice page client seed fail_every
 command_view (commands.Query url query_name client) = query url query_name.now client
 command_view (commands.Federate words) = federate (federated_view words)
-command_view (commands.Serve name base choice page stop_after reload) = serve name.now base choice page stop_after reload
+command_view (commands.Serve name base choice page stop_after reload rows) = serve name.now base choice page stop_after reload rows
 command_view (commands.Make count run) = make count (option_map (λ r. r.now) run)

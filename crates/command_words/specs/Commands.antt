@@ -27,8 +27,8 @@ pub data Command : Type 0 where
   query : Address → Text → ClientWords → Command
   -- to ask one of several servers together
   federate : Federated → Command
-  -- to serve a file of data at a base: the data, the base, the graphs, the page, after how many connections to stop, and the path of a reload
-  serve : Text → Address → Choice → ℕ → Option ℕ → Option Text → Command
+  -- to serve a file of data at a base: the data, the base, the graphs, the page, after how many connections to stop, the path of a reload, and whether rows in requests are read
+  serve : Text → Address → Choice → ℕ → Option ℕ → Option Text → Bool → Command
   -- to write the data of so many persons, or to ask a query of them
   make : ℕ → Option Text → Command
 
@@ -37,14 +37,14 @@ pub data Command : Type 0 where
 unfoldable pub local_form : Form
 local_form = record {
   positionals = codes "FILE" ∷ codes "QUERYFILE" ∷ [];
-  options = codes "window" ∷ codes "links" ∷ codes "retries" ∷ codes "budget" ∷ codes "max-body" ∷ codes "page" ∷ codes "seed" ∷ codes "fail-every" ∷ codes "graph" ∷ [];
+  options = codes "window" ∷ codes "block" ∷ codes "links" ∷ codes "retries" ∷ codes "budget" ∷ codes "max-body" ∷ codes "page" ∷ codes "seed" ∷ codes "fail-every" ∷ codes "graph" ∷ [];
   flags = codes "union" ∷ [];
 }
 
 unfoldable pub query_form : Form
 query_form = record {
   positionals = codes "URL" ∷ codes "QUERYFILE" ∷ [];
-  options = codes "window" ∷ codes "links" ∷ codes "retries" ∷ codes "budget" ∷ codes "max-body" ∷ [];
+  options = codes "window" ∷ codes "block" ∷ codes "links" ∷ codes "retries" ∷ codes "budget" ∷ codes "max-body" ∷ [];
   flags = [];
 }
 
@@ -52,7 +52,7 @@ unfoldable pub serve_form : Form
 serve_form = record {
   positionals = codes "FILE" ∷ [];
   options = codes "base" ∷ codes "page" ∷ codes "graph" ∷ codes "stop-after" ∷ codes "reload" ∷ [];
-  flags = codes "union" ∷ [];
+  flags = codes "union" ∷ codes "rows" ∷ [];
 }
 
 unfoldable pub make_form : Form
@@ -160,17 +160,27 @@ choice_in values = choice_of (values (codes "graph")) (is_true (values (codes "u
 abbrev pub page_in : Values → Option ℕ
 page_in values = number_in values (codes "page") 1 1000 100
 
--- --window 1 to 10000, else 16; --links 1 to 256, else 8; --retries 0 to 100, else 2; --budget 1 to 10^12, else 10^6; --max-body 1 to 256 MiB, else 16 MiB
+-- --window 1 to 10000, else 16; --block 2 to 64, else 1; --links 1 to 256, else 8; --retries 0 to 100, else 2; --budget 1 to 10^12, else 10^6; --max-body 1 to 256 MiB, else 16 MiB
 abbrev pub client_in : Values → Option ClientWords
 client_in values = do
   window ← number_in values (codes "window") 1 10000 16
+  block ← number_in values (codes "block") 2 64 1
   links ← number_in values (codes "links") 1 256 8
   retries ← number_in values (codes "retries") 0 100 2
   budget ← number_in values (codes "budget") 1 1000000000000 1000000
   max_body ← number_in values (codes "max-body") 1 268435456 16777216
-  Some (record { window = window; links = links; retries = retries; budget = budget; max_body = max_body })
+  Some (record { window = window; block = block; links = links; retries = retries; budget = budget; max_body = max_body })
 
--- local FILE QUERYFILE; --seed to 9999999999999999999, else 0; --fail-every to 10^9, else 0, which is never
+-- --seed to 9999999999999999999, else 0; none is given beside --block
+abbrev pub seed_beside : Bool → Option Text → Option ℕ
+seed_beside false given = number_or 0 9999999999999999999 0 given
+seed_beside true None = Some 0
+seed_beside true (Some text) = None
+
+abbrev pub seed_in : Values → Option ℕ
+seed_in values = seed_beside (is_some (values (codes "block"))) (values (codes "seed"))
+
+-- local FILE QUERYFILE; --fail-every to 10^9, else 0, which is never
 abbrev pub local_with : Values → Option Choice → Option ClientWords → Option Command
 local_with values chosen asked = do
   name ← values (codes "FILE")
@@ -178,7 +188,7 @@ local_with values chosen asked = do
   choice ← chosen
   client ← asked
   page ← page_in values
-  seed ← number_in values (codes "seed") 0 9999999999999999999 0
+  seed ← seed_in values
   fail_every ← number_in values (codes "fail-every") 0 1000000000 0
   Some (local name query_name choice page client seed fail_every)
 
@@ -207,6 +217,13 @@ federate_with values servers asked = do
 abbrev pub federate_from : Values → Option Command
 federate_from values = option_map federate (federate_with values (servers_in values) (client_in values))
 
+-- whether rows are read, by --rows; not where there is the path of a reload
+abbrev pub rows_beside : Option Text → Bool → Option Bool
+rows_beside reload rows = when (not (rows && is_some reload)) rows
+
+abbrev pub rows_in : Values → Option Text → Option Bool
+rows_in values reload = rows_beside reload (is_true (values (codes "rows")))
+
 -- serve FILE, with --base; --stop-after 1 to 10^9
 abbrev pub serve_with : Values → Option Choice → Address → Option Text → Option Command
 serve_with values chosen base reload = do
@@ -214,7 +231,8 @@ serve_with values chosen base reload = do
   choice ← chosen
   page ← page_in values
   stop_after ← count_of 1 1000000000 (values (codes "stop-after"))
-  Some (serve name base choice page stop_after reload)
+  rows ← rows_in values reload
+  Some (serve name base choice page stop_after reload rows)
 
 abbrev pub serve_from : Values → Option Command
 serve_from values = do

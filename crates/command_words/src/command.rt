@@ -8,6 +8,9 @@ use triple_table::Choice;
 pub struct ClientWords {
     /// `--window`: how many rows are extended at once, 1 to 10000; 16 where it is not given.
     pub window: u32,
+    /// `--block`: how many rows one request carries at most, 2 to 64; 1 where it is not given, which is to
+    /// ask row by row. Then a query is read as one basic graph pattern, without groups.
+    pub block: u32,
     /// `--links`: how many connections are open at once, 1 to 256; 8 where it is not given.
     pub links: u32,
     /// `--retries`: how often a request that failed is sent again, 0 to 100; 2 where it is not given.
@@ -48,7 +51,8 @@ pub enum Command<'a> {
         page: u64,
         /// The options of the client.
         client: ClientWords,
-        /// `--seed`: of the random order of events, 0 to 9999999999999999999; 0 where it is not given.
+        /// `--seed`: of the random order of events, 0 to 9999999999999999999; 0 where it is not given. It is
+        /// refused beside `--block`.
         seed: u64,
         /// `--fail-every N`: each N-th dial fails, up to 1000000000; 0, as where it is not given, is
         /// never.
@@ -80,6 +84,9 @@ pub enum Command<'a> {
         /// `--reload`: the path on which a request has the file read again, which is a written path
         /// and not that of the base.
         reload: Option<Text>,
+        /// `--rows`: whether the rows of a request are read, and its page then holds only the triples that
+        /// fit one of them. It is refused beside `--reload`.
+        rows: bool,
     },
     /// `make N`: to write the data of so many persons, 1 to 1000000, or with `--run QUERYFILE` to ask
     /// a query of them.

@@ -2,7 +2,7 @@
 ghost use Rattle.std.specs.Prelude.{◌≡◌, ◌^◌, ◌≤◌, IfOk, IfSome, option_map, map, string_bytes};
 ghost use Rattle.command_words.specs.Apps.{found_in};
 ghost use Rattle.command_words.specs.Words.{arguments};
-ghost use Rattle.command_words.specs.Commands.{words_of, number_in, client_in, choice_in, page_in, local_with, local_from, query_with, query_from, serve_with, serve_from, make_from, command_by, command_of};
+ghost use Rattle.command_words.specs.Commands.{words_of, number_in, client_in, choice_in, page_in, seed_in, local_with, local_from, query_with, query_from, rows_in, serve_with, serve_from, make_from, command_by, command_of};
 ghost use Rattle.command_words.specs.CommandNames.{form_by, from_by};
 ghost use Rattle.command_words.specs.CommandViews.{command_view};
 
@@ -10,7 +10,8 @@ use crate::arguments::arguments_of;
 use crate::command::{ClientWords, Command};
 use crate::federate::{QUERY_AND_URLS, federate_from};
 use crate::values::{
-    base_of, choice_of, count_of, is_true, number_of, number_or, reload_of, url_of,
+    base_of, choice_of, count_of, is_true, number_of, number_or, reload_of, rows_beside,
+    seed_beside, url_of,
 };
 use clap::ArgMatches;
 use std::alloc::Global;
@@ -56,12 +57,14 @@ pub(crate) fn client_in(matches: &ArgMatches<'_>) -> Option<ClientWords>
     ensures { result ≡ client_in (found_in matches.now) }
 {
     let window = small_in(matches, "window", 1, 10000, 16)?;
+    let block = small_in(matches, "block", 2, 64, 1)?;
     let links = small_in(matches, "links", 1, 256, 8)?;
     let retries = small_in(matches, "retries", 0, 100, 2)?;
     let budget = number_in(matches, "budget", 1, 1000000000000, 1000000)?;
     let max_body = number_in(matches, "max-body", 1, 268435456, 16777216)?;
     Some(ClientWords {
         window,
+        block,
         links,
         retries,
         budget,
@@ -83,6 +86,16 @@ fn page_in(matches: &ArgMatches<'_>) -> Option<u64>
     number_in(matches, "page", 1, 1000, 100)
 }
 
+/// The seed, which is not given beside blocks of rows.
+fn seed_in(matches: &ArgMatches<'_>) -> Option<u64>
+    ensures { result ≡ seed_in (found_in matches.now) }
+{
+    seed_beside(
+        value_of(matches, "block").is_some(),
+        value_of(matches, "seed"),
+    )
+}
+
 fn local_with<'a>(
     matches: &ArgMatches<'a>,
     choice: Option<Choice>,
@@ -95,7 +108,7 @@ fn local_with<'a>(
     let choice = choice?;
     let client = client?;
     let page = page_in(matches)?;
-    let seed = number_in(matches, "seed", 0, 9999999999999999999, 0)?;
+    let seed = seed_in(matches)?;
     let fail_every = number_in(matches, "fail-every", 0, 1000000000, 0)?;
     Some(Command::Local {
         name,
@@ -144,6 +157,13 @@ fn query_from<'a>(
     Ok(query_with(matches, url, client_in(matches)))
 }
 
+/// Whether rows are read.
+fn rows_in(matches: &ArgMatches<'_>, reload: &Option<Text>) -> Option<bool>
+    ensures { result ≡ rows_in (found_in matches.now) reload.now }
+{
+    rows_beside(reload, is_true(value_of(matches, "rows")))
+}
+
 fn serve_with<'a>(
     matches: &ArgMatches<'a>,
     choice: Option<Choice>,
@@ -156,6 +176,7 @@ fn serve_with<'a>(
     let choice = choice?;
     let page = page_in(matches)?;
     let stop_after = count_of(value_of(matches, "stop-after"), 1, 1000000000)?;
+    let rows = rows_in(matches, &reload)?;
     Some(Command::Serve {
         name,
         base,
@@ -163,6 +184,7 @@ fn serve_with<'a>(
         page,
         stop_after,
         reload,
+        rows,
     })
 }
 
@@ -208,10 +230,13 @@ static COUNT: [&str; 1] = ["N"];
 
 static UNION: [&str; 1] = ["union"];
 
+static SERVE_FLAGS: [&str; 2] = ["union", "rows"];
+
 static NONE: [&str; 0] = [];
 
-static LOCAL_OPTIONS: [&str; 9] = [
+static LOCAL_OPTIONS: [&str; 10] = [
     "window",
+    "block",
     "links",
     "retries",
     "budget",
@@ -222,7 +247,9 @@ static LOCAL_OPTIONS: [&str; 9] = [
     "graph",
 ];
 
-static CLIENT_OPTIONS: [&str; 5] = ["window", "links", "retries", "budget", "max-body"];
+static QUERY_OPTIONS: [&str; 6] = ["window", "block", "links", "retries", "budget", "max-body"];
+
+static FEDERATE_OPTIONS: [&str; 5] = ["window", "links", "retries", "budget", "max-body"];
 
 static SERVE_OPTIONS: [&str; 5] = ["base", "page", "graph", "stop-after", "reload"];
 
@@ -258,14 +285,14 @@ fn arguments_by<'a>(
         Name::Query => arguments_of(
             alloc,
             URL_AND_QUERY.as_slice(),
-            CLIENT_OPTIONS.as_slice(),
+            QUERY_OPTIONS.as_slice(),
             NONE.as_slice(),
             words,
         ),
         Name::Federate => arguments_of(
             alloc,
             QUERY_AND_URLS.as_slice(),
-            CLIENT_OPTIONS.as_slice(),
+            FEDERATE_OPTIONS.as_slice(),
             NONE.as_slice(),
             words,
         ),
@@ -273,7 +300,7 @@ fn arguments_by<'a>(
             alloc,
             FILE.as_slice(),
             SERVE_OPTIONS.as_slice(),
-            UNION.as_slice(),
+            SERVE_FLAGS.as_slice(),
             words,
         ),
         Name::Make => arguments_of(

@@ -2,7 +2,7 @@
 ghost use Rattle.std.specs.Prelude.{◌≡◌, ◌^◌, ◌<◌, ◌≤◌, Some, None, IfOk, IfSome, MatchOption, option_map, false};
 ghost use Rattle.std.specs.List.{list_all};
 ghost use Rattle.rdf_terms.specs.Iri.{is_digit};
-ghost use Rattle.command_words.specs.Commands.{is_number, number_after, number_of, number_or, count_of, url_of, base_of, without_query, reload_of, is_true, choice_of};
+ghost use Rattle.command_words.specs.Commands.{is_number, number_after, number_of, number_or, count_of, url_of, base_of, without_query, reload_of, is_true, rows_beside, seed_beside, choice_of};
 
 use rdf_terms::is_iri;
 use std::alloc::Global;
@@ -145,6 +145,30 @@ pub fn is_true(value: Option<&str>) -> bool
     match value {
         None => false,
         Some(value) => value == "true",
+    }
+}
+
+/// Whether rows are read; `None` where there is the path of a reload beside them.
+pub fn rows_beside(reload: &Option<Text>, rows: bool) -> Option<bool>
+    ensures { result ≡ rows_beside reload.now rows }
+{
+    if rows && reload.is_some() {
+        None
+    } else {
+        Some(rows)
+    }
+}
+
+/// The seed that a text is, or 0 where there is none; `None` also for each text beside blocks of rows.
+pub fn seed_beside(in_blocks: bool, text: Option<&str>) -> Option<u64>
+    ensures { result ≡ seed_beside in_blocks (option_map (λ t. t.now) text.entry) }
+{
+    if !in_blocks {
+        return number_or(text, 0, 9999999999999999999, 0);
+    }
+    match text {
+        None => Some(0),
+        Some(_) => None,
     }
 }
 

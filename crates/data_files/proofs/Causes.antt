@@ -12,6 +12,7 @@ use Rattle.data_files.specs.declared.fault.DataFault.{DataFault}
 use Rattle.data_files.specs.declared.fault.DataFault.TheVariants as faults
 use Rattle.data_files.specs.declared.fault.QueryFileFault.{QueryFileFault}
 use Rattle.data_files.specs.declared.fault.QueryFileFault.TheVariants as query_faults
+use Rattle.data_files.specs.declared.query.Grammar.{Grammar}
 use Rattle.data_files.specs.Data.{Files, IsOfFile, Outcome, served, too_long, bad, clash, too_many, IsOutcome}
 use Rattle.data_files.specs.Queries.{IsOfAskedFile, QueryOutcome, reads, reads_groups, refused, IsQueryOutcome}
 use Rattle.data_files.specs.Causes.{DataCause, QueryCause, DataDecides, QueryDecides, Gives, GivesQuery, unread, unread_query}
@@ -33,17 +34,17 @@ module _ (old new : ShelfState) (name : List ℕ) where
   gives choice authority (Ok table) ok err quiet = λ files is outcome o. one_outcome files name choice authority outcome (served (triples_in table)) o (ok.tells files is)
   gives choice authority (Err fault) ok err quiet = λ files is outcome o. fault_gives choice authority files fault is quiet err outcome o
 
-  query_fault_gives : (files : Files) (fault : QueryFileFault) → old.told ≡ Some files → ¬ (Rose old.faults new.faults) → QueryCause old new name fault
-      → (outcome : QueryOutcome) → IsQueryOutcome files name outcome → GivesQuery outcome (Err fault)
-  query_fault_gives files (query_faults.Bad at why) is quiet c outcome o = one_query files name outcome (refused at why) o (c files is)
-  query_fault_gives files query_faults.File is quiet c outcome o = absurd (quiet c)
-  query_fault_gives files query_faults.OutOfMemory is quiet c outcome o = tt
+  query_fault_gives : (grammar : Grammar) (files : Files) (fault : QueryFileFault) → old.told ≡ Some files → ¬ (Rose old.faults new.faults) → QueryCause grammar old new name fault
+      → (outcome : QueryOutcome) → IsQueryOutcome grammar files name outcome → GivesQuery outcome (Err fault)
+  query_fault_gives grammar files (query_faults.Bad at why) is quiet c outcome o = one_query grammar files name outcome (refused at why) o (c files is)
+  query_fault_gives grammar files query_faults.File is quiet c outcome o = absurd (quiet c)
+  query_fault_gives grammar files query_faults.OutOfMemory is quiet c outcome o = tt
 
-  pub gives_query : (result : Result Asked QueryFileFault) → IfOk result (IsOfAskedFile old.told name) → IfErr result (QueryCause old new name)
-      → QueryDecides old new name (λ outcome. GivesQuery outcome result)
-  gives_query (Ok (Plain q)) ok err quiet = λ files is outcome o. one_query files name outcome (reads q) o (ok.tells files is)
-  gives_query (Ok (Groups g)) ok err quiet = λ files is outcome o. one_query files name outcome (reads_groups g) o (ok.tells files is)
-  gives_query (Err fault) ok err quiet = λ files is outcome o. query_fault_gives files fault is quiet err outcome o
+  pub gives_query : (grammar : Grammar) (result : Result Asked QueryFileFault) → IfOk result (IsOfAskedFile grammar old.told name) → IfErr result (QueryCause grammar old new name)
+      → QueryDecides grammar old new name (λ outcome. GivesQuery outcome result)
+  gives_query grammar (Ok (Plain q)) ok err quiet = λ files is outcome o. one_query grammar files name outcome (reads q) o (ok.tells files is)
+  gives_query grammar (Ok (Groups g)) ok err quiet = λ files is outcome o. one_query grammar files name outcome (reads_groups g) o (ok.tells files is)
+  gives_query grammar (Err fault) ok err quiet = λ files is outcome o. query_fault_gives grammar files fault is quiet err outcome o
 
 -- ---- a shelf that did not fail
 

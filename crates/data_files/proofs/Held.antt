@@ -8,12 +8,15 @@ use Rattle.triple_table.specs.declared.choice.Choice.{Choice}
 use Rattle.triple_table.specs.Chosen.{chosen}
 use Rattle.triple_table.specs.Served.{Clashes, IsServed}
 use Rattle.triple_table.specs.Stored.{Stored, triples_in}
+use Rattle.bgp_core.specs.Queries.{QueryData}
+use Rattle.pattern_parser.specs.Queries.{ReadsQuery}
 use Rattle.group_parser.specs.declared.reading.Asked.{Asked}
 use Rattle.group_parser.specs.declared.reading.Asked.TheVariants.{Plain, Groups}
 use Rattle.group_parser.specs.Asking.{IsAsked}
 use Rattle.data_files.specs.declared.fault.DataFault.{DataFault}
+use Rattle.data_files.specs.declared.query.Grammar.TheVariants as grammars
 use Rattle.data_files.specs.Data.{Files, OfContents, HoldsData, AreFew, IsOfFile}
-use Rattle.data_files.specs.Queries.{IsOfAskedFile}
+use Rattle.data_files.specs.Queries.{IsOfQueryFile, IsOfAskedFile}
 
 -- a file alone
 alone : (name bytes : List ℕ) → content_of ((name, bytes) ∷ []) name ≡ Some bytes
@@ -27,12 +30,15 @@ module _ (told : Option Files) (name bytes : List ℕ) (whole : (files : Files) 
     tells = λ files is. (bytes, whole files is, few, reads);
   }
 
-  pub held_query : (asked : Asked) → IsAsked bytes asked → IsOfAskedFile told name asked
-  held_query (Plain q) is_asked = record {
+  pub held_patterns : (q : QueryData) → ReadsQuery bytes q → IsOfQueryFile told name q
+  held_patterns q is_read = record {
     files = (name, bytes) ∷ [];
-    holds = (bytes, alone name bytes, is_asked.1);
-    tells = λ files is. (bytes, whole files is, is_asked.1);
+    holds = (bytes, alone name bytes, is_read);
+    tells = λ files is. (bytes, whole files is, is_read);
   }
+
+  pub held_query : (asked : Asked) → IsAsked bytes asked → IsOfAskedFile grammars.Groups told name asked
+  held_query (Plain q) is_asked = held_patterns q is_asked.1
   held_query (Groups g) is_asked = record {
     files = (name, bytes) ∷ [];
     holds = (bytes, alone name bytes, is_asked);

@@ -19,15 +19,18 @@ use Rattle.triple_table.specs.Stored.{PassesMost, IsRanking}
 use Rattle.triple_table.specs.Served.{Clashes, IsLeastClash, IsServed}
 use Rattle.triple_table.proofs.ServedData.{served_one}
 use Rattle.bgp_core.specs.Queries.{QueryData}
-use Rattle.pattern_parser.specs.Queries.{ReadsQuery}
+use Rattle.pattern_parser.specs.declared.fault.QueryWhy.{QueryWhy}
+use Rattle.pattern_parser.specs.Queries.{ReadsQuery, FaultAt}
 use Rattle.pattern_parser.proofs.OneQuery as one_queries
 use Rattle.group_query.specs.Trees.{GroupData}
 use Rattle.group_faults.specs.declared.fault.GroupWhy.{GroupWhy}
+use Rattle.group_faults.specs.declared.fault.GroupWhy.TheVariants as whys
 use Rattle.group_faults.specs.Faults.{GroupFaultAt}
 use Rattle.group_parser.specs.declared.reading.Asked.TheVariants.{Groups}
 use Rattle.group_parser.specs.Asking.{IsAsked}
 use Rattle.group_parser.proofs.Texts.{query_apart, one_first}
 use Rattle.group_parser.proofs.Texts as one_groups
+use Rattle.data_files.specs.declared.query.Grammar.TheVariants as grammars
 use Rattle.data_files.specs.Data.{Files, HoldsData, IsTooLong, HasDataFault, HasClash, HasTooMany, AreFew, Serves, served, too_long, bad, clash, too_many, OneOutcome}
 use Rattle.data_files.specs.Queries.{HoldsQuery, HoldsGroup, HasQueryFault, reads, reads_groups, refused, OneQueryOutcome}
 use Rattle.data_files.proofs.PlainTexts.{is_plain_text, as_group}
@@ -157,37 +160,64 @@ module _ (files : Files) (name : List ℕ) where
   query_in : (q : QueryData) (bytes : List ℕ) → content_of files name ≡ Some bytes → HoldsQuery files name q → ReadsQuery bytes q
   query_in q bytes is h = subst (λ (b : List ℕ). ReadsQuery b q) (same_bytes files name h.0 bytes h.1 is) h.2
 
-  group_in : (g : GroupData) (bytes : List ℕ) → content_of files name ≡ Some bytes → HoldsGroup files name g → IsAsked bytes (Groups g)
+  group_in : (g : GroupData) (bytes : List ℕ) → content_of files name ≡ Some bytes → HoldsGroup grammars.Groups files name g → IsAsked bytes (Groups g)
   group_in g bytes is h = subst (λ (b : List ℕ). IsAsked b (Groups g)) (same_bytes files name h.0 bytes h.1 is) h.2
 
-  query_group : (q : QueryData) (g : GroupData) → HoldsQuery files name q → HoldsGroup files name g → ⊥
+  query_group : (q : QueryData) (g : GroupData) → HoldsQuery files name q → HoldsGroup grammars.Groups files name g → ⊥
   query_group q g h k = k.2.0 (is_plain_text k.0 q (query_in q k.0 k.1 h))
 
-  query_fault : (q : QueryData) (at : ℕ) (why : GroupWhy) → HoldsQuery files name q → HasQueryFault files name at why → ⊥
+  query_fault : (q : QueryData) (at : ℕ) (why : GroupWhy) → HoldsQuery files name q → HasQueryFault grammars.Groups files name at why → ⊥
   query_fault q at why h f = let r = as_group f.0 q (query_in q f.0 f.1 h) in query_apart f.0 r.0 why at r.1 f.2
 
-  group_fault : (g : GroupData) (at : ℕ) (why : GroupWhy) → HoldsGroup files name g → HasQueryFault files name at why → ⊥
+  group_fault : (g : GroupData) (at : ℕ) (why : GroupWhy) → HoldsGroup grammars.Groups files name g → HasQueryFault grammars.Groups files name at why → ⊥
   group_fault g at why h f = query_apart f.0 g why at (group_in g f.0 f.1 h).1 f.2
 
   query_same : (p q : QueryData) → HoldsQuery files name p → HoldsQuery files name q → reads p ≡ reads q
   query_same p q h k = ap reads (one_queries.one_query k.0 p q (query_in p k.0 k.1 h) k.2)
 
-  group_same : (f g : GroupData) → HoldsGroup files name f → HoldsGroup files name g → reads_groups f ≡ reads_groups g
+  group_same : (f g : GroupData) → HoldsGroup grammars.Groups files name f → HoldsGroup grammars.Groups files name g → reads_groups f ≡ reads_groups g
   group_same f g h k = ap reads_groups (one_groups.one_query k.0 f g (group_in f k.0 k.1 h).1 k.2.1)
 
-  query_fault_same : (n m : ℕ) (v w : GroupWhy) → HasQueryFault files name n v → HasQueryFault files name m w → refused n v ≡ refused m w
+  query_fault_same : (n m : ℕ) (v w : GroupWhy) → HasQueryFault grammars.Groups files name n v → HasQueryFault grammars.Groups files name m w → refused n v ≡ refused m w
   query_fault_same n m v w f g =
       let first : GroupFaultAt g.0 v n = subst (λ (b : List ℕ). GroupFaultAt b v n) (same_bytes files name f.0 g.0 f.1 g.1) f.2 in
       let e = one_first g.0 v n w m first g.2 in
       ap (λ (k : ℕ). refused k v) e.1 ∙ ap (λ (k : GroupWhy). refused m k) e.0
 
+  -- ---- one basic graph pattern alone
+
+  pattern_fault : (q : QueryData) (at : ℕ) (why : GroupWhy) → HoldsQuery files name q → HasQueryFault grammars.Patterns files name at why → ⊥
+  pattern_fault q at (whys.Basic why) h f = one_queries.query_apart f.0 q why at (query_in q f.0 f.1 h) f.2
+  pattern_fault q at whys.TooDeep h f = f.2
+  pattern_fault q at whys.SharedBlank h f = f.2
+
+  basic_same : (n m : ℕ) (v w : QueryWhy) → v ≡ w → n ≡ m → refused n (whys.Basic v) ≡ refused m (whys.Basic w)
+  basic_same n m v w p q = cc
+
+  pattern_fault_same : (n m : ℕ) (v w : GroupWhy) → HasQueryFault grammars.Patterns files name n v → HasQueryFault grammars.Patterns files name m w → refused n v ≡ refused m w
+  pattern_fault_same n m (whys.Basic v) (whys.Basic w) f g =
+      let first : FaultAt g.0 v n = subst (λ (b : List ℕ). FaultAt b v n) (same_bytes files name f.0 g.0 f.1 g.1) f.2 in
+      let e = one_queries.one_first g.0 v n w m first g.2 in
+      basic_same n m v w e.0 e.1
+  pattern_fault_same n m (whys.Basic v) whys.TooDeep f g = absurd g.2
+  pattern_fault_same n m (whys.Basic v) whys.SharedBlank f g = absurd g.2
+  pattern_fault_same n m whys.TooDeep w f g = absurd f.2
+  pattern_fault_same n m whys.SharedBlank w f g = absurd f.2
+
 pub one_query : OneQueryOutcome
-one_query files name (reads p) (reads q) f g = query_same files name p q f g
-one_query files name (reads p) (reads_groups h) f g = absurd (query_group files name p h f g)
-one_query files name (reads p) (refused m w) f g = absurd (query_fault files name p m w f g)
-one_query files name (reads_groups k) (reads q) f g = absurd (query_group files name q k g f)
-one_query files name (reads_groups k) (reads_groups h) f g = group_same files name k h f g
-one_query files name (reads_groups k) (refused m w) f g = absurd (group_fault files name k m w f g)
-one_query files name (refused n v) (reads q) f g = absurd (query_fault files name q n v g f)
-one_query files name (refused n v) (reads_groups h) f g = absurd (group_fault files name h n v g f)
-one_query files name (refused n v) (refused m w) f g = query_fault_same files name n m v w f g
+one_query grammars.Groups files name (reads p) (reads q) f g = query_same files name p q f g
+one_query grammars.Groups files name (reads p) (reads_groups h) f g = absurd (query_group files name p h f g)
+one_query grammars.Groups files name (reads p) (refused m w) f g = absurd (query_fault files name p m w f g)
+one_query grammars.Groups files name (reads_groups k) (reads q) f g = absurd (query_group files name q k g f)
+one_query grammars.Groups files name (reads_groups k) (reads_groups h) f g = group_same files name k h f g
+one_query grammars.Groups files name (reads_groups k) (refused m w) f g = absurd (group_fault files name k m w f g)
+one_query grammars.Groups files name (refused n v) (reads q) f g = absurd (query_fault files name q n v g f)
+one_query grammars.Groups files name (refused n v) (reads_groups h) f g = absurd (group_fault files name h n v g f)
+one_query grammars.Groups files name (refused n v) (refused m w) f g = query_fault_same files name n m v w f g
+one_query grammars.Patterns files name (reads p) (reads q) f g = query_same files name p q f g
+one_query grammars.Patterns files name (reads p) (reads_groups h) f g = absurd g
+one_query grammars.Patterns files name (reads p) (refused m w) f g = absurd (pattern_fault files name p m w f g)
+one_query grammars.Patterns files name (reads_groups k) other f g = absurd f
+one_query grammars.Patterns files name (refused n v) (reads q) f g = absurd (pattern_fault files name q n v g f)
+one_query grammars.Patterns files name (refused n v) (reads_groups h) f g = absurd g
+one_query grammars.Patterns files name (refused n v) (refused m w) f g = pattern_fault_same files name n m v w f g

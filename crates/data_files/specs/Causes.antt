@@ -16,6 +16,7 @@ use Rattle.data_files.specs.declared.fault.DataFault.{DataFault}
 use Rattle.data_files.specs.declared.fault.DataFault.TheVariants as faults
 use Rattle.data_files.specs.declared.fault.QueryFileFault.{QueryFileFault}
 use Rattle.data_files.specs.declared.fault.QueryFileFault.TheVariants as query_faults
+use Rattle.data_files.specs.declared.query.Grammar.{Grammar}
 use Rattle.data_files.specs.Data.{IfTold, IsTooLong, HasDataFault, HasClash, HasTooMany, Outcome, IsOutcome, served, too_long, bad, clash, too_many}
 use Rattle.data_files.specs.Queries.{HasQueryFault, QueryOutcome, IsQueryOutcome, outcome_of, refused}
 
@@ -50,10 +51,10 @@ ServeCause quads choice authority faults.File = ⊥
 ServeCause quads choice authority faults.OutOfMemory = Unit {0}
 
 -- what a fault of the query of a file rests on
-abbrev pub QueryCause : ShelfState → ShelfState → List ℕ → QueryFileFault → Type 0
-QueryCause old new name (query_faults.Bad at why) = IfTold old.told (λ files. HasQueryFault files name at why)
-QueryCause old new name query_faults.File = Rose old.faults new.faults
-QueryCause old new name query_faults.OutOfMemory = Unit {0}
+abbrev pub QueryCause : Grammar → ShelfState → ShelfState → List ℕ → QueryFileFault → Type 0
+QueryCause grammar old new name (query_faults.Bad at why) = IfTold old.told (λ files. HasQueryFault grammar files name at why)
+QueryCause grammar old new name query_faults.File = Rose old.faults new.faults
+QueryCause grammar old new name query_faults.OutOfMemory = Unit {0}
 
 -- an outcome is answered by itself, or by want of memory
 abbrev pub Gives : Outcome → Result Stored DataFault → Type 0
@@ -77,6 +78,6 @@ DataDecides old new name choice authority Answered = ¬ (Rose old.faults new.fau
     → IfTold old.told (λ files. (outcome : Outcome) → IsOutcome files name choice authority outcome → Answered outcome)
 
 -- the same of the file of a query
-abbrev pub QueryDecides : ShelfState → ShelfState → List ℕ → (QueryOutcome → Type 0) → Type 0
-QueryDecides old new name Answered = ¬ (Rose old.faults new.faults)
-    → IfTold old.told (λ files. (outcome : QueryOutcome) → IsQueryOutcome files name outcome → Answered outcome)
+abbrev pub QueryDecides : Grammar → ShelfState → ShelfState → List ℕ → (QueryOutcome → Type 0) → Type 0
+QueryDecides grammar old new name Answered = ¬ (Rose old.faults new.faults)
+    → IfTold old.told (λ files. (outcome : QueryOutcome) → IsQueryOutcome grammar files name outcome → Answered outcome)

@@ -15,4 +15,4 @@ mod query;
 
 pub use data::{one_data_outcome, read_table};
 pub use fault::{DataFault, QueryFileFault};
-pub use query::{one_query_outcome, read_query};
+pub use query::{Grammar, one_query_outcome, read_patterns, read_query};

@@ -1,4 +1,4 @@
--- The texts of a fixed term are parts of the query's text, and of the names of the datatypes that numbers, true and false have.
+-- The texts of a fixed term are parts of the text of its query, and of the names of the datatypes that numbers, true and false have: so for the tokens of any text, also of a query with groups.
 use Rattle.std.proofs.Common.{ℕ, zero, suc, zero-add, ◌≡◌, ◌+◌, ◌-◌, ◌<◌, ◌≤◌, Bool, true, false, not, ◌&&◌, ◌||◌, ◌==◌, nat_lt, if◌then◌else◌, List, [], ◌∷◌, ◌++◌, codes, Option, Some, None, refl, sym, ap, subst, ◌∙◌, map, take, drop, length, arith, length-append, length-drop}
 use Rattle.std.specs.Char.{encode_utf8, len_utf8, to_ascii_lowercase}
 use Rattle.std.specs.List.{AllByRecursion}
@@ -31,7 +31,7 @@ use Rattle.pattern_parser.specs.Names.{with_name, name_text}
 use Rattle.pattern_parser.specs.Prefixes.{or_else, iri_in, first_iri, declares, iri_of, iri_text, before}
 use Rattle.pattern_parser.specs.Items.{rdf_type, xsd_integer, xsd_decimal, xsd_double, xsd_boolean, iri_term, typed_term, tagged_term, datatype_term, string_before, string_term, term_of, name_or_term, part_of, more, mark_of, item_of, items_after}
 use Rattle.pattern_parser.specs.Triples.{triples_after}
-use Rattle.pattern_parser.specs.Queries.{is_select, is_brace, prologue, prefixes, body, block, select_names, Reads, ReadsQuery}
+use Rattle.pattern_parser.specs.Queries.{is_select, is_brace, prologue, prefixes, body, block, select_names, Reads, ReadsTokens, ReadsQuery}
 use Rattle.pattern_parser.specs.Short.{IsShortPart, IsShortPattern}
 
 -- ---- bytes of characters
@@ -134,7 +134,7 @@ text_short (c ∷ d ∷ cs) =
 -- ---- words
 
 -- the bytes of what a token says that stand in a term
-abbrev weight : Value → ℕ
+abbrev pub weight : Value → ℕ
 weight (values.Iri t) = length t
 weight (values.Prefixed n l) = length l
 weight (values.Str s) = length s
@@ -144,7 +144,7 @@ weight (values.Decimal t) = length t
 weight (values.Double t) = length t
 weight _ = 0
 
-abbrev total : List Word → ℕ
+abbrev pub total : List Word → ℕ
 total [] = 0
 total (w ∷ ws) = weight w.value + total ws
 
@@ -173,7 +173,7 @@ value_short pieces.Tag cs = bytes_drop 1 cs
 value_short pieces.Word cs = omega (arith, word_short cs)
 value_short _ cs = omega arith
 
-total_append : (xs ys : List Word) → total (xs ++ ys) ≡ total xs + total ys
+pub total_append : (xs ys : List Word) → total (xs ++ ys) ≡ total xs + total ys
 total_append [] ys = sym (zero-add (total ys))
 total_append (x ∷ xs) ys = omega (arith, total_append xs ys)
 
@@ -199,14 +199,14 @@ placed_short whole cs place (p ∷ ps) e =
     let all : total (words_of whole (one ++ rest)) ≡ total (words_of whole one) + total (words_of whole rest) = ap total (map-append (word_of whole) one rest) ∙ total_append (words_of whole one) (words_of whole rest) in
     omega (arith, all, one_short whole cs place p.0 p.1 e, placed_short whole (drop p.1 cs) (place + p.1) ps next, bytes_split p.1 cs)
 
-reads_short : (text : List ℕ) (ws : List Word) → Reads text ws → total ws ≤ 262144
-reads_short text ws r =
+pub tokens_short : (text : List ℕ) (ws : List Word) → ReadsTokens text ws → total ws ≤ 262144
+tokens_short text ws r =
     let cs = chars text in
     let there : total ws ≡ total (words_of cs (placed cs 0 r.are.pieces)) = ap total r.words ∙ ap (λ (l : List Piece). total (words_of cs l)) r.are.are in
     let size : bytes cs ≡ length text = ap length (encodes-chars text r.utf8) in
     omega (arith, there, placed_short cs cs 0 r.are.pieces refl, size, r.short)
 
-total_split : (n : ℕ) (ws : List Word) → total (take n ws) + total (drop n ws) ≡ total ws
+pub total_split : (n : ℕ) (ws : List Word) → total (take n ws) + total (drop n ws) ≡ total ws
 total_split zero ws = zero-add (total ws)
 total_split (suc n) [] = refl
 total_split (suc n) (w ∷ ws) = omega (arith, total_split n ws)
@@ -229,7 +229,7 @@ declared_short (values.Prefix p) ws n = pick (bytes_eq n p)
     pick false = omega arith
 declared_short _ ws n = omega arith
 
-prefix_short : (ws : List Word) (n : List ℕ) → length (unwrap_or (iri_of ws n) []) ≤ total ws
+pub prefix_short : (ws : List Word) (n : List ℕ) → length (unwrap_or (iri_of ws n) []) ≤ total ws
 prefix_short [] n = omega arith
 prefix_short (w ∷ ws) n = pick (iri_of ws n) (prefix_short ws n)
   where
@@ -240,7 +240,7 @@ prefix_short (w ∷ ws) n = pick (iri_of ws n) (prefix_short ws n)
 -- ---- terms
 
 -- the IRI of each prefix has at most so many bytes
-abbrev Bound : (List ℕ → Option (List ℕ)) → ℕ → Type 0
+abbrev pub Bound : (List ℕ → Option (List ℕ)) → ℕ → Type 0
 Bound iri b = (n : List ℕ) → length (unwrap_or (iri n) []) ≤ b
 
 iri_size : (t : List ℕ) → term_size (iri_term t) ≡ length t
@@ -329,11 +329,11 @@ term_short iri b h _ ws f = tt
 
 -- ---- items
 
-abbrev ShortPart : Option Part → Type 0
+abbrev pub ShortPart : Option Part → Type 0
 ShortPart None = Unit {0}
 ShortPart (Some p) = IsShortPart p
 
-abbrev ShortItem : Item → Type 0
+abbrev pub ShortItem : Item → Type 0
 ShortItem (items.Part p at) = IsShortPart p
 ShortItem _ = Unit {0}
 
@@ -356,7 +356,7 @@ item_short : (o : Option Part) (at : ℕ) (v : Value) → ShortPart o → AllByR
 item_short None at v f = marks_short v
 item_short (Some p) at v f = (f, tt)
 
-items_short : (iri : List ℕ → Option (List ℕ)) (b : ℕ) → Bound iri b → (names : List (List ℕ)) (skip : ℕ) (ws : List Word) → b + total ws ≤ 262144 → AllByRecursion ShortItem (items_after iri names skip ws)
+pub items_short : (iri : List ℕ → Option (List ℕ)) (b : ℕ) → Bound iri b → (names : List (List ℕ)) (skip : ℕ) (ws : List Word) → b + total ws ≤ 262144 → AllByRecursion ShortItem (items_after iri names skip ws)
 items_short iri b h names skip [] f = tt
 items_short iri b h names (suc n) (w ∷ ws) f = items_short iri b h names n ws (omega (arith, f))
 items_short iri b h names zero (w ∷ ws) f =
@@ -367,7 +367,7 @@ items_short iri b h names zero (w ∷ ws) f =
 
 -- ---- patterns
 
-triples_short : (s v : Option Part) (is : List Item) → ShortPart s → ShortPart v → AllByRecursion ShortItem is → AllByRecursion IsShortPattern (map (λ p. p.pattern) (triples_after s v is))
+pub triples_short : (s v : Option Part) (is : List Item) → ShortPart s → ShortPart v → AllByRecursion ShortItem is → AllByRecursion IsShortPattern (map (λ p. p.pattern) (triples_after s v is))
 triples_short s v [] a b h = tt
 triples_short None v (items.Part t at ∷ is) a b h = triples_short (Some t) None is h.0 tt h.1
 triples_short (Some s) None (items.Part t at ∷ is) a b h = triples_short (Some s) (Some t) is a h.0 h.1
@@ -376,6 +376,9 @@ triples_short s v (items.Dot ∷ is) a b h = triples_short None None is tt tt h.
 triples_short s v (items.Semicolon ∷ is) a b h = triples_short s None is a tt h.1
 triples_short s v (items.Comma ∷ is) a b h = triples_short s v is a b h.1
 
+as_tokens : (text : List ℕ) (ws : List Word) → Reads text ws → ReadsTokens text ws
+as_tokens text ws r = record { short = r.short; utf8 = r.utf8; tokens = r.tokens; are = r.are; words = r.words }
+
 pub query_short : (text : List ℕ) (q : QueryData) → ReadsQuery text q → AllByRecursion IsShortPattern q.patterns
 query_short text q r =
     let ws = r.words in
@@ -383,6 +386,6 @@ query_short text q r =
     let pro = prologue ws in
     let all = total_split (before is_select ws) ws in
     let part = total_split (before is_brace bs) bs in
-    let few : total pro + total (block bs) ≤ 262144 = omega (arith, all, part, reads_short text ws r.reads) in
+    let few : total pro + total (block bs) ≤ 262144 = omega (arith, all, part, tokens_short text ws (as_tokens text ws r.reads)) in
     let there = triples_short None None (items_after (prefixes ws) (select_names bs) 0 (block bs)) tt tt (items_short (prefixes ws) (total pro) (prefix_short pro) (select_names bs) 0 (block bs) few) in
     subst (λ (d : QueryData). AllByRecursion IsShortPattern d.patterns) (sym r.is) there

@@ -30,9 +30,9 @@ use Rattle.serve_command.specs.declared.fault.ServiceFault.{ServiceFault}
 use Rattle.serve_command.specs.declared.fault.ServiceFault.TheVariants as faults
 use Rattle.serve_command.specs.declared.service.Service.{Service}
 
--- where the fragments of a service stand
+-- where the fragments of a service stand, and whether it reads rows
 abbrev pub config_of : Service → Config
-config_of service = record { base = service.base; page_size = service.page_size; reload = service.reload }
+config_of service = record { base = service.base; page_size = service.page_size; reload = service.reload; rows = service.rows }
 
 -- the host and the port of a base, at which its service listens
 abbrev pub door_of : Address → Option (List ℕ × ℕ)

@@ -10,6 +10,7 @@
 //!     base,
 //!     page_size: page,
 //!     reload,
+//!     rows,
 //!     stop_after,
 //! };
 //! ```

@@ -37,6 +37,8 @@ pub struct Service<'a> {
     /// The path on which a request has the file read again, if there is one: a written path that is not
     /// the base's.
     pub reload: Option<Text>,
+    /// Whether the rows of a request are read: its page then holds only the triples that fit one of them.
+    pub rows: bool,
     /// After how many connections that ended the service ends, if it does.
     pub stop_after: Option<u64>,
 }
@@ -197,6 +199,9 @@ fn serve_server<R: Wait, F: Shelf, W: Accept, K: Sink>(
 /// many have ended. Gives their number, at most 255 more than `stop_after` says, or 256 where that is
 /// 0; the count stands still at its last value.
 ///
+/// Where rows are read, each request that names some is answered by the fragment that they restrict, and else
+/// they are passed over.
+///
 /// Where a path is given, a request on it has the file read again, and the data are served as the next
 /// version. A read that fails then leaves the data and their version. Without one the file is read once.
 ///
@@ -225,10 +230,11 @@ pub fn serve<R: Wait, F: Shelf, W: Accept, K: Sink>(
         base,
         page_size,
         reload,
+        rows,
         stop_after,
     } = service;
     let reloads = reload.is_some();
-    let config = config_of(base, page_size, reload);
+    let config = config_of(base, page_size, reload, rows);
     let mut server = match server_of_file(alloc, shelf, name, choice, config) {
         Ok(server) => server,
         Err(fault) => return Err(ServiceFault::Data(fault)),
