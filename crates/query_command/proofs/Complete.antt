@@ -8,11 +8,12 @@ use Rattle.tpf_base.specs.Wrote.{SinkState}
 use Rattle.template_fill.specs.Metadata.{Config}
 use Rattle.template_fill.specs.Answered.{AnsweredGivePages}
 use Rattle.bgp_core.specs.Queries.{IsValidPattern, QueryData}
+use Rattle.join_core.specs.Blocks.{IsBlockSize}
 use Rattle.plan_laws.specs.Fitting.{PlansAreRead, StartsAreRead}
 use Rattle.tpf_client.specs.declared.options.Options.{Options}
 use Rattle.tpf_client.specs.declared.fault.ClientFault.{ClientFault}
 use Rattle.tpf_client.specs.declared.fault.ClientFault.TheVariants as clients
-use Rattle.tpf_client.specs.Offers.{Offer, publisher, server_offer}
+use Rattle.tpf_client.specs.Offers.{Offer, publisher, offer_in_blocks}
 use Rattle.tpf_client.specs.Plans.{MayStill, ChangesVersion}
 use Rattle.data_files.proofs.Outcomes.{one_query}
 use Rattle.query_command.specs.Limits.{QueriesAreAskable}
@@ -25,6 +26,7 @@ use Rattle.data_files.specs.declared.fault.DataFault.{DataFault}
 use Rattle.data_files.specs.declared.fault.DataFault.TheVariants as data_faults
 use Rattle.data_files.specs.declared.fault.QueryFileFault.{QueryFileFault}
 use Rattle.data_files.specs.declared.fault.QueryFileFault.TheVariants as query_faults
+use Rattle.data_files.specs.declared.query.Grammar.TheVariants as grammars
 use Rattle.data_files.specs.Data.{Files, served}
 use Rattle.data_files.specs.Queries.{reads}
 use Rattle.data_files.specs.Kept.{ReadsNamed}
@@ -32,6 +34,7 @@ use Rattle.data_files.specs.Causes.{Gives, GivesQuery, DataDecides, QueryDecides
 use Rattle.query_command.specs.declared.fault.AnswerFault.{AnswerFault}
 use Rattle.query_command.specs.declared.fault.AnswerFault.TheVariants as faults
 use Rattle.query_command.specs.declared.generated_query.Counts.{Counts}
+use Rattle.query_command.specs.Blocks.{grammar_of}
 use Rattle.query_command.specs.Files.{FailsByFile, ReadsLocally, KeepsOutput}
 use Rattle.query_command.specs.Answers.{Answers, GivesAnswer, AskCause, AnswersSome, FitsOver, OfQuery, IsWanting, IsClientWanting, SucceedsOver, AsksServer}
 use Rattle.query_command.specs.Generated.{usual_options, GeneratedAnswers, GeneratedCause}
@@ -60,24 +63,24 @@ query_memory q query_faults.OutOfMemory h = refl
 
 module _ (shelf shelf' : ShelfState) (view : LocalView) (inside : Option (Looped FragmentServer)) (out out' : SinkState) where
   pub local_complete : (result : Result Report AnswerFault) → IfErr result (LocalCause shelf shelf' view inside out out')
-      → DataDecides shelf shelf' view.name view.choice (codes "localhost") (λ outcome. GivesData outcome result) → QueryDecides shelf shelf' view.query (λ outcome. GivesAnswer outcome result)
+      → DataDecides shelf shelf' view.name view.choice (codes "localhost") (λ outcome. GivesData outcome result) → QueryDecides (grammar_of view.options) shelf shelf' view.query (λ outcome. GivesAnswer outcome result)
       → EndsByPlan shelf.told view result → ¬ (Rose shelf.faults shelf'.faults) → ¬ (Rose out.faults out'.faults) → SucceedsByPlan shelf.told view result
   local_complete (Ok report) cause data_exact query_exact ends quiet fine = λ small files is triples q serves holds within. tt
   local_complete (Err (faults.Data fault)) cause data_exact query_exact ends quiet fine = λ small files is triples q serves holds within. data_memory triples fault (data_exact quiet files is (served triples) serves)
   local_complete (Err (faults.Query fault)) cause data_exact query_exact ends quiet fine = λ small files is triples q serves holds within. query_memory q fault (query_exact quiet files is (reads q) holds)
   local_complete (Err (faults.Client fault)) cause data_exact query_exact ends quiet fine = λ small files is triples q serves holds within.
-      is_memory view.fail_every view.options triples (local_config view.page_size) (offer_of triples (local_config view.page_size) q) (λ address server e. e) (plan_of triples (local_config view.page_size) q) fault within (λ e. fine (cause.1.loops.says.writes.sink e)) (ends small files is triples q serves holds)
+      is_memory view.fail_every view.options triples (local_config view.options view.page_size) (offer_of view.options triples (local_config view.options view.page_size) q) (λ address server e. e) (plan_of view.options triples (local_config view.options view.page_size) q) fault within (λ e. fine (cause.1.loops.says.writes.sink e)) (ends small files is triples q serves holds)
 
 module _ (shelf shelf' : ShelfState) (persons : ℕ) (name : List ℕ) (inside : Option (Looped FragmentServer)) where
   pub generated_complete : (result : Result Counts AnswerFault) → IfErr result (GeneratedCause shelf shelf' persons name inside)
-      → QueryDecides shelf shelf' name (λ outcome. GivesAnswer outcome result)
-      → OfGenerated shelf.told persons name (λ triples q. EndsCounted usual_options triples (local_config 100) q result)
-      → ¬ (Rose shelf.faults shelf'.faults) → OfGenerated shelf.told persons name (λ triples q. PlanIsWithin 0 usual_options triples (local_config 100) q → IfErr result IsWanting)
+      → QueryDecides grammars.Groups shelf shelf' name (λ outcome. GivesAnswer outcome result)
+      → OfGenerated shelf.told persons name (λ triples q. EndsCounted usual_options triples (local_config usual_options 100) q result)
+      → ¬ (Rose shelf.faults shelf'.faults) → OfGenerated shelf.told persons name (λ triples q. PlanIsWithin 0 usual_options triples (local_config usual_options 100) q → IfErr result IsWanting)
   generated_complete (Ok counts) cause exact ends quiet = λ files is triples q serves holds within. tt
   generated_complete (Err (faults.Data fault)) cause exact ends quiet = λ files is triples q serves holds within. cause.0
   generated_complete (Err (faults.Query fault)) cause exact ends quiet = λ files is triples q serves holds within. query_memory q fault (exact quiet files is (reads q) holds)
   generated_complete (Err (faults.Client fault)) cause exact ends quiet = λ files is triples q serves holds within.
-      is_memory 0 usual_options triples (local_config 100) (offer_of triples (local_config 100) q) (λ address server e. e) (plan_of triples (local_config 100) q) fault within cause.0 (ends files is triples q serves holds)
+      is_memory 0 usual_options triples (local_config usual_options 100) (offer_of usual_options triples (local_config usual_options 100) q) (λ address server e. e) (plan_of usual_options triples (local_config usual_options 100) q) fault within cause.0 (ends files is triples q serves holds)
 
 -- ---- over a wire to a server elsewhere
 
@@ -97,15 +100,15 @@ same_query one other e = cc
 
 module _ (told : Option Files) (name : List ℕ) (allows : List ℕ → ℕ → List ℕ → List ℕ → Type 0) (start : Address) (options : Options) (old new : WireState) (out out' : ℕ) (taken taken' : Option (List ℕ)) where
   -- a call that failed over a wire, and the valid patterns of its query
-  pub asked_complete : PlansAreRead → StartsAreRead → AnsweredGivePages → QueriesAreAskable → (fault : ClientFault) → (a : AnswersSome told name allows start options fault old new out out' taken taken') → AllByRecursion IsValidPattern a.q.patterns
+  pub asked_complete : PlansAreRead → StartsAreRead → AnsweredGivePages → QueriesAreAskable → IsBlockSize options.block → (fault : ClientFault) → (a : AnswersSome told name allows start options fault old new out out' taken taken') → AllByRecursion IsValidPattern a.q.patterns
       → length (address_text start) ≤ 65536 → ¬ (Rose out out') → OfQuery told name (λ q. (triples : List Triple) (config : Config) → FitsOver allows q start options triples config old new → fault ≡ clients.OutOfMemory)
-  asked_complete plans starts gives askable fault a valid short fine = λ files is q holds triples config fits.
-      let same : q ≡ a.q = same_query q a.q (one_query files name (reads q) (reads a.q) holds (a.is_read.tells files is)) in
+  asked_complete plans starts gives askable sized fault a valid short fine = λ files is q holds triples config fits.
+      let same : q ≡ a.q = same_query q a.q (one_query grammars.Patterns files name (reads q) (reads a.q) holds (a.is_read.tells files is)) in
       let own : FitsOver allows a.q start options triples config old new = subst (λ (x : QueryData). FitsOver allows x start options triples config old new) same fits in
-      still_memory (server_offer (publisher (triples ∷ []) config) a.q start) (one_server triples config a.q start) fault (a.writes.complete (triples ∷ []) config own.honest own.lively own.rise own.rises (plan_fits plans starts gives allows a.q start options triples config old new (askable files name a.q (a.is_read.tells files is) valid) short own) fine)
+      still_memory (offer_in_blocks options.block (publisher (triples ∷ []) config) a.q start) (one_server options.block triples config a.q start) fault (a.writes.complete (triples ∷ []) config own.honest own.lively own.rise own.rises (plan_fits plans starts gives allows a.q start options triples config old new sized (askable files name a.q (a.is_read.tells files is) valid) short own) fine)
 
 module _ (shelf shelf' : ShelfState) (name : List ℕ) (allows : List ℕ → ℕ → List ℕ → List ℕ → Type 0) (start : Address) (options : Options) (wire wire' : WireState) (out out' : SinkState) where
-  query_complete : (result : Result Report AnswerFault) → IfErr result (AskCause shelf shelf' name allows start options wire wire' out out') → QueryDecides shelf shelf' name (λ outcome. GivesAnswer outcome result)
+  query_complete : (result : Result Report AnswerFault) → IfErr result (AskCause shelf shelf' name allows start options wire wire' out out') → QueryDecides (grammar_of options) shelf shelf' name (λ outcome. GivesAnswer outcome result)
       → (length (address_text start) ≤ 65536 → ¬ (Rose out.faults out'.faults) → OfQuery shelf.told name (λ q. (triples : List Triple) (config : Config) → FitsOver allows q start options triples config wire wire' → IfErr result IsClientWanting))
       → SucceedsOver shelf shelf' name allows start options wire wire' out out' result
   query_complete (Ok report) cause exact asked short quiet fine = λ files is q holds triples config fits. tt
@@ -123,13 +126,13 @@ module _ (shelf shelf' : ShelfState) (name : List ℕ) (allows : List ℕ → �
       record { answers = ok; cause = err; exact = exact; complete = query_complete result err exact asked; reads = named; output = output }
 
   -- the client gave up: its cause says that it would not have, where nothing stands in the way
-  pub asks_failed : PlansAreRead → StartsAreRead → AnsweredGivePages → QueriesAreAskable → (fault : ClientFault)
+  pub asks_failed : PlansAreRead → StartsAreRead → AnsweredGivePages → QueriesAreAskable → IsBlockSize options.block → (fault : ClientFault)
       → (a : AnswersSome shelf.told name allows start options fault wire wire' out.faults out'.faults out.taken out'.taken) → AllByRecursion IsValidPattern a.q.patterns
       → ReadsNamed name shelf shelf' (FailsByFile {A = Report} (Err (faults.Client fault))) → KeepsOutput out out' (Err (faults.Client fault))
       → AsksServer shelf shelf' allows wire wire' out out' name start options (Err (faults.Client fault))
-  asks_failed plans starts gives askable fault a valid named output =
+  asks_failed plans starts gives askable sized fault a valid named output =
       asks_server (Err (faults.Client fault)) tt a
-      (asked_complete shelf.told name allows start options wire wire' out.faults out'.faults out.taken out'.taken plans starts gives askable fault a valid)
+      (asked_complete shelf.told name allows start options wire wire' out.faults out'.faults out.taken out'.taken plans starts gives askable sized fault a valid)
       named output
 
 -- ---- in the same process
@@ -164,14 +167,14 @@ module _ (shelf shelf' : ShelfState) (out out' : SinkState) (inside : Option (Lo
       → ReadsLocally view.name view.query shelf shelf' (Err fault) → KeepsOutput out out' (Err fault) → AsksFile shelf shelf' out out' inside view (Err fault)
   asks_none fault none err ends planned honest named output =
       asks_file (Err fault) tt err
-      (λ files is triples q serves holds. subst (λ (made : Option (Looped FragmentServer)). SendsInside made triples (local_config view.page_size) q) (sym none) tt)
-      (λ files is triples q serves holds. subst (λ (made : Option (Looped FragmentServer)). RequestsInside view.options made triples (local_config view.page_size) q) (sym none) tt)
-      tt (λ small files is triples q serves holds. ends triples (local_config view.page_size) q) planned honest named output
+      (λ files is triples q serves holds. subst (λ (made : Option (Looped FragmentServer)). SendsInside view.options made triples (local_config view.options view.page_size) q) (sym none) tt)
+      (λ files is triples q serves holds. subst (λ (made : Option (Looped FragmentServer)). RequestsInside view.options made triples (local_config view.options view.page_size) q) (sym none) tt)
+      tt (λ small files is triples q serves holds. ends triples (local_config view.options view.page_size) q) planned honest named output
 
 module _ (shelf shelf' : ShelfState) (persons : ℕ) (name : List ℕ) (inside : Option (Looped FragmentServer)) where
   pub asks_generated : (result : Result Counts AnswerFault) → IfOk result (GeneratedAnswers shelf.told persons name inside) → IfErr result (GeneratedCause shelf shelf' persons name inside)
-      → OfGenerated shelf.told persons name (λ triples q. SendsInside inside triples (local_config 100) q) → OfGenerated shelf.told persons name (λ triples q. RequestsInside usual_options inside triples (local_config 100) q)
-      → RepliesGenerated shelf.told persons name inside result → OfGenerated shelf.told persons name (λ triples q. EndsCounted usual_options triples (local_config 100) q result)
+      → OfGenerated shelf.told persons name (λ triples q. SendsInside usual_options inside triples (local_config usual_options 100) q) → OfGenerated shelf.told persons name (λ triples q. RequestsInside usual_options inside triples (local_config usual_options 100) q)
+      → RepliesGenerated shelf.told persons name inside result → OfGenerated shelf.told persons name (λ triples q. EndsCounted usual_options triples (local_config usual_options 100) q result)
       → EndsGenerated shelf.told persons name inside result → HonestGenerated persons inside result
       → ReadsNamed name shelf shelf' (FailsByFile result) → AsksGenerated shelf shelf' inside persons name result
   asks_generated result ok err sent requested replied ends planned honest named =
@@ -195,6 +198,6 @@ module _ (shelf shelf' : ShelfState) (persons : ℕ) (name : List ℕ) (inside :
       → ReadsNamed name shelf shelf' (FailsByFile {A = Counts} (Err fault)) → AsksGenerated shelf shelf' inside persons name (Err fault)
   counts_none fault none err ends planned honest named =
       asks_generated (Err fault) tt err
-      (λ files is triples q serves holds. subst (λ (made : Option (Looped FragmentServer)). SendsInside made triples (local_config 100) q) (sym none) tt)
-      (λ files is triples q serves holds. subst (λ (made : Option (Looped FragmentServer)). RequestsInside usual_options made triples (local_config 100) q) (sym none) tt)
-      tt (λ files is triples q serves holds. ends triples (local_config 100) q) planned honest named
+      (λ files is triples q serves holds. subst (λ (made : Option (Looped FragmentServer)). SendsInside usual_options made triples (local_config usual_options 100) q) (sym none) tt)
+      (λ files is triples q serves holds. subst (λ (made : Option (Looped FragmentServer)). RequestsInside usual_options made triples (local_config usual_options 100) q) (sym none) tt)
+      tt (λ files is triples q serves holds. ends triples (local_config usual_options 100) q) planned honest named

@@ -20,6 +20,7 @@ use Rattle.tpf_client.specs.declared.options.Report.{Report}
 use Rattle.tpf_client.specs.declared.fault.ClientFault.{ClientFault}
 use Rattle.tpf_client.specs.declared.fault.ClientFault.TheVariants as clients
 use Rattle.tpf_client.specs.Calls.{solutions_of}
+use Rattle.data_files.specs.declared.query.Grammar.TheVariants as grammars
 use Rattle.data_files.specs.Data.{Files, IfTold}
 use Rattle.data_files.specs.Queries.{HoldsQuery, IsOfQueryFile, QueryOutcome, IsQueryOutcome, reads}
 use Rattle.data_files.proofs.Outcomes.{one_query}
@@ -49,7 +50,7 @@ in_bounds options is = subst (λ (o : Options). (1 ≤ o.window) × (1 ≤ o.lin
 pub served_len : (server : FragmentServer) (inner : core.Serving) (table : Stored) (n : ℕ) → inner ≡ server.server → table ≡ inner.table → n ≡ length (triples_in table) → n ≡ length (serving server).data_set
 served_len server inner table n is at e = e ∙ ap (λ (t : Stored). length (triples_in t)) at ∙ ap (λ (s : core.Serving). length (core.data_of s)) is
 
-module _ (server : FragmentServer) (persons : ℕ) (starts : StartsGenerated persons (local_config 100) (serving server)) (q : QueryData) where
+module _ (server : FragmentServer) (persons : ℕ) (starts : StartsGenerated persons (local_config usual_options 100) (serving server)) (q : QueryData) where
   pub counts_of : (triples rows : ℕ) → triples ≡ length (serving server).data_set → WritesAnswer (serving server).data_set q rows None None → CountsQuery persons q (record { triples = triples; rows = rows })
   counts_of triples rows e w = record {
     triples = (serving server).data_set;
@@ -74,12 +75,12 @@ module _ (server : FragmentServer) (persons : ℕ) (starts : StartsGenerated per
     }
 
     -- what was answered
-    pub replies_rows : (report : Report) → LoopsServer server 0 0 inside (λ old new. AnswersPlan (offer_of (serving server).data_set (serving server).config q) options report (wire_of old) (wire_of new))
+    pub replies_rows : (report : Report) → LoopsServer server 0 0 inside (λ old new. AnswersPlan (offer_of options (serving server).data_set (serving server).config q) options report (wire_of old) (wire_of new))
         → LoopsServer server 0 0 inside (RepliesRows (serving server).data_set (serving server).config q report.rows)
     replies_rows report l = record {
       after = l.after;
       is_inside = l.is_inside;
-      says = (report, refl, subst (λ (o : Options). AnswersPlan (offer_of (serving server).data_set (serving server).config q) o report (wire_of (begun server 0 0)) (wire_of l.after)) is l.says);
+      says = (report, refl, subst (λ (o : Options). AnswersPlan (offer_of o (serving server).data_set (serving server).config q) o report (wire_of (begun server 0 0)) (wire_of l.after)) is l.says);
     }
 
     -- how often it was sent
@@ -89,6 +90,14 @@ module _ (server : FragmentServer) (persons : ℕ) (starts : StartsGenerated per
       after = l.after;
       is_inside = l.is_inside;
       says = subst (λ (o : Options). BoundsRequests o (serving server).data_set (serving server).config q (wire_of l.after)) is l.says;
+    }
+
+    pub sends_usual : LoopsServer server 0 0 inside (λ old new. SendsPlan options (serving server).data_set (serving server).config q (wire_of new))
+        → LoopsServer server 0 0 inside (λ old new. SendsPlan usual_options (serving server).data_set (serving server).config q (wire_of new))
+    sends_usual l = record {
+      after = l.after;
+      is_inside = l.is_inside;
+      says = subst (λ (o : Options). SendsPlan o (serving server).data_set (serving server).config q (wire_of l.after)) is l.says;
     }
 
     -- how the call may end
@@ -107,7 +116,7 @@ never_rose : Rose 0 0 → ⊥
 never_rose h = omega (arith, h)
 
 -- of the wire that was left
-pub generated_honest : (persons : ℕ) (inside : Option (Looped FragmentServer)) (server : FragmentServer) → StartsGenerated persons (local_config 100) (serving server) → LoopsServer server 0 0 inside LeavesHonest → LoopsGenerated persons inside LeavesHonest
+pub generated_honest : (persons : ℕ) (inside : Option (Looped FragmentServer)) (server : FragmentServer) → StartsGenerated persons (local_config usual_options 100) (serving server) → LoopsServer server 0 0 inside LeavesHonest → LoopsGenerated persons inside LeavesHonest
 generated_honest persons inside server starts l = record { server = server; starts = starts; loops = l }
 
 module _ (told : Option Files) (persons : ℕ) (name : List ℕ) (inside : Option (Looped FragmentServer)) where
@@ -125,7 +134,7 @@ module _ (told : Option Files) (persons : ℕ) (name : List ℕ) (inside : Optio
     )
 
     -- over any shelf
-    pub generated_planned : GeneratedAreServable → QueriesAreAskable → persons ≤ 1000000 → AllByRecursion IsValidPattern q.patterns → (server : FragmentServer) → StartsGenerated persons (local_config 100) (serving server) → (fault : ClientFault) → LoopsServer server 0 0 inside LeavesHonest
+    pub generated_planned : GeneratedAreServable → QueriesAreAskable → persons ≤ 1000000 → AllByRecursion IsValidPattern q.patterns → (server : FragmentServer) → StartsGenerated persons (local_config usual_options 100) (serving server) → (fault : ClientFault) → LoopsServer server 0 0 inside LeavesHonest
         → (AreServable (serving server).data_set → AllByRecursion IsAskable q.patterns → MayEnd 0 usual_options (serving server).data_set (serving server).config q fault)
         → LoopsGenerated persons inside (λ old new. EndsOver told name 0 usual_options (Err fault) old)
     generated_planned data_law query_law most valid server starts fault l ends = record {
@@ -143,22 +152,22 @@ module _ (told : Option Files) (persons : ℕ) (name : List ℕ) (inside : Optio
     }
 
   -- what holds of the data that were made and the query that was read holds of all data and queries that the files hold
-  module _ (server : FragmentServer) (starts : StartsGenerated persons (local_config 100) (serving server)) (q : QueryData) (is_read : IsOfQueryFile told name q) (one_served : OneServed) where
+  module _ (server : FragmentServer) (starts : StartsGenerated persons (local_config usual_options 100) (serving server)) (q : QueryData) (is_read : IsOfQueryFile told name q) (one_served : OneServed) where
     of_both : (P : List Triple → Config → QueryData → Type 0) (files : Files) → told ≡ Some files → (triples : List Triple) (asked : QueryData) → IsServed (codes "localhost") (chosen DefaultGraph (generated persons)) triples → HoldsQuery files name asked
-        → P (serving server).data_set (serving server).config q → P triples (local_config 100) asked
+        → P (serving server).data_set (serving server).config q → P triples (local_config usual_options 100) asked
     of_both P files is triples asked serves holds h =
-        subst (λ (x : QueryData). P triples (local_config 100) x) (same_query q asked (one_query files name (reads q) (reads asked) (is_read.tells files is) holds))
+        subst (λ (x : QueryData). P triples (local_config usual_options 100) x) (same_query q asked (one_query grammars.Groups files name (reads q) (reads asked) (is_read.tells files is) holds))
         (subst (λ (c : Config). P triples c q) starts.config_is
         (subst (λ (ts : List Triple). P ts (serving server).config q) (one_served (codes "localhost") (chosen DefaultGraph (generated persons)) (serving server).data_set triples starts.data_set serves) h))
 
-    pub generated_sent : LoopsServer server 0 0 inside (λ old new. SendsPlan (serving server).data_set (serving server).config q (wire_of new)) → OfGenerated told persons name (λ triples asked. SendsInside inside triples (local_config 100) asked)
+    pub generated_sent : LoopsServer server 0 0 inside (λ old new. SendsPlan usual_options (serving server).data_set (serving server).config q (wire_of new)) → OfGenerated told persons name (λ triples asked. SendsInside usual_options inside triples (local_config usual_options 100) asked)
     generated_sent l = λ files is triples asked serves holds.
-        subst (λ (made : Option (Looped FragmentServer)). SendsInside made triples (local_config 100) asked) (sym l.is_inside)
-        (of_both (λ (ts : List Triple) (c : Config) (x : QueryData). SendsPlan ts c x (wire_of l.after)) files is triples asked serves holds l.says)
+        subst (λ (made : Option (Looped FragmentServer)). SendsInside usual_options made triples (local_config usual_options 100) asked) (sym l.is_inside)
+        (of_both (λ (ts : List Triple) (c : Config) (x : QueryData). SendsPlan usual_options ts c x (wire_of l.after)) files is triples asked serves holds l.says)
 
-    pub generated_requested : LoopsServer server 0 0 inside (λ old new. BoundsRequests usual_options (serving server).data_set (serving server).config q (wire_of new)) → OfGenerated told persons name (λ triples asked. RequestsInside usual_options inside triples (local_config 100) asked)
+    pub generated_requested : LoopsServer server 0 0 inside (λ old new. BoundsRequests usual_options (serving server).data_set (serving server).config q (wire_of new)) → OfGenerated told persons name (λ triples asked. RequestsInside usual_options inside triples (local_config usual_options 100) asked)
     generated_requested l = λ files is triples asked serves holds.
-        subst (λ (made : Option (Looped FragmentServer)). RequestsInside usual_options made triples (local_config 100) asked) (sym l.is_inside)
+        subst (λ (made : Option (Looped FragmentServer)). RequestsInside usual_options made triples (local_config usual_options 100) asked) (sym l.is_inside)
         (of_both (λ (ts : List Triple) (c : Config) (x : QueryData). BoundsRequests usual_options ts c x (wire_of l.after)) files is triples asked serves holds l.says)
 
     pub generated_replied : (counts : Counts) → LoopsServer server 0 0 inside (RepliesRows (serving server).data_set (serving server).config q counts.rows) → OfGenerated told persons name (RepliedGenerated persons inside counts)
@@ -174,22 +183,22 @@ module _ (told : Option Files) (persons : ℕ) (name : List ℕ) (inside : Optio
 
     pub generated_ends : GeneratedAreServable → QueriesAreAskable → persons ≤ 1000000 → AllByRecursion IsValidPattern q.patterns → (fault : ClientFault)
         → (AreServable (serving server).data_set → AllByRecursion IsAskable q.patterns → MayEnd 0 usual_options (serving server).data_set (serving server).config q fault)
-        → OfGenerated told persons name (λ triples asked. MayEnd 0 usual_options triples (local_config 100) asked fault)
+        → OfGenerated told persons name (λ triples asked. MayEnd 0 usual_options triples (local_config usual_options 100) asked fault)
     generated_ends data_law query_law most valid fault ends = λ files is triples asked serves holds.
         of_both (λ (ts : List Triple) (c : Config) (x : QueryData). MayEnd 0 usual_options ts c x fault) files is triples asked serves holds
         (ends (data_law persons (serving server).data_set most starts.data_set) (query_law files name q (is_read.tells files is) valid))
 
   -- what the file holds is the query that was read
-  answers_read : (counts : Counts) → GeneratedAnswers told persons name inside counts → IfTold told (λ files. (outcome : QueryOutcome) → IsQueryOutcome files name outcome → IsReading outcome)
-  answers_read counts a = λ files is outcome o. (a.0.q, one_query files name outcome (reads a.0.q) o (a.0.is_read.tells files is))
+  answers_read : (counts : Counts) → GeneratedAnswers told persons name inside counts → IfTold told (λ files. (outcome : QueryOutcome) → IsQueryOutcome grammars.Groups files name outcome → IsReading outcome)
+  answers_read counts a = λ files is outcome o. (a.0.q, one_query grammars.Groups files name outcome (reads a.0.q) o (a.0.is_read.tells files is))
 
 module _ (shelf shelf' : ShelfState) (persons : ℕ) (name : List ℕ) (inside : Option (Looped FragmentServer)) where
-  causes_read : (X : Type 0) (fault : AnswerFault) → GeneratedCause shelf shelf' persons name inside fault → QueryDecides shelf shelf' name (λ outcome. GivesAnswer {X = X} outcome (Err fault))
+  causes_read : (X : Type 0) (fault : AnswerFault) → GeneratedCause shelf shelf' persons name inside fault → QueryDecides grammars.Groups shelf shelf' name (λ outcome. GivesAnswer {X = X} outcome (Err fault))
   causes_read X (faults.Data fault) e quiet = λ files is outcome o. tt
-  causes_read X (faults.Query fault) e quiet = gives_query shelf shelf' name (Err fault) tt e.0 quiet
-  causes_read X (faults.Client fault) e quiet = λ files is outcome o. (e.1.loops.says.q, one_query files name outcome (reads e.1.loops.says.q) o (e.1.loops.says.is_read.tells files is))
+  causes_read X (faults.Query fault) e quiet = gives_query shelf shelf' name grammars.Groups (Err fault) tt e.0 quiet
+  causes_read X (faults.Client fault) e quiet = λ files is outcome o. (e.1.loops.says.q, one_query grammars.Groups files name outcome (reads e.1.loops.says.q) o (e.1.loops.says.is_read.tells files is))
 
   pub gives_counts : (result : Result Counts AnswerFault) → IfOk result (GeneratedAnswers shelf.told persons name inside) → IfErr result (GeneratedCause shelf shelf' persons name inside)
-      → QueryDecides shelf shelf' name (λ outcome. GivesAnswer outcome result)
+      → QueryDecides grammars.Groups shelf shelf' name (λ outcome. GivesAnswer outcome result)
   gives_counts (Ok counts) a e quiet = answers_read shelf.told persons name inside counts a
   gives_counts (Err fault) a e quiet = causes_read Counts fault e quiet

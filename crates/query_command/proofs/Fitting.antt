@@ -1,21 +1,21 @@
 -- What a query asks of a server in the same process is answered with pages that are read, within the limits of the program.
-use Rattle.std.proofs.Common.{ℕ, suc, ◌≡◌, ◌==◌, ◌+◌, ◌≤◌, ◌++◌, Bool, true, false, [], ◌∷◌, List, length, codes, Option, None, if◌then◌else◌, refl, sym, ap, subst, ◌∙◌, arith, lit≤, length-append, append-nil}
+use Rattle.std.proofs.Common.{ℕ, ◌≡◌, ◌+◌, ◌≤◌, Bool, true, false, [], ◌∷◌, List, length, Option, if◌then◌else◌, sym, subst, ◌∙◌, arith, lit≤}
 use Rattle.std.specs.List.{AllByRecursion}
-use Rattle.std.proofs.lemmas.Bool.Decides.{nat_tests}
 use Rattle.rdf_terms.specs.declared.term.Triple.{Triple}
-use Rattle.tpf_base.specs.Addresses.{Address, address_text, authority_of, query_text, target_of}
+use Rattle.tpf_base.specs.Addresses.{Address, address_text, authority_of}
 use Rattle.tpf_base.specs.Links.{WireState}
 use Rattle.tpf_base.specs.Marks.{Served}
 use Rattle.template_fill.specs.Metadata.{Config}
 use Rattle.template_fill.specs.Configurations.{IsConfig, IsHistory, IsValidDataSet}
-use Rattle.template_fill.specs.ReadAddress.{path_of}
-use Rattle.template_fill.specs.Answered.{address_answer, is_answered, AnsweredGivePages}
-use Rattle.control_reader.specs.Takes.{Takes}
+use Rattle.template_fill.specs.Answered.{is_answered, AnsweredGivePages}
 use Rattle.bgp_core.specs.Queries.{QueryData}
+use Rattle.join_core.specs.Blocks.{IsBlockSize}
 use Rattle.plan_laws.specs.Fitting.{IsRead, AreServable, IsAskable, IsServable, PlansAreRead, BasesAreRead, StartsAreRead}
-use Rattle.tpf_client.specs.Offers.{Publisher, IsVersionOf, publisher, is_served, addresses_of, server_offer}
+use Rattle.tpf_client.specs.Offers.{Publisher, IsVersionOf, publisher, is_served, addresses_in_blocks, offer_in_blocks}
+use Rattle.plan_laws.proofs.Starts.{base_of_start, target_of_start}
 use Rattle.tpf_client.specs.declared.options.Options.{Options}
-use Rattle.tpf_client.specs.Plans.{AtEach, TellsVersions, ChangesVersion, IsAnswered, IsReadByAll, IsSmallByAll, IsFit, PlanFits, answer_at}
+use Rattle.tpf_client.specs.Plans.{AtEach, TellsVersions, ChangesVersion, IsAnswered, IsReadByAll, IsSmallByAll, IsFit, PlanFits}
+use Rattle.tpf_client.proofs.Fitting.{answered_of, read_by_all, fit_of}
 use Rattle.tpf_client.proofs.Serving.{at-server}
 use Rattle.query_command.specs.Loops.{local_base}
 use Rattle.query_command.specs.Plans.{plan_of, offer_of}
@@ -31,13 +31,13 @@ one_version triples version is = same version is.low is.high
 pub one_told : (triples : List Triple) (first other : Option ℕ) → TellsVersions (triples ∷ []) first other → ⊥
 one_told triples first other t = t.differ (sym (one_version triples t.one t.is_one) ∙ one_version triples t.two t.is_two)
 
-pub one_server : (triples : List Triple) (config : Config) (q : QueryData) (start : Address) (first other : Option ℕ) → ChangesVersion (server_offer (publisher (triples ∷ []) config) q start) first other → ⊥
-one_server triples config q start first other c = one_told triples first other (subst (λ (p : Publisher). TellsVersions p.history first other) c.stands c.versions)
+pub one_server : (block : ℕ) (triples : List Triple) (config : Config) (q : QueryData) (start : Address) (first other : Option ℕ) → ChangesVersion (offer_in_blocks block (publisher (triples ∷ []) config) q start) first other → ⊥
+one_server block triples config q start first other c = one_told triples first other (subst (λ (p : Publisher). TellsVersions p.history first other) c.stands c.versions)
 
 -- what holds of the addresses at the one version holds of those at each
-pub at_version : (triples : List Triple) (config : Config) (q : QueryData) (start : Address) (P : List Address → Type 0) (version : ℕ) → IsVersionOf (triples ∷ []) version
-    → P (addresses_of (publisher (triples ∷ []) config) q start 1) → P (addresses_of (publisher (triples ∷ []) config) q start version)
-at_version triples config q start P version is h = subst (λ (v : ℕ). P (addresses_of (publisher (triples ∷ []) config) q start v)) (one_version triples version is) h
+pub at_version : (block : ℕ) (triples : List Triple) (config : Config) (q : QueryData) (start : Address) (P : List Address → Type 0) (version : ℕ) → IsVersionOf (triples ∷ []) version
+    → P (addresses_in_blocks block (publisher (triples ∷ []) config) q start 1) → P (addresses_in_blocks block (publisher (triples ∷ []) config) q start version)
+at_version block triples config q start P version is h = subst (λ (v : ℕ). P (addresses_in_blocks block (publisher (triples ∷ []) config) q start v)) (one_version triples version is) h
 
 pub all_weaker : (P Q : Address → Type 0) → ((address : Address) → P address → Q address) → (list : List Address) → AllByRecursion P list → AllByRecursion Q list
 all_weaker P Q f [] h = tt
@@ -48,51 +48,45 @@ if_all : (P : Address → Type 0) (b : Bool) (list : List Address) → AllByRecu
 if_all P true list h = h
 if_all P false list h = tt
 
-is_200 : (n : ℕ) → n == 200 ≡ true → n ≡ 200
-is_200 n h = grind (arith, nat_tests)
-
 module _ (triples : List Triple) (config : Config) where
   abbrev Reads : Address → Type 0
   Reads = IsRead (triples ∷ []) (Served 1) config
 
-  status_at : (address : Address) → Reads address → (version : ℕ) → 1 ≡ version → (answer_at (publisher (triples ∷ []) config) version address).status ≡ 200
-  status_at address r version is = subst (λ (v : ℕ). (answer_at (publisher (triples ∷ []) config) v address).status ≡ 200) is (is_200 (address_answer (triples ∷ []) (Served 1) config address).status r.answered)
+  pub answered_one : (address : Address) → Reads address → IsAnswered (publisher (triples ∷ []) config) address
+  answered_one = answered_of (publisher (triples ∷ []) config) (one_version triples)
 
-  pub answered_of : (address : Address) → Reads address → IsAnswered (publisher (triples ∷ []) config) address
-  answered_of address r = record {
-    short = r.short;
-    answered = λ version low high. status_at address r version (one_version triples version (record { low = low; high = high }));
-  }
+  pub read_one : (address : Address) → Reads address → IsReadByAll (publisher (triples ∷ []) config) address
+  read_one = read_by_all (publisher (triples ∷ []) config) (one_version triples)
 
-  pub read_by_all : (address : Address) → Reads address → IsReadByAll (publisher (triples ∷ []) config) address
-  read_by_all address r = λ version is status.
-      (r.page, subst (λ (v : ℕ). Takes (answer_at (publisher (triples ∷ []) config) v address).body address r.page) (one_version triples version is) r.taken)
-
-  module _ (q : QueryData) (reads : AllByRecursion Reads (plan_of triples config q)) where
+  module _ (options : Options) (q : QueryData) (reads : AllByRecursion Reads (plan_of options triples config q)) where
     -- by each server that stands at an address, which is the one
     abbrev EachAnswers : Address → Type 0
-    EachAnswers = AtEach (offer_of triples config q) IsAnswered
+    EachAnswers = AtEach (offer_of options triples config q) IsAnswered
 
     abbrev EachReads : Address → Type 0
-    EachReads = AtEach (offer_of triples config q) IsReadByAll
+    EachReads = AtEach (offer_of options triples config q) IsReadByAll
 
-    pub all_answered : (version : ℕ) → IsVersionOf (triples ∷ []) version → AllByRecursion (AtEach (offer_of triples config q) IsAnswered) (addresses_of (publisher (triples ∷ []) config) q local_base version)
+    pub all_answered : (version : ℕ) → IsVersionOf (triples ∷ []) version → AllByRecursion (AtEach (offer_of options triples config q) IsAnswered) (addresses_in_blocks options.block (publisher (triples ∷ []) config) q local_base version)
     all_answered version is =
-        at_version triples config q local_base (AllByRecursion EachAnswers) version is
-        (all_weaker Reads EachAnswers (λ address r. at-server (publisher (triples ∷ []) config) q local_base IsAnswered address (answered_of address r)) (plan_of triples config q) reads)
+        at_version options.block triples config q local_base (AllByRecursion EachAnswers) version is
+        (all_weaker Reads EachAnswers (λ address r. at-server options.block (publisher (triples ∷ []) config) q local_base IsAnswered address (answered_one address r)) (plan_of options triples config q) reads)
 
-    pub all_read : (version : ℕ) → IsVersionOf (triples ∷ []) version → AllByRecursion (AtEach (offer_of triples config q) IsReadByAll) (addresses_of (publisher (triples ∷ []) config) q local_base version)
+    pub all_read : (version : ℕ) → IsVersionOf (triples ∷ []) version → AllByRecursion (AtEach (offer_of options triples config q) IsReadByAll) (addresses_in_blocks options.block (publisher (triples ∷ []) config) q local_base version)
     all_read version is =
-        at_version triples config q local_base (AllByRecursion EachReads) version is
-        (all_weaker Reads EachReads (λ address r. at-server (publisher (triples ∷ []) config) q local_base IsReadByAll address (read_by_all address r)) (plan_of triples config q) reads)
+        at_version options.block triples config q local_base (AllByRecursion EachReads) version is
+        (all_weaker Reads EachReads (λ address r. at-server options.block (publisher (triples ∷ []) config) q local_base IsReadByAll address (read_one address r)) (plan_of options triples config q) reads)
 
 base_short : (base : Address) → base ≡ local_base → length (address_text base) ≤ 65536
 base_short base is = subst (λ (b : Address). length (address_text b) ≤ 65536) (sym is) (lit≤ tt)
 
+-- a request carries one row at least
+pub one_row : IsBlockSize 1
+one_row = (omega arith, lit≤ tt)
+
 -- the plan is read
-pub plan_is_read : PlansAreRead → BasesAreRead → (triples : List Triple) (config : Config) (q : QueryData) → config.base ≡ local_base → IsValidDataSet triples → IsConfig config → AreServable triples
-    → AllByRecursion IsAskable q.patterns → AllByRecursion (IsRead (triples ∷ []) (Served 1) config) (plan_of triples config q)
-plan_is_read plans bases triples config q base valid is_config servable askable =
+pub plan_is_read : PlansAreRead → BasesAreRead → (block : ℕ) → IsBlockSize block → (triples : List Triple) (config : Config) (q : QueryData) → config.base ≡ local_base → IsValidDataSet triples → IsConfig config → AreServable triples
+    → AllByRecursion IsAskable q.patterns → AllByRecursion (IsRead (triples ∷ []) (Served 1) config) (addresses_in_blocks block (publisher (triples ∷ []) config) q local_base 1)
+plan_is_read plans bases block sized triples config q base valid is_config servable askable =
     let s : IsServable (triples ∷ []) (Served 1) config = record {
       is_history = record { data_sets = (valid, tt); low = omega arith; high = omega arith };
       is_config = is_config;
@@ -101,7 +95,7 @@ plan_is_read plans bases triples config q base valid is_config servable askable 
       base = base_short config.base base;
     } in (
       subst (IsRead (triples ∷ []) (Served 1) config) base (bases (triples ∷ []) (Served 1) config s),
-      if_all (IsRead (triples ∷ []) (Served 1) config) (is_served (publisher (triples ∷ []) config) local_base 1) _ (plans (triples ∷ []) (Served 1) config q.patterns (length q.names) s askable),
+      if_all (IsRead (triples ∷ []) (Served 1) config) (is_served (publisher (triples ∷ []) config) local_base 1) _ (plans block (triples ∷ []) (Served 1) config q.patterns (length q.names) sized.0 sized.1 s askable),
     )
 
 -- ---- over a wire to a server elsewhere
@@ -109,39 +103,13 @@ plan_is_read plans bases triples config q base valid is_config servable askable 
 module _ (triples : List Triple) (config : Config) (most : ℕ) where
   pub fits : (list : List Address) → AllByRecursion (IsRead (triples ∷ []) (Served 1) config) list → AllByRecursion (IsSmallByAll most (publisher (triples ∷ []) config)) list → AllByRecursion (IsFit most (publisher (triples ∷ []) config)) list
   fits [] r s = tt
-  fits (address ∷ list) r s = (record { is_answered = answered_of triples config address r.0; is_read = read_by_all triples config address r.0; is_small = s.0 }, fits list r.1 s.1)
-
-path_short : (target : List ℕ) → length (path_of target) ≤ length target
-path_short [] = omega arith
-path_short (b ∷ rest) = by (b == 63) (path_short rest)
-  where
-    by : (t : Bool) → length (path_of rest) ≤ length rest → length (if t then [] else b ∷ path_of rest) ≤ suc (length rest)
-    by true h = omega arith
-    by false h = omega (arith, h)
-
--- the text of an address is its authority and its target, behind the scheme
-pub text_length : (address : Address) → length (address_text address) ≡ 7 + (length (authority_of address) + length (target_of address))
-text_length address = omega (arith, length-append (codes "http://" ++ authority_of address) (target_of address), length-append (codes "http://") (authority_of address), scheme_long)
-  where
-    scheme_long : length (codes "http://") ≡ 7
-    scheme_long = refl
-
-target_is : (base : Address) → base.query ≡ None → length (target_of base) ≡ length base.path
-target_is base none = ap (λ (query : Option (List ℕ)). length (base.path ++ query_text query)) none ∙ ap length (append-nil base.path)
-
--- a base that has the authority and the path of the start is no longer than it
-base_of_start : (base start : Address) → base.query ≡ None → authority_of start ≡ authority_of base → path_of (target_of start) ≡ base.path → length (address_text start) ≤ 65536 → length (address_text base) ≤ 65536
-base_of_start base start none same path few =
-    omega (arith, few, text_length base, text_length start, target_is base none, ap length same, ap length path, path_short (target_of start))
-
-target_of_start : (start : Address) → length (address_text start) ≤ 65536 → length (target_of start) ≤ 65536
-target_of_start start few = omega (arith, few, text_length start)
+  fits (address ∷ list) r s = (fit_of (publisher (triples ∷ []) config) (one_version triples) most address r.0 s.0, fits list r.1 s.1)
 
 -- the plan from a start that is answered is read
-pub start_plan_is_read : PlansAreRead → StartsAreRead → AnsweredGivePages → (triples : List Triple) (config : Config) (start : Address) (q : QueryData) → IsHistory (triples ∷ []) → IsConfig config → AreServable triples
+pub start_plan_is_read : PlansAreRead → StartsAreRead → AnsweredGivePages → (block : ℕ) → IsBlockSize block → (triples : List Triple) (config : Config) (start : Address) (q : QueryData) → IsHistory (triples ∷ []) → IsConfig config → AreServable triples
     → authority_of start ≡ authority_of config.base → is_answered (triples ∷ []) (Served 1) config start ≡ true → length (address_text start) ≤ 65536
-    → AllByRecursion IsAskable q.patterns → AllByRecursion (IsRead (triples ∷ []) (Served 1) config) (addresses_of (publisher (triples ∷ []) config) q start 1)
-start_plan_is_read plans starts gives triples config start q is_history is_config servable authority answered text askable =
+    → AllByRecursion IsAskable q.patterns → AllByRecursion (IsRead (triples ∷ []) (Served 1) config) (addresses_in_blocks block (publisher (triples ∷ []) config) q start 1)
+start_plan_is_read plans starts gives block sized triples config start q is_history is_config servable authority answered text askable =
     let s : IsServable (triples ∷ []) (Served 1) config = record {
       is_history = is_history;
       is_config = is_config;
@@ -150,17 +118,17 @@ start_plan_is_read plans starts gives triples config start q is_history is_confi
       base = base_of_start config.base start is_config.no_query authority ((gives (triples ∷ []) (Served 1) config start).0 answered).gives.asks.path text;
     } in (
       starts (triples ∷ []) (Served 1) config start s authority (target_of_start start text) answered,
-      if_all (IsRead (triples ∷ []) (Served 1) config) (is_served (publisher (triples ∷ []) config) start 1) _ (plans (triples ∷ []) (Served 1) config q.patterns (length q.names) s askable),
+      if_all (IsRead (triples ∷ []) (Served 1) config) (is_served (publisher (triples ∷ []) config) start 1) _ (plans block (triples ∷ []) (Served 1) config q.patterns (length q.names) sized.0 sized.1 s askable),
     )
 
 pub plan_fits : PlansAreRead → StartsAreRead → AnsweredGivePages → (allows : List ℕ → ℕ → List ℕ → List ℕ → Type 0) (q : QueryData) (start : Address) (options : Options) (triples : List Triple) (config : Config) (old new : WireState)
-    → AllByRecursion IsAskable q.patterns → length (address_text start) ≤ 65536 → (f : FitsOver allows q start options triples config old new) → PlanFits (server_offer (publisher (triples ∷ []) config) q start) options f.rise
-plan_fits plans starts gives allows q start options triples config old new askable text f =
-    let reads = start_plan_is_read plans starts gives triples config start q f.honest.is_history f.honest.is_config f.servable f.authority f.answered text askable in
-    let offer = server_offer (publisher (triples ∷ []) config) q start in
-    let all = all_weaker (IsFit options.max_body (publisher (triples ∷ []) config)) (AtEach offer (IsFit options.max_body)) (at-server (publisher (triples ∷ []) config) q start (IsFit options.max_body))
-    (addresses_of (publisher (triples ∷ []) config) q start 1) (fits triples config options.max_body (addresses_of (publisher (triples ∷ []) config) q start 1) reads f.small) in
+    → IsBlockSize options.block → AllByRecursion IsAskable q.patterns → length (address_text start) ≤ 65536 → (f : FitsOver allows q start options triples config old new) → PlanFits (offer_in_blocks options.block (publisher (triples ∷ []) config) q start) options f.rise
+plan_fits plans starts gives allows q start options triples config old new sized askable text f =
+    let reads = start_plan_is_read plans starts gives options.block sized triples config start q f.honest.is_history f.honest.is_config f.servable f.authority f.answered text askable in
+    let offer = offer_in_blocks options.block (publisher (triples ∷ []) config) q start in
+    let all = all_weaker (IsFit options.max_body (publisher (triples ∷ []) config)) (AtEach offer (IsFit options.max_body)) (at-server options.block (publisher (triples ∷ []) config) q start (IsFit options.max_body))
+    (addresses_in_blocks options.block (publisher (triples ∷ []) config) q start 1) (fits triples config options.max_body (addresses_in_blocks options.block (publisher (triples ∷ []) config) q start 1) reads f.small) in
     record {
-      fit = λ version is. at_version triples config q start (AllByRecursion (AtEach offer (IsFit options.max_body))) version is all;
-      within = λ version is. at_version triples config q start (λ (list : List Address). length list + f.rise ≤ options.budget) version is f.within;
+      fit = λ version is. at_version options.block triples config q start (AllByRecursion (AtEach offer (IsFit options.max_body))) version is all;
+      within = λ version is. at_version options.block triples config q start (λ (list : List Address). length list + f.rise ≤ options.budget) version is f.within;
     }

@@ -21,6 +21,8 @@ use Rattle.tpf_client.specs.Offers.{publisher}
 use Rattle.tpf_client.specs.declared.options.Options.{Options}
 use Rattle.tpf_client.specs.declared.options.Report.{Report}
 use Rattle.tpf_client.specs.declared.fault.ClientFault.{ClientFault}
+use Rattle.data_files.specs.declared.query.Grammar.{Grammar}
+use Rattle.data_files.specs.declared.query.Grammar.TheVariants as grammars
 use Rattle.data_files.specs.Data.{Files, served}
 use Rattle.data_files.specs.Queries.{IsOfQueryFile, IsOfGroupFile, IsOfAskedFile, reads_groups}
 use Rattle.data_files.specs.Kept.{ReadsNamed}
@@ -29,6 +31,7 @@ use Rattle.data_files.proofs.Outcomes.{one_outcome, one_query}
 use Rattle.file_server.specs.Servers.{Starts, serving}
 use Rattle.query_command.specs.declared.fault.AnswerFault.TheVariants as faults
 use Rattle.query_command.specs.declared.generated_query.Counts.{Counts}
+use Rattle.query_command.specs.Blocks.{grammar_of}
 use Rattle.query_command.specs.Files.{FailsByFile, ReadsLocally}
 use Rattle.query_command.specs.Limits.{FilesAreServable, GeneratedAreServable, GroupsAreAskable}
 use Rattle.query_command.specs.Loops.{LocalView, IsServing, local_config}
@@ -42,19 +45,19 @@ use Rattle.query_command.proofs.GroupLooping.{Called, wrote, failed}
 
 -- ---- what was read
 
-pub plain_file : (told : Option Files) (name : List ℕ) (asked : Asked) (q : QueryData) → asked ≡ Plain q → IsOfAskedFile told name asked → IsOfQueryFile told name q
-plain_file told name asked q is h = subst (IsOfAskedFile told name) is h
+pub plain_file : (grammar : Grammar) (told : Option Files) (name : List ℕ) (asked : Asked) (q : QueryData) → asked ≡ Plain q → IsOfAskedFile grammar told name asked → IsOfQueryFile told name q
+plain_file grammar told name asked q is h = subst (IsOfAskedFile grammar told name) is h
 
-pub group_file : (told told' : Option Files) → told' ≡ told → (name : List ℕ) (asked : Asked) (g : GroupData) → asked ≡ Groups g → IsOfAskedFile told' name asked → IsOfGroupFile told name g
-group_file told told' same name asked g is h = subst (λ (t : Option Files). IsOfGroupFile t name g) same (subst (IsOfAskedFile told' name) is h)
+pub group_file : (grammar : Grammar) (told told' : Option Files) → told' ≡ told → (name : List ℕ) (asked : Asked) (g : GroupData) → asked ≡ Groups g → IsOfAskedFile grammar told' name asked → IsOfGroupFile grammar told name g
+group_file grammar told told' same name asked g is h = subst (λ (t : Option Files). IsOfGroupFile grammar t name g) same (subst (IsOfAskedFile grammar told' name) is h)
 
-group_decides : (shelf shelf' : ShelfState) (name : List ℕ) (g : GroupData) → IsOfGroupFile shelf.told name g → QueryDecides shelf shelf' name (λ outcome. outcome ≡ reads_groups g)
-group_decides shelf shelf' name g is_read quiet = λ files is outcome o. one_query files name outcome (reads_groups g) o (is_read.tells files is)
+group_decides : (grammar : Grammar) (shelf shelf' : ShelfState) (name : List ℕ) (g : GroupData) → IsOfGroupFile grammar shelf.told name g → QueryDecides grammar shelf shelf' name (λ outcome. outcome ≡ reads_groups g)
+group_decides grammar shelf shelf' name g is_read quiet = λ files is outcome o. one_query grammar files name outcome (reads_groups g) o (is_read.tells files is)
 
 -- ---- a file of data
 
-module _ (shelf shelf' : ShelfState) (view : LocalView) (server : FragmentServer) (starts : Starts shelf.told view.name view.choice (local_config view.page_size) (serving server)) (inside : Option (Looped FragmentServer)) (out out' : SinkState)
-    (g : GroupData) (is_read : IsOfGroupFile shelf.told view.query g) (files_law : FilesAreServable) (groups_law : GroupsAreAskable) where
+module _ (shelf shelf' : ShelfState) (view : LocalView) (server : FragmentServer) (starts : Starts shelf.told view.name view.choice (local_config view.options view.page_size) (serving server)) (inside : Option (Looped FragmentServer)) (out out' : SinkState)
+    (g : GroupData) (is_read : IsOfGroupFile (grammar_of view.options) shelf.told view.query g) (files_law : FilesAreServable) (groups_law : GroupsAreAskable) where
   data_decides : DataDecides shelf shelf' view.name view.choice (codes "localhost") IsServing
   data_decides quiet = λ files is outcome o. ((serving server).data_set, one_outcome files view.name view.choice (codes "localhost") outcome (served (serving server).data_set) o (starts.data_set.tells files is))
 
@@ -62,13 +65,13 @@ module _ (shelf shelf' : ShelfState) (view : LocalView) (server : FragmentServer
   servable = files_law starts.data_set.files view.name view.choice (serving server).data_set starts.data_set.holds
 
   askable : AreValidBlocks g → AreAskableBlocks g
-  askable valid = groups_law is_read.files view.query g is_read.holds valid
+  askable valid = groups_law (grammar_of view.options) is_read.files view.query g is_read.holds valid
 
   pub file_ok : (report : Report) → AsksGroups server view.seed view.fail_every view.options g (Ok report) inside out out' → ReadsLocally view.name view.query shelf shelf' (Ok report) → AsksFileGroups shelf shelf' out out' inside view (Ok report) g
   file_ok report a named = record {
     is_read = is_read;
     data_exact = data_decides;
-    query_exact = group_decides shelf shelf' view.query g is_read;
+    query_exact = group_decides (grammar_of view.options) shelf shelf' view.query g is_read;
     answers = (
       record { triples = (serving server).data_set; is_served = starts.data_set; writes = a.answer },
       record { server = server; starts = starts; loops = a.answers },
@@ -87,7 +90,7 @@ module _ (shelf shelf' : ShelfState) (view : LocalView) (server : FragmentServer
   file_err fault a named = record {
     is_read = is_read;
     data_exact = data_decides;
-    query_exact = group_decides shelf shelf' view.query g is_read;
+    query_exact = group_decides (grammar_of view.options) shelf shelf' view.query g is_read;
     answers = tt;
     cause = (
       record { triples = (serving server).data_set; is_served = starts.data_set; writes = a.front },
@@ -114,13 +117,13 @@ module _ (shelf shelf' : ShelfState) (view : LocalView) (server : FragmentServer
 
 -- ---- a handed-in wire
 
-module _ (shelf shelf' : ShelfState) (name : List ℕ) (allows : List ℕ → ℕ → List ℕ → List ℕ → Type 0) (start : Address) (options : Options) (wire wire' : WireState) (out out' : SinkState) (g : GroupData) (is_read : IsOfGroupFile shelf.told name g) where
+module _ (shelf shelf' : ShelfState) (name : List ℕ) (allows : List ℕ → ℕ → List ℕ → List ℕ → Type 0) (start : Address) (options : Options) (wire wire' : WireState) (out out' : SinkState) (g : GroupData) (is_read : IsOfGroupFile (grammar_of options) shelf.told name g) where
   pub server_ok : (report : Report) → Called allows g options (Ok report) wire wire' out out' start → ReadsNamed name shelf shelf' (FailsByFile {A = Report} (Ok report)) → AsksServerGroups shelf shelf' allows wire wire' out out' name start options (Ok report) g
   server_ok report k named =
       let s = k.sink in
       record {
         is_read = is_read;
-        exact = group_decides shelf shelf' name g is_read;
+        exact = group_decides (grammar_of options) shelf shelf' name g is_read;
         answers = wrote allows g start options wire wire' out out' report k;
         cause = tt;
         complete = λ short fine triples config fits. tt;
@@ -132,10 +135,10 @@ module _ (shelf shelf' : ShelfState) (name : List ℕ) (allows : List ℕ → �
       → ReadsNamed name shelf shelf' (FailsByFile {A = Report} (Err (faults.Client fault))) → AsksServerGroups shelf shelf' allows wire wire' out out' name start options (Err (faults.Client fault)) g
   server_err plans starts gives groups_law valid fault k named =
       let s = k.sink in
-      let blocks = groups_law is_read.files name g is_read.holds valid in
+      let blocks = groups_law (grammar_of options) is_read.files name g is_read.holds valid in
       record {
         is_read = is_read;
-        exact = group_decides shelf shelf' name g is_read;
+        exact = group_decides (grammar_of options) shelf shelf' name g is_read;
         answers = tt;
         cause = failed allows g start options wire wire' out out' fault k;
         complete = λ short fine triples config fits.
@@ -152,7 +155,7 @@ never_rose h = omega (arith, h)
 abbrev Counted : FragmentServer → Options → GroupData → Result Report ClientFault → Option (Looped FragmentServer) → SinkState → SinkState → Type 0
 Counted server options g result inside out out' = AsksGroups server 0 0 options g result inside out out'
 
-module _ (server : FragmentServer) (persons : ℕ) (starts : StartsGenerated persons (local_config 100) (serving server)) (g : GroupData) (options : Options) (is : options ≡ usual_options) (inside : Option (Looped FragmentServer)) where
+module _ (server : FragmentServer) (persons : ℕ) (starts : StartsGenerated persons (local_config usual_options 100) (serving server)) (g : GroupData) (options : Options) (is : options ≡ usual_options) (inside : Option (Looped FragmentServer)) where
   usual_small : usual_options.budget < 2 ^ 63
   usual_small = omega arith
 
@@ -200,11 +203,11 @@ module _ (server : FragmentServer) (persons : ℕ) (starts : StartsGenerated per
         honest = a.honest;
       }
 
-module _ (shelf shelf' : ShelfState) (persons : ℕ) (name : List ℕ) (inside : Option (Looped FragmentServer)) (server : FragmentServer) (starts : StartsGenerated persons (local_config 100) (serving server)) (g : GroupData) (is_read : IsOfGroupFile shelf.told name g) where
+module _ (shelf shelf' : ShelfState) (persons : ℕ) (name : List ℕ) (inside : Option (Looped FragmentServer)) (server : FragmentServer) (starts : StartsGenerated persons (local_config usual_options 100) (serving server)) (g : GroupData) (is_read : IsOfGroupFile grammars.Groups shelf.told name g) where
   pub generated_ok : (counts : Counts) → AsksGeneratedOver server persons g (Ok counts) inside → ReadsNamed name shelf shelf' (FailsByFile {A = Counts} (Ok counts)) → AsksGeneratedGroups shelf shelf' inside persons name (Ok counts) g
   generated_ok counts a named = record {
     is_read = is_read;
-    exact = group_decides shelf shelf' name g is_read;
+    exact = group_decides grammars.Groups shelf shelf' name g is_read;
     answers = (a.counts, a.answers);
     cause = tt;
     asked = a.asked;
@@ -218,10 +221,10 @@ module _ (shelf shelf' : ShelfState) (persons : ℕ) (name : List ℕ) (inside :
   pub generated_err : GeneratedAreServable → GroupsAreAskable → persons ≤ 1000000 → (fault : ClientFault) → AsksGeneratedOver server persons g (Err fault) inside → ReadsNamed name shelf shelf' (FailsByFile {A = Counts} (Err (faults.Client fault)))
       → AsksGeneratedGroups shelf shelf' inside persons name (Err (faults.Client fault)) g
   generated_err data_law groups_law most fault a named =
-      let e = a.ends (data_law persons (serving server).data_set most starts.data_set) (groups_law is_read.files name g is_read.holds a.valid) in
+      let e = a.ends (data_law persons (serving server).data_set most starts.data_set) (groups_law grammars.Groups is_read.files name g is_read.holds a.valid) in
       record {
         is_read = is_read;
-        exact = group_decides shelf shelf' name g is_read;
+        exact = group_decides grammars.Groups shelf shelf' name g is_read;
         answers = tt;
         cause = a.cause;
         asked = a.asked;

@@ -18,7 +18,7 @@ use Rattle.tpf_client.specs.Plans.{AtEach, IsAnswered, IsReadByAll, IsFit, PlanF
 use Rattle.query_command.specs.Loops.{local_base}
 use Rattle.query_command.specs.Groups.{FitsGroupOver}
 use Rattle.query_command.specs.Over.{AreAskableBlocks}
-use Rattle.query_command.proofs.Fitting.{one_version, one_told, all_weaker, answered_of, read_by_all, fits, plan_is_read, start_plan_is_read}
+use Rattle.query_command.proofs.Fitting.{one_version, one_told, all_weaker, answered_one, read_one, fits, one_row, plan_is_read, start_plan_is_read}
 
 all_both : (P : Address → Type 0) (xs ys : List Address) → AllByRecursion P xs → AllByRecursion P ys → AllByRecursion P (xs ++ ys)
 all_both P [] ys f g = g
@@ -58,12 +58,12 @@ module _ (triples : List Triple) (config : Config) (g : GroupData) (start : Addr
   module _ (reads : AllByRecursion (IsRead (triples ∷ []) (Served 1) config) (group_plan (publisher (triples ∷ []) config) g start 1)) where
     pub group_answered : AllByRecursion (AtEach (group_offer (publisher (triples ∷ []) config) g start) IsAnswered) (group_plan (publisher (triples ∷ []) config) g start 1)
     group_answered =
-        all_weaker (IsRead (triples ∷ []) (Served 1) config) (AtEach (group_offer (publisher (triples ∷ []) config) g start) IsAnswered) (λ address r. at_each IsAnswered address (answered_of triples config address r))
+        all_weaker (IsRead (triples ∷ []) (Served 1) config) (AtEach (group_offer (publisher (triples ∷ []) config) g start) IsAnswered) (λ address r. at_each IsAnswered address (answered_one triples config address r))
         (group_plan (publisher (triples ∷ []) config) g start 1) reads
 
     pub group_read : AllByRecursion (AtEach (group_offer (publisher (triples ∷ []) config) g start) IsReadByAll) (group_plan (publisher (triples ∷ []) config) g start 1)
     group_read =
-        all_weaker (IsRead (triples ∷ []) (Served 1) config) (AtEach (group_offer (publisher (triples ∷ []) config) g start) IsReadByAll) (λ address r. at_each IsReadByAll address (read_by_all triples config address r))
+        all_weaker (IsRead (triples ∷ []) (Served 1) config) (AtEach (group_offer (publisher (triples ∷ []) config) g start) IsReadByAll) (λ address r. at_each IsReadByAll address (read_one triples config address r))
         (group_plan (publisher (triples ∷ []) config) g start 1) reads
 
   -- no two versions of the one data set are told
@@ -80,7 +80,7 @@ pub group_is_read : PlansAreRead → BasesAreRead → (triples : List Triple) (c
 group_is_read plans bases triples config g base valid is_config servable askable =
     all_flat triples config local_base g.names (IsRead (triples ∷ []) (Served 1) config) (blocks_of (group_tree g))
     (all_blocks (AllByRecursion IsAskable) (λ ps. AllByRecursion (IsRead (triples ∷ []) (Served 1) config) (addresses_of (publisher (triples ∷ []) config) (block_query g.names ps) local_base 1))
-    (λ ps ask. plan_is_read plans bases triples config (block_query g.names ps) base valid is_config servable ask) (blocks_of (group_tree g)) askable)
+    (λ ps ask. plan_is_read plans bases 1 one_row triples config (block_query g.names ps) base valid is_config servable ask) (blocks_of (group_tree g)) askable)
 
 -- over a wire to a server elsewhere
 pub group_fits : PlansAreRead → StartsAreRead → AnsweredGivePages → (allows : List ℕ → ℕ → List ℕ → List ℕ → Type 0) (g : GroupData) (start : Address) (options : Options) (triples : List Triple) (config : Config) (old new : WireState)
@@ -89,7 +89,7 @@ group_fits plans starts gives allows g start options triples config old new aska
     let reads : AllByRecursion (IsRead (triples ∷ []) (Served 1) config) (group_plan (publisher (triples ∷ []) config) g start 1) =
     all_flat triples config start g.names (IsRead (triples ∷ []) (Served 1) config) (blocks_of (group_tree g))
     (all_blocks (AllByRecursion IsAskable) (λ ps. AllByRecursion (IsRead (triples ∷ []) (Served 1) config) (addresses_of (publisher (triples ∷ []) config) (block_query g.names ps) start 1))
-    (λ ps ask. start_plan_is_read plans starts gives triples config start (block_query g.names ps) f.honest.is_history f.honest.is_config f.servable f.authority f.answered text ask) (blocks_of (group_tree g)) askable) in
+    (λ ps ask. start_plan_is_read plans starts gives 1 one_row triples config start (block_query g.names ps) f.honest.is_history f.honest.is_config f.servable f.authority f.answered text ask) (blocks_of (group_tree g)) askable) in
     let all = all_weaker (IsFit options.max_body (publisher (triples ∷ []) config)) (AtEach (group_offer (publisher (triples ∷ []) config) g start) (IsFit options.max_body)) (at_each triples config g start (IsFit options.max_body))
     (group_plan (publisher (triples ∷ []) config) g start 1) (fits triples config options.max_body (group_plan (publisher (triples ∷ []) config) g start 1) reads f.small) in
     record {

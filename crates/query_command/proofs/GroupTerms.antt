@@ -15,9 +15,10 @@ use Rattle.group_query.specs.Trees.{Tree, empty, join, optional, union, GroupDat
 use Rattle.group_parser.specs.Groups.{Element, Triples, Groups, Optional, joined, united, translated, Reading, IsBlock, AreUnions, AreElements, IsGroup}
 use Rattle.group_parser.specs.Texts.{ReadsGroups}
 use Rattle.group_parser.proofs.Walked.{block_is_read}
+use Rattle.data_files.specs.declared.query.Grammar.TheVariants as grammars
 use Rattle.query_command.specs.Limits.{GroupsAreAskable}
 use Rattle.query_command.proofs.Bounded.{patterns_askable}
-use Rattle.query_command.proofs.ShortTokens.{total, total_append, total_split, tokens_short, Bound, prefix_short, items_short, triples_short}
+use Rattle.pattern_parser.proofs.Shorts.{total, total_append, total_split, tokens_short, Bound, prefix_short, items_short, triples_short}
 
 abbrev Iri : Type 0
 Iri = List ℕ → Option (List ℕ)
@@ -112,4 +113,5 @@ blocks_askable [] v h = tt
 blocks_askable (b ∷ bs) v h = (patterns_askable b v.0 h.0, blocks_askable bs v.1 h.1)
 
 pub groups_are_askable : GroupsAreAskable
-groups_are_askable files name g holds valid = blocks_askable (blocks_of (group_tree g)) valid (groups_short holds.0 g holds.2.1)
+groups_are_askable grammars.Groups files name g holds valid = blocks_askable (blocks_of (group_tree g)) valid (groups_short holds.0 g holds.2.1)
+groups_are_askable grammars.Patterns files name g holds valid = absurd holds

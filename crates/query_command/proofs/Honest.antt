@@ -16,7 +16,7 @@ use Rattle.fragment_server.proofs.Honest.{owes_response}
 use Rattle.bgp_core.specs.Queries.{QueryData}
 use Rattle.tpf_client.specs.declared.options.Report.{Report}
 use Rattle.tpf_client.specs.Calls.{solutions_of}
-use Rattle.tpf_client.specs.Offers.{publisher, server_offer}
+use Rattle.tpf_client.specs.Offers.{publisher, offer_in_blocks}
 use Rattle.tpf_client.specs.Honest.{IsHonestWire, WritesSolutions, WritesSolutionsFront}
 use Rattle.file_server.specs.Servers.{serving}
 use Rattle.query_command.specs.Loops.{LoopsServer, LeavesHonest, WiresAreHonest, allows_of, wire_of, begun, WritesAnswer, WritesAnswerFront}
@@ -77,16 +77,16 @@ version_is triples version low high = ap (version_of (triples ∷ [])) (same ver
     same : (n : ℕ) → 1 ≤ n → n ≤ 1 → n ≡ 1
     same n a b = omega (arith, a, b)
 
-pub answer_of_one : (triples : List Triple) (config : Config) (q : QueryData) (start : Address) (report : Report) (taken taken' : Option (List ℕ)) → WritesSolutions (server_offer (publisher (triples ∷ []) config) q start) q report.version report.rows taken taken' → WritesAnswer triples q report.rows taken taken'
-answer_of_one triples config q start report taken taken' s = record {
+pub answer_of_one : (block : ℕ) (triples : List Triple) (config : Config) (q : QueryData) (start : Address) (report : Report) (taken taken' : Option (List ℕ)) → WritesSolutions (offer_in_blocks block (publisher (triples ∷ []) config) q start) q report.version report.rows taken taken' → WritesAnswer triples q report.rows taken taken'
+answer_of_one block triples config q start report taken taken' s = record {
   rows = s.rows;
   rows_are = subst (λ (ts : List Triple). IsPermutation (solutions_of ts q) s.rows) (version_is triples s.choice s.is_choice.low s.is_choice.high) s.rows_are;
   text = s.text;
   count = s.count;
 }
 
-pub front_of_one : (triples : List Triple) (config : Config) (q : QueryData) (start : Address) (taken taken' : Option (List ℕ)) → WritesSolutionsFront (server_offer (publisher (triples ∷ []) config) q start) q taken taken' → WritesAnswerFront triples q taken taken'
-front_of_one triples config q start taken taken' s = record {
+pub front_of_one : (block : ℕ) (triples : List Triple) (config : Config) (q : QueryData) (start : Address) (taken taken' : Option (List ℕ)) → WritesSolutionsFront (offer_in_blocks block (publisher (triples ∷ []) config) q start) q taken taken' → WritesAnswerFront triples q taken taken'
+front_of_one block triples config q start taken taken' s = record {
   rows = s.rows;
   rows_are = subst (λ (ts : List Triple). IsPermutation (solutions_of ts q) s.rows) (version_is triples s.choice s.is_choice.low s.is_choice.high) s.rows_are;
   text = s.text;

@@ -8,7 +8,6 @@ pub mod Failing
 pub mod Fitting
 pub mod Planned
 pub mod Bounded
-pub mod ShortTokens
 pub mod GroupTerms
 pub mod Complete
 pub mod Opening

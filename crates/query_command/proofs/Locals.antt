@@ -1,5 +1,5 @@
 -- What is said of the wire to a server is said of the files of a command.
-use Rattle.std.proofs.Common.{ℕ, ◌≡◌, ◌<◌, ◌^◌, List, Option, Result, codes, sym, subst, arith}
+use Rattle.std.proofs.Common.{ℕ, ◌≡◌, ◌<◌, ◌^◌, Bool, List, Option, Result, codes, sym, ap, subst, ◌∙◌, arith}
 use Rattle.std.specs.List.{AllByRecursion}
 use Rattle.rdf_terms.specs.declared.term.Triple.{Triple}
 use Rattle.template_fill.specs.Metadata.{Config}
@@ -11,21 +11,24 @@ use Rattle.fragment_server.specs.declared.server.FragmentServer.{FragmentServer}
 use Rattle.bgp_core.specs.declared.pattern.Pattern.{Pattern}
 use Rattle.bgp_core.specs.Queries.{QueryData, IsValidPattern}
 use Rattle.plan_laws.specs.Fitting.{AreServable, IsAskable}
+use Rattle.tpf_client.specs.declared.options.Options.{Options}
 use Rattle.tpf_client.specs.declared.options.Report.{Report}
 use Rattle.tpf_client.specs.declared.fault.ClientFault.{ClientFault}
 use Rattle.data_files.specs.declared.fault.QueryFileFault.{QueryFileFault}
 use Rattle.data_files.specs.declared.fault.QueryFileFault.TheVariants as query_faults
+use Rattle.data_files.specs.declared.query.Grammar.{Grammar}
 use Rattle.data_files.specs.Data.{Files, IfTold, served}
 use Rattle.data_files.specs.Queries.{IsOfQueryFile, HasQueryFault, reads}
 use Rattle.data_files.proofs.Outcomes.{one_outcome, one_query}
 use Rattle.data_files.specs.Causes.{QueryCause}
 use Rattle.file_server.specs.Servers.{Starts, serving}
 use Rattle.data_files.specs.Kept.{KeepsShelf}
+use Rattle.query_command.specs.Blocks.{in_blocks, grammar_of}
 use Rattle.query_command.specs.Answers.{AnswersSome}
 use Rattle.query_command.specs.Limits.{FilesAreServable, QueriesAreAskable}
 use Rattle.tpf_client.specs.Requested.{AnswersPlan}
 use Rattle.query_command.specs.Plans.{offer_of, SendsPlan, SendsInside, BoundsRequests, RequestsInside, RepliedInside, EndsAsPlanned, EndsOver, OfFiles}
-use Rattle.query_command.specs.Loops.{LocalView, LoopsServer, LoopsFile, LeavesHonest, AnswersFilesFront, WritesLooped, FailsLooped, WritesAnswer, WritesAnswerFront, LocalAnswers, allows_of, wire_of, begun, local_base, local_config}
+use Rattle.query_command.specs.Loops.{LocalView, LoopsServer, LoopsFile, LeavesHonest, AnswersFilesFront, WritesLooped, FailsLooped, WritesAnswer, WritesAnswerFront, LocalAnswers, allows_of, wire_of, begun, local_base, config_of, local_config}
 
 same_data : (one other : List Triple) → served one ≡ served other → one ≡ other
 same_data one other e = cc
@@ -33,23 +36,27 @@ same_data one other e = cc
 same_query : (one other : QueryData) → reads one ≡ reads other → one ≡ other
 same_query one other e = cc
 
+-- a configuration that reads rows where the client sends them
+pub is_config : (page : ℕ) (rows : Bool) (options : Options) (config : Config) → config ≡ config_of page rows → rows ≡ in_blocks options → config ≡ local_config options page
+is_config page rows options config is blocks = is ∙ ap (config_of page) blocks
+
 -- the patterns of a query are valid
 pub valid_read : (q : QueryData) (patterns : List Pattern) → patterns ≡ q.patterns → AllByRecursion IsValidPattern patterns → AllByRecursion IsValidPattern q.patterns
 valid_read q patterns same h = subst (AllByRecursion IsValidPattern) same h
 
 -- what holds of what was read holds of what the files hold
-of_both : (view : LocalView) (own triples : List Triple) (config : Config) (q asked : QueryData) (P : List Triple → Config → QueryData → Type 0) → served own ≡ served triples → config ≡ local_config view.page_size → reads q ≡ reads asked
-    → P own config q → P triples (local_config view.page_size) asked
+of_both : (view : LocalView) (own triples : List Triple) (config : Config) (q asked : QueryData) (P : List Triple → Config → QueryData → Type 0) → served own ≡ served triples → config ≡ local_config view.options view.page_size → reads q ≡ reads asked
+    → P own config q → P triples (local_config view.options view.page_size) asked
 of_both view own triples config q asked P d c r h =
-    subst (λ (x : QueryData). P triples (local_config view.page_size) x) (same_query q asked r)
+    subst (λ (x : QueryData). P triples (local_config view.options view.page_size) x) (same_query q asked r)
     (subst (λ (s : Config). P triples s q) c (subst (λ (ts : List Triple). P ts config q) (same_data own triples d) h))
 
 -- of the wire that was left, whatever the query is
-pub local_honest : (told : Option Files) (view : LocalView) (server : FragmentServer) → Starts told view.name view.choice (local_config view.page_size) (serving server) → (inside : Option (Looped FragmentServer))
+pub local_honest : (told : Option Files) (view : LocalView) (server : FragmentServer) → Starts told view.name view.choice (local_config view.options view.page_size) (serving server) → (inside : Option (Looped FragmentServer))
     → LoopsServer server view.seed view.fail_every inside LeavesHonest → LoopsFile told view inside LeavesHonest
 local_honest told view server starts inside l = record { server = server; starts = starts; loops = l }
 
-module _ (told told' : Option Files) (same : told' ≡ told) (view : LocalView) (server : FragmentServer) (starts : Starts told view.name view.choice (local_config view.page_size) (serving server)) (inside : Option (Looped FragmentServer)) (out out' : SinkState) where
+module _ (told told' : Option Files) (same : told' ≡ told) (view : LocalView) (server : FragmentServer) (starts : Starts told view.name view.choice (local_config view.options view.page_size) (serving server)) (inside : Option (Looped FragmentServer)) (out out' : SinkState) where
   module _ (q : QueryData) (is_read : IsOfQueryFile told' view.query q) where
     read : IsOfQueryFile told view.query q
     read = subst (λ (t : Option Files). IsOfQueryFile t view.query q) same is_read
@@ -92,31 +99,31 @@ module _ (told told' : Option Files) (same : told' ≡ told) (view : LocalView) 
 
       pub local_ends : (result : Result Report ClientFault)
           → (AreServable (serving server).data_set → AllByRecursion IsAskable q.patterns → view.options.budget < 2 ^ 63 → EndsAsPlanned view.fail_every view.options (serving server).data_set (serving server).config q result)
-          → view.options.budget < 2 ^ 63 → OfFiles told view (λ triples asked. EndsAsPlanned view.fail_every view.options triples (local_config view.page_size) asked result)
+          → view.options.budget < 2 ^ 63 → OfFiles told view (λ triples asked. EndsAsPlanned view.fail_every view.options triples (local_config view.options view.page_size) asked result)
       local_ends result ends small = λ files is triples asked serves holds.
           let own = starts.data_set.tells files is in
           let there = read.tells files is in
           of_both view (serving server).data_set triples (serving server).config q asked (λ (ts : List Triple) (c : Config) (x : QueryData). EndsAsPlanned view.fail_every view.options ts c x result)
-          (one_outcome files view.name view.choice (codes "localhost") (served (serving server).data_set) (served triples) own serves) starts.config_is (one_query files view.query (reads q) (reads asked) there holds)
+          (one_outcome files view.name view.choice (codes "localhost") (served (serving server).data_set) (served triples) own serves) starts.config_is (one_query (grammar_of view.options) files view.query (reads q) (reads asked) there holds)
           (ends (files_law files view.name view.choice (serving server).data_set own) (query_law files view.query q there valid) small)
 
-    pub local_sent : LoopsServer server view.seed view.fail_every inside (λ old new. SendsPlan (serving server).data_set (serving server).config q (wire_of new)) → OfFiles told view (λ triples asked. SendsInside inside triples (local_config view.page_size) asked)
+    pub local_sent : LoopsServer server view.seed view.fail_every inside (λ old new. SendsPlan view.options (serving server).data_set (serving server).config q (wire_of new)) → OfFiles told view (λ triples asked. SendsInside view.options inside triples (local_config view.options view.page_size) asked)
     local_sent l = λ files is triples asked serves holds.
         let own = starts.data_set.tells files is in
         let there = read.tells files is in
-        subst (λ (made : Option (Looped FragmentServer)). SendsInside made triples (local_config view.page_size) asked) (sym l.is_inside)
-        (of_both view (serving server).data_set triples (serving server).config q asked (λ (ts : List Triple) (c : Config) (x : QueryData). SendsPlan ts c x (wire_of l.after))
-        (one_outcome files view.name view.choice (codes "localhost") (served (serving server).data_set) (served triples) own serves) starts.config_is (one_query files view.query (reads q) (reads asked) there holds) l.says)
+        subst (λ (made : Option (Looped FragmentServer)). SendsInside view.options made triples (local_config view.options view.page_size) asked) (sym l.is_inside)
+        (of_both view (serving server).data_set triples (serving server).config q asked (λ (ts : List Triple) (c : Config) (x : QueryData). SendsPlan view.options ts c x (wire_of l.after))
+        (one_outcome files view.name view.choice (codes "localhost") (served (serving server).data_set) (served triples) own serves) starts.config_is (one_query (grammar_of view.options) files view.query (reads q) (reads asked) there holds) l.says)
 
-    pub local_requested : LoopsServer server view.seed view.fail_every inside (λ old new. BoundsRequests view.options (serving server).data_set (serving server).config q (wire_of new)) → OfFiles told view (λ triples asked. RequestsInside view.options inside triples (local_config view.page_size) asked)
+    pub local_requested : LoopsServer server view.seed view.fail_every inside (λ old new. BoundsRequests view.options (serving server).data_set (serving server).config q (wire_of new)) → OfFiles told view (λ triples asked. RequestsInside view.options inside triples (local_config view.options view.page_size) asked)
     local_requested l = λ files is triples asked serves holds.
         let own = starts.data_set.tells files is in
         let there = read.tells files is in
-        subst (λ (made : Option (Looped FragmentServer)). RequestsInside view.options made triples (local_config view.page_size) asked) (sym l.is_inside)
+        subst (λ (made : Option (Looped FragmentServer)). RequestsInside view.options made triples (local_config view.options view.page_size) asked) (sym l.is_inside)
         (of_both view (serving server).data_set triples (serving server).config q asked (λ (ts : List Triple) (c : Config) (x : QueryData). BoundsRequests view.options ts c x (wire_of l.after))
-        (one_outcome files view.name view.choice (codes "localhost") (served (serving server).data_set) (served triples) own serves) starts.config_is (one_query files view.query (reads q) (reads asked) there holds) l.says)
+        (one_outcome files view.name view.choice (codes "localhost") (served (serving server).data_set) (served triples) own serves) starts.config_is (one_query (grammar_of view.options) files view.query (reads q) (reads asked) there holds) l.says)
 
-    pub local_replied : (report : Report) → LoopsServer server view.seed view.fail_every inside (λ old new. AnswersPlan (offer_of (serving server).data_set (serving server).config q) view.options report (wire_of old) (wire_of new))
+    pub local_replied : (report : Report) → LoopsServer server view.seed view.fail_every inside (λ old new. AnswersPlan (offer_of view.options (serving server).data_set (serving server).config q) view.options report (wire_of old) (wire_of new))
         → OfFiles told view (RepliedInside told view inside report)
     local_replied report l = λ files is triples asked serves holds.
         let own = starts.data_set.tells files is in
@@ -127,13 +134,13 @@ module _ (told told' : Option Files) (same : told' ≡ told) (view : LocalView) 
           loops = record {
             after = l.after;
             is_inside = l.is_inside;
-            says = of_both view (serving server).data_set triples (serving server).config q asked (λ (ts : List Triple) (c : Config) (x : QueryData). AnswersPlan (offer_of ts c x) view.options report (wire_of (begun server view.seed view.fail_every)) (wire_of l.after))
-                (one_outcome files view.name view.choice (codes "localhost") (served (serving server).data_set) (served triples) own serves) starts.config_is (one_query files view.query (reads q) (reads asked) there holds) l.says;
+            says = of_both view (serving server).data_set triples (serving server).config q asked (λ (ts : List Triple) (c : Config) (x : QueryData). AnswersPlan (offer_of view.options ts c x) view.options report (wire_of (begun server view.seed view.fail_every)) (wire_of l.after))
+                (one_outcome files view.name view.choice (codes "localhost") (served (serving server).data_set) (served triples) own serves) starts.config_is (one_query (grammar_of view.options) files view.query (reads q) (reads asked) there holds) l.says;
           };
         }
 
 -- the fault of the query, from before the data were read
-pub query_from : (shelf mid shelf' : ShelfState) → KeepsShelf shelf mid → (name : List ℕ) (fault : QueryFileFault) → QueryCause mid shelf' name fault → QueryCause shelf shelf' name fault
-query_from shelf mid shelf' first name (query_faults.Bad at why) h = subst (λ (t : Option Files). IfTold t (λ files. HasQueryFault files name at why)) first.told h
-query_from shelf mid shelf' first name query_faults.File h = RoseBy-within 1 1 mid.faults shelf'.faults shelf.faults shelf'.faults (omega arith) first.later (omega arith) h
-query_from shelf mid shelf' first name query_faults.OutOfMemory h = tt
+pub query_from : (grammar : Grammar) (shelf mid shelf' : ShelfState) → KeepsShelf shelf mid → (name : List ℕ) (fault : QueryFileFault) → QueryCause grammar mid shelf' name fault → QueryCause grammar shelf shelf' name fault
+query_from grammar shelf mid shelf' first name (query_faults.Bad at why) h = subst (λ (t : Option Files). IfTold t (λ files. HasQueryFault grammar files name at why)) first.told h
+query_from grammar shelf mid shelf' first name query_faults.File h = RoseBy-within 1 1 mid.faults shelf'.faults shelf.faults shelf'.faults (omega arith) first.later (omega arith) h
+query_from grammar shelf mid shelf' first name query_faults.OutOfMemory h = tt

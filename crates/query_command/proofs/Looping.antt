@@ -12,8 +12,8 @@ use Rattle.tpf_client.specs.declared.options.Options.{Options}
 use Rattle.tpf_client.specs.declared.options.Report.{Report}
 use Rattle.tpf_client.specs.declared.fault.ClientFault.{ClientFault}
 use Rattle.tpf_client.specs.declared.fault.ClientFault.TheVariants as clients
-use Rattle.tpf_client.specs.Offers.{publisher, server_offer}
-use Rattle.tpf_client.specs.Ends.{OverEnds, OverLivelyEnds, server_ends}
+use Rattle.tpf_client.specs.Offers.{publisher, offer_in_blocks}
+use Rattle.tpf_client.specs.Ends.{OverEnds, OverLivelyEnds, ends_in_blocks}
 use Rattle.tpf_client.specs.Acts.{ActsOnWire}
 use Rattle.tpf_client.specs.Sources.{world_sources}
 use Rattle.tpf_client.specs.Calls.{RunsPool, WritesResult, WritesPrefix, WritesAll, WritesSome, IsCause, most_asked}
@@ -45,17 +45,17 @@ module _ (server : FragmentServer) (seed fail_every : ℕ) (old after : Looped F
 
   pub loops_ok : (result : Result Report ClientFault)
       → IfOk result (λ report. WritesResult q report.rows taken taken')
-      → IfOk result (λ report. WritesAll (RunsPool (allows_of old) options (wire_of old) (wire_of after)) world_sources q (asked ∷ []) report taken taken')
-      → ((history : List (List Triple)) (config : Config) → IsHonestWire (allows_of old) history config (wire_of old) → IfOk result (λ report. WritesSolutions (server_offer (publisher history config) q asked) q report.version report.rows taken taken'))
+      → IfOk result (λ report. WritesAll (RunsPool (allows_of old) options (wire_of old) (wire_of after)) (world_sources options.block) q (asked ∷ []) report taken taken')
+      → ((history : List (List Triple)) (config : Config) → IsHonestWire (allows_of old) history config (wire_of old) → IfOk result (λ report. WritesSolutions (offer_in_blocks options.block (publisher history config) q asked) q report.version report.rows taken taken'))
       → KeepsToPlan (allows_of old) q asked options (wire_of old) (wire_of after)
       → IfOk result (λ report. AnswersAll (allows_of old) options (asked ∷ []) report.requests (wire_of old) (wire_of after))
-      → OverEnds (server_ends q asked) (allows_of old) (wire_of old) (λ p. IfOk result (λ report. RequestsAreTries (server_offer p q asked) options report))
-      → OverLivelyEnds (server_ends q asked) (allows_of old) (wire_of old) (λ p. IfOk result (λ report. PacesRequests (server_offer p q asked) report (wire_of old) (wire_of after)))
-      → OverEnds (server_ends q asked) (allows_of old) (wire_of old) (λ p. IfOk result (λ report. AnswersPlan (server_offer p q asked) options report (wire_of old) (wire_of after)))
+      → OverEnds (ends_in_blocks options.block q asked) (allows_of old) (wire_of old) (λ p. IfOk result (λ report. RequestsAreTries (offer_in_blocks options.block p q asked) options report))
+      → OverLivelyEnds (ends_in_blocks options.block q asked) (allows_of old) (wire_of old) (λ p. IfOk result (λ report. PacesRequests (offer_in_blocks options.block p q asked) report (wire_of old) (wire_of after)))
+      → OverEnds (ends_in_blocks options.block q asked) (allows_of old) (wire_of old) (λ p. IfOk result (λ report. AnswersPlan (offer_in_blocks options.block p q asked) options report (wire_of old) (wire_of after)))
       → IfOk result (λ report. report.requests ≤ options.budget)
       → IfOk result (λ report. DialsAtMost report.requests (wire_of old) (wire_of after))
       → IfOk result (λ report. GivesAtMost report.requests (wire_of old) (wire_of after))
-      → ActsOnWire (allows_of old) (server_ends q asked) options (asked ∷ []) (most_asked options q) result (λ report. report) (wire_of old) (wire_of after)
+      → ActsOnWire (allows_of old) (ends_in_blocks options.block q asked) options (asked ∷ []) (most_asked options q) result (λ report. report) (wire_of old) (wire_of after)
       → IfOk result (λ report. LoopsServer server seed fail_every (Some after) (λ wire wire'. WritesOver (allows_of wire) q start options report (wire_of wire) (wire_of wire') taken taken'))
   loops_ok (Ok report) whole all headline plan answered tries paced replied within dialled linked acts = record {
     after = after;
@@ -67,20 +67,20 @@ module _ (server : FragmentServer) (seed fail_every : ℕ) (old after : Looped F
 
   pub loops_err : (result : Result Report ClientFault)
       → OnErr result (WritesPrefix q taken taken')
-      → IfErr result (λ fault. WritesSome (RunsPool (allows_of old) options (wire_of old) (wire_of after)) world_sources q (asked ∷ []) options.budget fault taken taken')
-      → IfErr result (λ fault. (some : WritesSome (RunsPool (allows_of old) options (wire_of old) (wire_of after)) world_sources q (asked ∷ []) options.budget fault taken taken') × ShowsGiven (RunsPool (allows_of old) options (wire_of old) (wire_of after)) world_sources q (asked ∷ []) options.budget fault out out' taken taken' some)
-      → ((history : List (List Triple)) (config : Config) → IsHonestWire (allows_of old) history config (wire_of old) → OnErr result (WritesSolutionsFront (server_offer (publisher history config) q asked) q taken taken'))
+      → IfErr result (λ fault. WritesSome (RunsPool (allows_of old) options (wire_of old) (wire_of after)) (world_sources options.block) q (asked ∷ []) options.budget fault taken taken')
+      → IfErr result (λ fault. (some : WritesSome (RunsPool (allows_of old) options (wire_of old) (wire_of after)) (world_sources options.block) q (asked ∷ []) options.budget fault taken taken') × ShowsGiven (RunsPool (allows_of old) options (wire_of old) (wire_of after)) (world_sources options.block) q (asked ∷ []) options.budget fault out out' taken taken' some)
+      → ((history : List (List Triple)) (config : Config) → IsHonestWire (allows_of old) history config (wire_of old) → OnErr result (WritesSolutionsFront (offer_in_blocks options.block (publisher history config) q asked) q taken taken'))
       → IfErr result (IsCause (allows_of old) options (wire_of old) (wire_of after))
       → (result ≡ Err clients.Sink → Rose out out')
       → KeepsToPlan (allows_of old) q asked options (wire_of old) (wire_of after)
-      → OverEnds (server_ends q asked) (allows_of old) (wire_of old) (λ p. IfErr result (IsHonestCause (server_offer p q asked) options))
-      → OverLivelyEnds (server_ends q asked) (allows_of old) (wire_of old) (λ p. IfErr result (IsLivelyCause (server_offer p q asked) options (wire_of old) (wire_of after)))
-      → OverHonest (allows_of old) (wire_of old) (λ history config. (wire_of old).nature.lively ≡ true → (rise : ℕ) → RisesFew options rise (wire_of old) (wire_of after) → PlanFits (server_offer (publisher history config) q asked) options rise → (Rose out out' → ⊥) → IfErr result (MayStill (server_offer (publisher history config) q asked)))
+      → OverEnds (ends_in_blocks options.block q asked) (allows_of old) (wire_of old) (λ p. IfErr result (IsHonestCause (offer_in_blocks options.block p q asked) options))
+      → OverLivelyEnds (ends_in_blocks options.block q asked) (allows_of old) (wire_of old) (λ p. IfErr result (IsLivelyCause (offer_in_blocks options.block p q asked) options (wire_of old) (wire_of after)))
+      → OverHonest (allows_of old) (wire_of old) (λ history config. (wire_of old).nature.lively ≡ true → (rise : ℕ) → RisesFew options rise (wire_of old) (wire_of after) → PlanFits (offer_in_blocks options.block (publisher history config) q asked) options rise → (Rose out out' → ⊥) → IfErr result (MayStill (offer_in_blocks options.block (publisher history config) q asked)))
       → ((wire_of old).nature.lively ≡ true → IfErr result (IsFailedOften options (wire_of old) (wire_of after)))
       → IfErr result (ForBudget (SpendsRequests options (wire_of old) (wire_of after)))
       → IfErr result (ForBudget (SpendsTries (allows_of old) options (asked ∷ []) (wire_of old) (wire_of after)))
-      → OverEnds (server_ends q asked) (allows_of old) (wire_of old) (λ p. IfErr result (ForBudget (SpendsPlan (server_offer p q asked) options)))
-      → ActsOnWire (allows_of old) (server_ends q asked) options (asked ∷ []) (most_asked options q) result (λ report. report) (wire_of old) (wire_of after)
+      → OverEnds (ends_in_blocks options.block q asked) (allows_of old) (wire_of old) (λ p. IfErr result (ForBudget (SpendsPlan (offer_in_blocks options.block p q asked) options)))
+      → ActsOnWire (allows_of old) (ends_in_blocks options.block q asked) options (asked ∷ []) (most_asked options q) result (λ report. report) (wire_of old) (wire_of after)
       → IfErr result (λ fault. LoopsServer server seed fail_every (Some after) (λ wire wire'. FailsOver (allows_of wire) q start options fault (wire_of wire) (wire_of wire') out out' taken taken'))
   loops_err (Ok report) front some shown headline cause sink plan honest_cause lively_cause complete failed_often spent_requests spent_tries spent_plan acts = tt
   loops_err (Err fault) front some shown headline cause sink plan honest_cause lively_cause complete failed_often spent_requests spent_tries spent_plan acts = record {
@@ -119,14 +119,14 @@ module _ (server : FragmentServer) (seed fail_every : ℕ) (old after : Looped F
 
   pub solves : (result : Result Report ClientFault)
       → (serving server).version ≡ 1 → IsValidDataSet (serving server).data_set → IsConfig (serving server).config → length (serving server).data_set < 2 ^ 64
-      → ((history : List (List Triple)) (config : Config) → IsHonestWire (allows_of old) history config (wire_of old) → IfOk result (λ report. WritesSolutions (server_offer (publisher history config) q asked) q report.version report.rows taken taken'))
+      → ((history : List (List Triple)) (config : Config) → IsHonestWire (allows_of old) history config (wire_of old) → IfOk result (λ report. WritesSolutions (offer_in_blocks options.block (publisher history config) q asked) q report.version report.rows taken taken'))
       → IfOk result (λ report. WritesAnswer (serving server).data_set q report.rows taken taken')
-  solves (Ok report) first valid config few headline = answer_of_one (serving server).data_set (serving server).config q asked report taken taken' (headline ((serving server).data_set ∷ []) (serving server).config (honest_old first valid config few))
+  solves (Ok report) first valid config few headline = answer_of_one options.block (serving server).data_set (serving server).config q asked report taken taken' (headline ((serving server).data_set ∷ []) (serving server).config (honest_old first valid config few))
   solves (Err fault) first valid config few headline = tt
 
   pub solves_front : (result : Result Report ClientFault)
       → (serving server).version ≡ 1 → IsValidDataSet (serving server).data_set → IsConfig (serving server).config → length (serving server).data_set < 2 ^ 64
-      → ((history : List (List Triple)) (config : Config) → IsHonestWire (allows_of old) history config (wire_of old) → OnErr result (WritesSolutionsFront (server_offer (publisher history config) q asked) q taken taken'))
+      → ((history : List (List Triple)) (config : Config) → IsHonestWire (allows_of old) history config (wire_of old) → OnErr result (WritesSolutionsFront (offer_in_blocks options.block (publisher history config) q asked) q taken taken'))
       → OnErr result (WritesAnswerFront (serving server).data_set q taken taken')
   solves_front (Ok report) first valid config few headline = tt
-  solves_front (Err fault) first valid config few headline = front_of_one (serving server).data_set (serving server).config q asked taken taken' (headline ((serving server).data_set ∷ []) (serving server).config (honest_old first valid config few))
+  solves_front (Err fault) first valid config few headline = front_of_one options.block (serving server).data_set (serving server).config q asked taken taken' (headline ((serving server).data_set ∷ []) (serving server).config (honest_old first valid config few))

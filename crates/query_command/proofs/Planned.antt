@@ -22,7 +22,7 @@ use Rattle.tpf_client.specs.declared.fault.ClientFault.{ClientFault}
 use Rattle.tpf_client.specs.declared.fault.ClientFault.TheVariants as faults
 use Rattle.tpf_client.specs.Traffic.{Event}
 use Rattle.tpf_client.specs.Calls.{RunsPool}
-use Rattle.tpf_client.specs.Offers.{Publisher, publisher, IsVersionOf, Offer, addresses_of}
+use Rattle.tpf_client.specs.Offers.{Publisher, publisher, IsVersionOf, Offer, addresses_in_blocks}
 use Rattle.tpf_client.specs.Honest.{IsHonestWire}
 use Rattle.tpf_client.specs.Requested.{CallRequests, RequestsPlan, AnswersPlan}
 use Rattle.tpf_client.specs.Failing.{SpendsPlan}
@@ -36,12 +36,12 @@ use Rattle.query_command.proofs.Failing.{FewFailed, few_failed, counts_requests,
 use Rattle.query_command.proofs.Fitting.{one_version, at_version, all_answered, all_read, one_server}
 
 -- what was sent on a wire that had given no link
-pub sends_plan : (server : FragmentServer) (seed n : ℕ) (after : Looped FragmentServer) (q : QueryData)
-    → AsksPlan (offer_of (serving server).data_set (serving server).config q) (wire_of (begun server seed n)) (wire_of after) → SendsPlan (serving server).data_set (serving server).config q (wire_of after)
-sends_plan server seed n after q a = record {
+pub sends_plan : (server : FragmentServer) (seed n : ℕ) (after : Looped FragmentServer) (q : QueryData) (options : Options)
+    → AsksPlan (offer_of options (serving server).data_set (serving server).config q) (wire_of (begun server seed n)) (wire_of after) → SendsPlan options (serving server).data_set (serving server).config q (wire_of after)
+sends_plan server seed n after q options a = record {
   asked = a.asked;
   rest = a.rest;
-  plan_is = subst (λ (v : ℕ). IsPermutation (addresses_of (publisher ((serving server).data_set ∷ []) (serving server).config) q local_base v) (a.asked ++ a.rest)) (sym (one_version (serving server).data_set a.choice a.is_choice)) a.plan_is;
+  plan_is = subst (λ (v : ℕ). IsPermutation (addresses_in_blocks options.block (publisher ((serving server).data_set ∷ []) (serving server).config) q local_base v) (a.asked ++ a.rest)) (sym (one_version (serving server).data_set a.choice a.is_choice)) a.plan_is;
   sent = λ k below. a.sent k (omega arith) below;
 }
 
@@ -50,14 +50,14 @@ from_none n = omega arith
 
 -- how often it was sent
 pub bounds_requests : (server : FragmentServer) (seed n : ℕ) (after : Looped FragmentServer) (q : QueryData) (options : Options)
-    → RequestsPlan (offer_of (serving server).data_set (serving server).config q) options (wire_of (begun server seed n)) (wire_of after) → BoundsRequests options (serving server).data_set (serving server).config q (wire_of after)
+    → RequestsPlan (offer_of options (serving server).data_set (serving server).config q) options (wire_of (begun server seed n)) (wire_of after) → BoundsRequests options (serving server).data_set (serving server).config q (wire_of after)
 bounds_requests server seed n after q options r =
-    let all = subst (λ (v : ℕ). CallRequests options (addresses_of (publisher ((serving server).data_set ∷ []) (serving server).config) q local_base v) (wire_of (begun server seed n)) (wire_of after)) (sym (one_version (serving server).data_set r.choice r.is_choice)) r.requests in
+    let all = subst (λ (v : ℕ). CallRequests options (addresses_in_blocks options.block (publisher ((serving server).data_set ∷ []) (serving server).config) q local_base v) (wire_of (begun server seed n)) (wire_of after)) (sym (one_version (serving server).data_set r.choice r.is_choice)) r.requests in
     record {
       on = all.on;
       told = λ k below. all.told k (omega arith) below;
       few = λ test.
-          subst (λ (links : ℕ). over_links (λ k. count_by test (whole_requests (all.on k))) 0 links ≤ (options.retries + 1) * count_by test (plan_of (serving server).data_set (serving server).config q)) (from_none (wire_of after).given) (all.few test);
+          subst (λ (links : ℕ). over_links (λ k. count_by test (whole_requests (all.on k))) 0 links ≤ (options.retries + 1) * count_by test (plan_of options (serving server).data_set (serving server).config q)) (from_none (wire_of after).given) (all.few test);
     }
 
 -- the nature of a wire stays
@@ -66,7 +66,7 @@ nature_stays allows options since now events pool r = r.closes.nature ∙ (trave
 
 module _ (server : FragmentServer) (seed n : ℕ) (after : Looped FragmentServer) (q : QueryData) (options : Options)
     (honest : IsHonestWire (allows_of (begun server seed n)) ((serving server).data_set ∷ []) (serving server).config (wire_of (begun server seed n)))
-    (reads : AllByRecursion (IsRead ((serving server).data_set ∷ []) (Served 1) (serving server).config) (plan_of (serving server).data_set (serving server).config q))
+    (reads : AllByRecursion (IsRead ((serving server).data_set ∷ []) (Served 1) (serving server).config) (plan_of options (serving server).data_set (serving server).config q))
     (due : CountsDue after.counts.failing after.counts.dials after.counts.faults after.provoked) (small : options.budget < 2 ^ 63)
     (plan : KeepsToPlan (allows_of (begun server seed n)) q local_base options (wire_of (begun server seed n)) (wire_of after)) where
   abbrev triples : List Triple
@@ -82,13 +82,13 @@ module _ (server : FragmentServer) (seed n : ℕ) (after : Looped FragmentServer
   now = wire_of after
 
   abbrev most : ℕ
-  most = length (plan_of triples config q)
+  most = length (plan_of options triples config q)
 
-  counted : CountsRises (StartedIn (allows_of (begun server seed n)) options since now) (offer_of triples config q) since now
+  counted : CountsRises (StartedIn (allows_of (begun server seed n)) options since now) (offer_of options triples config q) since now
   counted = plan.counted (publisher (triples ∷ []) config) honest refl
 
-  length_is : (version : ℕ) → IsVersionOf (triples ∷ []) version → length (addresses_of (publisher (triples ∷ []) config) q local_base version) ≡ most
-  length_is version is = at_version triples config q local_base (λ (list : List Address). length list ≡ most) version is refl
+  length_is : (version : ℕ) → IsVersionOf (triples ∷ []) version → length (addresses_in_blocks options.block (publisher (triples ∷ []) config) q local_base version) ≡ most
+  length_is version is = at_version options.block triples config q local_base (λ (list : List Address). length list ≡ most) version is refl
 
   few : FewFailed n most now.faults
   few =
@@ -114,7 +114,7 @@ module _ (server : FragmentServer) (seed n : ℕ) (after : Looped FragmentServer
 
   -- ---- a fault
 
-  overruns : OverrunsPlan (offer_of triples config q) options since now → SpendsPlan (offer_of triples config q) options → PassesBudget n options.retries options.budget most
+  overruns : OverrunsPlan (offer_of options triples config q) options since now → SpendsPlan (offer_of options triples config q) options → PassesBudget n options.retries options.budget most
   overruns o s =
       passes_budget n options.retries most now.faults few options.budget o.rises o.rose (subst (λ (k : ℕ). options.budget < k + o.rises) (length_is o.choice o.is_choice) o.over)
       (subst (λ (k : ℕ). options.budget < (options.retries + 1) * k) (length_is s.choice s.is_choice) s.tries)
@@ -125,12 +125,12 @@ module _ (server : FragmentServer) (seed n : ℕ) (after : Looped FragmentServer
   may_end (faults.Cut received) out out' taken taken' f = fails_often n options.retries most now.faults few (f.lively_cause (publisher (triples ∷ []) config) honest refl)
   may_end (faults.Reply fault received) out out' taken taken' f =
       let c = f.honest_cause (publisher (triples ∷ []) config) honest in
-      let answered = all_answered triples config q reads c.choice c.is_choice in (
+      let answered = all_answered triples config options q reads c.choice c.is_choice in (
         c.too_long answered,
-        subst (λ (list : List Address). HasLongPage (offer_of triples config q) options.max_body list received) (at_version triples config q local_base (λ (list : List Address). list ≡ plan_of triples config q) c.choice c.is_choice refl) (c.long answered),
+        subst (λ (list : List Address). HasLongPage (offer_of options triples config q) options.max_body list received) (at_version options.block triples config q local_base (λ (list : List Address). list ≡ plan_of options triples config q) c.choice c.is_choice refl) (c.long answered),
       )
-  may_end (faults.Page fault body) out out' taken taken' f = let c = f.honest_cause (publisher (triples ∷ []) config) honest in c.unread (all_read triples config q reads c.choice c.is_choice)
-  may_end (faults.Changed first other) out out' taken taken' f = let c = f.honest_cause (publisher (triples ∷ []) config) honest in one_server triples config q local_base first other c
+  may_end (faults.Page fault body) out out' taken taken' f = let c = f.honest_cause (publisher (triples ∷ []) config) honest in c.unread (all_read triples config options q reads c.choice c.is_choice)
+  may_end (faults.Changed first other) out out' taken taken' f = let c = f.honest_cause (publisher (triples ∷ []) config) honest in one_server options.block triples config q local_base first other c
   may_end (faults.Budget m) out out' taken taken' f = (f.cause.0, overruns (f.lively_cause (publisher (triples ∷ []) config) honest refl) (f.spent_plan (publisher (triples ∷ []) config) honest))
   may_end faults.Sink out out' taken taken' f = tt
   may_end faults.OutOfMemory out out' taken taken' f = tt
@@ -140,11 +140,11 @@ module _ (server : FragmentServer) (seed n : ℕ) (after : Looped FragmentServer
 pub sends_from : (server : FragmentServer) (seed n : ℕ) (after : Looped FragmentServer) (q : QueryData) (options : Options)
     → KeepsToPlan (allows_of (begun server seed n)) q local_base options (wire_of (begun server seed n)) (wire_of after)
     → IsHonestWire (allows_of (begun server seed n)) ((serving server).data_set ∷ []) (serving server).config (wire_of (begun server seed n))
-    → LoopsServer server seed n (Some after) (λ old new. SendsPlan (serving server).data_set (serving server).config q (wire_of new))
+    → LoopsServer server seed n (Some after) (λ old new. SendsPlan options (serving server).data_set (serving server).config q (wire_of new))
 sends_from server seed n after q options plan honest = record {
   after = after;
   is_inside = refl;
-  says = sends_plan server seed n after q (plan.asked (publisher ((serving server).data_set ∷ []) (serving server).config) honest);
+  says = sends_plan server seed n after q options (plan.asked (publisher ((serving server).data_set ∷ []) (serving server).config) honest);
 }
 
 pub requests_from : (server : FragmentServer) (seed n : ℕ) (after : Looped FragmentServer) (q : QueryData) (options : Options)
@@ -162,7 +162,7 @@ same_some x y e = cc
 
 pub ends_from : (server : FragmentServer) (seed n : ℕ) (after : Looped FragmentServer) (q : QueryData) (options : Options) (out out' : ℕ) (taken taken' : Option (List ℕ)) (result : Result Report ClientFault)
     → IsHonestWire (allows_of (begun server seed n)) ((serving server).data_set ∷ []) (serving server).config (wire_of (begun server seed n))
-    → AllByRecursion (IsRead ((serving server).data_set ∷ []) (Served 1) (serving server).config) (plan_of (serving server).data_set (serving server).config q)
+    → AllByRecursion (IsRead ((serving server).data_set ∷ []) (Served 1) (serving server).config) (plan_of options (serving server).data_set (serving server).config q)
     → CountsDue after.counts.failing after.counts.dials after.counts.faults after.provoked → options.budget < 2 ^ 63
     → IfOk result (λ report. LoopsServer server seed n (Some after) (λ wire wire'. WritesOver (allows_of wire) q local_base options report (wire_of wire) (wire_of wire') taken taken'))
     → IfErr result (λ fault. LoopsServer server seed n (Some after) (λ wire wire'. FailsOver (allows_of wire) q local_base options fault (wire_of wire) (wire_of wire') out out' taken taken'))
@@ -180,7 +180,7 @@ ends_from server seed n after q options out out' taken taken' (Err fault) honest
 pub answers_from : (server : FragmentServer) (seed n : ℕ) (after : Looped FragmentServer) (q : QueryData) (options : Options) (taken taken' : Option (List ℕ)) (result : Result Report ClientFault)
     → IsHonestWire (allows_of (begun server seed n)) ((serving server).data_set ∷ []) (serving server).config (wire_of (begun server seed n))
     → IfOk result (λ report. LoopsServer server seed n (Some after) (λ wire wire'. WritesOver (allows_of wire) q local_base options report (wire_of wire) (wire_of wire') taken taken'))
-    → IfOk result (λ report. LoopsServer server seed n (Some after) (λ wire wire'. AnswersPlan (offer_of (serving server).data_set (serving server).config q) options report (wire_of wire) (wire_of wire')))
+    → IfOk result (λ report. LoopsServer server seed n (Some after) (λ wire wire'. AnswersPlan (offer_of options (serving server).data_set (serving server).config q) options report (wire_of wire) (wire_of wire')))
 answers_from server seed n after q options taken taken' (Ok report) honest ok = record { after = ok.after; is_inside = ok.is_inside; says = ok.says.replied (publisher ((serving server).data_set ∷ []) (serving server).config) honest }
 answers_from server seed n after q options taken taken' (Err fault) honest ok = tt
 

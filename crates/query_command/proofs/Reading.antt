@@ -15,16 +15,17 @@ use Rattle.data_files.proofs.Outcomes.{one_outcome, one_query}
 use Rattle.data_files.proofs.Causes.{gives, gives_query}
 use Rattle.query_command.specs.declared.fault.AnswerFault.{AnswerFault}
 use Rattle.query_command.specs.declared.fault.AnswerFault.TheVariants as faults
+use Rattle.query_command.specs.Blocks.{grammar_of}
 use Rattle.query_command.specs.Answers.{Answers, AskCause, GivesAnswer}
 use Rattle.query_command.specs.Loops.{LocalView, LocalAnswers, LocalCause, GivesData}
 
 module _ (shelf shelf' : ShelfState) (name : List ℕ) (allows : List ℕ → ℕ → List ℕ → List ℕ → Type 0) (start : Address) (options : Options) (wire wire' : WireState) (out out' : SinkState) where
   pub gives_answer : (result : Result Report AnswerFault) → IfOk result (λ report. Answers shelf.told name allows start options report wire wire' out.taken out'.taken)
-      → IfErr result (AskCause shelf shelf' name allows start options wire wire' out out') → QueryDecides shelf shelf' name (λ outcome. GivesAnswer outcome result)
-  gives_answer (Ok report) a e quiet = λ files is outcome o. (a.q, one_query files name outcome (reads a.q) o (a.is_read.tells files is))
+      → IfErr result (AskCause shelf shelf' name allows start options wire wire' out out') → QueryDecides (grammar_of options) shelf shelf' name (λ outcome. GivesAnswer outcome result)
+  gives_answer (Ok report) a e quiet = λ files is outcome o. (a.q, one_query (grammar_of options) files name outcome (reads a.q) o (a.is_read.tells files is))
   gives_answer (Err (faults.Data fault)) a e quiet = absurd e
-  gives_answer (Err (faults.Query fault)) a e quiet = gives_query shelf shelf' name (Err fault) tt e.0 quiet
-  gives_answer (Err (faults.Client fault)) a e quiet = λ files is outcome o. (e.q, one_query files name outcome (reads e.q) o (e.is_read.tells files is))
+  gives_answer (Err (faults.Query fault)) a e quiet = gives_query shelf shelf' name (grammar_of options) (Err fault) tt e.0 quiet
+  gives_answer (Err (faults.Client fault)) a e quiet = λ files is outcome o. (e.q, one_query (grammar_of options) files name outcome (reads e.q) o (e.is_read.tells files is))
 
 module _ (shelf shelf' : ShelfState) (view : LocalView) (inside : Option (Looped FragmentServer)) (out out' : SinkState) where
   pub gives_data : (result : Result Report AnswerFault) → IfOk result (λ report. LocalAnswers shelf.told view inside report out out') → IfErr result (LocalCause shelf shelf' view inside out out')
@@ -35,8 +36,8 @@ module _ (shelf shelf' : ShelfState) (view : LocalView) (inside : Option (Looped
   gives_data (Err (faults.Client fault)) a e quiet = λ files is outcome o. (e.0.triples, one_outcome files view.name view.choice (codes "localhost") outcome (served e.0.triples) o (e.0.is_served.tells files is))
 
   pub gives_query_of : (result : Result Report AnswerFault) → IfOk result (λ report. LocalAnswers shelf.told view inside report out out') → IfErr result (LocalCause shelf shelf' view inside out out')
-      → QueryDecides shelf shelf' view.query (λ outcome. GivesAnswer outcome result)
-  gives_query_of (Ok report) a e quiet = λ files is outcome o. (a.0.q, one_query files view.query outcome (reads a.0.q) o (a.0.is_read.tells files is))
+      → QueryDecides (grammar_of view.options) shelf shelf' view.query (λ outcome. GivesAnswer outcome result)
+  gives_query_of (Ok report) a e quiet = λ files is outcome o. (a.0.q, one_query (grammar_of view.options) files view.query outcome (reads a.0.q) o (a.0.is_read.tells files is))
   gives_query_of (Err (faults.Data fault)) a e quiet = λ files is outcome o. tt
-  gives_query_of (Err (faults.Query fault)) a e quiet = gives_query shelf shelf' view.query (Err fault) tt e.0 quiet
-  gives_query_of (Err (faults.Client fault)) a e quiet = λ files is outcome o. (e.0.q, one_query files view.query outcome (reads e.0.q) o (e.0.is_read.tells files is))
+  gives_query_of (Err (faults.Query fault)) a e quiet = gives_query shelf shelf' view.query (grammar_of view.options) (Err fault) tt e.0 quiet
+  gives_query_of (Err (faults.Client fault)) a e quiet = λ files is outcome o. (e.0.q, one_query (grammar_of view.options) files view.query outcome (reads e.0.q) o (e.0.is_read.tells files is))

@@ -17,6 +17,7 @@ use Rattle.tpf_client.specs.declared.fault.ClientFault.{ClientFault}
 use Rattle.tpf_client.specs.declared.fault.ClientFault.TheVariants as client_faults
 use Rattle.tpf_client.specs.Calls.{solutions_of}
 use Rattle.data_files.specs.declared.fault.DataFault.TheVariants as data_faults
+use Rattle.data_files.specs.declared.query.Grammar.TheVariants as grammars
 use Rattle.data_files.specs.Data.{Files}
 use Rattle.data_files.specs.Queries.{IsOfQueryFile}
 use Rattle.data_files.specs.Causes.{QueryCause}
@@ -29,7 +30,7 @@ use Rattle.query_command.specs.Loops.{LoopsServer, local_base, local_config, all
 
 -- what bounds a call where no option is given
 abbrev pub usual_options : Options
-usual_options = record { window = 16; links = 8; retries = 2; budget = 1000000; max_body = 16777216 }
+usual_options = record { window = 16; block = 1; links = 8; retries = 2; budget = 1000000; max_body = 16777216 }
 
 -- ---- the numbers
 
@@ -51,7 +52,7 @@ pub record CountsFile (told : Option Files) (persons : ℕ) (query_name : List �
 -- A wire was made for a server of the data of so many persons, on pages of 100 triples, of the seed 0, on which no dial fails; and this is said of it as it was made and as it was left.
 pub record LoopsGenerated (persons : ℕ) (inside : Option (Looped FragmentServer)) (Says : Looped FragmentServer → Looped FragmentServer → Type 0) : Type 0 where
   pub server : FragmentServer
-  pub starts : StartsGenerated persons (local_config 100) (serving server)
+  pub starts : StartsGenerated persons (local_config usual_options 100) (serving server)
   pub loops : LoopsServer server 0 0 inside Says
 
 -- a query was asked over a wire to the end, with so many rows; what was written is not told
@@ -77,6 +78,6 @@ GeneratedAnswers told persons query_name inside counts = CountsFile told persons
 -- why there are none: the data have no fault, and the result is written nowhere that fails
 abbrev pub GeneratedCause : ShelfState → ShelfState → ℕ → List ℕ → Option (Looped FragmentServer) → AnswerFault → Type 0
 GeneratedCause shelf shelf' persons query_name inside (faults.Data fault) = (fault ≡ data_faults.OutOfMemory) × (inside ≡ None)
-GeneratedCause shelf shelf' persons query_name inside (faults.Query fault) = QueryCause shelf shelf' query_name fault × (inside ≡ None)
+GeneratedCause shelf shelf' persons query_name inside (faults.Query fault) = QueryCause grammars.Groups shelf shelf' query_name fault × (inside ≡ None)
 GeneratedCause shelf shelf' persons query_name inside (faults.Client fault) =
     (fault ≢ client_faults.Sink) × LoopsGenerated persons inside (FailsFileOver shelf.told query_name fault)

@@ -35,6 +35,7 @@ use Rattle.tpf_client.specs.Honest.{IsHonestWire}
 use Rattle.tpf_client.specs.Offers.{Offer, publisher}
 use Rattle.tpf_client.specs.Plans.{OverHonest, AsksPlan, RisesFew, PlanFits, MayStill, IsSmallByAll}
 use Rattle.tpf_client.specs.Requested.{RequestsPlan, AnswersPlan}
+use Rattle.data_files.specs.declared.query.Grammar.TheVariants as grammars
 use Rattle.data_files.specs.Data.{Files, IsOfFile}
 use Rattle.data_files.specs.Queries.{IsOfGroupFile, reads_groups}
 use Rattle.data_files.specs.Kept.{ReadsNamed}
@@ -44,6 +45,7 @@ use Rattle.query_command.specs.declared.fault.AnswerFault.{AnswerFault}
 use Rattle.query_command.specs.declared.fault.AnswerFault.TheVariants as faults
 use Rattle.query_command.specs.declared.generated_query.Counts.{Counts}
 use Rattle.query_command.specs.Files.{FailsByFile, ReadsLocally, KeepsOutput}
+use Rattle.query_command.specs.Blocks.{grammar_of}
 use Rattle.query_command.specs.Answers.{IsWanting, AsksServer}
 use Rattle.query_command.specs.Loops.{LocalView, LoopsFile, IsServing, allows_of, wire_of, local_base}
 use Rattle.query_command.specs.Generated.{LoopsGenerated, usual_options}
@@ -88,8 +90,8 @@ pub record FitsGroupOver (allows : List ℕ → ℕ → List ℕ → List ℕ �
 
 -- What a query with groups of a file over a wire came to, and what it left of shelf, wire and output. Where the text of the start has at most 65536 bytes, nothing stands in the way and the output did not fail, it succeeds, or memory is wanting.
 pub record AsksServerGroups (shelf shelf' : ShelfState) (allows : List ℕ → ℕ → List ℕ → List ℕ → Type 0) (wire wire' : WireState) (out out' : SinkState) (name : List ℕ) (start : Address) (options : Options) (result : Result Report AnswerFault) (g : GroupData) : Type 0 where
-  pub is_read : IsOfGroupFile shelf.told name g
-  pub exact : QueryDecides shelf shelf' name (λ outcome. outcome ≡ reads_groups g)
+  pub is_read : IsOfGroupFile (grammar_of options) shelf.told name g
+  pub exact : QueryDecides (grammar_of options) shelf shelf' name (λ outcome. outcome ≡ reads_groups g)
   pub answers : IfOk result (λ report. WritesGroupOver allows g start options report wire wire' out.faults out'.faults out.taken out'.taken)
   pub cause : IfErr result (GroupCause allows g start options wire wire' out out')
   pub complete : length (address_text start) ≤ 65536 → ¬ (Rose out.faults out'.faults) → (triples : List Triple) (config : Config) → FitsGroupOver allows g start options triples config wire wire' → IfErr result IsWanting
@@ -196,9 +198,9 @@ WantsMemoryFile told local inside g (faults.Client fault) = LoopsFile told local
 
 -- The query with groups of a file, asked of a file of data.
 pub record AsksFileGroups (shelf shelf' : ShelfState) (out out' : SinkState) (inside : Option (Looped FragmentServer)) (local : LocalView) (result : Result Report AnswerFault) (g : GroupData) : Type 0 where
-  pub is_read : IsOfGroupFile shelf.told local.query g
+  pub is_read : IsOfGroupFile (grammar_of local.options) shelf.told local.query g
   pub data_exact : DataDecides shelf shelf' local.name local.choice (codes "localhost") IsServing
-  pub query_exact : QueryDecides shelf shelf' local.query (λ outcome. outcome ≡ reads_groups g)
+  pub query_exact : QueryDecides (grammar_of local.options) shelf shelf' local.query (λ outcome. outcome ≡ reads_groups g)
   pub answers : IfOk result (λ report. LocalGroupAnswers shelf.told local inside g report out out')
   pub cause : IfErr result (LocalGroupCause shelf.told local inside g out out')
   pub asked : LoopsFile shelf.told local inside (AsksGroupPlan local.options g)
@@ -253,8 +255,8 @@ WantsMemoryGenerated persons inside g (faults.Client fault) = LoopsGenerated per
 
 -- The query with groups of a file, asked of the generated data of so many persons.
 pub record AsksGeneratedGroups (shelf shelf' : ShelfState) (inside : Option (Looped FragmentServer)) (persons : ℕ) (name : List ℕ) (result : Result Counts AnswerFault) (g : GroupData) : Type 0 where
-  pub is_read : IsOfGroupFile shelf.told name g
-  pub exact : QueryDecides shelf shelf' name (λ outcome. outcome ≡ reads_groups g)
+  pub is_read : IsOfGroupFile grammars.Groups shelf.told name g
+  pub exact : QueryDecides grammars.Groups shelf shelf' name (λ outcome. outcome ≡ reads_groups g)
   pub answers : IfOk result (GeneratedGroupAnswers persons inside g)
   pub cause : IfErr result (GeneratedGroupCause persons inside g)
   pub asked : LoopsGenerated persons inside (AsksGroupPlan usual_options g)

@@ -1,5 +1,6 @@
 pub mod Files
 pub mod Answers
+pub mod Blocks
 pub mod Loops
 pub mod Generated
 pub mod Plans

@@ -9,6 +9,7 @@ use Rattle.triple_table.specs.Served.{IsServed}
 use Rattle.generated_data.specs.Generated.{generated}
 use Rattle.bgp_core.specs.Queries.{QueryData, IsValidPattern}
 use Rattle.plan_laws.specs.Fitting.{AreServable, IsAskable}
+use Rattle.data_files.specs.declared.query.Grammar.{Grammar}
 use Rattle.data_files.specs.Data.{Files, Serves}
 use Rattle.group_query.specs.Trees.{GroupData, group_tree, blocks_of}
 use Rattle.data_files.specs.Queries.{HoldsQuery, HoldsGroup}
@@ -27,5 +28,5 @@ QueriesAreAskable = (files : Files) (name : List ℕ) (q : QueryData) → HoldsQ
 
 -- the patterns of each block of the query with groups that a file holds
 abbrev pub GroupsAreAskable : Type 0
-GroupsAreAskable = (files : Files) (name : List ℕ) (g : GroupData) → HoldsGroup files name g
+GroupsAreAskable = (grammar : Grammar) (files : Files) (name : List ℕ) (g : GroupData) → HoldsGroup grammar files name g
     → AllByRecursion (AllByRecursion IsValidPattern) (blocks_of (group_tree g)) → AllByRecursion (AllByRecursion IsAskable) (blocks_of (group_tree g))

@@ -1,5 +1,5 @@
 -- The wire in one process to the server of a file.
-use Rattle.std.specs.Prelude.{ℕ, ◌≡◌, ◌<◌, ◌^◌, List, [], ◌∷◌, length, codes, Option, None, Some, Result, Ok, Err}
+use Rattle.std.specs.Prelude.{ℕ, ◌≡◌, ◌<◌, ◌^◌, Bool, List, [], ◌∷◌, length, codes, Option, None, Some, Result, Ok, Err}
 use Rattle.std.specs.Io.KnownBytes.{Appends}
 use Rattle.std.specs.List.Sorted.{IsPermutation}
 use Rattle.rand_pcg.specs.Pcg.{multiplier_64}
@@ -34,6 +34,7 @@ use Rattle.file_server.specs.Servers.{Starts, serving}
 use Rattle.query_command.specs.declared.fault.AnswerFault.{AnswerFault}
 use Rattle.query_command.specs.declared.fault.AnswerFault.TheVariants as faults
 use Rattle.query_command.specs.declared.local_query.LocalQuery as declared_local
+use Rattle.query_command.specs.Blocks.{in_blocks, grammar_of}
 use Rattle.query_command.specs.Answers.{WritesOver, FailsOver, Answers, AnswersSome}
 
 -- what is asked of a file in the same process, without where its names lie in memory
@@ -53,8 +54,12 @@ local_view local = record { name = local.name.now; query = local.query.now; choi
 abbrev pub local_base : Address
 local_base = record { host = codes "localhost"; port = 80; path = codes "/data"; query = None }
 
-abbrev pub local_config : ℕ → Config
-local_config page_size = record { base = local_base; page_size = page_size; reload = None }
+abbrev pub config_of : ℕ → Bool → Config
+config_of page_size rows = record { base = local_base; page_size = page_size; reload = None; rows = rows }
+
+-- of a server that reads the rows that its client sends
+abbrev pub local_config : Options → ℕ → Config
+local_config options page_size = config_of page_size (in_blocks options)
 
 -- what is owed to what was sent to a server: its response, a reload request being answered as one that failed
 abbrev pub owes : FragmentServer → List ℕ → List ℕ
@@ -123,7 +128,7 @@ pub record LoopsServer (server : FragmentServer) (seed fail_every : ℕ) (inside
 -- the same of the server of the file
 pub record LoopsFile (told : Option Files) (local : LocalView) (inside : Option (Looped FragmentServer)) (Says : Looped FragmentServer → Looped FragmentServer → Type 0) : Type 0 where
   pub server : FragmentServer
-  pub starts : Starts told local.name local.choice (local_config local.page_size) (serving server)
+  pub starts : Starts told local.name local.choice (local_config local.options local.page_size) (serving server)
   pub loops : LoopsServer server local.seed local.fail_every inside Says
 
 -- over a wire that was made, the result of a query was written, or a front of it
@@ -149,7 +154,7 @@ abbrev pub LocalCause : ShelfState → ShelfState → LocalView → Option (Loop
 LocalCause shelf shelf' local inside out out' (faults.Data fault) =
     DataCause shelf shelf' local.name local.choice (codes "localhost") fault × (out' ≡ out) × (inside ≡ None)
 LocalCause shelf shelf' local inside out out' (faults.Query fault) =
-    QueryCause shelf shelf' local.query fault × IsDataRead shelf.told local.name local.choice × (out' ≡ out) × (inside ≡ None)
+    QueryCause (grammar_of local.options) shelf shelf' local.query fault × IsDataRead shelf.told local.name local.choice × (out' ≡ out) × (inside ≡ None)
 LocalCause shelf shelf' local inside out out' (faults.Client fault) =
     AnswersFilesFront shelf.told local.name local.query local.choice out.taken out'.taken
     × LoopsFile shelf.told local inside (λ old new. AnswersSome shelf.told local.query (allows_of old) local_base local.options fault (wire_of old) (wire_of new) out.faults out'.faults out.taken out'.taken)

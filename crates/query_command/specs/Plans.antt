@@ -20,7 +20,7 @@ use Rattle.tpf_client.specs.declared.options.Options.{Options}
 use Rattle.tpf_client.specs.declared.options.Report.{Report}
 use Rattle.tpf_client.specs.declared.fault.ClientFault.{ClientFault}
 use Rattle.tpf_client.specs.declared.fault.ClientFault.TheVariants as client_faults
-use Rattle.tpf_client.specs.Offers.{Publisher, Offer, publisher, addresses_of, server_offer}
+use Rattle.tpf_client.specs.Offers.{Publisher, Offer, publisher, addresses_in_blocks, offer_in_blocks}
 use Rattle.tpf_client.specs.Plans.{HasLongPage, IsSmallByAll}
 use Rattle.tpf_client.specs.Requested.{AnswersPlan}
 use Rattle.data_files.specs.Data.{Files, IfTold, Serves}
@@ -34,30 +34,30 @@ use Rattle.query_command.specs.Generated.{LoopsGenerated, usual_options}
 use Rattle.query_command.specs.Loops.{LocalView, LoopsFile, LeavesHonest, local_base, local_config, wire_of}
 
 -- the addresses that a query asks the server of these data for: the base, and the plan of its join (Verborgh et al.)
-abbrev pub plan_of : List Triple → Config → QueryData → List Address
-plan_of triples config q = addresses_of (publisher (triples ∷ []) config) q local_base 1
+abbrev pub plan_of : Options → List Triple → Config → QueryData → List Address
+plan_of options triples config q = addresses_in_blocks options.block (publisher (triples ∷ []) config) q local_base 1
 
 -- what that server offers to the query
-abbrev pub offer_of : List Triple → Config → QueryData → Offer
-offer_of triples config q = server_offer (publisher (triples ∷ []) config) q local_base
+abbrev pub offer_of : Options → List Triple → Config → QueryData → Offer
+offer_of options triples config q = offer_in_blocks options.block (publisher (triples ∷ []) config) q local_base
 
 -- On each link whole requests for addresses of the plan were sent, and then nothing or a front of the request for one. How often one was requested is not said here (see BoundsRequests).
-pub record SendsPlan (triples : List Triple) (config : Config) (q : QueryData) (wire : WireState) : Type 0 where
+pub record SendsPlan (options : Options) (triples : List Triple) (config : Config) (q : QueryData) (wire : WireState) : Type 0 where
   pub asked : List Address
   pub rest : List Address
-  pub plan_is : IsPermutation (plan_of triples config q) (asked ++ rest)
+  pub plan_is : IsPermutation (plan_of options triples config q) (asked ++ rest)
   pub sent : (k : ℕ) → k < wire.given → SendsFor (Contains asked) (wire.links k)
 
 -- on the wire that was made, where one was
-abbrev pub SendsInside : Option (Looped FragmentServer) → List Triple → Config → QueryData → Type 0
-SendsInside None triples config q = Unit {0}
-SendsInside (Some after) triples config q = SendsPlan triples config q (wire_of after)
+abbrev pub SendsInside : Options → Option (Looped FragmentServer) → List Triple → Config → QueryData → Type 0
+SendsInside options None triples config q = Unit {0}
+SendsInside options (Some after) triples config q = SendsPlan options triples config q (wire_of after)
 
 -- The requests on the links of a wire. Of any addresses no more whole requests were sent than they stand in the plan, each time as often as it may be tried.
 pub record BoundsRequests (options : Options) (triples : List Triple) (config : Config) (q : QueryData) (wire : WireState) : Type 0 where
   pub on : ℕ → LinkRequests
   pub told : (k : ℕ) → k < wire.given → TellsRequests options.max_body (wire.links k) (on k)
-  pub few : (test : Address → Bool) → over_links (λ k. count_by test (whole_requests (on k))) 0 wire.given ≤ (options.retries + 1) * count_by test (plan_of triples config q)
+  pub few : (test : Address → Bool) → over_links (λ k. count_by test (whole_requests (on k))) 0 wire.given ≤ (options.retries + 1) * count_by test (plan_of options triples config q)
 
 -- on the wire that was made, where one was
 abbrev pub RequestsInside : Options → Option (Looped FragmentServer) → List Triple → Config → QueryData → Type 0
@@ -67,15 +67,15 @@ RequestsInside options (Some after) triples config q = BoundsRequests options tr
 -- Each address of the plan was answered on the wire that was made as often as the plan has it, or more, and was requested no more than so often for each time that it may be tried.
 abbrev pub RepliedInside : Option Files → LocalView → Option (Looped FragmentServer) → Report → List Triple → QueryData → Type 0
 RepliedInside told local inside report triples q =
-    LoopsFile told local inside (λ old new. AnswersPlan (offer_of triples (local_config local.page_size) q) local.options report (wire_of old) (wire_of new))
+    LoopsFile told local inside (λ old new. AnswersPlan (offer_of local.options triples (local_config local.options local.page_size) q) local.options report (wire_of old) (wire_of new))
 
 -- The same for an answer of so many rows, with the bounds of a call where no option is given.
 abbrev pub RepliesRows : List Triple → Config → QueryData → ℕ → Looped FragmentServer → Looped FragmentServer → Type 0
-RepliesRows triples config q rows old new = (report : Report) × (report.rows ≡ rows) × AnswersPlan (offer_of triples config q) usual_options report (wire_of old) (wire_of new)
+RepliesRows triples config q rows old new = (report : Report) × (report.rows ≡ rows) × AnswersPlan (offer_of usual_options triples config q) usual_options report (wire_of old) (wire_of new)
 
 -- on the wire that was made for the generated data
 abbrev pub RepliedGenerated : ℕ → Option (Looped FragmentServer) → Counts → List Triple → QueryData → Type 0
-RepliedGenerated persons inside counts triples q = LoopsGenerated persons inside (RepliesRows triples (local_config 100) q counts.rows)
+RepliedGenerated persons inside counts triples q = LoopsGenerated persons inside (RepliesRows triples (local_config usual_options 100) q counts.rows)
 
 -- ---- how many requests there are, where each n-th dial fails, and none for 0
 
@@ -113,11 +113,11 @@ MayEndBy n options offer plan client_faults.OutOfMemory = Unit {0}
 
 -- of a query
 abbrev pub MayEnd : ℕ → Options → List Triple → Config → QueryData → ClientFault → Type 0
-MayEnd n options triples config q fault = MayEndBy n options (offer_of triples config q) (plan_of triples config q) fault
+MayEnd n options triples config q fault = MayEndBy n options (offer_of options triples config q) (plan_of options triples config q) fault
 
 -- how a call over the wire ended
 abbrev pub EndsAsPlanned : ℕ → Options → List Triple → Config → QueryData → Result Report ClientFault → Type 0
-EndsAsPlanned n options triples config q (Ok report) = CountsRequests n options.retries (length (plan_of triples config q)) report.requests
+EndsAsPlanned n options triples config q (Ok report) = CountsRequests n options.retries (length (plan_of options triples config q)) report.requests
 EndsAsPlanned n options triples config q (Err fault) = MayEnd n options triples config q fault
 
 -- ---- the commands
@@ -130,7 +130,7 @@ MayFail n options triples config q (faults.Client fault) = MayEnd n options trip
 
 -- the query of a file: the requests of an answer, or why there is none
 abbrev pub EndsLocally : ℕ → Options → List Triple → Config → QueryData → Result Report AnswerFault → Type 0
-EndsLocally n options triples config q (Ok report) = CountsRequests n options.retries (length (plan_of triples config q)) report.requests
+EndsLocally n options triples config q (Ok report) = CountsRequests n options.retries (length (plan_of options triples config q)) report.requests
 EndsLocally n options triples config q (Err fault) = MayFail n options triples config q fault
 
 -- the query of generated data
@@ -193,17 +193,17 @@ pub record IsWithin (n : ℕ) (options : Options) (server : Publisher) (plan : L
 
 -- of a query
 abbrev pub PlanIsWithin : ℕ → Options → List Triple → Config → QueryData → Type 0
-PlanIsWithin n options triples config q = IsWithin n options (publisher (triples ∷ []) config) (plan_of triples config q)
+PlanIsWithin n options triples config q = IsWithin n options (publisher (triples ∷ []) config) (plan_of options triples config q)
 
 -- ---- what the query of a file keeps to
 
 -- requests were sent for addresses of the plan alone
 abbrev pub SendsLocally : Option Files → LocalView → Option (Looped FragmentServer) → Type 0
-SendsLocally told local inside = OfFiles told local (λ triples q. SendsInside inside triples (local_config local.page_size) q)
+SendsLocally told local inside = OfFiles told local (λ triples q. SendsInside local.options inside triples (local_config local.options local.page_size) q)
 
 -- and of any of them no more than the plan has, each time as often as it may be tried
 abbrev pub RequestsLocally : Option Files → LocalView → Option (Looped FragmentServer) → Type 0
-RequestsLocally told local inside = OfFiles told local (λ triples q. RequestsInside local.options inside triples (local_config local.page_size) q)
+RequestsLocally told local inside = OfFiles told local (λ triples q. RequestsInside local.options inside triples (local_config local.options local.page_size) q)
 
 -- at an answer each address of the plan was answered
 abbrev pub RepliesLocally : Option Files → LocalView → Option (Looped FragmentServer) → Result Report AnswerFault → Type 0
@@ -215,8 +215,8 @@ RepliesGenerated told persons query_name inside answer = IfOk answer (λ counts.
 
 -- it took so many requests, or ended for one of the causes
 abbrev pub EndsByPlan : Option Files → LocalView → Result Report AnswerFault → Type 0
-EndsByPlan told local answer = local.options.budget < 2 ^ 63 → OfFiles told local (λ triples q. EndsLocally local.fail_every local.options triples (local_config local.page_size) q answer)
+EndsByPlan told local answer = local.options.budget < 2 ^ 63 → OfFiles told local (λ triples q. EndsLocally local.fail_every local.options triples (local_config local.options local.page_size) q answer)
 
 -- where none of the causes is there it succeeded, or memory is wanting
 abbrev pub SucceedsByPlan : Option Files → LocalView → Result Report AnswerFault → Type 0
-SucceedsByPlan told local answer = local.options.budget < 2 ^ 63 → OfFiles told local (λ triples q. PlanIsWithin local.fail_every local.options triples (local_config local.page_size) q → IfErr answer IsWanting)
+SucceedsByPlan told local answer = local.options.budget < 2 ^ 63 → OfFiles told local (λ triples q. PlanIsWithin local.fail_every local.options triples (local_config local.options local.page_size) q → IfErr answer IsWanting)

@@ -14,9 +14,9 @@ use crate::AnswerFault;
 use crate::group_wire::ask_groups;
 use crate::limits::commands_keep_limits;
 use crate::local_query::{OverWire, ask_server};
-use crate::start::{local_config, local_start};
+use crate::start::{config_of, local_start};
 use bgp_core::Query;
-use data_files::{DataFault, read_query};
+use data_files::{DataFault, Grammar, read_query};
 use fragment_server::{FragmentConnection, FragmentServer};
 use generated_server::server_of_generated;
 use group_parser::Asked;
@@ -26,7 +26,7 @@ use std::alloc::Global;
 use std::sync::Wait;
 use template_fill::WebAddress;
 use tpf_base::{Drain, OutOfMemory, Shelf};
-use tpf_client::{ClientFault, Options};
+use tpf_client::{BlockSize, ClientFault, Options};
 use triple_table::served_is_one;
 
 /// The most triples of a page.
@@ -47,6 +47,7 @@ fn usual_options() -> Options
 {
     Options {
         window: 16,
+        block: BlockSize::one(),
         links: 8,
         retries: 2,
         budget: 1000000,
@@ -57,9 +58,9 @@ fn usual_options() -> Options
 /// The server of the generated data in the same process.
 fn generated_server(alloc: Global, persons: u32) -> Result<FragmentServer, OutOfMemory>
     requires { persons ≤ 1000000 }
-    ensures { IfOk result (λ server. StartsGenerated persons (local_config 100) (serving server)) }
+    ensures { IfOk result (λ server. StartsGenerated persons (local_config usual_options 100) (serving server)) }
 {
-    let config = local_config(alloc, PAGE)?;
+    let config = config_of(alloc, PAGE, false)?;
     server_of_generated(alloc, persons, config)
 }
 
@@ -74,12 +75,12 @@ fn ask_generated<R: Wait>(
     inside: &mut Option<LoopWire<FragmentConnection>>,
 ) -> Result<Counts, ClientFault>
     requires start { start.now ≡ local_base }
-    requires starts { StartsGenerated persons (local_config 100) (serving server) }
+    requires starts { StartsGenerated persons (local_config usual_options 100) (serving server) }
     ensures counts { IfOk result (CountsQuery persons query.now) }
     ensures answers { IfOk result (λ counts. LoopsGenerated persons inside.new (AsksOver query.now counts.rows)) }
     ensures cause { IfErr result (λ fault. LoopsGenerated persons inside.new (FailsOn query.now fault)) }
     ensures sent { LoopsServer server 0 0 inside.new (λ old new.
-        SendsPlan (serving server).data_set (serving server).config query.now (wire_of new)) }
+        SendsPlan usual_options (serving server).data_set (serving server).config query.now (wire_of new)) }
     ensures requested { LoopsServer server 0 0 inside.new (λ old new.
         BoundsRequests usual_options (serving server).data_set (serving server).config query.now (wire_of new)) }
     ensures replied { IfOk result (λ counts. LoopsServer server 0 0 inside.new
@@ -116,7 +117,7 @@ fn count_groups<R: Wait>(
     inside: &mut Option<LoopWire<FragmentConnection>>,
 ) -> Result<Counts, ClientFault>
     requires start { start.now ≡ local_base }
-    requires starts { StartsGenerated persons (local_config 100) (serving server) }
+    requires starts { StartsGenerated persons (local_config usual_options 100) (serving server) }
     ensures { AsksGeneratedOver server persons query.now result inside.new }
 {
     let triples = server.server().table().len() as u64;
@@ -173,7 +174,7 @@ pub fn query_generated<R: Wait, F: Shelf>(
 {
     commands_keep_limits();
     served_is_one();
-    let query = match read_query(alloc, shelf, query) {
+    let query = match read_query(alloc, shelf, query, Grammar::Groups) {
         Ok(query) => query,
         Err(fault) => return Err(AnswerFault::Query(fault)),
     };

@@ -11,6 +11,7 @@
 //! ```
 #![tactic(auto)]
 
+mod blocks;
 mod fault;
 mod generated_query;
 mod group_wire;
@@ -22,6 +23,7 @@ mod wires;
 
 pub use fault::AnswerFault;
 pub use generated_query::{Counts, query_generated};
+pub use limits::commands_keep_limits;
 pub use local_query::{LocalQuery, local};
 pub use server_query::query;
 pub use wires::wires_in_process_are_honest;

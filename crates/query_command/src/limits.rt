@@ -9,7 +9,7 @@ use triple_table::served_terms_are_short;
 /// The data that are served of a file, those that are generated, and the patterns of a query that a file
 /// holds, also of each block of one with groups, are within the limits under which a server answers each
 /// address of a plan with a page that is read. The call does nothing; it tells a proof of it.
-pub(crate) fn commands_keep_limits()
+pub fn commands_keep_limits()
     ensures files { FilesAreServable }
     ensures generated { GeneratedAreServable }
     ensures queries { QueriesAreAskable }

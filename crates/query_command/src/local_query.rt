@@ -10,9 +10,10 @@ ghost use Rattle.query_command.specs.Plans.{SendsPlan, BoundsRequests, EndsAsPla
 ghost use Rattle.query_command.specs.Groups.{FileAsked};
 
 use crate::AnswerFault;
+use crate::blocks::{grammar_of, in_blocks, is_sized};
 use crate::group_wire::ask_groups;
 use crate::limits::commands_keep_limits;
-use crate::start::{local_config, local_start};
+use crate::start::{config_of, local_start};
 use bgp_core::Query;
 use data_files::{DataFault, read_query};
 use file_server::server_of_file;
@@ -93,12 +94,13 @@ pub(crate) fn ask_server<R: Wait, K: Sink>(
     ensures front { OnErr result (WritesAnswerFront (serving server).data_set query.now
         (K.state out.old).taken (K.state out.new).taken) }
     ensures sent { LoopsServer server asked.now.seed asked.now.fail_every inside.new (λ old new.
-        SendsPlan (serving server).data_set (serving server).config query.now (wire_of new)) }
+        SendsPlan asked.now.options (serving server).data_set (serving server).config query.now (wire_of new)) }
     ensures requested { LoopsServer server asked.now.seed asked.now.fail_every inside.new (λ old new.
         BoundsRequests asked.now.options (serving server).data_set (serving server).config query.now (wire_of new)) }
     ensures replied { IfOk result (λ report. LoopsServer server asked.now.seed asked.now.fail_every inside.new
-        (λ old new. AnswersPlan (offer_of (serving server).data_set (serving server).config query.now) asked.now.options
-        report (wire_of old) (wire_of new))) }
+        (λ old new. AnswersPlan
+        (offer_of asked.now.options (serving server).data_set (serving server).config query.now)
+        asked.now.options report (wire_of old) (wire_of new))) }
     ensures ends { AreServable (serving server).data_set → AllByRecursion IsAskable query.now.patterns
         → asked.now.options.budget < 2 ^ 63 → EndsAsPlanned asked.now.fail_every asked.now.options
         (serving server).data_set (serving server).config query.now result }
@@ -107,6 +109,7 @@ pub(crate) fn ask_server<R: Wait, K: Sink>(
     ensures spared { (K.state out.old).faultless ≡ true → IsErrOf result ClientFault.Sink → ⊥ }
 {
     plans_are_read();
+    is_sized(&asked.options);
     is_few(&server);
     server.server().is_valid();
     let failing = Failing::Dials(asked.fail_every);
@@ -144,6 +147,8 @@ pub(crate) fn ask_server<R: Wait, K: Sink>(
 /// page that is none and another version never end the call, and an exchange only where dials are to fail
 /// (`planned`). The wire that is left answers as the server of these data does (`honest`).
 ///
+/// Where a request may carry more rows than one, the server reads them, and the query is one basic graph pattern.
+///
 /// A query without groups is asked as one basic graph pattern (`FileAsked.Plain`). One with groups is asked
 /// block after block (`FileAsked.Groups`): the text of its answers over the data of the file is written,
 /// and what was done on the wire is said of each block. A stall, a page that is none and another version
@@ -170,14 +175,14 @@ pub fn local<R: Wait, F: Shelf, K: Sink>(
     let Ok(start) = local_start(alloc) else {
         return Err(AnswerFault::Data(DataFault::OutOfMemory));
     };
-    let Ok(config) = local_config(alloc, asked.page_size) else {
+    let Ok(config) = config_of(alloc, asked.page_size, in_blocks(&asked.options)) else {
         return Err(AnswerFault::Data(DataFault::OutOfMemory));
     };
     let server = match server_of_file(alloc, shelf, asked.name, asked.choice, config) {
         Ok(server) => server,
         Err(fault) => return Err(AnswerFault::Data(fault)),
     };
-    let query = match read_query(alloc, shelf, asked.query) {
+    let query = match read_query(alloc, shelf, asked.query, grammar_of(&asked.options)) {
         Ok(query) => query,
         Err(fault) => return Err(AnswerFault::Query(fault)),
     };

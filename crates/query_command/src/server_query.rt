@@ -4,6 +4,7 @@ ghost use Rattle.tpf_base.specs.Links.{SameAllowed};
 ghost use Rattle.query_command.specs.Groups.{ServerAsked};
 
 use crate::AnswerFault;
+use crate::blocks::{grammar_of, is_sized};
 use crate::group_wire::blocks_are_valid;
 use crate::limits::commands_keep_limits;
 use data_files::read_query;
@@ -32,6 +33,9 @@ use tpf_client::{Options, Report, query as query_server};
 /// request may be sent again, and shelf and output do not fail, the call succeeds unless memory runs out
 /// (`complete`).
 ///
+/// Where a request may carry more rows than one the text is read as one basic graph pattern, and one with groups
+/// is refused. Over a server that passes rows over the answer is the same.
+///
 /// A query without groups is asked as one basic graph pattern (`ServerAsked.Plain`). One with groups is
 /// asked block after block (`ServerAsked.Groups`): over a wire whose other ends answer as a server does, the
 /// text of its answers over the version that is reported is written.
@@ -56,7 +60,8 @@ pub fn query<R: Wait, F: Shelf, W: Dial, K: Sink>(
     commands_keep_limits();
     plans_are_read();
     pages_are_answered();
-    let query = match read_query(alloc, shelf, name) {
+    is_sized(options);
+    let query = match read_query(alloc, shelf, name, grammar_of(options)) {
         Ok(query) => query,
         Err(fault) => return Err(AnswerFault::Query(fault)),
     };

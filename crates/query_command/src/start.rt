@@ -1,6 +1,6 @@
 // The start of a server in the same process.
 ghost use Rattle.std.specs.Prelude.{◌≡◌, ◌≤◌, IfOk};
-ghost use Rattle.query_command.specs.Loops.{local_base, local_config};
+ghost use Rattle.query_command.specs.Loops.{local_base, config_of};
 
 use hydra_controls::Config;
 use std::alloc::Global;
@@ -22,16 +22,16 @@ pub(crate) fn local_start(alloc: Global) -> Result<WebAddress, OutOfMemory>
     }
 }
 
-/// The configuration of a server in the same process.
-pub(crate) fn local_config(alloc: Global, page_size: u64) -> Result<Config, OutOfMemory>
+/// The configuration of a server in the same process, which reads the rows of requests or passes them over.
+pub(crate) fn config_of(alloc: Global, page_size: u64, rows: bool) -> Result<Config, OutOfMemory>
     requires low { 1 ≤ page_size }
     requires high { page_size ≤ 1000 }
-    ensures { IfOk result (λ config. config ≡ local_config page_size) }
+    ensures { IfOk result (λ config. config ≡ config_of page_size rows) }
 {
     let base = local_start(alloc)?;
     base.is_valid();
     match Config::new(base, page_size) {
-        Some(config) => Ok(config),
+        Some(config) => Ok(if rows { config.with_rows() } else { config }),
         None => unreachable!(),
     }
 }

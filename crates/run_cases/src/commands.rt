@@ -15,8 +15,18 @@ fn choice_text(choice: &Choice) -> &str {
     }
 }
 
-/// The numbers of a client.
+/// The numbers of a client, with that of its blocks last where they have more rows than one.
 fn client_text(alloc: Global, client: &ClientWords) -> Result<String, CaseFault> {
+    let front = bounds_text(alloc, client)?;
+    let block = client.block;
+    if block == 1 {
+        return Ok(front);
+    }
+    Ok(format!(in alloc; "{front}/{block}")?)
+}
+
+/// The numbers of a client but that of its blocks.
+fn bounds_text(alloc: Global, client: &ClientWords) -> Result<String, CaseFault> {
     let window = client.window;
     let links = client.links;
     let retries = client.retries;
@@ -85,19 +95,22 @@ fn serve_front(
     Ok(format!(in alloc; "serve {name} {address} {graphs} {page}")?)
 }
 
-/// `serve` in one line: what is served, after how many connections it ends, and the path of a reload.
+/// `serve` in one line: what is served, after how many connections it ends, the path of a reload, and `rows` where rows
+/// are read.
 fn serve_text(
     alloc: Global,
     front: &str,
     stop_after: &Option<u64>,
     reload: &Option<Text>,
+    rows: bool,
 ) -> Result<String, CaseFault> {
     let connections = stop_after.unwrap_or(0);
     let path = match reload {
         Some(path) => path.as_str(),
         None => "none",
     };
-    Ok(format!(in alloc; "{front} {connections} {path}")?)
+    let rows = if rows { " rows" } else { "" };
+    Ok(format!(in alloc; "{front} {connections} {path}{rows}")?)
 }
 
 /// `make` in one line: what it makes, and its query.
@@ -130,9 +143,10 @@ fn command_text(alloc: Global, command: &Command<'_>) -> Result<String, CaseFaul
             page,
             stop_after,
             reload,
+            rows,
         } => {
             let front = serve_front(alloc, *name, base.text(), choice, *page)?;
-            serve_text(alloc, front.as_str(), stop_after, reload)
+            serve_text(alloc, front.as_str(), stop_after, reload, *rows)
         }
         Command::Make { count, run } => make_text(alloc, *count, *run),
     }

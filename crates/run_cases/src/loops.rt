@@ -24,13 +24,13 @@ pub fn sent_over<B: Behind<FragmentConnection>>(
     Ok(sent)
 }
 
-/// The configuration of a server at this address with so many triples a page.
-fn config_of(alloc: Global, base: &str, page: u64) -> Result<Config, CaseFault> {
+/// The configuration of a server at this address with so many triples a page, which reads rows or passes them over.
+fn config_of(alloc: Global, base: &str, page: u64, rows: bool) -> Result<Config, CaseFault> {
     let Ok(base) = WebAddress::read(alloc, base) else {
         return Err(CaseFault::Row);
     };
     match Config::new(base, page) {
-        Some(config) => Ok(config),
+        Some(config) => Ok(if rows { config.with_rows() } else { config }),
         None => Err(CaseFault::Row),
     }
 }
@@ -41,29 +41,34 @@ fn server_on(
     shelf: &mut MemShelf,
     base: &str,
     page: u64,
+    rows: bool,
 ) -> Result<Box<FragmentServer>, CaseFault> {
-    let config = config_of(alloc, base, page)?;
+    let config = config_of(alloc, base, page, rows)?;
     match server_of_file(alloc, shelf, "d", &Choice::DefaultGraph, config) {
         Ok(server) => Ok(Box::new(alloc, server)?),
         Err(_) => Err(CaseFault::Row),
     }
 }
 
-/// The server of the file `d`.
-fn server_of(alloc: Global, setup: &Setup, page: u64) -> Result<Box<FragmentServer>, CaseFault> {
+/// `page`, `rows`: the server of the file `d`.
+fn server_of(
+    alloc: Global,
+    case: &mut Case<'_>,
+    setup: &Setup,
+) -> Result<Box<FragmentServer>, CaseFault> {
+    let page = case.number_if("page")?.unwrap_or(100);
+    let rows = case.flag("rows")?;
     let mut shelf = setup.shelf(alloc, Failure::Never)?;
-    server_on(alloc, &mut shelf, "http://localhost/data", page)
+    server_on(alloc, &mut shelf, "http://localhost/data", page, rows)
 }
 
-/// A wire in one process to the server of the file `d`, with this seed, whose calls fail so.
-fn loop_of(
+/// A wire in one process to a server, with this seed, whose calls fail so.
+fn loop_to(
     alloc: Global,
-    setup: &Setup,
-    page: u64,
+    server: Box<FragmentServer>,
     seed: u64,
     failure: Failure,
 ) -> Result<Box<WithDoor<LoopWire<FragmentConnection>>>, CaseFault> {
-    let server = server_of(alloc, setup, page)?;
     let failing = failure.failing(alloc)?;
     let wire = LoopWire::new(alloc, Box::into_inner(server), seed, failing);
     Ok(Box::new(alloc, WithDoor::new(wire))?)
@@ -84,22 +89,23 @@ where
     Ok(outcome)
 }
 
-/// `page`, `seed`, `wire_fails`: how the run over such a wire ends.
+/// `page`, `rows`, `seed`, `wire_fails`: how the run over such a wire ends.
 fn looped_outcome<P: Runs>(
     program: &P,
     alloc: Global,
     case: &mut Case<'_>,
     setup: &Setup,
 ) -> Result<Box<Outcome>, CaseFault> {
-    let page = case.number_if("page")?.unwrap_or(100);
+    let server = server_of(alloc, case, setup)?;
     let seed = case.number_if("seed")?.unwrap_or(0);
     let failure = failure_of(alloc, case, "wire_fails")?;
-    let mut wire = loop_of(alloc, setup, page, seed, failure)?;
+    let mut wire = loop_to(alloc, server, seed, failure)?;
     over_loop(program, alloc, setup, &mut wire)
 }
 
-/// The members of `run` but `seeds`, and `page`, `seed`, `wire_fails`: the run over a wire in one process, with this seed,
-/// to a server of the file `d` at `http://localhost/data` with so many triples a page.
+/// The members of `run` but `seeds`, and `page`, `rows`, `seed`, `wire_fails`: the run over a wire in one process, with
+/// this seed, to a server of the file `d` at `http://localhost/data` with so many triples a page, which reads rows where
+/// the row has `rows`.
 pub fn looped<P: Runs>(
     program: &P,
     alloc: Global,
@@ -128,7 +134,7 @@ fn server_in(alloc: Global, case: &mut Case<'_>) -> Result<Box<FragmentServer>, 
     let bytes = case.bytes(alloc, "data")?;
     case.end()?;
     let mut shelf = shelf_with(alloc, bytes)?;
-    server_on(alloc, &mut shelf, base.as_str(), page)
+    server_on(alloc, &mut shelf, base.as_str(), page, false)
 }
 
 /// `servers`: each of the servers.

@@ -20,6 +20,8 @@ fn main(rt: HostRuntime) -> ExitCode {
             "faults.jsonl",
             "wires.jsonl",
             "servers.jsonl",
+            "rows.jsonl",
+            "blocks.jsonl",
             "group_examples.jsonl",
             "groups.jsonl",
             "group_faults.jsonl",

@@ -80,7 +80,7 @@ module _ (statuses : List ℕ) (memory : IsAmong statuses 8) where
   -- of a query
   of_asked : (n : ℕ) → (0 < n → IsAmong statuses 5) → IsAmong statuses 6 → IsAmong statuses 7 → IsAmong statuses 9
       → (options : Options) (triples : List Triple) (config : Config) (q : QueryData) (fault : ClientFault) → MayEnd n options triples config q fault → IsAmong statuses (client_status fault)
-  of_asked n exchange reply budget sink options triples config q fault may = of_inside n exchange reply budget sink options (offer_of triples config q) (plan_of triples config q) fault may
+  of_asked n exchange reply budget sink options triples config q fault may = of_inside n exchange reply budget sink options (offer_of options triples config q) (plan_of options triples config q) fault may
 
   -- the same of a query with groups
   of_groups : (n : ℕ) → (0 < n → IsAmong statuses 5) → IsAmong statuses 6 → IsAmong statuses 7 → IsAmong statuses 9
@@ -231,12 +231,12 @@ module _ (a : Around) where
   among_command (federate several) r (ends.served file service) h = absurd h
   among_command (federate several) r (made written) h = absurd h
   among_command (federate several) r (counted asked result) h = absurd h
-  among_command (serve name base choice page stop_after reload) r (ends.served file service) h = among_service service
-  among_command (serve name base choice page stop_after reload) r usage h = absurd h
-  among_command (serve name base choice page stop_after reload) r no_words h = absurd h
-  among_command (serve name base choice page stop_after reload) r (answered data_name asked answer) h = absurd h
-  among_command (serve name base choice page stop_after reload) r (made written) h = absurd h
-  among_command (serve name base choice page stop_after reload) r (counted asked result) h = absurd h
+  among_command (serve name base choice page stop_after reload rows) r (ends.served file service) h = among_service service
+  among_command (serve name base choice page stop_after reload rows) r usage h = absurd h
+  among_command (serve name base choice page stop_after reload rows) r no_words h = absurd h
+  among_command (serve name base choice page stop_after reload rows) r (answered data_name asked answer) h = absurd h
+  among_command (serve name base choice page stop_after reload rows) r (made written) h = absurd h
+  among_command (serve name base choice page stop_after reload rows) r (counted asked result) h = absurd h
   among_command (make count None) r (made written) h = among_made written
   among_command (make count None) r usage h = absurd h.1
   among_command (make count None) r no_words h = absurd h.1
@@ -257,7 +257,7 @@ module _ (a : Around) where
   among_memory (Some (local name query_name choice page client seed fail_every)) = all_8 (fail_every == 0)
   among_memory (Some (query url query_name client)) = refl
   among_memory (Some (federate several)) = refl
-  among_memory (Some (serve name base choice page stop_after reload)) = refl
+  among_memory (Some (serve name base choice page stop_after reload rows)) = refl
   among_memory (Some (make count None)) = refl
   among_memory (Some (make count (Some name))) = refl
 

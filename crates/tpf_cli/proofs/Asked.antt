@@ -12,6 +12,7 @@ use Rattle.tpf_base.specs.declared.fault.Fault.TheVariants as sinks
 use Rattle.loop_wire.specs.Looped.{Looped}
 use Rattle.fragment_server.specs.declared.server.FragmentServer.{FragmentServer}
 use Rattle.tpf_client.specs.declared.options.Options.{Options}
+use Rattle.data_files.specs.declared.query.Grammar.TheVariants as grammars
 use Rattle.data_files.specs.Causes.{QueryDecides}
 use Rattle.data_files.specs.Kept.{KeepsSink}
 use Rattle.query_command.specs.declared.fault.AnswerFault.{AnswerFault}
@@ -31,21 +32,21 @@ options_in client options is h = subst (λ (o : Options). (1 ≤ o.window) × (1
 
 -- a line that was not written is no fault of the query
 module _ (shelf shelf' : ShelfState) (name : List ℕ) where
-  unwritten_gives : (cause : Fault) → QueryDecides shelf shelf' name IsRead → QueryDecides shelf shelf' name (λ outcome. GivesEnd {X = Unit {0}} outcome (Err (unwritten cause)))
+  unwritten_gives : (cause : Fault) → QueryDecides grammars.Groups shelf shelf' name IsRead → QueryDecides grammars.Groups shelf shelf' name (λ outcome. GivesEnd {X = Unit {0}} outcome (Err (unwritten cause)))
   unwritten_gives sinks.Failed h = h
   unwritten_gives sinks.OutOfMemory h = h
 
-  fault_gives : (cause : AnswerFault) → QueryDecides shelf shelf' name (λ outcome. GivesEnd {X = Counts} outcome (Err cause)) → QueryDecides shelf shelf' name (λ outcome. GivesEnd {X = Unit {0}} outcome (Err cause))
+  fault_gives : (cause : AnswerFault) → QueryDecides grammars.Groups shelf shelf' name (λ outcome. GivesEnd {X = Counts} outcome (Err cause)) → QueryDecides grammars.Groups shelf shelf' name (λ outcome. GivesEnd {X = Unit {0}} outcome (Err cause))
   fault_gives (faults.Data fault) h = h
   fault_gives (faults.Query fault) h = h
   fault_gives (faults.Client fault) h = h
 
   line_gives : (out out' : SinkState) (came : Result Counts AnswerFault) (result : Result (Unit {0}) AnswerFault) → WritesNumbers out out' came result
-      → QueryDecides shelf shelf' name (λ outcome. GivesEnd outcome came) → QueryDecides shelf shelf' name (λ outcome. GivesEnd outcome result)
+      → QueryDecides grammars.Groups shelf shelf' name (λ outcome. GivesEnd outcome came) → QueryDecides grammars.Groups shelf shelf' name (λ outcome. GivesEnd outcome result)
   line_gives out out' (Ok counts) (Ok nothing) line h = h
-  line_gives out out' (Ok counts) (Err fault) line h = subst (λ (f : AnswerFault). QueryDecides shelf shelf' name (λ outcome. GivesEnd {X = Unit {0}} outcome (Err f))) (sym line.is) (unwritten_gives line.cause h)
+  line_gives out out' (Ok counts) (Err fault) line h = subst (λ (f : AnswerFault). QueryDecides grammars.Groups shelf shelf' name (λ outcome. GivesEnd {X = Unit {0}} outcome (Err f))) (sym line.is) (unwritten_gives line.cause h)
   line_gives out out' (Err cause) (Ok nothing) line h = absurd line
-  line_gives out out' (Err cause) (Err fault) line h = subst (λ (f : AnswerFault). QueryDecides shelf shelf' name (λ outcome. GivesEnd {X = Unit {0}} outcome (Err f))) line.0 (fault_gives cause h)
+  line_gives out out' (Err cause) (Err fault) line h = subst (λ (f : AnswerFault). QueryDecides grammars.Groups shelf shelf' name (λ outcome. GivesEnd {X = Unit {0}} outcome (Err f))) line.0 (fault_gives cause h)
 
   pub counts_file : (out out' : SinkState) (inside made : Option (Looped FragmentServer)) → inside ≡ made → (persons : ℕ) (came : Result Counts AnswerFault) (result : Result (Unit {0}) AnswerFault)
       → GeneratedAsked shelf shelf' made persons name came → WritesNumbers out out' came result → KeepsSink out out' → CountsFile shelf shelf' out out' inside persons name result

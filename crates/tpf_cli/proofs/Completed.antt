@@ -15,6 +15,7 @@ use Rattle.group_query.specs.Trees.{GroupData}
 use Rattle.tpf_client.specs.declared.options.Report.{Report}
 use Rattle.tpf_client.specs.declared.fault.ClientFault.{ClientFault}
 use Rattle.tpf_client.specs.declared.fault.ClientFault.TheVariants as clients
+use Rattle.data_files.specs.declared.query.Grammar.TheVariants as grammars
 use Rattle.data_files.specs.declared.fault.DataFault.{DataFault}
 use Rattle.data_files.specs.declared.fault.QueryFileFault.{QueryFileFault}
 use Rattle.data_files.specs.declared.fault.QueryFileFault.TheVariants as query_faults
@@ -23,6 +24,7 @@ use Rattle.data_files.specs.Queries.{reads_groups}
 use Rattle.data_files.specs.Causes.{GivesQuery}
 use Rattle.data_files.proofs.Outcomes.{one_outcome, one_query}
 use Rattle.file_server.specs.Servers.{serving}
+use Rattle.query_command.specs.Blocks.{grammar_of}
 use Rattle.query_command.specs.declared.fault.AnswerFault.{AnswerFault}
 use Rattle.query_command.specs.declared.fault.AnswerFault.TheVariants as answers
 use Rattle.query_command.specs.declared.generated_query.Counts.{Counts}
@@ -76,53 +78,53 @@ module _ (a : Around) where
 
   module _ (view : LocalView) where
     done_file : (answer : Result Report AnswerFault) → view.options.budget < 2 ^ 63 → FileAsked a.shelf a.shelf' a.out a.out' (wire_inside a.inside') view answer → ¬ (Rose a.shelf.faults a.shelf'.faults) → ¬ (Rose a.out.faults a.out'.faults)
-        → OfGroupFiles a.shelf.told view (λ triples g. GroupIsWithin view.fail_every view.options triples (local_config view.page_size) g → IsDone (answer_status answer))
+        → OfGroupFiles a.shelf.told view (λ triples g. GroupIsWithin view.fail_every view.options triples (local_config view.options view.page_size) g → IsDone (answer_status answer))
     done_file (Ok report) small h quiet fine = λ files is triples g serves holds within. inl refl
     done_file (Err (answers.Data fault)) small (Plain h) quiet fine = λ files is triples g serves holds within. wanting_done (answers.Data fault) (data_memory triples fault (h.data_exact quiet files is (served triples) serves))
     done_file (Err (answers.Query fault)) small (Plain h) quiet fine = λ files is triples g serves holds within. wanting_done (answers.Query fault) (group_memory g fault (h.query_exact quiet files is (reads_groups g) holds))
-    done_file (Err (answers.Client fault)) small (Plain h) quiet fine = λ files is triples g serves holds within. absurd (no_groups a.shelf.told view.query h.cause.0.q h.cause.0.is_read files is g holds)
+    done_file (Err (answers.Client fault)) small (Plain h) quiet fine = λ files is triples g serves holds within. absurd (no_groups (grammar_of view.options) a.shelf.told view.query h.cause.0.q h.cause.0.is_read files is g holds)
     done_file (Err (answers.Data fault)) small (Groups own h) quiet fine = absurd h.cause
     done_file (Err (answers.Query fault)) small (Groups own h) quiet fine = absurd h.cause
     done_file (Err (answers.Client fault)) small (Groups own h) quiet fine = λ files is triples g serves holds within.
         let l = h.complete small fine in
         let there = one_outcome files view.name view.choice (codes "localhost") (served (serving l.server).data_set) (served triples) (l.starts.data_set.tells files is) serves in
-        let asked = one_query files view.query (reads_groups own) (reads_groups g) (h.is_read.tells files is) holds in
+        let asked = one_query (grammar_of view.options) files view.query (reads_groups own) (reads_groups g) (h.is_read.tells files is) holds in
         client_done fault
-        (carried (λ (ts : List Triple) (c : Config) (x : GroupData). GroupIsWithin view.fail_every view.options ts c x → fault ≡ clients.OutOfMemory) (serving l.server).data_set triples (same_data (serving l.server).data_set triples there) (serving l.server).config (local_config view.page_size) l.starts.config_is own g (same_group own g asked) l.loops.says within)
+        (carried (λ (ts : List Triple) (c : Config) (x : GroupData). GroupIsWithin view.fail_every view.options ts c x → fault ≡ clients.OutOfMemory) (serving l.server).data_set triples (same_data (serving l.server).data_set triples there) (serving l.server).config (local_config view.options view.page_size) l.starts.config_is own g (same_group own g asked) l.loops.says within)
 
   -- ---- a query over a wire
 
   done_server : (name : List ℕ) (url : Address) (client : ClientWords) (answer : Result Report AnswerFault) → IsTyped url → ServerAsked a.shelf a.shelf' a.allows a.wire a.wire' a.out a.out' name url (options_of client) answer → ¬ (Rose a.shelf.faults a.shelf'.faults) → ¬ (Rose a.out.faults a.out'.faults)
-      → OfGroupQuery a.shelf.told name (λ g. (triples : List Triple) (config : Config) → FitsGroupOver a.allows g url (options_of client) triples config a.wire a.wire' → IsDone (answer_status answer))
+      → OfGroupQuery (grammar_of (options_of client)) a.shelf.told name (λ g. (triples : List Triple) (config : Config) → FitsGroupOver a.allows g url (options_of client) triples config a.wire a.wire' → IsDone (answer_status answer))
   done_server name url client (Ok report) typed h quiet fine = λ files is g holds triples config fits. inl refl
   done_server name url client (Err (answers.Data fault)) typed (Plain h) quiet fine = absurd h.cause
   done_server name url client (Err (answers.Query fault)) typed (Plain h) quiet fine = λ files is g holds triples config fits. wanting_done (answers.Query fault) (group_memory g fault (h.exact quiet files is (reads_groups g) holds))
-  done_server name url client (Err (answers.Client fault)) typed (Plain h) quiet fine = λ files is g holds triples config fits. absurd (no_groups a.shelf.told name h.cause.q h.cause.is_read files is g holds)
+  done_server name url client (Err (answers.Client fault)) typed (Plain h) quiet fine = λ files is g holds triples config fits. absurd (no_groups (grammar_of (options_of client)) a.shelf.told name h.cause.q h.cause.is_read files is g holds)
   done_server name url client (Err (answers.Data fault)) typed (Groups own h) quiet fine = absurd h.cause
   done_server name url client (Err (answers.Query fault)) typed (Groups own h) quiet fine = absurd h.cause
   done_server name url client (Err (answers.Client fault)) typed (Groups own h) quiet fine = λ files is g holds triples config fits.
-      let asked = one_query files name (reads_groups g) (reads_groups own) holds (h.is_read.tells files is) in
+      let asked = one_query (grammar_of (options_of client)) files name (reads_groups g) (reads_groups own) holds (h.is_read.tells files is) in
       client_done fault (h.complete typed fine triples config (subst (λ (x : GroupData). FitsGroupOver a.allows x url (options_of client) triples config a.wire a.wire') (same_group g own asked) fits))
 
   -- ---- generated data
 
   module _ (persons : ℕ) (name : List ℕ) where
     came_done : (came : Result Counts AnswerFault) → GeneratedAsked a.shelf a.shelf' (wire_inside a.inside') persons name came → ¬ (Rose a.shelf.faults a.shelf'.faults)
-        → OfGroupGenerated a.shelf.told persons name (λ triples g. GroupIsWithin 0 usual_options triples (local_config 100) g → IfErr came IsWanting)
+        → OfGroupGenerated a.shelf.told persons name (λ triples g. GroupIsWithin 0 usual_options triples (local_config usual_options 100) g → IfErr came IsWanting)
     came_done (Ok counts) h quiet = λ files is triples g serves holds within. tt
     came_done (Err (answers.Data fault)) (Plain h) quiet = λ files is triples g serves holds within. h.cause.0
     came_done (Err (answers.Query fault)) (Plain h) quiet = λ files is triples g serves holds within. group_memory g fault (h.exact quiet files is (reads_groups g) holds)
-    came_done (Err (answers.Client fault)) (Plain h) quiet = λ files is triples g serves holds within. absurd (no_groups a.shelf.told name h.cause.1.loops.says.q h.cause.1.loops.says.is_read files is g holds)
+    came_done (Err (answers.Client fault)) (Plain h) quiet = λ files is triples g serves holds within. absurd (no_groups grammars.Groups a.shelf.told name h.cause.1.loops.says.q h.cause.1.loops.says.is_read files is g holds)
     came_done (Err (answers.Data fault)) (Groups own h) quiet = absurd h.cause
     came_done (Err (answers.Query fault)) (Groups own h) quiet = absurd h.cause
     came_done (Err (answers.Client fault)) (Groups own h) quiet = λ files is triples g serves holds within.
         let l = h.complete in
         let there = served_one (codes "localhost") (chosen DefaultGraph (generated persons)) (serving l.server).data_set triples l.starts.data_set serves in
-        let asked = one_query files name (reads_groups own) (reads_groups g) (h.is_read.tells files is) holds in
-        carried (λ (ts : List Triple) (c : Config) (x : GroupData). GroupIsWithin 0 usual_options ts c x → fault ≡ clients.OutOfMemory) (serving l.server).data_set triples there (serving l.server).config (local_config 100) l.starts.config_is own g (same_group own g asked) l.loops.says within
+        let asked = one_query grammars.Groups files name (reads_groups own) (reads_groups g) (h.is_read.tells files is) holds in
+        carried (λ (ts : List Triple) (c : Config) (x : GroupData). GroupIsWithin 0 usual_options ts c x → fault ≡ clients.OutOfMemory) (serving l.server).data_set triples there (serving l.server).config (local_config usual_options 100) l.starts.config_is own g (same_group own g asked) l.loops.says within
 
     done_counted : (result : Result (Unit {0}) AnswerFault) → CountsFile a.shelf a.shelf' a.out a.out' (wire_inside a.inside') persons name result → ¬ (Rose a.shelf.faults a.shelf'.faults) → ¬ (Rose a.out.faults a.out'.faults)
-        → OfGroupGenerated a.shelf.told persons name (λ triples g. GroupIsWithin 0 usual_options triples (local_config 100) g → IsDone (counted_status result))
+        → OfGroupGenerated a.shelf.told persons name (λ triples g. GroupIsWithin 0 usual_options triples (local_config usual_options 100) g → IsDone (counted_status result))
     done_counted result h quiet fine = λ files is triples g serves holds within. numbers_done h.came result fine h.line (came_done h.came h.asks quiet files is triples g serves holds within)
 
   -- ---- runs
@@ -144,7 +146,7 @@ module _ (a : Around) where
   done_command (query url query_name client) r (made written) h = absurd h
   done_command (query url query_name client) r (counted asked result) h = absurd h
   done_command (federate several) r end h = tt
-  done_command (serve name base choice page stop_after reload) r end h = tt
+  done_command (serve name base choice page stop_after reload rows) r end h = tt
   done_command (make count None) r end h = tt
   done_command (make count (Some name)) r (counted asked result) h = done_counted count name result h.1.1
   done_command (make count (Some name)) r usage h = absurd h.1
@@ -158,7 +160,7 @@ module _ (a : Around) where
   memory_done (Some (local name query_name choice page client seed fail_every)) = λ quiet fine files is triples g serves holds within. inr refl
   memory_done (Some (query url query_name client)) = λ quiet fine files is g holds triples config fits. inr refl
   memory_done (Some (federate several)) = tt
-  memory_done (Some (serve name base choice page stop_after reload)) = tt
+  memory_done (Some (serve name base choice page stop_after reload rows)) = tt
   memory_done (Some (make count None)) = tt
   memory_done (Some (make count (Some name))) = λ quiet fine files is triples g serves holds within. inr refl
 

@@ -9,6 +9,7 @@ use Rattle.data_files.specs.Data.{served}
 use Rattle.data_files.specs.Queries.{reads_groups}
 use Rattle.data_files.proofs.Outcomes.{one_outcome, one_query}
 use Rattle.file_server.specs.Servers.{serving}
+use Rattle.query_command.specs.Blocks.{grammar_of}
 use Rattle.query_command.specs.declared.fault.AnswerFault.{AnswerFault}
 use Rattle.query_command.specs.Groups.{FileAsked, Plain, Groups, group_plan_of}
 use Rattle.query_command.specs.Loops.{LocalView, local_config}
@@ -25,18 +26,18 @@ use Rattle.tpf_cli.proofs.Refused.{carried, same_data, same_group}
 
 module _ (a : Around) where
   told_requests : (view : LocalView) (answer : Result Report AnswerFault) → view.options.budget < 2 ^ 63 → FileAsked a.shelf a.shelf' a.out a.out' (wire_inside a.inside') view answer → (data_name asked : List ℕ) (result : ℕ) (err err' : SinkState) → Says result (answered data_name asked answer) err err'
-      → result ≡ 0 → OfGroupFiles a.shelf.told view (λ triples g. TellsRequests view.fail_every view.options.retries (length (group_plan_of triples (local_config view.page_size) g)) err err')
-  told_requests view (Ok report) small (Plain h) data_name asked result err err' (inl s) zero_status = λ files is triples g serves holds. absurd (no_groups a.shelf.told view.query h.answers.0.q h.answers.0.is_read files is g holds)
+      → result ≡ 0 → OfGroupFiles a.shelf.told view (λ triples g. TellsRequests view.fail_every view.options.retries (length (group_plan_of triples (local_config view.options view.page_size) g)) err err')
+  told_requests view (Ok report) small (Plain h) data_name asked result err err' (inl s) zero_status = λ files is triples g serves holds. absurd (no_groups (grammar_of view.options) a.shelf.told view.query h.answers.0.q h.answers.0.is_read files is g holds)
   told_requests view (Ok report) small (Groups own h) data_name asked result err err' (inl s) zero_status = λ files is triples g serves holds.
       let l = h.ends small in
       let there = one_outcome files view.name view.choice (codes "localhost") (served (serving l.server).data_set) (served triples) (l.starts.data_set.tells files is) serves in
-      let same = one_query files view.query (reads_groups own) (reads_groups g) (h.is_read.tells files is) holds in
+      let same = one_query (grammar_of view.options) files view.query (reads_groups own) (reads_groups g) (h.is_read.tells files is) holds in
       record {
         requests = report.requests;
         rows = report.rows;
         counts =
             carried (λ (ts : List Triple) (c : Config) (x : GroupData). CountsRequests view.fail_every view.options.retries (length (group_plan_of ts c x)) report.requests) (serving l.server).data_set triples (same_data (serving l.server).data_set triples there) (serving l.server).config
-            (local_config view.page_size) l.starts.config_is own g (same_group own g same) l.loops.says;
+            (local_config view.options view.page_size) l.starts.config_is own g (same_group own g same) l.loops.says;
         told = s.1;
       }
   told_requests view (Ok report) small h data_name asked result err err' (inr s) zero_status = let eight = s.0 in absurd (omega (arith, eight, zero_status))
@@ -55,7 +56,7 @@ module _ (a : Around) where
   requests_command (local name query_name choice page client seed fail_every) r (counted asked given) result err err' h s = absurd h
   requests_command (query url query_name client) r end result err err' h s = tt
   requests_command (federate several) r end result err err' h s = tt
-  requests_command (serve name base choice page stop_after reload) r end result err err' h s = tt
+  requests_command (serve name base choice page stop_after reload rows) r end result err err' h s = tt
   requests_command (make count asked) r end result err err' h s = tt
 
   -- memory ran out over the words
@@ -67,7 +68,7 @@ module _ (a : Around) where
       eight (inr t) z = let is = t.0 in omega (arith, is, z)
   no_requests (query url query_name client) end result err err' e s = tt
   no_requests (federate several) end result err err' e s = tt
-  no_requests (serve name base choice page stop_after reload) end result err err' e s = tt
+  no_requests (serve name base choice page stop_after reload rows) end result err err' e s = tt
   no_requests (make count asked) end result err err' e s = tt
 
   pub run_group_requests : (command : Option Command) → ((c : Command) → command ≡ Some c → IsInRange c) → (end : EndOfRun) (result : ℕ) (err err' : SinkState) → DoesOf a command end → Says result end err err' → TellsGroupRequestsOf a command result err err'

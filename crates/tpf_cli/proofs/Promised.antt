@@ -1,5 +1,6 @@
 -- Which status may come of a run, and when a run succeeds.
 use Rattle.std.proofs.Common.{ℕ, ◌≡◌, ◌<◌, ◌≤◌, ◌^◌, inl, inr, List, length, Option, Some, None, Result, Ok, Err, IfErr, refl, sym, subst, arith}
+use Rattle.std.specs.List.{AllByRecursion}
 use Rattle.rdf_terms.specs.declared.term.Triple.{Triple}
 use Rattle.tpf_base.specs.Addresses.{Address, authority_of}
 use Rattle.tpf_base.specs.Causes.{Rose}
@@ -13,12 +14,14 @@ use Rattle.tpf_client.specs.declared.options.Options.{Options}
 use Rattle.tpf_client.specs.Offers.{Publisher, Offer}
 use Rattle.tpf_client.specs.declared.options.Report.{Report}
 use Rattle.tpf_client.specs.declared.fault.ClientFault.TheVariants as clients
+use Rattle.data_files.specs.declared.query.Grammar.TheVariants as grammars
 use Rattle.data_files.specs.declared.fault.DataFault.{DataFault}
 use Rattle.data_files.specs.declared.fault.DataFault.TheVariants as data_faults
 use Rattle.data_files.specs.declared.fault.QueryFileFault.TheVariants as query_faults
 use Rattle.data_files.specs.Data.{IfTold, Serves, served}
 use Rattle.data_files.specs.Kept.{KeepsShelf, KeepsSink}
 use Rattle.data_files.specs.KeptLaws.{shelf_same, reads_keep, sink_same}
+use Rattle.query_command.specs.Blocks.{grammar_of}
 use Rattle.query_command.specs.declared.fault.AnswerFault.{AnswerFault}
 use Rattle.query_command.specs.declared.fault.AnswerFault.TheVariants as answers
 use Rattle.query_command.specs.Files.{FailsByFile}
@@ -52,10 +55,10 @@ use Rattle.tpf_cli.specs.Promises.{Keeps, KeepsTable, KeepsTableOf, TellsRequest
 
 module _ (n : ℕ) (options : Options) (triples : List Triple) (config : Config) (q : QueryData) where
   abbrev offered : Offer
-  offered = offer_of triples config q
+  offered = offer_of options triples config q
 
   abbrev planned : List Address
-  planned = plan_of triples config q
+  planned = plan_of options triples config q
 
   fault_table : (fault : AnswerFault) → MayFail n options triples config q fault → KeepsTable n options triples config q (fault_status fault)
   fault_table (answers.Data fault) h = data_table n options offered planned fault
@@ -69,54 +72,54 @@ not_twelve (Err fault) e = let known = known_fault fault in omega (arith, known.
 module _ (a : Around) where
   -- ---- a query in one process
 
-  file_table : (view : LocalView) (answer : Result Report AnswerFault) → view.options.budget < 2 ^ 63 → FileAsked a.shelf a.shelf' a.out a.out' (wire_inside a.inside') view answer → OfFiles a.shelf.told view (λ triples q. KeepsTable view.fail_every view.options triples (local_config view.page_size) q (answer_status answer))
-  file_table view (Ok report) small h = λ files is triples q serves holds. done_table view.fail_every view.options (offer_of triples (local_config view.page_size) q) (plan_of triples (local_config view.page_size) q)
-  file_table view (Err fault) small (Groups g h) = λ files is triples q serves holds. absurd (no_plain a.shelf.told view.query g h.is_read files is q holds)
-  file_table view (Err fault) small (Plain h) = λ files is triples q serves holds. fault_table view.fail_every view.options triples (local_config view.page_size) q fault (h.ends small files is triples q serves holds)
+  file_table : (view : LocalView) (answer : Result Report AnswerFault) → view.options.budget < 2 ^ 63 → FileAsked a.shelf a.shelf' a.out a.out' (wire_inside a.inside') view answer → OfFiles a.shelf.told view (λ triples q. KeepsTable view.fail_every view.options triples (local_config view.options view.page_size) q (answer_status answer))
+  file_table view (Ok report) small h = λ files is triples q serves holds. done_table view.fail_every view.options (offer_of view.options triples (local_config view.options view.page_size) q) (plan_of view.options triples (local_config view.options view.page_size) q)
+  file_table view (Err fault) small (Groups g h) = λ files is triples q serves holds. absurd (no_plain (grammar_of view.options) a.shelf.told view.query g h.is_read files is q holds)
+  file_table view (Err fault) small (Plain h) = λ files is triples q serves holds. fault_table view.fail_every view.options triples (local_config view.options view.page_size) q fault (h.ends small files is triples q serves holds)
 
   file_succeeds : (view : LocalView) (answer : Result Report AnswerFault) → view.options.budget < 2 ^ 63 → FileAsked a.shelf a.shelf' a.out a.out' (wire_inside a.inside') view answer → ¬ (Rose a.shelf.faults a.shelf'.faults) → ¬ (Rose a.out.faults a.out'.faults)
-      → OfFiles a.shelf.told view (λ triples q. PlanIsWithin view.fail_every view.options triples (local_config view.page_size) q → IsDone (answer_status answer))
+      → OfFiles a.shelf.told view (λ triples q. PlanIsWithin view.fail_every view.options triples (local_config view.options view.page_size) q → IsDone (answer_status answer))
   file_succeeds view (Ok report) small h quiet fine = λ files is triples q serves holds within. inl refl
-  file_succeeds view (Err fault) small (Groups g h) quiet fine = λ files is triples q serves holds within. absurd (no_plain a.shelf.told view.query g h.is_read files is q holds)
+  file_succeeds view (Err fault) small (Groups g h) quiet fine = λ files is triples q serves holds within. absurd (no_plain (grammar_of view.options) a.shelf.told view.query g h.is_read files is q holds)
   file_succeeds view (Err fault) small (Plain h) quiet fine = λ files is triples q serves holds within. wanting_done fault (h.complete quiet fine small files is triples q serves holds within)
 
   numbers_table : (persons : ℕ) (name : List ℕ) (came : Result Counts AnswerFault) (result : Result (Unit {0}) AnswerFault) → WritesNumbers a.out a.out' came result
-      → OfGenerated a.shelf.told persons name (λ triples q. EndsCounted usual_options triples (local_config 100) q came) → OfGenerated a.shelf.told persons name (λ triples q. KeepsTable 0 usual_options triples (local_config 100) q (counted_status result))
-  numbers_table persons name came (Ok nothing) line ends = λ files is triples q serves holds. done_table 0 usual_options (offer_of triples (local_config 100) q) (plan_of triples (local_config 100) q)
-  numbers_table persons name (Ok counts) (Err fault) line ends = λ files is triples q serves holds. subst (λ (f : AnswerFault). KeepsTable 0 usual_options triples (local_config 100) q (fault_status f)) (sym line.is) (cut_table 0 usual_options (offer_of triples (local_config 100) q) (plan_of triples (local_config 100) q) line.cause)
+      → OfGenerated a.shelf.told persons name (λ triples q. EndsCounted usual_options triples (local_config usual_options 100) q came) → OfGenerated a.shelf.told persons name (λ triples q. KeepsTable 0 usual_options triples (local_config usual_options 100) q (counted_status result))
+  numbers_table persons name came (Ok nothing) line ends = λ files is triples q serves holds. done_table 0 usual_options (offer_of usual_options triples (local_config usual_options 100) q) (plan_of usual_options triples (local_config usual_options 100) q)
+  numbers_table persons name (Ok counts) (Err fault) line ends = λ files is triples q serves holds. subst (λ (f : AnswerFault). KeepsTable 0 usual_options triples (local_config usual_options 100) q (fault_status f)) (sym line.is) (cut_table 0 usual_options (offer_of usual_options triples (local_config usual_options 100) q) (plan_of usual_options triples (local_config usual_options 100) q) line.cause)
   numbers_table persons name (Err cause) (Err fault) line ends = λ files is triples q serves holds.
-      subst (λ (f : AnswerFault). KeepsTable 0 usual_options triples (local_config 100) q (fault_status f)) line.0 (fault_table 0 usual_options triples (local_config 100) q cause (ends files is triples q serves holds))
+      subst (λ (f : AnswerFault). KeepsTable 0 usual_options triples (local_config usual_options 100) q (fault_status f)) line.0 (fault_table 0 usual_options triples (local_config usual_options 100) q cause (ends files is triples q serves holds))
 
   generated_table : (persons : ℕ) (name : List ℕ) (result : Result (Unit {0}) AnswerFault) → CountsFile a.shelf a.shelf' a.out a.out' (wire_inside a.inside') persons name result
-      → OfGenerated a.shelf.told persons name (λ triples q. KeepsTable 0 usual_options triples (local_config 100) q (counted_status result))
+      → OfGenerated a.shelf.told persons name (λ triples q. KeepsTable 0 usual_options triples (local_config usual_options 100) q (counted_status result))
   generated_table persons name result h = numbers_table persons name h.came result h.line (by h.came h.asks)
     where
-      by : (came : Result Counts AnswerFault) → GeneratedAsked a.shelf a.shelf' (wire_inside a.inside') persons name came → OfGenerated a.shelf.told persons name (λ triples q. EndsCounted usual_options triples (local_config 100) q came)
+      by : (came : Result Counts AnswerFault) → GeneratedAsked a.shelf a.shelf' (wire_inside a.inside') persons name came → OfGenerated a.shelf.told persons name (λ triples q. EndsCounted usual_options triples (local_config usual_options 100) q came)
       by came (Plain g) = g.ends
-      by came (Groups g d) = λ files is triples q serves holds. absurd (no_plain a.shelf.told name g d.is_read files is q holds)
+      by came (Groups g d) = λ files is triples q serves holds. absurd (no_plain grammars.Groups a.shelf.told name g d.is_read files is q holds)
 
   generated_succeeds : (persons : ℕ) (name : List ℕ) (result : Result (Unit {0}) AnswerFault) → CountsFile a.shelf a.shelf' a.out a.out' (wire_inside a.inside') persons name result
       → ¬ (Rose a.shelf.faults a.shelf'.faults) → ¬ (Rose a.out.faults a.out'.faults)
-      → OfGenerated a.shelf.told persons name (λ triples q. PlanIsWithin 0 usual_options triples (local_config 100) q → IsDone (counted_status result))
+      → OfGenerated a.shelf.told persons name (λ triples q. PlanIsWithin 0 usual_options triples (local_config usual_options 100) q → IsDone (counted_status result))
   generated_succeeds persons name result h quiet fine = λ files is triples q serves holds within. numbers_done a h.came result fine h.line (by h.came h.asks files is triples q serves holds within)
     where
       by : (came : Result Counts AnswerFault) → GeneratedAsked a.shelf a.shelf' (wire_inside a.inside') persons name came
-          → OfGenerated a.shelf.told persons name (λ triples q. PlanIsWithin 0 usual_options triples (local_config 100) q → IfErr came IsWanting)
+          → OfGenerated a.shelf.told persons name (λ triples q. PlanIsWithin 0 usual_options triples (local_config usual_options 100) q → IfErr came IsWanting)
       by came (Plain g) = g.complete quiet
-      by came (Groups g d) = λ files is triples q serves holds within. absurd (no_plain a.shelf.told name g d.is_read files is q holds)
+      by came (Groups g d) = λ files is triples q serves holds within. absurd (no_plain grammars.Groups a.shelf.told name g d.is_read files is q holds)
 
   -- ---- the other commands
 
   server_succeeds : (name : List ℕ) (client : ClientWords) (answer : Result Report AnswerFault) (url : Address) → IsTyped url → ServerAsked a.shelf a.shelf' a.allows a.wire a.wire' a.out a.out' name url (options_of client) answer → ¬ (Rose a.shelf.faults a.shelf'.faults) → ¬ (Rose a.out.faults a.out'.faults)
       → OfQuery a.shelf.told name (λ q. (triples : List Triple) (config : Config) → FitsOver a.allows q url (options_of client) triples config a.wire a.wire' → IsDone (answer_status answer))
   server_succeeds name client (Ok report) url typed h quiet fine = λ files is q holds triples config fits. inl refl
-  server_succeeds name client (Err fault) url typed (Groups g h) quiet fine = λ files is q holds triples config fits. absurd (no_plain a.shelf.told name g h.is_read files is q holds)
+  server_succeeds name client (Err fault) url typed (Groups g h) quiet fine = λ files is q holds triples config fits. absurd (no_plain (grammar_of (options_of client)) a.shelf.told name g h.is_read files is q holds)
   server_succeeds name client (Err fault) url typed (Plain h) quiet fine = λ files is q holds triples config fits. wanting_done fault (h.complete typed quiet fine files is q holds triples config fits)
 
-  servers_succeed : (several : Federated) (answer : Result Report AnswerFault) → ServersAsked a.shelf a.shelf' a.allows a.wire a.wire' a.out a.out' several.query several.urls (options_of several.client) answer → ¬ (Rose a.shelf.faults a.shelf'.faults) → ¬ (Rose a.out.faults a.out'.faults)
+  servers_succeed : (several : Federated) (answer : Result Report AnswerFault) → AllByRecursion IsTyped several.urls → ServersAsked a.shelf a.shelf' a.allows a.wire a.wire' a.out a.out' several.query several.urls (options_of several.client) answer → ¬ (Rose a.shelf.faults a.shelf'.faults) → ¬ (Rose a.out.faults a.out'.faults)
       → OfQuery a.shelf.told several.query (λ q. (publishers : List Publisher) → FitsServers a.allows q several.urls (options_of several.client) publishers a.wire a.wire' → IsDone (answer_status answer))
-  servers_succeed several (Ok report) h quiet fine = λ files is q holds publishers fits. inl refl
-  servers_succeed several (Err fault) h quiet fine = λ files is q holds publishers fits. wanting_done fault (h.complete quiet fine files is q holds publishers fits)
+  servers_succeed several (Ok report) typed h quiet fine = λ files is q holds publishers fits. inl refl
+  servers_succeed several (Err fault) typed h quiet fine = λ files is q holds publishers fits. wanting_done fault (h.complete typed quiet fine files is q holds publishers fits)
 
   service_succeeds : (name : List ℕ) (choice : Choice) (config : Config) (stop_after : Option ℕ) (result : Result ℕ ServiceFault) → ServesFile a.shelf a.shelf' a.wire a.wire' a.out a.out' name choice config stop_after result
       → ¬ (Rose a.shelf.faults a.shelf'.faults) → ¬ (Rose a.out.faults a.out'.faults) → ¬ (Rose a.wire.door.faults a.wire'.door.faults)
@@ -157,7 +160,7 @@ module _ (a : Around) where
   table_command (federate several) r (ends.served file service) h = absurd h
   table_command (federate several) r (made written) h = absurd h
   table_command (federate several) r (counted asked result) h = absurd h
-  table_command (serve name base choice page stop_after reload) r end h = tt
+  table_command (serve name base choice page stop_after reload rows) r end h = tt
   table_command (make count None) r end h = tt
   table_command (make count (Some name)) r (counted asked result) h = generated_table count name result h.1.1
   table_command (make count (Some name)) r usage h = absurd h.1
@@ -179,18 +182,18 @@ module _ (a : Around) where
   succeeds_command (query url query_name client) r (ends.served file service) h = absurd h
   succeeds_command (query url query_name client) r (made written) h = absurd h
   succeeds_command (query url query_name client) r (counted asked result) h = absurd h
-  succeeds_command (federate several) r (answered data_name asked answer) h = servers_succeed several answer h.2
+  succeeds_command (federate several) r (answered data_name asked answer) h = servers_succeed several answer r.2 h.2
   succeeds_command (federate several) r usage h = absurd h
   succeeds_command (federate several) r no_words h = absurd h
   succeeds_command (federate several) r (ends.served file service) h = absurd h
   succeeds_command (federate several) r (made written) h = absurd h
   succeeds_command (federate several) r (counted asked result) h = absurd h
-  succeeds_command (serve name base choice page stop_after reload) r (ends.served file service) h = service_succeeds name choice (config_by base page reload) stop_after service h.2
-  succeeds_command (serve name base choice page stop_after reload) r usage h = absurd h
-  succeeds_command (serve name base choice page stop_after reload) r no_words h = absurd h
-  succeeds_command (serve name base choice page stop_after reload) r (answered data_name asked answer) h = absurd h
-  succeeds_command (serve name base choice page stop_after reload) r (made written) h = absurd h
-  succeeds_command (serve name base choice page stop_after reload) r (counted asked result) h = absurd h
+  succeeds_command (serve name base choice page stop_after reload rows) r (ends.served file service) h = service_succeeds name choice (config_by base page reload rows) stop_after service h.2
+  succeeds_command (serve name base choice page stop_after reload rows) r usage h = absurd h
+  succeeds_command (serve name base choice page stop_after reload rows) r no_words h = absurd h
+  succeeds_command (serve name base choice page stop_after reload rows) r (answered data_name asked answer) h = absurd h
+  succeeds_command (serve name base choice page stop_after reload rows) r (made written) h = absurd h
+  succeeds_command (serve name base choice page stop_after reload rows) r (counted asked result) h = absurd h
   succeeds_command (make count None) r (made written) h = made_succeeds count written h.1.3
   succeeds_command (make count None) r usage h = absurd h.1
   succeeds_command (make count None) r no_words h = absurd h.1
@@ -208,19 +211,19 @@ module _ (a : Around) where
 
   memory_keeps : (command : Option Command) → KeepsTableOf a command 8
   memory_keeps None = tt
-  memory_keeps (Some (local name query_name choice page client seed fail_every)) = λ files is triples q serves holds. memory_table fail_every (options_of client) (offer_of triples (local_config page) q) (plan_of triples (local_config page) q)
+  memory_keeps (Some (local name query_name choice page client seed fail_every)) = λ files is triples q serves holds. memory_table fail_every (options_of client) (offer_of (options_of client) triples (local_config (options_of client) page) q) (plan_of (options_of client) triples (local_config (options_of client) page) q)
   memory_keeps (Some (query url query_name client)) = λ e. omega (arith, e)
   memory_keeps (Some (federate several)) = λ e. omega (arith, e)
-  memory_keeps (Some (serve name base choice page stop_after reload)) = tt
+  memory_keeps (Some (serve name base choice page stop_after reload rows)) = tt
   memory_keeps (Some (make count None)) = tt
-  memory_keeps (Some (make count (Some name))) = λ files is triples q serves holds. memory_table 0 usual_options (offer_of triples (local_config 100) q) (plan_of triples (local_config 100) q)
+  memory_keeps (Some (make count (Some name))) = λ files is triples q serves holds. memory_table 0 usual_options (offer_of usual_options triples (local_config usual_options 100) q) (plan_of usual_options triples (local_config usual_options 100) q)
 
   memory_succeeds : (command : Option Command) → SucceedsOf a command 8
   memory_succeeds None = tt
   memory_succeeds (Some (local name query_name choice page client seed fail_every)) = λ quiet fine files is triples q serves holds within. inr refl
   memory_succeeds (Some (query url query_name client)) = λ quiet fine files is q holds triples config fits. inr refl
   memory_succeeds (Some (federate several)) = λ quiet fine files is q holds publishers fits. inr refl
-  memory_succeeds (Some (serve name base choice page stop_after reload)) = λ quiet fine calm files is triples serves. inr refl
+  memory_succeeds (Some (serve name base choice page stop_after reload rows)) = λ quiet fine calm files is triples serves. inr refl
   memory_succeeds (Some (make count None)) = λ fine. inr refl
   memory_succeeds (Some (make count (Some name))) = λ quiet fine files is triples q serves holds within. inr refl
 
@@ -248,8 +251,8 @@ module _ (a : Around) where
   -- ---- the requests that are told
 
   told_requests : (view : LocalView) (answer : Result Report AnswerFault) → view.options.budget < 2 ^ 63 → FileAsked a.shelf a.shelf' a.out a.out' (wire_inside a.inside') view answer → (data_name asked : List ℕ) (result : ℕ) (err err' : SinkState) → Says result (answered data_name asked answer) err err'
-      → result ≡ 0 → OfFiles a.shelf.told view (λ triples q. TellsRequests view.fail_every view.options.retries (length (plan_of triples (local_config view.page_size) q)) err err')
-  told_requests view (Ok report) small (Groups g h) data_name asked result err err' (inl s) zero_status = λ files is triples q serves holds. absurd (no_plain a.shelf.told view.query g h.is_read files is q holds)
+      → result ≡ 0 → OfFiles a.shelf.told view (λ triples q. TellsRequests view.fail_every view.options.retries (length (plan_of view.options triples (local_config view.options view.page_size) q)) err err')
+  told_requests view (Ok report) small (Groups g h) data_name asked result err err' (inl s) zero_status = λ files is triples q serves holds. absurd (no_plain (grammar_of view.options) a.shelf.told view.query g h.is_read files is q holds)
   told_requests view (Ok report) small (Plain h) data_name asked result err err' (inl s) zero_status = λ files is triples q serves holds.
       record { requests = report.requests; rows = report.rows; counts = h.ends small files is triples q serves holds; told = s.1 }
   told_requests view (Ok report) small h data_name asked result err err' (inr s) zero_status = let eight = s.0 in absurd (omega (arith, eight, zero_status))
@@ -265,7 +268,7 @@ module _ (a : Around) where
   requests_command (local name query_name choice page client seed fail_every) r (counted asked given) result err err' h s = absurd h
   requests_command (query url query_name client) r end result err err' h s = tt
   requests_command (federate several) r end result err err' h s = tt
-  requests_command (serve name base choice page stop_after reload) r end result err err' h s = tt
+  requests_command (serve name base choice page stop_after reload rows) r end result err err' h s = tt
   requests_command (make count asked) r end result err err' h s = tt
 
   -- memory ran out over the words
@@ -277,7 +280,7 @@ module _ (a : Around) where
       eight (inr t) z = let is = t.0 in omega (arith, is, z)
   no_requests (query url query_name client) end result err err' e s = tt
   no_requests (federate several) end result err err' e s = tt
-  no_requests (serve name base choice page stop_after reload) end result err err' e s = tt
+  no_requests (serve name base choice page stop_after reload rows) end result err err' e s = tt
   no_requests (make count asked) end result err err' e s = tt
 
   run_requests : (command : Option Command) → ((c : Command) → command ≡ Some c → IsInRange c) → (end : EndOfRun) (result : ℕ) (err err' : SinkState) → DoesOf a command end → Says result end err err' → TellsRequestsOf a command result err err'
@@ -306,12 +309,12 @@ module _ (a : Around) where
   shelf_command (federate several) (ends.served file service) h = absurd h
   shelf_command (federate several) (made written) h = absurd h
   shelf_command (federate several) (counted asked result) h = absurd h
-  shelf_command (serve name base choice page stop_after reload) (ends.served file service) h = h.2.keeps
-  shelf_command (serve name base choice page stop_after reload) usage h = absurd h
-  shelf_command (serve name base choice page stop_after reload) no_words h = absurd h
-  shelf_command (serve name base choice page stop_after reload) (answered data_name asked answer) h = absurd h
-  shelf_command (serve name base choice page stop_after reload) (made written) h = absurd h
-  shelf_command (serve name base choice page stop_after reload) (counted asked result) h = absurd h
+  shelf_command (serve name base choice page stop_after reload rows) (ends.served file service) h = h.2.keeps
+  shelf_command (serve name base choice page stop_after reload rows) usage h = absurd h
+  shelf_command (serve name base choice page stop_after reload rows) no_words h = absurd h
+  shelf_command (serve name base choice page stop_after reload rows) (answered data_name asked answer) h = absurd h
+  shelf_command (serve name base choice page stop_after reload rows) (made written) h = absurd h
+  shelf_command (serve name base choice page stop_after reload rows) (counted asked result) h = absurd h
   shelf_command (make count None) (made written) h = shelf_same a.shelf a.shelf' h.1.1
   shelf_command (make count None) usage h = absurd h.1
   shelf_command (make count None) no_words h = absurd h.1
@@ -344,12 +347,12 @@ module _ (a : Around) where
   output_command (federate several) (ends.served file service) h = absurd h
   output_command (federate several) (made written) h = absurd h
   output_command (federate several) (counted asked result) h = absurd h
-  output_command (serve name base choice page stop_after reload) (ends.served file service) h = h.2.output
-  output_command (serve name base choice page stop_after reload) usage h = absurd h
-  output_command (serve name base choice page stop_after reload) no_words h = absurd h
-  output_command (serve name base choice page stop_after reload) (answered data_name asked answer) h = absurd h
-  output_command (serve name base choice page stop_after reload) (made written) h = absurd h
-  output_command (serve name base choice page stop_after reload) (counted asked result) h = absurd h
+  output_command (serve name base choice page stop_after reload rows) (ends.served file service) h = h.2.output
+  output_command (serve name base choice page stop_after reload rows) usage h = absurd h
+  output_command (serve name base choice page stop_after reload rows) no_words h = absurd h
+  output_command (serve name base choice page stop_after reload rows) (answered data_name asked answer) h = absurd h
+  output_command (serve name base choice page stop_after reload rows) (made written) h = absurd h
+  output_command (serve name base choice page stop_after reload rows) (counted asked result) h = absurd h
   output_command (make count None) (made written) h = h.1.2
   output_command (make count None) usage h = absurd h.1
   output_command (make count None) no_words h = absurd h.1

@@ -4,7 +4,7 @@ use Rattle.std.proofs.lemmas.Bool.Decides.{nat_tests}
 use Rattle.std.proofs.lemmas.List.Elements.{All-nil, All-cons}
 use Rattle.std.proofs.lemmas.Slice.Eq.{bytes_eq-Decides}
 use Rattle.std.specs.Str.{bytes_eq}
-use Rattle.std.specs.List.{All, list_any}
+use Rattle.std.specs.List.{All, AllByRecursion, list_any}
 use Rattle.list_laws.specs.Options.{◌>>=◌, when}
 use Rattle.list_laws.proofs.Options.{bind_some}
 use Rattle.tpf_base.specs.Addresses.{Address, authority_of}
@@ -12,7 +12,7 @@ use Rattle.template_fill.specs.Configurations.{HasReloadPath, is_reload_path}
 use Rattle.template_fill.specs.ReadAddress.{read_address}
 use Rattle.command_words.specs.declared.command.ClientWords.{ClientWords}
 use Rattle.command_words.specs.Words.{Text, Values, Form, arguments}
-use Rattle.command_words.specs.Commands.{Command, Federated, federate, local_form, query_form, federate_form, serve_form, make_form, is_number, number_after, number_of, number_or, number_in, count_of, url_of, without_query, base_of, reload_of, choice_in, page_in, client_in, url_names, urls_in, has_authority, are_apart, servers_in, federate_with, local_from, query_from, federate_from, serve_from, make_from, words_of, command_of, local_of, query_of, federate_of, serve_of, make_of}
+use Rattle.command_words.specs.Commands.{Command, Federated, federate, local_form, query_form, federate_form, serve_form, make_form, is_number, number_after, number_of, number_or, number_in, count_of, url_of, without_query, base_of, reload_of, choice_in, page_in, client_in, url_names, urls_in, url_and, has_authority, are_apart, servers_in, federate_with, rows_in, seed_in, local_from, query_from, federate_from, serve_from, make_from, words_of, command_of, local_of, query_of, federate_of, serve_of, make_of}
 use Rattle.federated_query.specs.Servers.{AreApart}
 use Rattle.tpf_cli.specs.Ranges.{IsClient, IsTyped, IsInRange}
 use Rattle.tpf_cli.proofs.Typed.{read_length}
@@ -50,19 +50,28 @@ in_range low high usual n (Some text) a b e =
     let r = both (nat_le low (number_after 0 text)) (nat_le (number_after 0 text) high) q.1 in
     (subst (λ (k : ℕ). low ≤ k) p.1 (grind (arith, nat_tests, r.0)), subst (λ (k : ℕ). k ≤ high) p.1 (grind (arith, nat_tests, r.1)))
 
+-- one row, or as many as are given
+block_range : (n : ℕ) (given : Option Text) → number_or 2 64 1 given ≡ Some n → (1 ≤ n) × (n ≤ 64)
+block_range n None e = let same : 1 ≡ n = some_same e in (omega (arith, same), omega (arith, same))
+block_range n (Some text) e = let r = in_range 2 64 2 n (Some text) (omega arith) (omega arith) e in (omega (arith, r.0), r.1)
+
 -- ---- clients
 
 client_range : (values : Values) (client : ClientWords) → client_in values ≡ Some client → IsClient client
 client_range values client e =
     let w = bind_some (number_in values (codes "window") 1 10000 16) _ client e in
-    let l = bind_some (number_in values (codes "links") 1 256 8) _ client w.2 in
+    let k = bind_some (number_in values (codes "block") 2 64 1) _ client w.2 in
+    let l = bind_some (number_in values (codes "links") 1 256 8) _ client k.2 in
     let r = bind_some (number_in values (codes "retries") 0 100 2) _ client l.2 in
     let b = bind_some (number_in values (codes "budget") 1 1000000000000 1000000) _ client r.2 in
     let m = bind_some (number_in values (codes "max-body") 1 268435456 16777216) _ client b.2 in
-    let same : record { window = w.0; links = l.0; retries = r.0; budget = b.0; max_body = m.0 } ≡ client = some_same m.2 in
+    let same : record { window = w.0; block = k.0; links = l.0; retries = r.0; budget = b.0; max_body = m.0 } ≡ client = some_same m.2 in
+    let rows = block_range k.0 (values (codes "block")) k.1 in
     let links = in_range 1 256 8 l.0 (values (codes "links")) (omega arith) (omega arith) l.1 in
     subst IsClient same (record {
       window = (in_range 1 10000 16 w.0 (values (codes "window")) (omega arith) (omega arith) w.1).0;
+      one = rows.0;
+      block = rows.1;
       some = links.0;
       few = links.1;
       budget = (in_range 1 1000000000000 1000000 b.0 (values (codes "budget")) (omega arith) (omega arith) b.1).1;
@@ -80,7 +89,7 @@ local_range values c e =
     let choice = bind_some (choice_in values) _ c asked.2 in
     let client = bind_some (client_in values) _ c choice.2 in
     let page = bind_some (page_in values) _ c client.2 in
-    let seed = bind_some (number_in values (codes "seed") 0 9999999999999999999 0) _ c page.2 in
+    let seed = bind_some (seed_in values) _ c page.2 in
     let fail_every = bind_some (number_in values (codes "fail-every") 0 1000000000 0) _ c seed.2 in
     let p = page_range values page.0 page.1 in
     subst IsInRange (some_same fail_every.2) (p.0, p.1, client_range values client.0 client.1)
@@ -114,6 +123,18 @@ apart_all (url ∷ urls) e =
     let p = both (not (list_any (has_authority url) urls)) (are_apart urls) e in
     (apart_here url urls (not_there (list_any (has_authority url) urls) p.0), apart_all urls p.1)
 
+-- each address that is given is typed
+all_typed : (values : Values) (names : List Text) (urls : List Address) → urls_in values names ≡ Some urls → AllByRecursion IsTyped urls
+all_typed values [] urls e = subst (AllByRecursion IsTyped) (some_same e) tt
+all_typed values (name ∷ names) urls e = by (values name) (λ us f. all_typed values names us f) e
+  where
+    by : (o : Option Text) → ((us : List Address) → urls_in values names ≡ Some us → AllByRecursion IsTyped us) → url_and o (urls_in values names) ≡ Some urls → AllByRecursion IsTyped urls
+    by None rest f = subst (AllByRecursion IsTyped) (some_same f) tt
+    by (Some text) rest f =
+        let url = bind_some (url_of text) _ urls f in
+        let more = mapped (λ (us : List Address). url.0 ∷ us) (urls_in values names) urls url.2 in
+        subst (AllByRecursion IsTyped) more.2 (is_typed text url.0 url.1, rest more.0 more.1)
+
 federate_range : (values : Values) (c : Command) → federate_from values ≡ Some c → IsInRange c
 federate_range values c e =
     let found = mapped (λ several. federate several) (federate_with values (servers_in values) (client_in values)) c e in
@@ -127,6 +148,7 @@ federate_range values c e =
     subst IsInRange found.2 (subst (λ (s : Federated). IsInRange (federate s)) (some_same client.2) (
       subst (λ (us : List Address). 0 < length us) p.1 some,
       subst AreApart p.1 (apart_all typed.0 q.1),
+      subst (AllByRecursion IsTyped) p.1 (all_typed values url_names typed.0 typed.1),
       client_range values client.0 client.1,
     ))
 
@@ -152,9 +174,10 @@ serve_range values c e =
     let choice = bind_some (choice_in values) _ c name.2 in
     let page = bind_some (page_in values) _ c choice.2 in
     let stop_after = bind_some (count_of 1 1000000000 (values (codes "stop-after"))) _ c page.2 in
+    let rows = bind_some (rows_in values reload.0) _ c stop_after.2 in
     let text = bind_some (values (codes "base")) base_of base.0 base.1 in
     let p = page_range values page.0 page.1 in
-    subst IsInRange (some_same stop_after.2) (p.0, p.1, no_query (url_of text.0) base.0 text.2, has_path base.0 (values (codes "reload")) reload.0 reload.1)
+    subst IsInRange (some_same rows.2) (p.0, p.1, no_query (url_of text.0) base.0 text.2, has_path base.0 (values (codes "reload")) reload.0 reload.1)
 
 make_range : (values : Values) (c : Command) → make_from values ≡ Some c → IsInRange c
 make_range values c e =

@@ -18,6 +18,8 @@ use Rattle.tpf_client.specs.declared.options.Options.{Options}
 use Rattle.tpf_client.specs.declared.options.Report.{Report}
 use Rattle.tpf_client.specs.declared.fault.ClientFault.{ClientFault}
 use Rattle.tpf_client.specs.declared.fault.ClientFault.TheVariants as clients
+use Rattle.data_files.specs.declared.query.Grammar.{Grammar}
+use Rattle.data_files.specs.declared.query.Grammar.TheVariants as grammars
 use Rattle.data_files.specs.declared.fault.DataFault.{DataFault}
 use Rattle.data_files.specs.declared.fault.DataFault.TheVariants as data_faults
 use Rattle.data_files.specs.declared.fault.QueryFileFault.{QueryFileFault}
@@ -27,13 +29,13 @@ use Rattle.data_files.specs.Queries.{HasQueryFault, reads_groups, refused}
 use Rattle.data_files.specs.Causes.{DataCause, QueryCause, QueryDecides}
 use Rattle.data_files.proofs.Outcomes.{one_outcome, one_query}
 use Rattle.file_server.specs.Servers.{serving}
+use Rattle.query_command.specs.Blocks.{grammar_of}
 use Rattle.query_command.specs.declared.fault.AnswerFault.{AnswerFault}
 use Rattle.query_command.specs.declared.fault.AnswerFault.TheVariants as answers
 use Rattle.query_command.specs.declared.generated_query.Counts.{Counts}
 use Rattle.query_command.specs.Generated.{usual_options}
 use Rattle.query_command.specs.Loops.{LocalView, local_config}
 use Rattle.query_command.specs.Groups.{group_plan_of, group_offer_of, MayEndGroup, FileAsked, ServerAsked, GeneratedAsked, Plain, Groups}
-use Rattle.federate_command.specs.Files.{HasPatternsFault, PatternsCause}
 use Rattle.federate_command.specs.Commands.{ServersAsked}
 use Rattle.command_words.specs.Commands.{Command, Federated, local, query, federate, serve, make}
 use Rattle.tpf_cli.specs.Endings as ends
@@ -61,38 +63,38 @@ carried P triples others same_triples config other same_config g h same p =
 module _ (a : Around) where
   module _ (view : LocalView) where
     group_file : (answer : Result Report AnswerFault) → view.options.budget < 2 ^ 63 → FileAsked a.shelf a.shelf' a.out a.out' (wire_inside a.inside') view answer
-        → OfGroupFiles a.shelf.told view (λ triples g. KeepsGroupTable view.fail_every view.options triples (local_config view.page_size) g (answer_status answer))
-    group_file (Ok report) small h = λ files is triples g serves holds. done_table view.fail_every view.options (group_offer_of triples (local_config view.page_size) g) (group_plan_of triples (local_config view.page_size) g)
-    group_file (Err (answers.Data fault)) small h = λ files is triples g serves holds. data_table view.fail_every view.options (group_offer_of triples (local_config view.page_size) g) (group_plan_of triples (local_config view.page_size) g) fault
-    group_file (Err (answers.Query fault)) small h = λ files is triples g serves holds. query_table view.fail_every view.options (group_offer_of triples (local_config view.page_size) g) (group_plan_of triples (local_config view.page_size) g) fault
-    group_file (Err (answers.Client fault)) small (Plain h) = λ files is triples g serves holds. absurd (no_groups a.shelf.told view.query h.cause.0.q h.cause.0.is_read files is g holds)
+        → OfGroupFiles a.shelf.told view (λ triples g. KeepsGroupTable view.fail_every view.options triples (local_config view.options view.page_size) g (answer_status answer))
+    group_file (Ok report) small h = λ files is triples g serves holds. done_table view.fail_every view.options (group_offer_of triples (local_config view.options view.page_size) g) (group_plan_of triples (local_config view.options view.page_size) g)
+    group_file (Err (answers.Data fault)) small h = λ files is triples g serves holds. data_table view.fail_every view.options (group_offer_of triples (local_config view.options view.page_size) g) (group_plan_of triples (local_config view.options view.page_size) g) fault
+    group_file (Err (answers.Query fault)) small h = λ files is triples g serves holds. query_table view.fail_every view.options (group_offer_of triples (local_config view.options view.page_size) g) (group_plan_of triples (local_config view.options view.page_size) g) fault
+    group_file (Err (answers.Client fault)) small (Plain h) = λ files is triples g serves holds. absurd (no_groups (grammar_of view.options) a.shelf.told view.query h.cause.0.q h.cause.0.is_read files is g holds)
     group_file (Err (answers.Client fault)) small (Groups own h) = λ files is triples g serves holds.
         let l = h.ends small in
         let there = one_outcome files view.name view.choice (codes "localhost") (served (serving l.server).data_set) (served triples) (l.starts.data_set.tells files is) serves in
-        let asked = one_query files view.query (reads_groups own) (reads_groups g) (h.is_read.tells files is) holds in
-        client_table view.fail_every view.options (group_offer_of triples (local_config view.page_size) g) (group_plan_of triples (local_config view.page_size) g) fault
-        (carried (λ (ts : List Triple) (c : Config) (x : GroupData). MayEndGroup view.fail_every view.options ts c x fault) (serving l.server).data_set triples (same_data (serving l.server).data_set triples there) (serving l.server).config (local_config view.page_size) l.starts.config_is own g (same_group own g asked) l.loops.says)
+        let asked = one_query (grammar_of view.options) files view.query (reads_groups own) (reads_groups g) (h.is_read.tells files is) holds in
+        client_table view.fail_every view.options (group_offer_of triples (local_config view.options view.page_size) g) (group_plan_of triples (local_config view.options view.page_size) g) fault
+        (carried (λ (ts : List Triple) (c : Config) (x : GroupData). MayEndGroup view.fail_every view.options ts c x fault) (serving l.server).data_set triples (same_data (serving l.server).data_set triples there) (serving l.server).config (local_config view.options view.page_size) l.starts.config_is own g (same_group own g asked) l.loops.says)
 
   module _ (persons : ℕ) (name : List ℕ) where
     group_counted : (fault : AnswerFault) → GeneratedAsked a.shelf a.shelf' (wire_inside a.inside') persons name (Err fault)
-        → OfGroupGenerated a.shelf.told persons name (λ triples g. KeepsGroupTable 0 usual_options triples (local_config 100) g (fault_status fault))
-    group_counted (answers.Data fault) h = λ files is triples g serves holds. data_table 0 usual_options (group_offer_of triples (local_config 100) g) (group_plan_of triples (local_config 100) g) fault
-    group_counted (answers.Query fault) h = λ files is triples g serves holds. query_table 0 usual_options (group_offer_of triples (local_config 100) g) (group_plan_of triples (local_config 100) g) fault
-    group_counted (answers.Client fault) (Plain h) = λ files is triples g serves holds. absurd (no_groups a.shelf.told name h.cause.1.loops.says.q h.cause.1.loops.says.is_read files is g holds)
+        → OfGroupGenerated a.shelf.told persons name (λ triples g. KeepsGroupTable 0 usual_options triples (local_config usual_options 100) g (fault_status fault))
+    group_counted (answers.Data fault) h = λ files is triples g serves holds. data_table 0 usual_options (group_offer_of triples (local_config usual_options 100) g) (group_plan_of triples (local_config usual_options 100) g) fault
+    group_counted (answers.Query fault) h = λ files is triples g serves holds. query_table 0 usual_options (group_offer_of triples (local_config usual_options 100) g) (group_plan_of triples (local_config usual_options 100) g) fault
+    group_counted (answers.Client fault) (Plain h) = λ files is triples g serves holds. absurd (no_groups grammars.Groups a.shelf.told name h.cause.1.loops.says.q h.cause.1.loops.says.is_read files is g holds)
     group_counted (answers.Client fault) (Groups own h) = λ files is triples g serves holds.
         let l = h.ends in
         let there = served_one (codes "localhost") (chosen DefaultGraph (generated persons)) (serving l.server).data_set triples l.starts.data_set serves in
-        let asked = one_query files name (reads_groups own) (reads_groups g) (h.is_read.tells files is) holds in
-        client_table 0 usual_options (group_offer_of triples (local_config 100) g) (group_plan_of triples (local_config 100) g) fault
-        (carried (λ (ts : List Triple) (c : Config) (x : GroupData). MayEndGroup 0 usual_options ts c x fault) (serving l.server).data_set triples there (serving l.server).config (local_config 100) l.starts.config_is own g (same_group own g asked) l.loops.says)
+        let asked = one_query grammars.Groups files name (reads_groups own) (reads_groups g) (h.is_read.tells files is) holds in
+        client_table 0 usual_options (group_offer_of triples (local_config usual_options 100) g) (group_plan_of triples (local_config usual_options 100) g) fault
+        (carried (λ (ts : List Triple) (c : Config) (x : GroupData). MayEndGroup 0 usual_options ts c x fault) (serving l.server).data_set triples there (serving l.server).config (local_config usual_options 100) l.starts.config_is own g (same_group own g asked) l.loops.says)
 
     group_numbers : (came : Result Counts AnswerFault) (result : Result (Unit {0}) AnswerFault) → WritesNumbers a.out a.out' came result → GeneratedAsked a.shelf a.shelf' (wire_inside a.inside') persons name came
-        → OfGroupGenerated a.shelf.told persons name (λ triples g. KeepsGroupTable 0 usual_options triples (local_config 100) g (counted_status result))
-    group_numbers came (Ok nothing) line asks = λ files is triples g serves holds. done_table 0 usual_options (group_offer_of triples (local_config 100) g) (group_plan_of triples (local_config 100) g)
+        → OfGroupGenerated a.shelf.told persons name (λ triples g. KeepsGroupTable 0 usual_options triples (local_config usual_options 100) g (counted_status result))
+    group_numbers came (Ok nothing) line asks = λ files is triples g serves holds. done_table 0 usual_options (group_offer_of triples (local_config usual_options 100) g) (group_plan_of triples (local_config usual_options 100) g)
     group_numbers (Ok counts) (Err fault) line asks = λ files is triples g serves holds.
-        subst (λ (f : AnswerFault). KeepsGroupTable 0 usual_options triples (local_config 100) g (fault_status f)) (sym line.is) (cut_table 0 usual_options (group_offer_of triples (local_config 100) g) (group_plan_of triples (local_config 100) g) line.cause)
+        subst (λ (f : AnswerFault). KeepsGroupTable 0 usual_options triples (local_config usual_options 100) g (fault_status f)) (sym line.is) (cut_table 0 usual_options (group_offer_of triples (local_config usual_options 100) g) (group_plan_of triples (local_config usual_options 100) g) line.cause)
     group_numbers (Err cause) (Err fault) line asks = λ files is triples g serves holds.
-        subst (λ (f : AnswerFault). KeepsGroupTable 0 usual_options triples (local_config 100) g (fault_status f)) line.0 (group_counted cause asks files is triples g serves holds)
+        subst (λ (f : AnswerFault). KeepsGroupTable 0 usual_options triples (local_config usual_options 100) g (fault_status f)) line.0 (group_counted cause asks files is triples g serves holds)
 
   few : (n : ℕ) → n ≤ 1000000000000 → n < 2 ^ 63
   few n h = omega (arith, h)
@@ -106,7 +108,7 @@ module _ (a : Around) where
   group_command (local name query_name choice page client seed fail_every) r (counted asked result) h = absurd h
   group_command (query url query_name client) r end h = tt
   group_command (federate several) r end h = tt
-  group_command (serve name base choice page stop_after reload) r end h = tt
+  group_command (serve name base choice page stop_after reload rows) r end h = tt
   group_command (make count None) r end h = tt
   group_command (make count (Some name)) r (counted asked result) h = group_numbers count name h.1.1.came result h.1.1.line h.1.1.asks
   group_command (make count (Some name)) r usage h = absurd h.1
@@ -117,12 +119,12 @@ module _ (a : Around) where
 
   memory_groups : (command : Option Command) → KeepsGroupTableOf a command 8
   memory_groups None = tt
-  memory_groups (Some (local name query_name choice page client seed fail_every)) = λ files is triples g serves holds. memory_table fail_every (options_of client) (group_offer_of triples (local_config page) g) (group_plan_of triples (local_config page) g)
+  memory_groups (Some (local name query_name choice page client seed fail_every)) = λ files is triples g serves holds. memory_table fail_every (options_of client) (group_offer_of triples (local_config (options_of client) page) g) (group_plan_of triples (local_config (options_of client) page) g)
   memory_groups (Some (query url query_name client)) = tt
   memory_groups (Some (federate several)) = tt
-  memory_groups (Some (serve name base choice page stop_after reload)) = tt
+  memory_groups (Some (serve name base choice page stop_after reload rows)) = tt
   memory_groups (Some (make count None)) = tt
-  memory_groups (Some (make count (Some name))) = λ files is triples g serves holds. memory_table 0 usual_options (group_offer_of triples (local_config 100) g) (group_plan_of triples (local_config 100) g)
+  memory_groups (Some (make count (Some name))) = λ files is triples g serves holds. memory_table 0 usual_options (group_offer_of triples (local_config usual_options 100) g) (group_plan_of triples (local_config usual_options 100) g)
 
   groups_of : (command : Option Command) → ((c : Command) → command ≡ Some c → IsInRange c) → (end : EndOfRun) → DoesOf a command end → KeepsGroupTableOf a command (status_of end)
   groups_of None ranged end h = tt
@@ -137,19 +139,19 @@ module _ (a : Around) where
 -- ---- refused queries
 
 -- what a fault shows of the files
-abbrev Shows : ShelfState → ShelfState → List ℕ → AnswerFault → Type 0
-Shows shelf shelf' name (answers.Data fault) = fault ≡ data_faults.File → Rose shelf.faults shelf'.faults
-Shows shelf shelf' name (answers.Query fault) = QueryCause shelf shelf' name fault
-Shows shelf shelf' name (answers.Client fault) = Unit {0}
+abbrev Shows : Grammar → ShelfState → ShelfState → List ℕ → AnswerFault → Type 0
+Shows grammar shelf shelf' name (answers.Data fault) = fault ≡ data_faults.File → Rose shelf.faults shelf'.faults
+Shows grammar shelf shelf' name (answers.Query fault) = QueryCause grammar shelf shelf' name fault
+Shows grammar shelf shelf' name (answers.Client fault) = Unit {0}
 
 -- a file with a fault is not read
 not_read : (at : ℕ) (why : GroupWhy) → IsRead (refused at why) → ⊥
 not_read at why (inl q) = let e = q.1 in cc
 not_read at why (inr g) = let e = g.1 in cc
 
-module _ (shelf shelf' : ShelfState) (name : List ℕ) where
+module _ (grammar : Grammar) (shelf shelf' : ShelfState) (name : List ℕ) where
   abbrev Faulty : Type 0
-  Faulty = IfTold shelf.told (λ files. (at : ℕ) × (why : GroupWhy) × HasQueryFault files name at why)
+  Faulty = IfTold shelf.told (λ files. (at : ℕ) × (why : GroupWhy) × HasQueryFault grammar files name at why)
 
   four_of_data : (fault : DataFault) → data_status fault ≡ 4 → Faulty
   four_of_data data_faults.TooLong e = absurd (omega (arith, e))
@@ -162,7 +164,7 @@ module _ (shelf shelf' : ShelfState) (name : List ℕ) where
   four_of_client : (fault : ClientFault) → client_status fault ≡ 4 → Faulty
   four_of_client fault e = absurd (not_four fault e)
 
-  four_of : (fault : AnswerFault) → Shows shelf shelf' name fault → fault_status fault ≡ 4 → Faulty
+  four_of : (fault : AnswerFault) → Shows grammar shelf shelf' name fault → fault_status fault ≡ 4 → Faulty
   four_of (answers.Data fault) h e = four_of_data fault e
   four_of (answers.Query (query_faults.Bad at why)) h e = λ files is. (at, why, h files is)
   four_of (answers.Query query_faults.File) h e = absurd (omega (arith, e))
@@ -181,28 +183,28 @@ module _ (shelf shelf' : ShelfState) (name : List ℕ) where
   refused_data data_faults.File file = absurd (file refl)
   refused_data data_faults.OutOfMemory file = inr (inr refl)
 
-  refused_of : (X : Type 0) (fault : AnswerFault) → Shows shelf shelf' name fault → QueryDecides shelf shelf' name (λ outcome. GivesEnd {X = X} outcome (Err fault)) → ¬ (Rose shelf.faults shelf'.faults)
-      → IfTold shelf.told (λ files. (at : ℕ) (why : GroupWhy) → HasQueryFault files name at why → IsRefused (fault_status fault))
+  refused_of : (X : Type 0) (fault : AnswerFault) → Shows grammar shelf shelf' name fault → QueryDecides grammar shelf shelf' name (λ outcome. GivesEnd {X = X} outcome (Err fault)) → ¬ (Rose shelf.faults shelf'.faults)
+      → IfTold shelf.told (λ files. (at : ℕ) (why : GroupWhy) → HasQueryFault grammar files name at why → IsRefused (fault_status fault))
   refused_of X (answers.Data fault) h gives quiet = λ files is at why bad. refused_data fault (λ e. quiet (h e))
   refused_of X (answers.Query (query_faults.Bad at why)) h gives quiet = λ files is place kind bad. inr (inl refl)
   refused_of X (answers.Query query_faults.File) h gives quiet = absurd (quiet h)
   refused_of X (answers.Query query_faults.OutOfMemory) h gives quiet = λ files is at why bad. inr (inr refl)
   refused_of X (answers.Client fault) h gives quiet = λ files is at why bad. absurd (not_read at why (gives quiet files is (refused at why) bad))
 
-  fault_refuses : (X : Type 0) (fault : AnswerFault) → Shows shelf shelf' name fault → QueryDecides shelf shelf' name (λ outcome. GivesEnd {X = X} outcome (Err fault)) → RefusesQuery shelf shelf' name (fault_status fault)
+  fault_refuses : (X : Type 0) (fault : AnswerFault) → Shows grammar shelf shelf' name fault → QueryDecides grammar shelf shelf' name (λ outcome. GivesEnd {X = X} outcome (Err fault)) → RefusesQuery grammar shelf shelf' name (fault_status fault)
   fault_refuses X fault h gives = record { four = four_of fault h; refused = refused_of X fault h gives }
 
-  done_refuses : {X : Type 0} (answer : X) → QueryDecides shelf shelf' name (λ outcome. GivesEnd outcome (Ok answer)) → RefusesQuery shelf shelf' name 0
+  done_refuses : {X : Type 0} (answer : X) → QueryDecides grammar shelf shelf' name (λ outcome. GivesEnd outcome (Ok answer)) → RefusesQuery grammar shelf shelf' name 0
   done_refuses answer gives = record {
     four = λ e. absurd (omega (arith, e));
     refused = λ quiet files is at why bad. absurd (not_read at why (gives quiet files is (refused at why) bad));
   }
 
-  memory_refuses : RefusesQuery shelf shelf' name 8
+  memory_refuses : RefusesQuery grammar shelf shelf' name 8
   memory_refuses = record { four = λ e. absurd (omega (arith, e)); refused = λ quiet files is at why bad. inr (inr refl) }
 
 module _ (a : Around) where
-  file_shows : (view : LocalView) (fault : AnswerFault) → FileAsked a.shelf a.shelf' a.out a.out' (wire_inside a.inside') view (Err fault) → Shows a.shelf a.shelf' view.query fault
+  file_shows : (view : LocalView) (fault : AnswerFault) → FileAsked a.shelf a.shelf' a.out a.out' (wire_inside a.inside') view (Err fault) → Shows (grammar_of view.options) a.shelf a.shelf' view.query fault
   file_shows view (answers.Data fault) (Plain h) = λ e. subst (λ (f : DataFault). DataCause a.shelf a.shelf' view.name view.choice (codes "localhost") f) e h.cause.0
   file_shows view (answers.Query fault) (Plain h) = h.cause.0
   file_shows view (answers.Client fault) (Plain h) = tt
@@ -210,12 +212,12 @@ module _ (a : Around) where
   file_shows view (answers.Query fault) (Groups g h) = absurd h.cause
   file_shows view (answers.Client fault) (Groups g h) = tt
 
-  refuses_file : (view : LocalView) (answer : Result Report AnswerFault) → FileAsked a.shelf a.shelf' a.out a.out' (wire_inside a.inside') view answer → RefusesQuery a.shelf a.shelf' view.query (answer_status answer)
-  refuses_file view (Ok report) h = done_refuses a.shelf a.shelf' view.query report (file_gives a.shelf a.shelf' a.out a.out' (wire_inside a.inside') view (Ok report) h)
-  refuses_file view (Err fault) h = fault_refuses a.shelf a.shelf' view.query Report fault (file_shows view fault h) (file_gives a.shelf a.shelf' a.out a.out' (wire_inside a.inside') view (Err fault) h)
+  refuses_file : (view : LocalView) (answer : Result Report AnswerFault) → FileAsked a.shelf a.shelf' a.out a.out' (wire_inside a.inside') view answer → RefusesQuery (grammar_of view.options) a.shelf a.shelf' view.query (answer_status answer)
+  refuses_file view (Ok report) h = done_refuses (grammar_of view.options) a.shelf a.shelf' view.query report (file_gives a.shelf a.shelf' a.out a.out' (wire_inside a.inside') view (Ok report) h)
+  refuses_file view (Err fault) h = fault_refuses (grammar_of view.options) a.shelf a.shelf' view.query Report fault (file_shows view fault h) (file_gives a.shelf a.shelf' a.out a.out' (wire_inside a.inside') view (Err fault) h)
 
   module _ (name : List ℕ) (url : Address) (options : Options) where
-    server_shows : (fault : AnswerFault) → ServerAsked a.shelf a.shelf' a.allows a.wire a.wire' a.out a.out' name url options (Err fault) → Shows a.shelf a.shelf' name fault
+    server_shows : (fault : AnswerFault) → ServerAsked a.shelf a.shelf' a.allows a.wire a.wire' a.out a.out' name url options (Err fault) → Shows (grammar_of options) a.shelf a.shelf' name fault
     server_shows (answers.Data fault) (Plain h) = absurd h.cause
     server_shows (answers.Query fault) (Plain h) = h.cause.0
     server_shows (answers.Client fault) (Plain h) = tt
@@ -223,12 +225,12 @@ module _ (a : Around) where
     server_shows (answers.Query fault) (Groups g h) = absurd h.cause
     server_shows (answers.Client fault) (Groups g h) = tt
 
-    refuses_server : (answer : Result Report AnswerFault) → ServerAsked a.shelf a.shelf' a.allows a.wire a.wire' a.out a.out' name url options answer → RefusesQuery a.shelf a.shelf' name (answer_status answer)
-    refuses_server (Ok report) h = done_refuses a.shelf a.shelf' name report (server_gives a.shelf a.shelf' name a.allows a.wire a.wire' a.out a.out' url options (Ok report) h)
-    refuses_server (Err fault) h = fault_refuses a.shelf a.shelf' name Report fault (server_shows fault h) (server_gives a.shelf a.shelf' name a.allows a.wire a.wire' a.out a.out' url options (Err fault) h)
+    refuses_server : (answer : Result Report AnswerFault) → ServerAsked a.shelf a.shelf' a.allows a.wire a.wire' a.out a.out' name url options answer → RefusesQuery (grammar_of options) a.shelf a.shelf' name (answer_status answer)
+    refuses_server (Ok report) h = done_refuses (grammar_of options) a.shelf a.shelf' name report (server_gives a.shelf a.shelf' name a.allows a.wire a.wire' a.out a.out' url options (Ok report) h)
+    refuses_server (Err fault) h = fault_refuses (grammar_of options) a.shelf a.shelf' name Report fault (server_shows fault h) (server_gives a.shelf a.shelf' name a.allows a.wire a.wire' a.out a.out' url options (Err fault) h)
 
   module _ (persons : ℕ) (name : List ℕ) where
-    generated_shows : (fault : AnswerFault) → GeneratedAsked a.shelf a.shelf' (wire_inside a.inside') persons name (Err fault) → Shows a.shelf a.shelf' name fault
+    generated_shows : (fault : AnswerFault) → GeneratedAsked a.shelf a.shelf' (wire_inside a.inside') persons name (Err fault) → Shows grammars.Groups a.shelf a.shelf' name fault
     generated_shows (answers.Data fault) (Plain h) = λ e. let memory = h.cause.0 in cc
     generated_shows (answers.Query fault) (Plain h) = h.cause.0
     generated_shows (answers.Client fault) (Plain h) = tt
@@ -236,25 +238,25 @@ module _ (a : Around) where
     generated_shows (answers.Query fault) (Groups g h) = absurd h.cause
     generated_shows (answers.Client fault) (Groups g h) = tt
 
-    unwritten_shows : (cause : Fault) → Shows a.shelf a.shelf' name (unwritten cause)
+    unwritten_shows : (cause : Fault) → Shows grammars.Groups a.shelf a.shelf' name (unwritten cause)
     unwritten_shows sinks.Failed = tt
     unwritten_shows sinks.OutOfMemory = tt
 
-    numbers_show : (came : Result Counts AnswerFault) (fault : AnswerFault) → WritesNumbers a.out a.out' came (Err fault) → GeneratedAsked a.shelf a.shelf' (wire_inside a.inside') persons name came → Shows a.shelf a.shelf' name fault
-    numbers_show (Ok counts) fault line asks = subst (λ (f : AnswerFault). Shows a.shelf a.shelf' name f) (sym line.is) (unwritten_shows line.cause)
-    numbers_show (Err cause) fault line asks = subst (λ (f : AnswerFault). Shows a.shelf a.shelf' name f) line.0 (generated_shows cause asks)
+    numbers_show : (came : Result Counts AnswerFault) (fault : AnswerFault) → WritesNumbers a.out a.out' came (Err fault) → GeneratedAsked a.shelf a.shelf' (wire_inside a.inside') persons name came → Shows grammars.Groups a.shelf a.shelf' name fault
+    numbers_show (Ok counts) fault line asks = subst (λ (f : AnswerFault). Shows grammars.Groups a.shelf a.shelf' name f) (sym line.is) (unwritten_shows line.cause)
+    numbers_show (Err cause) fault line asks = subst (λ (f : AnswerFault). Shows grammars.Groups a.shelf a.shelf' name f) line.0 (generated_shows cause asks)
 
-    refuses_counted : (result : Result (Unit {0}) AnswerFault) → CountsFile a.shelf a.shelf' a.out a.out' (wire_inside a.inside') persons name result → RefusesQuery a.shelf a.shelf' name (counted_status result)
-    refuses_counted (Ok nothing) h = done_refuses a.shelf a.shelf' name nothing h.exact
-    refuses_counted (Err fault) h = fault_refuses a.shelf a.shelf' name (Unit {0}) fault (numbers_show h.came fault h.line h.asks) h.exact
+    refuses_counted : (result : Result (Unit {0}) AnswerFault) → CountsFile a.shelf a.shelf' a.out a.out' (wire_inside a.inside') persons name result → RefusesQuery grammars.Groups a.shelf a.shelf' name (counted_status result)
+    refuses_counted (Ok nothing) h = done_refuses grammars.Groups a.shelf a.shelf' name nothing h.exact
+    refuses_counted (Err fault) h = fault_refuses grammars.Groups a.shelf a.shelf' name (Unit {0}) fault (numbers_show h.came fault h.line h.asks) h.exact
 
   -- ---- a query of several servers
 
   module _ (several : Federated) where
     abbrev HasFault : Files → ℕ → GroupWhy → Type 0
-    HasFault files at why = HasPatternsFault files several.query at why
+    HasFault files at why = HasQueryFault grammars.Patterns files several.query at why
 
-    four_of_patterns : (fault : QueryFileFault) → PatternsCause a.shelf a.shelf' several.query fault → query_status fault ≡ 4 → IfTold a.shelf.told (λ files. (at : ℕ) × (why : GroupWhy) × HasFault files at why)
+    four_of_patterns : (fault : QueryFileFault) → QueryCause grammars.Patterns a.shelf a.shelf' several.query fault → query_status fault ≡ 4 → IfTold a.shelf.told (λ files. (at : ℕ) × (why : GroupWhy) × HasFault files at why)
     four_of_patterns (query_faults.Bad at why) h e = λ files is. (at, why, h files is)
     four_of_patterns query_faults.File h e = absurd (omega (arith, e))
     four_of_patterns query_faults.OutOfMemory h e = absurd (omega (arith, e))
@@ -291,7 +293,7 @@ module _ (a : Around) where
   refusal_command (federate several) (ends.served file service) h = absurd h
   refusal_command (federate several) (made written) h = absurd h
   refusal_command (federate several) (counted asked result) h = absurd h
-  refusal_command (serve name base choice page stop_after reload) end h = tt
+  refusal_command (serve name base choice page stop_after reload rows) end h = tt
   refusal_command (make count None) end h = tt
   refusal_command (make count (Some name)) (counted asked result) h = refuses_counted count name result h.1.1
   refusal_command (make count (Some name)) usage h = absurd h.1
@@ -302,12 +304,12 @@ module _ (a : Around) where
 
   memory_refusal : (command : Option Command) → RefusesOf a command 8
   memory_refusal None = tt
-  memory_refusal (Some (local name query_name choice page client seed fail_every)) = memory_refuses a.shelf a.shelf' query_name
-  memory_refusal (Some (query url query_name client)) = memory_refuses a.shelf a.shelf' query_name
+  memory_refusal (Some (local name query_name choice page client seed fail_every)) = memory_refuses (grammar_of (options_of client)) a.shelf a.shelf' query_name
+  memory_refusal (Some (query url query_name client)) = memory_refuses (grammar_of (options_of client)) a.shelf a.shelf' query_name
   memory_refusal (Some (federate several)) = memory_refuses_servers several
-  memory_refusal (Some (serve name base choice page stop_after reload)) = tt
+  memory_refusal (Some (serve name base choice page stop_after reload rows)) = tt
   memory_refusal (Some (make count None)) = tt
-  memory_refusal (Some (make count (Some name))) = memory_refuses a.shelf a.shelf' name
+  memory_refusal (Some (make count (Some name))) = memory_refuses grammars.Groups a.shelf a.shelf' name
 
   refusal_of : (command : Option Command) (end : EndOfRun) → DoesOf a command end → RefusesOf a command (status_of end)
   refusal_of None end h = tt

@@ -13,7 +13,7 @@ use Rattle.template_fill.proofs.Addresses.{target-parts}
 use Rattle.template_fill.proofs.Ports.{above_first}
 use Rattle.template_fill.proofs.Reading.{bind-inv, when-inv}
 use Rattle.list_laws.proofs.Options.{map_some}
-use Rattle.query_command.proofs.Fitting.{text_length}
+use Rattle.plan_laws.proofs.Starts.{text_length}
 
 -- ---- the parts of an address
 

@@ -18,15 +18,17 @@ use Rattle.group_faults.specs.declared.fault.GroupWhy.{GroupWhy}
 use Rattle.tpf_client.specs.declared.options.Options.{Options}
 use Rattle.tpf_client.specs.Offers.{Publisher, Offer}
 use Rattle.tpf_client.specs.Plans.{HasLongPage}
+use Rattle.data_files.specs.declared.query.Grammar.{Grammar}
+use Rattle.data_files.specs.declared.query.Grammar.TheVariants as grammars
 use Rattle.data_files.specs.Data.{Files, IfTold, Serves}
 use Rattle.data_files.specs.Queries.{HoldsGroup, HasQueryFault}
 use Rattle.data_files.specs.Kept.{KeepsShelf, KeepsSink}
+use Rattle.query_command.specs.Blocks.{grammar_of}
 use Rattle.query_command.specs.Answers.{FitsOver, OfQuery}
 use Rattle.query_command.specs.Generated.{usual_options}
 use Rattle.query_command.specs.Loops.{LocalView, local_config}
 use Rattle.query_command.specs.Groups.{group_plan_of, group_offer_of, GroupIsWithin, FitsGroupOver}
 use Rattle.query_command.specs.Plans.{plan_of, offer_of, CountsRequests, FailsOften, PassesBudget, OfFiles, OfGenerated, PlanIsWithin}
-use Rattle.federate_command.specs.Files.{HasPatternsFault}
 use Rattle.federate_command.specs.Commands.{FitsServers}
 use Rattle.command_words.specs.Commands.{Command, local, query, federate, serve, make}
 use Rattle.tpf_cli.specs.Endings.{EndOfRun, Says}
@@ -49,7 +51,7 @@ statuses_of None = 2 ∷ 8 ∷ []
 statuses_of (Some (local name query_name choice page client seed fail_every)) = local_statuses (fail_every == 0)
 statuses_of (Some (query url query_name client)) = server_statuses
 statuses_of (Some (federate several)) = server_statuses
-statuses_of (Some (serve name base choice page stop_after reload)) = 0 ∷ 3 ∷ 8 ∷ 9 ∷ 10 ∷ 12 ∷ []
+statuses_of (Some (serve name base choice page stop_after reload rows)) = 0 ∷ 3 ∷ 8 ∷ 9 ∷ 10 ∷ 12 ∷ []
 statuses_of (Some (make count None)) = 0 ∷ 8 ∷ 9 ∷ []
 statuses_of (Some (make count (Some asked_name))) = 0 ∷ 4 ∷ 6 ∷ 7 ∷ 8 ∷ 9 ∷ 10 ∷ []
 
@@ -69,18 +71,18 @@ pub record KeepsPlan (n : ℕ) (options : Options) (offer : Offer) (plan : List 
 
 -- of a query without groups
 abbrev pub KeepsTable : ℕ → Options → List Triple → Config → QueryData → ℕ → Type 0
-KeepsTable n options triples config q status = KeepsPlan n options (offer_of triples config q) (plan_of triples config q) status
+KeepsTable n options triples config q status = KeepsPlan n options (offer_of options triples config q) (plan_of options triples config q) status
 
 -- of what the words command
 abbrev pub KeepsTableOf : Around → Option Command → ℕ → Type 0
 KeepsTableOf a None status = Unit {0}
 KeepsTableOf a (Some (local name query_name choice page client seed fail_every)) status =
-    OfFiles a.shelf.told (view_of name query_name choice page client seed fail_every) (λ triples q. KeepsTable fail_every (options_of client) triples (local_config page) q status)
+    OfFiles a.shelf.told (view_of name query_name choice page client seed fail_every) (λ triples q. KeepsTable fail_every (options_of client) triples (local_config (options_of client) page) q status)
 KeepsTableOf a (Some (query url query_name client)) status = status ≡ 12 → ⊥
 KeepsTableOf a (Some (federate several)) status = status ≡ 12 → ⊥
-KeepsTableOf a (Some (serve name base choice page stop_after reload)) status = Unit {0}
+KeepsTableOf a (Some (serve name base choice page stop_after reload rows)) status = Unit {0}
 KeepsTableOf a (Some (make count None)) status = Unit {0}
-KeepsTableOf a (Some (make count (Some asked_name))) status = OfGenerated a.shelf.told count asked_name (λ triples q. KeepsTable 0 usual_options triples (local_config 100) q status)
+KeepsTableOf a (Some (make count (Some asked_name))) status = OfGenerated a.shelf.told count asked_name (λ triples q. KeepsTable 0 usual_options triples (local_config usual_options 100) q status)
 
 -- ---- the table of a query with groups in one process
 
@@ -90,22 +92,22 @@ KeepsGroupTable n options triples config g status = KeepsPlan n options (group_o
 
 -- of the data that are served of a file and the query with groups of another, where the shelf tells them
 abbrev pub OfGroupFiles : Option Files → LocalView → (List Triple → GroupData → Type 0) → Type 0
-OfGroupFiles told view holds = IfTold told (λ files. (triples : List Triple) (g : GroupData) → Serves files view.name view.choice (codes "localhost") triples → HoldsGroup files view.query g → holds triples g)
+OfGroupFiles told view holds = IfTold told (λ files. (triples : List Triple) (g : GroupData) → Serves files view.name view.choice (codes "localhost") triples → HoldsGroup (grammar_of view.options) files view.query g → holds triples g)
 
 -- of the generated data that are served, and the query with groups of a file, where the shelf tells it
 abbrev pub OfGroupGenerated : Option Files → ℕ → List ℕ → (List Triple → GroupData → Type 0) → Type 0
-OfGroupGenerated told persons query_name holds = IfTold told (λ files. (triples : List Triple) (g : GroupData) → IsServed (codes "localhost") (chosen DefaultGraph (generated persons)) triples → HoldsGroup files query_name g → holds triples g)
+OfGroupGenerated told persons query_name holds = IfTold told (λ files. (triples : List Triple) (g : GroupData) → IsServed (codes "localhost") (chosen DefaultGraph (generated persons)) triples → HoldsGroup grammars.Groups files query_name g → holds triples g)
 
 -- of what the words command
 abbrev pub KeepsGroupTableOf : Around → Option Command → ℕ → Type 0
 KeepsGroupTableOf a None status = Unit {0}
 KeepsGroupTableOf a (Some (local name query_name choice page client seed fail_every)) status =
-    OfGroupFiles a.shelf.told (view_of name query_name choice page client seed fail_every) (λ triples g. KeepsGroupTable fail_every (options_of client) triples (local_config page) g status)
+    OfGroupFiles a.shelf.told (view_of name query_name choice page client seed fail_every) (λ triples g. KeepsGroupTable fail_every (options_of client) triples (local_config (options_of client) page) g status)
 KeepsGroupTableOf a (Some (query url query_name client)) status = Unit {0}
 KeepsGroupTableOf a (Some (federate several)) status = Unit {0}
-KeepsGroupTableOf a (Some (serve name base choice page stop_after reload)) status = Unit {0}
+KeepsGroupTableOf a (Some (serve name base choice page stop_after reload rows)) status = Unit {0}
 KeepsGroupTableOf a (Some (make count None)) status = Unit {0}
-KeepsGroupTableOf a (Some (make count (Some asked_name))) status = OfGroupGenerated a.shelf.told count asked_name (λ triples g. KeepsGroupTable 0 usual_options triples (local_config 100) g status)
+KeepsGroupTableOf a (Some (make count (Some asked_name))) status = OfGroupGenerated a.shelf.told count asked_name (λ triples g. KeepsGroupTable 0 usual_options triples (local_config usual_options 100) g status)
 
 -- ---- refused queries
 
@@ -114,19 +116,19 @@ pub record RefusesBy (shelf shelf' : ShelfState) (HasFault : Files → ℕ → G
   pub four : status ≡ 4 → IfTold shelf.told (λ files. (at : ℕ) × (why : GroupWhy) × HasFault files at why)
   pub refused : ¬ (Rose shelf.faults shelf'.faults) → IfTold shelf.told (λ files. (at : ℕ) (why : GroupWhy) → HasFault files at why → (status ≡ 3) ⊎ ((status ≡ 4) ⊎ (status ≡ 8)))
 
--- that of the text of the file of a query, with groups or without
-abbrev pub RefusesQuery : ShelfState → ShelfState → List ℕ → ℕ → Type 0
-RefusesQuery shelf shelf' name status = RefusesBy shelf shelf' (λ files at why. HasQueryFault files name at why) status
+-- that of the text of the file of a query, by a grammar with groups or without
+abbrev pub RefusesQuery : Grammar → ShelfState → ShelfState → List ℕ → ℕ → Type 0
+RefusesQuery grammar shelf shelf' name status = RefusesBy shelf shelf' (λ files at why. HasQueryFault grammar files name at why) status
 
--- of what the words command; what is asked of several servers is a query without groups
+-- of what the words command; what is asked of several servers, or in blocks of rows, is a query without groups
 abbrev pub RefusesOf : Around → Option Command → ℕ → Type 0
 RefusesOf a None status = Unit {0}
-RefusesOf a (Some (local name query_name choice page client seed fail_every)) status = RefusesQuery a.shelf a.shelf' query_name status
-RefusesOf a (Some (query url query_name client)) status = RefusesQuery a.shelf a.shelf' query_name status
-RefusesOf a (Some (federate several)) status = RefusesBy a.shelf a.shelf' (λ files at why. HasPatternsFault files several.query at why) status
-RefusesOf a (Some (serve name base choice page stop_after reload)) status = Unit {0}
+RefusesOf a (Some (local name query_name choice page client seed fail_every)) status = RefusesQuery (grammar_of (options_of client)) a.shelf a.shelf' query_name status
+RefusesOf a (Some (query url query_name client)) status = RefusesQuery (grammar_of (options_of client)) a.shelf a.shelf' query_name status
+RefusesOf a (Some (federate several)) status = RefusesQuery grammars.Patterns a.shelf a.shelf' several.query status
+RefusesOf a (Some (serve name base choice page stop_after reload rows)) status = Unit {0}
 RefusesOf a (Some (make count None)) status = Unit {0}
-RefusesOf a (Some (make count (Some asked_name))) status = RefusesQuery a.shelf a.shelf' asked_name status
+RefusesOf a (Some (make count (Some asked_name))) status = RefusesQuery grammars.Groups a.shelf a.shelf' asked_name status
 
 -- ---- the number of requests that is told
 
@@ -141,20 +143,20 @@ pub record TellsRequests (n retries addresses : ℕ) (err err' : SinkState) : Ty
 abbrev pub TellsRequestsOf : Around → Option Command → ℕ → SinkState → SinkState → Type 0
 TellsRequestsOf a None status err err' = Unit {0}
 TellsRequestsOf a (Some (local name query_name choice page client seed fail_every)) status err err' =
-    status ≡ 0 → OfFiles a.shelf.told (view_of name query_name choice page client seed fail_every) (λ triples q. TellsRequests fail_every client.retries (length (plan_of triples (local_config page) q)) err err')
+    status ≡ 0 → OfFiles a.shelf.told (view_of name query_name choice page client seed fail_every) (λ triples q. TellsRequests fail_every client.retries (length (plan_of (options_of client) triples (local_config (options_of client) page) q)) err err')
 TellsRequestsOf a (Some (query url query_name client)) status err err' = Unit {0}
 TellsRequestsOf a (Some (federate several)) status err err' = Unit {0}
-TellsRequestsOf a (Some (serve name base choice page stop_after reload)) status err err' = Unit {0}
+TellsRequestsOf a (Some (serve name base choice page stop_after reload rows)) status err err' = Unit {0}
 TellsRequestsOf a (Some (make count asked)) status err err' = Unit {0}
 
 -- the same of a query with groups, by the plan of all its blocks
 abbrev pub TellsGroupRequestsOf : Around → Option Command → ℕ → SinkState → SinkState → Type 0
 TellsGroupRequestsOf a None status err err' = Unit {0}
 TellsGroupRequestsOf a (Some (local name query_name choice page client seed fail_every)) status err err' =
-    status ≡ 0 → OfGroupFiles a.shelf.told (view_of name query_name choice page client seed fail_every) (λ triples g. TellsRequests fail_every client.retries (length (group_plan_of triples (local_config page) g)) err err')
+    status ≡ 0 → OfGroupFiles a.shelf.told (view_of name query_name choice page client seed fail_every) (λ triples g. TellsRequests fail_every client.retries (length (group_plan_of triples (local_config (options_of client) page) g)) err err')
 TellsGroupRequestsOf a (Some (query url query_name client)) status err err' = Unit {0}
 TellsGroupRequestsOf a (Some (federate several)) status err err' = Unit {0}
-TellsGroupRequestsOf a (Some (serve name base choice page stop_after reload)) status err err' = Unit {0}
+TellsGroupRequestsOf a (Some (serve name base choice page stop_after reload rows)) status err err' = Unit {0}
 TellsGroupRequestsOf a (Some (make count asked)) status err err' = Unit {0}
 
 -- ---- completeness
@@ -163,43 +165,43 @@ TellsGroupRequestsOf a (Some (make count asked)) status err err' = Unit {0}
 abbrev pub IsDone : ℕ → Type 0
 IsDone status = (status ≡ 0) ⊎ (status ≡ 8)
 
--- Where the files are read, no count rose of shelf and output, and of the door of the handed-in wire where that is served, a command is done or memory is wanting: of a query in one process, where none of the causes of the table is there, with nothing assumed of a wire; of a query over the handed-in wire, where that is as a server of some data makes it, or several of data that do not change, and the plan fits; of a service, and of data that are written.
+-- Where the files are read, no count rose of shelf and output, and of the door of the handed-in wire where that is served, a command is done or memory is wanting: of a query in one process, where none of the causes of the table is there, with nothing assumed of a wire; of a query over the handed-in wire, where that is as a server of some data makes it, or several, within the limits of what is served, and the bodies of the plan and the number of its addresses are within the options; of a service, and of data that are written.
 abbrev pub SucceedsOf : Around → Option Command → ℕ → Type 0
 SucceedsOf a None status = Unit {0}
 SucceedsOf a (Some (local name query_name choice page client seed fail_every)) status =
     ¬ (Rose a.shelf.faults a.shelf'.faults) → ¬ (Rose a.out.faults a.out'.faults)
-    → OfFiles a.shelf.told (view_of name query_name choice page client seed fail_every) (λ triples q. PlanIsWithin fail_every (options_of client) triples (local_config page) q → IsDone status)
+    → OfFiles a.shelf.told (view_of name query_name choice page client seed fail_every) (λ triples q. PlanIsWithin fail_every (options_of client) triples (local_config (options_of client) page) q → IsDone status)
 SucceedsOf a (Some (query url query_name client)) status =
     ¬ (Rose a.shelf.faults a.shelf'.faults) → ¬ (Rose a.out.faults a.out'.faults)
     → OfQuery a.shelf.told query_name (λ q. (triples : List Triple) (config : Config) → FitsOver a.allows q url (options_of client) triples config a.wire a.wire' → IsDone status)
 SucceedsOf a (Some (federate several)) status =
     ¬ (Rose a.shelf.faults a.shelf'.faults) → ¬ (Rose a.out.faults a.out'.faults)
     → OfQuery a.shelf.told several.query (λ q. (publishers : List Publisher) → FitsServers a.allows q several.urls (options_of several.client) publishers a.wire a.wire' → IsDone status)
-SucceedsOf a (Some (serve name base choice page stop_after reload)) status =
+SucceedsOf a (Some (serve name base choice page stop_after reload rows)) status =
     ¬ (Rose a.shelf.faults a.shelf'.faults) → ¬ (Rose a.out.faults a.out'.faults) → ¬ (Rose a.wire.door.faults a.wire'.door.faults)
     → IfTold a.shelf.told (λ files. (triples : List Triple) → Serves files name choice (authority_of base) triples → IsDone status)
 SucceedsOf a (Some (make count None)) status = ¬ (Rose a.out.faults a.out'.faults) → IsDone status
 SucceedsOf a (Some (make count (Some asked_name))) status =
-    ¬ (Rose a.shelf.faults a.shelf'.faults) → ¬ (Rose a.out.faults a.out'.faults) → OfGenerated a.shelf.told count asked_name (λ triples q. PlanIsWithin 0 usual_options triples (local_config 100) q → IsDone status)
+    ¬ (Rose a.shelf.faults a.shelf'.faults) → ¬ (Rose a.out.faults a.out'.faults) → OfGenerated a.shelf.told count asked_name (λ triples q. PlanIsWithin 0 usual_options triples (local_config usual_options 100) q → IsDone status)
 
 -- of the query with groups of a file, where the shelf tells it
-abbrev pub OfGroupQuery : Option Files → List ℕ → (GroupData → Type 0) → Type 0
-OfGroupQuery told query_name holds = IfTold told (λ files. (g : GroupData) → HoldsGroup files query_name g → holds g)
+abbrev pub OfGroupQuery : Grammar → Option Files → List ℕ → (GroupData → Type 0) → Type 0
+OfGroupQuery grammar told query_name holds = IfTold told (λ files. (g : GroupData) → HoldsGroup grammar files query_name g → holds g)
 
 -- The same of a query with groups: in one process where none of the causes of its table is there; over the handed-in wire where that is as a server of some data makes it, and this plan fits.
 abbrev pub SucceedsGroupsOf : Around → Option Command → ℕ → Type 0
 SucceedsGroupsOf a None status = Unit {0}
 SucceedsGroupsOf a (Some (local name query_name choice page client seed fail_every)) status =
     ¬ (Rose a.shelf.faults a.shelf'.faults) → ¬ (Rose a.out.faults a.out'.faults)
-    → OfGroupFiles a.shelf.told (view_of name query_name choice page client seed fail_every) (λ triples g. GroupIsWithin fail_every (options_of client) triples (local_config page) g → IsDone status)
+    → OfGroupFiles a.shelf.told (view_of name query_name choice page client seed fail_every) (λ triples g. GroupIsWithin fail_every (options_of client) triples (local_config (options_of client) page) g → IsDone status)
 SucceedsGroupsOf a (Some (query url query_name client)) status =
     ¬ (Rose a.shelf.faults a.shelf'.faults) → ¬ (Rose a.out.faults a.out'.faults)
-    → OfGroupQuery a.shelf.told query_name (λ g. (triples : List Triple) (config : Config) → FitsGroupOver a.allows g url (options_of client) triples config a.wire a.wire' → IsDone status)
+    → OfGroupQuery (grammar_of (options_of client)) a.shelf.told query_name (λ g. (triples : List Triple) (config : Config) → FitsGroupOver a.allows g url (options_of client) triples config a.wire a.wire' → IsDone status)
 SucceedsGroupsOf a (Some (federate several)) status = Unit {0}
-SucceedsGroupsOf a (Some (serve name base choice page stop_after reload)) status = Unit {0}
+SucceedsGroupsOf a (Some (serve name base choice page stop_after reload rows)) status = Unit {0}
 SucceedsGroupsOf a (Some (make count None)) status = Unit {0}
 SucceedsGroupsOf a (Some (make count (Some asked_name))) status =
-    ¬ (Rose a.shelf.faults a.shelf'.faults) → ¬ (Rose a.out.faults a.out'.faults) → OfGroupGenerated a.shelf.told count asked_name (λ triples g. GroupIsWithin 0 usual_options triples (local_config 100) g → IsDone status)
+    ¬ (Rose a.shelf.faults a.shelf'.faults) → ¬ (Rose a.out.faults a.out'.faults) → OfGroupGenerated a.shelf.told count asked_name (λ triples g. GroupIsWithin 0 usual_options triples (local_config usual_options 100) g → IsDone status)
 
 -- ---- the run
 

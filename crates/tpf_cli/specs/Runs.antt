@@ -1,5 +1,5 @@
 -- What a run did, by its command and how it ended.
-use Rattle.std.specs.Prelude.{ℕ, ◌≡◌, ◌⊎◌, List, Option, Some, None, Result, Ok, Err}
+use Rattle.std.specs.Prelude.{ℕ, ◌≡◌, ◌⊎◌, Bool, List, Option, Some, None, Result, Ok, Err}
 use Rattle.std.specs.Io.KnownBytes.{Appends}
 use Rattle.rdf_terms.specs.Canon.{canon}
 use Rattle.generated_data.specs.Generated.{generated}
@@ -17,6 +17,7 @@ use Rattle.fragment_server.specs.declared.server.FragmentServer.{FragmentServer}
 use Rattle.group_query.specs.Trees.{GroupData}
 use Rattle.tpf_client.specs.declared.options.Options.{Options}
 use Rattle.tpf_client.specs.declared.fault.ClientFault.TheVariants as clients
+use Rattle.data_files.specs.declared.query.Grammar.TheVariants as grammars
 use Rattle.data_files.specs.Causes.{QueryDecides, GivesQuery}
 use Rattle.data_files.specs.Queries.{QueryOutcome, reads_groups}
 use Rattle.data_files.specs.Kept.{KeepsSink}
@@ -57,7 +58,7 @@ wire_inside (Loop wire) = Some wire
 
 -- the bounds of a client by its words
 abbrev pub options_of : ClientWords → Options
-options_of client = record { window = client.window; links = client.links; retries = client.retries; budget = client.budget; max_body = client.max_body }
+options_of client = record { window = client.window; block = client.block; links = client.links; retries = client.retries; budget = client.budget; max_body = client.max_body }
 
 -- ---- commands
 
@@ -106,7 +107,7 @@ pub record CountsFile (shelf shelf' : ShelfState) (out out' : SinkState) (inside
   pub came : Result Counts AnswerFault
   pub asks : GeneratedAsked shelf shelf' inside persons name came
   pub line : WritesNumbers out out' came result
-  pub exact : QueryDecides shelf shelf' name (λ outcome. GivesEnd outcome result)
+  pub exact : QueryDecides grammars.Groups shelf shelf' name (λ outcome. GivesEnd outcome result)
   pub output : KeepsSink out out'
 
 -- what `make` did that ended so
@@ -131,8 +132,8 @@ Makes shelf shelf' out out' inside' count (Some asked_name) (made written) = ⊥
 abbrev pub view_of : List ℕ → List ℕ → Choice → ℕ → ClientWords → ℕ → ℕ → LocalView
 view_of name query_name choice page client seed fail_every = record { name = name; query = query_name; choice = choice; page_size = page; options = options_of client; seed = seed; fail_every = fail_every }
 
-abbrev pub config_by : Address → ℕ → Option (List ℕ) → Config
-config_by base page reload = record { base = base; page_size = page; reload = reload }
+abbrev pub config_by : Address → ℕ → Option (List ℕ) → Bool → Config
+config_by base page reload rows = record { base = base; page_size = page; reload = reload; rows = rows }
 
 -- what a command did that ended so
 abbrev pub Does : Around → Command → EndOfRun → Type 0
@@ -160,14 +161,14 @@ Does a (federate several) no_words = ⊥
 Does a (federate several) (served file service) = ⊥
 Does a (federate several) (made written) = ⊥
 Does a (federate several) (counted asked result) = ⊥
-Does a (serve name base choice page stop_after reload) (served file service) =
+Does a (serve name base choice page stop_after reload rows) (served file service) =
     (file ≡ name) × (a.inside' ≡ Unused)
-    × ServesFile a.shelf a.shelf' a.wire a.wire' a.out a.out' name choice (config_by base page reload) stop_after service
-Does a (serve name base choice page stop_after reload) usage = ⊥
-Does a (serve name base choice page stop_after reload) no_words = ⊥
-Does a (serve name base choice page stop_after reload) (answered data_name asked answer) = ⊥
-Does a (serve name base choice page stop_after reload) (made written) = ⊥
-Does a (serve name base choice page stop_after reload) (counted asked result) = ⊥
+    × ServesFile a.shelf a.shelf' a.wire a.wire' a.out a.out' name choice (config_by base page reload rows) stop_after service
+Does a (serve name base choice page stop_after reload rows) usage = ⊥
+Does a (serve name base choice page stop_after reload rows) no_words = ⊥
+Does a (serve name base choice page stop_after reload rows) (answered data_name asked answer) = ⊥
+Does a (serve name base choice page stop_after reload rows) (made written) = ⊥
+Does a (serve name base choice page stop_after reload rows) (counted asked result) = ⊥
 Does a (make count asked_name) end = (a.wire' ≡ a.wire) × Makes a.shelf a.shelf' a.out a.out' a.inside' count asked_name end
 
 -- the same of a run, where its words are a command or none
@@ -181,7 +182,7 @@ IsWithoutShelf None = Unit {0}
 IsWithoutShelf (Some (local name query_name choice page client seed fail_every)) = ⊥
 IsWithoutShelf (Some (query url query_name client)) = ⊥
 IsWithoutShelf (Some (federate several)) = ⊥
-IsWithoutShelf (Some (serve name base choice page stop_after reload)) = ⊥
+IsWithoutShelf (Some (serve name base choice page stop_after reload rows)) = ⊥
 IsWithoutShelf (Some (make count None)) = Unit {0}
 IsWithoutShelf (Some (make count (Some asked_name))) = ⊥
 
@@ -196,5 +197,5 @@ IsWithoutWire None = Unit {0}
 IsWithoutWire (Some (local name query_name choice page client seed fail_every)) = Unit {0}
 IsWithoutWire (Some (query url query_name client)) = ⊥
 IsWithoutWire (Some (federate several)) = ⊥
-IsWithoutWire (Some (serve name base choice page stop_after reload)) = ⊥
+IsWithoutWire (Some (serve name base choice page stop_after reload rows)) = ⊥
 IsWithoutWire (Some (make count asked)) = Unit {0}

@@ -1,5 +1,6 @@
 // The commands.
 ghost use Rattle.std.specs.Prelude.{◌≡◌, ◌≤◌, ◌<◌, length, None};
+ghost use Rattle.rdf_terms.specs.declared.limits.TheConstants.{MOST_ROWS};
 ghost use Rattle.template_fill.specs.Configurations.{HasReloadPath};
 ghost use Rattle.data_files.specs.Kept.{KeepsSink};
 ghost use Rattle.query_command.specs.Loops.{local_view};
@@ -22,14 +23,28 @@ use std::alloc::Global;
 use std::sync::Wait;
 use template_fill::WebAddress;
 use tpf_base::{Accept, Dial, Fault, Shelf, Sink};
-use tpf_client::{ClientFault, Options, Report};
+use tpf_client::{BlockSize, ClientFault, Options, Report};
+
+/// The rows of a block by its words.
+fn block_of(rows: u32) -> BlockSize
+    requires low { 1 ≤ rows }
+    requires high { rows ≤ MOST_ROWS }
+    ensures { result ≡ rows }
+{
+    match BlockSize::new(rows) {
+        Some(size) => size,
+        None => unreachable!(),
+    }
+}
 
 /// The bounds of a client by its words.
 pub fn options_of(client: ClientWords) -> Options
+    requires { IsClient client }
     ensures { result ≡ options_of client }
 {
     Options {
         window: client.window,
+        block: block_of(client.block),
         links: client.links,
         retries: client.retries,
         budget: client.budget,

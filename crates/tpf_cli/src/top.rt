@@ -126,6 +126,7 @@ fn obey<'a, R: Wait, F: Shelf, W: Dial + Accept, K: Sink>(
             page,
             stop_after,
             reload,
+            rows,
         } => {
             let service = Service {
                 name,
@@ -133,6 +134,7 @@ fn obey<'a, R: Wait, F: Shelf, W: Dial + Accept, K: Sink>(
                 base,
                 page_size: page,
                 reload,
+                rows,
                 stop_after,
             };
             let served = serve_file(rt, alloc, service, shelf, wire, out);
@@ -180,6 +182,9 @@ fn ending_of<'a, R: Wait, F: Shelf, W: Dial + Accept, K: Sink>(
 /// words are read first, then the file, then the servers are asked. It ends with the same line and statuses as `query`.
 /// Its query has no groups: one that has is refused, with status 4.
 ///
+/// With `--block N` a request of `local` or `query` asks for up to N rows, and the query is read as one without groups
+/// too. `local` then serves the file with rows read.
+///
 /// The query of a file of the other commands may have groups: OPTIONAL, UNION, groups in one another, and DISTINCT (SPARQL 1.1, 5 to 7 and
 /// 15.3). Then its blocks of triple patterns are asked for one after another as they are written, each from the start
 /// page on and with what the others left of `--budget`; their rows are put together in memory, and the text is written
@@ -187,7 +192,8 @@ fn ending_of<'a, R: Wait, F: Shelf, W: Dial + Accept, K: Sink>(
 ///
 /// `tpf serve FILE --base URL` serves the data of a file over `wire` at the host and the port of the base,
 /// writes `ready` and LF to `out` once it listens there, and ends with the line `served C`, after
-/// `--stop-after` connections.
+/// `--stop-after` connections. With `--rows` it reads the rows that a request names, whose page has then only the
+/// triples that fit one of them (bindings-restricted fragments); without it they are passed over.
 ///
 /// `tpf make N` writes the generated data of N persons to `out`, as canonical N-Quads. `tpf make N --run
 /// QUERYFILE` serves these data to a client in the same process, as `local` does without options, and writes

@@ -1,7 +1,7 @@
 -- The numbers of a call over the wire to the server of generated data.
 use Rattle.std.proofs.Common.{None, ap}
 use Rattle.template_fill.specs.Metadata.{Config}
-use Rattle.query_command.proofs.Counting.{in_bounds, served_len, counts_of, asks_over, fails_on, replies_rows, bounds_usual, may_fail}
+use Rattle.query_command.proofs.Counting.{in_bounds, served_len, counts_of, asks_over, fails_on, replies_rows, bounds_usual, sends_usual, may_fail}
 use Rattle.query_command.proofs.generated_query.ask_generated.Goals as goal
 
 pub ask_server-requires-clause-window : goal.ask_server-requires-clause-window
@@ -28,6 +28,14 @@ returns-in-Err-clause-cause g c =
 pub returns-in-Ok-clause-replied : goal.returns-in-Ok-clause-replied
 returns-in-Ok-clause-replied g c =
     replies_rows c.args.server c.args.persons c.requires.starts c.args.query.now c.usual_options.result c.usual_options.ensures _ c.in-Ok.report c.in-Ok.ensures.replied
+
+pub returns-in-Ok-clause-sent : goal.returns-in-Ok-clause-sent
+returns-in-Ok-clause-sent g c =
+    sends_usual c.args.server c.args.persons c.requires.starts c.args.query.now c.usual_options.result c.usual_options.ensures _ c.ask_server.ensures.sent
+
+pub returns-in-Err-clause-sent : goal.returns-in-Err-clause-sent
+returns-in-Err-clause-sent g c =
+    sends_usual c.args.server c.args.persons c.requires.starts c.args.query.now c.usual_options.result c.usual_options.ensures _ c.ask_server.ensures.sent
 
 pub returns-in-Ok-clause-requested : goal.returns-in-Ok-clause-requested
 returns-in-Ok-clause-requested g c =

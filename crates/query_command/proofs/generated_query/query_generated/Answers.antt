@@ -1,6 +1,7 @@
 -- What is said of the query is said of the file that holds it.
 use Rattle.std.proofs.Common.{Ok, Err, refl}
 use Rattle.data_files.specs.declared.fault.DataFault.TheVariants as data_faults
+use Rattle.data_files.specs.declared.query.Grammar.TheVariants as grammars
 use Rattle.data_files.specs.KeptLaws.{reads_as}
 use Rattle.query_command.specs.declared.fault.AnswerFault.TheVariants as faults
 use Rattle.query_command.specs.Groups as sums
@@ -30,7 +31,7 @@ returns-in-Ok-ask_generated g c =
     let server = c.in-Ok-generated_server.server in
     let starts = c.in-Ok-generated_server.ensures in
     let q = c.in-Plain.query in
-    let read = plain_file _ c.args.query.now c.in-Ok.query q c.in-Plain.is c.in-Ok.ensures.ok in
+    let read = plain_file grammars.Groups _ c.args.query.now c.in-Ok.query q c.in-Plain.is c.in-Ok.ensures.ok in
     let one = c.served_is_one.ensures in
     sums.Plain (asks_generated _ _ c.args.persons c.args.query.now _ (Ok c.in-Ok-ask_generated.counts)
     (generated_answers _ c.args.persons _ _ q read c.in-Ok-ask_generated.counts c.in-Ok-ask_generated.ensures.counts c.in-Ok-ask_generated.ensures.answers)
@@ -48,7 +49,7 @@ returns-in-Plain g c =
     let server = c.in-Ok-generated_server.server in
     let starts = c.in-Ok-generated_server.ensures in
     let q = c.in-Plain.query in
-    let read = plain_file _ c.args.query.now c.in-Ok.query q c.in-Plain.is c.in-Ok.ensures.ok in
+    let read = plain_file grammars.Groups _ c.args.query.now c.in-Ok.query q c.in-Plain.is c.in-Ok.ensures.ok in
     let one = c.served_is_one.ensures in
     let fault = c.in-Err-ask_generated.fault in
     sums.Plain (asks_generated _ _ c.args.persons c.args.query.now _ (Err (faults.Client fault)) tt
@@ -64,13 +65,13 @@ returns-in-Plain g c =
 pub returns-in-Ok-count_groups : goal.returns-in-Ok-count_groups
 returns-in-Ok-count_groups g c =
     let q = c.in-Groups.query in
-    let read = group_file _ _ refl c.args.query.now c.in-Ok.query q c.in-Groups.is c.in-Ok.ensures.ok in
+    let read = group_file grammars.Groups _ _ refl c.args.query.now c.in-Ok.query q c.in-Groups.is c.in-Ok.ensures.ok in
     sums.Groups q (generated_ok _ _ c.args.persons c.args.query.now _ c.in-Ok-generated_server.server c.in-Ok-generated_server.ensures q read c.in-Ok-count_groups.counts c.in-Ok-count_groups.ensures
     (reads_as _ _ _ _ _ (λ e. cc) (λ e. absurd e) c.in-Ok.ensures.reads))
 
 pub returns : goal.returns
 returns g c =
     let q = c.in-Groups.query in
-    let read = group_file _ _ refl c.args.query.now c.in-Ok.query q c.in-Groups.is c.in-Ok.ensures.ok in
+    let read = group_file grammars.Groups _ _ refl c.args.query.now c.in-Ok.query q c.in-Groups.is c.in-Ok.ensures.ok in
     sums.Groups q (generated_err _ _ c.args.persons c.args.query.now _ c.in-Ok-generated_server.server c.in-Ok-generated_server.ensures q read c.commands_keep_limits.ensures.generated c.commands_keep_limits.ensures.groups c.requires.most c.in-Err-count_groups.fault c.in-Err-count_groups.ensures
     (reads_as _ _ _ _ _ (λ e. cc) (λ e. absurd e) c.in-Ok.ensures.reads))

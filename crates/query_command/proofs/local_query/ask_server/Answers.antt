@@ -48,7 +48,7 @@ returns-clause-ends g c = λ servable askable small.
     let config = config_served c.args.server c.server.result.now c.server.ensures c.is_valid.ensures.config in
     ends_from c.args.server c.args.asked.now.seed c.args.asked.now.fail_every c.query-answer.new.wire c.args.query.now c.args.asked.now.options ((g.K.Sink.state c.args.out.now).faults) ((g.K.Sink.state c.query-answer.new.out).faults) ((g.K.Sink.state c.args.out.now).taken) ((g.K.Sink.state c.query-answer.new.out).taken) c.query-answer.result
     (honest_wire c.args.server c.args.asked.now.seed c.args.asked.now.fail_every c.requires.first valid config c.is_few.ensures)
-    (plan_is_read c.plans_are_read.ensures.plan c.plans_are_read.ensures.base (serving c.args.server).data_set (serving c.args.server).config c.args.query.now c.requires.base valid config servable askable)
+    (plan_is_read c.plans_are_read.ensures.plan c.plans_are_read.ensures.base c.args.asked.now.options.block (c.is_sized.ensures.low, c.is_sized.ensures.high) (serving c.args.server).data_set (serving c.args.server).config c.args.query.now c.requires.base valid config servable askable)
     c.fails_as_due.ensures small (returns-clause-answers g c) (returns-clause-cause g c)
 
 pub returns-clause-honest : goal.returns-clause-honest

@@ -3,14 +3,17 @@ use Rattle.std.proofs.Common.{Ok, Err, refl, ap, subst}
 use Rattle.template_fill.specs.Metadata.{Config}
 use Rattle.tpf_base.specs.Addresses.{authority_of}
 use Rattle.data_files.specs.declared.fault.DataFault.TheVariants as data_faults
-use Rattle.data_files.specs.Causes.{DataCause}
+use Rattle.data_files.specs.declared.query.Grammar.{Grammar}
+use Rattle.data_files.specs.Causes.{DataCause, QueryCause}
+use Rattle.data_files.specs.Queries.{IsOfGroupFile}
 use Rattle.data_files.specs.KeptLaws.{reads_keep, sink_none}
 use Rattle.file_server.specs.Servers.{Starts, serving}
 use Rattle.query_command.specs.declared.fault.AnswerFault.TheVariants as faults
+use Rattle.query_command.specs.Blocks.{grammar_of}
 use Rattle.query_command.specs.Loops.{local_view}
 use Rattle.query_command.specs.Groups as sums
 use Rattle.query_command.proofs.Complete.{asks_file, asks_none}
-use Rattle.query_command.proofs.Locals.{local_answers, local_fault, local_honest, local_planned, local_ends, local_sent, local_requested, local_replied, valid_read, query_from}
+use Rattle.query_command.proofs.Locals.{local_answers, local_fault, local_honest, local_planned, local_ends, local_sent, local_requested, local_replied, valid_read, is_config, query_from}
 use Rattle.query_command.proofs.GroupFiles.{plain_file, group_file, file_ok, file_err}
 use Rattle.query_command.proofs.Opening.{opens_two, asked_two, reads_none, reads_one, reads_both, reads_refused}
 use Rattle.query_command.proofs.local_query.local.Goals as goal
@@ -20,15 +23,15 @@ returns-in_default g c =
     sums.Plain (asks_none _ _ _ _ _ (local_view c.args.asked.now) (faults.Data data_faults.OutOfMemory) c.requires.none (tt, refl, c.requires.none) (λ triples config q. tt) (λ small. tt) tt (reads_none _ _ _)
     (record { keeps = sink_none _; spared = λ fine. tt }))
 
-pub returns-in_default-local_config : goal.returns-in_default-local_config
-returns-in_default-local_config g c =
+pub returns-in_default-config_of : goal.returns-in_default-config_of
+returns-in_default-config_of g c =
     sums.Plain (asks_none _ _ _ _ _ (local_view c.args.asked.now) (faults.Data data_faults.OutOfMemory) c.requires.none (tt, refl, c.requires.none) (λ triples config q. tt) (λ small. tt) tt (reads_none _ _ _)
     (record { keeps = sink_none _; spared = λ fine. tt }))
 
 pub returns-in-Err : goal.returns-in-Err
 returns-in-Err g c =
     sums.Plain (asks_none _ _ _ _ _ (local_view c.args.asked.now) (faults.Data c.in-Err.fault) c.requires.none
-    (subst (λ (config : Config). DataCause (g.F.Shelf.state c.args.shelf.now) (g.F.Shelf.state c.server_of_file.new.shelf) c.args.asked.now.name.now c.args.asked.now.choice.now (authority_of config.base) c.in-Err.fault) c.in-Ok-local_config.ensures c.in-Err.ensures.err, refl, c.requires.none)
+    (subst (λ (config : Config). DataCause (g.F.Shelf.state c.args.shelf.now) (g.F.Shelf.state c.server_of_file.new.shelf) c.args.asked.now.name.now c.args.asked.now.choice.now (authority_of config.base) c.in-Err.fault) (is_config _ _ c.args.asked.now.options _ c.in-Ok-config_of.ensures c.in_blocks.ensures) c.in-Err.ensures.err, refl, c.requires.none)
     (λ triples config q. tt) (λ small. tt) tt
     (reads_one _ _ _ _ c.in-Err.fault _ (λ e. cc) (λ e. cc) c.in-Err.ensures.reads)
     (record { keeps = sink_none _; spared = λ fine. tt }))
@@ -37,10 +40,11 @@ pub returns-in-Err-read_query : goal.returns-in-Err-read_query
 returns-in-Err-read_query g c =
     let first = c.in-Ok-server_of_file.ensures.reads in
     sums.Plain (asks_none _ _ _ _ _ (local_view c.args.asked.now) (faults.Query c.in-Err-read_query.fault) c.requires.none (
-      query_from (g.F.Shelf.state c.args.shelf.now) (g.F.Shelf.state c.server_of_file.new.shelf) (g.F.Shelf.state c.read_query.new.shelf) (reads_keep _ _ _ _ first) c.args.asked.now.query.now c.in-Err-read_query.fault c.in-Err-read_query.ensures.err,
+      query_from (grammar_of c.args.asked.now.options) (g.F.Shelf.state c.args.shelf.now) (g.F.Shelf.state c.server_of_file.new.shelf) (g.F.Shelf.state c.read_query.new.shelf) (reads_keep _ _ _ _ first) c.args.asked.now.query.now c.in-Err-read_query.fault
+          (subst (λ (grammar : Grammar). QueryCause grammar (g.F.Shelf.state c.server_of_file.new.shelf) (g.F.Shelf.state c.read_query.new.shelf) c.args.asked.now.query.now c.in-Err-read_query.fault) c.grammar_of.ensures c.in-Err-read_query.ensures.err),
       (
         (serving c.in-Ok-server_of_file.server).data_set,
-        (subst (λ (config : Config). Starts (g.F.Shelf.state c.args.shelf.now).told c.args.asked.now.name.now c.args.asked.now.choice.now config (serving c.in-Ok-server_of_file.server)) c.in-Ok-local_config.ensures c.in-Ok-server_of_file.ensures.starts).data_set,
+        (subst (λ (config : Config). Starts (g.F.Shelf.state c.args.shelf.now).told c.args.asked.now.name.now c.args.asked.now.choice.now config (serving c.in-Ok-server_of_file.server)) (is_config _ _ c.args.asked.now.options _ c.in-Ok-config_of.ensures c.in_blocks.ensures) c.in-Ok-server_of_file.ensures.starts).data_set,
       ),
       refl,
       c.requires.none,
@@ -56,11 +60,11 @@ returns-in-Ok-ask_server g c =
     let second = c.in-Ok-read_query.ensures.reads in
     let told = first.asks.told in
     let server = c.in-Ok-server_of_file.server in
-    let starts = subst (λ (config : Config). Starts (g.F.Shelf.state c.args.shelf.now).told view.name view.choice config (serving server)) c.in-Ok-local_config.ensures c.in-Ok-server_of_file.ensures.starts in
+    let starts = subst (λ (config : Config). Starts (g.F.Shelf.state c.args.shelf.now).told view.name view.choice config (serving server)) (is_config _ _ c.args.asked.now.options _ c.in-Ok-config_of.ensures c.in_blocks.ensures) c.in-Ok-server_of_file.ensures.starts in
     let out = (g.K.Sink.state c.args.out.now) in
     let out' = (g.K.Sink.state c.ask_server.new.out) in
     let q = c.in-Plain.query in
-    let read = plain_file _ view.query c.in-Ok-read_query.query q c.in-Plain.is c.in-Ok-read_query.ensures.ok in
+    let read = plain_file _ _ view.query c.in-Ok-read_query.query q c.in-Plain.is c.in-Ok-read_query.ensures.ok in
     let e = c.ask_server.ensures in
     sums.Plain (asks_file _ _ out out' _ view (Ok c.in-Ok-ask_server.report)
     (local_answers _ _ told view server starts _ out out' q read c.in-Ok-ask_server.report c.in-Ok-ask_server.ensures.answers c.in-Ok-ask_server.ensures.answer)
@@ -81,11 +85,11 @@ returns-in-Plain g c =
     let second = c.in-Ok-read_query.ensures.reads in
     let told = first.asks.told in
     let server = c.in-Ok-server_of_file.server in
-    let starts = subst (λ (config : Config). Starts (g.F.Shelf.state c.args.shelf.now).told view.name view.choice config (serving server)) c.in-Ok-local_config.ensures c.in-Ok-server_of_file.ensures.starts in
+    let starts = subst (λ (config : Config). Starts (g.F.Shelf.state c.args.shelf.now).told view.name view.choice config (serving server)) (is_config _ _ c.args.asked.now.options _ c.in-Ok-config_of.ensures c.in_blocks.ensures) c.in-Ok-server_of_file.ensures.starts in
     let out = (g.K.Sink.state c.args.out.now) in
     let out' = (g.K.Sink.state c.ask_server.new.out) in
     let q = c.in-Plain.query in
-    let read = plain_file _ view.query c.in-Ok-read_query.query q c.in-Plain.is c.in-Ok-read_query.ensures.ok in
+    let read = plain_file _ _ view.query c.in-Ok-read_query.query q c.in-Plain.is c.in-Ok-read_query.ensures.ok in
     let fault = c.in-Err-ask_server.fault in
     let e = c.in-Err-ask_server.ensures in
     sums.Plain (asks_file _ _ out out' _ view (Err (faults.Client fault)) tt
@@ -105,9 +109,9 @@ returns-in-Ok-ask_groups g c =
     let first = c.in-Ok-server_of_file.ensures.reads in
     let second = c.in-Ok-read_query.ensures.reads in
     let server = c.in-Ok-server_of_file.server in
-    let starts = subst (λ (config : Config). Starts (g.F.Shelf.state c.args.shelf.now).told view.name view.choice config (serving server)) c.in-Ok-local_config.ensures c.in-Ok-server_of_file.ensures.starts in
+    let starts = subst (λ (config : Config). Starts (g.F.Shelf.state c.args.shelf.now).told view.name view.choice config (serving server)) (is_config _ _ c.args.asked.now.options _ c.in-Ok-config_of.ensures c.in_blocks.ensures) c.in-Ok-server_of_file.ensures.starts in
     let q = c.in-Groups.query in
-    let read = group_file _ _ first.asks.told view.query c.in-Ok-read_query.query q c.in-Groups.is c.in-Ok-read_query.ensures.ok in
+    let read = subst (λ (grammar : Grammar). IsOfGroupFile grammar (g.F.Shelf.state c.args.shelf.now).told view.query q) c.grammar_of.ensures (group_file _ _ _ first.asks.told view.query c.in-Ok-read_query.query q c.in-Groups.is c.in-Ok-read_query.ensures.ok) in
     sums.Groups q (file_ok _ _ view server starts _ _ _ q read c.commands_keep_limits.ensures.files c.commands_keep_limits.ensures.groups c.in-Ok-ask_groups.report c.in-Ok-ask_groups.ensures
     (reads_both _ _ _ _ _ _ first (λ e. cc) (Ok c.in-Ok-ask_groups.report) (asked_two _ _ _ _ _ _ first (λ e. cc) second.asks) (opens_two _ _ _ first.asks.opened second.asks.opened) (λ e. absurd e) _ (λ e. cc) second))
 
@@ -117,15 +121,15 @@ returns g c =
     let first = c.in-Ok-server_of_file.ensures.reads in
     let second = c.in-Ok-read_query.ensures.reads in
     let server = c.in-Ok-server_of_file.server in
-    let starts = subst (λ (config : Config). Starts (g.F.Shelf.state c.args.shelf.now).told view.name view.choice config (serving server)) c.in-Ok-local_config.ensures c.in-Ok-server_of_file.ensures.starts in
+    let starts = subst (λ (config : Config). Starts (g.F.Shelf.state c.args.shelf.now).told view.name view.choice config (serving server)) (is_config _ _ c.args.asked.now.options _ c.in-Ok-config_of.ensures c.in_blocks.ensures) c.in-Ok-server_of_file.ensures.starts in
     let q = c.in-Groups.query in
-    let read = group_file _ _ first.asks.told view.query c.in-Ok-read_query.query q c.in-Groups.is c.in-Ok-read_query.ensures.ok in
+    let read = subst (λ (grammar : Grammar). IsOfGroupFile grammar (g.F.Shelf.state c.args.shelf.now).told view.query q) c.grammar_of.ensures (group_file _ _ _ first.asks.told view.query c.in-Ok-read_query.query q c.in-Groups.is c.in-Ok-read_query.ensures.ok) in
     let fault = c.in-Err-ask_groups.fault in
     sums.Groups q (file_err _ _ view server starts _ _ _ q read c.commands_keep_limits.ensures.files c.commands_keep_limits.ensures.groups fault c.in-Err-ask_groups.ensures
     (reads_both _ _ _ _ _ _ first (λ e. cc) (Err (faults.Client fault)) (asked_two _ _ _ _ _ _ first (λ e. cc) second.asks) (opens_two _ _ _ first.asks.opened second.asks.opened) (λ e. absurd e) _ (λ e. cc) second))
 
 pub ask_server-requires-clause-base : goal.ask_server-requires-clause-base
-ask_server-requires-clause-base g c = ap (λ (s : Config). s.base) (subst (λ (config : Config). Starts (g.F.Shelf.state c.args.shelf.now).told c.args.asked.now.name.now c.args.asked.now.choice.now config (serving c.in-Ok-server_of_file.server)) c.in-Ok-local_config.ensures c.in-Ok-server_of_file.ensures.starts).config_is
+ask_server-requires-clause-base g c = ap (λ (s : Config). s.base) (subst (λ (config : Config). Starts (g.F.Shelf.state c.args.shelf.now).told c.args.asked.now.name.now c.args.asked.now.choice.now config (serving c.in-Ok-server_of_file.server)) (is_config _ _ c.args.asked.now.options _ c.in-Ok-config_of.ensures c.in_blocks.ensures) c.in-Ok-server_of_file.ensures.starts).config_is
 
 pub ask_groups-requires-clause-base : goal.ask_groups-requires-clause-base
-ask_groups-requires-clause-base g c = ap (λ (s : Config). s.base) (subst (λ (config : Config). Starts (g.F.Shelf.state c.args.shelf.now).told c.args.asked.now.name.now c.args.asked.now.choice.now config (serving c.in-Ok-server_of_file.server)) c.in-Ok-local_config.ensures c.in-Ok-server_of_file.ensures.starts).config_is
+ask_groups-requires-clause-base g c = ap (λ (s : Config). s.base) (subst (λ (config : Config). Starts (g.F.Shelf.state c.args.shelf.now).told c.args.asked.now.name.now c.args.asked.now.choice.now config (serving c.in-Ok-server_of_file.server)) (is_config _ _ c.args.asked.now.options _ c.in-Ok-config_of.ensures c.in_blocks.ensures) c.in-Ok-server_of_file.ensures.starts).config_is

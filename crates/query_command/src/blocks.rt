@@ -1,0 +1,34 @@
+// How many rows the requests of a query may carry.
+ghost use Rattle.std.specs.Prelude.{◌≡◌, ◌≤◌};
+ghost use Rattle.rdf_terms.specs.declared.limits.TheConstants.{MOST_ROWS};
+ghost use Rattle.query_command.specs.Blocks.{in_blocks, grammar_of};
+
+use data_files::Grammar;
+use tpf_client::Options;
+
+/// A request carries one row at least, and no more than an address may have. The call does nothing; it tells a proof of it.
+pub(crate) fn is_sized(options: &Options)
+    ensures low { 1 ≤ options.now.block }
+    ensures high { options.now.block ≤ MOST_ROWS }
+{
+    options.block.get();
+}
+
+/// Whether a request may carry more rows than one.
+pub(crate) fn in_blocks(options: &Options) -> bool
+    ensures { result ≡ in_blocks options.now }
+{
+    options.block.get() > 1
+}
+
+/// What the text of the query may hold: one basic graph pattern where a request may carry more rows than one,
+/// and else groups too.
+pub(crate) fn grammar_of(options: &Options) -> Grammar
+    ensures { result ≡ grammar_of options.now }
+{
+    if in_blocks(options) {
+        Grammar::Patterns
+    } else {
+        Grammar::Groups
+    }
+}
