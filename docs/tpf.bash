@@ -8,14 +8,14 @@ _tpf() {
     fi
     case "$before" in
         --run) mapfile -t COMPREPLY < <(compgen -f -- "$word"); return ;;
-        --base|--budget|--fail-every|--graph|--links|--max-body|--page|--reload|--retries|--seed|--stop-after|--window) return ;;
+        --base|--block|--budget|--fail-every|--graph|--links|--max-body|--page|--reload|--retries|--seed|--stop-after|--window) return ;;
     esac
     case "${COMP_WORDS[1]}" in
         federate) options="--links --window --retries --budget --max-body" ;;
-        local) options="--graph --union --page --links --window --retries --budget --max-body --seed --fail-every" ;;
+        local) options="--graph --union --page --links --window --block --retries --budget --max-body --seed --fail-every" ;;
         make) options="--run" ;;
-        query) options="--links --window --retries --budget --max-body" ;;
-        serve) options="--base --graph --union --page --stop-after --reload" ;;
+        query) options="--links --window --block --retries --budget --max-body" ;;
+        serve) options="--base --graph --union --page --stop-after --reload --rows" ;;
         install) mapfile -t COMPREPLY < <(compgen -d -- "$word"); return ;;
         *) return ;;
     esac
