@@ -1,6 +1,7 @@
 // The cases. Each prints what was seen: the stored output of this program says what is to be seen.
 
 use crate::answers::show;
+use crate::blocks::in_blocks;
 use crate::edge::{addresses, large_page, reload_of_no_file, three_connections};
 use crate::files::found_and_dropped;
 use crate::programs::{Server, serve, start};
@@ -83,6 +84,17 @@ pub fn ended_of<R: AllocGlobal, P: OpenProcess + Drop>(
         let _ = child.kill();
     }
     child.wait_with_output(rt.alloc())
+}
+
+/// Ends a server, however many connections it had.
+pub fn stop<R: AllocGlobal, P: OpenProcess + Drop>(
+    rt: &R,
+    server: Server<P>,
+    so_far: io::Result<()>,
+) -> io::Result<()> {
+    let Server { child, .. } = server;
+    let _ = ended_of(rt, child, true)?;
+    so_far
 }
 
 /// Waits for the end of a server and prints how it ended. Where something went wrong before, the server
@@ -217,7 +229,8 @@ fn run_plain<R: Processes + Files + Net + Print + AllocGlobal>(rt: &R) -> io::Re
     query(rt)?;
     reload_between_queries(rt)?;
     reload_between_pages(rt)?;
-    two_servers(rt)
+    two_servers(rt)?;
+    in_blocks(rt)
 }
 
 /// The cases at the edge of what the system gives.

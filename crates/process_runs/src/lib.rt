@@ -11,6 +11,7 @@
 #![tactic(auto)]
 
 mod answers;
+mod blocks;
 mod cases;
 mod edge;
 mod files;

@@ -1,24 +1,13 @@
 // One query over two servers.
 
 use crate::answers::show;
-use crate::cases::{ended_of, tell};
+use crate::cases::{stop, tell};
 use crate::edge::{nobody, run_to_end};
-use crate::programs::{Server, serve, start};
+use crate::programs::{serve, start};
 use std::io;
 use std::net::Net;
-use std::process::{OpenProcess, Processes};
+use std::process::Processes;
 use std::rt::Files;
-
-/// Ends a server, however many connections it had.
-fn stop<R: AllocGlobal, P: OpenProcess + Drop>(
-    rt: &R,
-    server: Server<P>,
-    so_far: io::Result<()>,
-) -> io::Result<()> {
-    let Server { child, .. } = server;
-    let _ = ended_of(rt, child, true)?;
-    so_far
-}
 
 /// Asks two servers who knows whom by which name, and prints the answer.
 fn ask_both<R: Processes + Files + Print + AllocGlobal>(
