@@ -12,7 +12,7 @@ use std::sync::Wait;
 use tpf_base::{Accept, Dial, Shelf};
 use tpf_cli::{Inside, run};
 
-/// The program, which may wait.
+/// The program over this runtime, which may wait. It answers the rows.
 #[derive(Drop)]
 pub struct Program<'a, R: Wait> {
     pub rt: &'a R,
