@@ -60,12 +60,20 @@ fn read_next<'a>(
     requires place { line_end 0 bytes.now ≡ Some n }
     requires within { n < length bytes.now }
     requires inside { list_all is_inside kept.old.items ≡ true }
-    ensures ok { IfOk result (λ p. (more : List ℕ) → reading longest quads.old.items number.old false (kept.old.items ++ (bytes.now ++ more)) ≡ reading longest quads.new.items number.new p.0 (p.1.now ++ more)) }
-    ensures ended { IfOk result (λ p. ReadsEnded longest quads.old.items number.old (kept.old.items ++ bytes.now) quads.new.items number.new p.0 p.1.now) }
+    ensures ok { IfOk result
+        (λ p. (more : List ℕ) →
+        reading longest quads.old.items number.old false (kept.old.items ++ (bytes.now ++ more)) ≡
+        reading longest quads.new.items number.new p.0 (p.1.now ++ more)) }
+    ensures ended { IfOk result
+        (λ p. ReadsEnded longest quads.old.items number.old
+        (kept.old.items ++ bytes.now) quads.new.items number.new p.0 p.1.now) }
     ensures kept { OnOk result (kept.new.items ≡ []) }
     ensures cr { IfOk result (λ p. p.0 ≡ true → p.1.now ≡ []) }
     ensures shorter { IfOk result (λ p. length p.1.now < length bytes.now) }
-    ensures refused { RefusedFor (λ m why. (more : List ℕ) → reading longest quads.old.items number.old false (kept.old.items ++ (bytes.now ++ more)) ≡ Err (m, why)) result }
+    ensures refused { RefusedFor
+        (λ m why. (more : List ℕ) →
+        reading longest quads.old.items number.old false (kept.old.items ++ (bytes.now ++ more)) ≡
+        Err (m, why)) result }
 {
     let at = *number;
     let (front, end) = bytes.split_at(n);
@@ -90,11 +98,19 @@ fn read_ended(
 ) -> Result<bool, TextFault>
     requires inside { list_all is_inside kept.old.items ≡ true }
     requires number { number.old < 2 ^ 64 }
-    ensures ok { IfOk result (λ cr. (more : List ℕ) → reading longest quads.old.items number.old false (kept.old.items ++ (bytes.now ++ more)) ≡ reading longest quads.new.items number.new cr (kept.new.items ++ more)) }
-    ensures ended { IfOk result (λ cr. ReadsEnded longest quads.old.items number.old (kept.old.items ++ bytes.now) quads.new.items number.new cr kept.new.items) }
+    ensures ok { IfOk result
+        (λ cr. (more : List ℕ) →
+        reading longest quads.old.items number.old false (kept.old.items ++ (bytes.now ++ more)) ≡
+        reading longest quads.new.items number.new cr (kept.new.items ++ more)) }
+    ensures ended { IfOk result
+        (λ cr. ReadsEnded longest quads.old.items number.old
+        (kept.old.items ++ bytes.now) quads.new.items number.new cr kept.new.items) }
     ensures inside { OnOk result (list_all is_inside kept.new.items ≡ true) }
     ensures cr { IfOk result (λ cr. cr ≡ true → kept.new.items ≡ []) }
-    ensures refused { RefusedFor (λ m why. (more : List ℕ) → reading longest quads.old.items number.old false (kept.old.items ++ (bytes.now ++ more)) ≡ Err (m, why)) result }
+    ensures refused { RefusedFor
+        (λ m why. (more : List ℕ) →
+        reading longest quads.old.items number.old false (kept.old.items ++ (bytes.now ++ more)) ≡
+        Err (m, why)) result }
 {
     let mut cr = false;
     let mut rest = bytes;
@@ -116,7 +132,8 @@ fn read_last(
     kept: &[u8],
 ) -> Result<Vec<Quad>, TextFault>
     requires { list_all is_inside kept.now ≡ true }
-    ensures { (cr : Bool) → (cr ≡ true → kept.now ≡ []) → Gives (λ v. v.items) result (reading longest quads.items number cr kept.now) }
+    ensures { (cr : Bool) → (cr ≡ true → kept.now ≡ []) →
+        Gives (λ v. v.items) result (reading longest quads.items number cr kept.now) }
 {
     if kept.is_empty() {
         return Ok(quads);
@@ -182,8 +199,10 @@ impl QuadFeed {
     /// Takes a piece where nothing was refused.
     fn take(&mut self, piece: &[u8]) -> Result<(), TextFault>
         requires { self.old.fault ≡ None }
-        ensures same { OnOk result ((more : List ℕ) → fed_reading self.old (piece.now ++ more) ≡ fed_reading self.new more) }
-        ensures refused { RefusedFor (λ n why. (more : List ℕ) → fed_reading self.old (piece.now ++ more) ≡ Err (n, why)) result }
+        ensures same { OnOk result
+            ((more : List ℕ) → fed_reading self.old (piece.now ++ more) ≡ fed_reading self.new more) }
+        ensures refused { RefusedFor
+            (λ n why. (more : List ℕ) → fed_reading self.old (piece.now ++ more) ≡ Err (n, why)) result }
         ensures not_refused { self.new.fault ≡ None }
         ensures unfinished { IsUnfinished self.new }
         ensures ended { OnOk result (TakesLines self.old piece.now self.new) }
@@ -227,7 +246,8 @@ impl QuadFeed {
         // Each line that has ended is read, and only what follows the last line end is kept.
         ensures ended { OnOk result (TakesLines self.old piece.now self.new) }
         // The piece is refused.
-        ensures refused { self.old.fault ≡ None → RefusedFor (λ n why. (more : List ℕ) → FaultWith self.old (piece.now ++ more) n why) result }
+        ensures refused { self.old.fault ≡ None →
+            RefusedFor (λ n why. (more : List ℕ) → FaultWith self.old (piece.now ++ more) n why) result }
         ensures remembered { IfErr result (λ e. self.new.fault ≡ Some e) }
     {
         if let Some(fault) = self.fault {
@@ -248,8 +268,10 @@ impl QuadFeed {
         ensures again { IfSome self.fault (λ e. result ≡ Err e) }
         ensures read { self.fault ≡ None → IfOk result (λ v. ReadsWith self [] v.items) }
         ensures refused { self.fault ≡ None → RefusedFor (FaultWith self []) result }
-        ensures only_read { self.fault ≡ None → (quads : List Quad) → ReadsWith self [] quads → IsOkOrMemory (λ v. v.items ≡ quads) result }
-        ensures only_refused { self.fault ≡ None → (line : ℕ) (why : Why) → FaultWith self [] line why → IsBadOrMemory line why result }
+        ensures only_read { self.fault ≡ None → (quads : List Quad) → ReadsWith self [] quads →
+            IsOkOrMemory (λ v. v.items ≡ quads) result }
+        ensures only_refused { self.fault ≡ None → (line : ℕ) (why : Why) → FaultWith self [] line why →
+            IsBadOrMemory line why result }
     {
         if let Some(fault) = self.fault {
             return Err(fault);

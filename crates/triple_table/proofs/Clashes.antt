@@ -8,16 +8,13 @@ use Rattle.std.specs.Ordering.{ordering_reverse}
 use Rattle.std.proofs.lemmas.Cmp.{nat_list_cmp_total, tied_itself}
 use Rattle.std.proofs.lemmas.List.{get_or_default}
 use Rattle.std.proofs.lemmas.List.Elements.{Contains-get_or}
-use Rattle.list_laws.proofs.Ascending.{less_not_equal, pair_less}
+use Rattle.list_laws.proofs.Ascending.{less_not_equal, less_not_greater, pair_less}
 use Rattle.rdf_terms.specs.Order.{bytes_order}
 use Rattle.rdf_terms.specs.declared.term.Term.TheVariants.{Iri, Blank}
 use Rattle.rdf_terms.specs.declared.term.Triple.{Triple}
 use Rattle.triple_table.specs.Genid.{genid}
 use Rattle.triple_table.specs.Labels.{IsFirstClash}
 use Rattle.triple_table.specs.Served.{terms_of, Clashes, IsLeastClash}
-
-less_not_greater : Less ≡ Greater → ⊥
-less_not_greater e = cc
 
 default : {X : Type 0} (xs : List X) (k : ℕ) (d e : X) → k < length xs → get_or xs k e ≡ e → get_or xs k d ≡ e
 default xs k d e l h = get_or_default xs k d e l ∙ h

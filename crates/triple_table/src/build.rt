@@ -52,11 +52,14 @@ fn ranked_triples(
     most: u32,
 ) -> Result<(TermList, Vec<IdTriple>), BuildFault>
     requires { IsAuthority authority.now }
-    ensures ranking { IfOk result (λ r. IsRanking (map (skolem_triple authority.now) (chosen choice.now quads.now)) r.0) }
+    ensures ranking { IfOk result
+        (λ r. IsRanking (map (skolem_triple authority.now) (chosen choice.now quads.now)) r.0) }
     ensures few { IfOk result (λ r. length r.0 ≤ most) }
     ensures ids { IfOk result (λ r. All (IsIdTriple r.0) r.1.items) }
-    ensures triples { IfOk result (λ r. map (triple_at r.0) r.1.items ≡ map (skolem_triple authority.now) (chosen choice.now quads.now)) }
-    ensures too_many { IsErrOf result BuildFault.TooMany → HasMoreTerms most (map (skolem_triple authority.now) (chosen choice.now quads.now)) }
+    ensures triples { IfOk result
+        (λ r. map (triple_at r.0) r.1.items ≡ map (skolem_triple authority.now) (chosen choice.now quads.now)) }
+    ensures too_many { IsErrOf result BuildFault.TooMany →
+        HasMoreTerms most (map (skolem_triple authority.now) (chosen choice.now quads.now)) }
     ensures never { (label : List ℕ) → ¬ (IsErrOf result (BuildFault.GenidClash label)) }
 {
     let gathered = gather(alloc, quads, choice)?;
@@ -74,8 +77,10 @@ fn ranked_triples(
 /// The triples by ids, each once, in their order.
 fn distinct_ids(triples: Vec<IdTriple>) -> Vec<IdTriple>
     ensures ids { (terms : List Term) → All (IsIdTriple terms) triples.items → All (IsIdTriple terms) result.items }
-    ensures ascending { (terms : List Term) → length terms < 2 ^ 32 → IsStrictlySortedBy term_order terms → All (IsIdTriple terms) triples.items → IsStrictlySortedBy triple_order (map (triple_at terms) result.items) }
-    ensures members { (terms : List Term) → SameMembers (map (triple_at terms) result.items) (map (triple_at terms) triples.items) }
+    ensures ascending { (terms : List Term) → length terms < 2 ^ 32 → IsStrictlySortedBy term_order terms →
+        All (IsIdTriple terms) triples.items → IsStrictlySortedBy triple_order (map (triple_at terms) result.items) }
+    ensures members { (terms : List Term) →
+        SameMembers (map (triple_at terms) result.items) (map (triple_at terms) triples.items) }
 {
     let mut ids = triples;
     ids.sort_unstable_by_key(|triple| key(Order::Spo.row(*triple)));
@@ -166,13 +171,17 @@ impl Table {
     ) -> Result<Table, BuildFault>
         requires authority { IsAuthority authority.now }
         requires classes { All IsRdfQuad quads.now }
-        ensures served { IfOk result (λ table. IsServed authority.now (chosen choice.now quads.now) (triples_in table)) }
+        ensures served { IfOk result
+            (λ table. IsServed authority.now (chosen choice.now quads.now) (triples_in table)) }
         ensures ranking { IfOk result (λ table. IsRanking (triples_in table) (held_terms table)) }
         ensures few_triples { IfOk result (λ table. length (triples_in table) ≤ most) }
         ensures few_terms { IfOk result (λ table. length (held_terms table) ≤ most) }
-        ensures clash_free { OnOk result ((label : List ℕ) → ¬ (Clashes authority.now (chosen choice.now quads.now) label)) }
-        ensures clash { (label : List ℕ) → IsErrOf result (BuildFault.GenidClash label) → IsLeastClash authority.now (chosen choice.now quads.now) label }
-        ensures too_many { IsErrOf result BuildFault.TooMany → PassesMost most authority.now (chosen choice.now quads.now) }
+        ensures clash_free { OnOk result
+            ((label : List ℕ) → ¬ (Clashes authority.now (chosen choice.now quads.now) label)) }
+        ensures clash { (label : List ℕ) → IsErrOf result (BuildFault.GenidClash label) →
+            IsLeastClash authority.now (chosen choice.now quads.now) label }
+        ensures too_many { IsErrOf result BuildFault.TooMany →
+            PassesMost most authority.now (chosen choice.now quads.now) }
     {
         refuse_clash(alloc, quads, choice, authority)?;
         let (terms, triples) = ranked_triples(alloc, quads, choice, authority, most)?;

@@ -51,7 +51,9 @@ fn push_served(
     authority: &str,
 ) -> Result<(), OutOfMemory>
     requires { IsAuthority authority.now }
-    ensures { OnOk result (triples.new.items ≡ triples.old.items ++ map (skolem_triple authority.now) (chosen choice.now (quad.now ∷ []))) }
+    ensures { OnOk result
+        (triples.new.items ≡ triples.old.items ++ map (skolem_triple authority.now)
+        (chosen choice.now (quad.now ∷ []))) }
 {
     if choice.takes(&quad.graph) {
         triples.push(skolem_triple(alloc, authority, &quad.triple)?)?;
@@ -85,9 +87,11 @@ fn refuse_first(
     authority: &str,
 ) -> Result<(), BuildFault>
     requires ascending { IsStrictlySortedBy bytes_order (texts labels.now) }
-    requires members { (label : List ℕ) → Contains (texts labels.now) label ↔ Contains (terms_of (chosen choice.now quads.now)) (terms.Blank label) }
+    requires members { (label : List ℕ) →
+        Contains (texts labels.now) label ↔ Contains (terms_of (chosen choice.now quads.now)) (terms.Blank label) }
     ensures free { OnOk result ((label : List ℕ) → ¬ (Clashes authority.now (chosen choice.now quads.now) label)) }
-    ensures clash { (label : List ℕ) → IsErrOf result (BuildFault.GenidClash label) → IsLeastClash authority.now (chosen choice.now quads.now) label }
+    ensures clash { (label : List ℕ) → IsErrOf result (BuildFault.GenidClash label) →
+        IsLeastClash authority.now (chosen choice.now quads.now) label }
     ensures never { ¬ (IsErrOf result BuildFault.TooMany) }
 {
     let first = first_clash(labels, quads, choice, authority);
@@ -105,7 +109,8 @@ pub(crate) fn refuse_clash(
     authority: &str,
 ) -> Result<(), BuildFault>
     ensures free { OnOk result ((label : List ℕ) → ¬ (Clashes authority.now (chosen choice.now quads.now) label)) }
-    ensures clash { (label : List ℕ) → IsErrOf result (BuildFault.GenidClash label) → IsLeastClash authority.now (chosen choice.now quads.now) label }
+    ensures clash { (label : List ℕ) → IsErrOf result (BuildFault.GenidClash label) →
+        IsLeastClash authority.now (chosen choice.now quads.now) label }
     ensures never { ¬ (IsErrOf result BuildFault.TooMany) }
 {
     let labels = sorted_labels(alloc, quads, choice)?;
@@ -130,7 +135,8 @@ pub fn served(
     requires classes { All IsRdfQuad quads.now }
     ensures served { IfOk result (λ v. IsServed authority.now (chosen choice.now quads.now) v.items) }
     ensures free { OnOk result ((label : List ℕ) → ¬ (Clashes authority.now (chosen choice.now quads.now) label)) }
-    ensures clash { (label : List ℕ) → IsErrOf result (BuildFault.GenidClash label) → IsLeastClash authority.now (chosen choice.now quads.now) label }
+    ensures clash { (label : List ℕ) → IsErrOf result (BuildFault.GenidClash label) →
+        IsLeastClash authority.now (chosen choice.now quads.now) label }
     ensures never_too_many { ¬ (IsErrOf result BuildFault.TooMany) }
 {
     refuse_clash(alloc, quads, choice, authority)?;
@@ -143,7 +149,8 @@ pub fn served(
 /// The served data are one list: what `served` and `Table::build` give is fixed by the authority and the
 /// chosen triples.
 pub fn served_is_one()
-    ensures { (authority : List ℕ) (triples xs ys : List Triple) → IsServed authority triples xs → IsServed authority triples ys → xs ≡ ys }
+    ensures { (authority : List ℕ) (triples xs ys : List Triple) → IsServed authority triples xs →
+        IsServed authority triples ys → xs ≡ ys }
 {}
 
 /// Where each term of the quads has a canonical text of at most so many bytes, and each label at most 1024 bytes, then

@@ -62,14 +62,16 @@ pub(crate) fn skolem_triple(
 
 /// What follows this prefix in a text that begins with it.
 fn after<'a>(text: &'a str, front: &str) -> Option<&'a str>
-    ensures { MatchOption result ((rest : List ℕ) → text.now ≢ front.now ++ rest) (λ rest. text.now ≡ front.now ++ rest.now) }
+    ensures { MatchOption result ((rest : List ℕ) → text.now ≢ front.now ++ rest)
+        (λ rest. text.now ≡ front.now ++ rest.now) }
 {
     text.strip_prefix(front)
 }
 
 /// The label that an IRI stands for, if it is one of the authority's genid IRIs.
 pub(crate) fn label_part<'a>(iri: &'a str, authority: &str) -> Option<&'a str>
-    ensures { MatchOption result ((label : List ℕ) → iri.now ≢ genid authority.now label) (λ label. iri.now ≡ genid authority.now label.now) }
+    ensures { MatchOption result ((label : List ℕ) → iri.now ≢ genid authority.now label)
+        (λ label. iri.now ≡ genid authority.now label.now) }
 {
     let rest = after(iri, SCHEME)?;
     let label = after(rest, authority)?;

@@ -15,7 +15,8 @@ use std::alloc::Global;
 use tpf_base::OutOfMemory;
 
 fn push_label<'a>(labels: &mut Vec<&'a str>, term: &'a Term) -> Result<(), OutOfMemory>
-    ensures { OnOk result (texts labels.new.items ≡ texts labels.old.items ++ filter_map label_of (term.entry.now ∷ [])) }
+    ensures { OnOk result
+        (texts labels.new.items ≡ texts labels.old.items ++ filter_map label_of (term.entry.now ∷ [])) }
 {
     if let Term::Blank(label) = term {
         labels.push(label.as_str())?;
@@ -24,7 +25,8 @@ fn push_label<'a>(labels: &mut Vec<&'a str>, term: &'a Term) -> Result<(), OutOf
 }
 
 fn push_labels<'a>(labels: &mut Vec<&'a str>, triple: &'a Triple) -> Result<(), OutOfMemory>
-    ensures { OnOk result (texts labels.new.items ≡ texts labels.old.items ++ filter_map label_of (terms_in triple.entry.now)) }
+    ensures { OnOk result
+        (texts labels.new.items ≡ texts labels.old.items ++ filter_map label_of (terms_in triple.entry.now)) }
 {
     push_label(labels, &triple.subject)?;
     push_label(labels, &triple.predicate)?;
@@ -36,7 +38,9 @@ fn push_chosen<'a>(
     quad: &'a Quad,
     choice: &Choice,
 ) -> Result<(), OutOfMemory>
-    ensures { OnOk result (texts labels.new.items ≡ texts labels.old.items ++ filter_map label_of (terms_of (chosen choice.now (quad.entry.now ∷ [])))) }
+    ensures { OnOk result
+        (texts labels.new.items ≡ texts labels.old.items ++ filter_map label_of
+        (terms_of (chosen choice.now (quad.entry.now ∷ [])))) }
 {
     if choice.takes(&quad.graph) {
         push_labels(labels, &quad.triple)?;
@@ -65,7 +69,9 @@ pub(crate) fn sorted_labels<'a>(
     choice: &Choice,
 ) -> Result<Vec<&'a str>, OutOfMemory>
     ensures ascending { IfOk result (λ v. IsStrictlySortedBy bytes_order (texts v.items)) }
-    ensures members { IfOk result (λ v. (label : List ℕ) → Contains (texts v.items) label ↔ Contains (terms_of (chosen choice.now quads.entry.now)) (terms.Blank label)) }
+    ensures members { IfOk result
+        (λ v. (label : List ℕ) →
+        Contains (texts v.items) label ↔ Contains (terms_of (chosen choice.now quads.entry.now)) (terms.Blank label)) }
 {
     let mut labels = all_labels(alloc, quads, choice)?;
     labels.sort_unstable();

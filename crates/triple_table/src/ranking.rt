@@ -8,23 +8,19 @@ ghost use Rattle.triple_table.specs.Stored.{term_at};
 
 use crate::gather::Places;
 use crate::ids::IdTriple;
-use crate::recent::mark_of;
+use crate::recent::{low_half, mark_of};
 use rdf_terms::Term;
 use std::alloc::Global;
 use std::cmp::Ordering;
 use tpf_base::OutOfMemory;
 
-/// How many bytes of a name are compared before whole terms are.
-const HEAD: usize = 16;
-
 /// A term, its place in a list, and a guess at where it comes in the order of terms: IRIs by the text
-/// up to their last slash or number sign, and then all by the first bytes behind it.
+/// up to their last slash or number sign, which makes a group, and then all by the first bytes behind it.
 #[derive(Clone, Copy)]
 pub struct Entry<'a> {
     pub term: &'a Term,
     pub place: usize,
-    pub group: u64,
-    pub head: u128,
+    pub guess: u128,
 }
 
 /// Terms in their order, each once, and for each place of a list the rank of its term among them.
@@ -47,47 +43,50 @@ fn name_start(iri: &[u8]) -> usize
     0
 }
 
-/// The first bytes of a text, and its closing mark, as a number that is ordered as they are.
-fn head_of(text: &[u8], end: u8) -> u128 {
-    let mut head = [0; HEAD];
-    for at in 0..HEAD {
-        if at < text.len() {
-            head[at] = text[at];
-        } else if at == text.len() {
-            head[at] = end;
+/// The number of a group, and behind it the first twelve bytes of a text and its closing mark, as one number that
+/// is ordered as they are.
+fn guess_of(group: u32, text: &[u8], end: u8) -> u128 {
+    let [a, b, c, d] = group.to_be_bytes();
+    let mut guess = [a, b, c, d, 0, 0, 0, 0, 0, 0, 0, 0, 0, 0, 0, 0];
+    for at in 4..16 {
+        let from = at - 4;
+        if from < text.len() {
+            guess[at] = text[from];
+        } else if from == text.len() {
+            guess[at] = end;
         }
     }
-    u128::from_be_bytes(head)
+    u128::from_be_bytes(guess)
+}
+
+/// The guess of a term. The groups of IRIs come first, then blank nodes, then literals.
+fn guess_at(term: &Term) -> u128 {
+    match term {
+        Term::Iri(iri) => {
+            let text = iri.as_str().as_bytes();
+            let (front, name) = text.split_at(name_start(text));
+            guess_of(low_half(mark_of(front)) / 2, name, b'>')
+        }
+        Term::Blank(label) => guess_of(u32::MAX - 1, label.as_str().as_bytes(), 0),
+        Term::Literal { form, kind: _ } => guess_of(u32::MAX, form.as_str().as_bytes(), b'"'),
+    }
 }
 
 fn entry_of<'a>(term: &'a Term, place: usize) -> Entry<'a>
     ensures term { result.term.now ≡ term.entry.now }
     ensures place { result.place ≡ place }
 {
-    let (group, head) = match term {
-        Term::Iri(iri) => {
-            let text = iri.as_str().as_bytes();
-            let (front, name) = text.split_at(name_start(text));
-            (mark_of(front) / 2, head_of(name, b'>'))
-        }
-        Term::Blank(label) => (u64::MAX - 1, head_of(label.as_str().as_bytes(), 0)),
-        Term::Literal { form, kind: _ } => (u64::MAX, head_of(form.as_str().as_bytes(), b'"')),
-    };
     Entry {
         term,
         place,
-        group,
-        head,
+        guess: guess_at(term),
     }
 }
 
 /// A guess at the order of two terms, which is right where both are of one group.
 fn guessed_order(a: &Entry<'_>, b: &Entry<'_>) -> Ordering {
-    match a.group.cmp(&b.group) {
-        Ordering::Equal => match a.head.cmp(&b.head) {
-            Ordering::Equal => a.term.cmp(b.term),
-            answer => answer,
-        },
+    match a.guess.cmp(&b.guess) {
+        Ordering::Equal => a.term.cmp(b.term),
         answer => answer,
     }
 }
@@ -116,8 +115,10 @@ fn sorted_entries<'a>(alloc: Global, terms: &[&'a Term]) -> Result<Vec<Entry<'a>
 
 /// Whether a term is the last of these.
 fn is_last(terms: &[&Term], term: &Term) -> bool
-    ensures yes { IsTrue result → (0 < length (borrowed_terms terms.now)) × ((n : ℕ) → n + 1 ≡ length (borrowed_terms terms.now) → term_at (borrowed_terms terms.now) n ≡ term.now) }
-    ensures no { result ≡ false → (n : ℕ) → n + 1 ≡ length (borrowed_terms terms.now) → term_at (borrowed_terms terms.now) n ≢ term.now }
+    ensures yes { IsTrue result → (0 < length (borrowed_terms terms.now)) ×
+        ((n : ℕ) → n + 1 ≡ length (borrowed_terms terms.now) → term_at (borrowed_terms terms.now) n ≡ term.now) }
+    ensures no { result ≡ false → (n : ℕ) → n + 1 ≡ length (borrowed_terms terms.now) →
+        term_at (borrowed_terms terms.now) n ≢ term.now }
 {
     let count = terms.len();
     if count == 0 {
@@ -128,9 +129,14 @@ fn is_last(terms: &[&Term], term: &Term) -> bool
 
 /// The rank of a term that is not below the last, which is added unless it is the last.
 fn rank_of<'a>(terms: &mut Vec<&'a Term>, term: &'a Term) -> Result<usize, OutOfMemory>
-    ensures gathers { IfOk result (λ rank. Gathers (borrowed_terms terms.old.items) (borrowed_terms terms.new.items) term.entry.now rank) }
+    ensures gathers { IfOk result
+        (λ rank. Gathers (borrowed_terms terms.old.items) (borrowed_terms terms.new.items) term.entry.now rank) }
     ensures last { IfOk result (λ rank. rank + 1 ≡ length (borrowed_terms terms.new.items)) }
-    ensures ascending { IfOk result (λ rank. IsStrictlySortedBy term_order (borrowed_terms terms.old.items) → ((n : ℕ) → n + 1 ≡ length (borrowed_terms terms.old.items) → is_lt (term_order term.entry.now (term_at (borrowed_terms terms.old.items) n)) ≡ false) → IsStrictlySortedBy term_order (borrowed_terms terms.new.items)) }
+    ensures ascending { IfOk result
+        (λ rank. IsStrictlySortedBy term_order (borrowed_terms terms.old.items) →
+        ((n : ℕ) → n + 1 ≡ length (borrowed_terms terms.old.items) →
+        is_lt (term_order term.entry.now (term_at (borrowed_terms terms.old.items) n)) ≡ false) →
+        IsStrictlySortedBy term_order (borrowed_terms terms.new.items)) }
 {
     let held = terms.len();
     if is_last(terms.as_slice(), term) {
@@ -142,7 +148,8 @@ fn rank_of<'a>(terms: &mut Vec<&'a Term>, term: &'a Term) -> Result<usize, OutOf
 
 /// The terms of a list in their order, each once, and the rank of each place's term.
 pub(crate) fn rank_terms<'a>(alloc: Global, terms: &[&'a Term]) -> Result<Ranked<'a>, OutOfMemory>
-    ensures { IfOk result (λ r. AreRanked (borrowed_terms terms.entry.now) (borrowed_terms r.terms.items) r.ranks.items) }
+    ensures { IfOk result
+        (λ r. AreRanked (borrowed_terms terms.entry.now) (borrowed_terms r.terms.items) r.ranks.items) }
 {
     let entries = sorted_entries(alloc, terms)?;
     let mut ordered = Vec::new(alloc);

@@ -13,7 +13,7 @@ const SLOTS: usize = 2;
 /// How many slots in a row a term may take.
 const PROBES: usize = 8;
 
-/// The high half of a term's mark, and the place that was noted with it.
+/// The low half of a term's mark, and the place that was noted with it. The high half leads to the slot.
 #[derive(Clone, Copy)]
 struct Slot {
     mark: u32,
@@ -28,6 +28,10 @@ const FREE: Slot = Slot {
 
 fn high_half(mark: u64) -> u32 {
     (mark >> 32) as u32
+}
+
+pub(crate) fn low_half(mark: u64) -> u32 {
+    (mark % 4294967296) as u32
 }
 
 /// A number that is the same for the same bytes, and mostly differs for others.
@@ -64,14 +68,9 @@ impl Recent {
         })
     }
 
-    /// The first slot of a mark.
+    /// The first slot of a mark, found from its high half without a division.
     fn home(&self, mark: u64) -> usize {
-        let slots = self.slots.len() as u64;
-        if slots == 0 {
-            0
-        } else {
-            (mark % slots) as usize
-        }
+        ((high_half(mark) as u64).wrapping_mul(self.slots.len() as u64) >> 32) as usize
     }
 
     fn slot(&self, at: usize) -> Slot {
@@ -86,14 +85,14 @@ impl Recent {
         ensures { IfSome result (λ place. StandsAt (borrowed_terms terms.now) place term.now) }
     {
         let home = self.home(mark);
-        let high = high_half(mark);
+        let low = low_half(mark);
         for probe in 0..PROBES {
             let slot = self.slot(home.wrapping_add(probe));
             if slot.place == u32::MAX {
                 return None;
             }
             let place = slot.place as usize;
-            if slot.mark == high && place < terms.len() && *terms[place] == *term {
+            if slot.mark == low && place < terms.len() && *terms[place] == *term {
                 return Some(place);
             }
         }
@@ -106,7 +105,7 @@ impl Recent {
         let at = self.room(mark);
         if place < u32::MAX as usize && at < self.slots.len() {
             self.slots[at] = Slot {
-                mark: high_half(mark),
+                mark: low_half(mark),
                 place: place as u32,
             };
         }

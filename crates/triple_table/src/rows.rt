@@ -61,8 +61,10 @@ impl Rows {
     ) -> usize
         requires { IsStrictlySortedBy row_order self.now }
         ensures within { result ≤ length self.now }
-        ensures before { (k : ℕ) (d : Row) → k < result → goes_before with_equal (row_order (slice_index_or self.now k d) bound) ≡ true }
-        ensures behind { (k : ℕ) (d : Row) → result ≤ k → k < length self.now → goes_before with_equal (row_order (slice_index_or self.now k d) bound) ≡ false }
+        ensures before { (k : ℕ) (d : Row) → k < result →
+            goes_before with_equal (row_order (slice_index_or self.now k d) bound) ≡ true }
+        ensures behind { (k : ℕ) (d : Row) → result ≤ k → k < length self.now →
+            goes_before with_equal (row_order (slice_index_or self.now k d) bound) ≡ false }
         ensures counted { steps.old ≤ steps.new }
         ensures cost { (digits : ℕ) → length self.now < 2 ^ digits → steps.new ≤ steps.old + digits }
     {

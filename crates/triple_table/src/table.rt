@@ -59,7 +59,8 @@ impl Table {
     /// exactly where no triple of the table holds it. With d the number of binary digits of the
     /// number of triples it compares at most d + 2 times, each a step. It takes no memory.
     pub fn id<L: Ledger>(&self, term: &Term, steps: &mut Steps<L>) -> Option<u32>
-        ensures id { MatchOption result (Contains (terms_of (triples_in self.now)) term.now → ⊥) (λ id. (id < length (held_terms self.now)) × (term_at (held_terms self.now) id ≡ term.now)) }
+        ensures id { MatchOption result (Contains (terms_of (triples_in self.now)) term.now → ⊥)
+            (λ id. (id < length (held_terms self.now)) × (term_at (held_terms self.now) id ≡ term.now)) }
         ensures counted { steps.old ≤ steps.new }
         ensures cost { (digits : ℕ) → length (triples_in self.now) < 2 ^ digits → steps.new ≤ steps.old + (digits + 2) }
     {
@@ -142,7 +143,8 @@ impl Table {
         requires range { IsRange self.now r.now }
         requires within { i < r.now.to - r.now.from }
         ensures ids { IsIdTriple (held_terms self.now) result }
-        ensures triple { (d : Triple) → slice_index_or (listed self.now r.now) i d ≡ triple_at (held_terms self.now) result }
+        ensures triple { (d : Triple) →
+            slice_index_or (listed self.now r.now) i d ≡ triple_at (held_terms self.now) result }
     {
         r.order.triple(self.rows(r.order).row(r.from + i))
     }

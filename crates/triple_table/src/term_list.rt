@@ -104,7 +104,8 @@ impl TermList {
     /// The place of a term.
     pub(crate) fn find<L: Ledger>(&self, term: &Term, steps: &mut Steps<L>) -> Option<usize>
         requires { IsStrictlySortedBy term_order self.now }
-        ensures place { MatchOption result (Contains self.now term.now → ⊥) (λ i. (i < length self.now) × ((d : Term) → slice_index_or self.now i d ≡ term.now)) }
+        ensures place { MatchOption result (Contains self.now term.now → ⊥)
+            (λ i. (i < length self.now) × ((d : Term) → slice_index_or self.now i d ≡ term.now)) }
         ensures counted { steps.old ≤ steps.new }
         ensures cost { (digits : ℕ) → length self.now < 2 ^ digits → steps.new ≤ steps.old + digits }
     {
