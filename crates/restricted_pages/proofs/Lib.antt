@@ -5,3 +5,4 @@ pub mod Ordered
 pub mod Walks
 pub mod Counts
 pub mod Selected
+pub mod Sieves

@@ -1,10 +1,9 @@
 -- Lists that loops make, step by step.
-use Rattle.std.proofs.Common.{ℕ, zero, suc, ◌≡◌, ◌+◌, ◌-◌, ◌<◌, ◌≤◌, ◌++◌, cond, List, [], ◌∷◌, map, take, drop, length, get_or, min, Option, Some, None, is_some, sym, ap, ◌∙◌, append_assoc, append-nil, length-append, arith}
+use Rattle.std.proofs.Common.{ℕ, zero, suc, ◌≡◌, ◌+◌, ◌-◌, ◌*◌, ◌^◌, ◌<◌, ◌≤◌, ◌++◌, cond, List, [], ◌∷◌, map, take, drop, length, get_or, min, Some, None, refl, sym, ap, ◌∙◌, append_assoc, append-nil, length-append, arith}
 use Rattle.std.specs.List.{filter}
 use Rattle.std.proofs.Math.Seq.{drop-cons}
 use Rattle.std.proofs.lemmas.Grind.{flat_map-append}
 use Rattle.std.proofs.lemmas.List.{take_more}
-use Rattle.std.proofs.lemmas.List.Filters.{length-filter_more}
 use Rattle.list_laws.proofs.Lists.{map_snoc}
 use Rattle.rdf_terms.specs.declared.term.Term.{Term}
 use Rattle.rdf_terms.specs.declared.term.Triple.{Triple}
@@ -57,17 +56,26 @@ taken terms zero (suc room) old new t next b r e =
     ∙ append_assoc (map (triple_at terms) old) (x ∷ []) (take room next)
 taken terms (suc before) room old new t next b r e = absurd (omega arith)
 
+pub some_room : (room : ℕ) → (room ≡ 0 → ⊥) → 0 < room
+some_room zero h = absurd (h refl)
+some_room (suc room) h = omega arith
+
+-- and passes over it where it is full
+pub full : (terms : List Term) (before room : ℕ) (old : List IdTriple) (t : IdTriple) (next : List Triple) → room ≡ 0 →
+    map (triple_at terms) old ++ take room (drop before next) ≡ map (triple_at terms) old ++ take room (drop before (triple_at terms t ∷ next))
+full terms before zero old t next e = refl
+full terms before (suc room) old t next e = absurd (omega (arith, e))
+
+-- the place of a page's first triple is below their number, so the product does not stop at its type's end
+pub place_is : (k size start count before : ℕ) → start ≡ (k - 1) * size → start ≤ count → count ≤ 2 ^ 64 - 1 → before ≡ min ((k - 1) * size) (2 ^ 64 - 1) → before ≡ (k - 1) * size
+place_is k size start count before e l m f = go ((k - 1) * size) e f
+  where
+    go : (n : ℕ) → start ≡ n → before ≡ min n (2 ^ 64 - 1) → before ≡ n
+    go n e f = omega (arith, e, l, m, f)
+
 -- ---- what a scan finds
 
 module _ (s : Stored) (ps : List IdPattern) (xs : List Triple) (i : ℕ) (within : i < length xs) where
-  found : (o : Option IdTriple) → IsMatchAt s ps xs i o → (d : Triple) → matches_pattern s ps (get_or xs i d) ≡ is_some o
-  found None h d = h d
-  found (Some t) h d = ap (matches_pattern s ps) (h.1 d) ∙ h.2
-
-  pub count_more : (o : Option IdTriple) → IsMatchAt s ps xs i o → (d : Triple) (count new : ℕ) → count ≡ length (filter (matches_pattern s ps) (take i xs)) → new ≡ count + cond (is_some o) 1 0 → new ≡ length (filter (matches_pattern s ps) (take (i + 1) xs))
-  count_more o h d count new e f =
-      f ∙ ap (λ n. n + cond (is_some o) 1 0) e ∙ ap (λ b. length (filter (matches_pattern s ps) (take i xs)) + cond b 1 0) (sym (found o h d)) ∙ sym (length-filter_more (matches_pattern s ps) xs i d within)
-
   rest : (d : Triple) → filter (matches_pattern s ps) (drop i xs) ≡ cond (matches_pattern s ps (get_or xs i d)) (get_or xs i d ∷ filter (matches_pattern s ps) (drop (i + 1) xs)) (filter (matches_pattern s ps) (drop (i + 1) xs))
   rest d = ap (filter (matches_pattern s ps)) (drop-cons xs i d within ∙ ap (λ n. get_or xs i d ∷ drop n xs) (sym add_one))
     where
@@ -82,3 +90,10 @@ module _ (s : Stored) (ps : List IdPattern) (xs : List Triple) (i : ℕ) (within
       let x = triple_at s.terms t in
       sym (rest x ∙ ap (λ y. cond (matches_pattern s ps y) (y ∷ filter (matches_pattern s ps) (drop (i + 1) xs)) (filter (matches_pattern s ps) (drop (i + 1) xs))) (h.1 x)
       ∙ ap (λ b. cond b (x ∷ filter (matches_pattern s ps) (drop (i + 1) xs)) (filter (matches_pattern s ps) (drop (i + 1) xs))) h.2)
+
+  -- so many were counted, and so many come still
+  pub one_counted : (t : IdTriple) → IsMatchAt s ps xs i (Some t) → (all count new : ℕ) → count + length (filter (matches_pattern s ps) (drop i xs)) ≡ all → new ≡ count + 1 → new + length (filter (matches_pattern s ps) (drop (i + 1) xs)) ≡ all
+  one_counted t h all count new e f = let here : length (filter (matches_pattern s ps) (drop i xs)) ≡ suc (length (filter (matches_pattern s ps) (drop (i + 1) xs))) = ap length (sym (one_here t h)) in omega (arith, e, f, here)
+
+  pub none_counted : IsMatchAt s ps xs i None → (d : Triple) (all count new : ℕ) → count + length (filter (matches_pattern s ps) (drop i xs)) ≡ all → new ≡ count → new + length (filter (matches_pattern s ps) (drop (i + 1) xs)) ≡ all
+  none_counted h d all count new e f = let here : length (filter (matches_pattern s ps) (drop i xs)) ≡ length (filter (matches_pattern s ps) (drop (i + 1) xs)) = ap length (sym (none_here h d)) in omega (arith, e, f, here)

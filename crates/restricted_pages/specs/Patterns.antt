@@ -1,5 +1,5 @@
 -- What rows leave of slots, by the ids of a table. Serves the contracts inside the crate alone.
-use Rattle.std.specs.Prelude.{ℕ, ◌≡◌, ◌-◌, ◌*◌, ◌≤◌, ◌&&◌, ◌||◌, ◌==◌, ◌++◌, Bool, true, false, not, List, [], ◌∷◌, map, length, take, drop, Option, Some, None, All, slice_index_or}
+use Rattle.std.specs.Prelude.{ℕ, ◌≡◌, ◌+◌, ◌-◌, ◌*◌, ◌≤◌, ◌&&◌, ◌||◌, ◌==◌, ◌++◌, Bool, true, false, not, List, [], ◌∷◌, map, length, take, drop, Option, Some, None, All, slice_index_or}
 use Rattle.std.specs.List.{Contains, filter, flat_map}
 use Rattle.std.specs.declared.cmp.Ordering.{Ordering}
 use Rattle.rdf_terms.specs.declared.term.Term.{Term}
@@ -170,12 +170,29 @@ IsPageOf s items count k size (Some page) =
     × AreIdsOf s page.triples.items (cut ((k - 1) * size) size items)
     × (page.count ≡ count)
 
+-- the number of some triples, where it is known
+abbrev pub IsKnown : Option ℕ → ℕ → Type 0
+IsKnown None number = Unit {0}
+IsKnown (Some known) number = known ≡ number
+
+-- what a walk found of a range: the triples of a page, and where it went to the end how many there are
+pub record IsWalked (s : Stored) (range : Range) (patterns : List IdPattern) (before size : ℕ) (to_end : Bool)
+    (part : Part) : Type 0 where
+  pub page : AreIdsOf s part.triples.items (cut before size (found s range patterns))
+  pub count : to_end ≡ true → part.count ≡ length (found s range patterns)
+
+-- page k of what the patterns leave of a range, by ids, or that there is no such page
+abbrev pub IsPageFound : Stored → Range → List IdPattern → ℕ → ℕ → Option RestrictedPage → Type 0
+IsPageFound s range patterns k size page =
+    IsPageOf s (found s range patterns) (length (found s range patterns)) k size page
+
 -- what a part will hold, where these triples follow that match
 abbrev pub filled : List Term → Part → List Triple → List Triple
 filled terms part next = map (triple_at terms) part.triples.items ++ take part.room (drop part.before next)
 
 -- a part before and after the next triple that matches
 pub record TakesNext (triple : IdTriple) (old new : Part) : Type 0 where
+  pub counts : new.count ≡ old.count + 1
   pub ids : (terms : List Term) → All (IsIdTriple terms) old.triples.items → IsIdTriple terms triple
       → All (IsIdTriple terms) new.triples.items
   pub fills : (terms : List Term) (next : List Triple)

@@ -17,5 +17,6 @@ mod list;
 mod page;
 mod patterns;
 mod scan;
+mod sieve;
 
 pub use page::{RestrictedPage, restricted_page};

@@ -5,11 +5,12 @@ ghost use Rattle.rdf_terms.specs.Fragments.{fragment, last_page_of};
 ghost use Rattle.rdf_terms.specs.Triples.{IsDataSet};
 ghost use Rattle.triple_table.specs.Stored.{IsRange, IsRanking, IsIdPattern, held_terms, listed, triples_in};
 ghost use Rattle.restricted_pages.specs.Pages.{IsSelectedAnswer};
-ghost use Rattle.restricted_pages.specs.Patterns.{AreWithin, IsPageOf, IsPageOfList, IsStart, found, gathered, left_of};
+ghost use Rattle.restricted_pages.specs.Patterns.{AreWithin, IsKnown, IsPageFound, IsPageOf, IsPageOfList, IsStart, found, gathered, left_of};
 
 use crate::list::{gathered, in_order, total_of};
 use crate::patterns::{are_disjoint, order_of, patterns_of};
-use crate::scan::{count_in, part_of};
+use crate::scan::walked;
+use crate::sieve::Sieve;
 use fragment_pages::page;
 use rdf_terms::Slots;
 use std::alloc::Global;
@@ -71,15 +72,15 @@ fn listed_page(
     Ok(Some(RestrictedPage { triples, count }))
 }
 
-/// The range of the fragment, and how many of its triples match one of the patterns, which match `total` triples
-/// where one that two of them match counts twice.
+/// The range of the fragment, and how many of its triples match one of the patterns where that is known without a
+/// look at them: they match `total` triples where one that two of them match counts twice.
 fn counted<L: Ledger>(
     table: &Table,
     slots: &Slots,
     patterns: &[IdPattern],
     total: u64,
     steps: &mut Steps<L>,
-) -> (Range, u64)
+) -> (Range, Option<u64>)
     requires small { length (triples_in table.now) < 2 ^ 64 }
     requires data_set { IsDataSet (triples_in table.now) }
     requires ranking { IsRanking (triples_in table.now) (held_terms table.now) }
@@ -87,24 +88,24 @@ fn counted<L: Ledger>(
     requires total { total ≡ min (length (gathered table.now patterns.now)) (2 ^ 64 - 1) }
     ensures range { IsRange table.now result.0 }
     ensures lists { listed table.now result.0 ≡ fragment (triples_in table.now) slots.now }
-    ensures count { result.1 ≡ length (left_of table.now slots.now patterns.now) }
+    ensures count { IsKnown result.1 (length (left_of table.now slots.now patterns.now)) }
 {
     let Some(whole) = page(table, slots, 1, 1, steps) else {
         unreachable!();
     };
     if are_disjoint(patterns) {
-        (whole.range, total)
+        (whole.range, Some(total))
     } else {
-        (whole.range, count_in(table, &whole.range, patterns))
+        (whole.range, None)
     }
 }
 
-/// Page `k` of the triples of a range, so many, that match one of the patterns.
-fn scanned_page(
+/// Page `k` of the triples of a range, so many, that match one of the patterns; it is read up to the end of the page.
+fn known_page(
     alloc: Global,
     table: &Table,
     range: &Range,
-    patterns: &[IdPattern],
+    patterns: &Sieve,
     count: u64,
     k: u64,
     size: u64,
@@ -118,8 +119,62 @@ fn scanned_page(
     let Some(start) = start_of(count, k, size) else {
         return Ok(None);
     };
-    let triples = part_of(alloc, table, range, patterns, start, size)?;
-    Ok(Some(RestrictedPage { triples, count }))
+    let part = walked(alloc, table, range, patterns, start, size, false)?;
+    Ok(Some(RestrictedPage {
+        triples: part.triples,
+        count,
+    }))
+}
+
+/// Page `k` of the triples of a range that match one of the patterns; it is read once, and they are counted on the
+/// way.
+fn counted_page(
+    alloc: Global,
+    table: &Table,
+    range: &Range,
+    patterns: &Sieve,
+    k: u64,
+    size: u64,
+) -> Result<Option<RestrictedPage>, OutOfMemory>
+    requires size { 1 ≤ size }
+    requires range { IsRange table.now range.now }
+    requires ranking { IsRanking (triples_in table.now) (held_terms table.now) }
+    requires ids { All (IsIdPattern table.now) patterns.now }
+    ensures { IfOk result (λ page. IsPageFound table.now range.now patterns.now k size page) }
+{
+    let before = k.saturating_sub(1).saturating_mul(size);
+    let part = walked(alloc, table, range, patterns, before, size, true)?;
+    let count = part.count;
+    match start_of(count, k, size) {
+        Some(_) => Ok(Some(RestrictedPage {
+            triples: part.triples,
+            count,
+        })),
+        None => Ok(None),
+    }
+}
+
+/// Page `k` of the triples of a range that match one of the patterns, whose number may be known.
+fn walked_page(
+    alloc: Global,
+    table: &Table,
+    range: &Range,
+    patterns: &Sieve,
+    known: Option<u64>,
+    k: u64,
+    size: u64,
+) -> Result<Option<RestrictedPage>, OutOfMemory>
+    requires size { 1 ≤ size }
+    requires range { IsRange table.now range.now }
+    requires ranking { IsRanking (triples_in table.now) (held_terms table.now) }
+    requires ids { All (IsIdPattern table.now) patterns.now }
+    requires known { IsKnown known (length (found table.now range.now patterns.now)) }
+    ensures { IfOk result (λ page. IsPageFound table.now range.now patterns.now k size page) }
+{
+    match known {
+        Some(count) => known_page(alloc, table, range, patterns, count, k, size),
+        None => counted_page(alloc, table, range, patterns, k, size),
+    }
 }
 
 /// Page `k`, counted from 1, of the triples that match the slots and at least one of the rows, with at most `size`
@@ -130,9 +185,10 @@ fn scanned_page(
 /// triple matches there is one empty page. Its one error is out of memory.
 ///
 /// Each row costs two searches. Where the rows leave few triples, these are listed and sorted. Else the fragment is
-/// walked up to the end of the page, and where rows of different kinds leave triples in common once more to count: each
-/// triple is held against each row by numbers. The memory is that of the page, and of a list of at most a sixteenth of
-/// the table's triples or of 4096.
+/// walked once: up to the end of the page, or, where rows of different kinds leave triples in common, to its own end to
+/// count them. Each triple is held by numbers against the rows whose ids have its remainders: of 64 some eight. The
+/// memory is that of the page, of 512 lists of rows, and of a list of at most a sixteenth of the table's triples or of
+/// 4096.
 pub fn restricted_page<L: Ledger>(
     alloc: Global,
     table: &Table,
@@ -148,14 +204,14 @@ pub fn restricted_page<L: Ledger>(
 {
     let most = (table.len() as u64 / LISTED_SHARE).max(ALWAYS_LISTED);
     let patterns = patterns_of(alloc, table, slots, rows, steps)?;
-    let patterns = patterns.as_slice();
-    let total = total_of(table, patterns, steps);
+    let total = total_of(table, patterns.as_slice(), steps);
     if total <= most {
-        let ids = gathered(alloc, table, patterns, steps)?;
+        let ids = gathered(alloc, table, patterns.as_slice(), steps)?;
         let ids = in_order(ids, order_of(slots));
         listed_page(alloc, ids.as_slice(), k, size)
     } else {
-        let (range, count) = counted(table, slots, patterns, total, steps);
-        scanned_page(alloc, table, &range, patterns, count, k, size)
+        let sieve = Sieve::new(alloc, patterns)?;
+        let (range, known) = counted(table, slots, sieve.patterns(), total, steps);
+        walked_page(alloc, table, &range, &sieve, known, k, size)
     }
 }

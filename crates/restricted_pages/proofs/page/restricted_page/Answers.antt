@@ -1,8 +1,7 @@
-use Rattle.std.proofs.Common.{List, All, map, length, sym, ap, subst, ◌∙◌}
+use Rattle.std.proofs.Common.{List, All, map, length, refl, sym, ap, subst, ◌∙◌}
 use Rattle.std.specs.List.{filter}
 use Rattle.std.specs.List.Sorted.{IsStrictlySortedBy}
 use Rattle.std.proofs.lemmas.List.Elements.{All-contains}
-use Rattle.rdf_terms.specs.declared.term.Triple.{Triple}
 use Rattle.triple_table.specs.declared.ids.IdPattern.{IdPattern}
 use Rattle.triple_table.specs.declared.ids.IdTriple.{IdTriple}
 use Rattle.triple_table.specs.declared.ids.Order.{Order}
@@ -11,10 +10,10 @@ use Rattle.restricted_pages.specs.Patterns.{ArePatternsOf, found, ids_order, mat
 use Rattle.restricted_pages.proofs.Selected.{ids_valid, left_is, listed_is, page_of_list, page_of_scan, within}
 use Rattle.restricted_pages.proofs.page.restricted_page.Goals as goal
 
-pub returns-then-total-most : goal.returns-then-total-most
-returns-then-total-most g c =
-    let s = c.args.table.now in let slots = c.args.slots.now in let rows = c.args.rows.now in let ps = c.as_slice-patterns.result.now in
-    let are = subst (λ (l : List IdPattern). ArePatternsOf s slots rows l) (sym c.as_slice-patterns.ensures.value) c.in_ok-patterns.ensures in
+pub returns-in_ok-ids : goal.returns-in_ok-ids
+returns-in_ok-ids g c =
+    let s = c.args.table.now in let slots = c.args.slots.now in let rows = c.args.rows.now in let ps = c.as_slice-then-total-most.result.now in
+    let are = subst (λ (l : List IdPattern). ArePatternsOf s slots rows l) (sym c.as_slice-then-total-most.ensures.value) c.in_ok-patterns.ensures in
     let w = within s slots rows ps are in
     let ascend = c.len.ensures.ranking.ascending in
     let raw = c.in_ok-ids.ids.items in let ids = c.in_order-ids.result.items in
@@ -22,14 +21,13 @@ returns-then-total-most g c =
     let sorted = subst (λ (o : Order). IsStrictlySortedBy (ids_order o) ids) c.order_of.ensures c.in_order-ids.ensures.ascending in
     let valid = ids_valid s ascend slots ps w raw ids each c.in_ok-ids.ensures.are c.in_order-ids.ensures.members in
     let lists = listed_is s ascend slots ps w raw ids each c.in_ok-ids.ensures.are c.in_order-ids.ensures.members sorted in
-    page_of_list s slots rows c.args.k c.args.size c.as_slice.result.now (subst (λ (l : List IdTriple). All (IsIdTriple s.terms) l) (sym c.as_slice.ensures.value) valid)
-    (ap (map (triple_at s.terms)) c.as_slice.ensures.value ∙ lists ∙ left_is s slots rows ps c.requires.some are) c.listed_page.result c.listed_page.ensures
+    page_of_list s slots rows c.args.k c.args.size c.as_slice-then-total-most-2.result.now (subst (λ (l : List IdTriple). All (IsIdTriple s.terms) l) (sym c.as_slice-then-total-most-2.ensures.value) valid)
+    (ap (map (triple_at s.terms)) c.as_slice-then-total-most-2.ensures.value ∙ lists ∙ left_is s slots rows ps c.requires.some are) c.listed_page.result c.listed_page.ensures
 
-pub returns : goal.returns
-returns g c =
-    let s = c.args.table.now in let slots = c.args.slots.now in let rows = c.args.rows.now in let ps = c.as_slice-patterns.result.now in
-    let are = subst (λ (l : List IdPattern). ArePatternsOf s slots rows l) (sym c.as_slice-patterns.ensures.value) c.in_ok-patterns.ensures in
-    let lists = c.counted-count.ensures.lists in
-    page_of_scan s slots rows c.args.k c.args.size (found s c.counted-count.result.0 ps) c.counted-count.result.1
-    (ap (filter (matches_pattern s ps)) lists ∙ left_is s slots rows ps c.requires.some are)
-    (c.counted-count.ensures.count ∙ ap (λ (l : List Triple). length (filter (matches_pattern s ps) l)) (sym lists)) c.scanned_page.result c.scanned_page.ensures
+pub returns-in_ok-sieve : goal.returns-in_ok-sieve
+returns-in_ok-sieve g c =
+    let s = c.args.table.now in let slots = c.args.slots.now in let rows = c.args.rows.now in let ps = c.in_ok-sieve.sieve in
+    let are = subst (λ (l : List IdPattern). ArePatternsOf s slots rows l) (sym c.in_ok-sieve.ensures) c.in_ok-patterns.ensures in
+    let left = found s c.counted-known.result.0 ps in
+    page_of_scan s slots rows c.args.k c.args.size left (length left)
+    (ap (filter (matches_pattern s ps)) c.counted-known.ensures.lists ∙ left_is s slots rows ps c.requires.some are) refl c.walked_page.result c.walked_page.ensures
