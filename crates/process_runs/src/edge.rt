@@ -232,7 +232,7 @@ pub fn three_connections<R: Processes + Files + Net + Print + AllocGlobal>(
 }
 
 /// Asks for a page on a connection of its own, and prints the first line of the answer.
-fn ask_once<R: Net + Print + AllocGlobal>(
+pub fn ask_once<R: Net + Print + AllocGlobal>(
     rt: &R,
     who: &str,
     port: u16,
