@@ -4,5 +4,6 @@ pub mod Labels
 pub mod TermLaws
 pub mod TableLaws
 pub mod LineLaws
+pub mod WholeLaws
 pub mod PageAddresses
 pub mod Classes

@@ -1,8 +1,10 @@
 -- The canonical texts of terms and quads, from the texts that they are written with.
-use Rattle.std.proofs.Common.{◌≡◌, ℕ, ◌+◌, List, [], ◌∷◌, ◌++◌, Bool, true, false, not, ◌&&◌, length, Result, Ok, Err, refl, sym, ap, ◌∙◌, arith, append_assoc, append-nil, length-append, if◌then◌else◌}
+use Rattle.std.proofs.Common.{◌≡◌, ℕ, ◌+◌, ◌==◌, List, [], ◌∷◌, ◌++◌, Bool, true, false, not, ◌&&◌, length, Result, Ok, Err, refl, sym, ap, ◌∙◌, arith, append_assoc, append-nil, length-append, if◌then◌else◌}
 use Rattle.std.specs.Prelude.{IfOk, Some}
 use Rattle.std.specs.List.{list_all}
 use Rattle.rdf_terms.specs.declared.term.Term.{Term}
+use Rattle.rdf_terms.specs.declared.term.Term.TheVariants.{Iri}
+use Rattle.std.proofs.lemmas.Bool.{true≢false}
 use Rattle.rdf_terms.specs.declared.term.Quad.{Quad}
 use Rattle.rdf_terms.specs.Canon.{after_mark, canonical_form, canonical_line, canonical_term, is_marked}
 use Rattle.hydra_controls.specs.declared.term_text.TermKind.{TermKind}
@@ -11,7 +13,7 @@ use Rattle.hydra_controls.specs.declared.term_text.TermText.{TermText}
 use Rattle.hydra_controls.specs.declared.quad_text.QuadText.{QuadText}
 use Rattle.hydra_controls.specs.declared.cut.Cut.{Cut}
 use Rattle.hydra_controls.specs.Cuts.{Cuts}
-use Rattle.hydra_controls.specs.TermTexts.{IsTerm, IsTextOf, closing, digits_of, is_plain_byte, opening, quad_of, term_as, term_of, text_of}
+use Rattle.hydra_controls.specs.TermTexts.{IsTerm, IsTextOf, IsWhole, iri_spaced, closing, digits_of, is_plain_byte, opening, quad_of, term_as, term_of, text_of}
 use Rattle.hydra_controls.proofs.CutLaws.{cuts_same, cuts_then}
 
 -- ---- forms
@@ -38,9 +40,21 @@ written_as kinds.Blank text own = ap (λ (l : List ℕ). 95 ∷ 58 ∷ l) (sym (
 written_as kinds.Plain text own = ap (λ (l : List ℕ). 34 ∷ (l ++ 34 ∷ [])) (form_is text own)
 written_as kinds.Integer text own = ap (λ (l : List ℕ). 34 ∷ (l ++ closing kinds.Integer)) (form_is text own)
 
-term_written : (t : TermText) → IsTerm t → canonical_term (term_of t) ≡ opening t.kind ++ (text_of t ++ closing t.kind)
+pub term_written : (t : TermText) → IsTerm t → canonical_term (term_of t) ≡ opening t.kind ++ (text_of t ++ closing t.kind)
 unfolding term_of
 term_written t own = written_as t.kind (text_of t) own.text
+
+-- no text is at hand
+pub no_whole : (term : Term) → IsWhole [] term
+no_whole term some = absurd (true≢false some)
+
+-- the text of an IRI is at hand
+pub iri_whole : (whole text : List ℕ) (term : Term) → whole ≡ iri_spaced text → term ≡ Iri text → IsWhole whole term
+iri_whole whole text term is iri some = is ∙ ap (λ (l : List ℕ). 60 ∷ l) (sym (append_assoc text (62 ∷ []) (32 ∷ []))) ∙ ap (λ (t : Term). canonical_term t ++ 32 ∷ []) (sym iri)
+
+-- how long it is
+pub whole_length : (whole : List ℕ) (term : Term) → IsWhole whole term → (length whole == 0) ≡ false → length whole ≡ length (canonical_term term) + 1
+whole_length whole term own some = ap (λ (l : List ℕ). length l) (own some) ∙ length-append (canonical_term term) (32 ∷ [])
 
 -- the text of a term, part by part
 pub text_cut : (t : TermText) (a b d e f : Cut) (front middle end old one two three new : List ℕ) → front ≡ t.front.now → middle ≡ t.middle.now → end ≡ t.end.now
@@ -50,18 +64,17 @@ text_cut t a b d e f front middle end old one two three new of_front of_middle o
     (cuts_then b d f t.middle.now (digits_of t.number ++ t.end.now) one two new (cuts_same b d middle t.middle.now one two of_middle second)
     (cuts_then d e f (digits_of t.number) t.end.now two three new third (cuts_same e f end t.end.now three new of_end fourth)))
 
-spaced : (opened text closed : List ℕ) → opened ++ (text ++ (closed ++ 32 ∷ [])) ≡ (opened ++ (text ++ closed)) ++ 32 ∷ []
+pub spaced : (opened text closed : List ℕ) → opened ++ (text ++ (closed ++ 32 ∷ [])) ≡ (opened ++ (text ++ closed)) ++ 32 ∷ []
 spaced opened text closed = simp append_assoc
 
 -- its canonical text and a space
-pub term_cut : (t : TermText) → IsTerm t → (a b d e f : Cut) (opened closed old one two three new : List ℕ) → opened ≡ opening t.kind → closed ≡ closing t.kind
-    → Cuts a b opened old one → Cuts b d (text_of t) one two → Cuts d e closed two three → Cuts e f (32 ∷ []) three new → Cuts a f (canonical_term (term_of t) ++ 32 ∷ []) old new
-term_cut t own a b d e f opened closed old one two three new of_opened of_closed first second third fourth =
-    cuts_same a f (opening t.kind ++ (text_of t ++ (closing t.kind ++ 32 ∷ []))) (canonical_term (term_of t) ++ 32 ∷ []) old new
+pub term_cut : (t : TermText) → IsTerm t → (a b d e : Cut) (opened closed old one two new : List ℕ) → opened ≡ opening t.kind → closed ≡ closing t.kind ++ 32 ∷ []
+    → Cuts a b opened old one → Cuts b d (text_of t) one two → Cuts d e closed two new → Cuts a e (canonical_term (term_of t) ++ 32 ∷ []) old new
+term_cut t own a b d e opened closed old one two new of_opened of_closed first second third =
+    cuts_same a e (opening t.kind ++ (text_of t ++ (closing t.kind ++ 32 ∷ []))) (canonical_term (term_of t) ++ 32 ∷ []) old new
     (spaced (opening t.kind) (text_of t) (closing t.kind) ∙ ap (λ (l : List ℕ). l ++ 32 ∷ []) (sym (term_written t own)))
-    (cuts_then a b f (opening t.kind) (text_of t ++ (closing t.kind ++ 32 ∷ [])) old one new (cuts_same a b opened (opening t.kind) old one of_opened first)
-    (cuts_then b d f (text_of t) (closing t.kind ++ 32 ∷ []) one two new second
-    (cuts_then d e f (closing t.kind) (32 ∷ []) two three new (cuts_same d e closed (closing t.kind) two three of_closed third) fourth)))
+    (cuts_then a b e (opening t.kind) (text_of t ++ (closing t.kind ++ 32 ∷ [])) old one new (cuts_same a b opened (opening t.kind) old one of_opened first)
+    (cuts_then b d e (text_of t) (closing t.kind ++ 32 ∷ []) one two new second (cuts_same d e closed (closing t.kind ++ 32 ∷ []) two new of_closed third)))
 
 pub text_length : (t : TermText) → length (text_of t) ≡ length t.front.now + length t.middle.now + length (digits_of t.number) + length t.end.now
 text_length t =
@@ -79,7 +92,7 @@ pub quad_is : (q : QuadText) (s p o g : Term) → s ≡ term_of q.subject → p 
 unfolding quad_of
 quad_is q s p o g es ep eo eg = λ i. record { triple = record { subject = es i; predicate = ep i; object = eo i }; graph = Some (eg i) }
 
-parts_stand : (s p o g : List ℕ) → (s ++ 32 ∷ []) ++ ((p ++ 32 ∷ []) ++ ((o ++ 32 ∷ []) ++ ((g ++ 32 ∷ []) ++ 46 ∷ 10 ∷ []))) ≡ s ++ 32 ∷ (p ++ 32 ∷ (o ++ (32 ∷ g) ++ 32 ∷ 46 ∷ 10 ∷ []))
+pub parts_stand : (s p o g : List ℕ) → (s ++ 32 ∷ []) ++ ((p ++ 32 ∷ []) ++ ((o ++ 32 ∷ []) ++ ((g ++ 32 ∷ []) ++ 46 ∷ 10 ∷ []))) ≡ s ++ 32 ∷ (p ++ 32 ∷ (o ++ (32 ∷ g) ++ 32 ∷ 46 ∷ 10 ∷ []))
 parts_stand s p o g = simp append_assoc
 
 -- the line of a quad

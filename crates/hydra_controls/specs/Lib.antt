@@ -2,3 +2,4 @@ pub mod TermTexts
 pub mod Facts
 pub mod Laws
 pub mod Cuts
+pub mod Lines

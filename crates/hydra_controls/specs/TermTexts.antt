@@ -1,7 +1,7 @@
 -- Terms and quads by the texts that they are written with.
-use Rattle.std.specs.Prelude.{ℕ, ◌≡◌, Bool, not, true, List, [], ◌++◌, codes, Option, Some, None}
+use Rattle.std.specs.Prelude.{ℕ, ◌≡◌, ◌==◌, Bool, not, true, false, List, [], ◌∷◌, ◌++◌, length, codes, Option, Some, None}
 use Rattle.std.specs.List.{list_all}
-use Rattle.rdf_terms.specs.Canon.{is_marked}
+use Rattle.rdf_terms.specs.Canon.{canonical_term, is_marked}
 use Rattle.rdf_terms.specs.Iri.{is_iri}
 use Rattle.rdf_terms.specs.Label.{is_label}
 use Rattle.rdf_terms.specs.declared.term.Term.{Term}
@@ -54,8 +54,17 @@ IsTextOf kinds.Blank text = is_label text ≡ true
 IsTextOf kinds.Plain text = list_all is_plain_byte text ≡ true
 IsTextOf kinds.Integer text = list_all is_plain_byte text ≡ true
 
+-- the canonical text of an IRI and a space
+abbrev pub iri_spaced : List ℕ → List ℕ
+iri_spaced text = 60 ∷ (text ++ 62 ∷ 32 ∷ [])
+
+-- the text is empty, or the canonical text of the term and a space
+abbrev pub IsWhole : List ℕ → Term → Type 0
+IsWhole whole term = (length whole == 0) ≡ false → whole ≡ canonical_term term ++ 32 ∷ []
+
 pub record IsTerm (t : TermText) : Type 0 where
   pub text : IsTextOf t.kind (text_of t)
+  pub whole : IsWhole t.whole.now (term_of t)
 
 pub record AreTerms (q : QuadText) : Type 0 where
   pub subject : IsTerm q.subject

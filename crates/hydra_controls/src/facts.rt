@@ -5,7 +5,7 @@ ghost use Rattle.rdf_terms.specs.Iri.{is_iri_byte};
 ghost use Rattle.rdf_terms.specs.Label.{is_label};
 ghost use Rattle.rdf_terms.specs.declared.term.Quad.{Quad};
 ghost use Rattle.template_fill.specs.Metadata.{graph_at, plain, statement, link_quads};
-ghost use Rattle.hydra_controls.specs.TermTexts.{AreTerms, IsTerm, is_plain_byte, quad_of, term_of};
+ghost use Rattle.hydra_controls.specs.TermTexts.{AreTerms, IsTerm, iri_spaced, is_plain_byte, quad_of, term_of};
 ghost use Rattle.hydra_controls.specs.Facts.{AreFacts, addresses_of, closing_of, counts_of, form_of, links_of, mapping_of, mappings_of, mark_of, page_text, quads_of, topic_of, version_of};
 
 use crate::quad_text::QuadText;
@@ -61,6 +61,7 @@ impl<'a> PageFacts<'a> {
             middle: page_mark(self.fixed),
             number: Some(number),
             end: name,
+            whole: "",
         }
     }
 
@@ -126,12 +127,24 @@ impl<'a> PageFacts<'a> {
         let this = self.page(self.number);
         if i == 0 {
             let graph = self.section(self.number, "#metadata");
-            return self.says(graph, foaf("primaryTopic"), this);
+            return self.says(
+                graph,
+                foaf("primaryTopic", "<http://xmlns.com/foaf/0.1/primaryTopic> "),
+                this,
+            );
         }
         if i == 1 {
-            return self.says(self.data_set(), void("subset"), self.page(1));
+            return self.says(
+                self.data_set(),
+                void("subset", "<http://rdfs.org/ns/void#subset> "),
+                self.page(1),
+            );
         }
-        self.says(self.data_set(), hydra("search"), blank("form"))
+        self.says(
+            self.data_set(),
+            hydra("search", "<http://www.w3.org/ns/hydra/core#search> "),
+            blank("form"),
+        )
     }
 
     /// The form's template, and that its values are explicit forms.
@@ -144,10 +157,24 @@ impl<'a> PageFacts<'a> {
     {
         let form = blank("form");
         if i == 0 {
-            return self.says(form, hydra("template"), self.template());
+            return self.says(
+                form,
+                hydra("template", "<http://www.w3.org/ns/hydra/core#template> "),
+                self.template(),
+            );
         }
-        let explicit = hydra("ExplicitRepresentation");
-        self.says(form, hydra("variableRepresentation"), explicit)
+        let explicit = hydra(
+            "ExplicitRepresentation",
+            "<http://www.w3.org/ns/hydra/core#ExplicitRepresentation> ",
+        );
+        self.says(
+            form,
+            hydra(
+                "variableRepresentation",
+                "<http://www.w3.org/ns/hydra/core#variableRepresentation> ",
+            ),
+            explicit,
+        )
     }
 
     /// That a variable of the form stands for the place of a triple with this name.
@@ -163,12 +190,24 @@ impl<'a> PageFacts<'a> {
     {
         let mapping = blank(label);
         if i == 0 {
-            return self.says(blank("form"), hydra("mapping"), mapping);
+            return self.says(
+                blank("form"),
+                hydra("mapping", "<http://www.w3.org/ns/hydra/core#mapping> "),
+                mapping,
+            );
         }
         if i == 1 {
-            return self.says(mapping, hydra("variable"), plain("", name));
+            return self.says(
+                mapping,
+                hydra("variable", "<http://www.w3.org/ns/hydra/core#variable> "),
+                plain("", name),
+            );
         }
-        self.says(mapping, hydra("property"), rdf(name))
+        self.says(
+            mapping,
+            hydra("property", "<http://www.w3.org/ns/hydra/core#property> "),
+            rdf(name),
+        )
     }
 
     /// For which places the variables of the form stand.
@@ -197,25 +236,49 @@ impl<'a> PageFacts<'a> {
     {
         let this = self.page(self.number);
         if i == 0 {
-            return self.says(self.page(1), void("subset"), this);
+            return self.says(
+                self.page(1),
+                void("subset", "<http://rdfs.org/ns/void#subset> "),
+                this,
+            );
         }
         if i == 1 {
-            return self.says(this, hydra("totalItems"), count(self.count));
+            return self.says(
+                this,
+                hydra(
+                    "totalItems",
+                    "<http://www.w3.org/ns/hydra/core#totalItems> ",
+                ),
+                count(self.count),
+            );
         }
         if i == 2 {
-            return self.says(this, void("triples"), count(self.count));
+            return self.says(
+                this,
+                void("triples", "<http://rdfs.org/ns/void#triples> "),
+                count(self.count),
+            );
         }
-        self.says(this, hydra("first"), self.page(1))
+        self.says(
+            this,
+            hydra("first", "<http://www.w3.org/ns/hydra/core#first> "),
+            self.page(1),
+        )
     }
 
     /// The link to another page.
-    fn link(self, name: &'a str, number: u64) -> QuadText<'a>
+    fn link(self, name: &'a str, whole: &'a str, number: u64) -> QuadText<'a>
         requires facts { AreFacts self }
         requires name { list_all is_iri_byte name.now ≡ true }
+        requires whole { whole.now ≡ iri_spaced (codes "http://www.w3.org/ns/hydra/core#" ++ name.now) }
         ensures said { link_quads true (graph_at (addresses_of self.entry)) (addresses_of self.entry).page name.now (page_text self.entry.first.now self.entry.fixed number) ≡ quad_of result ∷ [] }
         ensures terms { AreTerms result }
     {
-        self.says(self.page(self.number), hydra(name), self.page(number))
+        self.says(
+            self.page(self.number),
+            hydra(name, whole),
+            self.page(number),
+        )
     }
 
     /// The version of the data set.
@@ -224,7 +287,14 @@ impl<'a> PageFacts<'a> {
         ensures said { version_of self.entry ≡ quad_of result ∷ [] }
         ensures terms { AreTerms result }
     {
-        self.says(self.data_set(), owl("versionInfo"), digits(self.version))
+        self.says(
+            self.data_set(),
+            owl(
+                "versionInfo",
+                "<http://www.w3.org/2002/07/owl#versionInfo> ",
+            ),
+            digits(self.version),
+        )
     }
 
     /// The link to the previous page, if there is one, and the version.
@@ -236,7 +306,8 @@ impl<'a> PageFacts<'a> {
     {
         if 1 < self.number {
             if i == 0 {
-                return self.link("previous", self.number - 1);
+                let whole = "<http://www.w3.org/ns/hydra/core#previous> ";
+                return self.link("previous", whole, self.number - 1);
             }
         }
         self.version()
@@ -251,7 +322,8 @@ impl<'a> PageFacts<'a> {
     {
         if self.number < self.last {
             if i == 0 {
-                return self.link("next", self.number + 1);
+                let whole = "<http://www.w3.org/ns/hydra/core#next> ";
+                return self.link("next", whole, self.number + 1);
             }
             return self.previous_and_version(i - 1);
         }

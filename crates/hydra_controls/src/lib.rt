@@ -23,6 +23,7 @@ mod lines;
 mod pages;
 mod quad_text;
 mod term_text;
+mod whole;
 
 pub use config::Config;
 pub use cut::Cut;

@@ -1,13 +1,14 @@
 // The lines of a page's metadata, each made when it is written.
-ghost use Rattle.std.specs.Prelude.{◌≡◌, ◌-◌, ◌≤◌, ◌<◌, ◌^◌, ◌++◌, length, take, drop, nat_lt, slice_index_or, IfOk, OnOk, OnErr};
+ghost use Rattle.std.specs.Prelude.{◌≡◌, ◌-◌, ◌≤◌, ◌<◌, ◌*◌, ◌^◌, ◌++◌, length, take, drop, nat_lt, slice_index_or, IfOk, OnOk, OnErr};
 ghost use Rattle.std.specs.List.{AllByRecursion};
 ghost use Rattle.rdf_terms.specs.Canon.{canonical_line};
 ghost use Rattle.rdf_terms.specs.declared.term.Quad.{Quad};
 ghost use Rattle.list_laws.specs.Begins.{Begins};
 ghost use Rattle.tpf_base.specs.Addresses.{address_text};
 ghost use Rattle.template_fill.specs.Forms.{HasNoBlank};
-ghost use Rattle.template_fill.specs.Metadata.{page_metadata};
-ghost use Rattle.hydra_controls.specs.Facts.{AreFacts, quads_of};
+ghost use Rattle.template_fill.specs.Metadata.{metadata_at, page_metadata};
+ghost use Rattle.hydra_controls.specs.Facts.{AreFacts, addresses_by, quads_of};
+ghost use Rattle.hydra_controls.specs.Lines.{lines_text};
 
 use crate::Config;
 use crate::cut::Cut;
@@ -32,6 +33,8 @@ pub struct MetadataLines {
     last: u64,
     count: u64,
     version: u64,
+    /// How many bytes all lines have.
+    length: u128,
 }
 
 impl Model for MetadataLines {
@@ -43,8 +46,11 @@ impl Model for MetadataLines {
     ghost use Rattle.tpf_base.specs.Addresses.{address_text};
     ghost use Rattle.template_fill.specs.Metadata.{metadata_at};
     ghost use Rattle.hydra_controls.specs.Facts.{addresses_by};
+    ghost use Rattle.hydra_controls.specs.Lines.{IsLength};
 
     ghost view = { λ l. metadata_at l.base (addresses_by (address_text l.first) l.fixed l.number) (nat_lt l.number l.last) (nat_lt 1 l.number) l.count l.version };
+
+    ghost invariant = { λ l. IsLength l.length (metadata_at l.base (addresses_by (address_text l.first) l.fixed l.number) (nat_lt l.number l.last) (nat_lt 1 l.number) l.count l.version) };
 }
 
 /// Whether the address of page 1 has more than the base.
@@ -52,6 +58,30 @@ fn has_fixed(base: &WebAddress, first: &WebAddress) -> bool
     ensures { result ≡ nat_lt (length (address_text base.now)) (length (address_text first.now)) }
 {
     base.text().len() < first.text().len()
+}
+
+/// What lines speak of that stand at such addresses.
+fn facts_of<'a>(
+    base: &'a WebAddress,
+    first: &'a WebAddress,
+    fixed: bool,
+    number: u64,
+    last: u64,
+    count: u64,
+    version: u64,
+) -> PageFacts<'a>
+    ensures quads { quads_of result ≡ metadata_at base.now (addresses_by (address_text first.now) fixed number) (nat_lt number last) (nat_lt 1 number) count version }
+    ensures facts { AreFacts result }
+{
+    PageFacts {
+        base: base.text(),
+        first: first.text(),
+        fixed,
+        number,
+        last,
+        count,
+        version,
+    }
 }
 
 /// Makes room for so many bytes more at once, so that a line of any length is copied once.
@@ -70,11 +100,11 @@ fn make_room(length: u128, out: &mut Vec<u8>) -> Result<usize, OutOfMemory>
 
 /// Takes back what was appended since `out` had this length, where the writing failed.
 #[tactic(auto, using(list_laws::proofs::Begins::cut_back))]
-fn taken_back(
-    written: Result<bool, OutOfMemory>,
+fn taken_back<T>(
+    written: Result<T, OutOfMemory>,
     before: usize,
     out: &mut Vec<u8>,
-) -> Result<bool, OutOfMemory>
+) -> Result<T, OutOfMemory>
     ensures same { result ≡ written }
     ensures ok { OnOk result (out.new.items ≡ out.old.items) }
     ensures err { OnErr result (out.new.items ≡ take before out.old.items) }
@@ -109,14 +139,18 @@ impl MetadataLines {
         let first = address(alloc, config, slots, rows, 1)?;
         let base = config.base().copy(alloc)?;
         let fixed = has_fixed(&base, &first);
+        let last = last_page(count, config.page_size());
+        let facts = facts_of(&base, &first, fixed, page, last, count, version);
+        let length = facts.total_length();
         Ok(MetadataLines {
             base,
             first,
             fixed,
             number: page,
-            last: last_page(count, config.page_size()),
+            last,
             count,
             version,
+            length,
         })
     }
 
@@ -125,15 +159,15 @@ impl MetadataLines {
         ensures quads { quads_of result ≡ self.now }
         ensures facts { AreFacts result }
     {
-        PageFacts {
-            base: self.base.text(),
-            first: self.first.text(),
-            fixed: self.fixed,
-            number: self.number,
-            last: self.last,
-            count: self.count,
-            version: self.version,
-        }
+        facts_of(
+            &self.base,
+            &self.first,
+            self.fixed,
+            self.number,
+            self.last,
+            self.count,
+            self.version,
+        )
     }
 
     /// How many lines there are: 19 to 21.
@@ -203,6 +237,33 @@ impl MetadataLines {
         let room = make_room(self.length(i), out)?;
         self.write_part(i, 0, room, out)?;
         Ok(())
+    }
+
+    /// How many bytes all lines have, their ends LF with them. The number is kept.
+    pub fn total_length(&self) -> u128
+        ensures length { result ≡ length (lines_text self.now) }
+        ensures small { result ≤ 21 * 2 ^ 70 }
+    {
+        self.length
+    }
+
+    fn append_from(&self, place: usize, out: &mut Vec<u8>) -> Result<(), OutOfMemory>
+        ensures ok { OnOk result (out.new.items ≡ out.old.items ++ lines_text (drop place self.now)) }
+        ensures front { Begins out.old.items out.new.items }
+    {
+        self.facts().append_from(place, out)
+    }
+
+    /// Appends the lines from this place on, their ends LF with them (N-Quads, canonical form). After
+    /// `OutOfMemory`, which comes only when memory ran out, `out` is as before.
+    #[tactic(auto, using(list_laws::proofs::Begins::cut_back))]
+    pub fn write_from(&self, place: usize, out: &mut Vec<u8>) -> Result<(), OutOfMemory>
+        ensures ok { OnOk result (out.new.items ≡ out.old.items ++ lines_text (drop place self.now)) }
+        ensures err { OnErr result (out.new.items ≡ out.old.items) }
+    {
+        let before = out.len();
+        let written = self.append_from(place, out);
+        taken_back(written, before, out)
     }
 
     /// The quads. `OutOfMemory` comes only when memory ran out.

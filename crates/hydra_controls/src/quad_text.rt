@@ -1,12 +1,12 @@
 // Quads as the texts that they are written with.
-ghost use Rattle.std.specs.Prelude.{◌≡◌, ◌<◌, ◌^◌, length, IfOk, OnOk};
+ghost use Rattle.std.specs.Prelude.{◌≡◌, ◌<◌, ◌^◌, ◌++◌, length, IfOk, OnOk};
 ghost use Rattle.rdf_terms.specs.Canon.{canonical_line};
 ghost use Rattle.list_laws.specs.Begins.{Begins};
 ghost use Rattle.hydra_controls.specs.Cuts.{Cuts};
 ghost use Rattle.hydra_controls.specs.TermTexts.{AreTerms, quad_of};
 
 use crate::cut::Cut;
-use crate::term_text::TermText;
+use crate::term_text::{TermText, append};
 use rdf_terms::{Quad, Triple};
 use std::alloc::Global;
 use tpf_base::OutOfMemory;
@@ -49,7 +49,7 @@ impl<'a> QuadText<'a> {
             + self.predicate.length()
             + self.object.length()
             + self.graph.length()
-            + 6
+            + 2
     }
 
     /// Appends what is written of its canonical line.
@@ -65,5 +65,19 @@ impl<'a> QuadText<'a> {
         self.graph.write(cut, out)?;
         cut.push(b".\n", out)?;
         Ok(())
+    }
+
+    /// Appends its canonical line.
+    #[tactic(auto, using(list_laws::proofs::Begins::begins_on, crate::proofs::WholeLaws::line_whole))]
+    pub(crate) fn append(self, out: &mut Vec<u8>) -> Result<(), OutOfMemory>
+        requires { AreTerms self }
+        ensures ok { OnOk result (out.new.items ≡ out.old.items ++ canonical_line (quad_of self.entry)) }
+        ensures front { Begins out.old.items out.new.items }
+    {
+        self.subject.append(out)?;
+        self.predicate.append(out)?;
+        self.object.append(out)?;
+        self.graph.append(out)?;
+        append(".\n", out)
     }
 }

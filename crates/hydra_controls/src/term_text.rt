@@ -1,5 +1,5 @@
 // Terms as the texts that they are written with.
-ghost use Rattle.std.specs.Prelude.{◌≡◌, ◌≤◌, ◌<◌, ◌^◌, ◌∷◌, [], ◌++◌, length, true, IsTrue, IfOk, OnOk};
+ghost use Rattle.std.specs.Prelude.{◌≡◌, ◌≤◌, ◌<◌, ◌+◌, ◌^◌, ◌∷◌, [], ◌++◌, codes, length, true, IsTrue, IfOk, OnOk};
 ghost use Rattle.std.specs.String.{string_bytes};
 ghost use Rattle.std.specs.List.{list_all};
 ghost use Rattle.rdf_terms.specs.Canon.{canonical_term};
@@ -9,7 +9,7 @@ ghost use Rattle.list_laws.specs.Begins.{Begins};
 ghost use Rattle.tpf_base.specs.Decimals.{decimal_text};
 ghost use Rattle.template_fill.specs.Metadata.{foaf, void, hydra, rdf, owl, integer, plain};
 ghost use Rattle.hydra_controls.specs.Cuts.{Cuts};
-ghost use Rattle.hydra_controls.specs.TermTexts.{IsTerm, IsTextOf, closing, digits_of, is_plain_byte, opening, term_as, term_of, text_of, xsd_integer};
+ghost use Rattle.hydra_controls.specs.TermTexts.{IsTerm, IsTextOf, closing, digits_of, iri_spaced, is_plain_byte, opening, term_as, term_of, text_of, xsd_integer};
 
 use crate::cut::Cut;
 use itoa::Buffer;
@@ -37,9 +37,47 @@ pub(crate) struct TermText<'a> {
     pub middle: &'a str,
     pub number: Option<u64>,
     pub end: &'a str,
+    /// Its canonical text and a space, where they are at hand, and else empty.
+    pub whole: &'a str,
 }
 
 // ---- appending
+
+/// Appends a text; an empty one costs nothing.
+#[tactic(auto, using(list_laws::proofs::Begins::same_begins, list_laws::proofs::Begins::more_begins, crate::proofs::WholeLaws::nothing_appended))]
+pub(crate) fn append(text: &str, out: &mut Vec<u8>) -> Result<(), OutOfMemory>
+    ensures ok { OnOk result (out.new.items ≡ out.old.items ++ text.now) }
+    ensures front { Begins out.old.items out.new.items }
+{
+    if text.is_empty() {
+        return Ok(());
+    }
+    out.extend_from_slice(text.as_bytes())?;
+    Ok(())
+}
+
+/// Appends the digits of a number.
+fn append_number(number: u64, out: &mut Vec<u8>) -> Result<(), OutOfMemory>
+    ensures ok { OnOk result (out.new.items ≡ out.old.items ++ decimal_text number) }
+    ensures front { Begins out.old.items out.new.items }
+{
+    let mut digits = Buffer::new();
+    append(digits.format(number), out)
+}
+
+/// Appends the digits of a number, if there is one.
+#[tactic(auto, using(list_laws::proofs::Begins::itself_begins, crate::proofs::WholeLaws::nothing_appended))]
+fn append_digits(number: Option<u64>, out: &mut Vec<u8>) -> Result<(), OutOfMemory>
+    ensures ok { OnOk result (out.new.items ≡ out.old.items ++ digits_of number) }
+    ensures front { Begins out.old.items out.new.items }
+{
+    match number {
+        None => Ok(()),
+        Some(number) => append_number(number, out),
+    }
+}
+
+// ---- appending a part
 
 /// Appends what is written of the digits of a number.
 fn push_number(number: u64, cut: &mut Cut, out: &mut Vec<u8>) -> Result<(), OutOfMemory>
@@ -117,15 +155,15 @@ impl TermKind {
         }
     }
 
-    /// What stands behind it.
+    /// What stands behind it, and a space.
     fn closing(self) -> &'static str
-        ensures { result.now ≡ closing self }
+        ensures { result.now ≡ closing self ++ 32 ∷ [] }
     {
         match self {
-            TermKind::Iri => ">",
-            TermKind::Blank => "",
-            TermKind::Plain => "\"",
-            TermKind::Integer => "\"^^<http://www.w3.org/2001/XMLSchema#integer>",
+            TermKind::Iri => "> ",
+            TermKind::Blank => " ",
+            TermKind::Plain => "\" ",
+            TermKind::Integer => "\"^^<http://www.w3.org/2001/XMLSchema#integer> ",
         }
     }
 }
@@ -191,12 +229,15 @@ impl<'a> TermText<'a> {
             + self.end.len() as u128
     }
 
-    /// How many bytes the canonical text of the term has, found without making it.
+    /// How many bytes the canonical text of the term and a space have, found without making it.
     pub(crate) fn length(self) -> u128
         requires { IsTerm self }
-        ensures length { result ≡ length (canonical_term (term_of self.entry)) }
+        ensures length { result ≡ length (canonical_term (term_of self.entry)) + 1 }
         ensures small { result < 2 ^ 67 }
     {
+        if !self.whole.is_empty() {
+            return self.whole.len() as u128;
+        }
         let around = self.kind.opening().len() + self.kind.closing().len();
         self.text_length() + around as u128
     }
@@ -224,8 +265,45 @@ impl<'a> TermText<'a> {
         cut.push(self.kind.opening().as_bytes(), out)?;
         self.write_text(cut, out)?;
         cut.push(self.kind.closing().as_bytes(), out)?;
-        cut.push(b" ", out)?;
         Ok(())
+    }
+
+    /// Appends the text.
+    #[tactic(auto, using(list_laws::proofs::Begins::begins_on, crate::proofs::WholeLaws::text_whole))]
+    fn append_text(self, out: &mut Vec<u8>) -> Result<(), OutOfMemory>
+        ensures ok { OnOk result (out.new.items ≡ out.old.items ++ text_of self.entry) }
+        ensures front { Begins out.old.items out.new.items }
+    {
+        append(self.front, out)?;
+        append(self.middle, out)?;
+        append_digits(self.number, out)?;
+        append(self.end, out)
+    }
+
+    /// Appends the canonical text of the term and a space, part by part.
+    #[tactic(auto, using(list_laws::proofs::Begins::begins_on))]
+    fn append_parts(self, out: &mut Vec<u8>) -> Result<(), OutOfMemory>
+        requires { IsTerm self }
+        ensures ok { OnOk result (out.new.items ≡ out.old.items ++ (canonical_term (term_of self.entry) ++ 32 ∷ [])) }
+        ensures front { Begins out.old.items out.new.items }
+    {
+        append(self.kind.opening(), out)?;
+        self.append_text(out)?;
+        append(self.kind.closing(), out)?;
+        Ok(())
+    }
+
+    /// Appends the canonical text of the term and a space.
+    pub(crate) fn append(self, out: &mut Vec<u8>) -> Result<(), OutOfMemory>
+        requires { IsTerm self }
+        ensures ok { OnOk result (out.new.items ≡ out.old.items ++ (canonical_term (term_of self.entry) ++ 32 ∷ [])) }
+        ensures front { Begins out.old.items out.new.items }
+    {
+        if self.whole.is_empty() {
+            self.append_parts(out)
+        } else {
+            append(self.whole, out)
+        }
     }
 }
 
@@ -243,6 +321,7 @@ fn of_texts<'a>(kind: TermKind, front: &'a str, end: &'a str) -> TermText<'a>
         middle: "",
         number: None,
         end,
+        whole: "",
     }
 }
 
@@ -277,34 +356,55 @@ pub(crate) fn plain<'a>(front: &'a str, end: &'a str) -> TermText<'a>
 
 // ---- words of vocabularies
 
-/// A word of Friend of a Friend.
+/// An IRI of two texts, whose canonical text and a space are at hand.
+fn word<'a>(front: &'a str, name: &'a str, whole: &'a str) -> TermText<'a>
+    requires front { IsTrue (is_iri front.now) }
+    requires name { list_all is_iri_byte name.now ≡ true }
+    requires whole { whole.now ≡ iri_spaced (front.now ++ name.now) }
+    ensures term { term_of result ≡ Term.Iri (front.now ++ name.now) }
+    ensures text { IsTerm result }
+{
+    TermText {
+        kind: TermKind::Iri,
+        front,
+        middle: "",
+        number: None,
+        end: name,
+        whole,
+    }
+}
+
+/// A word of Friend of a Friend, by its name and by its canonical text and a space.
 #[tactic(auto, unfolding(template_fill::specs::Metadata::foaf))]
-pub(crate) fn foaf(name: &str) -> TermText<'_>
-    requires { list_all is_iri_byte name.now ≡ true }
+pub(crate) fn foaf<'a>(name: &'a str, whole: &'a str) -> TermText<'a>
+    requires name { list_all is_iri_byte name.now ≡ true }
+    requires whole { whole.now ≡ iri_spaced (codes "http://xmlns.com/foaf/0.1/" ++ name.now) }
     ensures term { term_of result ≡ foaf name.now }
     ensures text { IsTerm result }
 {
-    iri("http://xmlns.com/foaf/0.1/", name)
+    word("http://xmlns.com/foaf/0.1/", name, whole)
 }
 
-/// A word of the Vocabulary of Interlinked Datasets.
+/// A word of the Vocabulary of Interlinked Datasets, by its name and by its canonical text and a space.
 #[tactic(auto, unfolding(template_fill::specs::Metadata::void))]
-pub(crate) fn void(name: &str) -> TermText<'_>
-    requires { list_all is_iri_byte name.now ≡ true }
+pub(crate) fn void<'a>(name: &'a str, whole: &'a str) -> TermText<'a>
+    requires name { list_all is_iri_byte name.now ≡ true }
+    requires whole { whole.now ≡ iri_spaced (codes "http://rdfs.org/ns/void#" ++ name.now) }
     ensures term { term_of result ≡ void name.now }
     ensures text { IsTerm result }
 {
-    iri("http://rdfs.org/ns/void#", name)
+    word("http://rdfs.org/ns/void#", name, whole)
 }
 
-/// A word of the Hydra Core Vocabulary.
+/// A word of the Hydra Core Vocabulary, by its name and by its canonical text and a space.
 #[tactic(auto, unfolding(template_fill::specs::Metadata::hydra))]
-pub(crate) fn hydra(name: &str) -> TermText<'_>
-    requires { list_all is_iri_byte name.now ≡ true }
+pub(crate) fn hydra<'a>(name: &'a str, whole: &'a str) -> TermText<'a>
+    requires name { list_all is_iri_byte name.now ≡ true }
+    requires whole { whole.now ≡ iri_spaced (codes "http://www.w3.org/ns/hydra/core#" ++ name.now) }
     ensures term { term_of result ≡ hydra name.now }
     ensures text { IsTerm result }
 {
-    iri("http://www.w3.org/ns/hydra/core#", name)
+    word("http://www.w3.org/ns/hydra/core#", name, whole)
 }
 
 /// A word of RDF.
@@ -317,14 +417,15 @@ pub(crate) fn rdf(name: &str) -> TermText<'_>
     iri("http://www.w3.org/1999/02/22-rdf-syntax-ns#", name)
 }
 
-/// A word of the Web Ontology Language.
+/// A word of the Web Ontology Language, by its name and by its canonical text and a space.
 #[tactic(auto, unfolding(template_fill::specs::Metadata::owl))]
-pub(crate) fn owl(name: &str) -> TermText<'_>
-    requires { list_all is_iri_byte name.now ≡ true }
+pub(crate) fn owl<'a>(name: &'a str, whole: &'a str) -> TermText<'a>
+    requires name { list_all is_iri_byte name.now ≡ true }
+    requires whole { whole.now ≡ iri_spaced (codes "http://www.w3.org/2002/07/owl#" ++ name.now) }
     ensures term { term_of result ≡ owl name.now }
     ensures text { IsTerm result }
 {
-    iri("http://www.w3.org/2002/07/owl#", name)
+    word("http://www.w3.org/2002/07/owl#", name, whole)
 }
 
 // ---- numbers
@@ -341,6 +442,7 @@ fn of_number(kind: TermKind, number: u64) -> TermText<'static>
         middle: "",
         number: Some(number),
         end: "",
+        whole: "",
     }
 }
 
