@@ -5,6 +5,7 @@ pub mod Targets
 pub mod Numbers
 pub mod LineLengths
 pub mod Appends
+pub mod PlainForms
 pub mod PartLaws
 pub mod GivenParts
 pub mod RestLaws

@@ -1,6 +1,6 @@
 -- What is left of a body.
-use Rattle.std.proofs.Common.{◌≡◌, ℕ, zero, suc, ◌+◌, ◌-◌, ◌<◌, ◌≤◌, Bool, true, false, List, [], ◌∷◌, ◌++◌, map, length, take, drop, refl, ap, ap₂, sym, subst, ◌∙◌, arith, append_assoc, append-nil, length-drop}
-use Rattle.std.specs.Prelude.{slice_index_or, nat_lt, ◌||◌}
+use Rattle.std.proofs.Common.{◌≡◌, ℕ, zero, suc, ◌+◌, ◌-◌, ◌<◌, ◌≤◌, Bool, true, false, List, [], ◌∷◌, ◌++◌, map, length, take, drop, refl, ap, ap₂, sym, subst, ◌∙◌, arith, append_assoc, append-nil, Vec, Global, length-append, length-drop}
+use Rattle.std.specs.Prelude.{slice_index_or, nat_le, nat_lt, ◌||◌}
 use Rattle.std.specs.List.{concat}
 use Rattle.std.proofs.lemmas.List.{drop_all, length-map}
 use Rattle.std.proofs.lemmas.Bool.{ltb-false, or_parts, true≢false}
@@ -21,15 +21,15 @@ use Rattle.tpf_server.specs.declared.status.Status.{Status}
 use Rattle.tpf_server.specs.Statuses.{code}
 use Rattle.tpf_server.specs.Lines.{quad_lines, some_quad, triple_line, triple_lines}
 use Rattle.tpf_server.specs.Parts.{triple_marks}
-use Rattle.tpf_server.specs.Given.{IsGiven}
+use Rattle.tpf_server.specs.Given.{IsGiven, IsMore}
 use Rattle.tpf_server.specs.declared.rest.PageTriples.{PageTriples}
 use Rattle.tpf_server.specs.declared.rest.PageTriples.TheVariants.{Part, Listed}
-use Rattle.tpf_server.specs.PageRests.{ArePart, IsBegun, IsPart, PageLines, begun_text, lines_left, page_left, page_text, triples_left, triples_of}
+use Rattle.tpf_server.specs.PageRests.{ArePart, IsBegun, IsFirst, IsPart, IsShortMetadata, PageLines, after_first, begun_text, lines_left, lines_text, page_left, page_text, triples_left, triples_of}
 use Rattle.tpf_server.specs.declared.rest.Rest.{Rest}
 use Rattle.tpf_server.specs.declared.rest.Rest.TheVariants.{Nothing, Line, Words, Page}
 use Rattle.tpf_server.specs.Rests.{IsWithin, is_left, rest_text}
 use Rattle.tpf_server.proofs.StatusLaws.{body_few, body_some}
-use Rattle.tpf_server.proofs.LineLengths.{drop_at, line_length}
+use Rattle.tpf_server.proofs.LineLengths.{drop_at, line_length, triple_line_length}
 use Rattle.tpf_server.proofs.PartLaws.{are_dropped, marks_low, triple_are, triple_some, triple_text}
 
 drop_one : {A : Type 0} (xs : List A) (n : ℕ) → drop 1 (drop n xs) ≡ drop (suc n) xs
@@ -101,6 +101,31 @@ pub ids_first : (s : Stored) (ids : List IdTriple) (next : ℕ) (d : IdTriple) �
 ids_first s ids next d within =
     let e : suc next ≡ next + 1 = omega arith in
     ap (λ (l : List IdTriple). map (triple_at (held_terms s)) l) (drop_at ids next d within ∙ ap (λ (n : ℕ). slice_index_or ids next d ∷ drop n ids) e)
+
+pub part_is_first : (s : Stored) (triples : PageTriples) (range : Range) (ids : IdTriple) → triples ≡ Part range → ArePart s triples → triples_left triples ≡ true → IsIdTriple (held_terms s) ids
+    → ((d : Triple) → slice_index_or (listed s range) 0 d ≡ triple_at (held_terms s) ids) → IsFirst s triples ids (after_first triples)
+part_is_first s triples range ids is part left valid first =
+    let own : IsPart s range = subst (ArePart s) is part in
+    let some : range.from < range.to = below_is range.from range.to (subst (λ (x : PageTriples). triples_left x ≡ true) is left) in
+    record {
+      held = valid;
+      first = part_passes s triples range ids is part left first ∙ ap (λ (t : PageTriples). triple_at (held_terms s) ids ∷ triples_of s (after_first t)) (sym is);
+      part = subst (λ (t : PageTriples). ArePart s (after_first t)) (sym is) (part_passed s range own some);
+    }
+
+pub listed_first : (s : Stored) (triples : PageTriples) (list : Vec IdTriple Global) (next : ℕ) (ids : IdTriple) → triples ≡ Listed list next → ArePart s triples → triples_left triples ≡ true
+    → ((d : IdTriple) → ids ≡ slice_index_or list.items next d) → IsIdTriple (held_terms s) ids → IsFirst s triples ids (after_first triples)
+listed_first s triples list next ids is part left at valid =
+    let within : next < length list.items = below_is next (length list.items) (subst (λ (x : PageTriples). triples_left x ≡ true) is left) in
+    record {
+      held = valid;
+      first =
+          ap (triples_of s) is
+          ∙ ids_first s list.items next ids within
+          ∙ ap (λ (t : IdTriple). triple_at (held_terms s) t ∷ map (triple_at (held_terms s)) (drop (next + 1) list.items)) (sym (at ids))
+          ∙ ap (λ (t : PageTriples). triple_at (held_terms s) ids ∷ triples_of s (after_first t)) (sym is);
+      part = subst (λ (t : PageTriples). ArePart s (after_first t)) (sym is) (subst (ArePart s) is part);
+    }
 
 -- of triples that are left there is one, and of others none
 pub some_triples : (s : Stored) (triples : PageTriples) → ArePart s triples → triples_left triples ≡ true → 0 < length (triples_of s triples)
@@ -285,6 +310,120 @@ left_is (q ∷ quads) (suc i) = below_suc i (length quads) ∙ left_is quads i
 
 pub quads_are : (s : Stored) (triples : PageTriples) (quads : List Quad) (i n : ℕ) (t : List ℕ) (p : PageLines) → record { begun = t; table = s; triples = triples; quads = drop i quads } ≡ p → n ≡ length quads → nat_lt i n ≡ nat_lt 0 (length p.quads)
 quads_are s triples quads i n t p same size = ap (nat_lt i) size ∙ left_is quads i ∙ ap (λ (x : PageLines). nat_lt 0 (length x.quads)) same
+
+-- ---- several lines at once
+
+pub more_none : (room : ℕ) (text before : List ℕ) → IsMore room text text before before
+more_none room text before = record { part = []; text = refl; appended = sym (append-nil before); few = omega arith }
+
+-- a part was appended and then another one behind it
+pub more_again : (room left : ℕ) (old mid new before one after : List ℕ) → left ≡ room - (length one - length before) → IsMore room old mid before one → IsMore left mid new one after
+    → IsMore room old new before after
+more_again room left old mid new before one after is first more =
+    let size = ap (λ (l : List ℕ). length l) first.appended ∙ length-append before first.part in
+    record {
+      part = first.part ++ more.part;
+      text = first.text ∙ ap (λ (l : List ℕ). first.part ++ l) more.text ∙ sym (append_assoc first.part more.part new);
+      appended = more.appended ∙ ap (λ (l : List ℕ). l ++ more.part) first.appended ∙ append_assoc before first.part more.part;
+      few = omega (arith, is, size, first.few, more.few, length-append first.part more.part);
+    }
+
+pub given_more : (room : ℕ) (old mid new before one after : List ℕ) → room ≡ 16384 - (length one - length before) → IsGiven old mid before one → IsMore room mid new one after → IsGiven old new before after
+given_more room old mid new before one after is first more =
+    let size = ap (λ (l : List ℕ). length l) first.appended ∙ length-append before first.part in
+    record {
+      part = first.part ++ more.part;
+      text = first.text ∙ ap (λ (l : List ℕ). first.part ++ l) more.text ∙ sym (append_assoc first.part more.part new);
+      appended = more.appended ∙ ap (λ (l : List ℕ). l ++ more.part) first.appended ∙ append_assoc before first.part more.part;
+      some = omega (arith, first.some, length-append first.part more.part);
+      few = omega (arith, is, size, first.few, more.few, length-append first.part more.part);
+    }
+
+-- how many bytes a part has
+pub more_size : (room : ℕ) (old new before after : List ℕ) → IsMore room old new before after → (length before ≤ length after) × (length after - length before ≤ room)
+more_size room old new before after more =
+    let size = ap (λ (l : List ℕ). length l) more.appended ∙ length-append before more.part in
+    (omega (arith, size), omega (arith, size, more.few))
+
+pub given_size : (old new before after : List ℕ) → IsGiven old new before after → (length before ≤ length after) × (length after - length before ≤ 16384)
+given_size old new before after given = more_size 16384 old new before after (record { part = given.part; text = given.text; appended = given.appended; few = given.few })
+
+module _ (s : Stored) (old new : PageTriples) (ids : IdTriple) (first : triples_of s old ≡ triple_at (held_terms s) ids ∷ triples_of s (after_first old)) (is : new ≡ after_first old) where
+  first_line_is : lines_text s old ≡ triple_line (triple_at (held_terms s) ids) ++ lines_text s new
+  first_line_is =
+      ap (λ (l : List Triple). concat (triple_lines l)) first
+      ∙ ap (λ (t : PageTriples). triple_line (triple_at (held_terms s) ids) ++ lines_text s t) (sym is)
+
+  -- the line of the first triple was appended
+  pub more_line : (room n : ℕ) (before after : List ℕ) → n ≡ length (triple_line (triple_at (held_terms s) ids)) → n ≤ room → after ≡ before ++ triple_line (triple_at (held_terms s) ids)
+      → IsMore room (lines_text s old) (lines_text s new) before after
+  more_line room n before after size fits appended =
+      record { part = triple_line (triple_at (held_terms s) ids); text = first_line_is; appended = appended; few = omega (arith, size, fits) }
+
+  pub fewer_lines : length (lines_text s new) < length (lines_text s old)
+  fewer_lines =
+      omega (arith, ap (λ (l : List ℕ). length l) first_line_is, length-append (triple_line (triple_at (held_terms s) ids)) (lines_text s new), triple_line_length (triple_at (held_terms s) ids))
+
+-- lines were appended where none was begun
+pub more_lines : (s held : Stored) (quads : List Quad) (b : Begun) (triples new : PageTriples) (i : ℕ) (p : PageLines) → lines_at s quads b triples i ≡ p → held ≡ s → b ≡ begins.Nothing
+    → (room : ℕ) (before after : List ℕ) → IsMore room (lines_text held triples) (lines_text held new) before after → IsMore room (page_text p) (page_text (lines_at s quads b new i)) before after
+unfolding page_text begun_text
+more_lines s held quads b triples new i p same of is room before after more =
+    let rest = concat (quad_lines (drop i quads)) in
+    let none : begun_text s quads b ≡ [] = ap (begun_text s quads) is in
+    let own : IsMore room (lines_text s triples) (lines_text s new) before after = subst (λ (x : Stored). IsMore room (lines_text x triples) (lines_text x new) before after) of more in
+    record {
+      part = own.part;
+      text =
+          sym (ap page_text same)
+          ∙ ap (λ (l : List ℕ). l ++ (lines_text s triples ++ rest)) none
+          ∙ ap (λ (l : List ℕ). l ++ rest) own.text
+          ∙ append_assoc own.part (lines_text s new) rest
+          ∙ ap (λ (l : List ℕ). own.part ++ (l ++ (lines_text s new ++ rest))) (sym none);
+      appended = own.appended;
+      few = own.few;
+    }
+
+pub fits_is : (n most : ℕ) → nat_le n most ≡ true → n ≤ most
+fits_is n most h = grind (arith, h)
+
+pub short_metadata_is : (s : Stored) (quads : List Quad) (b : Begun) (triples : PageTriples) (i n : ℕ) (p : PageLines) → lines_at s quads b triples i ≡ p → i ≡ 0 → nat_lt 0 (length p.begun) ≡ false → triples_left p.triples ≡ false
+    → n ≡ length (concat (quad_lines quads)) → n ≤ 16384 → IsShortMetadata p
+short_metadata_is s quads b triples i n p same first none past size fits = record {
+  begun = no_bytes p.begun none;
+  past = past;
+  few = subst (λ (x : PageLines). length (concat (quad_lines x.quads)) ≤ 16384) same (subst (λ (k : ℕ). length (concat (quad_lines (drop k quads))) ≤ 16384) (sym first) (omega (arith, size, fits)));
+}
+
+lines_some : (quads : List Quad) → 0 < length quads → 0 < length (concat (quad_lines quads))
+lines_some [] h = absurd (omega arith)
+lines_some (q ∷ quads) h = omega (arith, line_length q, length-append (canonical_line q) (concat (quad_lines quads)))
+
+none_is : nat_lt 0 0 ≡ false
+none_is = grind arith
+
+-- the metadata were appended
+pub given_metadata : (s : Stored) (quads : List Quad) (b : Begun) (triples : PageTriples) (i n : ℕ) (p : PageLines) → lines_at s quads b triples i ≡ p → IsShortMetadata p → page_left p ≡ true → n ≡ length quads
+    → (before after : List ℕ) → after ≡ before ++ concat (quad_lines (drop i quads)) → IsGiven (page_text p) (page_text (lines_at s quads b triples n)) before after
+unfolding page_text
+given_metadata s quads b triples i n p same short left size before after appended =
+    let text = concat (quad_lines p.quads) in
+    let none : nat_lt 0 (length p.begun) ≡ false = ap (λ (l : List ℕ). nat_lt 0 (length l)) short.begun ∙ none_is in
+    let begun : begun_text s quads b ≡ [] = ap (λ (x : PageLines). x.begun) same ∙ short.begun in
+    let past : triples_left triples ≡ false = subst (λ (x : PageLines). triples_left x.triples ≡ false) (sym same) short.past in
+    let over : page_text (lines_at s quads b triples n) ≡ [] =
+    ap (λ (l : List ℕ). l ++ (concat (triple_lines (triples_of s triples)) ++ concat (quad_lines (drop n quads)))) begun
+    ∙ ap₂ (λ (l : List Triple) (qs : List Quad). concat (triple_lines l) ++ concat (quad_lines qs)) (no_triples s triples past) (drop_all n quads (omega (arith, size))) in
+    let all : page_text p ≡ text =
+    ap (λ (l : List ℕ). l ++ (concat (triple_lines (triples_of p.table p.triples)) ++ text)) short.begun
+    ∙ ap (λ (l : List Triple). concat (triple_lines l) ++ text) (no_triples p.table p.triples short.past) in
+    record {
+      part = text;
+      text = all ∙ sym (append-nil text) ∙ ap (λ (l : List ℕ). text ++ l) (sym over);
+      appended = appended ∙ ap (λ (x : PageLines). before ++ concat (quad_lines x.quads)) same;
+      some = lines_some p.quads (quads_left p (lines_of p left none) short.past);
+      few = short.few;
+    }
 
 -- ---- bodies
 

@@ -24,8 +24,8 @@ use tpf_base::OutOfMemory;
 const KEPT: usize = 16384;
 
 /// One connection of a server: it takes the bytes that come and gives those of the response in
-/// parts, each of at most 16384 bytes: the head of an answer, a line of a body, or a part of a long line.
-/// No body is made whole, and no long line. So at most 81919 bytes are pending at any time, whatever is
+/// parts, each of at most 16384 bytes: the head of an answer, lines of a body, or a part of a long line.
+/// No long body is made whole, and no long line. So at most 81919 bytes are pending at any time, whatever is
 /// asked for: 65535, and one part.
 ///
 /// A head is answered over the version that the server has when the head is read, also where the

@@ -1,16 +1,15 @@
 // The lines of a page: their lengths, and the bytes of those of triples.
-ghost use Rattle.std.specs.Prelude.{ℕ, ◌≡◌, ◌+◌, ◌*◌, ◌-◌, ◌<◌, ◌≤◌, ◌^◌, ◌++◌, ◌∷◌, [], Some, None, List, length, map, take, drop, OnOk};
+ghost use Rattle.std.specs.Prelude.{ℕ, ◌≡◌, ◌+◌, ◌*◌, ◌-◌, ◌<◌, ◌≤◌, ◌^◌, ◌++◌, ◌∷◌, [], Some, None, List, length, map, take, drop, true, OnOk};
 ghost use Rattle.std.specs.List.{All, concat};
 ghost use Rattle.rdf_terms.specs.declared.term.Triple.{Triple};
 ghost use Rattle.rdf_terms.specs.Canon.{canonical_term, canonical_line};
 ghost use Rattle.list_laws.specs.Begins.{Begins};
 ghost use Rattle.triple_table.specs.Stored.{IsRange, IsIdTriple, held_terms, listed, term_at, triple_at};
 ghost use Rattle.template_fill.specs.Bodies.{in_default_graph};
-ghost use Rattle.tpf_server.specs.Lines.{quad_lines, triple_lines};
+ghost use Rattle.tpf_server.specs.Lines.{spaced_at, triple_line, triple_lines};
 
-use hydra_controls::MetadataLines;
 use nquads_text::canonical;
-use rdf_terms::Term;
+use rdf_terms::{Kind, Term};
 use tpf_base::OutOfMemory;
 use triple_table::{IdTriple, Range, Table};
 
@@ -25,18 +24,6 @@ pub fn triple_length(table: &Table, ids: IdTriple) -> u128
         + table.canonical_len(ids.predicate)
         + table.canonical_len(ids.object)
         + 5
-}
-
-/// The length of the lines of a page's metadata.
-pub fn metadata_length(lines: &MetadataLines) -> u128
-    ensures length { result ≡ length (concat (quad_lines lines.now)) }
-    ensures small { result ≤ 1000 * 2 ^ 70 }
-{
-    let mut sum = 0;
-    for i in 0..lines.count() {
-        sum += lines.length(i);
-    }
-    sum
 }
 
 /// The length of the lines of a range of the table, which has at most 1000 triples.
@@ -69,25 +56,95 @@ pub fn listed_length(table: &Table, triples: &[IdTriple]) -> u128
     sum
 }
 
-/// Appends a term and what stands behind it.
+// ---- appending
+
+/// Appends a byte.
+#[tactic(auto, using(list_laws::proofs::Begins::same_begins, list_laws::proofs::Begins::more_begins))]
+fn append_byte(b: u8, out: &mut Vec<u8>) -> Result<(), OutOfMemory>
+    ensures ok { OnOk result (out.new.items ≡ out.old.items ++ b ∷ []) }
+    ensures front { Begins out.old.items out.new.items }
+{
+    out.push(b)?;
+    Ok(())
+}
+
+/// Appends a text.
+#[tactic(auto, using(list_laws::proofs::Begins::same_begins, list_laws::proofs::Begins::more_begins))]
+fn append(text: &str, out: &mut Vec<u8>) -> Result<(), OutOfMemory>
+    ensures ok { OnOk result (out.new.items ≡ out.old.items ++ text.now) }
+    ensures front { Begins out.old.items out.new.items }
+{
+    out.extend_from_slice(text.as_bytes())?;
+    Ok(())
+}
+
+/// Appends a byte, a text, and the same or another byte and a space.
+#[tactic(auto, using(list_laws::proofs::Begins::begins_on, crate::proofs::Appends::enclosed_stands))]
+fn append_enclosed(
+    opening: u8,
+    text: &str,
+    closing: u8,
+    out: &mut Vec<u8>,
+) -> Result<(), OutOfMemory>
+    ensures ok { OnOk result (out.new.items ≡ out.old.items ++ ((opening ∷ (text.now ++ closing ∷ [])) ++ 32 ∷ [])) }
+    ensures front { Begins out.old.items out.new.items }
+{
+    append_byte(opening, out)?;
+    append(text, out)?;
+    append_byte(closing, out)?;
+    append_byte(b' ', out)
+}
+
+/// Appends a term and a space.
 #[tactic(auto, using(list_laws::proofs::Begins::begins_on, list_laws::proofs::Begins::more_begins, list_laws::proofs::Begins::same_begins))]
-fn write_term(term: &Term, end: &[u8], out: &mut Vec<u8>) -> Result<(), OutOfMemory>
-    ensures ok { OnOk result (out.new.items ≡ out.old.items ++ (canonical_term term.now ++ end.now)) }
+fn append_term(term: &Term, out: &mut Vec<u8>) -> Result<(), OutOfMemory>
+    ensures ok { OnOk result (out.new.items ≡ out.old.items ++ (canonical_term term.now ++ 32 ∷ [])) }
     ensures front { Begins out.old.items out.new.items }
 {
     canonical(term, out)?;
-    out.extend_from_slice(end)?;
-    Ok(())
+    append_byte(b' ', out)
+}
+
+/// Whether a literal whose canonical text has so many bytes is plain, and none of its bytes is written with a backslash.
+fn is_plain(form: &str, kind: &Kind, bytes: u128) -> bool
+    ensures { result ≡ true → (kind.now ≡ Kind.Plain) × (bytes ≡ length form.now + 2) }
+{
+    match kind {
+        Kind::Plain => bytes == form.len() as u128 + 2,
+        Kind::Typed(_) => false,
+        Kind::Tagged(_) => false,
+    }
+}
+
+/// Appends the term of the table with this id, and a space. Of an IRI and of a literal without a backslash the text is copied at once.
+fn append_at(table: &Table, id: u32, out: &mut Vec<u8>) -> Result<(), OutOfMemory>
+    requires { id < length (held_terms table.now) }
+    ensures ok { OnOk result (out.new.items ≡ out.old.items ++ spaced_at (held_terms table.now) id) }
+    ensures front { Begins out.old.items out.new.items }
+{
+    let term = table.term(id);
+    match term {
+        Term::Iri(text) => append_enclosed(b'<', text.as_str(), b'>', out),
+        Term::Blank(_) => append_term(term, out),
+        Term::Literal { form, kind } => {
+            if is_plain(form.as_str(), kind, table.canonical_len(id)) {
+                append_enclosed(b'"', form.as_str(), b'"', out)
+            } else {
+                append_term(term, out)
+            }
+        }
+    }
 }
 
 /// Appends the line of a triple of the table.
 #[tactic(auto, using(crate::proofs::Appends::line_stands, list_laws::proofs::Begins::begins_on))]
 pub fn write_triple(table: &Table, ids: IdTriple, out: &mut Vec<u8>) -> Result<(), OutOfMemory>
     requires { IsIdTriple (held_terms table.now) ids }
-    ensures ok { OnOk result (out.new.items ≡ out.old.items ++ canonical_line (in_default_graph (triple_at (held_terms table.now) ids))) }
+    ensures ok { OnOk result (out.new.items ≡ out.old.items ++ triple_line (triple_at (held_terms table.now) ids)) }
     ensures front { Begins out.old.items out.new.items }
 {
-    write_term(table.term(ids.subject), b" ", out)?;
-    write_term(table.term(ids.predicate), b" ", out)?;
-    write_term(table.term(ids.object), b" .\n", out)
+    append_at(table, ids.subject, out)?;
+    append_at(table, ids.predicate, out)?;
+    append_at(table, ids.object, out)?;
+    append(".\n", out)
 }

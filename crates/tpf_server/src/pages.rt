@@ -14,7 +14,7 @@ ghost use Rattle.tpf_server.specs.Opened.{Opens, OpensNumber, OpensPage, lines_o
 
 use crate::asked::Asking;
 use crate::head::MediaType;
-use crate::lines::{listed_length, metadata_length, triples_length};
+use crate::lines::{listed_length, triples_length};
 use crate::rest::{PageRest, PageTriples, Rest};
 use crate::snapshot::Snapshot;
 use crate::status::Status;
@@ -91,7 +91,7 @@ fn open_lines(
     requires { bytes ≤ 1000 * 2 ^ 70 }
     ensures { IfOk result (λ o. o ≡ lines_opened snapshot.now.table triples bytes metadata) }
 {
-    let length = bytes + metadata_length(&metadata);
+    let length = bytes + metadata.total_length();
     Ok(Opened {
         status: Status::Success,
         media: MediaType::NQuads,

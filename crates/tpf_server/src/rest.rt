@@ -1,11 +1,11 @@
 // What is left of the body of an answer that was begun.
-ghost use Rattle.std.specs.Prelude.{ℕ, ◌≡◌, ◌++◌, ◌∷◌, [], ◌<◌, ◌≤◌, length, drop, nat_lt, false, true, IsTrue, OnOk, ◌↔◌};
+ghost use Rattle.std.specs.Prelude.{ℕ, ◌≡◌, ◌++◌, [], ◌<◌, ◌≤◌, length, drop, nat_lt, false, true, IsTrue, IfOk, OnOk, ◌↔◌};
 ghost use Rattle.list_laws.specs.Begins.{Begins};
-ghost use Rattle.tpf_server.specs.Given.{IsGiven};
-ghost use Rattle.triple_table.specs.Stored.{IsIdTriple, held_terms, triple_at};
-ghost use Rattle.tpf_server.specs.PageRests.{ArePart, lines_left, page_left, page_text, triples_left, triples_of};
+ghost use Rattle.tpf_server.specs.Given.{IsGiven, IsMore};
+ghost use Rattle.tpf_server.specs.PageRests.{ArePart, GivesLines, HasFewer, IsFirst, IsShortMetadata, after_first, lines_left, page_left, page_text, triples_left};
 ghost use Rattle.tpf_server.specs.Rests.{IsWithin, is_left, rest_text};
 
+use crate::lines::{triple_length, write_triple};
 use crate::parts::{Begun, write_line_part, write_triple_part};
 use crate::snapshot::Snapshot;
 use crate::status::Status;
@@ -13,6 +13,9 @@ use hydra_controls::MetadataLines;
 use std::marker::Model;
 use tpf_base::{OutOfMemory, Text};
 use triple_table::{IdTriple, Range, Table};
+
+/// The most bytes of a part.
+const MOST: usize = 16384;
 
 /// Triples of a page, in their order: a range of the table, or those of a list from a place on.
 #[derive(Drop)]
@@ -32,27 +35,91 @@ impl PageTriples {
         }
     }
 
-    /// Passes the first one, and tells its ids.
-    fn pass(&mut self, table: &Table) -> IdTriple
-        requires part { ArePart table.now self.old }
-        requires some { triples_left self.old ≡ true }
-        ensures ids { IsIdTriple (held_terms table.now) result }
-        ensures first { triples_of table.now self.old ≡ triple_at (held_terms table.now) result ∷ triples_of table.now self.new }
-        ensures part { ArePart table.now self.new }
+    /// The ids of the first one.
+    #[tactic(auto, using(crate::proofs::RestLaws::listed_first))]
+    fn first(&self, table: &Table) -> IdTriple
+        requires part { ArePart table.now self.now }
+        requires some { triples_left self.now ≡ true }
+        ensures { IsFirst table.now self.now result (after_first self.now) }
+    {
+        match self {
+            PageTriples::Part(range) => table.at(range, 0),
+            PageTriples::Listed { triples, next } => triples[*next],
+        }
+    }
+
+    /// Passes the first one.
+    fn skip(&mut self)
+        requires { triples_left self.old ≡ true }
+        ensures { self.new ≡ after_first self.old }
     {
         match self {
             PageTriples::Part(range) => {
                 let _end = range.to;
-                let ids = table.at(range, 0);
                 range.from += 1;
-                ids
             }
             PageTriples::Listed { triples, next } => {
-                let ids = triples[*next];
+                let _end = triples.len();
                 *next += 1;
-                ids
             }
         }
+    }
+
+    /// Passes the first one, and tells its ids.
+    fn pass(&mut self, table: &Table) -> IdTriple
+        requires part { ArePart table.now self.old }
+        requires some { triples_left self.old ≡ true }
+        ensures { IsFirst table.now self.old result self.new }
+    {
+        let ids = self.first(table);
+        self.skip();
+        ids
+    }
+
+    /// Appends the line of the first one and passes it, where the line has at most so many bytes. Tells
+    /// whether it has.
+    fn write_short(
+        &mut self,
+        table: &Table,
+        room: usize,
+        out: &mut Vec<u8>,
+    ) -> Result<bool, OutOfMemory>
+        requires part { ArePart table.now self.old }
+        requires some { triples_left self.old ≡ true }
+        ensures ok { OnOk result (GivesLines room table.now self.old self.new out.old.items out.new.items) }
+        ensures fewer { IfOk result (λ short. short ≡ true → HasFewer table.now self.old self.new) }
+        ensures part { ArePart table.now self.new }
+        ensures front { Begins out.old.items out.new.items }
+    {
+        let ids = self.first(table);
+        if triple_length(table, ids) > room as u128 {
+            return Ok(false);
+        }
+        write_triple(table, ids, out)?;
+        self.skip();
+        Ok(true)
+    }
+
+    /// Appends the first lines, as many as stand whole in so many bytes, and passes their triples.
+    fn write_lines(
+        &mut self,
+        table: &Table,
+        room: usize,
+        out: &mut Vec<u8>,
+    ) -> Result<(), OutOfMemory>
+        requires part { ArePart table.now self.old }
+        ensures ok { OnOk result (GivesLines room table.now self.old self.new out.old.items out.new.items) }
+        ensures part { ArePart table.now self.new }
+        ensures front { Begins out.old.items out.new.items }
+    {
+        let start = out.len();
+        while self.is_left() {
+            let left = room - (out.len() - start);
+            if !self.write_short(table, left, out)? {
+                return Ok(());
+            }
+        }
+        Ok(())
     }
 }
 
@@ -211,9 +278,9 @@ impl PageRest {
         }
     }
 
-    /// Appends the next part.
+    /// Appends the next line or a part of it.
     #[tactic(auto, using(crate::proofs::RestLaws::part_kept))]
-    fn give(&mut self, out: &mut Vec<u8>) -> Result<(), OutOfMemory>
+    fn give_line(&mut self, out: &mut Vec<u8>) -> Result<(), OutOfMemory>
         requires part { ArePart self.old.table self.old.triples }
         requires some { page_left self.old ≡ true }
         ensures ok { OnOk result (IsGiven (page_text self.old) (page_text self.new) out.old.items out.new.items) }
@@ -222,6 +289,85 @@ impl PageRest {
     {
         self.begin_next();
         self.go_on(out)
+    }
+
+    /// Appends lines of triples, as many as stand whole in so many bytes, unless a byte is left of the line
+    /// that was begun.
+    fn give_more(&mut self, room: usize, out: &mut Vec<u8>) -> Result<(), OutOfMemory>
+        requires { ArePart self.old.table self.old.triples }
+        ensures ok { OnOk result (IsMore room (page_text self.old) (page_text self.new) out.old.items out.new.items) }
+        ensures part { ArePart self.new.table self.new.triples }
+        ensures front { Begins out.old.items out.new.items }
+    {
+        match self.begun {
+            Begun::Nothing => {
+                self.triples.write_lines(self.snapshot.table(), room, out)?;
+                Ok(())
+            }
+            Begun::Triple(_, _) => Ok(()),
+            Begun::Line(_, _) => Ok(()),
+        }
+    }
+
+    /// Appends a part of lines: the next line or a part of it, and the lines of triples behind it that are
+    /// no longer together than a part may be.
+    #[tactic(auto, using(crate::proofs::RestLaws::given_more, list_laws::proofs::Begins::begins_on))]
+    fn give_lines(&mut self, out: &mut Vec<u8>) -> Result<(), OutOfMemory>
+        requires part { ArePart self.old.table self.old.triples }
+        requires some { page_left self.old ≡ true }
+        ensures ok { OnOk result (IsGiven (page_text self.old) (page_text self.new) out.old.items out.new.items) }
+        ensures part { ArePart self.new.table self.new.triples }
+        ensures front { Begins out.old.items out.new.items }
+    {
+        let before = out.len();
+        self.give_line(out)?;
+        self.give_more(MOST - (out.len() - before), out)?;
+        Ok(())
+    }
+
+    /// Whether nothing is left but the metadata, of which no byte was given, and they are one part.
+    fn has_short_metadata(&self) -> bool
+        ensures { result ≡ true → IsShortMetadata self.now }
+    {
+        if self.next > 0 {
+            return false;
+        }
+        if self.is_begun() {
+            return false;
+        }
+        if self.has_triples() {
+            return false;
+        }
+        self.metadata.total_length() <= MOST as u128
+    }
+
+    /// Appends the metadata.
+    fn give_metadata(&mut self, out: &mut Vec<u8>) -> Result<(), OutOfMemory>
+        requires part { ArePart self.old.table self.old.triples }
+        requires some { page_left self.old ≡ true }
+        requires short { IsShortMetadata self.old }
+        ensures ok { OnOk result (IsGiven (page_text self.old) (page_text self.new) out.old.items out.new.items) }
+        ensures part { ArePart self.new.table self.new.triples }
+        ensures front { Begins out.old.items out.new.items }
+    {
+        self.metadata.write_from(self.next, out)?;
+        self.next = self.metadata.count();
+        Ok(())
+    }
+
+    /// Appends the next part.
+    fn give(&mut self, out: &mut Vec<u8>) -> Result<(), OutOfMemory>
+        requires part { ArePart self.old.table self.old.triples }
+        requires some { page_left self.old ≡ true }
+        ensures ok { OnOk result (IsGiven (page_text self.old) (page_text self.new) out.old.items out.new.items) }
+        ensures part { ArePart self.new.table self.new.triples }
+        ensures front { Begins out.old.items out.new.items }
+    {
+        if self.has_short_metadata() {
+            self.give_metadata(out)
+        } else {
+            self.give_lines(out)
+        }
     }
 }
 

@@ -5,7 +5,7 @@ use Rattle.tpf_server.proofs.RestLaws.{first_triple, first_triple_long, triple_s
 use Rattle.tpf_server.proofs.rest.PageRest.begin_triple.Goals as goal
 
 pub invariant_of-self : goal.invariant_of-self
-invariant_of-self c = first_triple c.self.inside.snapshot.table c.self.inside.metadata c.pass-ids.result (subst (λ (s : Stored). IsIdTriple (held_terms s) c.pass-ids.result) c.table.ensures c.pass-ids.ensures.ids)
+invariant_of-self c = first_triple c.self.inside.snapshot.table c.self.inside.metadata c.pass-ids.result (subst (λ (s : Stored). IsIdTriple (held_terms s) c.pass-ids.result) c.table.ensures c.pass-ids.ensures.held)
 
 pub returns-clause-text : goal.returns-clause-text
 returns-clause-text c =
@@ -14,4 +14,4 @@ returns-clause-text c =
     (subst (λ (s : Stored). triples_of s c.self.inside.triples ≡ triple_at (held_terms s) c.pass-ids.result ∷ triples_of s c.pass-ids.new.self) c.table.ensures c.pass-ids.ensures.first)
 
 pub returns-clause-begun : goal.returns-clause-begun
-returns-clause-begun c = first_triple_long c.self.inside.snapshot.table c.self.inside.metadata c.pass-ids.result (subst (λ (s : Stored). IsIdTriple (held_terms s) c.pass-ids.result) c.table.ensures c.pass-ids.ensures.ids)
+returns-clause-begun c = first_triple_long c.self.inside.snapshot.table c.self.inside.metadata c.pass-ids.result (subst (λ (s : Stored). IsIdTriple (held_terms s) c.pass-ids.result) c.table.ensures c.pass-ids.ensures.held)
