@@ -187,7 +187,7 @@ module _ {C Data Settings : Type 0} where
 
   pub hears_moves : (kind : Kind C Data Settings) (served : Serving Data Settings) (k : ℕ) (old new : C) (a b : WireState) → (a.links k).is_open ≡ true
       → Hears kind served k old new a b received.Fed → MovesOn Receiving k a b × (b.idle ≡ 0)
-  hears_moves kind served k old new a b up h = let f = h.fed refl in (record { piece = f.0; some = f.1; moves = ComesIn refl f.5 f.2 h.sent; is_open = h.is_open ∙ up }, f.4)
+  hears_moves kind served k old new a b up h = let f = h.fed refl in (record { piece = f.piece; some = f.some; moves = ComesIn refl f.most f.received h.sent; is_open = h.is_open ∙ up }, f.idle)
 
   pub hears_stalls : (kind : Kind C Data Settings) (served : Serving Data Settings) (k : ℕ) (old new : C) (a b : WireState) → (a.links k).is_open ≡ true
       → Hears kind served k old new a b received.NotYet → StallsOn Receiving k a b

@@ -1,5 +1,5 @@
 -- The links of all live connections are closed, one after another, and what the traffic is then.
-use Rattle.std.proofs.Common.{ℕ, ◌≡◌, ◌≢◌, ◌+◌, ◌<◌, ◌≤◌, ◌⊎◌, inl, inr, List, length, Option, Some, None, Bool, true, false, refl, sym, ◌∙◌, ap, subst, arith}
+use Rattle.std.proofs.Common.{ℕ, ◌≡◌, ◌≢◌, ◌+◌, ◌<◌, ◌≤◌, inl, inr, List, length, Option, Some, None, true, false, refl, sym, ◌∙◌, ap, subst, arith}
 use Rattle.tpf_base.specs.Causes.{RoseBy}
 use Rattle.tpf_base.specs.Links.{Link, WireState}
 use Rattle.connections.specs.Versions.{Serving, SupplyState}
@@ -15,16 +15,13 @@ use Rattle.serve_loop.proofs.TalkLemmas.{same_talk, all_as, holds_same}
 use Rattle.serve_loop.proofs.RelatesLemmas.{same_or, is_not, none_some, versions_on, older_as}
 use Rattle.serve_loop.proofs.SentenceLemmas.{some_same}
 use Rattle.serve_loop.proofs.BelowLemmas.{last_or, below_or}
+use Rattle.serve_loop.proofs.PreparedLemmas.{true_or}
 
 pub told_same : (x y : Link) → y ≡ x → TellsSame x y
 told_same x y e = record { sent = ap (λ (l : Link). l.sent) e; received = ap (λ (l : Link). l.received) e; ended = ap (λ (l : Link). l.ended) e }
 
 pub told_then : (x y z : Link) → TellsSame x y → TellsSame y z → TellsSame x z
 told_then x y z p q = record { sent = q.sent ∙ p.sent; received = q.received ∙ p.received; ended = q.ended ∙ p.ended }
-
-open_or : (x : Bool) → (x ≡ true) ⊎ (x ≡ false)
-open_or true = inl refl
-open_or false = inr refl
 
 module _ {C : Type 0} where
   pub leaves_none : (at : ℕ → Option (Live C)) (w : WireState) → LeavesBelow 0 at w w
@@ -167,7 +164,7 @@ module _ {C Data Settings : Type 0} where
           is = same_talk kind since t.history t.owner served supply a b k x.talk (w.told k).sent (w.told k).received x.is;
         };
         unseen = λ k above. r.unseen k (subst (λ (n : ℕ). n ≤ k) wg above);
-        owned = λ k later given is_open. elim (open_or (a.links k).is_open) [
+        owned = λ k later given is_open. elim (true_or (a.links k).is_open) [
           | inl o ↦ let x = r.owned k later (subst (λ (n : ℕ). k < n) wg given) o in
               absurd (is_not (b.links k).is_open is_open (ap (λ (n : ℕ). (b.links n).is_open) (sym x.link) ∙ w.closed x.key x.live x.found))
           | inr c ↦ absurd (is_not (b.links k).is_open is_open (ap (λ (x : Link). x.is_open) (same k c) ∙ c))
@@ -189,7 +186,7 @@ module _ {C Data Settings : Type 0} where
   pub all_closed : (kind : Kind C Data Settings) (may : Data → Type 0) (first : List Data) (since : Moment Data Settings) (t : Traffic C Data) (at : ℕ → Option (Live C)) (len : ℕ) (now : Moment Data Settings)
       → ((key : ℕ) → at key ≡ None) → Relates kind may first since t at len now → AllClosed since.wire now.wire
   all_closed kind may first since t at len now none r = record {
-    closed = λ k later given. elim (open_or (now.wire.links k).is_open) [
+    closed = λ k later given. elim (true_or (now.wire.links k).is_open) [
       | inl o ↦ let x = r.owned k later given o in absurd (none_some x.live (sym (none x.key) ∙ x.found))
       | inr c ↦ c
     ];

@@ -17,9 +17,6 @@ use Rattle.serve_loop.proofs.SentenceLemmas.{some_same}
 use Rattle.serve_loop.proofs.SlotLemmas.{written}
 use Rattle.serve_loop.proofs.TurnLemmas.{stays_left}
 
-pub none_left : {X : Type 0} (x : X) → None ≡ Some x → ⊥
-none_left x e = cc
-
 module _ {C Data Settings : Type 0} where
   -- what is pending still is to be sent
   pub pending_speaks : (kind : Kind C Data Settings) (old new : Live C) → new ≡ old → 0 < length (kind.pending old.connection) → IsQuiet kind new.connection → ⊥

@@ -9,7 +9,8 @@ use Rattle.serve_loop.specs.Calls.{Speaks, IsPending, IsOwing, IsWaiting, IsQuie
 use Rattle.serve_loop.specs.declared.live.TheConstants.{MOST_SENT}
 use Rattle.serve_loop.specs.Steps.{Makes, IsFull, IsFilled, Prepares, IsReady}
 use Rattle.serve_loop.specs.Traffic.{moment}
-use Rattle.serve_loop.proofs.PreparedLemmas.{both_not, nothing_pending}
+use Rattle.serve_loop.proofs.PreparedLemmas.{nothing_pending}
+use Rattle.serve_loop.proofs.RelatesLemmas.{is_not}
 use Rattle.serve_loop.proofs.AnswerLemmas.{prepares_filled, kept}
 
 pub ok_map : {E : Type 0} (r : Result ⊤ E) (P Q : Type 0) → (P → Q) → OnOk r P → OnOk r Q
@@ -33,7 +34,7 @@ module _ {C Data Settings : Type 0} where
   fills_some : (kind : Kind C Data Settings) (server : Serving Data Settings) (c m : C) → kind.wants c ≡ false → Fills kind server c m → Speaks kind c → 0 < length (kind.pending m)
   fills_some kind server c m wants f (IsPending some) = fills_pending kind server c m f some
   fills_some kind server c m wants f (IsOwing owes) = f.some owes
-  fills_some kind server c m wants f (IsWaiting waits) = absurd (both_not (kind.wants c) waits wants)
+  fills_some kind server c m wants f (IsWaiting waits) = absurd (is_not (kind.wants c) waits wants)
 
   -- where something was owed, bytes are pending
   made_some : (kind : Kind C Data Settings) (server : Serving Data Settings) (c m : C) → kind.owes c ≡ true → Makes kind server c m → 0 < length (kind.pending m)
@@ -64,8 +65,8 @@ module _ {C Data Settings : Type 0} where
   pub prepared_answered : (kind : Kind C Data Settings) (server : Serving Data Settings) (c m n : C) → kind.wants c ≡ true → kind.owes m ≡ true → Makes kind server m n → IsPrepared kind c n
   prepared_answered kind server c m n wants owes made = record {
     speaks = λ s. made_some kind server m n owes made;
-    quiet = λ q. absurd (both_not (kind.wants c) wants q.wants);
-    closing = λ q. absurd (both_not (kind.wants c) wants q.wants);
+    quiet = λ q. absurd (is_not (kind.wants c) wants q.wants);
+    closing = λ q. absurd (is_not (kind.wants c) wants q.wants);
   }
 
   pub ready_made : (kind : Kind C Data Settings) (server : Serving Data Settings) (c m : C) → kind.wants c ≡ false → Makes kind server c m → IsReady kind m

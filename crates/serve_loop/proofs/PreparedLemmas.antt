@@ -1,5 +1,5 @@
 -- A whole step: what was made ready, and then the call on the link.
-use Rattle.std.proofs.Common.{ℕ, ◌≡◌, ◌+◌, ◌<◌, ◌≤◌, ◌==◌, ◌⊎◌, inl, inr, List, [], ◌∷◌, length, Option, Some, None, Bool, true, false, refl, sym, ◌∙◌, ap, subst, arith}
+use Rattle.std.proofs.Common.{ℕ, ◌≡◌, ◌+◌, ◌<◌, ◌≤◌, ◌==◌, ◌⊎◌, inl, inr, List, [], ◌∷◌, length, Option, Some, Bool, true, false, refl, sym, ◌∙◌, ap, subst, arith}
 use Rattle.std.proofs.lemmas.Bool.{eqb-true}
 use Rattle.std.specs.Prelude.{Result, Ok, Err, is_ok, is_err, ⊤}
 use Rattle.tpf_base.specs.Links.{WireState, Way, Sending, Receiving}
@@ -15,7 +15,7 @@ use Rattle.serve_loop.specs.Calls.{HasCalled, StepsLive, Speaks, IsPending, IsOw
 use Rattle.serve_loop.specs.Steps.{StepsLink, StepsOn, StepsTo, Keeps, Prepares, TalksTo, IsReady}
 use Rattle.serve_loop.proofs.CallLemmas.{only_closes, closes_by}
 use Rattle.serve_loop.proofs.TalkLemmas.{on_plain, still_talk, closes_as}
-use Rattle.serve_loop.proofs.RelatesLemmas.{here}
+use Rattle.serve_loop.proofs.RelatesLemmas.{here, is_not, none_some}
 use Rattle.serve_loop.proofs.StepLemmas.{steps_to}
 use Rattle.serve_loop.proofs.EndsLemmas.{ends_then, ends_as}
 use Rattle.serve_loop.proofs.ChainLemmas.{relates_same, goes_on_then, updated_twice}
@@ -28,9 +28,6 @@ pub none_when : (xs : List ℕ) → true ≡ (length xs == 0) → xs ≡ []
 none_when [] e = refl
 none_when (x ∷ xs) e = let z : length (x ∷ xs) ≡ 0 = eqb-true (length (x ∷ xs)) 0 (sym e) in absurd (omega (arith, z))
 
-none_live : {X : Type 0} (x : X) → None ≡ Some x → ⊥
-none_live x e = cc
-
 pub none_or : (xs : List ℕ) → (0 < length xs) ⊎ (xs ≡ [])
 none_or [] = inr refl
 none_or (x ∷ xs) = inl (omega arith)
@@ -38,9 +35,6 @@ none_or (x ∷ xs) = inl (omega arith)
 pub true_or : (b : Bool) → (b ≡ true) ⊎ (b ≡ false)
 true_or true = inl refl
 true_or false = inr refl
-
-pub both_not : (b : Bool) → b ≡ true → b ≡ false → ⊥
-both_not b t f = cc
 
 pub nothing_pending : (xs : List ℕ) → xs ≡ [] → 0 < length xs → ⊥
 nothing_pending xs none some = let e = ap (λ (l : List ℕ). length l) none in omega (arith, some, e)
@@ -113,7 +107,7 @@ module _ {C Data Settings : Type 0} where
       let same : m.link ≡ p.live.link = p.link ∙ sym p.link_is in
       let d = closes_as p.live.link m.link a b same closes in
       step_then kind may first since t at len key p.live m stepped.Starved Receiving old served supply a b some p.up (p.keeps first since t at len key found r)
-      same d.only (closes_by Receiving p.live.link a b (only_closes p.live.link a b d)) (λ e. absurd (none_live m e)) (wanting_step kind served supply a b p.live.link p.live.connection m.connection d)
+      same d.only (closes_by Receiving p.live.link a b (only_closes p.live.link a b d)) (λ e. absurd (none_some m e)) (wanting_step kind served supply a b p.live.link p.live.connection m.connection d)
 
   -- ---- by what the connection has to send
 
@@ -153,7 +147,7 @@ module _ {C Data Settings : Type 0} where
       → Closes k a b → StepsLive kind c stepped.Ended k a b
   need_close kind c m k a b p none closing d = let e = only_closes k a b d in record {
     speaks = λ s. absurd (nothing_pending (kind.pending m) none (p.speaks s));
-    listens = λ q n. absurd (both_not (kind.closing m) closing (p.closing q ∙ n));
+    listens = λ q n. absurd (is_not (kind.closing m) closing (p.closing q ∙ n));
     closes = λ q y. (refl, e);
     called = (Receiving, closes_by Receiving k a b e);
   }
@@ -164,6 +158,6 @@ module _ {C Data Settings : Type 0} where
   need_receive kind c m answer k j a b e p none closing called = let at_link = subst (λ (n : ℕ). HasCalled answer n a b Receiving) e called in record {
     speaks = λ s. absurd (nothing_pending (kind.pending m) none (p.speaks s));
     listens = λ q n. at_link;
-    closes = λ q y. absurd (both_not (kind.closing m) (p.closing q ∙ y) closing);
+    closes = λ q y. absurd (is_not (kind.closing m) (p.closing q ∙ y) closing);
     called = (Receiving, at_link);
   }

@@ -1,14 +1,12 @@
 -- A slab key by key.
-use Rattle.std.proofs.Common.{ℕ, zero, suc, ◌≡◌, ◌+◌, ◌<◌, ◌≤◌, ◌⊎◌, inl, inr, List, [], ◌∷◌, length, Option, Some, None, refl, sym, ◌∙◌, ap, arith, get_or}
+use Rattle.std.proofs.Common.{ℕ, zero, suc, ◌≡◌, ◌+◌, ◌<◌, ◌≤◌, inl, inr, List, [], ◌∷◌, length, Option, Some, None, refl, sym, ◌∙◌, ap, arith, get_or}
 use Rattle.std.specs.Prelude.{cond, count_by, is_some, OnSome}
 use Rattle.std.proofs.lemmas.List.Sums.{sum_by-set}
 use Rattle.std.proofs.lemmas.List.{get_or-set_same, get_or-set_other, get_or_past}
 use Rattle.slab.specs.Slab.{Slab, get, slab_len, with_value, Updates}
 use Rattle.serve_loop.specs.Traffic.{updated}
+use Rattle.serve_loop.proofs.BelowLemmas.{below_or}
 use Rattle.serve_loop.proofs.RelatesLemmas.{here, there, same_or, none_some}
-
-below_or : (key n : ℕ) → (key < n) ⊎ (n ≤ key)
-below_or key n = grind arith
 
 abbrev one_or_none : {T : Type 0} → Option T → ℕ
 one_or_none o = cond (is_some o) 1 0

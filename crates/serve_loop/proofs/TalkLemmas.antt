@@ -10,13 +10,13 @@ use Rattle.tpf_base.specs.Calls.{Sends, Receives, Closes}
 use Rattle.tpf_base.specs.Sending.{Holds}
 use Rattle.tpf_base.specs.Marks.{Mark, Served, version_at}
 use Rattle.connections.specs.Versions.{Serving, IsHistory, SupplyState}
-use Rattle.connections.specs.Kinds.{Kind, Takes, Feeds}
+use Rattle.connections.specs.Kinds.{Kind, Takes}
 use Rattle.serve_loop.specs.declared.live.Stepped.{Stepped}
 use Rattle.serve_loop.specs.declared.live.Stepped.TheVariants as stepped
 use Rattle.serve_loop.specs.declared.step.Received.TheVariants as received
 use Rattle.serve_loop.specs.Traffic.{Talk, Given, Moment, moment}
 use Rattle.serve_loop.specs.Relates.{IsTalk, IsExcused, IsNumber, IsRising, Versions}
-use Rattle.serve_loop.specs.Steps.{GoesOn, EndsAs, TalksTo, StepsLink, Hears, IsReady}
+use Rattle.serve_loop.specs.Steps.{GoesOn, EndsAs, TalksTo, StepsLink, Makes, IsFull, IsFilled, AnswersPiece, Hears, IsReady}
 use Rattle.serve_loop.specs.Calls.{IsQuiet}
 use Rattle.serve_loop.proofs.CallLemmas.{receives_only}
 
@@ -151,19 +151,26 @@ module _ {C Data Settings : Type 0} where
     end_ = e;
   }
 
-  -- bytes were received and fed
+  -- what was made is of the same talk
+  made_answers : (kind : Kind C Data Settings) (served : Serving Data Settings) (old new : C) (history : List Data) (fed taken : List ℕ) (marks : List Mark)
+      → Makes kind served old new → kind.Answers history served.config fed taken marks old → kind.Answers history served.config fed taken marks new
+  made_answers kind served old new history fed taken marks (IsFull many same) h = subst (λ (x : C). kind.Answers history served.config fed taken marks x) (sym same) h
+  made_answers kind served old new history fed taken marks (IsFilled fills) h = fills.answers history fed taken marks h
+
+  -- bytes were received and fed, and bytes were made
   pub fed_talk : (kind : Kind C Data Settings) (since : Moment Data Settings) (history : List Data) (owner : ℕ → ℕ) (served : Serving Data Settings) (supply : SupplyState Data)
       (a b : WireState) (k : ℕ) (piece : List ℕ) (old new : C) (fed taken : List ℕ) (marks : List Mark)
-      → IsHistory history served → since.served.version ≤ served.version → 0 < length piece → (b.links k).sent ≡ (a.links k).sent → (b.links k).received ≡ append_known (a.links k).received piece
-      → Feeds kind served piece old new → IsTalk kind since history owner (moment served supply a) k (plain fed taken marks old)
+      → IsHistory history served → since.served.version ≤ served.version → (b.links k).sent ≡ (a.links k).sent
+      → (b.links k).received ≡ append_known (a.links k).received piece → AnswersPiece kind served piece old new
+      → IsTalk kind since history owner (moment served supply a) k (plain fed taken marks old)
       → TalksTo kind since history owner k stepped.Moved new (plain fed taken marks old) (moment served supply a) (moment served supply b)
-  fed_talk kind since history owner served supply a b k piece old new fed taken marks is_history up pos s r feeds h =
-      let reads = feeds.reads history fed taken marks is_history h.answers in
+  fed_talk kind since history owner served supply a b k piece old new fed taken marks is_history up s r answered h =
+      let reads = answered.feeds.reads history fed taken marks is_history h.answers in
       let same : kind.reloads served.config (fed ++ piece) (marks ++ reads.later) ≡ kind.reloads served.config fed marks = reads.numbers ∙ append-nil _ in
       record {
         talk' = plain (fed ++ piece) taken (marks ++ reads.later) new;
         is = record {
-          answers = reads.answers;
+          answers = made_answers kind served answered.read new history (fed ++ piece) taken (marks ++ reads.later) answered.makes reads.answers;
           within = omega arith;
           sent_is = holds_same _ _ _ s h.sent_is;
           received_is = holds_as _ _ _ (sym (append-nil _)) (holds_append (a.links k).received (b.links k).received fed piece r (holds_as _ _ _ (append-nil fed) h.received_is));
@@ -283,7 +290,7 @@ module _ {C Data Settings : Type 0} where
     talks = λ since history owner talk is_history up e o u h. let f = s.fed refl in
         on_plain (λ (x : Talk C). IsTalk kind since history owner (moment served supply a) k x)
         (λ (x : Talk C). TalksTo kind since history owner k stepped.Moved new x (moment served supply a) (moment served supply b))
-        talk old e o u (λ fed taken marks p. fed_talk kind since history owner served supply a b k f.0 old new fed taken marks is_history up f.1 s.sent f.2 f.3 p) h;
+        talk old e o u (λ fed taken marks p. fed_talk kind since history owner served supply a b k f.piece old new fed taken marks is_history up s.sent f.received f.answers p) h;
   }
 
   pub quiet_step : (kind : Kind C Data Settings) (served : Serving Data Settings) (supply : SupplyState Data) (a b : WireState) (k : ℕ) (old new : C)
@@ -335,12 +342,20 @@ module _ {C Data Settings : Type 0} where
   -- ---- what a receive did
 
   pub hears_fed : (kind : Kind C Data Settings) (served : Serving Data Settings) (k : ℕ) (old new : C) (a b : WireState) (buffer : List ℕ) (n : ℕ)
-      → length buffer ≤ 2048 → Receives k buffer a b (answers.Moved n) → Feeds kind served (take n buffer) old new → Hears kind served k old new a b received.Fed
-  hears_fed kind served k old new a b buffer n few r feeds = let m = r.moved n refl in record {
+      → length buffer ≤ 2048 → Receives k buffer a b (answers.Moved n) → AnswersPiece kind served (take n buffer) old new
+      → Hears kind served k old new a b received.Fed
+  hears_fed kind served k old new a b buffer n few r answered = let m = r.moved n refl in record {
     only = receives_only k buffer a b (answers.Moved n) r;
     sent = r.sent;
     is_open = r.is_open;
-    fed = λ e. (take n buffer, omega (arith, m.0, length-take-le n buffer m.1), m.2, feeds, m.4, omega (arith, m.1, few, length-take-le n buffer m.1));
+    fed = λ e. record {
+      piece = take n buffer;
+      some = omega (arith, m.0, length-take-le n buffer m.1);
+      most = omega (arith, m.1, few, length-take-le n buffer m.1);
+      received = m.2;
+      idle = m.4;
+      answers = answered;
+    };
     end_ = λ e. absurd cc;
     not_yet = λ e. absurd cc;
     failed = λ e. absurd cc;

@@ -95,12 +95,27 @@ module _ {C Data Settings : Type 0} where
     pub wants : kind.pending c ≡ [] → kind.wants c ≡ false
     pub owes : kind.pending c ≡ [] → kind.owes c ≡ false
 
+  -- Bytes were fed to a connection, and bytes of the response were made.
+  pub record AnswersPiece (kind : Kind C Data Settings) (server : Serving Data Settings) (piece : List ℕ) (old new : C) : Type 0 where
+    pub read : C
+    pub feeds : Feeds kind server piece old read
+    pub makes : Makes kind server read new
+
+  -- The same of bytes that were received on its link.
+  pub record HearsPiece (kind : Kind C Data Settings) (server : Serving Data Settings) (k : ℕ) (old new : C) (a b : WireState) : Type 0 where
+    pub piece : List ℕ
+    pub some : 0 < length piece
+    pub most : length piece ≤ MOST_RECEIVED
+    pub received : (b.links k).received ≡ append_known (a.links k).received piece
+    pub idle : b.idle ≡ 0
+    pub answers : AnswersPiece kind server piece old new
+
   -- What a receive on a link did.
   pub record Hears (kind : Kind C Data Settings) (server : Serving Data Settings) (k : ℕ) (old new : C) (a b : WireState) (answer : Received) : Type 0 where
     pub only : CallsOnly k a b
     pub sent : (b.links k).sent ≡ (a.links k).sent
     pub is_open : (b.links k).is_open ≡ (a.links k).is_open
-    pub fed : answer ≡ received.Fed → (piece : List ℕ) × (0 < length piece) × ((b.links k).received ≡ append_known (a.links k).received piece) × Feeds kind server piece old new × (b.idle ≡ 0) × (length piece ≤ MOST_RECEIVED)
+    pub fed : answer ≡ received.Fed → HearsPiece kind server k old new a b
     pub end_ : answer ≡ received.End → ((b.links k).received ≡ (a.links k).received) × Holds (b.links k).ended true × (new ≡ old)
     pub not_yet : answer ≡ received.NotYet → ((b.links k).received ≡ (a.links k).received) × Rose (a.links k).stalls (b.links k).stalls × (new ≡ old) × ((b.links k).stalled ≡ Some Receiving)
     pub failed : answer ≡ received.Failed → ((b.links k).received ≡ (a.links k).received) × Rose a.faults b.faults × (new ≡ old)

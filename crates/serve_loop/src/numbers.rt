@@ -1,7 +1,7 @@
 // The numbers of the links of live connections.
 ghost use Rattle.std.specs.Prelude.{ℕ, ◌≡◌, ◌+◌, ◌<◌, ◌≤◌, Some};
 ghost use Rattle.slab.specs.Slab.{get};
-ghost use Rattle.serve_loop.specs.Parts.{IsBeyond};
+ghost use Rattle.serve_loop.specs.Parts.{IsBeyond, IsNarrow};
 
 use crate::live::Live;
 use slab::Slab;
@@ -33,7 +33,7 @@ fn older_at<C: Drop>(live: &Slab<Live<C>>, key: usize, next: u64, oldest: u64) -
 }
 
 /// The oldest of the links of live connections that is `next` or a later one, or 2^64 - 1.
-pub fn oldest_from<C: Drop>(live: &Slab<Live<C>>, next: u64) -> u64
+fn oldest_from<C: Drop>(live: &Slab<Live<C>>, next: u64) -> u64
     ensures next { next ≤ result }
     ensures oldest { (key : ℕ) (l : Live C) → get live.now key ≡ Some l → next ≤ l.link → result ≤ l.link }
 {
@@ -85,7 +85,7 @@ pub fn beyond<C: Drop>(live: &Slab<Live<C>>) -> u64
 
 /// The last link of a row that begins with this one: it ends `spread` behind it, or with the last link of all
 /// where no live one has the number `beyond` and that is not later.
-pub fn row_end(oldest: u64, beyond: u64, spread: u64) -> u64
+fn row_end(oldest: u64, beyond: u64, spread: u64) -> u64
     ensures narrow { (link : ℕ) → link ≤ beyond → link ≤ result → link ≤ oldest + spread }
     ensures wide { result < 18446744073709551615 → oldest + spread ≤ result }
 {
@@ -94,4 +94,19 @@ pub fn row_end(oldest: u64, beyond: u64, spread: u64) -> u64
         return u64::MAX;
     }
     far
+}
+
+/// The last link of a row that begins at this number: it ends `spread` behind the first link of a live connection
+/// there, or with the last link of all where that is not later. No live one has the number `beyond` or a later one,
+/// so where the row reaches that number the connections are not looked through.
+pub fn last_of_row<C: Drop>(live: &Slab<Live<C>>, first: u64, beyond: u64, spread: u64) -> u64
+    requires { IsBeyond (get live.now) beyond }
+    ensures narrow { IsNarrow (record { first = first; last = result; newest = 0 }) spread (get live.now) }
+    ensures wide { result < 18446744073709551615 → first + spread ≤ result }
+{
+    let far = first.saturating_add(spread);
+    if beyond <= far {
+        return u64::MAX;
+    }
+    row_end(oldest_from(live, first), beyond, spread)
 }

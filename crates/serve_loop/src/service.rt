@@ -128,8 +128,8 @@ fn serve_on<R: Wait, C: Converses, S: Supply<C::Server>, W: Accept>(
     };
     let mut round = Round::new();
     for _ in rt.forever() {
-        let part = connections.part(round.next, round.newest, round.spread);
         let begun = connections.beyond();
+        let part = connections.part_before(round.next, round.newest, round.spread, begun);
         let turned = connections.turn(part, server, supply, wire)?;
         served = served.with(turned);
         if is_reached(stop_after, served.connections) {

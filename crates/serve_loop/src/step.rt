@@ -8,7 +8,7 @@ ghost use Rattle.serve_loop.specs.Traffic.{moment};
 ghost use Rattle.serve_loop.specs.Asks.{AnswersAt};
 ghost use Rattle.serve_loop.specs.declared.live.TheConstants.{MOST_RECEIVED};
 ghost use Rattle.serve_loop.specs.Calls.{HasCalled, CallsOnly, GoesOnSpeaking, IsPrepared, IsQuiet, StepsLive, front_of, left_by};
-ghost use Rattle.serve_loop.specs.Steps.{Supplies, StepsOn, StepsLink, Makes, Prepares, Hears, IsReady};
+ghost use Rattle.serve_loop.specs.Steps.{Supplies, StepsOn, StepsLink, Makes, Prepares, AnswersPiece, Hears, IsReady};
 
 use crate::live::{Live, MOST_SENT, Stepped};
 use connections::{Converses, Reloaded, Serves, Supply};
@@ -54,7 +54,8 @@ fn reload<V: Serves, S: Supply<V>>(server: &mut V, supply: &mut S) -> Reloaded
 fn send_pending<C: Converses, W: Wire>(live: &mut Live<C>, wire: &mut W) -> Moved
     requires is_open { ((W.state wire.old).links live.old.link).is_open ≡ true }
     requires some { 0 < length (C.kind.pending live.old.connection) }
-    ensures sends { Sends live.old.link (front_of (C.kind.pending live.old.connection)) (W.state wire.old) (W.state wire.new) result }
+    ensures sends { Sends live.old.link (front_of (C.kind.pending live.old.connection)) (W.state wire.old)
+        (W.state wire.new) result }
     ensures moved { (n : ℕ) → result ≡ Moved.Moved n → Takes C.kind n live.old.connection live.new.connection }
     ensures still { ((n : ℕ) → result ≢ Moved.Moved n) → live.new ≡ live.old }
     ensures link { live.new.link ≡ live.old.link }
@@ -69,7 +70,25 @@ fn send_pending<C: Converses, W: Wire>(live: &mut Live<C>, wire: &mut W) -> Move
     moved
 }
 
-/// Receives bytes by the buffer and feeds them to the connection.
+/// Feeds bytes to the connection, and makes bytes of the response: so those of several links are made one
+/// after another and then sent one after another, and the other ends are woken together.
+fn feed<C: Converses>(
+    live: &mut Live<C>,
+    server: &C::Server,
+    piece: &[u8],
+) -> Result<(), OutOfMemory>
+    requires suits { C.Suits server.now live.old.connection }
+    requires idle { C.kind.wants live.old.connection ≡ false }
+    ensures answers { OnOk result (AnswersPiece C.kind (C.Server.serving server.now) piece.now
+        live.old.connection live.new.connection) }
+    ensures link { live.new.link ≡ live.old.link }
+    ensures suits { OnOk result (C.Suits server.now live.new.connection) }
+{
+    live.connection.feed(server, piece)?;
+    make(live, server)
+}
+
+/// Receives bytes by the buffer, feeds them to the connection, and makes bytes of the response.
 fn receive<C: Converses, W: Wire>(
     live: &mut Live<C>,
     buffer: &mut [u8],
@@ -82,12 +101,13 @@ fn receive<C: Converses, W: Wire>(
     requires suits { C.Suits server.now live.old.connection }
     requires idle { C.kind.wants live.old.connection ≡ false }
     ensures room { length buffer.new ≡ length buffer.old }
-    ensures hears { Hears C.kind (C.Server.serving server.now) live.old.link live.old.connection live.new.connection (W.state wire.old) (W.state wire.new) result }
+    ensures hears { Hears C.kind (C.Server.serving server.now) live.old.link live.old.connection live.new.connection
+        (W.state wire.old) (W.state wire.new) result }
     ensures link { live.new.link ≡ live.old.link }
     ensures suits { result ≢ Received.Starved → C.Suits server.now live.new.connection }
 {
     match wire.recv(live.link, buffer) {
-        Moved::Moved(n) => match live.connection.feed(server, &buffer[..n]) {
+        Moved::Moved(n) => match feed(live, server, &buffer[..n]) {
             Ok(()) => Received::Fed,
             Err(_) => Received::Starved,
         },
@@ -178,14 +198,17 @@ fn is_over<C: Converses>(connection: &C) -> bool
 fn send_step<C: Converses, W: Wire>(live: &mut Live<C>, wire: &mut W) -> Stepped
     requires is_open { ((W.state wire.old).links live.old.link).is_open ≡ true }
     requires some { 0 < length (C.kind.pending live.old.connection) }
-    ensures steps { (served : Serving C.Server.Data C.Server.Settings) (supply : SupplyState C.Server.Data) → StepsLink C.kind live.old.link live.old.connection live.new.connection result
+    ensures steps { (served : Serving C.Server.Data C.Server.Settings) (supply : SupplyState C.Server.Data) →
+        StepsLink C.kind live.old.link live.old.connection live.new.connection result
         (moment served supply (W.state wire.old))
         (moment served supply (W.state wire.new)) }
     ensures called { HasCalled result live.old.link (W.state wire.old) (W.state wire.new) Sending }
-    ensures lasts { left_by result live.new ≡ Some live.new → C.kind.closing live.new.connection ≡ true → IsQuiet C.kind live.new.connection → ⊥ }
+    ensures lasts { left_by result live.new ≡ Some live.new → C.kind.closing live.new.connection ≡ true →
+        IsQuiet C.kind live.new.connection → ⊥ }
     ensures only { CallsOnly live.old.link (W.state wire.old) (W.state wire.new) }
     ensures kept { live.new.link ≡ live.old.link }
-    ensures is_open { left_by result live.new ≡ Some live.new → ((W.state wire.new).links live.old.link).is_open ≡ true }
+    ensures is_open { left_by result live.new ≡ Some live.new →
+        ((W.state wire.new).links live.old.link).is_open ≡ true }
     ensures suits { (server : C.Server) → C.Suits server live.old.connection → C.Suits server live.new.connection }
 {
     match send_pending(live, wire) {
@@ -212,7 +235,8 @@ fn send_step<C: Converses, W: Wire>(live: &mut Live<C>, wire: &mut W) -> Stepped
     }
 }
 
-/// Receives and feeds. A link that fails is closed, and one that has ended too: nothing is owed on it.
+/// Receives, feeds, and makes bytes of the response. A link that fails is closed, and one that has ended too:
+/// nothing is owed on it.
 fn receive_step<C: Converses, W: Wire>(
     live: &mut Live<C>,
     buffer: &mut [u8],
@@ -226,13 +250,15 @@ fn receive_step<C: Converses, W: Wire>(
     requires ready { IsReady C.kind live.old.connection }
     requires none { C.kind.pending live.old.connection ≡ [] }
     ensures room { length buffer.new ≡ length buffer.old }
-    ensures steps { (supply : SupplyState C.Server.Data) → StepsLink C.kind live.old.link live.old.connection live.new.connection result
+    ensures steps { (supply : SupplyState C.Server.Data) →
+        StepsLink C.kind live.old.link live.old.connection live.new.connection result
         (moment (C.Server.serving server.now) supply (W.state wire.old))
         (moment (C.Server.serving server.now) supply (W.state wire.new)) }
     ensures called { HasCalled result live.old.link (W.state wire.old) (W.state wire.new) Receiving }
     ensures only { CallsOnly live.old.link (W.state wire.old) (W.state wire.new) }
     ensures kept { live.new.link ≡ live.old.link }
-    ensures is_open { left_by result live.new ≡ Some live.new → ((W.state wire.new).links live.old.link).is_open ≡ true }
+    ensures is_open { left_by result live.new ≡ Some live.new →
+        ((W.state wire.new).links live.old.link).is_open ≡ true }
     ensures suits { left_by result live.new ≡ Some live.new → C.Suits server.now live.new.connection }
 {
     match receive(live, buffer, server, wire) {
@@ -254,8 +280,8 @@ fn receive_step<C: Converses, W: Wire>(
 }
 
 /// Steps a connection: answers a reload request where one waits, makes bytes of the response, and then
-/// sends what is pending; where nothing is, it ends the connection if that closes, and receives if not. A
-/// connection that closes ends with the last byte that is sent.
+/// sends what is pending; where nothing is, it ends the connection if that closes, and receives if not, and
+/// makes bytes of the response to what came. A connection that closes ends with the last byte that is sent.
 pub fn step<C: Converses, S: Supply<C::Server>, W: Wire>(
     live: &mut Live<C>,
     buffer: &mut [u8],
@@ -275,10 +301,12 @@ pub fn step<C: Converses, S: Supply<C::Server>, W: Wire>(
         (moment (C.Server.serving server.old) (S.state supply.old) same)
         (moment (C.Server.serving server.new) (S.state supply.new) same) }
     ensures called { StepsLive C.kind live.old.connection result live.old.link (W.state wire.old) (W.state wire.new) }
-    ensures lasts { left_by result live.new ≡ Some live.new → GoesOnSpeaking C.kind live.old.connection live.new.connection }
+    ensures lasts { left_by result live.new ≡ Some live.new →
+        GoesOnSpeaking C.kind live.old.connection live.new.connection }
     ensures only { CallsOnly live.old.link (W.state wire.old) (W.state wire.new) }
     ensures kept { live.new.link ≡ live.old.link }
-    ensures is_open { left_by result live.new ≡ Some live.new → ((W.state wire.new).links live.old.link).is_open ≡ true }
+    ensures is_open { left_by result live.new ≡ Some live.new →
+        ((W.state wire.new).links live.old.link).is_open ≡ true }
     ensures suits { left_by result live.new ≡ Some live.new → C.Suits server.new live.new.connection }
     ensures follows { C.Server.Follows server.old server.new }
     ensures keeps { S.Keeps supply.old supply.new }

@@ -15,7 +15,7 @@ ghost use Rattle.serve_loop.specs.Greets.{GreetsAll, FailsGreets};
 ghost use Rattle.serve_loop.specs.Steps.{Welcomes};
 
 use crate::live::{Live, MOST_LIVE, MOST_RECEIVED, Part, ServeFault, Stepped, Turned};
-use crate::numbers::{beyond, oldest_from, row_end};
+use crate::numbers::{beyond, last_of_row};
 use crate::step::step;
 use connections::{Converses, Supply};
 use slab::Slab;
@@ -115,7 +115,8 @@ fn greet_all<C: Converses, W: Accept>(
     requires suits { SuitsWire C.Suits server.now (λ key. get live.old key) (W.state wire.old) }
     ensures few { slab_len live.new ≤ MOST_LIVE }
     ensures suits { SuitsWire C.Suits server.now (λ key. get live.new key) (W.state wire.new) }
-    ensures greets { OnOk result (GreetsAll C.kind (kept live.old) (kept live.new) (W.state wire.old) (W.state wire.new)) }
+    ensures greets { OnOk result (GreetsAll C.kind (kept live.old) (kept live.new) (W.state wire.old)
+        (W.state wire.new)) }
     ensures fails { IfErr result (λ fault. FailsGreets C.kind fault
         (kept live.old) (kept live.new) (W.state wire.old) (W.state wire.new)) }
 {
@@ -163,7 +164,8 @@ fn step_at<C: Converses, S: Supply<C::Server>, W: Wire>(
         (moment (C.Server.serving server.old) (S.state supply.old) same)
         (moment (C.Server.serving server.new) (S.state supply.new) same) }
     ensures calls { CallsAt C.kind (get live.old key) result (W.state wire.old) (W.state wire.new) }
-    ensures lasts { (l m : Live C) → get live.old key ≡ Some l → get live.new key ≡ Some m → GoesOnSpeaking C.kind l.connection m.connection }
+    ensures lasts { (l m : Live C) → get live.old key ≡ Some l → get live.new key ≡ Some m →
+        GoesOnSpeaking C.kind l.connection m.connection }
     ensures follows { C.Server.Follows server.old server.new }
     ensures keeps { S.Keeps supply.old supply.new }
     ensures same { (data_set : C.Server.Data) → S.may supply.new data_set ↔ S.may supply.old data_set }
@@ -213,7 +215,8 @@ fn step_among<C: Converses, S: Supply<C::Server>, W: Wire>(
         (moment (C.Server.serving server.old) (S.state supply.old) same)
         (moment (C.Server.serving server.new) (S.state supply.new) same) }
     ensures calls { CallsAt C.kind (among part (get live.old key)) result (W.state wire.old) (W.state wire.new) }
-    ensures lasts { (l m : Live C) → among part (get live.old key) ≡ Some l → get live.new key ≡ Some m → GoesOnSpeaking C.kind l.connection m.connection }
+    ensures lasts { (l m : Live C) → among part (get live.old key) ≡ Some l → get live.new key ≡ Some m →
+        GoesOnSpeaking C.kind l.connection m.connection }
     ensures follows { C.Server.Follows server.old server.new }
     ensures keeps { S.Keeps supply.old supply.new }
     ensures same { (data_set : C.Server.Data) → S.may supply.new data_set ↔ S.may supply.old data_set }
@@ -304,8 +307,10 @@ fn close_at<C: Drop, W: Wire>(live: &mut Slab<Live<C>>, key: usize, wire: &mut W
 
 /// Closes the links of all live connections.
 fn close_all<C: Drop, W: Wire>(live: &mut Slab<Live<C>>, wire: &mut W)
-    requires distinct { (i j : ℕ) (a b : Live C) → get live.old i ≡ Some a → get live.old j ≡ Some b → a.link ≡ b.link → i ≡ j }
-    requires is_open { (key : ℕ) (l : Live C) → get live.old key ≡ Some l → ((W.state wire.old).links l.link).is_open ≡ true }
+    requires distinct { (i j : ℕ) (a b : Live C) → get live.old i ≡ Some a → get live.old j ≡ Some b → a.link ≡ b.link →
+        i ≡ j }
+    requires is_open { (key : ℕ) (l : Live C) → get live.old key ≡ Some l →
+        ((W.state wire.old).links l.link).is_open ≡ true }
     ensures none { (key : ℕ) → get live.new key ≡ None }
     ensures leaves { LeavesAll (get live.old) (W.state wire.old) (W.state wire.new) }
 {
@@ -357,11 +362,20 @@ impl<C: Converses> Loop<C> {
         ensures narrow { IsNarrow result spread (held self.now) }
         ensures wide { result.last < 18446744073709551615 → first + spread ≤ result.last }
     {
-        let oldest = oldest_from(&self.live, first);
-        let last = row_end(oldest, beyond(&self.live), spread);
+        self.part_before(first, newest, spread, self.beyond())
+    }
+
+    /// The same where the number behind the newest link is known (`beyond`): it is not looked for again.
+    pub fn part_before(&self, first: u64, newest: u64, spread: u64, beyond: u64) -> Part
+        requires { IsBeyond (held self.now) beyond }
+        ensures first { result.first ≡ first }
+        ensures newest { result.newest ≡ newest }
+        ensures narrow { IsNarrow result spread (held self.now) }
+        ensures wide { result.last < 18446744073709551615 → first + spread ≤ result.last }
+    {
         Part {
             first,
-            last,
+            last: last_of_row(&self.live, first, beyond, spread),
             newest,
         }
     }
@@ -406,7 +420,8 @@ impl<C: Converses> Loop<C> {
         ensures whole { IfOk result (SpeaksWholeOn C.kind (S.may supply.old) (lives self.old)
             (moment (C.Server.serving server.old) (S.state supply.old) (W.state wire.old))
             (moment (C.Server.serving server.new) (S.state supply.new) (W.state wire.new))) }
-        ensures asks { IfOk result (λ turned. (same : WireState) → AnswersAll C.kind (S.may supply.old) (parted part (held self.old))
+        ensures asks { IfOk result (λ turned. (same : WireState) → AnswersAll C.kind (S.may supply.old)
+            (parted part (held self.old))
             (moment (C.Server.serving server.old) (S.state supply.old) same)
             (moment (C.Server.serving server.new) (S.state supply.new) same)) }
         ensures unasked { OnErr result ((same : WireState) → AreAnswered (S.may supply.old) []
@@ -450,7 +465,8 @@ impl<C: Converses> Loop<C> {
         requires suits { SuitsWire C.Suits server.now (λ key. held self.old key) (W.state wire.old) }
         ensures few { held_count self.new ≤ MOST_LIVE }
         ensures suits { SuitsWire C.Suits server.now (λ key. held self.new key) (W.state wire.new) }
-        ensures greets { OnOk result (GreetsAll C.kind (lives self.old) (lives self.new) (W.state wire.old) (W.state wire.new)) }
+        ensures greets { OnOk result (GreetsAll C.kind (lives self.old) (lives self.new) (W.state wire.old)
+            (W.state wire.new)) }
         ensures fails { IfErr result (λ fault. FailsGreets C.kind fault
             (lives self.old) (lives self.new) (W.state wire.old) (W.state wire.new)) }
     {
@@ -459,8 +475,10 @@ impl<C: Converses> Loop<C> {
 
     /// Closes the links of all live connections, and forgets them.
     pub fn close<W: Wire>(&mut self, wire: &mut W)
-        requires distinct { (i j : ℕ) (a b : Live C) → held self.old i ≡ Some a → held self.old j ≡ Some b → a.link ≡ b.link → i ≡ j }
-        requires is_open { (key : ℕ) (l : Live C) → held self.old key ≡ Some l → ((W.state wire.old).links l.link).is_open ≡ true }
+        requires distinct { (i j : ℕ) (a b : Live C) → held self.old i ≡ Some a → held self.old j ≡ Some b →
+            a.link ≡ b.link → i ≡ j }
+        requires is_open { (key : ℕ) (l : Live C) → held self.old key ≡ Some l →
+            ((W.state wire.old).links l.link).is_open ≡ true }
         ensures none { (key : ℕ) → held self.new key ≡ None }
         ensures len { held_count self.new ≡ 0 }
         ensures leaves { LeavesAll (held self.old) (W.state wire.old) (W.state wire.new) }

@@ -37,26 +37,26 @@ loop-preserved g c = record {
   so_far =
       let s = some_history (g.C.Server.Serves.serving c.args.server.now) (g.met.C.Server.Serves.numbered c.args.server.now) in
       let p = c.loop.invariant.serves s.0 _ _ (begins_at _ _ s.0 _ _ _ _ _ c.requires.empty c.requires.none s.1) in
-      let turn = takes_turn _ _ _ _ _ _ c.part-part.result c.in_ok-turned.turned _ _ _ _ _ refl p.relates c.loop.invariant.so_far.links
-      (next_part _ _ _ _ _ _ _ _ _ _ c.part-part.result p.relates c.loop.invariant.so_far.stands c.part-part.ensures.first c.part-part.ensures.newest c.part-part.ensures.narrow c.part-part.ensures.wide) c.in_ok-turned.ensures.busy c.in_ok-turned.ensures.idle in
+      let turn = takes_turn _ _ _ _ _ _ c.part_before-part.result c.in_ok-turned.turned _ _ _ _ _ refl p.relates c.loop.invariant.so_far.links
+      (next_part _ _ _ _ _ _ _ _ _ _ c.part_before-part.result p.relates c.loop.invariant.so_far.stands c.part_before-part.ensures.first c.part_before-part.ensures.newest c.part_before-part.ensures.narrow c.part_before-part.ensures.wide) c.in_ok-turned.ensures.busy c.in_ok-turned.ensures.idle in
       let links = links_after _ _ _ _ _ _ _ c.loop.invariant.so_far.links c.in_ok-turned.ensures.count in
       let begun = c.beyond-begun.ensures.within _ c.loop.invariant.suits.given in
-      so_far_more _ _ c.args.stop_after c.loop.served.connections _ _ _ c.part-part.result c.in_ok-turned.turned _ _ _ _ _ _ c.loop.invariant.so_far turn
-      (comes_after _ _ _ _ _ _ _ _ (rests_as _ _ _ _ c.part-part.result c.in_ok-turned.turned _ c.loop.invariant.so_far.stands c.is_quiet.ensures) c.in_ok-follow.ensures.follows links c.in_ok-follow.ensures.few)
+      so_far_more _ _ c.args.stop_after c.loop.served.connections _ _ _ c.part_before-part.result c.in_ok-turned.turned _ _ _ _ _ _ c.loop.invariant.so_far turn
+      (comes_after _ _ _ _ _ _ _ _ (rests_as _ _ _ _ c.part_before-part.result c.in_ok-turned.turned _ c.loop.invariant.so_far.stands c.is_quiet.ensures) c.in_ok-follow.ensures.follows links c.in_ok-follow.ensures.few)
       (ap (λ s. s.connections) c.with-served.ensures)
       (count_after _ _ _ _ _ _ _ c.in_ok-turned.ensures.count (follows_count _ _ _ _ _ _ c.in_ok-follow.ensures.follows)) c.is_reached.ensures.fits (c.is_reached.ensures.fewer c.if-is_reached.false)
-      (stands_more _ _ _ _ _ _ _ _ _ _ _ c.part-part.result c.in_ok-turned.turned _ _ _ p.relates c.in_ok-turned.ensures.busy (follows_between _ _ _ _ _ _ c.in_ok-follow.ensures.follows) c.loop.invariant.so_far.stands begun
+      (stands_more _ _ _ _ _ _ _ _ _ _ _ c.part_before-part.result c.in_ok-turned.turned _ _ _ p.relates c.in_ok-turned.ensures.busy (follows_between _ _ _ _ _ _ c.in_ok-follow.ensures.follows) c.loop.invariant.so_far.stands begun
       c.beyond-begun.ensures.less c.after-round.ensures);
   asked =
       let s = some_history (g.C.Server.Serves.serving c.args.server.now) (g.met.C.Server.Serves.numbered c.args.server.now) in
       let p = c.loop.invariant.serves s.0 _ _ (begins_at _ _ s.0 _ _ _ _ _ c.requires.empty c.requires.none s.1) in
       let begun = c.beyond-begun.ensures.within _ c.loop.invariant.suits.given in
-      asked_more _ _ _ s.0 _ _ _ _ _ c.part-part.result c.in_ok-turned.turned _ _ _ _ _ _ _ _ _ c.loop.invariant.asked p.relates (λ d. (c.loop.invariant.same d).0)
-      (takes_turn _ _ _ _ _ _ c.part-part.result c.in_ok-turned.turned _ _ _ _ _ refl p.relates c.loop.invariant.asked.links
-      (next_part _ _ _ _ _ _ _ _ _ _ c.part-part.result p.relates c.loop.invariant.asked.stands c.part-part.ensures.first c.part-part.ensures.newest c.part-part.ensures.narrow c.part-part.ensures.wide) c.in_ok-turned.ensures.busy c.in_ok-turned.ensures.idle)
+      asked_more _ _ _ s.0 _ _ _ _ _ c.part_before-part.result c.in_ok-turned.turned _ _ _ _ _ _ _ _ _ c.loop.invariant.asked p.relates (λ d. (c.loop.invariant.same d).0)
+      (takes_turn _ _ _ _ _ _ c.part_before-part.result c.in_ok-turned.turned _ _ _ _ _ refl p.relates c.loop.invariant.asked.links
+      (next_part _ _ _ _ _ _ _ _ _ _ c.part_before-part.result p.relates c.loop.invariant.asked.stands c.part_before-part.ensures.first c.part_before-part.ensures.newest c.part_before-part.ensures.narrow c.part_before-part.ensures.wide) c.in_ok-turned.ensures.busy c.in_ok-turned.ensures.idle)
       (c.in_ok-turned.ensures.asks (g.W.Wire.state c.args.wire.now)) (follows_between _ _ _ _ _ _ c.in_ok-follow.ensures.follows)
       (count_after _ _ _ _ _ _ _ c.in_ok-turned.ensures.count (follows_count _ _ _ _ _ _ c.in_ok-follow.ensures.follows))
-      (stands_more _ _ _ _ _ _ _ _ _ _ _ c.part-part.result c.in_ok-turned.turned _ _ _ p.relates c.in_ok-turned.ensures.busy (follows_between _ _ _ _ _ _ c.in_ok-follow.ensures.follows) c.loop.invariant.asked.stands begun
+      (stands_more _ _ _ _ _ _ _ _ _ _ _ c.part_before-part.result c.in_ok-turned.turned _ _ _ p.relates c.in_ok-turned.ensures.busy (follows_between _ _ _ _ _ _ c.in_ok-follow.ensures.follows) c.loop.invariant.asked.stands begun
       c.beyond-begun.ensures.less c.after-round.ensures);
   fewer = less_if c.args.stop_after _ (c.is_reached.ensures.fewer c.if-is_reached.false);
   follows = g.met.C.Server.Serves.follows_then _ _ _ c.loop.invariant.follows c.in_ok-turned.ensures.follows;
@@ -104,8 +104,8 @@ pub returns-then-is_reached-clause-turns : goal.returns-then-is_reached-clause-t
 returns-then-is_reached-clause-turns g c =
     let s = some_history (g.C.Server.Serves.serving c.args.server.now) (g.met.C.Server.Serves.numbered c.args.server.now) in
     let p = c.loop.invariant.serves s.0 _ _ (begins_at _ _ s.0 _ _ _ _ _ c.requires.empty c.requires.none s.1) in
-    serves_turns _ _ c.args.stop_after c.loop.served.connections _ _ c.part-part.result c.in_ok-turned.turned _ _ _ _ c.loop.invariant.so_far (takes_turn _ _ _ _ _ _ c.part-part.result c.in_ok-turned.turned _ _ _ _ _ refl p.relates c.loop.invariant.so_far.links
-    (next_part _ _ _ _ _ _ _ _ _ _ c.part-part.result p.relates c.loop.invariant.so_far.stands c.part-part.ensures.first c.part-part.ensures.newest c.part-part.ensures.narrow c.part-part.ensures.wide) c.in_ok-turned.ensures.busy c.in_ok-turned.ensures.idle)
+    serves_turns _ _ c.args.stop_after c.loop.served.connections _ _ c.part_before-part.result c.in_ok-turned.turned _ _ _ _ c.loop.invariant.so_far (takes_turn _ _ _ _ _ _ c.part_before-part.result c.in_ok-turned.turned _ _ _ _ _ refl p.relates c.loop.invariant.so_far.links
+    (next_part _ _ _ _ _ _ _ _ _ _ c.part_before-part.result p.relates c.loop.invariant.so_far.stands c.part_before-part.ensures.first c.part_before-part.ensures.newest c.part_before-part.ensures.narrow c.part_before-part.ensures.wide) c.in_ok-turned.ensures.busy c.in_ok-turned.ensures.idle)
     (ap (λ s. s.connections) c.with-served.ensures)
 
 pub returns-in_err-turned-clause-fails : goal.returns-in_err-turned-clause-fails
@@ -119,9 +119,9 @@ returns-in_err-follow-clause-fails g c =
     let p = c.loop.invariant.serves s.0 _ _ (begins_at _ _ s.0 _ _ _ _ _ c.requires.empty c.requires.none s.1) in
     let e = err_from_is_err_and c.from_residual-in_err-follow.result c.from_residual-in_err-follow.ensures.1 in
     fault_as _ _ e.0 _ e.1 e.2 (fails_after _ _ c.args.stop_after _ c.loop.served.connections _ _ _ _ _ _ _ _ _ _ c.loop.invariant.so_far
-    (takes_turn _ _ _ _ _ _ c.part-part.result c.in_ok-turned.turned _ _ _ _ _ refl p.relates c.loop.invariant.so_far.links
-    (next_part _ _ _ _ _ _ _ _ _ _ c.part-part.result p.relates c.loop.invariant.so_far.stands c.part-part.ensures.first c.part-part.ensures.newest c.part-part.ensures.narrow c.part-part.ensures.wide) c.in_ok-turned.ensures.busy c.in_ok-turned.ensures.idle)
-    (rests_as _ _ _ _ c.part-part.result c.in_ok-turned.turned _ c.loop.invariant.so_far.stands c.is_quiet.ensures)
+    (takes_turn _ _ _ _ _ _ c.part_before-part.result c.in_ok-turned.turned _ _ _ _ _ refl p.relates c.loop.invariant.so_far.links
+    (next_part _ _ _ _ _ _ _ _ _ _ c.part_before-part.result p.relates c.loop.invariant.so_far.stands c.part_before-part.ensures.first c.part_before-part.ensures.newest c.part_before-part.ensures.narrow c.part_before-part.ensures.wide) c.in_ok-turned.ensures.busy c.in_ok-turned.ensures.idle)
+    (rests_as _ _ _ _ c.part_before-part.result c.in_ok-turned.turned _ c.loop.invariant.so_far.stands c.is_quiet.ensures)
     (links_after _ _ _ _ _ _ _ c.loop.invariant.so_far.links c.in_ok-turned.ensures.count) c.in_err-follow.ensures.few c.in_err-follow.ensures.fails)
 
 pub returns-then-is_reached-clause-asks : goal.returns-then-is_reached-clause-asks
@@ -130,11 +130,11 @@ returns-then-is_reached-clause-asks g c =
     let p = c.loop.invariant.serves s.0 _ _ (begins_at _ _ s.0 _ _ _ _ _ c.requires.empty c.requires.none s.1) in
     let begun = c.beyond-begun.ensures.within _ c.loop.invariant.suits.given in
     asks_once _ _ _ _ _ _ _ _ _
-    (asked_more _ _ _ s.0 _ _ _ _ _ c.part-part.result c.in_ok-turned.turned _ _ _ _ _ _ _ _ _ c.loop.invariant.asked p.relates (λ d. (c.loop.invariant.same d).0)
-    (takes_turn _ _ _ _ _ _ c.part-part.result c.in_ok-turned.turned _ _ _ _ _ refl p.relates c.loop.invariant.asked.links
-    (next_part _ _ _ _ _ _ _ _ _ _ c.part-part.result p.relates c.loop.invariant.asked.stands c.part-part.ensures.first c.part-part.ensures.newest c.part-part.ensures.narrow c.part-part.ensures.wide) c.in_ok-turned.ensures.busy c.in_ok-turned.ensures.idle)
+    (asked_more _ _ _ s.0 _ _ _ _ _ c.part_before-part.result c.in_ok-turned.turned _ _ _ _ _ _ _ _ _ c.loop.invariant.asked p.relates (λ d. (c.loop.invariant.same d).0)
+    (takes_turn _ _ _ _ _ _ c.part_before-part.result c.in_ok-turned.turned _ _ _ _ _ refl p.relates c.loop.invariant.asked.links
+    (next_part _ _ _ _ _ _ _ _ _ _ c.part_before-part.result p.relates c.loop.invariant.asked.stands c.part_before-part.ensures.first c.part_before-part.ensures.newest c.part_before-part.ensures.narrow c.part_before-part.ensures.wide) c.in_ok-turned.ensures.busy c.in_ok-turned.ensures.idle)
     (c.in_ok-turned.ensures.asks (g.W.Wire.state c.args.wire.now)) (between_same _) c.in_ok-turned.ensures.count
-    (stands_more _ _ _ _ _ _ _ _ _ c.loop.round (after_last c.loop.round c.part-part.result c.in_ok-turned.turned c.beyond-begun.result) c.part-part.result c.in_ok-turned.turned _ _ _ p.relates c.in_ok-turned.ensures.busy (between_same _)
+    (stands_more _ _ _ _ _ _ _ _ _ c.loop.round (after_last c.loop.round c.part_before-part.result c.in_ok-turned.turned c.beyond-begun.result) c.part_before-part.result c.in_ok-turned.turned _ _ _ p.relates c.in_ok-turned.ensures.busy (between_same _)
     c.loop.invariant.asked.stands begun c.beyond-begun.ensures.less (is_after _ _ _ _)))
     refl refl (none_given _)
 
@@ -148,10 +148,10 @@ returns-in_err-follow-clause-asks g c =
     let s = some_history (g.C.Server.Serves.serving c.args.server.now) (g.met.C.Server.Serves.numbered c.args.server.now) in
     let p = c.loop.invariant.serves s.0 _ _ (begins_at _ _ s.0 _ _ _ _ _ c.requires.empty c.requires.none s.1) in
     let begun = c.beyond-begun.ensures.within _ c.loop.invariant.suits.given in
-    failed_asks _ _ _ _ (after_last c.loop.round c.part-part.result c.in_ok-turned.turned c.beyond-begun.result) _ _ _ _ _ _ _ c.in_err-follow.ensures.fails (λ m left between count.
-    asked_more _ _ _ s.0 _ _ _ _ left c.part-part.result c.in_ok-turned.turned _ _ _ _ _ _ _ _ m c.loop.invariant.asked p.relates (λ d. (c.loop.invariant.same d).0)
-    (takes_turn _ _ _ _ _ _ c.part-part.result c.in_ok-turned.turned _ _ _ _ _ refl p.relates c.loop.invariant.asked.links
-    (next_part _ _ _ _ _ _ _ _ _ _ c.part-part.result p.relates c.loop.invariant.asked.stands c.part-part.ensures.first c.part-part.ensures.newest c.part-part.ensures.narrow c.part-part.ensures.wide) c.in_ok-turned.ensures.busy c.in_ok-turned.ensures.idle)
+    failed_asks _ _ _ _ (after_last c.loop.round c.part_before-part.result c.in_ok-turned.turned c.beyond-begun.result) _ _ _ _ _ _ _ c.in_err-follow.ensures.fails (λ m left between count.
+    asked_more _ _ _ s.0 _ _ _ _ left c.part_before-part.result c.in_ok-turned.turned _ _ _ _ _ _ _ _ m c.loop.invariant.asked p.relates (λ d. (c.loop.invariant.same d).0)
+    (takes_turn _ _ _ _ _ _ c.part_before-part.result c.in_ok-turned.turned _ _ _ _ _ refl p.relates c.loop.invariant.asked.links
+    (next_part _ _ _ _ _ _ _ _ _ _ c.part_before-part.result p.relates c.loop.invariant.asked.stands c.part_before-part.ensures.first c.part_before-part.ensures.newest c.part_before-part.ensures.narrow c.part_before-part.ensures.wide) c.in_ok-turned.ensures.busy c.in_ok-turned.ensures.idle)
     (c.in_ok-turned.ensures.asks (g.W.Wire.state c.args.wire.now)) between (count_after _ _ _ _ _ _ _ c.in_ok-turned.ensures.count count)
-    (stands_more _ _ _ _ _ _ _ _ _ c.loop.round (after_last c.loop.round c.part-part.result c.in_ok-turned.turned c.beyond-begun.result) c.part-part.result c.in_ok-turned.turned _ _ _ p.relates c.in_ok-turned.ensures.busy between
+    (stands_more _ _ _ _ _ _ _ _ _ c.loop.round (after_last c.loop.round c.part_before-part.result c.in_ok-turned.turned c.beyond-begun.result) c.part_before-part.result c.in_ok-turned.turned _ _ _ p.relates c.in_ok-turned.ensures.busy between
     c.loop.invariant.asked.stands begun c.beyond-begun.ensures.less (is_after _ _ _ _)))

@@ -1,7 +1,8 @@
 -- A step of a key is a step of the traffic.
 use Rattle.std.proofs.Common.{sym, ◌∙◌}
 use Rattle.serve_loop.proofs.AskLemmas.{answers_vacant, answers_as}
-use Rattle.serve_loop.proofs.LastLemmas.{none_left, goes_on_stays}
+use Rattle.serve_loop.proofs.LastLemmas.{goes_on_stays}
+use Rattle.serve_loop.proofs.RelatesLemmas.{none_some}
 use Rattle.serve_loop.proofs.TurnLemmas.{turns_none, turns_stays, turns_ends, suits_stays, suits_ends}
 use Rattle.serve_loop.proofs.turn.step_at.Goals as goal
 
@@ -36,10 +37,10 @@ returns-then-ends-clause-suits g c = suits_ends _ _ _ c.args.live.now c.try_remo
     (λ x h. g.met.C.Converses.stays c.args.server.now c.step-stepped.new.server x c.step-stepped.ensures.follows h)
 
 pub returns-in-None-clause-lasts : goal.returns-in-None-clause-lasts
-returns-in-None-clause-lasts g c = λ l m e f. absurd (none_left l (c.in-None.ensures.value ∙ e))
+returns-in-None-clause-lasts g c = λ l m e f. absurd (none_some l (c.in-None.ensures.value ∙ e))
 
 pub returns-then-ends-clause-lasts : goal.returns-then-ends-clause-lasts
-returns-then-ends-clause-lasts g c = λ l m e f. absurd (none_left m (sym c.try_remove.ensures.updates.changed ∙ f))
+returns-then-ends-clause-lasts g c = λ l m e f. absurd (none_some m (sym c.try_remove.ensures.updates.changed ∙ f))
 
 pub returns-else-ends-clause-lasts : goal.returns-else-ends-clause-lasts
 returns-else-ends-clause-lasts g c = goes_on_stays _ c.args.live.now c.args.key _ c.step-stepped.new.live c.step-stepped.result (sym c.in-Some.ensures.value) c.if-ends.ensures c.step-stepped.ensures.lasts
