@@ -141,7 +141,8 @@ impl Watch {
         door: &mut Option<Door>,
         given: u64,
     ) -> Option<Ready>
-        ensures woken { IfSome result (λ ready. Woken ready given (is_some (door_at door.old)) (accounts sockets.old) (accounts sockets.new)) }
+        ensures woken { IfSome result (λ ready. Woken ready given (is_some (door_at door.old)) (accounts sockets.old)
+            (accounts sockets.new)) }
         ensures none { IfNone result (SameAccounts (accounts sockets.old) (accounts sockets.new)) }
         ensures door { door_at door.new ≡ door_at door.old }
     {

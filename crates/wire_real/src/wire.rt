@@ -215,7 +215,8 @@ impl<'a, R: Net + Clock + AllocGlobal> NetWire<'a, R> {
     /// Gives a socket the next number.
     fn give(&mut self, socket: Socket) -> Result<u64, ErrorKind>
         requires { socket.account ≡ no_account }
-        ensures given { IfOk result (GivesNext self.old.counts self.new.counts (accounts self.old.sockets) (accounts self.new.sockets)) }
+        ensures given { IfOk result (GivesNext self.old.counts self.new.counts (accounts self.old.sockets)
+            (accounts self.new.sockets)) }
         ensures none { OnErr result (SameAccounts (accounts self.old.sockets) (accounts self.new.sockets)) }
         ensures same { OnErr result (self.new.counts ≡ self.old.counts) }
         ensures door { self.new.door ≡ self.old.door }
@@ -235,9 +236,13 @@ impl<'a, R: Net + Clock + AllocGlobal> NetWire<'a, R> {
     /// Gives a link to the next connection at the door, if one waits. One for which there is no memory is
     /// dropped.
     fn accept_next(&mut self) -> Result<Option<u64>, ErrorKind>
-        ensures given { IfOk result (λ accepted. IfSome accepted (GivesNext self.old.counts self.new.counts (accounts self.old.sockets) (accounts self.new.sockets))) }
-        ensures none { IfOk result (λ accepted. IfNone accepted (SameAccounts (accounts self.old.sockets) (accounts self.new.sockets) × (self.new.counts ≡ self.old.counts))) }
-        ensures err { OnErr result (SameAccounts (accounts self.old.sockets) (accounts self.new.sockets) × (self.new.counts ≡ self.old.counts)) }
+        ensures given { IfOk result (λ accepted. IfSome accepted
+            (GivesNext self.old.counts self.new.counts (accounts self.old.sockets) (accounts self.new.sockets))) }
+        ensures none { IfOk result (λ accepted. IfNone accepted
+            (SameAccounts (accounts self.old.sockets) (accounts self.new.sockets) ×
+            (self.new.counts ≡ self.old.counts))) }
+        ensures err { OnErr result (SameAccounts (accounts self.old.sockets) (accounts self.new.sockets) ×
+            (self.new.counts ≡ self.old.counts)) }
         ensures door { door_at self.new.door ≡ door_at self.old.door }
     {
         let Some(socket) = self.accept_socket()? else {
@@ -255,8 +260,10 @@ impl<'a, R: Net + Clock + AllocGlobal> NetWire<'a, R> {
 
     /// Gives a link that the system is connecting.
     fn dial_next(&mut self, host: &str, port: u16) -> Result<u64, ErrorKind>
-        ensures given { IfOk result (GivesNext self.old.counts self.new.counts (accounts self.old.sockets) (accounts self.new.sockets)) }
-        ensures err { OnErr result (SameAccounts (accounts self.old.sockets) (accounts self.new.sockets) × (self.new.counts ≡ self.old.counts)) }
+        ensures given { IfOk result (GivesNext self.old.counts self.new.counts (accounts self.old.sockets)
+            (accounts self.new.sockets)) }
+        ensures err { OnErr result (SameAccounts (accounts self.old.sockets) (accounts self.new.sockets) ×
+            (self.new.counts ≡ self.old.counts)) }
         ensures door { self.new.door ≡ self.old.door }
     {
         let socket = self.begin(host, port)?;
@@ -325,7 +332,8 @@ impl<'a, R: Net + Clock + AllocGlobal> NetWire<'a, R> {
 
     /// Wakes the first link that was told and is ready, or the door.
     fn next_ready(&mut self) -> Option<Ready>
-        ensures woken { IfSome result (λ ready. Woken ready self.old.counts.given (is_some (door_at self.old.door)) (accounts self.old.sockets) (accounts self.new.sockets)) }
+        ensures woken { IfSome result (λ ready. Woken ready self.old.counts.given (is_some (door_at self.old.door))
+            (accounts self.old.sockets) (accounts self.new.sockets)) }
         ensures none { IfNone result (SameAccounts (accounts self.old.sockets) (accounts self.new.sockets)) }
         ensures counts { self.new.counts ≡ self.old.counts }
         ensures door { door_at self.new.door ≡ door_at self.old.door }
@@ -340,7 +348,8 @@ impl<'a, R: Net + Clock + AllocGlobal> NetWire<'a, R> {
 
     /// Waits until a link or the door is ready.
     fn wait_ready(&mut self) -> Result<Ready, ErrorKind>
-        ensures woken { IfOk result (λ ready. Woken ready self.old.counts.given (is_some (door_at self.old.door)) (accounts self.old.sockets) (accounts self.new.sockets)) }
+        ensures woken { IfOk result (λ ready. Woken ready self.old.counts.given (is_some (door_at self.old.door))
+            (accounts self.old.sockets) (accounts self.new.sockets)) }
         ensures none { OnErr result (SameAccounts (accounts self.old.sockets) (accounts self.new.sockets)) }
         ensures counts { self.new.counts ≡ self.old.counts }
         ensures door { door_at self.new.door ≡ door_at self.old.door }
