@@ -1,18 +1,19 @@
 -- The base of a server, and the texts of addresses that begin with its text.
-use Rattle.std.proofs.Common.{◌≡◌, ℕ, ◌<◌, List, [], ◌∷◌, ◌++◌, Bool, true, false, ◌==◌, ◌&&◌, ◌||◌, if◌then◌else◌, nat_le, Some, Option, length, refl, sym, ◌∙◌, ap, subst, arith, inl, inr, append_assoc}
+use Rattle.std.proofs.Common.{◌≡◌, ℕ, ◌<◌, List, [], ◌∷◌, ◌++◌, true, ◌==◌, if◌then◌else◌, nat_le, Some, Option, length, refl, sym, ◌∙◌, ap, subst, arith, inl, inr, append_assoc}
 use Rattle.std.specs.Prelude.{codes}
 use Rattle.std.specs.List.{list_all, prefix_len}
 use Rattle.std.specs.Char.{is_ascii}
 use Rattle.std.proofs.lemmas.List.Folds.{list_all-append}
 use Rattle.std.proofs.lemmas.Bool.Decides.{nat_tests}
 use Rattle.std.proofs.Math.Seq.{drop-append_seam, take-append_seam}
-use Rattle.std.proofs.lemmas.Bool.{and_from}
-use Rattle.rdf_terms.specs.Iri.{is_iri, is_iri_byte, is_letter, is_scheme_byte, has_colon, has_scheme}
+use Rattle.rdf_terms.specs.Iri.{is_iri_byte}
 use Rattle.rdf_terms.specs.Selections.{Selection}
 use Rattle.tpf_base.specs.Addresses.{Address, IsAddress, IsPortTyped, is_host_byte, is_host, is_address_byte, is_path_byte, is_path, is_query_part, query_text, authority_text, authority_of, target_of, address_text}
 use Rattle.template_fill.specs.ReadAddress.{read_spelled, with_target}
 use Rattle.template_fill.specs.WebAddress.{IsNormal, Extends, port_text, is_lower}
 use Rattle.template_fill.specs.Pages.{page_address, page_mark, page_pair, selection_text}
+use Rattle.own_controls.specs.Safe.{IsWeb}
+use Rattle.own_controls.proofs.Web.{web_more}
 use Rattle.template_fill.proofs.Addresses.{and_left, and_right, all_host, is_host-lower, is_lower-lower, not_empty, authority-port, is_port_typed, normal_is_address, keeps, kept_iri, is_ascii-address, iri_byte-address}
 use Rattle.template_fill.proofs.Reading.{prefix_len-front, after_scheme-of, IsTail, is_tail, port_part-of, one_address}
 use Rattle.template_fill.proofs.Passing.{list_all-wider}
@@ -60,10 +61,6 @@ text_is base = refl
 
 -- ---- texts that are IRIs of ASCII
 
-pub record IsWeb (text : List ℕ) : Type 0 where
-  pub iri : is_iri text ≡ true
-  pub ascii : list_all is_ascii text ≡ true
-
 normal_web : (host target : List ℕ) (port : ℕ) → IsNormal host port target → IsWeb (codes "http://" ++ (authority_text host port ++ target))
 normal_web host target port n =
     let text = codes "http://" ++ (authority_text host port ++ target) in
@@ -72,30 +69,6 @@ normal_web host target port n =
 
 pub base_web : (base : Address) → IsAddress (address_text base) base → IsWeb (address_text base)
 base_web base h = normal_web base.host (target_of base) base.port (base_normal base h)
-
-has_colon-more : (text more : List ℕ) → has_colon text ≡ true → has_colon (text ++ more) ≡ true
-has_colon-more [] more h = absurd (cc)
-has_colon-more (b ∷ text) more h =
-    let go : (c d : Bool) → c || (d && has_colon text) ≡ true → c || (d && has_colon (text ++ more)) ≡ true =
-    λ c d. elim c as (λ v. v || (d && has_colon text) ≡ true → v || (d && has_colon (text ++ more)) ≡ true) [
-      | true ↦ λ _. refl
-      | false ↦ λ both. and_from d _ (and_left d _ both) (has_colon-more text more (and_right d _ both))
-    ] in
-    go (b == 58) (is_scheme_byte b) h
-
-has_scheme-more : (text more : List ℕ) → has_scheme text ≡ true → has_scheme (text ++ more) ≡ true
-has_scheme-more [] more h = absurd (cc)
-has_scheme-more (b ∷ text) more h = and_from (is_letter b) _ (and_left (is_letter b) _ h) (has_colon-more text more (and_right (is_letter b) _ h))
-
--- more bytes of an IRI
-pub web_more : (text more : List ℕ) → IsWeb text → list_all is_iri_byte more ≡ true → list_all is_ascii more ≡ true → IsWeb (text ++ more)
-web_more text more h iri ascii =
-    let bytes = and_left (list_all is_iri_byte text) (has_scheme text) h.iri in
-    let scheme = and_right (list_all is_iri_byte text) (has_scheme text) h.iri in
-    record {
-      iri = and_from (list_all is_iri_byte (text ++ more)) _ (rw (list_all-append is_iri_byte text more, bytes) iri) (has_scheme-more text more scheme);
-      ascii = rw (list_all-append is_ascii text more, h.ascii) ascii;
-    }
 
 pub extends_web : (base : Address) (text : List ℕ) → IsAddress (address_text base) base → Extends base text → IsWeb text
 extends_web base text h e =

@@ -15,9 +15,10 @@ use Rattle.template_fill.proofs.Reading.{one_address}
 use Rattle.page_controls.specs.Vocabulary.{rdf_subject, rdf_predicate, rdf_object}
 use Rattle.page_controls.specs.Controls.{IsTopic, IsNumber, IsCount, FormTexts, IsLiteral, IsForm, IsLeastForm, IsFormOf, IsLink, IsNext, IsHome}
 use Rattle.control_laws.specs.Law.{IsNextOf, IsServerForm}
-use Rattle.control_laws.proofs.LawControls.{body, topic_only, count_object, next_only, says_next, no_next_is, template_only, place_only, node_only}
-use Rattle.control_laws.proofs.LawMetadata.{Parts, node, subject_said, predicate_said, object_said}
-use Rattle.control_laws.proofs.LawNumbers.{count_value, count_bound}
+use Rattle.own_controls.proofs.Controls.{body, topic_only, count_object, next_only, says_next, no_next_is, template_only, place_only, node_only}
+use Rattle.own_controls.specs.Metadata.{Parts}
+use Rattle.own_controls.proofs.Answering.{node, subject_said, predicate_said, object_said}
+use Rattle.own_controls.proofs.Numbers.{count_value, count_bound}
 use Rattle.control_laws.proofs.LawTemplates.{template_reads, home_is}
 
 -- the texts of the server's form

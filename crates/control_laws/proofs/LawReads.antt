@@ -11,8 +11,8 @@ use Rattle.nquads_text.specs.Quads.{IsReadableGraph, IsReadable}
 use Rattle.nquads_text.specs.Reads.{ReadsLine, ReadsLines, Reads}
 use Rattle.nquads_text.proofs.ReadLaws.{reads_text}
 use Rattle.nquads_text.proofs.RoundTrip.{read_again}
-use Rattle.control_laws.specs.Law.{IsShortGraph, HasShortTerms}
-use Rattle.control_laws.proofs.LawReadable.{IsSafeQuad, all_readable}
+use Rattle.own_controls.specs.Safe.{IsShortGraph, HasShortTerms}
+use Rattle.own_controls.proofs.Readable.{IsSafeQuad, all_readable}
 
 -- ---- a greater limit
 

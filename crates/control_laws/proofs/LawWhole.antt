@@ -27,14 +27,17 @@ use Rattle.fragment_page.specs.declared.page.Page.{Page}
 use Rattle.page_controls.specs.Contents.{firsts, page_triples}
 use Rattle.page_controls.specs.Controls.{IsTopic, IsCount, IsLeastForm, IsFormOf, IsNext, IsHome, IsVersion}
 use Rattle.control_reader.specs.Takes.{IsBody, Takes}
-use Rattle.control_laws.specs.Law.{HasShortTerms, IsWithinLimits, IsNextOf, IsServerForm, IsPageOf, IsReadFrom, IsVersionNumber, ControlsReadBack, NothingElseIsRead, PagesAreThere}
+use Rattle.control_laws.specs.Law.{IsWithinLimits, IsNextOf, IsServerForm, IsPageOf, IsReadFrom, IsVersionNumber, ControlsReadBack, NothingElseIsRead, PagesAreThere}
 use Rattle.page_controls.proofs.Fine.{one_version}
-use Rattle.control_laws.proofs.LawAddresses.{base_web, web_more, extends_web, page_longer, longer, longer_is, same_authority}
-use Rattle.control_laws.proofs.LawControls.{body, texts_of, topic_is, count_is, next_is, no_next_is, least_is, version_is}
+use Rattle.own_controls.proofs.Web.{web_more}
+use Rattle.control_laws.proofs.LawAddresses.{base_web, extends_web, page_longer, longer, longer_is, same_authority}
+use Rattle.own_controls.proofs.Controls.{body, texts_of, topic_is, count_is, next_is, no_next_is, least_is, version_is}
 use Rattle.control_laws.proofs.LawData.{page_firsts, page_all, default_data, no_blank_data}
-use Rattle.control_laws.proofs.LawMetadata.{Parts, metadata, parts_for, metadata_is, all_named}
+use Rattle.control_laws.proofs.LawMetadata.{Parts, metadata, parts_for, metadata_is}
+use Rattle.own_controls.proofs.Answering.{all_named}
 use Rattle.control_laws.proofs.LawOnly.{topic_taken, count_fits, count_taken, texts_taken, form_taken, home_taken, next_taken}
-use Rattle.control_laws.proofs.LawReadable.{IsSafeQuad, HasSafeTexts, all_readable, safe_body}
+use Rattle.own_controls.specs.Safe.{HasSafeTexts, HasShortTerms}
+use Rattle.own_controls.proofs.Readable.{IsSafeQuad, all_readable, safe_body}
 use Rattle.control_laws.proofs.LawReads.{only_reading, all_short}
 use Rattle.control_laws.proofs.LawTemplates.{template_reads, home_is}
 

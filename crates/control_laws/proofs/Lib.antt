@@ -1,11 +1,7 @@
 pub mod LawAddresses
-pub mod LawAsking
-pub mod LawControls
 pub mod LawData
 pub mod LawMetadata
-pub mod LawNumbers
 pub mod LawOnly
-pub mod LawReadable
 pub mod LawReads
 pub mod LawTemplates
 pub mod LawWhole

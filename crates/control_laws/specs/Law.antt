@@ -1,11 +1,8 @@
 -- The law of controls: what a page's body was made of is what is taken from it (Triple Pattern Fragments, "Data", "Metadata" and "Controls").
-use Rattle.std.specs.Prelude.{ℕ, ◌≡◌, ◌+◌, ◌<◌, ◌≤◌, List, codes, length, Option, Some, None, ⊤}
+use Rattle.std.specs.Prelude.{ℕ, ◌≡◌, ◌+◌, ◌<◌, ◌≤◌, List, codes, length, Option, Some, None}
 use Rattle.std.specs.List.{AllByRecursion}
-use Rattle.rdf_terms.specs.declared.term.Term.{Term}
 use Rattle.rdf_terms.specs.declared.term.Triple.{Triple}
-use Rattle.rdf_terms.specs.declared.term.Quad.{Quad}
 use Rattle.rdf_terms.specs.Selections.{Selection, selected, selected_page, selected_last}
-use Rattle.rdf_terms.specs.Canon.{canonical_term}
 use Rattle.tpf_base.specs.Addresses.{Address, IsAddress, authority_of}
 use Rattle.template_fill.specs.declared.form.Form.{Form}
 use Rattle.template_fill.specs.Pages.{page_address, server_template}
@@ -14,20 +11,7 @@ use Rattle.template_fill.specs.Configurations.{IsConfig, IsHistory, most_version
 use Rattle.template_fill.specs.Bodies.{version_of, page_quads, page_body}
 use Rattle.fragment_page.specs.declared.page.Page.{Page}
 use Rattle.control_reader.specs.Takes.{Takes}
-
--- canonical texts of at most longest bytes
-abbrev pub IsShort : ℕ → Term → Type 0
-IsShort longest term = length (canonical_term term) ≤ longest
-
-abbrev pub IsShortGraph : ℕ → Option Term → Type 0
-IsShortGraph longest None = ⊤
-IsShortGraph longest (Some graph) = IsShort longest graph
-
-pub record HasShortTerms (longest : ℕ) (q : Quad) : Type 0 where
-  pub subject : IsShort longest q.triple.subject
-  pub predicate : IsShort longest q.triple.predicate
-  pub object : IsShort longest q.triple.object
-  pub graph : IsShortGraph longest q.graph
+pub use Rattle.own_controls.specs.Safe.{IsShort, IsShortGraph, HasShortTerms}
 
 -- within the limits of reading: a count of 19 digits at most, and terms of at most 4194304 bytes
 pub record IsWithinLimits (history : List (List Triple)) (version : ℕ) (config : Config) (s : Selection) (k : ℕ) : Type 0 where

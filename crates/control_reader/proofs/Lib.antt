@@ -1,3 +1,4 @@
 pub mod Blanks
 pub mod Pages
 pub mod KeptAuthorities
+pub mod OwnPages

@@ -3,3 +3,4 @@ pub mod Blanks
 pub mod Outcomes
 pub mod Laws
 pub mod Authorities
+pub mod Own

@@ -50,7 +50,8 @@ pub(crate) fn take_triples(
     marks: Vec<bool>,
 ) -> Result<Vec<Triple>, PageFault>
     requires { marked quads.items marks.items ≡ page_triples quads.items }
-    ensures { Answers (λ v. TakesTriples quads.items v.items) (λ fault. (fault ≡ PageFault.BlankData) × HasBlankData quads.items) result }
+    ensures { Answers (λ v. TakesTriples quads.items v.items)
+        (λ fault. (fault ≡ PageFault.BlankData) × HasBlankData quads.items) result }
 {
     let triples = marked(alloc, quads, marks)?;
     if have_blank(triples.as_slice()) {

@@ -15,6 +15,7 @@
 
 mod contents;
 mod laws;
+mod own;
 mod read;
 
 pub use fragment_page::{Page, PageFault, TripleList};

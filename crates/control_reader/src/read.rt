@@ -7,6 +7,7 @@ ghost use Rattle.control_reader.specs.Takes.{Takes, Faults, IsBody, WhyNoBody};
 ghost use Rattle.control_reader.specs.Outcomes.{IsPageOrMemory, IsFaultOrMemory};
 
 use crate::contents::take_triples;
+use crate::own::{NotOwn, read_own};
 use fragment_page::{Page, PageFault, TripleList};
 use nquads_text::{TextFault, read_all};
 use page_controls::{PageControls, Told, read_controls};
@@ -15,7 +16,7 @@ use std::alloc::Global;
 use template_fill::WebAddress;
 
 /// The most bytes that the canonical text of a term may have.
-const LONGEST: usize = 4194304;
+pub(crate) const LONGEST: usize = 4194304;
 
 /// The quads of a body.
 fn read_quads(alloc: Global, body: &[u8]) -> Result<Vec<Quad>, PageFault>
@@ -28,7 +29,8 @@ fn read_quads(alloc: Global, body: &[u8]) -> Result<Vec<Quad>, PageFault>
     }
 }
 
-fn read_exactly(alloc: Global, body: &[u8], address: &WebAddress) -> Result<Page, PageFault>
+/// Reads a page whatever form it has.
+fn read_any(alloc: Global, body: &[u8], address: &WebAddress) -> Result<Page, PageFault>
     ensures { Answers (Takes body.now address.now) (Faults body.now address.now) result }
 {
     let quads = match read_quads(alloc, body) {
@@ -57,6 +59,17 @@ fn read_exactly(alloc: Global, body: &[u8], address: &WebAddress) -> Result<Page
         form,
         version,
     })
+}
+
+/// The form of our own servers comes first, since its controls are known before they are read.
+fn read_exactly(alloc: Global, body: &[u8], address: &WebAddress) -> Result<Page, PageFault>
+    ensures { Answers (Takes body.now address.now) (Faults body.now address.now) result }
+{
+    match read_own(alloc, body, address) {
+        Ok(page) => Ok(page),
+        Err(NotOwn::OutOfMemory) => Err(PageFault::OutOfMemory),
+        Err(NotOwn::Other) => read_any(alloc, body, address),
+    }
 }
 
 /// Reads the page that stands under an address from the body of its reply (Triple Pattern Fragments, "Data", "Metadata"

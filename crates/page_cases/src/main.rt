@@ -1,4 +1,4 @@
-//! Cases of `template_fill`, `hydra_controls` and `control_reader`: addresses, templates, explicit forms, and the
+//! Cases of `template_fill`, `hydra_controls`, `own_controls` and `control_reader`: addresses, templates, explicit forms, and the
 //! metadata of pages as text and read back. The rows stand in `data/`.
 #![tactic(auto)]
 
@@ -43,6 +43,7 @@ impl Answers for Web {
             "metadata" => metadata::metadata_lines(alloc, case),
             "read_back" => pages::read_back(alloc, case),
             "page" => pages::page(alloc, case),
+            "own" => pages::own(alloc, case),
             _ => answer_below(alloc, call, case),
         }
     }

@@ -4,6 +4,7 @@ use crate::metadata::lines_of;
 use case_rows::{Case, CaseFault, bytes_text, debug_text, number_or_none, word_text};
 use control_reader::{Page, PageFault, read_page};
 use nquads_text::canonical;
+use own_controls::{OwnControls, own_controls};
 use rdf_terms::{Slot, Slots, Term, Triple};
 use std::alloc::Global;
 use template_fill::{Form, WebAddress};
@@ -148,4 +149,26 @@ fn body_of(alloc: Global, case: &mut Case<'_>) -> Result<Vec<u8>, CaseFault> {
 pub fn read_back(alloc: Global, case: &mut Case<'_>) -> Result<String, CaseFault> {
     let body = body_of(alloc, case)?;
     shown_of(alloc, case, body.as_slice())
+}
+
+/// What is told of a page of our own: the length of the lines before its controls, the count, the template, the next page
+/// and the version.
+fn own_text(alloc: Global, own: &OwnControls) -> Result<String, CaseFault> {
+    let front = own.front.len();
+    let count = own.count;
+    let template = own.template;
+    let next = own.next.unwrap_or("none");
+    let version = own.version;
+    Ok(format!(in alloc; "{front} {count} {template} {next} {version}")?)
+}
+
+/// `address`, `before`, `behind`, and the page of the row: what is told by its metadata, between these texts, where they
+/// are the controls of a page of our own; else `other`.
+pub fn own(alloc: Global, case: &mut Case<'_>) -> Result<String, CaseFault> {
+    let body = body_of(alloc, case)?;
+    let address = address_of(alloc, case, "address")?;
+    match own_controls(body.as_slice(), &address) {
+        Some(own) => own_text(alloc, &own),
+        None => word_text(alloc, "other"),
+    }
 }

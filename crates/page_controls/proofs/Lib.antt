@@ -13,3 +13,4 @@ pub mod Fine
 pub mod Versioned
 pub mod Formed
 pub mod Asked
+pub mod Homes

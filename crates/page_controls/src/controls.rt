@@ -9,11 +9,8 @@ ghost use Rattle.rdf_terms.specs.declared.term.Term.TheVariants as terms;
 ghost use Rattle.rdf_terms.specs.declared.term.Triple.{Triple};
 ghost use Rattle.page_controls.specs.Controls.{Says};
 ghost use Rattle.page_controls.specs.Parts.{borrowed_triples, objects_in, is_about_in, has_about, abouts, abouts_of, control_of, AreControls, triple};
-ghost use Rattle.page_controls.specs.Contents.{page_triples};
-ghost use Rattle.page_controls.specs.Marks.{marked};
 ghost use Rattle.page_controls.specs.Ranges.{holds_term, goes_before, is_triple_before, length_order, length_triple_order};
 
-use crate::mark::add_mark;
 use crate::order::{compare_pair, compare_terms, compare_triples};
 use crate::topic::GraphTopic;
 use rdf_terms::{Quad, Term, Triple};
@@ -50,7 +47,8 @@ fn add_graph<'a>(
     found: &GraphTopic<'a>,
     topic: &Term,
 ) -> Result<(), OutOfMemory>
-    ensures { OnOk result ((graph : Term) → holds_term graphs.new graph ≡ (is_about_in topic.now graph found.entry.now || holds_term graphs.old graph)) }
+    ensures { OnOk result ((graph : Term) → holds_term graphs.new graph
+        ≡ (is_about_in topic.now graph found.entry.now || holds_term graphs.old graph)) }
 {
     if found.topic.same(topic) {
         graphs.insert(found.graph)?;
@@ -64,7 +62,8 @@ fn graphs_about<'a>(
     topics: &[GraphTopic<'a>],
     topic: &Term,
 ) -> Result<BTreeSet<&'a Term>, OutOfMemory>
-    ensures { IfOk result (λ graphs. (graph : Term) → holds_term graphs graph ≡ list_any (is_about_in topic.now graph) topics.entry.now) }
+    ensures { IfOk result (λ graphs. (graph : Term) → holds_term graphs graph
+        ≡ list_any (is_about_in topic.now graph) topics.entry.now) }
 {
     let mut graphs = BTreeSet::new(alloc);
     for found in topics {
@@ -75,7 +74,8 @@ fn graphs_about<'a>(
 
 /// The triple of a control quad.
 fn control_of<'a>(quad: &'a Quad, graphs: &BTreeSet<&'a Term>) -> Option<&'a Triple>
-    ensures { (all : List Quad) (topic : Term) → ((graph : Term) → holds_term graphs.now graph ≡ has_about all topic graph) →
+    ensures { (all : List Quad) (topic : Term) →
+        ((graph : Term) → holds_term graphs.now graph ≡ has_about all topic graph) →
         option_copied result ≡ control_of all topic quad.entry.now }
 {
     match &quad.graph {
@@ -95,8 +95,10 @@ fn add_control<'a>(
     quad: &'a Quad,
     graphs: &BTreeSet<&'a Term>,
 ) -> Result<(), OutOfMemory>
-    ensures { OnOk result ((all : List Quad) (topic : Term) → ((graph : Term) → holds_term graphs.now graph ≡ has_about all topic graph) →
-        borrowed_triples controls.new.items ≡ borrowed_triples controls.old.items ++ option_to_list (control_of all topic quad.entry.now)) }
+    ensures { OnOk result ((all : List Quad) (topic : Term)
+        → ((graph : Term) → holds_term graphs.now graph ≡ has_about all topic graph) →
+        borrowed_triples controls.new.items ≡ borrowed_triples controls.old.items
+        ++ option_to_list (control_of all topic quad.entry.now)) }
 {
     if let Some(triple) = control_of(quad, graphs) {
         controls.push(triple)?;
@@ -104,39 +106,30 @@ fn add_control<'a>(
     Ok(())
 }
 
-/// The quads of a body, told apart: the triples of its control quads, in their order, and for each quad whether it is the
-/// first with its triple in the default graph.
-#[derive(Drop)]
-pub(crate) struct Split<'a> {
-    pub(crate) controls: Vec<&'a Triple>,
-    pub(crate) marks: Vec<bool>,
-}
-
-/// Goes through the quads of a body once.
-pub(crate) fn split_quads<'a>(
+/// The triples of the control quads of a body, in their order.
+pub(crate) fn controls_in<'a>(
     alloc: Global,
     quads: &'a [Quad],
     topics: &[GraphTopic<'a>],
     topic: &Term,
-) -> Result<Split<'a>, OutOfMemory>
+) -> Result<Vec<&'a Triple>, OutOfMemory>
     requires { abouts topics.now ≡ abouts_of quads.now }
-    ensures controls { IfOk result (λ s. borrowed_triples s.controls.items ≡ filter_map (control_of quads.entry.now topic.now) quads.entry.now) }
-    ensures marks { IfOk result (λ s. marked quads.entry.now s.marks.items ≡ page_triples quads.entry.now) }
+    ensures { IfOk result (λ v. borrowed_triples v.items
+        ≡ filter_map (control_of quads.entry.now topic.now) quads.entry.now) }
 {
     let graphs = graphs_about(alloc, topics, topic)?;
-    let mut controls = Vec::with_capacity(alloc, quads.len())?;
-    let mut seen = BTreeSet::new(alloc);
-    let mut marks = Vec::with_capacity(alloc, quads.len())?;
+    let mut controls = Vec::new(alloc);
     for quad in quads {
         add_control(&mut controls, quad, &graphs)?;
-        add_mark(&mut marks, &mut seen, quad)?;
     }
-    Ok(Split { controls, marks })
+    Ok(controls)
 }
 
 /// The control triples, each once, in their order.
 fn sorted_controls<'a>(mut controls: Vec<&'a Triple>) -> Vec<&'a Triple>
-    ensures { (quads : List Quad) (topic : Term) (text : List ℕ) → borrowed_triples controls.entry.items ≡ filter_map (control_of quads topic) quads → topic ≡ terms.Iri text → AreControls quads text (borrowed_triples result.items) }
+    ensures { (quads : List Quad) (topic : Term) (text : List ℕ) → borrowed_triples controls.entry.items
+        ≡ filter_map (control_of quads topic) quads → topic ≡ terms.Iri text
+        → AreControls quads text (borrowed_triples result.items) }
 {
     controls.sort_unstable_by(|a, b| compare_triples(a, b));
     controls.dedup();
@@ -158,8 +151,10 @@ fn goes_before(triple: &Triple, subject: &Term, predicate: &Term, with_equal: bo
 fn place(triples: &[&Triple], subject: &Term, predicate: &Term, with_equal: bool) -> usize
     requires { IsStrictlySortedBy length_triple_order (borrowed_triples triples.now) }
     ensures within { result ≤ length triples.now }
-    ensures before { (k : ℕ) (d : Bor Triple) → k < result → goes_before with_equal subject.now predicate.now (slice_index_or triples.now k d).now ≡ true }
-    ensures behind { (k : ℕ) (d : Bor Triple) → result ≤ k → k < length triples.now → goes_before with_equal subject.now predicate.now (slice_index_or triples.now k d).now ≡ false }
+    ensures before { (k : ℕ) (d : Bor Triple) → k < result
+        → goes_before with_equal subject.now predicate.now (slice_index_or triples.now k d).now ≡ true }
+    ensures behind { (k : ℕ) (d : Bor Triple) → result ≤ k → k < length triples.now
+        → goes_before with_equal subject.now predicate.now (slice_index_or triples.now k d).now ≡ false }
 {
     triples.partition_point(|triple| goes_before(triple, subject, predicate, with_equal))
 }
@@ -168,7 +163,8 @@ fn place(triples: &[&Triple], subject: &Term, predicate: &Term, with_equal: bool
 fn range_of<'b, 'a>(triples: &'b [&'a Triple], subject: &Term, predicate: &Term) -> &'b [&'a Triple]
     requires { IsStrictlySortedBy length_triple_order (borrowed_triples triples.now) }
     ensures ascending { IsStrictlySortedBy length_order (objects_in result.now) }
-    ensures members { (object : Term) → Contains (objects_in result.now) object ↔ Contains (borrowed_triples triples.entry.now) (triple subject.now predicate.now object) }
+    ensures members { (object : Term) → Contains (objects_in result.now) object
+        ↔ Contains (borrowed_triples triples.entry.now) (triple subject.now predicate.now object) }
 {
     let from = place(triples, subject, predicate, false);
     let to = place(triples, subject, predicate, true);
@@ -177,7 +173,8 @@ fn range_of<'b, 'a>(triples: &'b [&'a Triple], subject: &Term, predicate: &Term)
 
 /// Whether the triple stands before the one of these terms.
 fn is_triple_before(triple: &Triple, subject: &Term, predicate: &Term, object: &Term) -> bool
-    ensures { result ≡ is_triple_before (record { subject = subject.now; predicate = predicate.now; object = object.now }) triple.now }
+    ensures { result ≡ is_triple_before
+        (record { subject = subject.now; predicate = predicate.now; object = object.now }) triple.now }
 {
     matches!(
         compare_terms(triple, subject, predicate, object),
@@ -187,7 +184,8 @@ fn is_triple_before(triple: &Triple, subject: &Term, predicate: &Term, object: &
 
 /// Whether the triple is the one of these terms.
 fn is_triple(triple: &Triple, subject: &Term, predicate: &Term, object: &Term) -> bool
-    ensures { IsTrue result ↔ (triple.now ≡ record { subject = subject.now; predicate = predicate.now; object = object.now }) }
+    ensures { IsTrue result ↔ (triple.now
+        ≡ record { subject = subject.now; predicate = predicate.now; object = object.now }) }
 {
     triple.subject.same(subject) && triple.predicate.same(predicate) && triple.object.same(object)
 }
@@ -235,7 +233,8 @@ impl<'a> Controls<'a> {
     /// The control triples with this subject and predicate, in the order of their objects.
     pub(crate) fn objects(&self, subject: &Term, predicate: &Term) -> &[&'a Triple]
         ensures ascending { IsStrictlySortedBy length_order (objects_in result.now) }
-        ensures members { (object : Term) → Contains (objects_in result.now) object ↔ Says self.now.quads self.now.topic subject.now predicate.now object }
+        ensures members { (object : Term) → Contains (objects_in result.now) object
+            ↔ Says self.now.quads self.now.topic subject.now predicate.now object }
     {
         range_of(self.triples.as_slice(), subject, predicate)
     }

@@ -1,5 +1,5 @@
 // The number of triples that the controls give.
-ghost use Rattle.std.specs.Prelude.{ℕ, ◌≡◌, true, List, Some, MatchOption};
+ghost use Rattle.std.specs.Prelude.{ℕ, ◌≡◌, true, false, List, Some, MatchOption};
 ghost use Rattle.std.specs.List.{list_all};
 ghost use Rattle.std.specs.List.Sorted.{IsStrictlySortedBy};
 ghost use Rattle.std.specs.Char.{is_ascii_digit};
@@ -39,6 +39,18 @@ fn value_of(digits: &str) -> Option<u64>
     digits.parse::<u64>().ok()
 }
 
+/// The number that a text of 1 to 19 digits writes; no other text is one.
+pub fn number_of_digits(digits: &str) -> Option<u64>
+    ensures { MatchOption result (is_count_text digits.now ≡ false)
+        (λ n. (is_count_text digits.now ≡ true) × (n ≡ digits_value 10 digits.now)) }
+{
+    if is_count_text(digits.as_bytes()) {
+        value_of(digits)
+    } else {
+        None
+    }
+}
+
 /// The number that a literal of 1 to 19 digits is.
 pub(crate) fn number(term: &Term) -> Option<u64>
     ensures { MatchOption result ((n : ℕ) → IsNumber term.now n → ⊥) (λ n. IsNumber term.now n) }
@@ -46,12 +58,7 @@ pub(crate) fn number(term: &Term) -> Option<u64>
     let Term::Literal { form, .. } = term else {
         return None;
     };
-    let digits = form.as_str();
-    if is_count_text(digits.as_bytes()) {
-        value_of(digits)
-    } else {
-        None
-    }
+    number_of_digits(form.as_str())
 }
 
 /// What hydra:totalItems gives of the topic, and only where that is nothing what void:triples gives.
@@ -75,7 +82,8 @@ fn count_objects<'b, 'a>(
 /// The number that these objects give.
 fn count_of(objects: &[&Triple]) -> Result<u64, PageFault>
     requires { IsStrictlySortedBy length_order (objects_in objects.now) }
-    ensures { (quads : List Quad) (topic : List ℕ) → AreCounts quads topic objects.now → Answers (IsCount quads topic) (WhyNoCount quads topic) result }
+    ensures { (quads : List Quad) (topic : List ℕ) → AreCounts quads topic objects.now
+        → Answers (IsCount quads topic) (WhyNoCount quads topic) result }
 {
     match objects {
         [] => Err(PageFault::NoCount),
@@ -89,7 +97,8 @@ fn count_of(objects: &[&Triple]) -> Result<u64, PageFault>
 
 /// The number of triples of the fragment.
 pub(crate) fn read_count(alloc: Global, controls: &Controls) -> Result<u64, PageFault>
-    ensures { Answers (IsCount controls.now.quads controls.now.topic) (WhyNoCount controls.now.quads controls.now.topic) result }
+    ensures { Answers (IsCount controls.now.quads controls.now.topic)
+        (WhyNoCount controls.now.quads controls.now.topic) result }
 {
     let total = total_items(alloc)?;
     let triples = void_triples(alloc)?;

@@ -168,7 +168,8 @@ fn form_of(term: &Term) -> Option<&str>
 
 /// The text of the first variable.
 fn first_text<'a>(variables: &[Variable<'a>]) -> Option<&'a str>
-    ensures { MatchOption result (texts_in variables.entry.now ≡ []) (λ text. Contains (texts_in variables.entry.now) text.now) }
+    ensures { MatchOption result (texts_in variables.entry.now ≡ [])
+        (λ text. Contains (texts_in variables.entry.now) text.now) }
 {
     match variables {
         [] => None,
@@ -191,8 +192,11 @@ fn has_other_text(variables: &[Variable], text: &str) -> bool
 /// The form of the only literal that the node has as template.
 fn template_of<'a>(index: &FormIndex<'_, 'a>, node: &Term) -> Option<&'a str>
     requires { IsIndex index.now }
-    ensures { MatchOption result ((literal : Term) → IsOnly (IsTemplateOf index.entry.now.controls.now.quads index.entry.now.controls.now.topic node.now) literal → ⊥)
-        (λ text. (literal : Term) × IsOnly (IsTemplateOf index.entry.now.controls.now.quads index.entry.now.controls.now.topic node.now) literal × IsLiteral literal text.now) }
+    ensures { MatchOption result ((literal : Term) → IsOnly
+        (IsTemplateOf index.entry.now.controls.now.quads index.entry.now.controls.now.topic node.now) literal → ⊥)
+        (λ text. (literal : Term) × IsOnly
+        (IsTemplateOf index.entry.now.controls.now.quads index.entry.now.controls.now.topic node.now) literal
+        × IsLiteral literal text.now) }
 {
     let objects = index.controls.objects(node, index.node.template);
     let literal = first_literal(objects)?;
@@ -205,8 +209,11 @@ fn template_of<'a>(index: &FormIndex<'_, 'a>, node: &Term) -> Option<&'a str>
 /// A variable of a mapping, where it has the property.
 fn variable_of<'a>(index: &FormIndex<'_, 'a>, mapping: &Term, property: &Term) -> Option<&'a str>
     requires { IsIndex index.now }
-    ensures { MatchOption result ((text : List ℕ) → Names index.entry.now.controls.now.quads index.entry.now.controls.now.topic mapping.now property.now text → ⊥)
-        (λ text. Names index.entry.now.controls.now.quads index.entry.now.controls.now.topic mapping.now property.now text.now) }
+    ensures { MatchOption result ((text : List ℕ)
+        → Names index.entry.now.controls.now.quads index.entry.now.controls.now.topic
+        mapping.now property.now text → ⊥)
+        (λ text. Names index.entry.now.controls.now.quads index.entry.now.controls.now.topic
+        mapping.now property.now text.now) }
 {
     if index
         .controls
@@ -221,7 +228,8 @@ fn variable_of<'a>(index: &FormIndex<'_, 'a>, mapping: &Term, property: &Term) -
 /// Whether a mapping has the property and a variable of another text.
 fn names_other(index: &FormIndex, mapping: &Term, property: &Term, text: &str) -> bool
     requires { IsIndex index.now }
-    ensures { IsTrue result ↔ NamesOther index.now.controls.now.quads index.now.controls.now.topic mapping.now property.now text.now }
+    ensures { IsTrue result
+        ↔ NamesOther index.now.controls.now.quads index.now.controls.now.topic mapping.now property.now text.now }
 {
     index
         .controls
@@ -232,8 +240,11 @@ fn names_other(index: &FormIndex, mapping: &Term, property: &Term, text: &str) -
 /// A variable of the node for the property.
 fn first_variable<'a>(index: &FormIndex<'_, 'a>, node: &Term, property: &Term) -> Option<&'a str>
     requires { IsIndex index.now }
-    ensures { MatchOption result ((text : List ℕ) → MapsTo index.entry.now.controls.now.quads index.entry.now.controls.now.topic node.now property.now text → ⊥)
-        (λ text. MapsTo index.entry.now.controls.now.quads index.entry.now.controls.now.topic node.now property.now text.now) }
+    ensures { MatchOption result ((text : List ℕ)
+        → MapsTo index.entry.now.controls.now.quads index.entry.now.controls.now.topic
+        node.now property.now text → ⊥)
+        (λ text. MapsTo index.entry.now.controls.now.quads index.entry.now.controls.now.topic
+        node.now property.now text.now) }
 {
     let mappings = index.controls.objects(node, index.mappings.mapping);
     for mapping in mappings {
@@ -247,7 +258,8 @@ fn first_variable<'a>(index: &FormIndex<'_, 'a>, node: &Term, property: &Term) -
 /// Whether the node has another variable for the property.
 fn has_other_variable(index: &FormIndex, node: &Term, property: &Term, text: &str) -> bool
     requires { IsIndex index.now }
-    ensures { IsTrue result ↔ MapsToOther index.now.controls.now.quads index.now.controls.now.topic node.now property.now text.now }
+    ensures { IsTrue result
+        ↔ MapsToOther index.now.controls.now.quads index.now.controls.now.topic node.now property.now text.now }
 {
     let mappings = index.controls.objects(node, index.mappings.mapping);
     for mapping in mappings {
@@ -261,8 +273,11 @@ fn has_other_variable(index: &FormIndex, node: &Term, property: &Term, text: &st
 /// The only variable of the node for the property.
 fn only_variable<'a>(index: &FormIndex<'_, 'a>, node: &Term, property: &Term) -> Option<&'a str>
     requires { IsIndex index.now }
-    ensures { MatchOption result ((text : List ℕ) → IsOnly (MapsTo index.entry.now.controls.now.quads index.entry.now.controls.now.topic node.now property.now) text → ⊥)
-        (λ text. IsOnly (MapsTo index.entry.now.controls.now.quads index.entry.now.controls.now.topic node.now property.now) text.now) }
+    ensures { MatchOption result ((text : List ℕ) → IsOnly
+        (MapsTo index.entry.now.controls.now.quads index.entry.now.controls.now.topic
+        node.now property.now) text → ⊥)
+        (λ text. IsOnly (MapsTo index.entry.now.controls.now.quads index.entry.now.controls.now.topic
+        node.now property.now) text.now) }
 {
     let text = first_variable(index, node, property)?;
     if has_other_variable(index, node, property, text) {
@@ -281,8 +296,10 @@ fn all_differ(a: &str, b: &str, c: &str) -> bool
 fn form_at<'a>(index: &FormIndex<'_, 'a>, node: &Term) -> Option<FormParts<'a>>
     requires index { IsIndex index.now }
     requires searched { IsSearched index.now.controls.now.quads index.now.controls.now.topic node.now }
-    ensures { MatchOption result ((texts : FormTexts) → IsForm index.entry.now.controls.now.quads index.entry.now.controls.now.topic node.now texts → ⊥)
-        (λ parts. IsForm index.entry.now.controls.now.quads index.entry.now.controls.now.topic node.now (texts_of parts)) }
+    ensures { MatchOption result ((texts : FormTexts)
+        → IsForm index.entry.now.controls.now.quads index.entry.now.controls.now.topic node.now texts → ⊥)
+        (λ parts. IsForm index.entry.now.controls.now.quads index.entry.now.controls.now.topic node.now
+        (texts_of parts)) }
 {
     let others = index.controls.objects(node, index.node.representation);
     if has_other_object(others, index.node.explicit) {
@@ -337,7 +354,8 @@ fn all_searched<'a>(
 /// The objects of hydra:search, each once, in the order of terms.
 fn sorted_searched<'a>(alloc: Global, controls: &Controls<'a>) -> Result<Vec<&'a Term>, OutOfMemory>
     ensures ascending { IfOk result (λ v. IsStrictlySortedBy term_order (borrowed_terms v.items)) }
-    ensures members { IfOk result (λ v. (node : Term) → Contains (borrowed_terms v.items) node ↔ IsSearched controls.entry.now.quads controls.entry.now.topic node) }
+    ensures members { IfOk result (λ v. (node : Term) → Contains (borrowed_terms v.items) node
+        ↔ IsSearched controls.entry.now.quads controls.entry.now.topic node) }
 {
     let search = search_form(alloc)?;
     let mut nodes = all_searched(alloc, controls.triples(), &search)?;
@@ -350,8 +368,10 @@ fn sorted_searched<'a>(alloc: Global, controls: &Controls<'a>) -> Result<Vec<&'a
 fn first_form<'a>(index: &FormIndex<'_, 'a>, nodes: &[&Term]) -> Option<FormParts<'a>>
     requires index { IsIndex index.now }
     requires ascending { IsStrictlySortedBy term_order (borrowed_terms nodes.now) }
-    requires members { (node : Term) → Contains (borrowed_terms nodes.now) node ↔ IsSearched index.now.controls.now.quads index.now.controls.now.topic node }
-    ensures { MatchOption result (HasNoForm index.entry.now.controls.now.quads index.entry.now.controls.now.topic) (λ parts. IsLeastForm index.entry.now.controls.now.quads index.entry.now.controls.now.topic (texts_of parts)) }
+    requires members { (node : Term) → Contains (borrowed_terms nodes.now) node
+        ↔ IsSearched index.now.controls.now.quads index.now.controls.now.topic node }
+    ensures { MatchOption result (HasNoForm index.entry.now.controls.now.quads index.entry.now.controls.now.topic)
+        (λ parts. IsLeastForm index.entry.now.controls.now.quads index.entry.now.controls.now.topic (texts_of parts)) }
 {
     for node in nodes {
         if let Some(parts) = form_at(index, node) {
@@ -366,7 +386,8 @@ fn least_form<'a>(
     alloc: Global,
     controls: &Controls<'a>,
 ) -> Result<Option<FormParts<'a>>, OutOfMemory>
-    ensures { IfOk result (λ o. MatchOption o (HasNoForm controls.entry.now.quads controls.entry.now.topic) (λ parts. IsLeastForm controls.entry.now.quads controls.entry.now.topic (texts_of parts))) }
+    ensures { IfOk result (λ o. MatchOption o (HasNoForm controls.entry.now.quads controls.entry.now.topic)
+        (λ parts. IsLeastForm controls.entry.now.quads controls.entry.now.topic (texts_of parts))) }
 {
     let words = FormWords::new(alloc)?;
     let variables = all_variables(alloc, controls)?;
@@ -377,7 +398,8 @@ fn least_form<'a>(
 
 /// The form with these texts.
 fn read_form(alloc: Global, parts: &FormParts) -> Result<Form, PageFault>
-    ensures { Answers (IsFormOf (texts_of parts.now)) (λ fault. (fault ≡ PageFault.BadTemplate) × HasBadTemplate (texts_of parts.now)) result }
+    ensures { Answers (IsFormOf (texts_of parts.now))
+        (λ fault. (fault ≡ PageFault.BadTemplate) × HasBadTemplate (texts_of parts.now)) result }
 {
     let template = match Template::read(alloc, parts.template) {
         Ok(template) => template,
@@ -399,7 +421,8 @@ fn read_form(alloc: Global, parts: &FormParts) -> Result<Form, PageFault>
 
 /// The least form of the page.
 pub(crate) fn find_form(alloc: Global, controls: &Controls) -> Result<Form, PageFault>
-    ensures { Answers (TakesForm controls.now.quads controls.now.topic) (WhyNoForm controls.now.quads controls.now.topic) result }
+    ensures { Answers (TakesForm controls.now.quads controls.now.topic)
+        (WhyNoForm controls.now.quads controls.now.topic) result }
 {
     match least_form(alloc, controls)? {
         None => Err(PageFault::NoForm),

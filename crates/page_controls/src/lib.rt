@@ -24,4 +24,7 @@ mod variable;
 mod version;
 mod vocabulary;
 
+pub use count::number_of_digits;
+pub use link::is_home;
+pub use mark::first_marks;
 pub use told::{PageControls, Told, read_controls};

@@ -1,8 +1,9 @@
 // The next page, and the authority of links.
-ghost use Rattle.std.specs.Prelude.{ℕ, ◌≡◌, List};
+ghost use Rattle.std.specs.Prelude.{ℕ, ◌≡◌, List, Some, MatchBool};
 ghost use Rattle.std.specs.List.Sorted.{IsStrictlySortedBy};
 ghost use Rattle.rdf_terms.specs.declared.term.Quad.{Quad};
 ghost use Rattle.tpf_base.specs.Addresses.{IsAddress, authority_of};
+ghost use Rattle.template_fill.specs.Templates.{read_template};
 ghost use Rattle.template_fill.specs.WebAddress.{IsNoAddress};
 ghost use Rattle.page_controls.specs.Controls.{IsNext, IsHome, IsForeign};
 ghost use Rattle.page_controls.specs.Counts.{WhyNoNext, TakesLink, IsNoLink, AreNexts};
@@ -15,11 +16,12 @@ use crate::vocabulary::next_page;
 use fragment_page::PageFault;
 use rdf_terms::{Term, Triple};
 use std::alloc::Global;
-use template_fill::{AddressFault, Template, WebAddress};
+use template_fill::{AddressFault, Template, WebAddress, expansions_share_authority};
 
 /// The address that an IRI is.
 fn link(alloc: Global, text: &str) -> Result<WebAddress, PageFault>
-    ensures { Answers (λ a. IsAddress text.now a) (λ fault. (fault ≡ PageFault.ForeignLink) × IsNoAddress text.now) result }
+    ensures { Answers (λ a. IsAddress text.now a)
+        (λ fault. (fault ≡ PageFault.ForeignLink) × IsNoAddress text.now) result }
 {
     match WebAddress::read(alloc, text) {
         Ok(next) => Ok(next),
@@ -30,7 +32,8 @@ fn link(alloc: Global, text: &str) -> Result<WebAddress, PageFault>
 
 /// The address of the authority that a term is.
 fn home_link(alloc: Global, term: &Term, address: &WebAddress) -> Result<WebAddress, PageFault>
-    ensures { Answers (TakesLink (authority_of address.now) term.now) (λ fault. (fault ≡ PageFault.ForeignLink) × IsNoLink (authority_of address.now) term.now) result }
+    ensures { Answers (TakesLink (authority_of address.now) term.now)
+        (λ fault. (fault ≡ PageFault.ForeignLink) × IsNoLink (authority_of address.now) term.now) result }
 {
     let Term::Iri(iri) = term else {
         return Err(PageFault::ForeignLink);
@@ -53,7 +56,9 @@ fn next_of(
     address: &WebAddress,
 ) -> Result<Option<WebAddress>, PageFault>
     requires { IsStrictlySortedBy length_order (objects_in objects.now) }
-    ensures { (quads : List Quad) (topic : List ℕ) → AreNexts quads topic objects.now → Answers (IsNext quads topic (authority_of address.now)) (WhyNoNext quads topic (authority_of address.now)) result }
+    ensures { (quads : List Quad) (topic : List ℕ) → AreNexts quads topic objects.now
+        → Answers (IsNext quads topic (authority_of address.now))
+        (WhyNoNext quads topic (authority_of address.now)) result }
 {
     match objects {
         [] => Ok(None),
@@ -71,22 +76,29 @@ pub(crate) fn read_next(
     controls: &Controls,
     address: &WebAddress,
 ) -> Result<Option<WebAddress>, PageFault>
-    ensures { Answers (IsNext controls.now.quads controls.now.topic (authority_of address.now)) (WhyNoNext controls.now.quads controls.now.topic (authority_of address.now)) result }
+    ensures { Answers (IsNext controls.now.quads controls.now.topic (authority_of address.now))
+        (WhyNoNext controls.now.quads controls.now.topic (authority_of address.now)) result }
 {
     let next = next_page(alloc)?;
     next_of(alloc, controls.objects(controls.topic(), &next), address)
 }
 
-/// Refuses a template of another authority.
-pub(crate) fn check_home(
-    alloc: Global,
-    template: &Template,
-    address: &WebAddress,
-) -> Result<(), PageFault>
-    ensures { Answers (λ done. IsHome template.now (authority_of address.now)) (λ fault. (fault ≡ PageFault.ForeignLink) × IsForeign template.now (authority_of address.now)) result }
+/// Whether a template that was read is one of the address's authority: that without values it expands to an address of it.
+pub fn is_home(template: &Template, address: &WebAddress) -> bool
+    ensures { (text : List ℕ) → read_template text ≡ Some template.now → MatchBool result
+        (IsHome template.now (authority_of address.now)) (IsForeign template.now (authority_of address.now)) }
 {
-    let start = template.expand(alloc, &[])?;
-    if start.same_authority(address) {
+    expansions_share_authority();
+    template.start().same_authority(address)
+}
+
+/// Refuses a template of another authority.
+pub(crate) fn check_home(template: &Template, address: &WebAddress) -> Result<(), PageFault>
+    requires { (text : List ℕ) × (read_template text ≡ Some template.now) }
+    ensures { Answers (λ done. IsHome template.now (authority_of address.now))
+        (λ fault. (fault ≡ PageFault.ForeignLink) × IsForeign template.now (authority_of address.now)) result }
+{
+    if is_home(template, address) {
         Ok(())
     } else {
         Err(PageFault::ForeignLink)

@@ -42,7 +42,8 @@ pub(crate) fn compare(a: &Term, b: &Term) -> Ordering
 
 /// The predicate and the object of a triple beside these.
 fn compare_ends(triple: &Triple, predicate: &Term, object: &Term) -> Ordering
-    ensures { result ≡ ordering_then (length_order triple.now.predicate predicate.now) (length_order triple.now.object object.now) }
+    ensures { result ≡ ordering_then (length_order triple.now.predicate predicate.now)
+        (length_order triple.now.object object.now) }
 {
     match compare(&triple.predicate, predicate) {
         Ordering::Less => Ordering::Less,
@@ -58,7 +59,8 @@ pub(crate) fn compare_terms(
     predicate: &Term,
     object: &Term,
 ) -> Ordering
-    ensures { result ≡ length_triple_order triple.now (record { subject = subject.now; predicate = predicate.now; object = object.now }) }
+    ensures { result ≡ length_triple_order triple.now
+        (record { subject = subject.now; predicate = predicate.now; object = object.now }) }
 {
     match compare(&triple.subject, subject) {
         Ordering::Less => Ordering::Less,
@@ -76,7 +78,8 @@ pub(crate) fn compare_triples(a: &Triple, b: &Triple) -> Ordering
 
 /// The subject and the predicate of a triple beside these.
 pub(crate) fn compare_pair(triple: &Triple, subject: &Term, predicate: &Term) -> Ordering
-    ensures { result ≡ ordering_then (length_order triple.now.subject subject.now) (length_order triple.now.predicate predicate.now) }
+    ensures { result ≡ ordering_then (length_order triple.now.subject subject.now)
+        (length_order triple.now.predicate predicate.now) }
 {
     match compare(&triple.subject, subject) {
         Ordering::Less => Ordering::Less,

@@ -7,10 +7,11 @@ ghost use Rattle.page_controls.specs.Outcomes.{Answers};
 ghost use Rattle.page_controls.specs.Stages.{TakesControls, FirstAmiss, IsTopicTerm, TakesPage, WhyNoPage};
 ghost use Rattle.page_controls.specs.Parts.{abouts, abouts_of};
 
-use crate::controls::{Controls, Split, split_quads};
+use crate::controls::{Controls, controls_in};
 use crate::count::read_count;
 use crate::form::find_form;
 use crate::link::{check_home, read_next};
+use crate::mark::first_marks;
 use crate::topic::{GraphTopic, find_topic, topics_of};
 use crate::version::read_version;
 use crate::vocabulary::iri;
@@ -38,7 +39,8 @@ pub struct PageControls {
 
 /// What the control quads of a topic tell.
 fn read_told(alloc: Global, controls: &Controls, address: &WebAddress) -> Result<Told, PageFault>
-    ensures { Answers (TakesControls controls.now.quads controls.now.topic (authority_of address.now)) (FirstAmiss controls.now.quads controls.now.topic (authority_of address.now)) result }
+    ensures { Answers (TakesControls controls.now.quads controls.now.topic (authority_of address.now))
+        (FirstAmiss controls.now.quads controls.now.topic (authority_of address.now)) result }
 {
     let count = match read_count(alloc, controls) {
         Ok(count) => count,
@@ -52,7 +54,7 @@ fn read_told(alloc: Global, controls: &Controls, address: &WebAddress) -> Result
         Ok(next) => next,
         Err(fault) => return Err(fault),
     };
-    match check_home(alloc, &form.template, address) {
+    match check_home(&form.template, address) {
         Ok(()) => {}
         Err(fault) => return Err(fault),
     }
@@ -75,9 +77,11 @@ fn read_topic<'a>(
 ) -> Result<PageControls, PageFault>
     requires topics { abouts topics.now ≡ abouts_of quads.now }
     requires topic { IsTopicTerm quads.now address.now topic.now }
-    ensures { Answers (λ p. TakesPage quads.now address.now p.told × (marked quads.now p.marks.items ≡ page_triples quads.now)) (WhyNoPage quads.now address.now) result }
+    ensures { Answers (λ p. TakesPage quads.now address.now p.told
+        × (marked quads.now p.marks.items ≡ page_triples quads.now)) (WhyNoPage quads.now address.now) result }
 {
-    let Split { controls, marks } = split_quads(alloc, quads, topics, topic)?;
+    let controls = controls_in(alloc, quads, topics, topic)?;
+    let marks = first_marks(alloc, quads)?;
     let controls = Controls::new(quads, topic, controls);
     match read_told(alloc, &controls, address) {
         Ok(told) => Ok(PageControls { told, marks }),
@@ -95,7 +99,8 @@ pub fn read_controls(
     quads: &[Quad],
     address: &WebAddress,
 ) -> Result<PageControls, PageFault>
-    ensures { Answers (λ p. TakesPage quads.now address.now p.told × (marked quads.now p.marks.items ≡ page_triples quads.now)) (WhyNoPage quads.now address.now) result }
+    ensures { Answers (λ p. TakesPage quads.now address.now p.told
+        × (marked quads.now p.marks.items ≡ page_triples quads.now)) (WhyNoPage quads.now address.now) result }
 {
     let topics = topics_of(alloc, quads)?;
     let own = iri(alloc, address.text())?;

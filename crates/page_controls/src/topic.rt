@@ -85,8 +85,10 @@ fn first_topic<'a>(topics: &[GraphTopic<'a>]) -> Option<&'a Term>
 
 /// The only topic, if there is one.
 fn only_topic<'a>(topics: &[GraphTopic<'a>]) -> Option<&'a Term>
-    ensures { (quads : List Quad) (text : List ℕ) → abouts topics.entry.now ≡ abouts_of quads → list_any (has_same_topic (terms.Iri text)) topics.entry.now ≡ false →
-        MatchOption result (HasNoTopic quads text) (λ t. (topic : List ℕ) × (t.now ≡ terms.Iri topic) × IsTopic quads text topic) }
+    ensures { (quads : List Quad) (text : List ℕ) → abouts topics.entry.now ≡ abouts_of quads
+        → list_any (has_same_topic (terms.Iri text)) topics.entry.now ≡ false →
+        MatchOption result (HasNoTopic quads text)
+        (λ t. (topic : List ℕ) × (t.now ≡ terms.Iri topic) × IsTopic quads text topic) }
 {
     let first = first_topic(topics)?;
     if has_other_topic(topics, first) {
@@ -97,8 +99,10 @@ fn only_topic<'a>(topics: &[GraphTopic<'a>]) -> Option<&'a Term>
 
 /// The topic of a page whose own address is this IRI, if there is one.
 pub(crate) fn find_topic<'a>(topics: &[GraphTopic<'a>], own: &Term) -> Option<&'a Term>
-    ensures { (quads : List Quad) (text : List ℕ) → abouts topics.entry.now ≡ abouts_of quads → own.now ≡ terms.Iri text →
-        MatchOption result (HasNoTopic quads text) (λ t. (topic : List ℕ) × (t.now ≡ terms.Iri topic) × IsTopic quads text topic) }
+    ensures { (quads : List Quad) (text : List ℕ) → abouts topics.entry.now ≡ abouts_of quads → own.now
+        ≡ terms.Iri text →
+        MatchOption result (HasNoTopic quads text)
+        (λ t. (topic : List ℕ) × (t.now ≡ terms.Iri topic) × IsTopic quads text topic) }
 {
     match same_topic(topics, own) {
         Some(topic) => Some(topic),

@@ -85,8 +85,10 @@ fn goes_before(variable: &Variable, mapping: &Term, with_equal: bool) -> bool
 fn place(variables: &[Variable], mapping: &Term, with_equal: bool) -> usize
     requires { IsStrictlySortedBy name_order (named_all variables.now) }
     ensures within { result ≤ length variables.now }
-    ensures before { (k : ℕ) (d : Variable) → k < result → goes_before with_equal mapping.now (named (slice_index_or variables.now k d)) ≡ true }
-    ensures behind { (k : ℕ) (d : Variable) → result ≤ k → k < length variables.now → goes_before with_equal mapping.now (named (slice_index_or variables.now k d)) ≡ false }
+    ensures before { (k : ℕ) (d : Variable) → k < result
+        → goes_before with_equal mapping.now (named (slice_index_or variables.now k d)) ≡ true }
+    ensures behind { (k : ℕ) (d : Variable) → result ≤ k → k < length variables.now
+        → goes_before with_equal mapping.now (named (slice_index_or variables.now k d)) ≡ false }
 {
     variables.partition_point(|variable| goes_before(variable, mapping, with_equal))
 }
@@ -97,7 +99,8 @@ pub(crate) fn variables_of<'b, 'a>(
     mapping: &Term,
 ) -> &'b [Variable<'a>]
     requires { IsStrictlySortedBy name_order (named_all variables.now) }
-    ensures members { (text : List ℕ) → Contains (texts_in result.now) text ↔ Contains (named_all variables.entry.now) (record { mapping = mapping.now; text = text }) }
+    ensures members { (text : List ℕ) → Contains (texts_in result.now) text
+        ↔ Contains (named_all variables.entry.now) (record { mapping = mapping.now; text = text }) }
 {
     let from = place(variables, mapping, false);
     let to = place(variables, mapping, true);

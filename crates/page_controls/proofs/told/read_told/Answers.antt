@@ -16,3 +16,6 @@ pub returns-in-Err-check_home : goal.returns-in-Err-check_home
 returns-in-Err-check_home c =
     home_amiss c.args.controls.now.quads c.args.controls.now.topic (authority_of c.args.address.now) c.in-Ok.count c.in-Ok-find_form.form c.in-Ok-read_next.next c.in-Err-check_home.fault c.in-Ok.ensures c.in-Ok-find_form.ensures
     c.in-Ok-read_next.ensures c.in-Err-check_home.ensures
+
+pub check_home-requires : goal.check_home-requires
+check_home-requires c = (c.in-Ok-find_form.ensures.texts.template, c.in-Ok-find_form.ensures.is_form.template)

@@ -8,7 +8,7 @@ new-controls-requires-clause-topic c = let found = c.requires.topic in (found.0,
 pub returns-in-Ok : goal.returns-in-Ok
 returns-in-Ok c = (
   page_answers c.args.quads.now c.args.address.now c.new-controls.result c.args.topic.now c.new-controls.ensures.quads c.new-controls.ensures.topic c.requires.topic (Ok c.in-Ok.told) c.in-Ok.ensures,
-  c.in_ok-controls.ensures.marks,
+  c.in_ok-marks.ensures,
 )
 
 pub returns-in-Err : goal.returns-in-Err

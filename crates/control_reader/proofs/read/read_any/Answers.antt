@@ -3,7 +3,7 @@ use Rattle.rdf_terms.specs.declared.term.Quad.{Quad}
 use Rattle.page_controls.specs.Outcomes.{IsFaultOf}
 use Rattle.page_controls.specs.Stages.{TakesPage, WhyNoPage}
 use Rattle.control_reader.proofs.Pages.{page_fault, data_fault}
-use Rattle.control_reader.proofs.read.read_exactly.Goals as goal
+use Rattle.control_reader.proofs.read.read_any.Goals as goal
 
 pub returns-in-Err-read_controls : goal.returns-in-Err-read_controls
 returns-in-Err-read_controls c =

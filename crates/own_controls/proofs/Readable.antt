@@ -23,10 +23,10 @@ use Rattle.tpf_base.specs.Decimals.{decimal_text}
 use Rattle.template_fill.specs.Metadata.{foaf, void, hydra, rdf, plain, integer, statement, topic_quads, form_quads, mapping_quads, count_quads, link_quads, version_quads, owl}
 use Rattle.template_fill.specs.Bodies.{in_default_graph}
 use Rattle.template_fill.proofs.Addresses.{and_left, and_right, utf8-ascii}
-use Rattle.control_laws.specs.Law.{IsShort, IsShortGraph, HasShortTerms}
-use Rattle.control_laws.proofs.LawAddresses.{IsWeb, web_more}
-use Rattle.control_laws.proofs.LawNumbers.{number_utf8}
-use Rattle.control_laws.proofs.LawMetadata.{Parts, metadata}
+use Rattle.own_controls.specs.Safe.{IsWeb, HasSafeTexts, IsShort, IsShortGraph, HasShortTerms}
+use Rattle.own_controls.proofs.Web.{web_more}
+use Rattle.own_controls.proofs.Numbers.{number_utf8}
+use Rattle.own_controls.specs.Metadata.{Parts, metadata}
 
 -- ---- terms
 
@@ -153,16 +153,6 @@ safe_data (t ∷ ts) classes valid = (safe_triple t classes.0 valid.0, safe_data
 
 -- ---- what is said of the page
 
--- texts of IRIs, and a count, that can be read
-pub record HasSafeTexts (m : Parts) : Type 0 where
-  pub graph : IsWeb m.graph
-  pub page : IsWeb m.page
-  pub first : IsWeb m.first
-  pub base : IsWeb m.base
-  pub template : list_all is_ascii m.template ≡ true
-  pub next : IsWeb m.next
-  pub previous : IsWeb m.previous
-
 safe_statement : (graph : List ℕ) (s p o : Term) → IsWeb graph → IsIriOrBlank s → IsIri p → IsSafe s → IsSafe p → IsSafe o → IsSafeQuad (statement graph s p o)
 safe_statement graph s p o web node iri subject predicate object = record {
   classes = record { triple = record { subject = node; predicate = iri }; graph = tt };
@@ -224,7 +214,7 @@ safe_version m h =
     let data_set = safe_web (m.base ++ codes "#dataset") (web_more m.base (codes "#dataset") h.base refl refl) in
     one (safe_statement m.graph (Iri (m.base ++ codes "#dataset")) (owl (codes "versionInfo")) (plain (decimal_text m.version)) h.graph tt tt data_set (safe_text _ refl refl) (safe_number m.version)) none
 
-safe_metadata : (there back : Bool) (m : Parts) → HasSafeTexts m → AreSafe (metadata there back m)
+pub safe_metadata : (there back : Bool) (m : Parts) → HasSafeTexts m → AreSafe (metadata there back m)
 unfolding metadata rdf hydra
 safe_metadata there back m h =
     let topic = joined (safe_topic m h) (safe_form_quads m h) in

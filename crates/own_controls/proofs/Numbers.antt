@@ -37,3 +37,10 @@ digit_ascii b h = grind (arith, nat_tests)
 
 pub number_utf8 : (n : ℕ) → IsUtf8 (decimal_text n)
 number_utf8 n = utf8-ascii (decimal_text n) (list_all-wider is_ascii_digit is_ascii digit_ascii (decimal_text n) (decimal_text-digits n))
+
+-- a count is digits alone, at least one
+pub count_form : (form : List ℕ) → is_count_text form ≡ true → (0 < length form) × (list_all is_ascii_digit form ≡ true)
+count_form form h =
+    let some = and_left (nat_le 1 (length form)) _ h in
+    let rest = and_right (nat_le 1 (length form)) _ h in
+    (grind (arith, nat_tests, some), and_right (nat_le (length form) 19) _ rest)

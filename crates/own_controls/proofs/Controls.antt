@@ -3,9 +3,10 @@ use Rattle.std.proofs.Common.{◌≡◌, ◌≢◌, ℕ, ◌≤◌, inl, inr, Bo
 use Rattle.std.specs.Prelude.{codes}
 use Rattle.std.specs.List.{filter}
 use Rattle.std.specs.Str.{bytes_eq}
-use Rattle.std.specs.declared.cmp.Ordering.TheVariants.{Less, Equal}
+use Rattle.std.specs.declared.cmp.Ordering.TheVariants.{Less}
 use Rattle.std.proofs.lemmas.Cmp.{tied_itself}
 use Rattle.std.proofs.lemmas.Slice.Eq.{bytes_eq-Decides}
+use Rattle.list_laws.proofs.Ascending.{less_not_equal}
 use Rattle.rdf_terms.specs.declared.term.Term.{Term}
 use Rattle.rdf_terms.specs.declared.term.Term.TheVariants.{Iri, Blank}
 use Rattle.rdf_terms.specs.declared.term.Triple.{Triple}
@@ -18,15 +19,13 @@ use Rattle.template_fill.specs.Metadata.{plain, integer}
 use Rattle.template_fill.specs.Bodies.{in_default_graph}
 use Rattle.page_controls.specs.Vocabulary.{primary_topic, total_items, next_page, search_form, form_template, representation, explicit_representation, form_mapping, mapped_variable, mapped_property, rdf_subject, rdf_predicate, rdf_object, version_info}
 use Rattle.page_controls.specs.Controls.{IsAbout, HasTopic, IsTopic, Says, IsCountObject, IsCount, FormTexts, IsLiteral, IsTemplateOf, MapsTo, IsForm, IsLeastForm, IsNextObject, IsNext, IsNumber, IsVersionObject, IsVersion}
-use Rattle.control_laws.proofs.LawAsking.{asks, asks_object, asks_subject, named, one_passes, one_stands, none_passes, asked, asked_object, asked_subject, named_stands, holds_named, same_subject, same_object}
-use Rattle.control_laws.proofs.LawMetadata.{Parts, metadata, node, Said, topic_asked, count_asked, version_asked, next_asked, no_next_asked, form_asked, template_asked, representation_asked, subject_said, predicate_said, object_said}
-use Rattle.control_laws.proofs.LawNumbers.{count_text, count_value}
+use Rattle.own_controls.proofs.Asking.{asks, asks_object, asks_subject, named, one_passes, one_stands, none_passes, asked, asked_object, asked_subject, named_stands, holds_named, same_subject, same_object}
+use Rattle.own_controls.specs.Metadata.{Parts, metadata}
+use Rattle.own_controls.proofs.Answering.{node, Said, topic_asked, count_asked, version_asked, next_asked, no_next_asked, form_asked, template_asked, representation_asked, subject_said, predicate_said, object_said}
+use Rattle.own_controls.proofs.Numbers.{count_text, count_value}
 
 same_text : (a b : List ℕ) → Iri a ≡ Iri b → a ≡ b
 same_text a b e = cc
-
-less_equal : Less ≡ Equal → ⊥
-less_equal e = cc
 
 -- the quads of a body: data, and what is said of the page
 abbrev pub body : List Triple → Bool → Bool → Parts → List Quad
@@ -190,7 +189,7 @@ module _ (ts : List Triple) (there back : Bool) (m : Parts) where
   node_only other texts h = form_only h.searched.0 other h.searched.1
 
   never_less : (other : Term) → other ≡ node → term_order other node ≢ Less
-  never_less other e less = less_equal (sym less ∙ ap (λ (t : Term). term_order t node) e ∙ tied_itself term_total node)
+  never_less other e less = less_not_equal (sym less ∙ ap (λ (t : Term). term_order t node) e ∙ tied_itself term_total node)
 
   pub least_is : IsLeastForm (body ts there back m) m.page (texts_of m)
   least_is = record { node = node; is_form = form_is; least = λ other texts h. never_less other (node_only other texts h) }

@@ -1,14 +1,12 @@
 use Rattle.std.proofs.Common.{◌≡◌, [], ◌++◌, take, drop}
-use Rattle.std.specs.List.{list_any, filter_map}
+use Rattle.std.specs.List.{list_any}
 use Rattle.rdf_terms.specs.Same.{triple_eq}
 use Rattle.rdf_terms.specs.declared.term.Triple.{Triple}
 use Rattle.page_controls.specs.Contents.{default_triples}
 use Rattle.page_controls.specs.Marks.{is_seen}
-use Rattle.page_controls.specs.Parts.{borrowed_triples, control_of}
 use Rattle.page_controls.proofs.Firsts.{marks_after}
-use Rattle.page_controls.proofs.controls.split_quads.Given as goal
+use Rattle.page_controls.proofs.mark.first_marks.Given as goal
 
 abbrev pub invariant-loop-quad : goal.invariant-loop-quad
-invariant-loop-quad l = (borrowed_triples l.controls.items ≡ filter_map (control_of l.quads l.topic) (take l.quad-index l.quads))
-    × (marks_after [] l.quads ≡ l.marks.items ++ marks_after (default_triples (take l.quad-index l.quads)) (drop l.quad-index l.quads))
+invariant-loop-quad l = (marks_after [] l.quads ≡ l.marks.items ++ marks_after (default_triples (take l.quad-index l.quads)) (drop l.quad-index l.quads))
     × ((t : Triple) → is_seen l.seen t ≡ list_any (λ s. triple_eq s t) (default_triples (take l.quad-index l.quads)))

@@ -1,0 +1,183 @@
+// The page of a server of our own, whose controls are compared and not read.
+ghost use Rattle.std.specs.Prelude.{ℕ, ◌≡◌, List, is_none, Some, IfOk};
+ghost use Rattle.std.specs.List.{list_all};
+ghost use Rattle.rdf_terms.specs.declared.term.Quad.{Quad};
+ghost use Rattle.tpf_base.specs.Addresses.{IsAddress, authority_of};
+ghost use Rattle.template_fill.specs.Templates.{read_template};
+ghost use Rattle.page_controls.specs.Controls.{names_all};
+ghost use Rattle.control_reader.specs.Takes.{Takes};
+ghost use Rattle.control_reader.specs.Own.{IsData, IsOwnForm, IsOwnNext, own_texts};
+ghost use Rattle.control_reader.specs.Blanks.{TakesTriples};
+
+use crate::contents::take_triples;
+use crate::read::LONGEST;
+use fragment_page::{Page, PageFault, TripleList};
+use nquads_text::{TextFault, read_all};
+use own_controls::own_controls;
+use page_controls::{first_marks, is_home};
+use rdf_terms::{Quad, Triple};
+use std::alloc::Global;
+use template_fill::{AddressFault, Form, Template, TemplateFault, WebAddress};
+use tpf_base::{OutOfMemory, Text};
+
+/// Why a body is not read in this way.
+#[derive(Clone, Copy)]
+pub(crate) enum NotOwn {
+    /// It is read as any other.
+    Other,
+    /// Memory ran out.
+    OutOfMemory,
+}
+
+impl From<OutOfMemory> for NotOwn {
+    ghost use Rattle.std.specs.Prelude.{◌≡◌};
+    ghost use Rattle.control_reader.specs.declared.own.NotOwn.TheVariants as faults;
+
+    ghost from_gives = { λ _ e. e ≡ faults.OutOfMemory };
+
+    fn from(_: OutOfMemory) -> Self {
+        NotOwn::OutOfMemory
+    }
+}
+
+fn are_data(quads: &[Quad]) -> bool
+    ensures { result ≡ list_all (λ (q : Quad). is_none q.graph) quads.now }
+{
+    quads.iter().all(|quad| quad.graph.is_none())
+}
+
+/// The quads of the lines before the controls, all of the default graph.
+fn data_quads(alloc: Global, front: &[u8]) -> Result<Vec<Quad>, NotOwn>
+    ensures { IfOk result (λ v. IsData front.now v.items) }
+{
+    match read_all(alloc, front, LONGEST) {
+        Err(TextFault::OutOfMemory) => Err(NotOwn::OutOfMemory),
+        Err(TextFault::Bad { .. }) => Err(NotOwn::Other),
+        Ok(quads) => {
+            if are_data(quads.as_slice()) {
+                Ok(quads)
+            } else {
+                Err(NotOwn::Other)
+            }
+        }
+    }
+}
+
+/// Their distinct triples.
+fn data_triples(alloc: Global, front: &[u8]) -> Result<Vec<Triple>, NotOwn>
+    ensures { IfOk result (λ v. (quads : List Quad) × IsData front.now quads × TakesTriples quads v.items) }
+{
+    let quads = match data_quads(alloc, front) {
+        Ok(quads) => quads,
+        Err(fault) => return Err(fault),
+    };
+    let marks = first_marks(alloc, quads.as_slice())?;
+    match take_triples(alloc, quads, marks) {
+        Ok(triples) => Ok(triples),
+        Err(PageFault::OutOfMemory) => Err(NotOwn::OutOfMemory),
+        Err(_) => Err(NotOwn::Other),
+    }
+}
+
+fn template_of(alloc: Global, text: &str) -> Result<Template, NotOwn>
+    ensures { IfOk result (λ template. read_template text.now ≡ Some template) }
+{
+    match Template::read(alloc, text) {
+        Ok(template) => Ok(template),
+        Err(TemplateFault::BadTemplate) => Err(NotOwn::Other),
+        Err(TemplateFault::OutOfMemory) => Err(NotOwn::OutOfMemory),
+    }
+}
+
+/// Whether a template names the variables of our own.
+fn has_own_names(template: &Template) -> bool
+    ensures { (text : List ℕ) → result ≡ names_all template.now (own_texts text) }
+{
+    template.names("subject") && (template.names("predicate") && template.names("object"))
+}
+
+/// The form with this template and the variables of our own, of the authority of the address.
+fn own_form(alloc: Global, text: &str, address: &WebAddress) -> Result<Form, NotOwn>
+    ensures { IfOk result (IsOwnForm text.now (authority_of address.now)) }
+{
+    let template = match template_of(alloc, text) {
+        Ok(template) => template,
+        Err(fault) => return Err(fault),
+    };
+    if !has_own_names(&template) {
+        return Err(NotOwn::Other);
+    }
+    if !is_home(&template, address) {
+        return Err(NotOwn::Other);
+    }
+    let subject = Text::copy(alloc, "subject")?;
+    let predicate = Text::copy(alloc, "predicate")?;
+    let object = Text::copy(alloc, "object")?;
+    Ok(Form {
+        template,
+        subject,
+        predicate,
+        object,
+    })
+}
+
+/// The address of the authority that a text is.
+fn home_address(alloc: Global, text: &str, address: &WebAddress) -> Result<WebAddress, NotOwn>
+    ensures { IfOk result (λ a. IsAddress text.now a × (authority_of a ≡ authority_of address.now)) }
+{
+    let read = match WebAddress::read(alloc, text) {
+        Ok(read) => read,
+        Err(AddressFault::BadAddress) => return Err(NotOwn::Other),
+        Err(AddressFault::OutOfMemory) => return Err(NotOwn::OutOfMemory),
+    };
+    if read.same_authority(address) {
+        Ok(read)
+    } else {
+        Err(NotOwn::Other)
+    }
+}
+
+/// The address of the next page, if there is one.
+fn own_next(
+    alloc: Global,
+    next: Option<&str>,
+    address: &WebAddress,
+) -> Result<Option<WebAddress>, NotOwn>
+    ensures { IfOk result (IsOwnNext (authority_of address.now) next.entry) }
+{
+    match next {
+        None => Ok(None),
+        Some(text) => match home_address(alloc, text, address) {
+            Ok(next) => Ok(Some(next)),
+            Err(fault) => Err(fault),
+        },
+    }
+}
+
+/// The page that a body gives which ends with the controls of a server of our own.
+pub(crate) fn read_own(alloc: Global, body: &[u8], address: &WebAddress) -> Result<Page, NotOwn>
+    ensures { IfOk result (Takes body.now address.now) }
+{
+    let Some(own) = own_controls(body, address) else {
+        return Err(NotOwn::Other);
+    };
+    let triples = match data_triples(alloc, own.front) {
+        Ok(triples) => TripleList::from_vec(triples),
+        Err(fault) => return Err(fault),
+    };
+    let form = match own_form(alloc, own.template, address) {
+        Ok(form) => form,
+        Err(fault) => return Err(fault),
+    };
+    let next = match own_next(alloc, own.next, address) {
+        Ok(next) => next,
+        Err(fault) => return Err(fault),
+    };
+    Ok(Page {
+        triples,
+        count: own.count,
+        next,
+        form,
+        version: Some(own.version),
+    })
+}

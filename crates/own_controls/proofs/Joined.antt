@@ -1,0 +1,113 @@
+-- Lines behind lines: how their text is read.
+use Rattle.std.proofs.Common.{◌≡◌, ℕ, ◌+◌, ◌-◌, ◌≤◌, inl, inr, Bool, true, false, List, [], ◌∷◌, ◌++◌, length, take, drop, Option, Some, None, if◌then◌else◌, nat_eq, refl, sym, ◌∙◌, ap, subst, arith, append_assoc, length-append}
+use Rattle.std.specs.List.{AllByRecursion}
+use Rattle.std.specs.Option.{option_to_list}
+use Rattle.std.proofs.Math.Seq.{take-append_seam, drop-append_seam}
+use Rattle.rdf_terms.specs.Canon.{canonical_term, canonical_graph, canonical_line, canon}
+use Rattle.rdf_terms.specs.declared.term.Term.{Term}
+use Rattle.rdf_terms.specs.declared.term.Quad.{Quad}
+use Rattle.nquads_text.specs.Reads.{onto_first, lines_from, lines_of, ReadsLines, Reads}
+use Rattle.own_controls.specs.Safe.{IsShortGraph, HasShortTerms}
+use Rattle.own_controls.specs.Lines.{EndsLine}
+
+-- ---- the lines of two texts
+
+abbrev Splits : Bool → List ℕ → List ℕ → Type 0
+Splits cr xs ys = lines_from cr (xs ++ 10 ∷ ys) ≡ lines_from cr (xs ++ 10 ∷ []) ++ lines_from false ys
+
+first_by : (lf is_cr : Bool) (b : ℕ) (one two three : List (List ℕ)) → (l : List ℕ) × (ls : List (List ℕ)) × ((if lf then [] ∷ one else (if is_cr then [] ∷ two else onto_first b three)) ≡ l ∷ ls)
+first_by true k b one two three = ([], one, refl)
+first_by false true b one two three = ([], two, refl)
+first_by false false b one two [] = (b ∷ [], [], refl)
+first_by false false b one two (line ∷ lines) = (b ∷ line, lines, refl)
+
+first_line : (xs : List ℕ) → (l : List ℕ) × (ls : List (List ℕ)) × (lines_from false (xs ++ 10 ∷ []) ≡ l ∷ ls)
+first_line [] = ([], [], refl)
+first_line (b ∷ xs) = first_by (nat_eq b 10) (nat_eq b 13) b (lines_from false (xs ++ 10 ∷ [])) (lines_from true (xs ++ 10 ∷ [])) (lines_from false (xs ++ 10 ∷ []))
+
+onto_append : (b : ℕ) (lines more : List (List ℕ)) → (l : List ℕ) × (ls : List (List ℕ)) × (lines ≡ l ∷ ls) → onto_first b (lines ++ more) ≡ onto_first b lines ++ more
+onto_append b lines more f = subst (λ (x : List (List ℕ)). onto_first b (x ++ more) ≡ onto_first b x ++ more) (sym f.2) refl
+
+split_more : (lf is_cr cr : Bool) (b : ℕ) (xs ys : List ℕ) → ((k : Bool) → Splits k xs ys)
+    → (if lf then (if cr then lines_from false (xs ++ 10 ∷ ys) else [] ∷ lines_from false (xs ++ 10 ∷ ys)) else (if is_cr then [] ∷ lines_from true (xs ++ 10 ∷ ys) else onto_first b (lines_from false (xs ++ 10 ∷ ys))))
+    ≡ (if lf then (if cr then lines_from false (xs ++ 10 ∷ []) else [] ∷ lines_from false (xs ++ 10 ∷ [])) else (if is_cr then [] ∷ lines_from true (xs ++ 10 ∷ []) else onto_first b (lines_from false (xs ++ 10 ∷ [])))) ++ lines_from false ys
+split_more true k true b xs ys ih = ih false
+split_more true k false b xs ys ih = ap (λ (l : List (List ℕ)). [] ∷ l) (ih false)
+split_more false true cr b xs ys ih = ap (λ (l : List (List ℕ)). [] ∷ l) (ih true)
+split_more false false cr b xs ys ih = ap (λ (l : List (List ℕ)). onto_first b l) (ih false) ∙ onto_append b (lines_from false (xs ++ 10 ∷ [])) (lines_from false ys) (first_line xs)
+
+split : (cr : Bool) (xs ys : List ℕ) → Splits cr xs ys
+split true [] ys = refl
+split false [] ys = refl
+split cr (b ∷ xs) ys = split_more (nat_eq b 10) (nat_eq b 13) cr b xs ys (λ k. split k xs ys)
+
+lines_behind : (front text : List ℕ) → EndsLine front → lines_of (front ++ text) ≡ lines_of front ++ lines_of text
+lines_behind front text (inl none) = subst (λ (l : List ℕ). lines_of (l ++ text) ≡ lines_of l ++ lines_of text) (sym none) refl
+lines_behind front text (inr h) =
+    subst (λ (l : List ℕ). lines_of (l ++ text) ≡ lines_of l ++ lines_of text) (sym h.1) (ap (λ (l : List ℕ). lines_of l) (append_assoc h.0 (10 ∷ []) text) ∙ split false h.0 text)
+
+-- ---- their quads
+
+reads_both : (longest : ℕ) (xs ys : List (List ℕ)) (a b : List Quad) → ReadsLines longest xs a → ReadsLines longest ys b → ReadsLines longest (xs ++ ys) (a ++ b)
+reads_both longest [] ys a b h k = subst (λ (l : List Quad). ReadsLines longest ys (l ++ b)) (sym h) k
+reads_both longest (x ∷ xs) ys a b h k = (h.0, h.1 ++ b, h.2, reads_both longest xs ys h.1 b h.3 k, ap (λ (l : List Quad). l ++ b) h.4 ∙ append_assoc (option_to_list h.0) h.1 b)
+
+pub reads_behind : (longest : ℕ) (front text : List ℕ) (a b : List Quad) → EndsLine front → Reads front longest a → Reads text longest b → Reads (front ++ text) longest (a ++ b)
+reads_behind longest front text a b ended h k = subst (λ (l : List (List ℕ)). ReadsLines longest l (a ++ b)) (sym (lines_behind front text ended)) (reads_both longest (lines_of front) (lines_of text) a b h k)
+
+-- ---- terms of a short text are short
+
+line_long : (q : Quad) → length (canonical_term q.triple.subject) + length (canonical_term q.triple.predicate) + length (canonical_term q.triple.object) + length (canonical_graph q.graph) ≤ length (canonical_line q)
+line_long q =
+    let s = canonical_term q.triple.subject in
+    let p = canonical_term q.triple.predicate in
+    let o = canonical_term q.triple.object in
+    let g = canonical_graph q.graph in
+    let end : List ℕ = 32 ∷ 46 ∷ 10 ∷ [] in
+    omega (arith, length-append s (32 ∷ (p ++ 32 ∷ (o ++ g ++ end))), length-append p (32 ∷ (o ++ g ++ end)), length-append (o ++ g) end, length-append o g)
+
+graph_short : (longest : ℕ) (graph : Option Term) → length (canonical_graph graph) ≤ longest → IsShortGraph longest graph
+graph_short longest None h = tt
+graph_short longest (Some graph) h = omega (arith, h)
+
+pub terms_short : (longest : ℕ) (qs : List Quad) → length (canon qs) ≤ longest → AllByRecursion (HasShortTerms longest) qs
+terms_short longest [] h = tt
+terms_short longest (q ∷ qs) h =
+    let whole = length-append (canonical_line q) (canon qs) in
+    let line = line_long q in (
+      record {
+        subject = omega (arith, h, whole, line);
+        predicate = omega (arith, h, whole, line);
+        object = omega (arith, h, whole, line);
+        graph = graph_short longest q.graph (omega (arith, h, whole, line));
+      },
+      terms_short longest qs (omega (arith, h, whole)),
+    )
+
+-- ---- the text of quads in parts
+
+pub canon_of_both : (xs ys : List Quad) → canon (xs ++ ys) ≡ canon xs ++ canon ys
+canon_of_both [] ys = refl
+canon_of_both (x ∷ xs) ys = ap (λ (l : List ℕ). canonical_line x ++ l) (canon_of_both xs ys) ∙ sym (append_assoc (canonical_line x) (canon xs) (canon ys))
+
+-- ---- pieces
+
+-- a piece, and one behind it
+pub behind_both : (a b d p q : List ℕ) → a ≡ p ++ b → b ≡ q ++ d → a ≡ (p ++ q) ++ d
+behind_both a b d p q e f = e ∙ ap (λ (l : List ℕ). p ++ l) f ∙ sym (append_assoc p q d)
+
+-- the front of a text before what is left of it
+pub front_is : (body front rest : List ℕ) → body ≡ front ++ rest → (take (length body - length rest) body ≡ front) × (drop (length body - length rest) body ≡ rest)
+front_is body front rest e =
+    let long : length body - length rest ≡ length front = ap (λ (l : List ℕ). length l - length rest) e ∙ omega (arith, length-append front rest) in (
+      ap (λ (n : ℕ). take n body) long ∙ ap (λ (l : List ℕ). take (length front) l) e ∙ take-append_seam front rest,
+      ap (λ (n : ℕ). drop n body) long ∙ ap (λ (l : List ℕ). drop (length front) l) e ∙ drop-append_seam front rest,
+    )
+
+-- one line more stands in front
+pub more_front : (body front rest line after : List ℕ) → body ≡ front ++ rest → rest ≡ line ++ 10 ∷ after → (next : List ℕ) × (body ≡ next ++ after) × EndsLine next
+more_front body front rest line after e f = (
+  front ++ (line ++ 10 ∷ []),
+  e ∙ ap (λ (l : List ℕ). front ++ l) (f ∙ sym (append_assoc line (10 ∷ []) after)) ∙ sym (append_assoc front (line ++ 10 ∷ []) after),
+  inr (front ++ line, sym (append_assoc front line (10 ∷ []))),
+)

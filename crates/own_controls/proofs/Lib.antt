@@ -1,0 +1,11 @@
+pub mod Web
+pub mod Numbers
+pub mod Asking
+pub mod Answering
+pub mod Controls
+pub mod Readable
+pub mod Written
+pub mod Sections
+pub mod Joined
+pub mod Owned
+pub mod Pieces

@@ -1,0 +1,46 @@
+-- Answers about pieces of a text, and numbers.
+use Rattle.std.proofs.Common.{◌≡◌, ◌≢◌, ℕ, suc, ◌≤◌, ◌==◌, ◌++◌, Bool, true, false, List, [], ◌∷◌, length, refl, arith, get_or, Option, Some, None, sym, ◌∙◌, ap, subst, append-nil}
+use Rattle.std.proofs.lemmas.Bool.Decides.{nat_tests}
+use Rattle.std.specs.Prelude.{IfSome, MatchOption}
+use Rattle.std.specs.Borrow.{Bor}
+use Rattle.std.specs.Str.Parse.{digits_value}
+use Rattle.tpf_base.specs.Decimals.{decimal_text}
+use Rattle.tpf_base.proofs.DecimalTexts.{of_their_number}
+use Rattle.page_controls.specs.Controls.{is_count_text}
+use Rattle.own_controls.proofs.Numbers.{count_bound, count_form}
+
+pub stripped : (bytes text piece : List ℕ) (r : Option (Bor (List ℕ))) → text ≡ piece → MatchOption r ((rest : List ℕ) → bytes ≢ text ++ rest) (λ x. bytes ≡ text ++ x.now) → IfSome r (λ rest. bytes ≡ piece ++ rest.now)
+stripped bytes text piece None e h = tt
+stripped bytes text piece (Some rest) e h = h ∙ ap (λ (l : List ℕ). l ++ rest.now) e
+
+-- ---- numbers
+
+digits_again : (digits : List ℕ) (n : ℕ) → is_count_text digits ≡ true → n ≡ digits_value 10 digits → (get_or digits 0 0 ≡ 48 → length digits ≡ 1) → decimal_text n ≡ digits
+digits_again digits n h is lead = let form = count_form digits h in ap decimal_text is ∙ of_their_number digits form.1 form.0 lead
+
+pub number_digits : (digits : List ℕ) (r : Option ℕ) → (get_or digits 0 0 ≡ 48 → length digits ≡ 1) → MatchOption r (is_count_text digits ≡ false) (λ n. (is_count_text digits ≡ true) × (n ≡ digits_value 10 digits)) → IfSome r (λ n. decimal_text n ≡ digits)
+number_digits digits None lead h = tt
+number_digits digits (Some n) lead h = digits_again digits n h.0 h.1 lead
+
+pub number_few : (digits : List ℕ) (r : Option ℕ) → (get_or digits 0 0 ≡ 48 → length digits ≡ 1) → MatchOption r (is_count_text digits ≡ false) (λ n. (is_count_text digits ≡ true) × (n ≡ digits_value 10 digits)) → IfSome r (λ n. n ≤ 9999999999999999999)
+number_few digits None lead h = tt
+number_few digits (Some n) lead h = count_bound n (subst (λ (l : List ℕ). is_count_text l ≡ true) (sym (digits_again digits n h.0 h.1 lead)) h.0)
+
+-- ---- texts
+
+pub template_is : (template base places over end : List ℕ) → template ≡ base ++ places → places ≡ end ++ over → over ≡ [] → template ≡ base ++ end
+template_is template base places over end e f none = e ∙ ap (λ (l : List ℕ). base ++ l) (f ∙ ap (λ (l : List ℕ). end ++ l) none ∙ append-nil end)
+
+pub three_behind : (bytes a b d two three : List ℕ) (r : Option (Bor (List ℕ))) → bytes ≡ a ++ two → two ≡ b ++ three → IfSome r (λ rest. three ≡ d ++ rest.now) → IfSome r (λ rest. bytes ≡ a ++ (b ++ (d ++ rest.now)))
+three_behind bytes a b d two three None e f h = tt
+three_behind bytes a b d two three (Some rest) e f h = e ∙ ap (λ (l : List ℕ). a ++ l) (f ∙ ap (λ (l : List ℕ). b ++ l) h)
+
+pub none_behind : (bytes text rest : List ℕ) → bytes ≡ text ++ rest → rest ≡ [] → bytes ≡ text
+none_behind bytes text rest e none = e ∙ ap (λ (l : List ℕ). text ++ l) none ∙ append-nil text
+
+pub none_left : (text : List ℕ) (b : Bool) → b ≡ (length text == 0) → b ≡ true → text ≡ []
+none_left [] b e h = refl
+none_left (x ∷ text) b e h = absurd (not_zero (length text) (sym e ∙ h))
+  where
+    not_zero : (n : ℕ) → (suc n == 0) ≡ true → ⊥
+    not_zero n h = grind (arith, nat_tests)

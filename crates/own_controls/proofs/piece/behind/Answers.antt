@@ -1,0 +1,9 @@
+use Rattle.std.proofs.lemmas.Bool.Decides.{Decides-eqb}
+use Rattle.std.proofs.lemmas.Slice.Eq.{strip_prefix_is}
+use Rattle.own_controls.proofs.Pieces.{stripped}
+use Rattle.own_controls.proofs.piece.behind.Goals as goal
+
+pub returns : goal.returns
+returns c =
+    stripped c.args.bytes.now c.as_bytes.result.now c.args.piece.now c.strip_prefix.result c.as_bytes.ensures.value
+    (strip_prefix_is Decides-eqb c.args.bytes.now c.as_bytes.result.now c.strip_prefix.result c.strip_prefix.ensures.cases)

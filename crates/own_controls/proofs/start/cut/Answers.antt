@@ -1,0 +1,25 @@
+use Rattle.std.proofs.Common.{[], ◌++◌, refl, inl, sym, ◌∙◌, subst}
+use Rattle.own_controls.specs.Lines.{EndsLine}
+use Rattle.own_controls.proofs.Joined.{front_is, more_front}
+use Rattle.own_controls.proofs.start.cut.Goals as goal
+
+pub loop-rest-init : goal.loop-rest-init
+loop-rest-init c = ([], refl, inl refl)
+
+pub loop-rest-preserved : goal.loop-rest-preserved
+loop-rest-preserved c =
+    let i = c.loop-rest.invariant in
+    let line = c.in_ok-rest.ensures.line in
+    more_front c.args.body.now i.0 c.loop-rest.rest.now line.0 _ i.1 line.1
+
+pub returns-then-begins_metadata-clause-whole : goal.returns-then-begins_metadata-clause-whole
+returns-then-begins_metadata-clause-whole c =
+    let i = c.loop-rest.invariant in
+    let is = front_is c.args.body.now i.0 c.loop-rest.rest.now i.1 in
+    i.1 ∙ (λ k. sym (c.split_at.ensures.front ∙ is.0) k ++ sym (c.split_at.ensures.back ∙ is.1) k)
+
+pub returns-then-begins_metadata-clause-front : goal.returns-then-begins_metadata-clause-front
+returns-then-begins_metadata-clause-front c =
+    let i = c.loop-rest.invariant in
+    let is = front_is c.args.body.now i.0 c.loop-rest.rest.now i.1 in
+    subst EndsLine (sym (c.split_at.ensures.front ∙ is.0)) i.2

@@ -1,0 +1,4 @@
+pub mod Metadata
+pub mod Safe
+pub mod Lines
+pub mod Own

@@ -1,0 +1,32 @@
+// Pieces of a text.
+ghost use Rattle.std.specs.Prelude.{◌≡◌, ◌++◌, ◌∷◌, ◌<◌, length, IfSome, List, ℕ};
+
+use memchr::memchr;
+use std::str;
+
+/// What stands behind a piece at the front.
+pub(crate) fn behind<'a>(bytes: &'a [u8], piece: &str) -> Option<&'a [u8]>
+    ensures { IfSome result (λ rest. bytes.now ≡ piece.now ++ rest.now) }
+{
+    bytes.strip_prefix(piece.as_bytes())
+}
+
+/// What stands behind the first line, where that ends with LF alone.
+pub(crate) fn behind_end(bytes: &[u8]) -> Option<&[u8]>
+    ensures line { IfSome result (λ rest. (line : List ℕ) × (bytes.now ≡ line ++ 10 ∷ rest.now)) }
+    ensures shorter { IfSome result (λ rest. length rest.now < length bytes.now) }
+{
+    let n = memchr(b'\n', bytes)?;
+    let (_, end) = bytes.split_at(n);
+    match end {
+        [b, rest @ ..] if *b == b'\n' => Some(rest),
+        _ => None,
+    }
+}
+
+/// The text before the mark.
+pub(crate) fn text_to(bytes: &[u8], mark: u8) -> Option<&str> {
+    let n = memchr(mark, bytes)?;
+    let (text, _) = bytes.split_at(n);
+    str::from_utf8(text).ok()
+}

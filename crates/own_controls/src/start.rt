@@ -1,0 +1,39 @@
+// Where the metadata of a page begin.
+ghost use Rattle.std.specs.Prelude.{◌≡◌, ◌++◌, IfSome};
+ghost use Rattle.own_controls.specs.Lines.{EndsLine};
+
+use crate::piece::{behind, behind_end};
+
+/// A body in two.
+#[derive(Clone, Copy)]
+pub(crate) struct Halves<'a> {
+    pub(crate) front: &'a [u8],
+    pub(crate) lines: &'a [u8],
+}
+
+/// Whether the graph of this page's metadata is the subject of the first line.
+fn begins_metadata(bytes: &[u8], page: &str) -> bool {
+    match behind(bytes, "<") {
+        None => false,
+        Some(rest) => match behind(rest, page) {
+            None => false,
+            Some(rest) => behind(rest, "#metadata> <http://xmlns.com/foaf/").is_some(),
+        },
+    }
+}
+
+/// The lines before the first one that has the graph of this page's metadata as subject, and those from it on.
+pub(crate) fn cut<'a>(body: &'a [u8], page: &str) -> Option<Halves<'a>>
+    ensures whole { IfSome result (λ h. body.now ≡ h.front.now ++ h.lines.now) }
+    ensures front { IfSome result (λ h. EndsLine h.front.now) }
+{
+    let mut rest = body;
+    while !rest.is_empty() {
+        if begins_metadata(rest, page) {
+            let (front, lines) = body.split_at(body.len() - rest.len());
+            return Some(Halves { front, lines });
+        }
+        rest = behind_end(rest)?;
+    }
+    None
+}
