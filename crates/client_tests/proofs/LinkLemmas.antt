@@ -31,6 +31,3 @@ ready_left old new wire wire' (Err faults.Failed) w = over_left new.standing new
 ready_left old new wire wire' (Err (faults.Cut received)) w = over_left new.standing new.link wire' w.ends.standing
 ready_left old new wire wire' (Err (faults.Bad fault received)) w = over_left new.standing new.link wire' w.ends.standing
 ready_left old new wire wire' (Err faults.OutOfMemory) w = over_left new.standing new.link wire' w.standing
-
-pub link_as : (o other : Option ℕ) (wire : WireState) → o ≡ other → IsLinked other wire → IsLinked o wire
-link_as o other wire e h = subst (λ (x : Option ℕ). IsLinked x wire) (sym e) h

@@ -4,7 +4,11 @@
 #[cfg(test)]
 mod costs;
 #[cfg(test)]
+mod ending;
+#[cfg(test)]
 mod exchanges;
+#[cfg(test)]
+mod long_replies;
 #[cfg(test)]
 mod polling;
 #[cfg(test)]

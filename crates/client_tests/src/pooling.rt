@@ -5,7 +5,7 @@ ghost use Rattle.request_pool.specs.Pools.{held};
 ghost use Rattle.request_pool.specs.Owned.{SuitsWire};
 
 use crate::stepping::{put_all, same, steps};
-use request_pool::{Pool, PoolFault};
+use request_pool::Pool;
 use script_wire::{Script, ScriptWire};
 use std::alloc::Global;
 use std::test::Fail;
@@ -17,23 +17,23 @@ const KEPT: &str =
 const CLOSED: &str =
     "HTTP/1.1 200 OK\r\nContent-Type: application/n-quads\r\nConnection: close\r\nContent-Length: 1\r\n\r\nx";
 
-const FRONT: &str =
+pub const FRONT: &str =
     "HTTP/1.1 200 OK\r\nContent-Type: application/n-quads\r\nContent-Length: 1\r\n\r\n";
 
-const REFUSED: &str = "HTTP/1.1 404 Not Found\r\nContent-Length: 0\r\n\r\n";
+pub const REFUSED: &str = "HTTP/1.1 404 Not Found\r\nContent-Length: 0\r\n\r\n";
 
 /// A pool that asks over a wire of scripts.
 #[derive(Clone, Copy)]
-struct Case {
-    links: u32,
-    retries: u32,
-    budget: u64,
+pub struct Case {
+    pub links: u32,
+    pub retries: u32,
+    pub budget: u64,
     /// A letter for the host of each ask.
-    hosts: &'static str,
+    pub hosts: &'static str,
     /// The numbers of the calls of the wire that fail.
-    failing: &'static str,
+    pub failing: &'static str,
     /// A word for each link of the wire, with letters for what comes on it.
-    wire: &'static str,
+    pub wire: &'static str,
 }
 
 /// The piece that a letter stands for: a reply that keeps the link, one that closes it, the front of
@@ -95,14 +95,14 @@ fn numbers(alloc: Global, words: &str) -> Result<Vec<u64>, Fail> {
     Ok(numbers)
 }
 
-fn wire_of(alloc: Global, case: &Case) -> Result<Box<ScriptWire>, Fail> {
+pub fn wire_of(alloc: Global, case: &Case) -> Result<Box<ScriptWire>, Fail> {
     let calls = numbers(alloc, case.failing)?;
     let scripts = scripts(alloc, case.wire)?;
     Ok(Box::new(alloc, ScriptWire::new(alloc, scripts, Failing::At(calls)))?)
 }
 
 /// A pool that holds the asks.
-fn pool_of(alloc: Global, case: &Case) -> Result<Pool, Fail>
+pub fn pool_of(alloc: Global, case: &Case) -> Result<Pool, Fail>
     ensures suits { IfOk result (λ pool. (wire : WireState) → SuitsWire pool wire) }
 {
     let links = case.links.clamp(1, 256);
@@ -122,7 +122,7 @@ fn add_paths(sent: &str, out: &mut String) -> Result<(), Fail> {
 }
 
 /// Adds the paths of the requests that were sent on each link.
-fn add_requests(wire: &ScriptWire, out: &mut String) -> Result<(), Fail> {
+pub fn add_requests(wire: &ScriptWire, out: &mut String) -> Result<(), Fail> {
     for link in 0..wire.links() {
         out.push_str(" [")?;
         add_paths(str::from_utf8(wire.sent_on(link))?, out)?;
@@ -363,165 +363,6 @@ fn a_thousand_waits_with_nothing_moved_are_a_stall(rt: HostRuntime) -> Result<()
             wire,
         };
         check(rt.alloc(), &case, wanted)?;
-    }
-    Ok(())
-}
-
-/// The bytes that a fault keeps.
-fn kept_by(fault: PoolFault) -> Option<Bytes> {
-    match fault {
-        PoolFault::Cut { received } => Some(received),
-        PoolFault::Reply { received, .. } => Some(received),
-        _ => None,
-    }
-}
-
-/// Whether three steps tell a fault that keeps the bytes.
-fn tells_again<W: Dial>(pool: &mut Pool, wire: &mut W, bytes: &[u8]) -> bool
-    requires suits { SuitsWire pool.old (W.state wire.old) }
-{
-    'times: for _ in 0..3 {
-        let kept = match pool.step(wire) {
-            Ok(_) => None,
-            Err(fault) => kept_by(fault),
-        };
-        match kept {
-            Some(kept) => {
-                if kept.as_slice() != bytes {
-                    return false;
-                }
-            }
-            None => return false,
-        }
-    }
-    true
-}
-
-/// Whether the pool ends with a fault that keeps the bytes, which is told again.
-fn ends_with<W: Dial>(
-    alloc: Global,
-    pool: &mut Pool,
-    wire: &mut W,
-    bytes: &[u8],
-) -> Result<bool, Fail>
-    requires suits { SuitsWire pool.old (W.state wire.old) }
-{
-    let _told = steps(alloc, pool, wire, 10)?;
-    Ok(tells_again(pool, wire, bytes))
-}
-
-/// The same of a pool that holds the asks.
-fn keeps_on(alloc: Global, case: &Case, wire: &mut ScriptWire, bytes: &str) -> Result<bool, Fail> {
-    let mut pool = pool_of(alloc, case)?;
-    ends_with(alloc, &mut pool, wire, bytes.as_bytes())
-}
-
-/// The same of a pool that holds one ask.
-fn keeps(alloc: Global, wire: &'static str, bytes: &str) -> Result<bool, Fail> {
-    let case = Case {
-        links: 1,
-        retries: 0,
-        budget: 9,
-        hosts: "e",
-        failing: "",
-        wire,
-    };
-    let mut wire = wire_of(alloc, &case)?;
-    keeps_on(alloc, &case, &mut wire, bytes)
-}
-
-#[test]
-fn the_bytes_of_a_fault_are_told_again(rt: HostRuntime) -> Result<(), Fail> {
-    for (wire, bytes) in [("f.", FRONT), ("x", REFUSED), (".", "")] {
-        assert!(rt; keeps(rt.alloc(), wire, bytes)?, "{wire}");
-    }
-    Ok(())
-}
-
-/// Closes a pool, and says whether it holds nothing then.
-fn emptied<W: Dial>(pool: &mut Pool, wire: &mut W) -> bool
-    requires suits { SuitsWire pool.old (W.state wire.old) }
-    ensures none { held pool.new ≡ [] }
-    ensures suits { (wire : WireState) → SuitsWire pool.new wire }
-{
-    pool.close(wire);
-    pool.held() == 0 && pool.in_flight() == 0
-}
-
-/// What comes of one ask that is put into a pool that holds nothing.
-fn one_more<W: Dial>(alloc: Global, pool: &mut Pool, wire: &mut W) -> Result<String, Fail>
-    requires none { held pool.old ≡ [] }
-    requires suits { (wire : WireState) → SuitsWire pool.old wire }
-{
-    put_all(alloc, pool, b"e")?;
-    steps(alloc, pool, wire, 10)
-}
-
-/// What comes of so many steps and a close, and of an ask that is put then.
-fn steps_and_close<W: Dial>(
-    alloc: Global,
-    pool: &mut Pool,
-    wire: &mut W,
-    most: u32,
-) -> Result<String, Fail>
-    requires suits { SuitsWire pool.old (W.state wire.old) }
-{
-    let told = steps(alloc, pool, wire, most)?;
-    if !emptied(pool, wire) {
-        return Err(Fail::new("something is held"));
-    }
-    let later = one_more(alloc, pool, wire)?;
-    Ok(format!(in alloc; "{told}| {later}")?)
-}
-
-/// The same of a pool that holds the asks.
-fn closed_on(alloc: Global, case: &Case, wire: &mut ScriptWire, most: u32) -> Result<String, Fail> {
-    let mut pool = pool_of(alloc, case)?;
-    steps_and_close(alloc, &mut pool, wire, most)
-}
-
-/// The same, and the paths that were asked for on each link.
-fn closed_told(
-    alloc: Global,
-    case: &Case,
-    wire: &mut ScriptWire,
-    most: u32,
-) -> Result<String, Fail> {
-    let mut told = closed_on(alloc, case, wire, most)?;
-    add_requests(wire, &mut told)?;
-    Ok(told)
-}
-
-/// What comes of a case after so many steps and a close, and of an ask that is put then.
-fn closed(alloc: Global, case: &Case, most: u32) -> Result<String, Fail> {
-    let mut wire = wire_of(alloc, case)?;
-    closed_told(alloc, case, &mut wire, most)
-}
-
-/// After how many steps of four asks over two links the pool is closed, the wire, and what comes of
-/// them and of an ask that is put then: no link that was held is used again, and a fault stays.
-const CLOSING: [(u32, &str, &str); 7] = [
-    (0, "kk kk kk", "| 0 idle [/0]"),
-    (1, "kk kk kk", "0 | 0 idle [/0] [/1] [/0]"),
-    (2, "kk kk kk", "0 1 | 0 idle [/0/2] [/1] [/0]"),
-    (3, "kk kk kk", "0 1 2 | 0 idle [/0/2] [/1/3] [/0]"),
-    (4, "kk kk kk", "0 1 2 3 | 0 idle [/0/2] [/1/3] [/0]"),
-    (5, "kk kk kk", "0 1 2 3 idle| 0 idle [/0/2] [/1/3] [/0]"),
-    (1, "f. kk kk", "cut| cut [/0] [/1]"),
-];
-
-#[test]
-fn a_pool_can_be_closed_at_every_state(rt: HostRuntime) -> Result<(), Fail> {
-    for (most, wire, wanted) in CLOSING {
-        let case = Case {
-            links: 2,
-            retries: 0,
-            budget: 9,
-            hosts: "eeee",
-            failing: "",
-            wire,
-        };
-        same(closed(rt.alloc(), &case, most)?, wanted, most as usize)?;
     }
     Ok(())
 }

@@ -51,6 +51,31 @@ fn fault_name(fault: &PoolFault) -> &'static str {
     }
 }
 
+/// The ticket of a reply, whose address is the one that was asked for under it.
+fn answered(alloc: Global, ticket: u64, address: &WebAddress) -> Result<String, Fail> {
+    let path = format!(in alloc; "/{ticket}")?;
+    if address.target() == path.as_str() {
+        return Ok(format!(in alloc; "{ticket}")?);
+    }
+    Ok(format!(in alloc; "{ticket} for {}", address.target())?)
+}
+
+/// What a step came to, as the tests write it.
+fn shown(alloc: Global, stepped: &Stepped) -> Result<String, Fail> {
+    match stepped {
+        Stepped::Came {
+            ticket,
+            address,
+            ..
+        } => {
+            let answered = answered(alloc, *ticket, address)?;
+            Ok(format!(in alloc; "{answered} ")?)
+        }
+        Stepped::Waited => Ok(String::new(alloc)),
+        Stepped::Idle => Ok(format!(in alloc; "idle")?),
+    }
+}
+
 /// Steps at most so many times: the tickets in the order in which their replies came, and the end.
 pub fn steps<W: Dial>(
     alloc: Global,
@@ -66,9 +91,12 @@ pub fn steps<W: Dial>(
     while done < most {
         done += 1;
         match pool.step(wire) {
-            Ok(Stepped::Came { ticket, .. }) => told = format!(in alloc; "{told}{ticket} ")?,
-            Ok(Stepped::Waited) => {}
-            Ok(Stepped::Idle) => return Ok(format!(in alloc; "{told}idle")?),
+            Ok(stepped) => {
+                told = format!(in alloc; "{told}{}", shown(alloc, &stepped)?)?;
+                if matches!(stepped, Stepped::Idle) {
+                    return Ok(told);
+                }
+            }
             Err(fault) => return Ok(format!(in alloc; "{told}{}", fault_name(&fault))?),
         }
     }

@@ -25,6 +25,7 @@ use Rattle.exchange.specs.declared.exchange.Standing.TheVariants.{Underway, Left
 use Rattle.exchange.specs.declared.fault.ExchangeFault.{ExchangeFault}
 use Rattle.exchange.specs.declared.fault.ExchangeFault.TheVariants as faults
 use Rattle.exchange.proofs.IncomingLemmas.{open_reads_more}
+use Rattle.exchange.proofs.ReceivingLemmas.{moved_or}
 
 -- ---- what was so before goes on
 
@@ -299,9 +300,6 @@ reply_concludes k address sent from to ended old_standing mid_standing new a b c
 reply_concludes k address sent from to ended old_standing mid_standing new a b c (Ready (Err faults.OutOfMemory)) h w ad li l = absurd w
 
 -- ---- sending
-
-moved_or : (to from : ℕ) → from ≤ to → (from < to) ⊎ (to ≡ from)
-moved_or to from h = grind arith
 
 omega_less : (from to n : ℕ) → from ≤ to → to < n → from < n
 omega_less from to n h l = omega (arith, h, l)

@@ -91,7 +91,7 @@ receive_not_due k to a b c p s st e t = (s.not_due (ap (λ n. n.steady) p.only.n
 pub failed_rose : (k : ℕ) (to : List ℕ) (a b c : WireState) → CallsOn k a b → Receives k to b c answers.Failed → Rose a.faults c.faults
 failed_rose k to a b c p s = rose_on _ _ _ p.only.later (s.failed refl).3
 
-moved_or : (to from : ℕ) → from ≤ to → (from < to) ⊎ (to ≡ from)
+pub moved_or : (to from : ℕ) → from ≤ to → (from < to) ⊎ (to ≡ from)
 moved_or to from h = grind arith
 
 -- where a wait woke the link, its first receive moved a byte

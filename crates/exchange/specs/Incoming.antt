@@ -17,11 +17,15 @@ pub record Coming : Type 0 where
 abbrev pub none_yet : ℕ → Coming
 none_yet limit = record { limit = limit; received = []; place = begun; spare = 0 }
 
+-- so many of the bytes stand behind a whole reply
+abbrev pub IsBehind : ℕ → List ℕ → ℕ → Type 0
+IsBehind limit received spare = (body : List ℕ) (n : ℕ) (keeps : Bool) → reply_of received false limit ≡ reply.Whole body n keeps → n + spare ≡ length received
+
 -- The place is that of the bytes, and they are not too many.
 pub record IsComing (c : Coming) : Type 0 where
   pub leads : c.place ≡ after_bytes c.limit begun c.received
   pub bound : length c.received ≤ 9 * c.limit + 1187840
-  pub spare : (body : List ℕ) (n : ℕ) (keeps : Bool) → reply_of c.received false c.limit ≡ reply.Whole body n keeps → n + c.spare ≡ length c.received
+  pub spare : IsBehind c.limit c.received c.spare
 
 -- the reading where no more is received: an open reply is at its end
 abbrev pub concluded : Coming → Reading

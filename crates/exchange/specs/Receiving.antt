@@ -1,5 +1,5 @@
 -- What receiving a reply does to its link.
-use Rattle.std.specs.Prelude.{ℕ, ◌≡◌, ◌++◌, List, Some, None, true, false}
+use Rattle.std.specs.Prelude.{ℕ, ◌≡◌, ◌++◌, List, Some, None, true, false, ◌≢◌, []}
 use Rattle.tpf_base.specs.Causes.{Rose}
 use Rattle.tpf_base.specs.HttpReply.{is_open}
 use Rattle.tpf_base.specs.Links.{Receiving, WireState, is_short}
@@ -14,6 +14,10 @@ pub record ReceivesFrom (k : ℕ) (from to : Coming) (lost : List ℕ) (old new 
   pub sent : (new.links k).sent ≡ (old.links k).sent
   pub limit : to.limit ≡ from.limit
   pub received_is : (r : List ℕ) → Holds (old.links k).received (r ++ from.received) → Holds (new.links k).received (r ++ (to.received ++ lost))
+
+-- where it ends so, bytes are lost out of memory alone
+abbrev pub ReceivesUpTo : Received → ℕ → Coming → Coming → WireState → WireState → Type 0
+ReceivesUpTo result k from to old new = (lost : List ℕ) × ReceivesFrom k from to lost old new × (result ≢ OutOfMemory → lost ≡ [])
 
 -- how receiving ends
 abbrev pub ReceivingEnds : Received → ℕ → Coming → WireState → WireState → Type 0

@@ -19,6 +19,9 @@ use std::mem;
 use template_fill::WebAddress;
 use tpf_base::{Dial, Fault, Halt, OutOfMemory, send_rest};
 
+/// A request has at most so many bytes beside its address, so it is made in one place.
+const FIELDS: usize = 64;
+
 /// Where an exchange stands.
 #[derive(Clone, Copy, Debug, PartialEq, Eq)]
 pub(crate) enum Standing {
@@ -84,7 +87,8 @@ impl Exchange {
     ) -> Result<Exchange, OutOfMemory>
         ensures { IfOk result (λ e. e ≡ starting address limit link) }
     {
-        let mut request = Vec::new(alloc);
+        let most = address.text().len().saturating_add(FIELDS);
+        let mut request = Vec::with_capacity(alloc, most)?;
         write_request(address.authority(), address.target(), &mut request)?;
         Ok(Exchange {
             alloc,
@@ -168,8 +172,10 @@ impl Exchange {
     /// Its link, which is dialled where it has none.
     fn own_link<W: Dial>(&mut self, wire: &mut W) -> Result<u64, ExchangeFault>
         requires link { IsLinked self.old.link (W.state wire.old) }
-        ensures leads { IfOk result (λ link. Leads link self.old self.new (W.state wire.old) (W.state wire.new) × (self.new ≡ record self.old { link = Some link })) }
-        ensures refused { IfErr result (λ fault. IsUndialled fault self.old (W.state wire.old) (W.state wire.new) × (self.new ≡ self.old)) }
+        ensures leads { IfOk result (λ link. Leads link self.old self.new (W.state wire.old) (W.state wire.new)
+            × (self.new ≡ record self.old { link = Some link })) }
+        ensures refused { IfErr result (λ fault. IsUndialled fault self.old (W.state wire.old) (W.state wire.new)
+            × (self.new ≡ self.old)) }
         ensures allowed { SameAllowed (W.allows wire.old) (W.allows wire.new) }
     {
         if let Some(link) = self.link {

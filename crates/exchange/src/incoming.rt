@@ -1,7 +1,7 @@
 // The bytes that come in reply to a request.
-ghost use Rattle.std.specs.Prelude.{ℕ, ◌≡◌, ◌+◌, ◌*◌, ◌≤◌, ◌↔◌, List, ◌++◌, length, Bool, true, false, IfOk, OnOk, OnErr, Some};
-ghost use Rattle.tpf_base.specs.HttpReply.{is_open, begun, after_bytes, reply_of, Whole};
-ghost use Rattle.exchange.specs.Incoming.{Coming, none_yet, IsConclusion};
+ghost use Rattle.std.specs.Prelude.{ℕ, ◌≡◌, ◌+◌, ◌*◌, ◌≤◌, ◌↔◌, ◌++◌, length, true, IfOk, OnOk, OnErr};
+ghost use Rattle.tpf_base.specs.HttpReply.{is_open, begun, after_bytes, Whole};
+ghost use Rattle.exchange.specs.Incoming.{Coming, none_yet, IsBehind, IsConclusion};
 
 use http_wire::{
     Fed, Reply, ReplyFault, ReplyFeed, a_reply_is_bounded, cuts_do_not_matter,
@@ -89,7 +89,7 @@ impl Incoming {
 
     /// How many bytes stand behind a whole reply.
     pub(crate) fn spare(&self) -> usize
-        ensures { (body : List ℕ) (n : ℕ) (keeps : Bool) → reply_of self.now.received false self.now.limit ≡ Whole body n keeps → n + result ≡ length self.now.received }
+        ensures { IsBehind self.now.limit self.now.received result }
     {
         self.spare
     }

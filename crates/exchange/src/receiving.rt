@@ -1,8 +1,8 @@
 // Receiving a reply.
-ghost use Rattle.std.specs.Prelude.{ℕ, ◌≡◌, ◌≢◌, ◌<◌, ◌≤◌, List, [], length, true};
+ghost use Rattle.std.specs.Prelude.{◌≡◌, ◌<◌, ◌≤◌, length, true};
 ghost use Rattle.tpf_base.specs.HttpReply.{is_open};
 ghost use Rattle.tpf_base.specs.Links.{SameAllowed};
-ghost use Rattle.exchange.specs.Receiving.{ReceivesFrom, ReceivingEnds};
+ghost use Rattle.exchange.specs.Receiving.{ReceivesUpTo, ReceivingEnds};
 
 use crate::incoming::Incoming;
 use tpf_base::{Moved, Wire};
@@ -33,7 +33,7 @@ pub(crate) fn receive<W: Wire>(
     requires room { 0 < length piece.old }
     requires few { length piece.old ≤ 8192 }
     requires goes_on { is_open incoming.old.place ≡ true }
-    ensures receives { (lost : List ℕ) × ReceivesFrom link incoming.old incoming.new lost (W.state wire.old) (W.state wire.new) × (result ≢ Received.OutOfMemory → lost ≡ []) }
+    ensures receives { ReceivesUpTo result link incoming.old incoming.new (W.state wire.old) (W.state wire.new) }
     ensures end_ { ReceivingEnds result link incoming.new (W.state wire.old) (W.state wire.new) }
     ensures allowed { SameAllowed (W.allows wire.old) (W.allows wire.new) }
 {

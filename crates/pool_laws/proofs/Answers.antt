@@ -1,5 +1,5 @@
 -- A reply that comes is an answer of the honest end of its link.
-use Rattle.std.proofs.Common.{ℕ, ◌≡◌, ◌<◌, ◌≤◌, ◌++◌, List, [], ◌∷◌, length, Option, Some, Bool, true, false, refl, sym, ◌∙◌, ap, subst, inl, inr, append_assoc}
+use Rattle.std.proofs.Common.{ℕ, ◌≡◌, ◌≢◌, ◌<◌, ◌≤◌, ◌++◌, List, [], ◌∷◌, length, Option, Some, Bool, true, false, refl, sym, ◌∙◌, ap, subst, inl, inr, append_assoc}
 use Rattle.std.specs.Prelude.{◌^◌}
 use Rattle.std.specs.List.{AllByRecursion}
 use Rattle.std.proofs.lemmas.Bool.{cases_lt}
@@ -8,6 +8,7 @@ use Rattle.tpf_base.specs.Addresses.{Address}
 use Rattle.tpf_base.specs.HttpReply.{ReplyFault, TooLong, More, Whole, Bad, reply_of}
 use Rattle.tpf_base.specs.Links.{All, Tells, WireState, IsToldBy, told_by, some_left}
 use Rattle.tpf_base.specs.Marks.{Mark, Served, version_at}
+use Rattle.http_wire.specs.declared.message.ReplyFault.{ReplyFault as Refusal}
 use Rattle.http_wire.specs.Replies.{shown_fault}
 use Rattle.template_fill.specs.Authorities.{AuthoritiesAreHostsAndPorts}
 use Rattle.template_fill.specs.HttpAnswer.{Answer, answer_text}
@@ -20,25 +21,13 @@ use Rattle.http_ends.specs.Cuts.{Answered, RequestIsSent, ResponseIsCut, Replies
 use Rattle.http_ends.proofs.Answers.{status_case}
 use Rattle.pool_laws.specs.Honest.{IsAnsweredByAll}
 use Rattle.request_pool.specs.declared.fault.PoolFault.TheVariants as faults
+use Rattle.pool_laws.proofs.HonestLemmas.{last_of, no_reload, over_version}
 use Rattle.pool_laws.specs.Following.{IsWebAddress, IsReplied}
 use Rattle.pool_laws.specs.Causes.{RepliedOn}
-use Rattle.pool_laws.specs.Answers.{TellsAll, IsBodyOf, HasLongBody, RepliesAreAnswers, RefusalsAreTooLong, CutsAreFaults}
-use Rattle.pool_laws.proofs.WholeReplies.{status_is, page_body_is, page_refusal, page_is_long, left_some, rest_some, too_long, refusal_some}
+use Rattle.pool_laws.specs.Answers.{TellsAll, IsHonestOver, IsBodyOf, IsBodyOver, HasLongBody, IsLongPage, IsRefusedOver, RepliesAreAnswers, RefusalsAreTooLong, CutsAreFaults}
+use Rattle.pool_laws.proofs.WholeReplies.{status_is, page_body_is, page_refusal, page_is_long, other_refusal, left_some, rest_some, too_long, refusal_some}
 use Rattle.pool_laws.proofs.LongRequests.{before_answered, next_short, next_refused}
 use Rattle.pool_laws.proofs.Causes.{replies_are_read, faults_have_causes}
-
--- what holds of all holds of the last
-last_of : {T : Type 0} (P : T → Type 0) (xs : List T) (x : T) → AllByRecursion P (xs ++ x ∷ []) → P x
-last_of P [] x all = all.0
-last_of P (y ∷ xs) x all = last_of P xs x all.1
-
-no_reload : (config : Config) (address : Address) → is_reload config (asks address) ≡ false
-unfolding is_reload
-no_reload config address = refl
-
-over_version : (history : List (List Triple)) (mark : Mark) (config : Config) (address : Address) → answer_to history mark config (asks address) ≡ answer_to history (Served (version_at mark)) config (asks address)
-unfolding answer_to is_reload
-over_version history mark config address = refl
 
 -- the laws of the two ends
 pub record EndsAreTrue : Type 0 where
@@ -54,6 +43,10 @@ pub record EndsAreTrue : Type 0 where
   pub replies : RepliesAreCut
   pub next : NextAnswerIsCut
   pub stays : ReadingsStay
+
+pub ends : AddressesArePlain → AnswersAreRead → LongHeadsAreRefused → HeadsAreShort → AnswersHaveStatus → ServerAnswersAreRead → PagesAreNQuads → RequestIsSent → ResponseIsCut → RepliesAreCut → NextAnswerIsCut → ReadingsStay → EndsAreTrue
+ends plain reads long short status server pages sends responses replies next stays =
+    record { plain = plain; reads = reads; long = long; short = short; status = status; server = server; pages = pages; sends = sends; responses = responses; replies = replies; next = next; stays = stays }
 
 -- ---- what was received on one link
 
@@ -79,10 +72,25 @@ pub record IsOwed (history : List (List Triple)) (config : Config) (before : Lis
   is_had : had ≡ Some all
   is_owed : owed ≡ Some (all ++ rest)
 
+-- and so over marks of served versions
+record IsOwedOver (history : List (List Triple)) (config : Config) (served : ℕ → Bool) (before : List Answered) (address : Address) (received : List ℕ) (owed : Option (List ℕ)) (had : Option (List ℕ)) : Type 0 where
+  is_owed : IsOwed history config before address received owed had
+  are_served : AllByRecursion (λ mark. served (version_at mark) ≡ true) is_owed.marks
+
+-- where each version is served, each mark is
+all_served : (marks : List Mark) → AllByRecursion (λ mark. true ≡ true) marks
+all_served [] = tt
+all_served (mark ∷ marks) = (refl, all_served marks)
+
+over_any : (allows : List ℕ → ℕ → List ℕ → List ℕ → Type 0) (host : List ℕ) (port : ℕ) (history : List (List Triple)) (config : Config) → IsHonestAt allows host port (answering history config) → IsHonestOver allows host port history config (λ version. true)
+over_any allows host port history config honest = λ sent owed may.
+    let o = honest sent owed may in
+    record { marks = o.0; marked = o.1.0; are_served = all_served o.0; owed_is = o.1.1 }
+
 module _ (allows : List ℕ → ℕ → List ℕ → List ℕ → Type 0) (history : List (List Triple)) (config : Config) (limit : ℕ) (address : Address) (received : List ℕ) (after : WireState) where
-  pub owed_on : (on : RepliedOn limit address received after) → TellsAll allows after → IsHonestAt allows address.host address.port (answering history config)
-      → IsOwed history config on.before address received (after.links on.k).owed (after.links on.k).received
-  owed_on on tells honest =
+  owed_over : (served : ℕ → Bool) (on : RepliedOn limit address received after) → TellsAll allows after → IsHonestOver allows address.host address.port history config served
+      → IsOwedOver history config served on.before address received (after.links on.k).owed (after.links on.k).received
+  owed_over served on tells honest =
       let told : IsToldBy All (after.links on.k) = subst (λ (x : Tells). IsToldBy x (after.links on.k)) tells.all (tells.told on.k) in
       let sent : told.0.sent ≡ bytes_of (sent_of on.before) ++ request_for address = on.sent_is told.0.sent told.0.is_sent in
       let came : told.0.received ≡ received_of on.before ++ received = on.received_is told.0.received told.0.is_received in
@@ -90,30 +98,50 @@ module _ (allows : List ℕ → ℕ → List ℕ → List ℕ → Type 0) (histo
       let peer : (after.links on.k).peer ≡ Some (address.host, address.port) = on.peer ∙ told_all after.nature.tells (address.host, address.port) tells.all in
       let owed = honest told.0.sent told.1.0 (tells.owed on.k address.host address.port told.0.sent told.1.0 peer told.0.is_sent told.1.1) in
       record {
-        marks = owed.0;
-        rest = front.0;
-        marked = subst (λ (t : List ℕ). IsMarkedBy (answering history config) t owed.0) sent owed.1.0;
-        same = owed_is (answering history config) owed.0 (bytes_of (sent_of on.before)) (request_for address) told.0.sent told.0.received told.1.0 (received_of on.before) received front.0 sent came front.1 owed.1.1;
-        all = told.0.received;
-        is_had = told.0.is_received;
-        is_owed = told.1.1 ∙ ap (λ (t : List ℕ). Some t) front.1;
+        is_owed = record {
+          marks = owed.marks;
+          rest = front.0;
+          marked = subst (λ (t : List ℕ). IsMarkedBy (answering history config) t owed.marks) sent owed.marked;
+          same = owed_is (answering history config) owed.marks (bytes_of (sent_of on.before)) (request_for address) told.0.sent told.0.received told.1.0 (received_of on.before) received front.0 sent came front.1 owed.owed_is;
+          all = told.0.received;
+          is_had = told.0.is_received;
+          is_owed = told.1.1 ∙ ap (λ (t : List ℕ). Some t) front.1;
+        };
+        are_served = owed.are_served;
       }
 
--- what is owed to a request within the limit is the answer to it
-record IsAnswer (history : List (List Triple)) (config : Config) (address : Address) (text : List ℕ) : Type 0 where
+  pub owed_on : (on : RepliedOn limit address received after) → TellsAll allows after → IsHonestAt allows address.host address.port (answering history config)
+      → IsOwed history config on.before address received (after.links on.k).owed (after.links on.k).received
+  owed_on on tells honest = (owed_over (λ version. true) on tells (over_any allows address.host address.port history config honest)).is_owed
+
+-- what is owed to a request within the limit is the answer to it, over the last of the marks
+record IsAnswer (history : List (List Triple)) (config : Config) (marks : List Mark) (address : Address) (text : List ℕ) : Type 0 where
+  first : List Mark
   mark : Mark
+  split : marks ≡ first ++ mark ∷ []
   version : IsVersion (length history) mark
   same : text ≡ answer_text (answer_to history mark config (asks address)) false false
 
+-- a body of an answer, over the last of the marks
+record IsBodyAmong (history : List (List Triple)) (config : Config) (marks : List Mark) (address : Address) (body : List ℕ) : Type 0 where
+  is_body : IsBodyOf history config address body
+  first : List Mark
+  split : marks ≡ first ++ is_body.mark ∷ []
+
+last_served : (served : ℕ → Bool) (marks first : List Mark) (mark : Mark) → marks ≡ first ++ mark ∷ [] → AllByRecursion (λ m. served (version_at m) ≡ true) marks → served (version_at mark) ≡ true
+last_served served marks first mark split are = last_of (λ (m : Mark). served (version_at m) ≡ true) first mark (subst (λ (l : List Mark). AllByRecursion (λ m. served (version_at m) ≡ true) l) split are)
+
 module _ (laws : EndsAreTrue) (history : List (List Triple)) (config : Config) (limit : ℕ) (address : Address) (received : List ℕ) (is : IsWebAddress address) where
-  next_is : (before : List Answered) (owed had : Option (List ℕ)) → AllByRecursion (IsReplied limit) before → length (request_for address) ≤ 4194304 → (o : IsOwed history config before address received owed had) → IsAnswer history config address (received ++ o.rest)
+  next_is : (before : List Answered) (owed had : Option (List ℕ)) → AllByRecursion (IsReplied limit) before → length (request_for address) ≤ 4194304 → (o : IsOwed history config before address received owed had) → IsAnswer history config o.marks address (received ++ o.rest)
   next_is before owed had replied short o =
       let server = answering history config in
       let statuses = laws.status history config in
       let are = before_answered laws.plain laws.reads laws.short limit server laws.sends laws.replies statuses o.marks before (request_for address) (received ++ o.rest) replied o.marked o.same in
       let cut = laws.next limit server before (sent_for address) o.marks (received ++ o.rest) statuses are (laws.sends is.0 address is.1 short) o.marked o.same in
       record {
+        first = cut.first;
         mark = cut.last;
+        split = cut.split;
         version = last_of (IsVersion (length history)) cut.first cut.last (subst (λ (m : List Mark). AllByRecursion (IsVersion (length history)) m) cut.split o.marked.versions);
         same = cut.next;
       }
@@ -130,7 +158,7 @@ module _ (laws : EndsAreTrue) (history : List (List Triple)) (config : Config) (
   -- ---- a reply
 
   whole_body : limit < 2 ^ 64 → (before : List Answered) (owed had : Option (List ℕ)) (body : List ℕ) (n : ℕ) (keeps at_end : Bool) → AllByRecursion (IsReplied limit) before → (o : IsOwed history config before address received owed had)
-      → reply_of received at_end limit ≡ Whole body n keeps → IsBodyOf history config address body
+      → reply_of received at_end limit ≡ Whole body n keeps → IsBodyAmong history config o.marks address body
   whole_body small before owed had body n keeps at_end replied o whole =
       let a = next_is before owed had replied (whole_short before owed had body n keeps at_end replied o whole) o in
       let answer = answer_to history a.mark config (asks address) in
@@ -139,14 +167,24 @@ module _ (laws : EndsAreTrue) (history : List (List Triple)) (config : Config) (
       let ok = status_is limit received body n keeps at_end whole laws.long answer o.rest known read (sym a.same) (status_case answer.status known) in
       let page = laws.pages history a.mark config (asks address) (no_reload config address) ok in
       record {
-        mark = a.mark;
-        version = a.version;
-        no_reload = no_reload config address;
-        served = over_version history a.mark config address;
-        status = ok;
-        media_type = page;
-        body_is = page_body_is limit received body n keeps at_end whole answer o.rest read ok page (sym a.same);
+        is_body = record {
+          mark = a.mark;
+          version = a.version;
+          no_reload = no_reload config address;
+          served = over_version history a.mark config address;
+          status = ok;
+          media_type = page;
+          body_is = page_body_is limit received body n keeps at_end whole answer o.rest read ok page (sym a.same);
+        };
+        first = a.first;
+        split = a.split;
       }
+
+  whole_over : limit < 2 ^ 64 → (served : ℕ → Bool) (before : List Answered) (owed had : Option (List ℕ)) (body : List ℕ) (n : ℕ) (keeps at_end : Bool) → AllByRecursion (IsReplied limit) before → IsOwedOver history config served before address received owed had
+      → reply_of received at_end limit ≡ Whole body n keeps → IsBodyOver history config served address body
+  whole_over small served before owed had body n keeps at_end replied o whole =
+      let b = whole_body small before owed had body n keeps at_end replied o.is_owed whole in
+      record { is_body = b.is_body; is_served = last_served served o.is_owed.marks b.first b.is_body.mark b.split o.are_served }
 
   -- ---- a refusal
 
@@ -185,6 +223,48 @@ module _ (laws : EndsAreTrue) (history : List (List Triple)) (config : Config) (
         answer_is = sym a.same;
       }
 
+  -- a page is refused as too long
+  long_page : limit < 2 ^ 64 → (mark : Mark) (why : ReplyFault) (rest : List ℕ) → IsVersion (length history) mark → received ++ rest ≡ answer_text (answer_to history mark config (asks address)) false false
+      → reply_of (received ++ rest) false limit ≡ Bad why → (answer_to history mark config (asks address)).status ≡ 200 → IsLongPage history config limit (shown_fault why) mark address received
+  long_page small mark why rest version same bad ok =
+      let answer = answer_to history mark config (asks address) in
+      let page = laws.pages history mark config (asks address) (no_reload config address) ok in
+      let read = laws.server limit history mark config (asks address) false small in
+      record {
+        fault_is = ap shown_fault (page_refusal limit answer (received ++ rest) why read ok page same bad);
+        long = record {
+          body = answer.body;
+          is_body = record {
+            mark = mark;
+            version = version;
+            no_reload = no_reload config address;
+            served = over_version history mark config address;
+            status = ok;
+            media_type = page;
+            body_is = refl;
+          };
+          long = page_is_long limit answer (received ++ rest) why read ok page same bad;
+          rest = rest;
+          answer_is = sym same;
+        };
+        same = refl;
+      }
+
+  refused_over : limit < 2 ^ 64 → (served : ℕ → Bool) (before : List Answered) (owed had : Option (List ℕ)) (why : ReplyFault) → AllByRecursion (IsReplied limit) before → IsOwedOver history config served before address received owed had
+      → length (request_for address) ≤ 4194304 → reply_of received false limit ≡ Bad why → IsRefusedOver history config served limit (shown_fault why) address received
+  refused_over small served before owed had why replied o short bad =
+      let a = next_is before owed had replied short o.is_owed in
+      let answer = answer_to history a.mark config (asks address) in
+      let all = (laws.stays limit received).bad why bad o.is_owed.rest false in
+      record {
+        mark = a.mark;
+        version = a.version;
+        is_served = last_served served o.is_owed.marks a.first a.mark a.split o.are_served;
+        over = over_version history a.mark config address;
+        page = λ ok. long_page small a.mark why o.is_owed.rest a.version a.same all ok;
+        other = λ no. ap shown_fault (other_refusal limit answer (received ++ o.is_owed.rest) why (laws.server limit history a.mark config (asks address) false small) no a.same all);
+      }
+
   -- ---- a cut
 
   -- what is owed to a request past the limit is its refusal
@@ -216,12 +296,14 @@ module _ (laws : EndsAreTrue) (history : List (List Triple)) (config : Config) (
 -- ---- steps
 
 pub replies_are_answers : EndsAreTrue → AuthoritiesAreHostsAndPorts → (allows : List ℕ → ℕ → List ℕ → List ℕ → Type 0) (after : WireState) → RepliesAreAnswers allows after
-replies_are_answers laws one allows after ticket answer old new before given suits so_far small tells steps =
-    let r = replies_are_read one ticket answer old new before after given suits so_far steps in
+replies_are_answers laws one allows after ticket address answer old new before given suits so_far small tells steps =
+    let r = replies_are_read one ticket address answer old new before after given suits so_far steps in
     record {
       hands = r.hands;
-      body = λ history config honest. whole_body laws history config old.limit r.hands.ask.address r.received r.on.is_address small r.on.before _ _ answer.body r.n answer.keeps r.at_end r.on.replied
-          (owed_on allows history config old.limit r.hands.ask.address r.received after r.on tells honest) r.whole;
+      body = λ history config honest. (whole_body laws history config old.limit r.hands.ask.address r.received r.on.is_address small r.on.before _ _ answer.body r.n answer.keeps r.at_end r.on.replied
+          (owed_on allows history config old.limit r.hands.ask.address r.received after r.on tells honest) r.whole).is_body;
+      over = λ history config served honest. whole_over laws history config old.limit r.hands.ask.address r.received r.on.is_address small served r.on.before _ _ answer.body r.n answer.keeps r.at_end r.on.replied
+          (owed_over allows history config old.limit r.hands.ask.address r.received after served r.on tells honest) r.whole;
     }
 
 pub refusals_are_too_long : EndsAreTrue → AuthoritiesAreHostsAndPorts → (allows : List ℕ → ℕ → List ℕ → List ℕ → Type 0) (after : WireState) → RefusalsAreTooLong allows after
@@ -233,6 +315,10 @@ refusals_are_too_long laws one allows after fault received old new before given 
           (owed_on allows history config old.limit r.loses.ask.address received after r.loses.on tells honest) short every r.bad);
       long = λ history config honest short every. refused_long laws history config old.limit r.loses.ask.address received r.loses.on.is_address small r.loses.on.before _ _ r.why r.loses.on.replied
           (owed_on allows history config old.limit r.loses.ask.address received after r.loses.on tells honest) short every r.bad;
+      over = λ history config served honest short.
+          subst (λ (f : Refusal). IsRefusedOver history config served old.limit f r.loses.ask.address received) (sym r.is_fault)
+          (refused_over laws history config old.limit r.loses.ask.address received r.loses.on.is_address small served r.loses.on.before _ _ r.why r.loses.on.replied
+          (owed_over allows history config old.limit r.loses.ask.address received after served r.loses.on tells honest) short r.bad);
     }
 
 pub cuts_are_faults : EndsAreTrue → AuthoritiesAreHostsAndPorts → (allows : List ℕ → ℕ → List ℕ → List ℕ → Type 0) (after : WireState) → CutsAreFaults allows after

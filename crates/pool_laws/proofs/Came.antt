@@ -20,7 +20,7 @@ use Rattle.request_pool.specs.Owned.{SuitsWire, on_link, held_on}
 use Rattle.request_pool.specs.Polls.{Settles, NoLink, Kept, Shut, Polls, FlightTo}
 use Rattle.request_pool.specs.Runs.{Begins, Starts, Overruns, Flies, Starves, PollsNext, Last, OfStart, OfPoll}
 use Rattle.request_pool.specs.Steps.{EndsInRun}
-use Rattle.request_pool.proofs.Holding.{held_with, held_out, lined_held, running_holds}
+use Rattle.request_pool.proofs.Holding.{held_with, held_out, lined_held, running_holds, begun_holds, no_came, settles_held}
 use Rattle.request_pool.proofs.Steps.{suits_lined}
 use Rattle.request_pool.proofs.Owned.{linked_open}
 use Rattle.request_pool.proofs.Suits.{owns_begun, owns_next}
@@ -33,7 +33,7 @@ use Rattle.pool_laws.specs.Causes.{HoldsNoneBelow}
 use Rattle.pool_laws.proofs.Fresh.{NoneBelow, Below, below_in, below_is_kept, begun_below, next_below, polled_given}
 
 -- The exchange, which followed whole replies, and its last poll; its ask was held, and is held no longer; nothing but the link that it left changed since. Where none below a number was held at the start, none was then.
-pub record CameBy (start : ℕ → Type 0) (limit ticket : ℕ) (answer : Reply) (was is : List Ask) (b : WireState) : Type 0 where
+pub record CameBy (start : ℕ → Type 0) (limit ticket : ℕ) (address : Address) (answer : Reply) (was is : List Ask) (b : WireState) : Type 0 where
   pub f : Flight
   pub from : WireState
   pub to : WireState
@@ -45,24 +45,17 @@ pub record CameBy (start : ℕ → Type 0) (limit ticket : ℕ) (answer : Reply)
   pub fresh : (n : ℕ) → start n → NoneBelow n (λ k. on_link f.exchange.link k + held_on old k) from
   pub settles : Settles (left_link poll.now) poll.now.address old new to b
   pub is_ticket : f.ticket ≡ ticket
+  pub is_address : f.exchange.address ≡ address
   pub others : IsPermutation was (ask_flying f ∷ is)
-
-permuted : (xs ys us vs : List Ask) → xs ≡ us → ys ≡ vs → IsPermutation us vs → IsPermutation xs ys
-permuted xs ys us vs e f h = subst (λ (l : List Ask). IsPermutation l ys) (sym e) (subst (λ (l : List Ask). IsPermutation us l) (sym f) h)
-
-pub settles_held : (o : Option ℕ) (address : Address) (p q : Pooled) (a b : WireState) → Settles o address p q a b → held q ≡ held p
-settles_held o address p q a b (NoLink e f h) = ap held f
-settles_held o address p q a b (Kept k e room f h) = ap held f
-settles_held o address p q a b (Shut k e full f c) = ap held f
 
 settles_limit : (o : Option ℕ) (address : Address) (p q : Pooled) (a b : WireState) → Settles o address p q a b → p.limit ≡ q.limit
 settles_limit o address p q a b (NoLink e f h) = sym (ap (λ (x : Pooled). x.limit) f)
 settles_limit o address p q a b (Kept k e room f h) = sym (ap (λ (x : Pooled). x.limit) f)
 settles_limit o address p q a b (Shut k e full f c) = sym (ap (λ (x : Pooled). x.limit) f)
 
-flight_came : (start : ℕ → Type 0) (ticket : ℕ) (answer : Reply) (f : Flight) (p q : Pooled) (a b : WireState) → OpensGiven a → IsLinked f.exchange.link a → FlightTo (Ok (polls.Came ticket answer)) f p q a b → Follows p.limit a f.exchange → ((n : ℕ) → start n → NoneBelow n (λ k. on_link f.exchange.link k + held_on p k) a) → (was : List Ask)
-    → IsPermutation was (held_with f p) → CameBy start q.limit ticket answer was (held q) b
-flight_came start ticket answer f p q a b g linked h s fresh was from = record {
+flight_came : (start : ℕ → Type 0) (ticket : ℕ) (address : Address) (answer : Reply) (f : Flight) (p q : Pooled) (a b : WireState) → OpensGiven a → IsLinked f.exchange.link a → FlightTo (Ok (polls.Came ticket address answer)) f p q a b → Follows p.limit a f.exchange → ((n : ℕ) → start n → NoneBelow n (λ k. on_link f.exchange.link k + held_on p k) a) → (was : List Ask)
+    → IsPermutation was (held_with f p) → CameBy start q.limit ticket address answer was (held q) b
+flight_came start ticket address answer f p q a b g linked h s fresh was from = record {
   f = f;
   from = a;
   to = h.0;
@@ -74,37 +67,28 @@ flight_came start ticket answer f p q a b g linked h s fresh was from = record {
   fresh = fresh;
   settles = h.3;
   is_ticket = sym h.2;
+  is_address = sym (h.4 ∙ h.1.touches.address);
   others = IsPermutation-trans _ _ _ from (subst (λ (l : List Ask). IsPermutation (held_with f p) (ask_flying f ∷ l)) (sym (settles_held (left_link h.1.now) h.1.now.address p q h.0 b h.3)) (held_out f p));
 }
 
-pub begun_holds : (p q : Pooled) (f : Flight) → Begins p q f → IsPermutation (held p) (held_with f q)
-begun_holds p q f b =
-    let r : Pooled = record p { waiting = b.rest; spare = b.spare; started = p.started + 1 } in
-    let first : held p ≡ ask_waiting b.first ∷ held r = ap (λ (l : List Waiting). map ask_waiting l ++ map ask_flying (in_flight p)) b.is_first in
-    let same : ask_flying f ≡ ask_waiting b.first = ap ask_flying b.flight in
-    IsPermutation-sym _ _ (permuted (held_with f q) (held p) (held_with f r) (ask_flying f ∷ held r) (ap (held_with f) b.is_new) (first ∙ ap (λ (x : Ask). x ∷ held r) (sym same)) (held_out f r))
+starts_came : AuthoritiesAreHostsAndPorts → (ticket : ℕ) (address : Address) (answer : Reply) (p q : Pooled) (a b : WireState) → OpensGiven a → SuitsWire p a → AnswersSoFar p a → Starts (Ok (polls.Came ticket address answer)) p q a b → CameBy (λ n. Below n p a) q.limit ticket address answer (held p) (held q) b
+starts_came one ticket address answer p q a b g s h (Overruns r budget f i) = absurd (no_came ticket address answer faults.Budget r)
+starts_came one ticket address answer p q a b g s h (Starves r mid f begins is shuts) = absurd (no_came ticket address answer faults.OutOfMemory r)
+starts_came one ticket address answer p q a b g s h (Flies mid f budget begins to) =
+    flight_came (λ n. Below n p a) ticket address answer f mid q a b g (linked_open f.exchange.link (held_on mid) a (owns_begun p mid f a s begins).owned) to (begun one p mid f a h begins).follows (λ n x. begun_below n p mid f a x begins) (held p) (begun_holds p mid f begins)
 
-no_came : (ticket : ℕ) (answer : Reply) (fault : PoolFault) → ◌≡◌ {A = Result Polled PoolFault} (Ok (polls.Came ticket answer)) (Err fault) → ⊥
-no_came ticket answer fault e = cc
-
-starts_came : AuthoritiesAreHostsAndPorts → (ticket : ℕ) (answer : Reply) (p q : Pooled) (a b : WireState) → OpensGiven a → SuitsWire p a → AnswersSoFar p a → Starts (Ok (polls.Came ticket answer)) p q a b → CameBy (λ n. Below n p a) q.limit ticket answer (held p) (held q) b
-starts_came one ticket answer p q a b g s h (Overruns r budget f i) = absurd (no_came ticket answer faults.Budget r)
-starts_came one ticket answer p q a b g s h (Starves r mid f begins is shuts) = absurd (no_came ticket answer faults.OutOfMemory r)
-starts_came one ticket answer p q a b g s h (Flies mid f budget begins to) =
-    flight_came (λ n. Below n p a) ticket answer f mid q a b g (linked_open f.exchange.link (held_on mid) a (owns_begun p mid f a s begins).owned) to (begun one p mid f a h begins).follows (λ n x. begun_below n p mid f a x begins) (held p) (begun_holds p mid f begins)
-
-next_came : (ticket : ℕ) (answer : Reply) (p q : Pooled) (a b : WireState) → OpensGiven a → SuitsWire p a → AnswersSoFar p a → PollsNext (Ok (polls.Came ticket answer)) p q a b → CameBy (λ n. Below n p a) q.limit ticket answer (held p) (held q) b
-next_came ticket answer p q a b g s h n =
+next_came : (ticket : ℕ) (address : Address) (answer : Reply) (p q : Pooled) (a b : WireState) → OpensGiven a → SuitsWire p a → AnswersSoFar p a → PollsNext (Ok (polls.Came ticket address answer)) p q a b → CameBy (λ n. Below n p a) q.limit ticket address answer (held p) (held q) b
+next_came ticket address answer p q a b g s h n =
     let d = subst (λ (l : List Flight). AllByRecursion (λ x. Follows p.limit a x.exchange) l) n.is_next h.due in
     let same : held p ≡ held_with n.f (record p { due = n.rest }) = ap (λ (l : List Flight). map ask_waiting p.waiting ++ map ask_flying (p.polled ++ l)) n.is_next in
-    flight_came (λ i. Below i p a) ticket answer n.f (record p { due = n.rest }) q a b g (linked_open n.f.exchange.link (held_on (record p { due = n.rest })) a (owns_next p n.f n.rest a s n.is_next).owned) n.to d.0 (λ i x. next_below i p n.f n.rest a x n.is_next) (held p) (subst (λ (l : List Ask). IsPermutation (held p) l) same (IsPermutation-refl (held p)))
+    flight_came (λ i. Below i p a) ticket address answer n.f (record p { due = n.rest }) q a b g (linked_open n.f.exchange.link (held_on (record p { due = n.rest })) a (owns_next p n.f n.rest a s n.is_next).owned) n.to d.0 (λ i x. next_below i p n.f n.rest a x n.is_next) (held p) (subst (λ (l : List Ask). IsPermutation (held p) l) same (IsPermutation-refl (held p)))
 
-last_came : AuthoritiesAreHostsAndPorts → (ticket : ℕ) (answer : Reply) (p q : Pooled) (a b : WireState) → OpensGiven a → SuitsWire p a → AnswersSoFar p a → Last (Ok (polls.Came ticket answer)) p q a b → CameBy (λ n. Below n p a) q.limit ticket answer (held p) (held q) b
-last_came one ticket answer p q a b g s h (OfStart t) = starts_came one ticket answer p q a b g s h t
-last_came one ticket answer p q a b g s h (OfPoll t) = next_came ticket answer p q a b g s h t
+last_came : AuthoritiesAreHostsAndPorts → (ticket : ℕ) (address : Address) (answer : Reply) (p q : Pooled) (a b : WireState) → OpensGiven a → SuitsWire p a → AnswersSoFar p a → Last (Ok (polls.Came ticket address answer)) p q a b → CameBy (λ n. Below n p a) q.limit ticket address answer (held p) (held q) b
+last_came one ticket address answer p q a b g s h (OfStart t) = starts_came one ticket address answer p q a b g s h t
+last_came one ticket address answer p q a b g s h (OfPoll t) = next_came ticket address answer p q a b g s h t
 
-first_asks : (first then_ : ℕ → Type 0) (limit ticket : ℕ) (answer : Reply) (was now is : List Ask) (b : WireState) → IsPermutation was now → ((n : ℕ) → first n → then_ n) → CameBy then_ limit ticket answer now is b → CameBy first limit ticket answer was is b
-first_asks first then_ limit ticket answer was now is b h goes c = record {
+first_asks : (first then_ : ℕ → Type 0) (limit ticket : ℕ) (address : Address) (answer : Reply) (was now is : List Ask) (b : WireState) → IsPermutation was now → ((n : ℕ) → first n → then_ n) → CameBy then_ limit ticket address answer now is b → CameBy first limit ticket address answer was is b
+first_asks first then_ limit ticket address answer was now is b h goes c = record {
   f = c.f;
   from = c.from;
   to = c.to;
@@ -116,18 +100,19 @@ first_asks first then_ limit ticket answer was now is b h goes c = record {
   fresh = λ n x. c.fresh n (goes n x);
   settles = c.settles;
   is_ticket = c.is_ticket;
+  is_address = c.is_address;
   others = IsPermutation-trans _ _ _ h c.others;
 }
 
-pub step_came : AuthoritiesAreHostsAndPorts → (ticket : ℕ) (answer : Reply) (p q : Pooled) (a b : WireState) → OpensGiven a → SuitsWire p a → AnswersSoFar p a
-    → EndsInRun (Ok (polls.Came ticket answer)) p q a b → CameBy (λ n. HoldsNoneBelow n p a) q.limit ticket answer (held p) (held q) b
-step_came one ticket answer p q a b g s h e =
+pub step_came : AuthoritiesAreHostsAndPorts → (ticket : ℕ) (address : Address) (answer : Reply) (p q : Pooled) (a b : WireState) → OpensGiven a → SuitsWire p a → AnswersSoFar p a
+    → EndsInRun (Ok (polls.Came ticket address answer)) p q a b → CameBy (λ n. HoldsNoneBelow n p a) q.limit ticket address answer (held p) (held q) b
+step_came one ticket address answer p q a b g s h e =
     let r : Pooled = e.line in
     let suits = suits_lined p e.line a e.lines s in
     let kept = answers_are_kept one in
     let fares = running_fares false a r e.mid a e.between (fares_first r a suits g) e.running in
     let mid = by_running AnswersSoFar kept r e.mid a e.between g suits (by_line AnswersSoFar kept p r a e.lines h) e.running in
-    first_asks (λ n. HoldsNoneBelow n p a) (λ n. Below n e.mid e.between) q.limit ticket answer (held p) (held e.mid) (held q) b
+    first_asks (λ n. HoldsNoneBelow n p a) (λ n. Below n e.mid e.between) q.limit ticket address answer (held p) (held e.mid) (held q) b
     (subst (λ (l : List Ask). IsPermutation l (held e.mid)) (lined_held p r e.lines) (running_holds r e.mid a e.between e.running))
     (λ n x. by_running (Below n) (below_is_kept n) r e.mid a e.between g suits (by_line (Below n) (below_is_kept n) p r a e.lines (below_in n p a x)) e.running)
-    (last_came one ticket answer e.mid q e.between b fares.given fares.suits mid e.last)
+    (last_came one ticket address answer e.mid q e.between b fares.given fares.suits mid e.last)

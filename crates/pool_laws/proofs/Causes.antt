@@ -28,12 +28,13 @@ use Rattle.request_pool.specs.Owned.{SuitsWire, on_link, held_on}
 use Rattle.request_pool.specs.Polls.{Shuts, Polls, FailsTo, FlightTo}
 use Rattle.request_pool.specs.Runs.{Starts, Overruns, Flies, Starves, PollsNext, Last, OfStart, OfPoll}
 use Rattle.request_pool.specs.Steps.{WaitsTo, Passes, Stalls, Misses, Lacks, EndsInWait, EndsInRun, EndsInFault, AtOnce, InRun, InWait}
-use Rattle.request_pool.proofs.Holding.{held_with, held_out, lined_held, running_holds}
+use Rattle.request_pool.proofs.Holding.{held_with, held_out, lined_held, running_holds, begun_holds}
 use Rattle.request_pool.proofs.Steps.{suits_lined}
 use Rattle.request_pool.proofs.Owned.{linked_open}
 use Rattle.request_pool.proofs.Suits.{owns_begun, owns_next}
 use Rattle.request_pool.proofs.Risen.{fares_first, running_fares}
 use Rattle.request_pool.proofs.Bounds.{step_bounds}
+use Rattle.tpf_base.proofs.SendingLemmas.{holds_same, rose_on}
 use Rattle.pool_laws.specs.Following.{IsReplied, HasPeer, Follows, AnswersSoFar}
 use Rattle.pool_laws.specs.Causes.{HoldsNoneBelow, RepliedOn, RepliesAreRead, IsCauseOf, FaultsHaveCauses}
 use Rattle.pool_laws.proofs.Following.{begun, polled_peer, request_is, holds_is}
@@ -41,13 +42,10 @@ use Rattle.pool_laws.proofs.KeptBySteps.{by_line, by_running}
 use Rattle.pool_laws.proofs.Running.{answers_are_kept}
 use Rattle.pool_laws.proofs.Faults.{faults_are_kept, same_fault, shut_faults}
 use Rattle.pool_laws.proofs.Fresh.{NoneBelow, Below, below_in, below_is_kept, begun_below, next_below, polled_above, polled_given}
-use Rattle.pool_laws.proofs.Came.{step_came, begun_holds}
+use Rattle.pool_laws.proofs.Came.{step_came}
 use Rattle.pool_laws.proofs.Settled.{settles_whole, settles_given, settles_nature}
 
 -- ---- a reply
-
-holds_back : {T : Type 0} (x y : Option T) (v : T) → y ≡ x → Holds x v → Holds y v
-holds_back x y v e h = λ fact is. h fact (sym e ∙ is)
 
 pub same_request : (x : Option (List ℕ)) (s : List ℕ) (address other : Address) → other ≡ address → Holds x (s ++ request_of other) → Holds x (s ++ request_for address)
 same_request x s address other e h = holds_is x (s ++ request_of other) (s ++ request_for address) (ap (λ (t : List ℕ). s ++ t) (sym (ap request_of e ∙ request_is address))) h
@@ -56,34 +54,34 @@ told_nature : (a b : WireState) (peer : List ℕ × ℕ) → b.nature ≡ a.natu
 told_nature a b peer e = ap (λ (x : Nature). told_by x.tells peer) (sym e)
 
 pub replies_are_read : AuthoritiesAreHostsAndPorts → RepliesAreRead
-replies_are_read one ticket answer old new before after given suits so_far steps =
-    let c = step_came one ticket answer old new before after given suits so_far steps in
+replies_are_read one ticket address answer old new before after given suits so_far steps =
+    let c = step_came one ticket address answer old new before after given suits so_far steps in
     let r = c.poll.answers in
     let t = c.poll.touches in
     let same = settles_whole (left_link c.poll.now) c.poll.now.address c.old c.new c.to after c.settles r.k in
     let nature = settles_nature (left_link c.poll.now) c.poll.now.address c.old c.new c.to after c.settles in
-    let limit : c.poll.now.limit ≡ old.limit = t.limit ∙ c.follows.is_limit ∙ ap (λ (x : Pooled). x.limit) (step_bounds (Ok (Came ticket answer)) old new before after steps) in
+    let limit : c.poll.now.limit ≡ old.limit = t.limit ∙ c.follows.is_limit ∙ ap (λ (x : Pooled). x.limit) (step_bounds (Ok (Came ticket address answer)) old new before after steps) in
     let peer : HasPeer c.f.exchange.address (Some r.k) c.to =
     subst (λ (x : Address). HasPeer x (Some r.k) c.to) t.address (subst (λ (o : Option ℕ). HasPeer c.poll.now.address o c.to) r.link (polled_peer c.f.exchange c.poll.now c.from c.to t c.follows.peer)) in
     record {
-      hands = record { ask = ask_flying c.f; is_ticket = c.is_ticket; others = c.others };
+      hands = record { ask = ask_flying c.f; is_ticket = c.is_ticket; is_address = c.is_address; others = c.others };
       received = r.received;
       on = record {
         k = r.k;
         is_address = c.follows.is_address;
         peer = same.peer ∙ peer ∙ told_nature c.to after (c.f.exchange.address.host, c.f.exchange.address.port) nature;
         before = c.follows.before;
-        replied = subst (λ (n : ℕ). AllByRecursion (IsReplied n) c.follows.before) (ap (λ (x : Pooled). x.limit) (step_bounds (Ok (Came ticket answer)) old new before after steps)) c.follows.replied;
-        sent_is = holds_back (c.to.links r.k).sent (after.links r.k).sent (bytes_of (sent_of c.follows.before) ++ request_for c.f.exchange.address) same.sent
+        replied = subst (λ (n : ℕ). AllByRecursion (IsReplied n) c.follows.before) (ap (λ (x : Pooled). x.limit) (step_bounds (Ok (Came ticket address answer)) old new before after steps)) c.follows.replied;
+        sent_is = holds_same (c.to.links r.k).sent (after.links r.k).sent (bytes_of (sent_of c.follows.before) ++ request_for c.f.exchange.address) same.sent
             (same_request (c.to.links r.k).sent (bytes_of (sent_of c.follows.before)) c.f.exchange.address c.poll.now.address t.address (r.sent_is _ _ c.follows.stands));
-        received_is = holds_back (c.to.links r.k).received (after.links r.k).received (received_of c.follows.before ++ r.received) same.received (r.received_is _ _ c.follows.stands);
+        received_is = holds_same (c.to.links r.k).received (after.links r.k).received (received_of c.follows.before ++ r.received) same.received (r.received_is _ _ c.follows.stands);
       };
       given = omega (arith, c.given r.k r.link, settles_given (left_link c.poll.now) c.poll.now.address c.old c.new c.to after c.settles);
       fresh = λ n h. polled_above n c.f.exchange c.poll.now (held_on c.old) c.from c.to r.k c.poll.touches r.link (c.fresh n h);
       n = r.n;
       at_end = r.at_end;
       whole = ap (λ (l : ℕ). reply_of r.received r.at_end l) (sym limit) ∙ r.whole;
-      ended = λ e. (holds_back (c.to.links r.k).ended (after.links r.k).ended true same.ended (r.ended e).0, (r.ended e).1);
+      ended = λ e. (holds_same (c.to.links r.k).ended (after.links r.k).ended true same.ended (r.ended e).0, (r.ended e).1);
     }
 
 -- ---- the end of a run with a fault
@@ -198,11 +196,8 @@ module _ (limit : ℕ) (f : Flight) (a b : WireState) (s : Follows limit a f.exc
         received_is = e.received_is _ _ s.stands;
       }
 
-rose_from : (n m l : ℕ) → n ≤ m → Rose m l → Rose n l
-rose_from n m l h r = omega (arith, h, r)
-
 flown_cause : (fault : PoolFault) (old q : Pooled) (a b : WireState) → q.limit ≡ old.limit → Flown (λ i. HoldsNoneBelow i old a) fault (held old) q a.faults b → IsCauseOf fault old q a b
-flown_cause faults.Exchange old q a b limit x = rose_from a.faults x.from.faults b.faults x.later x.to.0.answers.rose
+flown_cause faults.Exchange old q a b limit x = rose_on a.faults x.from.faults b.faults x.later x.to.0.answers.rose
 flown_cause (faults.Reply fault received) old q a b limit x =
     let r = x.to.0.answers in
     let same : x.p.limit ≡ old.limit = sym (ap (λ (y : Pooled). y.limit) x.to.1) ∙ limit in
@@ -230,7 +225,7 @@ flown_cause (faults.Cut received) old q a b limit x =
         fresh = λ n h. polled_above n x.f.exchange x.to.0.now (held_on x.p) x.from b r.ends.k x.to.0.touches r.ends.link (x.fresh n h);
       };
       ended = r.ended;
-      short = λ left. rose_from a.faults x.from.faults b.faults x.later (r.short left);
+      short = λ left. rose_on a.faults x.from.faults b.faults x.later (r.short left);
       more = ap (λ (n : ℕ). reply_of received true n) (sym (x.to.0.touches.limit ∙ x.follows.is_limit ∙ same)) ∙ r.more;
     }
 flown_cause faults.OutOfMemory old q a b limit x = tt

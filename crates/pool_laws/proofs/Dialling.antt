@@ -19,8 +19,8 @@ use Rattle.request_pool.specs.Polls.{Shuts, Settles, NoLink, Kept, Shut, FailsTo
 use Rattle.request_pool.specs.Runs.{Starts, Overruns, Flies, Starves, PollsNext}
 use Rattle.request_pool.specs.Steps.{IsWait, GivesUp}
 use Rattle.request_pool.proofs.Bounds.{flight_bounds}
+use Rattle.http_ends.proofs.Lists.{all_append}
 use Rattle.pool_laws.specs.Counting.{FewDials, EmptyPoolsDial, PutsDial, FaultsDial, StepsDial, ClosingDials}
-use Rattle.pool_laws.proofs.Lists.{all_append}
 use Rattle.pool_laws.proofs.KeptBySteps.{IsKept, by_step}
 use Rattle.pool_laws.proofs.Trying.{flight_tries}
 
@@ -112,7 +112,7 @@ module _ (count : WireState → ℕ) (is : IsCount count) (before : ℕ) where
         due = h.due;
         few = omega (arith, h.room, poll_counts f.exchange t.0.now a b t.0.touches);
       })
-  flight_counts (Ok (polls.Came ticket answer)) f p q a b h t = settle_counts (left_link t.1.now) t.1.now.address p q t.0 b t.3 (flies_on p (count a + dial_for f.exchange.link) t.0 (poll_counts f.exchange t.1.now a t.0 t.1.touches) h)
+  flight_counts (Ok (polls.Came ticket address answer)) f p q a b h t = settle_counts (left_link t.1.now) t.1.now.address p q t.0 b t.3 (flies_on p (count a + dial_for f.exchange.link) t.0 (poll_counts f.exchange t.1.now a t.0 t.1.touches) h)
   flight_counts (Ok polls.Failed) f p q a b h t = counted_as _ q b t.4 (record { polled = h.polled; due = h.due; few = omega (arith, h.room, poll_counts f.exchange t.1.now a b t.1.touches) })
   flight_counts (Err faults.Exchange) f p q a b h t = counted_as p q b t.2 (flies_on p (count a + dial_for f.exchange.link) b (poll_counts f.exchange t.0.now a b t.0.touches) h)
   flight_counts (Err (faults.Cut received)) f p q a b h t = counted_as p q b t.2 (flies_on p (count a + dial_for f.exchange.link) b (poll_counts f.exchange t.0.now a b t.0.touches) h)

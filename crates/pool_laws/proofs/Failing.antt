@@ -31,15 +31,16 @@ use Rattle.request_pool.specs.Polls.{Shuts, Settles, NoLink, Kept, Shut, Polls, 
 use Rattle.request_pool.specs.Runs.{Begins, Starts, Overruns, Flies, Starves, PollsNext, Last, OfStart, OfPoll}
 use Rattle.request_pool.specs.Steps.{IsWait, GivesUp, WaitsTo, Passes, Stalls, Misses, Lacks, EndsInWait, EndsInRun, EndsInFault, AtOnce, InRun, InWait, StepsTo}
 use Rattle.request_pool.proofs.Owned.{at_or_off, linked_open}
-use Rattle.request_pool.proofs.Risen.{fares_first, running_fares}
+use Rattle.request_pool.proofs.Risen.{fares_first, running_fares, on_its}
 use Rattle.request_pool.proofs.Steps.{in_line, suits_lined}
 use Rattle.request_pool.proofs.Suits.{Owns, owns_begun, owns_next}
 use Rattle.request_pool.proofs.Bounds.{runs_bounds, lines_bounds}
+use Rattle.http_ends.proofs.Lists.{all_append, all_front}
 use Rattle.pool_laws.specs.Owning.{IsAsBefore, Same, Woken}
 use Rattle.pool_laws.specs.Requested.{over_links}
 use Rattle.pool_laws.specs.Failing.{is_ended, times_ended, ended_links, FailsBy, ended_free, FailuresEnd, EndsByFailures, EmptyPoolsFail, PutsFail, FaultsFail, StepsFail}
-use Rattle.pool_laws.proofs.Lists.{all_append, all_front, all_behind}
-use Rattle.pool_laws.proofs.Following.{on_some, own_link}
+use Rattle.pool_laws.proofs.Lists.{all_behind}
+use Rattle.pool_laws.proofs.Following.{own_link}
 use Rattle.pool_laws.proofs.Owning.{after_link}
 use Rattle.pool_laws.proofs.HeldLinks.{LinksKept, owning_is_kept, any_asks, flight_owns, split_flights}
 use Rattle.pool_laws.proofs.HeldLinks as held_links
@@ -216,7 +217,7 @@ module _ (since : WireState) where
     cut_free : (e f : Exchanging) (rest : ℕ → ℕ) (a b : WireState) (k : ℕ) → Touches e f a b → f.link ≡ Some k → rest k ≡ 0 → k < b.given → Holds (b.links k).ended true → Free n (λ i. on_link e.link i + rest i) a → Free (n + 1) rest b
     cut_free e f rest a b k t is none below ended h =
         let after = after_link e.address e.link f.link a b t.link t.others in
-        let one : on_link f.link k ≡ 1 = on_some f.link k is in
+        let one : on_link f.link k ≡ 1 = on_its f.link k is in
         record {
           given = omega (arith, h.given, after.given);
           none = λ i low. omega (arith, h.none i low);
@@ -320,9 +321,9 @@ module _ (since : WireState) where
         polled = all_append (λ (x : Flight). FailsBy x.failed since.faults b.faults ended) p.polled ((record f { exchange = t.0.now }) ∷ []) l.polled (fails_later f.failed since.faults a.faults b.faults ended ended t.0.touches.later (omega arith) s.own, tt);
         due = l.due;
       }))
-  flight_failing (Ok (polls.Came ticket answer)) ended f p q a b g s t =
-      same_failing ended f p q a b (Ok (polls.Came ticket answer)) s t
-      (settle_lists (left_link t.1.now) t.1.now.address b.faults ended p q t.0 b t.3 (lists_later a.faults b.faults ended ended p (flight_faults (Ok (polls.Came ticket answer)) f p q a b t) (omega arith) s.lists))
+  flight_failing (Ok (polls.Came ticket address answer)) ended f p q a b g s t =
+      same_failing ended f p q a b (Ok (polls.Came ticket address answer)) s t
+      (settle_lists (left_link t.1.now) t.1.now.address b.faults ended p q t.0 b t.3 (lists_later a.faults b.faults ended ended p (flight_faults (Ok (polls.Came ticket address answer)) f p q a b t) (omega arith) s.lists))
   flight_failing (Ok polls.Failed) ended f p q a b g s t =
       let x = poll_failed t.0 ended f p a b g t.1 t.2 s in
       let r : Pooled = record p { waiting = again (record f { exchange = t.1.now }) ∷ p.waiting } in
@@ -535,17 +536,17 @@ module _ (since : WireState) where
     breaks_after fault p q a b g s same h few (InRun e) = in_run fault p q a b g s same h e
     breaks_after fault p q a b g s same h few (InWait e) = in_wait (Err fault) p q a b g s same h few e
 
-    in_came : (ticket : ℕ) (answer : Reply) (p q : Pooled) (a b : WireState) → OpensGiven a → SuitsWire p a → Failing p a → EndsInRun (Ok (polls.Came ticket answer)) p q a b → Failing q b
-    in_came ticket answer p q a b g s h e =
+    in_came : (ticket : ℕ) (address : Address) (answer : Reply) (p q : Pooled) (a b : WireState) → OpensGiven a → SuitsWire p a → Failing p a → EndsInRun (Ok (polls.Came ticket address answer)) p q a b → Failing q b
+    in_came ticket address answer p q a b g s h e =
         let r : Pooled = e.line in
         let suits = suits_lined p e.line a e.lines s in
         let f = running_fares false a r e.mid a e.between (fares_first r a suits g) e.running in
         let mid = running_keeps Failing failing_is_kept r e.mid a e.between g suits (in_line (λ (x : Pooled). Failing x a) p e.line e.lines (gathered_failing p a h) h) e.running in
-        last_keeps Failing failing_is_kept (Ok (polls.Came ticket answer)) e.mid q e.between b f.given f.suits mid e.last
+        last_keeps Failing failing_is_kept (Ok (polls.Came ticket address answer)) e.mid q e.between b f.given f.suits mid e.last
 
     step_after : (result : Result Stepped PoolFault) (p q : Pooled) (a b : WireState) → OpensGiven a → SuitsWire p a → p.retries ≡ retries → Failing p a → b.idle < 1000 → StepsTo result p q a b → After result q b
     step_after (Ok Idle) p q a b g s same h few t = record { failing = failing_as p q a b t.1 t.2 h; fault = tt }
-    step_after (Ok (Came ticket answer)) p q a b g s same h few t = record { failing = in_came ticket answer p q a b g s h t; fault = tt }
+    step_after (Ok (Came ticket address answer)) p q a b g s same h few t = record { failing = in_came ticket address answer p q a b g s h t; fault = tt }
     step_after (Ok Waited) p q a b g s same h few t = in_wait (Ok Waited) p q a b g s same h few t
     step_after (Err fault) p q a b g s same h few t = breaks_after fault p q a b g s same h few t
 

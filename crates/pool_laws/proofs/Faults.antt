@@ -47,7 +47,7 @@ shut_or o a b (inr s) = shut_faults o a b s
 
 pub flight_faults : (result : Result Polled PoolFault) (f : Flight) (p q : Pooled) (a b : WireState) → FlightTo result f p q a b → a.faults ≤ b.faults
 flight_faults (Ok polls.Pending) f p q a b t = t.0.touches.later
-flight_faults (Ok (polls.Came ticket answer)) f p q a b t = omega (arith, t.1.touches.later, settle_faults (left_link t.1.now) t.1.now.address p q t.0 b t.3)
+flight_faults (Ok (polls.Came ticket address answer)) f p q a b t = omega (arith, t.1.touches.later, settle_faults (left_link t.1.now) t.1.now.address p q t.0 b t.3)
 flight_faults (Ok polls.Failed) f p q a b t = t.1.touches.later
 flight_faults (Err faults.Exchange) f p q a b t = t.0.touches.later
 flight_faults (Err (faults.Cut received)) f p q a b t = t.0.touches.later

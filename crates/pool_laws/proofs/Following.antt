@@ -7,7 +7,7 @@ use Rattle.std.proofs.lemmas.Bool.Decides.{eqb_tells}
 use Rattle.std.proofs.lemmas.List.{map-append}
 use Rattle.futures.specs.declared.task.Poll.{Poll}
 use Rattle.futures.specs.declared.task.Poll.TheVariants as poll
-use Rattle.tpf_base.specs.Addresses.{Address}
+use Rattle.tpf_base.specs.Addresses.{Address, authority_of}
 use Rattle.tpf_base.specs.HttpReply.{Whole, reply_of}
 use Rattle.tpf_base.specs.Links.{Link, Nature, WireState, OpensGiven, told_by}
 use Rattle.tpf_base.specs.Calls.{Closes}
@@ -33,9 +33,12 @@ use Rattle.request_pool.specs.Owned.{on_link, flights_on, spare_on, held_on}
 use Rattle.request_pool.specs.Polls.{Shuts, Settles, NoLink, Kept, Shut, TakesLink, IsFor, Polls, FlightTo}
 use Rattle.request_pool.specs.Runs.{Begins, Starts, Overruns, Flies, Starves, PollsNext}
 use Rattle.request_pool.proofs.Owned.{on_same, rest_none}
-use Rattle.request_pool.proofs.Suits.{Owns, own_none}
-use Rattle.pool_laws.specs.Following.{IsWebAddress, IsReplied, HasPeer, Follows, AnswersSoFar}
-use Rattle.pool_laws.proofs.Lists.{all_append, all_front, all_behind}
+use Rattle.request_pool.proofs.Suits.{Owns, own_none, left_is}
+use Rattle.http_ends.proofs.Lists.{all_append, all_front}
+use Rattle.request_pool.proofs.Risen.{on_its}
+use Rattle.tpf_base.proofs.SendingLemmas.{holds_same}
+use Rattle.pool_laws.specs.Following.{IsWebAddress, IsReplied, HasPeer, Follows, AnswersSoFar, FollowsOn}
+use Rattle.pool_laws.proofs.Lists.{all_behind}
 
 -- ---- a link of which the same is told
 
@@ -48,14 +51,11 @@ pub record SameTold (old new : Link) : Type 0 where
 pub told_same : (old new : Link) → new ≡ old → SameTold old new
 told_same old new e = record { peer = ap (λ (x : Link). x.peer) e; sent = ap (λ (x : Link). x.sent) e; received = ap (λ (x : Link). x.received) e }
 
-pub holds_as : {T : Type 0} (x y : Option T) (v : T) → y ≡ x → Holds x v → Holds y v
-holds_as x y v e h = λ fact is. h fact (sym e ∙ is)
-
 pub stands_as : (s r : List ℕ) (e : Exchanging) (o : Option ℕ) (a b : WireState) → ((k : ℕ) → o ≡ Some k → SameTold (a.links k) (b.links k)) → StandsOn s r e o a → StandsOn s r e o b
 stands_as s r e None a b same h = h
 stands_as s r e (Some k) a b same h =
     let t = same k refl in
-    (holds_as (a.links k).sent (b.links k).sent (s ++ e.sent) t.sent h.0, holds_as (a.links k).received (b.links k).received (r ++ e.received) t.received h.1)
+    (holds_same (a.links k).sent (b.links k).sent (s ++ e.sent) t.sent h.0, holds_same (a.links k).received (b.links k).received (r ++ e.received) t.received h.1)
 
 peer_as : (address : Address) (o : Option ℕ) (a b : WireState) → b.nature ≡ a.nature → ((k : ℕ) → o ≡ Some k → SameTold (a.links k) (b.links k)) → HasPeer address o a → HasPeer address o b
 peer_as address None a b n same h = h
@@ -73,22 +73,19 @@ follows_told limit e a b n same h = record {
 
 -- ---- all links that are held
 
-pub on_some : (o : Option ℕ) (k : ℕ) → o ≡ Some k → on_link o k ≡ 1
-on_some o k e = ap (λ (x : Option ℕ). on_link x k) e ∙ on_same k k refl
-
 flights_told : (limit : ℕ) (fs : List Flight) (a b : WireState) → b.nature ≡ a.nature → ((k : ℕ) → 0 < flights_on fs k → SameTold (a.links k) (b.links k))
     → AllByRecursion (λ f. Follows limit a f.exchange) fs → AllByRecursion (λ f. Follows limit b f.exchange) fs
 flights_told limit [] a b n same h = tt
 flights_told limit (f ∷ fs) a b n same h = (
-  follows_told limit f.exchange a b n (λ k e. same k (omega (arith, on_some f.exchange.link k e))) h.0,
+  follows_told limit f.exchange a b n (λ k e. same k (omega (arith, on_its f.exchange.link k e))) h.0,
   flights_told limit fs a b n (λ k p. same k (omega (arith, p))) h.1,
 )
 
 spare_told : (limit : ℕ) (ss : List Spare) (a b : WireState) → b.nature ≡ a.nature → ((k : ℕ) → 0 < spare_on ss k → SameTold (a.links k) (b.links k))
-    → AllByRecursion (λ s. Follows limit a (starting s.address limit (Some s.link))) ss → AllByRecursion (λ s. Follows limit b (starting s.address limit (Some s.link))) ss
+    → AllByRecursion (λ s. FollowsOn limit a s) ss → AllByRecursion (λ s. FollowsOn limit b s) ss
 spare_told limit [] a b n same h = tt
 spare_told limit (s ∷ ss) a b n same h = (
-  follows_told limit (starting s.address limit (Some s.link)) a b n (λ k e. same k (omega (arith, on_some (Some s.link) k e))) h.0,
+  (h.0.0, h.0.1, follows_told limit (starting h.0.0 limit (Some s.link)) a b n (λ k e. same k (omega (arith, on_its (Some s.link) k e))) h.0.2),
   spare_told limit ss a b n (λ k p. same k (omega (arith, p))) h.1,
 )
 
@@ -157,11 +154,6 @@ goes_on limit f a b h s = record {
 kept_by : (v : Bool) → Left ≡ (if v then Left else Over) → v ≡ true
 kept_by true e = refl
 kept_by false e = cc
-
-pub left_is : (s : Standing) (o : Option ℕ) (k : ℕ) → left_by s o ≡ Some k → (s ≡ Left) × (o ≡ Some k)
-left_is Left o k e = (refl, e)
-left_is Underway o k e = cc
-left_is Over o k e = cc
 
 same_number : (n m : ℕ) → (n == m) ≡ true → n ≡ m
 same_number n m e = elim (eqb_tells n m) [ inl h ↦ h.1 | inr h ↦ absurd (let q : true ≡ false = sym e ∙ h.0 in cc) ]
@@ -234,11 +226,11 @@ settles_follows : (left : Option ℕ) (address : Address) (p q : Pooled) (a b : 
     → AnswersSoFar p a → Settles left address p q a b → AnswersSoFar q b
 settles_follows left address p q a b none follows h (NoLink e f g) = as_before p q a b f g h
 settles_follows left address p q a b none follows h (Kept k e room f g) =
-    as_before (record p { spare = p.spare ++ (record { link = k; address = address }) ∷ [] }) q a b f g (record {
+    as_before (record p { spare = p.spare ++ (record { link = k; authority = authority_of address }) ∷ [] }) q a b f g (record {
       waiting = h.waiting;
       polled = h.polled;
       due = h.due;
-      spare = all_append (λ (s : Spare). Follows p.limit a (starting s.address p.limit (Some s.link))) p.spare ((record { link = k; address = address }) ∷ []) h.spare (follows k e, tt);
+      spare = all_append (λ (s : Spare). FollowsOn p.limit a s) p.spare ((record { link = k; authority = authority_of address }) ∷ []) h.spare ((address, refl, follows k e), tt);
     })
 settles_follows left address p q a b none follows h (Shut k e full f c) = subst (λ (x : Pooled). AnswersSoFar x b) (sym f) (closed_told k p a b (none k e) c h)
 
@@ -266,7 +258,7 @@ pub flight_follows : (result : Result Polled PoolFault) (f : Flight) (p q : Pool
 flight_follows (Ok polls.Pending) f p q a b g o s h t =
     is_pool (record p { polled = p.polled ++ (record f { exchange = t.0.now }) ∷ [] }) q b t.1
     (with_flight p (record f { exchange = t.0.now }) b (goes_on p.limit f a b t.0 s) (rest_told poll.Pending f p a b g o t.0 h))
-flight_follows (Ok (polls.Came ticket answer)) f p q a b g o s h t =
+flight_follows (Ok (polls.Came ticket address answer)) f p q a b g o s h t =
     let now = t.1.now in
     settles_follows (left_link t.1.now) t.1.now.address p q t.0 b
     (λ k e. own_link (poll.Ready (Ok answer)) f p a t.0 g o t.1 k (left_is t.1.now.standing t.1.now.link k e).1)
@@ -286,36 +278,37 @@ flight_follows (Err faults.Budget) f p q a b g o s h t = absurd t
 
 -- what begins on a link for another address with the same authority follows the same replies
 same_home : AuthoritiesAreHostsAndPorts → (limit : ℕ) (a : WireState) (s : Spare) (address : Address) (k : ℕ) → s.link ≡ k → IsFor address s → IsWebAddress address
-    → Follows limit a (starting s.address limit (Some s.link)) → Follows limit a (starting address limit (Some k))
+    → FollowsOn limit a s → Follows limit a (starting address limit (Some k))
 same_home one limit a s address k at home is h =
-    let shared = (one is.0 h.is_address.0 address s.address is.1 h.is_address.1).0 home in
+    let before = h.2 in
+    let shared = (one is.0 before.is_address.0 address h.0 is.1 before.is_address.1).0 (sym h.1 ∙ home) in
     subst (λ (i : ℕ). Follows limit a (starting address limit (Some i))) at (record {
       is_address = is;
       is_limit = refl;
-      before = h.before;
-      replied = h.replied;
-      stands = h.stands;
-      peer = h.peer ∙ ap₂ (λ (host : List ℕ) (port : ℕ). told_by a.nature.tells (host, port)) shared.host shared.port;
+      before = before.before;
+      replied = before.replied;
+      stands = before.stands;
+      peer = before.peer ∙ ap₂ (λ (host : List ℕ) (port : ℕ). told_by a.nature.tells (host, port)) shared.host shared.port;
     })
 
 record Taken (p : Pooled) (a : WireState) (first : Waiting) (spare : List Spare) (link : Option ℕ) : Type 0 where
   follows : Follows p.limit a (starting first.address p.limit link)
-  left : AllByRecursion (λ s. Follows p.limit a (starting s.address p.limit (Some s.link))) spare
+  left : AllByRecursion (λ s. FollowsOn p.limit a s) spare
 
 taken : AuthoritiesAreHostsAndPorts → (p : Pooled) (a : WireState) (first : Waiting) (spare : List Spare) (link : Option ℕ) → IsWebAddress first.address
-    → AllByRecursion (λ s. Follows p.limit a (starting s.address p.limit (Some s.link))) p.spare → TakesLink first p.spare spare link → Taken p a first spare link
+    → AllByRecursion (λ s. FollowsOn p.limit a s) p.spare → TakesLink first p.spare spare link → Taken p a first spare link
 taken one p a first spare None is h t = record {
   follows = record { is_address = is; is_limit = refl; before = []; replied = tt; stands = (refl, refl, refl, refl); peer = tt };
-  left = subst (λ (l : List Spare). AllByRecursion (λ s. Follows p.limit a (starting s.address p.limit (Some s.link))) l) (sym t.0) h;
+  left = subst (λ (l : List Spare). AllByRecursion (λ s. FollowsOn p.limit a s) l) (sym t.0) h;
 }
 taken one p a first spare (Some k) is h t =
     let o = t.1.3 in
-    let all = subst (λ (l : List Spare). AllByRecursion (λ s. Follows p.limit a (starting s.address p.limit (Some s.link))) l) o.is_old h in
-    let behind = all_behind (λ (s : Spare). Follows p.limit a (starting s.address p.limit (Some s.link))) o.before (t.1.0 ∷ o.after) all in
+    let all = subst (λ (l : List Spare). AllByRecursion (λ s. FollowsOn p.limit a s) l) o.is_old h in
+    let behind = all_behind (λ (s : Spare). FollowsOn p.limit a s) o.before (t.1.0 ∷ o.after) all in
     record {
       follows = same_home one p.limit a t.1.0 first.address k t.1.1 t.1.2 is behind.0;
-      left = subst (λ (l : List Spare). AllByRecursion (λ s. Follows p.limit a (starting s.address p.limit (Some s.link))) l) (sym o.is_new)
-          (all_append (λ (s : Spare). Follows p.limit a (starting s.address p.limit (Some s.link))) o.before o.after (all_front _ o.before (t.1.0 ∷ o.after) all) behind.1);
+      left = subst (λ (l : List Spare). AllByRecursion (λ s. FollowsOn p.limit a s) l) (sym o.is_new)
+          (all_append (λ (s : Spare). FollowsOn p.limit a s) o.before o.after (all_front _ o.before (t.1.0 ∷ o.after) all) behind.1);
     }
 
 -- the pool after the exchange was taken out, and the exchange

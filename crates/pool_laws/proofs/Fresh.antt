@@ -10,9 +10,8 @@ use Rattle.request_pool.specs.Pools.{Pooled}
 use Rattle.request_pool.specs.Runs.{Begins}
 use Rattle.request_pool.specs.Owned.{on_link, flights_on, held_on}
 use Rattle.request_pool.specs.Polls.{Shuts}
+use Rattle.request_pool.proofs.Risen.{on_its, given_is}
 use Rattle.pool_laws.specs.Causes.{HoldsNoneBelow}
-use Rattle.pool_laws.proofs.Following.{on_some}
-use Rattle.pool_laws.proofs.Requesting.{open_given}
 use Rattle.pool_laws.proofs.Owning.{after_link}
 use Rattle.pool_laws.proofs.HeldLinks.{LinksKept, Owning, owning_is_kept, any_asks, begun}
 use Rattle.pool_laws.proofs.KeptBySteps.{IsKept}
@@ -56,7 +55,7 @@ module _ (n : ℕ) where
 
   -- so the link of a poll is no lower
   pub polled_above : (e f : Exchanging) (rest : ℕ → ℕ) (a b : WireState) (k : ℕ) → Touches e f a b → f.link ≡ Some k → NoneBelow n (λ i. on_link e.link i + rest i) a → n ≤ k
-  polled_above e f rest a b k t is h = elim (cases_lt k n) [ inl low ↦ absurd (omega (arith, (poll_below e f rest a b t h).none k low, on_some f.link k is)) | inr high ↦ high ]
+  polled_above e f rest a b k t is h = elim (cases_lt k n) [ inl low ↦ absurd (omega (arith, (poll_below e f rest a b t h).none k low, on_its f.link k is)) | inr high ↦ high ]
 
   -- of an exchange that is taken out
   pub begun_below : (p q : Pooled) (f : Flight) (a : WireState) → Below n p a → Begins p q f → NoneBelow n (λ k. on_link f.exchange.link k + held_on q k) a
@@ -68,7 +67,7 @@ module _ (n : ℕ) where
 -- ---- the link of a poll was given
 
 pub polled_given : (address : Address) (o p : Option ℕ) (a b : WireState) → LinkAfter address o p a b → OpensGiven a → IsLinked o a → (k : ℕ) → p ≡ Some k → k < b.given
-polled_given address (Some j) (Some i) a b l g linked k e = let same : i ≡ k = cc in omega (arith, same, l.0, l.1, open_given a j g linked)
+polled_given address (Some j) (Some i) a b l g linked k e = let same : i ≡ k = cc in omega (arith, same, l.0, l.1, given_is a j g linked)
 polled_given address (Some j) None a b l g linked k e = absurd l
 polled_given address None None a b l g linked k e = cc
 polled_given address None (Some i) a b l g linked k e = let same : i ≡ k = cc in omega (arith, same, l.0, l.1)

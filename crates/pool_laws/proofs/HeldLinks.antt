@@ -3,7 +3,7 @@ use Rattle.std.proofs.Common.{ℕ, ◌≡◌, ◌+◌, ◌⊎◌, inl, inr, ◌+
 use Rattle.std.specs.List.{AllByRecursion, Contains}
 use Rattle.std.proofs.lemmas.List.Elements.{All-contains_itself, recursion_from_All}
 use Rattle.futures.specs.declared.task.Poll.TheVariants as poll
-use Rattle.tpf_base.specs.Addresses.{Address}
+use Rattle.tpf_base.specs.Addresses.{Address, authority_of}
 use Rattle.tpf_base.specs.declared.fault.Fault.{Fault}
 use Rattle.tpf_base.specs.declared.wire.Ready.{Ready}
 use Rattle.tpf_base.specs.declared.wire.Ready.TheVariants as ready
@@ -29,9 +29,10 @@ use Rattle.request_pool.specs.Polls.{Shuts, Settles, NoLink, Kept, Shut, TakesLi
 use Rattle.request_pool.specs.Runs.{Begins, Starts, Overruns, Flies, Starves, PollsNext}
 use Rattle.request_pool.specs.Steps.{IsWait, GivesUp}
 use Rattle.request_pool.proofs.Owned.{at_or_off, flights_on-append, spare_on-append}
+use Rattle.http_ends.proofs.Lists.{all_append, all_front}
+use Rattle.request_pool.proofs.Suits.{left_is}
 use Rattle.pool_laws.specs.Owning.{IsAsBefore, Same, Woken}
-use Rattle.pool_laws.proofs.Lists.{all_append, all_front, all_behind, all_unmap, all_any}
-use Rattle.pool_laws.proofs.Following.{left_is}
+use Rattle.pool_laws.proofs.Lists.{all_behind, all_unmap, all_any}
 use Rattle.pool_laws.proofs.KeptBySteps.{IsKept}
 
 -- what each call on a link keeps
@@ -114,9 +115,9 @@ module _ (home : Address → Type 0) (links : (ℕ → ℕ) → WireState → Ty
       subst (λ (x : Pooled). links (held_on x) b) (sym f) (subst (λ (x : WireState). links (held_on p) x) (sym g)
       (kept.drop o (held_on p) a (unleft_closed s o a which closed e) h))
   settle_held s o address p q a b which closed h (Kept i e room f g) =
-      let r : Pooled = record p { spare = p.spare ++ (record { link = i; address = address }) ∷ [] } in
+      let r : Pooled = record p { spare = p.spare ++ (record { link = i; authority = authority_of address }) ∷ [] } in
       let same : (k : ℕ) → held_on r k ≡ on_link o k + held_on p k =
-      λ k. omega (arith, spare_on-append p.spare ((record { link = i; address = address }) ∷ []) k, ap (λ (x : Option ℕ). on_link x k) (left_is s o i e).1) in
+      λ k. omega (arith, spare_on-append p.spare ((record { link = i; authority = authority_of address }) ∷ []) k, ap (λ (x : Option ℕ). on_link x k) (left_is s o i e).1) in
       subst (λ (x : Pooled). links (held_on x) b) (sym f) (subst (λ (x : WireState). links (held_on r) x) (sym g)
       (kept.same (λ k. on_link o k + held_on p k) (held_on r) a same h))
   settle_held s o address p q a b which closed h (Shut i e full f c) =
@@ -159,7 +160,7 @@ module _ (home : Address → Type 0) (links : (ℕ → ℕ) → WireState → Ty
         };
         known = kept.same (λ k. on_link t.0.now.link k + held_on p k) (held_on r) b (λ k. omega (arith, flights_on-append p.polled (g ∷ []) k)) (kept.poll f.exchange t.0.now (held_on p) a b is t.0.touches h);
       })
-  flight_owns (Ok (polls.Came ticket answer)) f p q a b is asks h t =
+  flight_owns (Ok (polls.Came ticket address answer)) f p q a b is asks h t =
       let w = t.1.answers in
       let closed : t.1.now.standing ≡ Over → ClosedOn t.1.now.link t.0 = λ e. subst (λ (o : Option ℕ). ClosedOn o t.0) (sym w.link) (w.closed e) in
       record {

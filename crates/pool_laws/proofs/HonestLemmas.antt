@@ -1,47 +1,25 @@
 -- A refused reply is an answer whose body is too long.
-use Rattle.std.proofs.Common.{ℕ, ◌≡◌, ◌≤◌, ◌<◌, ◌⊎◌, inl, inr, List, [], ◌∷◌, ◌++◌, length, Bool, false, refl, sym, ◌∙◌, ap, subst, arith, append-nil, append_assoc}
+use Rattle.std.proofs.Common.{ℕ, ◌≡◌, List, [], ◌∷◌, ◌++◌, length, false, refl, sym, ◌∙◌, ap, subst, append_assoc}
 use Rattle.std.specs.List.{AllByRecursion}
 use Rattle.rdf_terms.specs.declared.term.Triple.{Triple}
 use Rattle.tpf_base.specs.Addresses.{Address}
-use Rattle.tpf_base.specs.HttpReply as reply
-use Rattle.tpf_base.specs.HttpReply.{reply_of}
 use Rattle.http_wire.specs.Replies.{shown_fault}
-use Rattle.template_fill.specs.HttpAnswer.{Answer, NQuads, answer_text, head_text}
+use Rattle.template_fill.specs.HttpAnswer.{Answer}
 use Rattle.template_fill.specs.Metadata.{Config}
 use Rattle.tpf_base.specs.Marks.{Mark, Served, version_at}
-use Rattle.template_fill.specs.Answers.{is_reload, version_answer, answer_to}
+use Rattle.template_fill.specs.Answers.{is_reload, answer_to}
 use Rattle.template_fill.specs.Responses.{answering, response, IsMarked, IsVersion}
 use Rattle.http_ends.specs.Requests.{request_for, asks}
-use Rattle.http_ends.specs.Answers.{AnswerIsRead, AnswersHaveStatus, PagesAreNQuads, ServerAnswersAreRead, ReadingsStay}
+use Rattle.http_ends.specs.Answers.{AnswersHaveStatus, PagesAreNQuads, ServerAnswersAreRead, ReadingsStay}
 use Rattle.http_ends.specs.Cuts.{RequestIsSent, NextAnswerIsCut, sent_for, bytes_of, sent_of, received_of}
 use Rattle.exchange.specs.Exchanges.{request_of}
 use Rattle.pool_laws.specs.Honest.{RefusedAsTooLongAlone}
+use Rattle.pool_laws.proofs.WholeReplies.{page_refusal, page_is_long}
 
 -- what holds of all holds of the last
-last_of : {T : Type 0} (P : T → Type 0) (xs : List T) (x : T) → AllByRecursion P (xs ++ x ∷ []) → P x
+pub last_of : {T : Type 0} (P : T → Type 0) (xs : List T) (x : T) → AllByRecursion P (xs ++ x ∷ []) → P x
 last_of P [] x all = all.0
 last_of P (y ∷ xs) x all = last_of P xs x all.1
-
-within_or : (n limit : ℕ) → (n ≤ limit) ⊎ (limit < n)
-within_or n limit = grind arith
-
-not_both : {why : reply.ReplyFault} {body : List ℕ} {n : ℕ} {keeps : Bool} (r : reply.Reading) → r ≡ reply.Bad why → r ≡ reply.Whole body n keeps → ⊥
-not_both r b w = cc
-
-same_fault : {why other : reply.ReplyFault} (r : reply.Reading) → r ≡ reply.Bad why → r ≡ reply.Bad other → why ≡ other
-same_fault r b w = cc
-
-text_is : (answer : Answer) → answer_text answer false false ≡ head_text answer.status answer.media_type (length answer.body) false ++ answer.body
-unfolding answer_text
-text_is answer = refl
-
--- an answer with status 200 is refused as too long alone
-too_long : (limit : ℕ) (answer : Answer) (text : List ℕ) (why : reply.ReplyFault) → AnswerIsRead limit answer false → answer.status ≡ 200 → answer.media_type ≡ NQuads
-    → text ≡ answer_text answer false false → reply_of text false limit ≡ reply.Bad why → why ≡ reply.TooLong
-too_long limit answer text why read ok page is bad = elim (within_or (length answer.body) limit) [
-  | inl few ↦ absurd (not_both _ bad (ap (λ t. reply_of t false limit) (is ∙ sym (append-nil (answer_text answer false false))) ∙ read.whole ok page few [] false))
-  | inr many ↦ same_fault _ bad (ap (λ t. reply_of t false limit) (is ∙ text_is answer) ∙ read.long ok page many answer.body false)
-]
 
 request_is : request_of ≡ request_for
 unfolding request_of
@@ -55,11 +33,11 @@ owed_is history config marks all request s r o before received rest is_sent is_r
     ap (λ t. response history config t marks) (sym is_sent) ∙ sym owed ∙ front ∙ ap (λ t. t ++ rest) is_received ∙ append_assoc before received rest
 
 -- the request for an address asks for no reload, so its answer is one over a version
-no_reload : (config : Config) (address : Address) → is_reload config (asks address) ≡ false
+pub no_reload : (config : Config) (address : Address) → is_reload config (asks address) ≡ false
 unfolding is_reload
 no_reload config address = refl
 
-over_version : (history : List (List Triple)) (mark : Mark) (config : Config) (address : Address) → answer_to history mark config (asks address) ≡ answer_to history (Served (version_at mark)) config (asks address)
+pub over_version : (history : List (List Triple)) (mark : Mark) (config : Config) (address : Address) → answer_to history mark config (asks address) ≡ answer_to history (Served (version_at mark)) config (asks address)
 unfolding answer_to is_reload
 over_version history mark config address = refl
 
@@ -79,5 +57,8 @@ refused_as_too_long next is_sent statuses pages reads stays history config befor
     ap (λ (a : Answer). a.status) (over_version history cut.last config new.address) ∙ every (version_at cut.last) version.low version.high in
     let page = pages history cut.last config (asks new.address) (no_reload config new.address) status in
     let bad = (stays new.limit received).bad refused.why refused.bad front.0 false in
-    refused.is_fault
-    ∙ ap shown_fault (too_long new.limit (answer_to history cut.last config (asks new.address)) (received ++ front.0) refused.why (reads new.limit history cut.last config (asks new.address) false small) status page cut.next bad)
+    let answer = answer_to history cut.last config (asks new.address) in
+    let read = reads new.limit history cut.last config (asks new.address) false small in (
+      refused.is_fault ∙ ap shown_fault (page_refusal new.limit answer (received ++ front.0) refused.why read status page cut.next bad),
+      record { mark = cut.last; version = version; long = page_is_long new.limit answer (received ++ front.0) refused.why read status page cut.next bad },
+    )

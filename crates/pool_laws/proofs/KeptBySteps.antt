@@ -113,6 +113,6 @@ module _ (holds : Pooled → WireState → Type 0) (kept : IsKept holds) where
 
   pub by_step : (result : Result Stepped PoolFault) (p q : Pooled) (a b : WireState) → OpensGiven a → SuitsWire p a → holds p a → StepsTo result p q a b → holds q b
   by_step (Ok Idle) p q a b g s h t = same_now holds (while_on holds (turns_of holds kept)) p q a b t.1 t.2 h
-  by_step (Ok (Came ticket answer)) p q a b g s h t = in_run _ p q a b g s h t
+  by_step (Ok (Came ticket address answer)) p q a b g s h t = in_run _ p q a b g s h t
   by_step (Ok Waited) p q a b g s h t = in_wait (Ok Waited) p q a b g s h t
   by_step (Err fault) p q a b g s h t = by_break fault p q a b g s h t

@@ -18,8 +18,8 @@ use Rattle.http_ends.specs.Answers.{AnswersAreRead, HeadsAreShort, HasStatuses}
 use Rattle.http_ends.specs.Cuts.{Answered, Sent, IsSent, IsAnswered, IsAnswerOver, RequestIsSent, ResponseIsCut, RepliesAreCut, sent_for, bytes_of, sent_of, received_of}
 use Rattle.http_ends.proofs.EmptyLines.{EndsOnce, head_is_all}
 use Rattle.http_ends.proofs.Requests.{request_ends}
+use Rattle.http_ends.proofs.Lists.{all_append}
 use Rattle.pool_laws.specs.Following.{IsWebAddress, IsReplied}
-use Rattle.pool_laws.proofs.Lists.{all_append}
 use Rattle.pool_laws.proofs.Following.{sent_more, received_more}
 use Rattle.pool_laws.proofs.WholeReplies.{too_long, no_too_long, no_nothing}
 

@@ -10,15 +10,14 @@ use Rattle.exchange.specs.Polls.{Touches, LinkAfter, ClosedOn}
 use Rattle.request_pool.specs.Owned.{on_link, open_on, times_open}
 use Rattle.request_pool.specs.Polls.{Shuts}
 use Rattle.request_pool.proofs.Owned.{at_or_off, on_same, on_other, one_at_most, same_open, closed_none}
+use Rattle.request_pool.proofs.Risen.{some_is, on_its}
 use Rattle.pool_laws.specs.Owning.{IsAsBefore, Same, Woken}
 use Rattle.pool_laws.specs.Hosts.{IsAtOneOf, IsDialledFor, GivesAtHosts}
-use Rattle.pool_laws.proofs.Lists.{some_is}
-use Rattle.pool_laws.proofs.Following.{on_some}
 
 -- ---- what a poll does to the links
 
 pub off_link : (o : Option ℕ) (k : ℕ) → on_link o k ≡ 0 → o ≢ Some k
-off_link o k z = λ e. absurd (omega (arith, z, on_some o k e))
+off_link o k z = λ e. absurd (omega (arith, z, on_its o k e))
 
 -- from the link before to the link after it
 pub record After (address : Address) (o p : Option ℕ) (a b : WireState) : Type 0 where

@@ -10,9 +10,10 @@ use Rattle.request_pool.specs.Pools.{Pooled, Ask, ask_waiting, ask_flying, held,
 use Rattle.request_pool.specs.Owned.{held_on, times_open}
 use Rattle.request_pool.specs.Closing.{ClosesSome}
 use Rattle.request_pool.proofs.Owned.{closed_none}
+use Rattle.http_ends.proofs.Lists.{all_append}
 use Rattle.pool_laws.specs.Owning.{IsAsBefore, Same}
 use Rattle.pool_laws.specs.Hosts.{IsAtOneOf, GivesAtHosts, OwnsAtHosts, EmptyPoolsOwnAtHosts, PutsOwnAtHosts, FaultsOwnAtHosts, StepsOwnAtHosts, ClosesAtHosts, ClosingAtHosts}
-use Rattle.pool_laws.proofs.Lists.{all_append, all_map}
+use Rattle.pool_laws.proofs.Lists.{all_map}
 use Rattle.pool_laws.proofs.KeptBySteps.{by_step}
 use Rattle.pool_laws.proofs.Owning.{same_dialled, Keeps, keeps_as, poll_keeps, drop_keeps, shut_keeps, woken_keeps}
 use Rattle.pool_laws.proofs.HeldLinks.{LinksKept, AsksAt, Owning, owning_is_kept, asks_in}

@@ -8,7 +8,7 @@ use Rattle.std.proofs.lemmas.List.Elements.{All-contains, All-from_recursion}
 use Rattle.std.proofs.lemmas.List.Sorted.{length_permutation}
 use Rattle.futures.specs.declared.task.Poll.{Poll}
 use Rattle.futures.specs.declared.task.Poll.TheVariants as poll
-use Rattle.tpf_base.specs.Addresses.{Address}
+use Rattle.tpf_base.specs.Addresses.{Address, authority_of}
 use Rattle.tpf_base.specs.HttpReply.{reply_of}
 use Rattle.tpf_base.specs.declared.fault.Fault.{Fault}
 use Rattle.tpf_base.specs.declared.fault.Fault.TheVariants as failures
@@ -39,19 +39,20 @@ use Rattle.request_pool.specs.Polls.{Shuts, Settles, NoLink, Kept, Shut, TakesLi
 use Rattle.request_pool.specs.Runs.{Begins, Starts, Overruns, Flies, Starves, Last, OfStart, OfPoll, is_end, Running}
 use Rattle.request_pool.specs.Steps.{IsWait, GivesUp, WaitsTo, Passes, Stalls, Misses, Lacks, Lines, EndsInWait, EndsInRun, EndsInFault, AtOnce, InRun, InWait, StepsTo, MayWait, AsleepOn}
 use Rattle.request_pool.proofs.Owned.{at_or_off, on_same, on_other, one_at_most, open_one, closed_none, same_open, flights_on-append}
-use Rattle.request_pool.proofs.Suits.{Owns, owns_begun, owns_next, own_none, waits_suits}
+use Rattle.request_pool.proofs.Suits.{Owns, owns_begun, owns_next, own_none, waits_suits, left_is}
 use Rattle.pool_laws.specs.Following.{Follows, AnswersSoFar, HasPeer}
 use Rattle.pool_laws.specs.Owning.{IsAsBefore, Same, Woken}
 use Rattle.pool_laws.specs.Rising.{IsServed, IsServedBySome}
 use Rattle.pool_laws.specs.Provoking.{IsStalled, IsAwake, OneIsAwake, MovesFirst, Moved, Awake, Again, HoldsNone, WaitsReady, HasHung, SparesWire, StepSpares, EmptyPoolsReady, PutsReady, StepsSpare, NoneHang, NoneHangBySome}
-use Rattle.pool_laws.proofs.Lists.{all_append, all_front, all_behind, all_so, same_link}
+use Rattle.pool_laws.proofs.Lists.{all_behind, all_so, same_link}
 use Rattle.pool_laws.proofs.Rising.{by_some}
-use Rattle.pool_laws.proofs.Following.{on_some, off, own_link, left_is, request_is}
+use Rattle.pool_laws.proofs.Following.{off, own_link, request_is}
 use Rattle.pool_laws.proofs.Owning.{after_link}
-use Rattle.request_pool.proofs.Risen.{Fares, fares_first, running_fares}
+use Rattle.request_pool.proofs.Risen.{Fares, fares_first, running_fares, on_its}
 use Rattle.request_pool.proofs.Steps.{in_line, suits_lined}
-use Rattle.request_pool.proofs.Holding.{lined_held, running_holds}
+use Rattle.request_pool.proofs.Holding.{lined_held, running_holds, no_came}
 use Rattle.request_pool.proofs.Bounds.{runs_bounds, lines_bounds}
+use Rattle.http_ends.proofs.Lists.{all_append, all_front}
 use Rattle.pool_laws.proofs.HeldLinks.{LinksKept, Owning, owning_is_kept, any_asks, asks_in, all_held, waits_only}
 use Rattle.pool_laws.proofs.KeptBySteps.{IsKept, IsKeptWhileOn, running_goes, by_line, by_running, by_step}
 use Rattle.pool_laws.proofs.Running.{answers_are_kept, given_up_owned}
@@ -130,7 +131,7 @@ stalled_as a b e same h =
 flights_stalled : (fs : List Flight) (a b : WireState) → ((k : ℕ) → 0 < flights_on fs k → b.links k ≡ a.links k) → AllByRecursion (λ f. IsStalled a f.exchange) fs → AllByRecursion (λ f. IsStalled b f.exchange) fs
 flights_stalled [] a b same h = tt
 flights_stalled (f ∷ fs) a b same h = (
-  stalled_as a b f.exchange (λ k e. same k (omega (arith, on_some f.exchange.link k e))) h.0,
+  stalled_as a b f.exchange (λ k e. same k (omega (arith, on_its f.exchange.link k e))) h.0,
   flights_stalled fs a b (λ k p. same k (omega (arith, p))) h.1,
 )
 
@@ -189,7 +190,7 @@ awake_same (Some k) a b same h = ap (λ (x : Link). x.woken) (same k refl) ∙ h
 
 one_same : (fs : List Flight) (a b : WireState) → ((k : ℕ) → 0 < flights_on fs k → b.links k ≡ a.links k) → OneIsAwake a fs → OneIsAwake b fs
 one_same [] a b same h = h
-one_same (f ∷ fs) a b same (inl h) = inl (awake_same f.exchange.link a b (λ k e. same k (omega (arith, on_some f.exchange.link k e))) h)
+one_same (f ∷ fs) a b same (inl h) = inl (awake_same f.exchange.link a b (λ k e. same k (omega (arith, on_its f.exchange.link k e))) h)
 one_same (f ∷ fs) a b same (inr h) = inr (one_same fs a b (λ k p. same k (omega (arith, p))) h)
 
 one_front : (a : WireState) (xs ys : List Flight) → OneIsAwake a xs → OneIsAwake a (xs ++ ys)
@@ -283,7 +284,7 @@ module _ (since : WireState) (steady : since.nature.steady ≡ true) where
 
   flight_spares : (result : Result Polled PoolFault) (f : Flight) (p q : Pooled) (a b : WireState) → a.nature ≡ since.nature → Spares a → FlightTo result f p q a b → Spares b
   flight_spares (Ok polls.Pending) f p q a b n h t = poll_spares f.exchange t.0.now a b n t.0.touches h
-  flight_spares (Ok (polls.Came ticket answer)) f p q a b n h t = settle_spares (left_link t.1.now) t.1.now.address p q t.0 b t.3 (poll_spares f.exchange t.1.now a t.0 n t.1.touches h)
+  flight_spares (Ok (polls.Came ticket address answer)) f p q a b n h t = settle_spares (left_link t.1.now) t.1.now.address p q t.0 b t.3 (poll_spares f.exchange t.1.now a t.0 n t.1.touches h)
   flight_spares (Ok polls.Failed) f p q a b n h t = poll_spares f.exchange t.1.now a b n t.1.touches h
   flight_spares (Err faults.Exchange) f p q a b n h t = poll_spares f.exchange t.0.now a b n t.0.touches h
   flight_spares (Err (faults.Cut received)) f p q a b n h t = poll_spares f.exchange t.0.now a b n t.0.touches h
@@ -424,7 +425,7 @@ module _ (since : WireState) (steady : since.nature.steady ≡ true) where
         room = omega (arith, o.room);
         moves = Again _ p.waiting refl (omega arith) o.room;
       })
-  flight_goes (Ok (polls.Came ticket answer)) f p q a b e g o t = absurd (no_end (Ok polls.Pending) (Ok (polls.Came ticket answer)) refl e)
+  flight_goes (Ok (polls.Came ticket address answer)) f p q a b e g o t = absurd (no_end (Ok polls.Pending) (Ok (polls.Came ticket address answer)) refl e)
   flight_goes (Err fault) f p q a b e g o t = absurd (no_end (Ok polls.Pending) (Err fault) refl e)
 
   -- ---- a start
@@ -655,10 +656,10 @@ module _ (since : WireState) (steady : since.nature.steady ≡ true) where
   settle_lists : (o : Option ℕ) (address : Address) (p q : Pooled) (a b : WireState) → ((k : ℕ) → o ≡ Some k → held_on p k ≡ 0) → ((k : ℕ) → o ≡ Some k → (a.links k).stalled ≡ None) → Settles o address p q a b → Lists p a → Lists q b
   settle_lists o address p q a b none quiet (NoLink e f g) l = lists_as p q b f (subst (λ (x : WireState). Lists p x) (sym g) l)
   settle_lists o address p q a b none quiet (Kept k e room f g) l =
-      lists_as (record p { spare = p.spare ++ (record { link = k; address = address }) ∷ [] }) q b f (subst (λ (x : WireState). Lists (record p { spare = p.spare ++ (record { link = k; address = address }) ∷ [] }) x) (sym g) (record {
+      lists_as (record p { spare = p.spare ++ (record { link = k; authority = authority_of address }) ∷ [] }) q b f (subst (λ (x : WireState). Lists (record p { spare = p.spare ++ (record { link = k; authority = authority_of address }) ∷ [] }) x) (sym g) (record {
         polled = l.polled;
         due = l.due;
-        spare = all_append (λ (s : Spare). (a.links s.link).stalled ≡ None) p.spare ((record { link = k; address = address }) ∷ []) l.spare (quiet k e, tt);
+        spare = all_append (λ (s : Spare). (a.links s.link).stalled ≡ None) p.spare ((record { link = k; authority = authority_of address }) ∷ []) l.spare (quiet k e, tt);
       }))
   settle_lists o address p q a b none quiet (Shut k e full f c) l = lists_as p q b f (lists_same p a b (shut_same (Some k) p a b (λ i x. none i (e ∙ x)) c) l)
 
@@ -667,8 +668,8 @@ module _ (since : WireState) (steady : since.nature.steady ≡ true) where
   settle_flying o address p q a b (Kept k e room f g) = (ap in_flight f, ap (λ (x : Pooled). x.links) f, ap (λ (x : WireState). x.idle) g)
   settle_flying o address p q a b (Shut k e full f c) = (ap in_flight f, ap (λ (x : Pooled). x.links) f, c.idle)
 
-  came_prepared : (ticket : ℕ) (answer : Reply) (f : Flight) (p q : Pooled) (a b : WireState) → OpensGiven a → Out f p a → FlightTo (Ok (polls.Came ticket answer)) f p q a b → Prepared q b
-  came_prepared ticket answer f p q a b g o t =
+  came_prepared : (ticket : ℕ) (address : Address) (answer : Reply) (f : Flight) (p q : Pooled) (a b : WireState) → OpensGiven a → Out f p a → FlightTo (Ok (polls.Came ticket address answer)) f p q a b → Prepared q b
+  came_prepared ticket address answer f p q a b g o t =
       let r = t.1.answers in
       let same = settle_flying (left_link t.1.now) t.1.now.address p q t.0 b t.3 in
       record {
@@ -680,14 +681,11 @@ module _ (since : WireState) (steady : since.nature.steady ≡ true) where
         moves = Moved (same.2 ∙ r.idle);
       }
 
-  no_came : (ticket : ℕ) (answer : Reply) (fault : PoolFault) → ◌≡◌ {A = Result Polled PoolFault} (Ok (polls.Came ticket answer)) (Err fault) → ⊥
-  no_came ticket answer fault e = cc
-
-  last_prepared : (ticket : ℕ) (answer : Reply) (p q : Pooled) (a b : WireState) → OpensGiven a → SuitsWire p a → Going p a → Last (Ok (polls.Came ticket answer)) p q a b → Prepared q b
-  last_prepared ticket answer p q a b g s h (OfStart (Overruns r budget f i)) = absurd (no_came ticket answer faults.Budget r)
-  last_prepared ticket answer p q a b g s h (OfStart (Flies mid f budget begins to)) = came_prepared ticket answer f mid q a b g (begun_out p mid f a s h begins) to
-  last_prepared ticket answer p q a b g s h (OfStart (Starves r mid f begins is shuts)) = absurd (no_came ticket answer faults.OutOfMemory r)
-  last_prepared ticket answer p q a b g s h (OfPoll n) = came_prepared ticket answer n.f (record p { due = n.rest }) q a b g (next_out p n.f n.rest a s h n.is_next) n.to
+  last_prepared : (ticket : ℕ) (address : Address) (answer : Reply) (p q : Pooled) (a b : WireState) → OpensGiven a → SuitsWire p a → Going p a → Last (Ok (polls.Came ticket address answer)) p q a b → Prepared q b
+  last_prepared ticket address answer p q a b g s h (OfStart (Overruns r budget f i)) = absurd (no_came ticket address answer faults.Budget r)
+  last_prepared ticket address answer p q a b g s h (OfStart (Flies mid f budget begins to)) = came_prepared ticket address answer f mid q a b g (begun_out p mid f a s h begins) to
+  last_prepared ticket address answer p q a b g s h (OfStart (Starves r mid f begins is shuts)) = absurd (no_came ticket address answer faults.OutOfMemory r)
+  last_prepared ticket address answer p q a b g s h (OfPoll n) = came_prepared ticket address answer n.f (record p { due = n.rest }) q a b g (next_out p n.f n.rest a s h n.is_next) n.to
 
 -- ---- an exchange that hangs
 
@@ -825,10 +823,10 @@ module _ (one : AuthoritiesAreHostsAndPorts) (old : Pooled) (wire : WireState) (
       let t = then_at e.line e.lines e.mid e.between e.running in
       last_spares wire steady result e.mid new e.between wire' t.goes.is_nature t.goes.spares e.last few
 
-  in_came : (ticket : ℕ) (answer : Reply) (new : Pooled) (wire' : WireState) → ((k : ℕ) → open_on wire' k ≤ held_on new k) → EndsInRun (Ok (polls.Came ticket answer)) old new wire wire' → WaitsReady new wire'
-  in_came ticket answer new wire' opens e =
+  in_came : (ticket : ℕ) (address : Address) (answer : Reply) (new : Pooled) (wire' : WireState) → ((k : ℕ) → open_on wire' k ≤ held_on new k) → EndsInRun (Ok (polls.Came ticket address answer)) old new wire wire' → WaitsReady new wire'
+  in_came ticket address answer new wire' opens e =
       let t = then_at e.line e.lines e.mid e.between e.running in
-      ready_of new wire' opens (last_prepared wire steady ticket answer e.mid new e.between wire' t.fares.given t.fares.suits t.goes e.last)
+      ready_of new wire' opens (last_prepared wire steady ticket address answer e.mid new e.between wire' t.fares.given t.fares.suits t.goes e.last)
 
   same_spared : (wire' : WireState) → wire' ≡ wire → SparesWire wire wire'
   same_spared wire' e = record { provoked = ap (λ (x : WireState). x.provoked) e; faults = λ never. ap (λ (x : WireState). x.faults) e }
@@ -853,9 +851,9 @@ module _ (one : AuthoritiesAreHostsAndPorts) (old : Pooled) (wire : WireState) (
     ready = subst (λ (x : Pooled). WaitsReady x wire') (sym to.1) (subst (λ (x : WireState). WaitsReady old x) (sym to.2) prepared);
     spares = inl (same_spared wire' to.2);
   }
-  step_spares (Ok (Came ticket answer)) new wire' few idle to = record {
-    ready = in_came ticket answer new wire' (opens_after (Ok (Came ticket answer)) new wire' to) to;
-    spares = inl (in_run (Ok (polls.Came ticket answer)) new wire' few to);
+  step_spares (Ok (Came ticket address answer)) new wire' few idle to = record {
+    ready = in_came ticket address answer new wire' (opens_after (Ok (Came ticket address answer)) new wire' to) to;
+    spares = inl (in_run (Ok (polls.Came ticket address answer)) new wire' few to);
   }
   step_spares (Ok Waited) new wire' few idle to = in_wait (Ok Waited) new wire' few (some_held (held old) (λ e. no_waited (idle e))) (opens_after (Ok Waited) new wire' to) to
   step_spares (Err fault) new wire' few idle to = breaks_spare fault new wire' few (some_held (held old) (λ e. no_err fault Idle (idle e))) to

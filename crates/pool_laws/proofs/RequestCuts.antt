@@ -4,10 +4,10 @@ use Rattle.std.specs.List.{AllByRecursion, flat_map}
 use Rattle.tpf_base.specs.Addresses.{Address}
 use Rattle.tpf_base.specs.Links.{Link}
 use Rattle.http_ends.specs.Requests.{request_for, RequestParts, parts_text, parts_of, IsPlain, AddressesArePlain, HasNoRequest, PartsHaveNone, RequestsAreCut}
+use Rattle.http_ends.proofs.Lists.{all_append}
 use Rattle.pool_laws.specs.Following.{IsWebAddress}
 use Rattle.pool_laws.specs.Sending.{requests_for}
 use Rattle.pool_laws.specs.Requested.{Exchanged, IsAnswered, addresses_of, LastRequest, NoneWhole, Unanswered, Replied, LinkRequests, last_whole, whole_requests, IsProperPart, Nothing, FrontOf, IsLast, TellsRequests, RequestsAreOne}
-use Rattle.pool_laws.proofs.Lists.{all_append}
 use Rattle.pool_laws.proofs.Following.{flat-append}
 
 same_texts : (xs : List Address) → flat_map parts_text (map parts_of xs) ≡ requests_for xs

@@ -21,10 +21,10 @@ use Rattle.request_pool.specs.Steps.{WaitsTo, Passes, Stalls, Misses, Lacks, End
 use Rattle.request_pool.proofs.Holding.{lined_held, running_holds, step_holds}
 use Rattle.request_pool.proofs.Risen.{fares_first, running_fares}
 use Rattle.request_pool.proofs.Steps.{suits_lined}
+use Rattle.http_ends.proofs.Lists.{all_append}
 use Rattle.pool_laws.specs.Following.{IsWebAddress}
 use Rattle.pool_laws.specs.Requested.{NoneWhole, over_links, count_sent, count_answered, any, whole_requests, whole_answers, left_waiting, left_flying, unsent, RequestedSince, AnsweredSince, RequestsAreFew, RequestsAreStarted, RequestsAreRises, AsksAreAnswered, EmptyPoolsRequested, EmptyPoolsAnswered, PutsRequested, PutsAnswered, FaultsRequested, StepsRequested, StepsAnswered, ClosingRequested, ClosingAnswered}
 use Rattle.pool_laws.specs.Spending.{AnsweredMost, BudgetsAnswered, ClosingAnsweredMost}
-use Rattle.pool_laws.proofs.Lists.{all_append}
 use Rattle.pool_laws.proofs.KeptBySteps.{by_line, by_running, by_step}
 use Rattle.pool_laws.proofs.Trying.{few_in, few_own, put_few}
 use Rattle.pool_laws.proofs.Counts.{count-append, count-one, all_count, left-append, unsent-append, waiting-append, regroup, group_again, one_more}
@@ -108,14 +108,14 @@ module _ (asked : List Address) (since : WireState) (least : (Address → Bool) 
     stepped : Stepping asked since (λ test. least test + cond (test address) 1 0) q b
     held : (test : Address → Bool) → count_by test (held_addresses p) ≡ cond (test address) 1 0 + count_by test (held_addresses q)
 
-  by_came : (ticket : ℕ) (answer : Reply) → EndsInRun (Ok (polls.Came ticket answer)) p q a b → CameBy
-  by_came ticket answer e =
+  by_came : (ticket : ℕ) (address : Address) (answer : Reply) → EndsInRun (Ok (polls.Came ticket address answer)) p q a b → CameBy
+  by_came ticket address answer e =
       let gathered : Pooled = e.line in
       let kept = requests_are_kept p.limit since p.retries (λ test. (p.retries + 1) * count_by test asked) least in
       let own = suits_lined p e.line a e.lines suits in
       let f = running_fares false a gathered e.mid a e.between (fares_first gathered a own given) e.running in
       let mid = by_running (Known p.limit since p.retries (λ test. (p.retries + 1) * count_by test asked) least) kept gathered e.mid a e.between given own (by_line (Known p.limit since p.retries (λ test. (p.retries + 1) * count_by test asked) least) kept p gathered a e.lines (known_in asked since least p a h few)) e.running in
-      let c = last_came p.limit since p.retries (λ test. (p.retries + 1) * count_by test asked) least ticket answer e.mid q e.between b f.given f.suits mid e.last in
+      let c = last_came p.limit since p.retries (λ test. (p.retries + 1) * count_by test asked) least ticket address answer e.mid q e.between b f.given f.suits mid e.last in
       record {
         address = c.address;
         stepped = stepping asked since (λ test. least test + cond (test c.address) 1 0) p q b c.known;
@@ -258,8 +258,8 @@ steps_answered asked since Waited old new wire wire' given suits h to =
       all = λ test. still_held (count_by test asked) (count_answered test h.requested.requests since wire) (count_answered test s.requested.requests since wire') (count_answered test s.requested.requests since wire') (count_by test (held_addresses old)) (count_by test (held_addresses new))
           (h.all test) (sym (permuted_count test (held old) (held new) (step_holds Waited old new wire wire' to))) (s.answers test) refl;
     }
-steps_answered asked since (Came ticket answer) old new wire wire' given suits h to =
-    let c = by_came asked since (λ test. count_answered test h.requested.requests since wire) old new wire wire' given suits h.requested (λ test. omega arith) ticket answer to in
+steps_answered asked since (Came ticket address answer) old new wire wire' given suits h to =
+    let c = by_came asked since (λ test. count_answered test h.requested.requests since wire) old new wire wire' given suits h.requested (λ test. omega arith) ticket address answer to in
     record {
       requested = c.stepped.requested;
       all = λ test. came_held (count_by test asked) (count_answered test h.requested.requests since wire) (cond (test c.address) 1 0) (count_answered test c.stepped.requested.requests since wire') (count_by test (held_addresses old)) (count_by test (held_addresses new))

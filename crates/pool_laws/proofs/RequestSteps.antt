@@ -26,17 +26,17 @@ use Rattle.request_pool.specs.Owned.{SuitsWire}
 use Rattle.request_pool.specs.Polls.{Settles, TakesLink, Polls, FailsTo, FlightTo, again}
 use Rattle.request_pool.specs.Runs.{Begins, Starts, Overruns, Flies, Starves, PollsNext, Last, OfStart, OfPoll}
 use Rattle.request_pool.specs.Steps.{GivesUp}
-use Rattle.request_pool.proofs.Suits.{Owns, owns_begun, owns_next}
+use Rattle.request_pool.proofs.Suits.{Owns, owns_begun, owns_next, left_is}
 use Rattle.pool_laws.specs.Following.{IsWebAddress}
-use Rattle.pool_laws.specs.Requested.{Exchanged, addresses_of, replies_of, LastRequest, NoneWhole, Unanswered, LinkRequests, count_sent, any, times_sent, left_waiting, left_flying, unsent, IsOn, OwnRequests}
+use Rattle.pool_laws.specs.Requested.{Exchanged, addresses_of, replies_of, LastRequest, NoneWhole, Unanswered, LinkRequests, count_sent, any, times_sent, left_waiting, left_flying, unsent, IsOn, OwnRequests, RequestsOn}
 use Rattle.pool_laws.specs.Sending.{requests_for}
-use Rattle.pool_laws.proofs.Lists.{all_append, all_front, all_behind}
-use Rattle.pool_laws.proofs.Following.{left_is, request_is}
+use Rattle.pool_laws.proofs.Lists.{all_behind}
+use Rattle.pool_laws.proofs.Following.{request_is}
 use Rattle.pool_laws.proofs.HeldLinks.{left_or_over, waits_only}
 use Rattle.pool_laws.proofs.KeptBySteps.{IsKept}
 use Rattle.pool_laws.proofs.Trying.{few_is_kept}
-use Rattle.request_pool.proofs.Holding.{held_with, held_out}
-use Rattle.pool_laws.proofs.Came.{begun_holds, settles_held}
+use Rattle.request_pool.proofs.Holding.{held_with, held_out, begun_holds, no_came, settles_held}
+use Rattle.http_ends.proofs.Lists.{all_append, all_front}
 use Rattle.pool_laws.proofs.Counts.{count-cons, left-append, unsent-append, sent_on, started_on}
 use Rattle.pool_laws.proofs.Requesting.{still_before, last_by, sent_once, first_unsent, none_sent, no_link, pending_puts, fault_puts, over_puts, left_puts, is_limited, address_after}
 use Rattle.pool_laws.proofs.Requests.{left, idle, Known, Apart, Moved, moved, known_as, over, waits_again, goes_on, all_told, shut_known, shut_or, settles_known, answered, fewer}
@@ -93,9 +93,6 @@ permuted_count test xs ys h = sum_by-IsPermutation (λ (x : Address). cond (test
 -- one of them first
 held_count : (test : Address → Bool) (ask : Ask) (xs : List Ask) (p : Pooled) → IsPermutation xs (ask ∷ held p) → count_by test (map (λ (x : Ask). x.address) xs) ≡ cond (test ask.address) 1 0 + count_by test (held_addresses p)
 held_count test ask xs p h = sym (permuted_count test xs (ask ∷ held p) h) ∙ count-cons test ask.address (held_addresses p)
-
-no_fault : (ticket : ℕ) (answer : Reply) (fault : PoolFault) → ◌≡◌ {A = Result Polled PoolFault} (Ok (polls.Came ticket answer)) (Err fault) → ⊥
-no_fault ticket answer fault e = cc
 
 module _ (limit : ℕ) (since : WireState) (r : ℕ) (cap least : (Address → Bool) → ℕ) where
   abbrev K : Pooled → WireState → Type 0
@@ -179,7 +176,7 @@ module _ (limit : ℕ) (since : WireState) (r : ℕ) (cap least : (Address → B
 
   flight_known : (result : Result Polled PoolFault) (f : Flight) (p q : Pooled) (a b : WireState) → OpensGiven a → Owns f p a → Out f p a → FlightTo result f p q a b → K q b
   flight_known (Ok polls.Pending) f p q a b g o s t = known_as limit since r cap least _ q b t.1 (pending_known f p a b g o s t.0)
-  flight_known (Ok (polls.Came ticket answer)) f p q a b g o s t = came_known answer f p q a t.0 b g o s t.1 t.3
+  flight_known (Ok (polls.Came ticket address answer)) f p q a b g o s t = came_known answer f p q a t.0 b g o s t.1 t.3
   flight_known (Ok polls.Failed) f p q a b g o s t =
       let x = fault_puts limit since f a b s.all s.own t.0 t.1 in
       known_as limit since r cap least _ q b t.4
@@ -195,34 +192,34 @@ module _ (limit : ℕ) (since : WireState) (r : ℕ) (cap least : (Address → B
 
   record Taken (all : ℕ → LinkRequests) (start : ℕ) (a : WireState) (first : Waiting) (spare : List Spare) (link : Option ℕ) : Type 0 where
     own : OwnRequests limit since all a (starting first.address start link)
-    left : AllByRecursion (λ s. OwnRequests limit since all a (starting s.address limit (Some s.link))) spare
+    left : AllByRecursion (λ s. RequestsOn limit since all a s) spare
 
-  for_other : (all : ℕ → LinkRequests) (start : ℕ) (a : WireState) (s : Spare) (address : Address) (k : ℕ) → IsWebAddress address → start ≡ limit → s.link ≡ k → OwnRequests limit since all a (starting s.address limit (Some s.link)) → OwnRequests limit since all a (starting address start (Some k))
+  for_other : (all : ℕ → LinkRequests) (start : ℕ) (a : WireState) (s : Spare) (address : Address) (k : ℕ) → IsWebAddress address → start ≡ limit → s.link ≡ k → RequestsOn limit since all a s → OwnRequests limit since all a (starting address start (Some k))
   for_other all start a s address k is same at h =
       subst (λ (i : ℕ). OwnRequests limit since all a (starting address start (Some i))) at (record {
-        answered = h.answered;
-        are_answered = h.are_answered;
+        answered = h.1.answered;
+        are_answered = h.1.are_answered;
         is_address = is;
         is_limit = same;
-        stands = h.stands;
+        stands = h.1.stands;
         front = record { rest = request_for address; is_whole = refl };
-        on = (h.on.0, h.on.1 ∙ none_whole h.answered s.address ∙ sym (none_whole h.answered address));
+        on = (h.1.on.0, h.1.on.1 ∙ none_whole h.1.answered h.0 ∙ sym (none_whole h.1.answered address));
       })
 
   taken : (all : ℕ → LinkRequests) (start : ℕ) (a : WireState) (first : Waiting) (old spare : List Spare) (link : Option ℕ) → IsWebAddress first.address → start ≡ limit
-      → AllByRecursion (λ s. OwnRequests limit since all a (starting s.address limit (Some s.link))) old → TakesLink first old spare link → Taken all start a first spare link
+      → AllByRecursion (λ s. RequestsOn limit since all a s) old → TakesLink first old spare link → Taken all start a first spare link
   taken all start a first old spare None is same h t = record {
     own = record { answered = []; are_answered = tt; is_address = is; is_limit = same; stands = (refl, refl, refl, refl); front = record { rest = request_for first.address; is_whole = refl }; on = refl };
-    left = subst (λ (l : List Spare). AllByRecursion (λ s. OwnRequests limit since all a (starting s.address limit (Some s.link))) l) (sym t.0) h;
+    left = subst (λ (l : List Spare). AllByRecursion (λ s. RequestsOn limit since all a s) l) (sym t.0) h;
   }
   taken all start a first old spare (Some k) is same h t =
       let o = t.1.3 in
-      let every = subst (λ (l : List Spare). AllByRecursion (λ s. OwnRequests limit since all a (starting s.address limit (Some s.link))) l) o.is_old h in
-      let behind = all_behind (λ (s : Spare). OwnRequests limit since all a (starting s.address limit (Some s.link))) o.before (t.1.0 ∷ o.after) every in
+      let every = subst (λ (l : List Spare). AllByRecursion (λ s. RequestsOn limit since all a s) l) o.is_old h in
+      let behind = all_behind (λ (s : Spare). RequestsOn limit since all a s) o.before (t.1.0 ∷ o.after) every in
       record {
         own = for_other all start a t.1.0 first.address k is same t.1.1 behind.0;
-        left = subst (λ (l : List Spare). AllByRecursion (λ s. OwnRequests limit since all a (starting s.address limit (Some s.link))) l) (sym o.is_new)
-            (all_append (λ (s : Spare). OwnRequests limit since all a (starting s.address limit (Some s.link))) o.before o.after (all_front _ o.before (t.1.0 ∷ o.after) every) behind.1);
+        left = subst (λ (l : List Spare). AllByRecursion (λ s. RequestsOn limit since all a s) l) (sym o.is_new)
+            (all_append (λ (s : Spare). RequestsOn limit since all a s) o.before o.after (all_front _ o.before (t.1.0 ∷ o.after) every) behind.1);
       }
 
   -- with the exchange, and without it where memory runs out
@@ -417,19 +414,19 @@ module _ (limit : ℕ) (since : WireState) (r : ℕ) (cap least : (Address → B
     pub known : Known limit since r cap (λ test. least test + cond (test address) 1 0) q b
     pub held : (test : Address → Bool) → count_by test (held_addresses p) ≡ cond (test address) 1 0 + count_by test (held_addresses q)
 
-  came_flight : (ticket : ℕ) (answer : Reply) (f : Flight) (p m q : Pooled) (a b : WireState) → OpensGiven a → Owns f m a → Out f m a → IsPermutation (held p) (held_with f m) → FlightTo (Ok (polls.Came ticket answer)) f m q a b → CameLast p q b
-  came_flight ticket answer f p m q a b g o s h t = record {
+  came_flight : (ticket : ℕ) (address : Address) (answer : Reply) (f : Flight) (p m q : Pooled) (a b : WireState) → OpensGiven a → Owns f m a → Out f m a → IsPermutation (held p) (held_with f m) → FlightTo (Ok (polls.Came ticket address answer)) f m q a b → CameLast p q b
+  came_flight ticket address answer f p m q a b g o s h t = record {
     address = f.exchange.address;
     known = came_answered answer f m q a t.0 b g o s t.1 t.3;
     held = λ test. held_count test (ask_flying f) (held p) m (IsPermutation-trans (held p) (held_with f m) (ask_flying f ∷ held m) h (held_out f m))
         ∙ ap (λ (l : List Ask). cond (test f.exchange.address) 1 0 + count_by test (map (λ (ask : Ask). ask.address) l)) (sym (settles_held (left_link t.1.now) t.1.now.address m q t.0 b t.3));
   }
 
-  pub last_came : (ticket : ℕ) (answer : Reply) (p q : Pooled) (a b : WireState) → OpensGiven a → SuitsWire p a → K p a → Last (Ok (polls.Came ticket answer)) p q a b → CameLast p q b
-  last_came ticket answer p q a b g s h (OfStart (Overruns e budget f i)) = absurd (no_fault ticket answer faults.Budget e)
-  last_came ticket answer p q a b g s h (OfStart (Flies mid f budget begins to)) =
-      came_flight ticket answer f p mid q a b g (owns_begun p mid f a s begins) (begun p mid f a h begins).out (begun_holds p mid f begins) to
-  last_came ticket answer p q a b g s h (OfStart (Starves e mid f begins is shuts)) = absurd (no_fault ticket answer faults.OutOfMemory e)
-  last_came ticket answer p q a b g s h (OfPoll n) =
-      came_flight ticket answer n.f p (record p { due = n.rest }) q a b g (owns_next p n.f n.rest a s n.is_next) (next_out p n.f n.rest a h n.is_next)
+  pub last_came : (ticket : ℕ) (address : Address) (answer : Reply) (p q : Pooled) (a b : WireState) → OpensGiven a → SuitsWire p a → K p a → Last (Ok (polls.Came ticket address answer)) p q a b → CameLast p q b
+  last_came ticket address answer p q a b g s h (OfStart (Overruns e budget f i)) = absurd (no_came ticket address answer faults.Budget e)
+  last_came ticket address answer p q a b g s h (OfStart (Flies mid f budget begins to)) =
+      came_flight ticket address answer f p mid q a b g (owns_begun p mid f a s begins) (begun p mid f a h begins).out (begun_holds p mid f begins) to
+  last_came ticket address answer p q a b g s h (OfStart (Starves e mid f begins is shuts)) = absurd (no_came ticket address answer faults.OutOfMemory e)
+  last_came ticket address answer p q a b g s h (OfPoll n) =
+      came_flight ticket address answer n.f p (record p { due = n.rest }) q a b g (owns_next p n.f n.rest a s n.is_next) (next_out p n.f n.rest a h n.is_next)
       (subst (λ (l : List Ask). IsPermutation (held p) l) (ap (λ (fs : List Flight). map ask_waiting p.waiting ++ map ask_flying (p.polled ++ fs)) n.is_next) (IsPermutation-refl (held p))) n.to

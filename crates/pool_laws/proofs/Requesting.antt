@@ -20,12 +20,15 @@ use Rattle.request_pool.specs.declared.asks.Spare.{Spare}
 use Rattle.request_pool.specs.Owned.{on_link, flights_on, spare_on}
 use Rattle.request_pool.specs.Polls.{Polls}
 use Rattle.request_pool.proofs.Owned.{at_or_off, on_other}
+use Rattle.http_ends.proofs.Lists.{all_append}
+use Rattle.request_pool.proofs.Risen.{some_is, on_its, given_is}
+use Rattle.tpf_base.proofs.SendingLemmas.{holds_same}
 use Rattle.pool_laws.specs.Following.{IsWebAddress}
 use Rattle.pool_laws.specs.Owning.{IsAsBefore, Same, Woken}
-use Rattle.pool_laws.specs.Requested.{Exchanged, IsAnswered, addresses_of, replies_of, LastRequest, NoneWhole, Unanswered, Replied, LinkRequests, last_whole, last_answered, whole_requests, whole_answers, Nothing, FrontOf, HasReply, IsLast, TellsRequests, over_links, count_sent, count_answered, is_sent, times_sent, IsOn, OwnRequests}
+use Rattle.pool_laws.specs.Requested.{Exchanged, IsAnswered, addresses_of, replies_of, LastRequest, NoneWhole, Unanswered, Replied, LinkRequests, last_whole, last_answered, whole_requests, whole_answers, Nothing, FrontOf, HasReply, IsLast, TellsRequests, over_links, count_sent, count_answered, is_sent, times_sent, IsOn, OwnRequests, RequestsOn}
 use Rattle.pool_laws.specs.Sending.{requests_for}
-use Rattle.pool_laws.proofs.Lists.{all_append, some_is, same_link}
-use Rattle.pool_laws.proofs.Following.{SameTold, told_same, stands_as, holds_as, holds_is, off, on_some, polled_address, flat-append, request_is, kept_reply}
+use Rattle.pool_laws.proofs.Lists.{same_link}
+use Rattle.pool_laws.proofs.Following.{SameTold, told_same, stands_as, holds_is, off, polled_address, flat-append, request_is, kept_reply}
 use Rattle.pool_laws.proofs.Counts.{count-one, count-nil, nothing_counts, own_count, own_answers, addresses-append, put_at, with_new, with_old}
 
 -- ---- a link of which the same is told
@@ -49,7 +52,7 @@ last_told : (limit : ℕ) (l m : Link) → StillTold l m → (x : LastRequest) (
 last_told limit l m t NoneWhole s r h = h
 last_told limit l m t (Unanswered address) s r h = h
 last_told limit l m t (Replied address) s r h =
-    (h.0, h.1, record { body = h.2.body; n = h.2.n; keeps = h.2.keeps; at_end = h.2.at_end; whole = h.2.whole; ended = λ e. holds_as l.ended m.ended true t.ended (h.2.ended e) })
+    (h.0, h.1, record { body = h.2.body; n = h.2.n; keeps = h.2.keeps; at_end = h.2.at_end; whole = h.2.whole; ended = λ e. holds_same l.ended m.ended true t.ended (h.2.ended e) })
 
 pub tells_told : (limit : ℕ) (l m : Link) (x : LinkRequests) → StillTold l m → TellsRequests limit l x → TellsRequests limit m x
 tells_told limit l m x t h = record {
@@ -57,8 +60,8 @@ tells_told limit l m x t h = record {
   sent = h.sent;
   received = h.received;
   last = last_told limit l m t x.last h.sent h.received h.last;
-  sent_is = holds_as l.sent m.sent (requests_for (addresses_of x.answered) ++ h.sent) t.same.sent h.sent_is;
-  received_is = holds_as l.received m.received (replies_of x.answered ++ h.received) t.same.received h.received_is;
+  sent_is = holds_same l.sent m.sent (requests_for (addresses_of x.answered) ++ h.sent) t.same.sent h.sent_is;
+  received_is = holds_same l.received m.received (replies_of x.answered ++ h.received) t.same.received h.received_is;
 }
 
 -- ---- a front of a request
@@ -128,12 +131,9 @@ pub stands_at : (s r : List ℕ) (e : Exchanging) (o : Option ℕ) (k : ℕ) (b 
 stands_at s r e None k b l h = cc
 stands_at s r e (Some i) k b l h = subst (λ (x : ℕ). Holds (b.links x).sent (s ++ e.sent) × Holds (b.links x).received (r ++ e.received)) (some_is i k l) h
 
-pub open_given : (a : WireState) (k : ℕ) → OpensGiven a → (a.links k).is_open ≡ true → k < a.given
-open_given a k g h = elim (cases_lt k a.given) [ inl l ↦ l | inr l ↦ absurd (let e : true ≡ false = sym h ∙ g k l in cc) ]
-
 pub linked_given : (o : Option ℕ) (a : WireState) → OpensGiven a → IsLinked o a → (k : ℕ) → o ≡ Some k → k < a.given
 linked_given None a g h k e = cc
-linked_given (Some i) a g h k e = subst (λ (x : ℕ). x < a.given) (some_is i k e) (open_given a i g h)
+linked_given (Some i) a g h k e = subst (λ (x : ℕ). x < a.given) (some_is i k e) (given_is a i g h)
 
 module _ (limit : ℕ) (since : WireState) where
   -- ---- the counts after a poll
@@ -208,15 +208,15 @@ module _ (limit : ℕ) (since : WireState) where
       → AllByRecursion (λ f. Own all a f.exchange) fs → AllByRecursion (λ f. Own more b f.exchange) fs
   flights_told [] all more a b told same h = tt
   flights_told (f ∷ fs) all more a b told same h = (
-    own_told f.exchange all more a b (λ k e. told k (omega (arith, on_some f.exchange.link k e))) (λ k e. same k (omega (arith, on_some f.exchange.link k e))) h.0,
+    own_told f.exchange all more a b (λ k e. told k (omega (arith, on_its f.exchange.link k e))) (λ k e. same k (omega (arith, on_its f.exchange.link k e))) h.0,
     flights_told fs all more a b (λ k p. told k (omega (arith, p))) (λ k p. same k (omega (arith, p))) h.1,
   )
 
   pub spare_told : (ss : List Spare) (all more : ℕ → LinkRequests) (a b : WireState) → ((k : ℕ) → 0 < spare_on ss k → SameTold (a.links k) (b.links k)) → ((k : ℕ) → 0 < spare_on ss k → more k ≡ all k)
-      → AllByRecursion (λ s. Own all a (starting s.address limit (Some s.link))) ss → AllByRecursion (λ s. Own more b (starting s.address limit (Some s.link))) ss
+      → AllByRecursion (λ s. RequestsOn limit since all a s) ss → AllByRecursion (λ s. RequestsOn limit since more b s) ss
   spare_told [] all more a b told same h = tt
   spare_told (s ∷ ss) all more a b told same h = (
-    own_told (starting s.address limit (Some s.link)) all more a b (λ k e. told k (omega (arith, on_some (Some s.link) k e))) (λ k e. same k (omega (arith, on_some (Some s.link) k e))) h.0,
+    (h.0.0, own_told (starting h.0.0 limit (Some s.link)) all more a b (λ k e. told k (omega (arith, on_its (Some s.link) k e))) (λ k e. same k (omega (arith, on_its (Some s.link) k e))) h.0.1),
     spare_told ss all more a b (λ k p. told k (omega (arith, p))) (λ k p. same k (omega (arith, p))) h.1,
   )
 

@@ -3,7 +3,7 @@ use Rattle.std.proofs.Common.{ℕ, ◌≡◌, ◌+◌, ◌-◌, ◌<◌, ◌≤�
 use Rattle.std.specs.List.{AllByRecursion}
 use Rattle.std.proofs.lemmas.Bool.{cases_lt}
 use Rattle.futures.specs.declared.task.Poll.{Poll}
-use Rattle.tpf_base.specs.Addresses.{Address}
+use Rattle.tpf_base.specs.Addresses.{Address, authority_of}
 use Rattle.tpf_base.specs.Links.{WireState, OpensGiven}
 use Rattle.tpf_base.specs.Calls.{Closes}
 use Rattle.http_wire.specs.declared.message.Reply.{Reply}
@@ -18,9 +18,9 @@ use Rattle.request_pool.specs.Owned.{on_link, held_on}
 use Rattle.request_pool.specs.Polls.{Shuts, Settles, NoLink, Kept, Shut, Polls}
 use Rattle.request_pool.proofs.Owned.{at_or_off, linked_open}
 use Rattle.request_pool.proofs.Suits.{Owns}
+use Rattle.http_ends.proofs.Lists.{all_append}
 use Rattle.pool_laws.specs.Following.{IsWebAddress}
-use Rattle.pool_laws.specs.Requested.{Exchanged, addresses_of, LastRequest, LinkRequests, TellsRequests, over_links, count_sent, count_answered, any, times_sent, whole_requests, whole_answers, left_waiting, left_flying, unsent, IsOn, OwnRequests}
-use Rattle.pool_laws.proofs.Lists.{all_append}
+use Rattle.pool_laws.specs.Requested.{Exchanged, addresses_of, LastRequest, LinkRequests, TellsRequests, over_links, count_sent, count_answered, any, times_sent, whole_requests, whole_answers, left_waiting, left_flying, unsent, IsOn, OwnRequests, RequestsOn}
 use Rattle.pool_laws.proofs.Following.{SameTold, told_same, off, own_link, polled_address}
 use Rattle.pool_laws.proofs.Owning.{After, after_link, off_link}
 use Rattle.pool_laws.proofs.Trying.{Few}
@@ -43,7 +43,7 @@ module _ (limit : ℕ) (since : WireState) (r : ℕ) (cap least : (Address → B
     pub given : (k : ℕ) → since.given ≤ k → k < a.given → TellsRequests limit (a.links k) (all k)
     pub polled : AllByRecursion (λ f. OwnRequests limit since all a f.exchange) p.polled
     pub due : AllByRecursion (λ f. OwnRequests limit since all a f.exchange) p.due
-    pub spare : AllByRecursion (λ s. OwnRequests limit since all a (starting s.address limit (Some s.link))) p.spare
+    pub spare : AllByRecursion (λ s. RequestsOn limit since all a s) p.spare
     pub tries : (test : Address → Bool) → count_sent test all since a + left test p ≤ cap test
     pub starts : count_sent any all since a + idle p ≤ p.started
     pub answers : (test : Address → Bool) → least test ≤ count_answered test all since a
@@ -60,7 +60,7 @@ module _ (limit : ℕ) (since : WireState) (r : ℕ) (cap least : (Address → B
     pub own : OwnRequests limit since all a f.exchange
     pub polled : AllByRecursion (λ x. OwnRequests limit since all a x.exchange) p.polled
     pub due : AllByRecursion (λ x. OwnRequests limit since all a x.exchange) p.due
-    pub spare : AllByRecursion (λ s. OwnRequests limit since all a (starting s.address limit (Some s.link))) p.spare
+    pub spare : AllByRecursion (λ s. RequestsOn limit since all a s) p.spare
     pub tries : (test : Address → Bool) → count_sent test all since a + (cond (test f.exchange.address) (r + 1 - (f.failed + times_sent f.exchange)) 0 + left test p) ≤ cap test
     pub starts : count_sent any all since a + ((1 - times_sent f.exchange) + idle p) ≤ p.started
     pub answers : (test : Address → Bool) → least test ≤ count_answered test all since a
@@ -80,7 +80,7 @@ module _ (limit : ℕ) (since : WireState) (r : ℕ) (cap least : (Address → B
     pub at : (k : ℕ) → link ≡ Some k → all k ≡ x
     pub polled : AllByRecursion (λ x. OwnRequests limit since all b x.exchange) p.polled
     pub due : AllByRecursion (λ x. OwnRequests limit since all b x.exchange) p.due
-    pub spare : AllByRecursion (λ s. OwnRequests limit since all b (starting s.address limit (Some s.link))) p.spare
+    pub spare : AllByRecursion (λ s. RequestsOn limit since all b s) p.spare
     pub tries : (test : Address → Bool) (y : ℕ) → y + f.failed + own ≤ r + 1 → count_sent test all since b + (cond (test address) y 0 + left test p) ≤ cap test
     pub starts : (y : ℕ) → y + own ≤ 1 → count_sent any all since b + (y + idle p) ≤ p.started
     pub answers : (test : Address → Bool) → least test + gain test ≤ count_answered test all since b
@@ -260,8 +260,8 @@ module _ (limit : ℕ) (since : WireState) (r : ℕ) (cap least : (Address → B
   pub settles_known : (o : Option ℕ) (address : Address) (p q : Pooled) (a b : WireState) (h : Known p a) → ((k : ℕ) → o ≡ Some k → OwnRequests limit since h.all a (starting address limit (Some k))) → Settles o address p q a b → Known q b
   settles_known o address p q a b h own (NoLink e f g) = known_as p q b f (subst (λ (y : WireState). Known p y) (sym g) h)
   settles_known o address p q a b h own (Kept k e room f g) =
-      known_as (record p { spare = p.spare ++ (record { link = k; address = address }) ∷ [] }) q b f
-      (subst (λ (y : WireState). Known (record p { spare = p.spare ++ (record { link = k; address = address }) ∷ [] }) y) (sym g) (record {
+      known_as (record p { spare = p.spare ++ (record { link = k; authority = authority_of address }) ∷ [] }) q b f
+      (subst (λ (y : WireState). Known (record p { spare = p.spare ++ (record { link = k; authority = authority_of address }) ∷ [] }) y) (sym g) (record {
         is_limit = h.is_limit;
         few = record { is = h.few.is; waiting = h.few.waiting; polled = h.few.polled; due = h.few.due };
         waiting = h.waiting;
@@ -270,7 +270,7 @@ module _ (limit : ℕ) (since : WireState) (r : ℕ) (cap least : (Address → B
         given = h.given;
         polled = h.polled;
         due = h.due;
-        spare = all_append (λ (s : Spare). OwnRequests limit since h.all a (starting s.address limit (Some s.link))) p.spare ((record { link = k; address = address }) ∷ []) h.spare (own k e, tt);
+        spare = all_append (λ (s : Spare). RequestsOn limit since h.all a s) p.spare ((record { link = k; authority = authority_of address }) ∷ []) h.spare ((address, own k e), tt);
         tries = h.tries;
         starts = h.starts;
         answers = h.answers;

@@ -34,11 +34,12 @@ use Rattle.request_pool.proofs.Suits.{Owns, owns_begun, owns_next, waits_suits}
 use Rattle.request_pool.proofs.Risen.{fares_first, running_fares}
 use Rattle.request_pool.proofs.Steps.{in_line, suits_lined}
 use Rattle.request_pool.proofs.Bounds.{flight_bounds, starts_bounds}
+use Rattle.http_ends.proofs.Lists.{all_append, all_front}
 use Rattle.pool_laws.specs.Following.{Follows, AnswersSoFar}
 use Rattle.pool_laws.specs.Causes.{RepliedOn}
 use Rattle.pool_laws.specs.Answers.{TellsAll}
 use Rattle.pool_laws.specs.Rising.{IsServed, IsServedBySome, FailuresRose, EndsByRises, EmptyPoolsRose, PutsRose, FaultsRose, StepsRose, StepsRoseBySome}
-use Rattle.pool_laws.proofs.Lists.{all_append, all_front, all_behind, all_unmap, all_so}
+use Rattle.pool_laws.proofs.Lists.{all_behind, all_unmap, all_so}
 use Rattle.pool_laws.proofs.Following.{begun, own_link}
 use Rattle.pool_laws.proofs.KeptBySteps.{IsKept, IsKeptByTurns, running_keeps, last_keeps}
 use Rattle.pool_laws.proofs.HeldLinks.{LinksKept, AsksAt, Owning, owning_is_kept}
@@ -271,8 +272,8 @@ module _ (allows : List ℕ → ℕ → List ℕ → List ℕ → Type 0) (limit
         all = r.all;
         few = r.few;
       })
-  flight_rises (Ok (polls.Came ticket answer)) f p q a b g o s served short h t =
-      settle_rises (left_link t.1.now) t.1.now.address before asked b.faults p q t.0 b t.3 (rises_later before asked a.faults b.faults p (flight_faults (Ok (polls.Came ticket answer)) f p q a b t) h.others)
+  flight_rises (Ok (polls.Came ticket address answer)) f p q a b g o s served short h t =
+      settle_rises (left_link t.1.now) t.1.now.address before asked b.faults p q t.0 b t.3 (rises_later before asked a.faults b.faults p (flight_faults (Ok (polls.Came ticket address answer)) f p q a b t) h.others)
   flight_rises (Ok polls.Failed) f p q a b g o s served short h t =
       let rose = failure_rose t.0 f p a b g o s served t.1 t.2 (short_as (record p { waiting = _ ∷ p.waiting }) q b t.4 short) in
       rises_as before asked b.faults _ q t.4 (failed_again before asked a.faults b.faults _ p f.failed refl t.1.touches.later rose h)
@@ -471,14 +472,14 @@ module _ (allows : List ℕ → ℕ → List ℕ → List ℕ → Type 0) (limit
         let f = running_fares false a r e.mid a e.between (fares_first r a suits g) e.running in
         waits_rise result e.mid q e.between b f.suits (running_keeps Rising rising_kept r e.mid a e.between g suits (in_line (λ (x : Pooled). Rising x a) p e.line e.lines (gathered_rising p a h) h) e.running) short few e.waits
 
-    in_came : (ticket : ℕ) (answer : Reply) (p q : Pooled) (a b : WireState) → OpensGiven a → SuitsWire p a → Rising p a → AreShort (held_on q) b
-        → EndsInRun (Ok (polls.Came ticket answer)) p q a b → After (Ok (Came ticket answer)) q b
-    in_came ticket answer p q a b g s h short e =
+    in_came : (ticket : ℕ) (address : Address) (answer : Reply) (p q : Pooled) (a b : WireState) → OpensGiven a → SuitsWire p a → Rising p a → AreShort (held_on q) b
+        → EndsInRun (Ok (polls.Came ticket address answer)) p q a b → After (Ok (Came ticket address answer)) q b
+    in_came ticket address answer p q a b g s h short e =
         let r : Pooled = e.line in
         let suits = suits_lined p e.line a e.lines s in
         let f = running_fares false a r e.mid a e.between (fares_first r a suits g) e.running in
         let mid = running_keeps Rising rising_kept r e.mid a e.between g suits (in_line (λ (x : Pooled). Rising x a) p e.line e.lines (gathered_rising p a h) h) e.running in
-        record { rises = (last_keeps Rising rising_kept (Ok (polls.Came ticket answer)) e.mid q e.between b f.given f.suits mid e.last).rises short; fault = tt }
+        record { rises = (last_keeps Rising rising_kept (Ok (polls.Came ticket address answer)) e.mid q e.between b f.given f.suits mid e.last).rises short; fault = tt }
 
     in_run : (fault : PoolFault) (p q : Pooled) (a b : WireState) → OpensGiven a → SuitsWire p a → Rising p a → AreShort (held_on q) b
         → EndsInRun (Err fault) p q a b → After (Err fault) q b
@@ -503,7 +504,7 @@ module _ (allows : List ℕ → ℕ → List ℕ → List ℕ → Type 0) (limit
     step_after : (result : Result Stepped PoolFault) (p q : Pooled) (a b : WireState) → OpensGiven a → SuitsWire p a → Rising p a → AreShort (held_on q) b → b.idle < 1000 → StepsTo result p q a b → After result q b
     step_after (Ok Idle) p q a b g s h short few t =
         record { rises = rises_as before asked b.faults p q t.1 (subst (λ (x : WireState). Rises before asked x.faults p) (sym t.2) (h.rises (short_as p q a t.1 (subst (λ (x : WireState). AreShort (held_on q) x) t.2 short)))); fault = tt }
-    step_after (Ok (Came ticket answer)) p q a b g s h short few t = in_came ticket answer p q a b g s h short t
+    step_after (Ok (Came ticket address answer)) p q a b g s h short few t = in_came ticket address answer p q a b g s h short t
     step_after (Ok Waited) p q a b g s h short few t = in_wait (Ok Waited) p q a b g s h short few t
     step_after (Err fault) p q a b g s h short few t = breaks_rise fault p q a b g s h short few t
 

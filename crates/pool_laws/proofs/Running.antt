@@ -16,8 +16,8 @@ use Rattle.request_pool.specs.Polls.{FailsTo}
 use Rattle.request_pool.specs.Steps.{IsWait, GivesUp}
 use Rattle.request_pool.proofs.Owned.{at_or_off, flights_on-append}
 use Rattle.request_pool.proofs.Suits.{own_none, owns_begun, owns_next}
+use Rattle.http_ends.proofs.Lists.{all_append}
 use Rattle.pool_laws.specs.Following.{IsWebAddress, Follows, AnswersSoFar}
-use Rattle.pool_laws.proofs.Lists.{all_append}
 use Rattle.pool_laws.proofs.Following.{SameTold, told_same, pool_told, shut_told, starts_follow, next_follows}
 use Rattle.pool_laws.proofs.KeptBySteps.{IsKept}
 

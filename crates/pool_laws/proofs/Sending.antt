@@ -4,7 +4,7 @@ use Rattle.std.specs.List.{AllByRecursion, Contains}
 use Rattle.std.proofs.lemmas.Bool.{cases_lt}
 use Rattle.futures.specs.declared.task.Poll.{Poll}
 use Rattle.futures.specs.declared.task.Poll.TheVariants as poll
-use Rattle.tpf_base.specs.Addresses.{Address}
+use Rattle.tpf_base.specs.Addresses.{Address, authority_of}
 use Rattle.tpf_base.specs.declared.fault.Fault.{Fault}
 use Rattle.tpf_base.specs.declared.wire.Ready.{Ready}
 use Rattle.tpf_base.specs.Links.{Link, WireState, OpensGiven}
@@ -31,10 +31,13 @@ use Rattle.request_pool.specs.Polls.{Shuts, Settles, NoLink, Kept, Shut, TakesLi
 use Rattle.request_pool.specs.Runs.{Begins, Starts, Overruns, Flies, Starves, PollsNext}
 use Rattle.request_pool.specs.Steps.{IsWait, GivesUp}
 use Rattle.request_pool.proofs.Owned.{at_or_off}
-use Rattle.request_pool.proofs.Suits.{Owns, owns_begun, owns_next}
-use Rattle.pool_laws.specs.Sending.{Nothing, FrontOf, requests_for, SendsFor, SendsOwn, SentSince, EmptyPoolsSent, PutsSent, FaultsSent, StepsSent, ClosingSent}
-use Rattle.pool_laws.proofs.Lists.{all_append, all_front, all_behind, some_is, same_link}
-use Rattle.pool_laws.proofs.Following.{SameTold, told_same, stands_as, holds_as, holds_is, off, on_some, own_link, left_is, flat-append, request_is}
+use Rattle.request_pool.proofs.Suits.{Owns, owns_begun, owns_next, left_is}
+use Rattle.http_ends.proofs.Lists.{all_append, all_front}
+use Rattle.request_pool.proofs.Risen.{some_is, on_its}
+use Rattle.tpf_base.proofs.SendingLemmas.{holds_same}
+use Rattle.pool_laws.specs.Sending.{Nothing, FrontOf, requests_for, SendsFor, SendsOwn, SentSince, EmptyPoolsSent, PutsSent, FaultsSent, StepsSent, ClosingSent, SendsOn}
+use Rattle.pool_laws.proofs.Lists.{all_behind, same_link}
+use Rattle.pool_laws.proofs.Following.{SameTold, told_same, stands_as, holds_is, off, own_link, flat-append, request_is}
 use Rattle.pool_laws.proofs.Owning.{after_link}
 use Rattle.pool_laws.proofs.Requesting.{front_for, on_is}
 use Rattle.pool_laws.proofs.Running.{waits_told}
@@ -46,7 +49,7 @@ module _ (asked : Address → Type 0) where
   -- ---- a link of which the same is told
 
   for_told : (l m : Link) → SameTold l m → SendsFor asked l → SendsFor asked m
-  for_told l m t h = record { whole = h.whole; are_asked = h.are_asked; part = h.part; is_part = h.is_part; sent_is = holds_as l.sent m.sent (requests_for h.whole ++ h.part) t.sent h.sent_is }
+  for_told l m t h = record { whole = h.whole; are_asked = h.are_asked; part = h.part; is_part = h.is_part; sent_is = holds_same l.sent m.sent (requests_for h.whole ++ h.part) t.sent h.sent_is }
 
   own_told : (e : Exchanging) (a b : WireState) → ((k : ℕ) → e.link ≡ Some k → SameTold (a.links k) (b.links k)) → SendsOwn asked a e → SendsOwn asked b e
   own_told e a b same h = record {
@@ -61,15 +64,15 @@ module _ (asked : Address → Type 0) where
   flights_told : (fs : List Flight) (a b : WireState) → ((k : ℕ) → 0 < flights_on fs k → SameTold (a.links k) (b.links k)) → AllByRecursion (λ f. SendsOwn asked a f.exchange) fs → AllByRecursion (λ f. SendsOwn asked b f.exchange) fs
   flights_told [] a b same h = tt
   flights_told (f ∷ fs) a b same h = (
-    own_told f.exchange a b (λ k e. same k (omega (arith, on_some f.exchange.link k e))) h.0,
+    own_told f.exchange a b (λ k e. same k (omega (arith, on_its f.exchange.link k e))) h.0,
     flights_told fs a b (λ k p. same k (omega (arith, p))) h.1,
   )
 
   spare_told : (limit : ℕ) (ss : List Spare) (a b : WireState) → ((k : ℕ) → 0 < spare_on ss k → SameTold (a.links k) (b.links k))
-      → AllByRecursion (λ s. SendsOwn asked a (starting s.address limit (Some s.link))) ss → AllByRecursion (λ s. SendsOwn asked b (starting s.address limit (Some s.link))) ss
+      → AllByRecursion (λ s. SendsOn asked limit a s) ss → AllByRecursion (λ s. SendsOn asked limit b s) ss
   spare_told limit [] a b same h = tt
   spare_told limit (s ∷ ss) a b same h = (
-    own_told (starting s.address limit (Some s.link)) a b (λ k e. same k (omega (arith, on_some (Some s.link) k e))) h.0,
+    (h.0.0, own_told (starting h.0.0 limit (Some s.link)) a b (λ k e. same k (omega (arith, on_its (Some s.link) k e))) h.0.1),
     spare_told limit ss a b (λ k p. same k (omega (arith, p))) h.1,
   )
 
@@ -216,12 +219,12 @@ module _ (asked : Address → Type 0) where
     settles_sends : (left : Option ℕ) (address : Address) (p q : Pooled) (a b : WireState) → ((k : ℕ) → left ≡ Some k → SendsOwn asked a (starting address p.limit (Some k))) → Sends p a → Settles left address p q a b → Sends q b
     settles_sends left address p q a b own h (NoLink e f g) = sends_as p q a b f g h
     settles_sends left address p q a b own h (Kept k e room f g) =
-        sends_as (record p { spare = p.spare ++ (record { link = k; address = address }) ∷ [] }) q a b f g (record {
+        sends_as (record p { spare = p.spare ++ (record { link = k; authority = authority_of address }) ∷ [] }) q a b f g (record {
           given = h.given;
           waiting = h.waiting;
           polled = h.polled;
           due = h.due;
-          spare = all_append (λ (s : Spare). SendsOwn asked a (starting s.address p.limit (Some s.link))) p.spare ((record { link = k; address = address }) ∷ []) h.spare (own k e, tt);
+          spare = all_append (λ (s : Spare). SendsOn asked p.limit a s) p.spare ((record { link = k; authority = authority_of address }) ∷ []) h.spare ((address, own k e), tt);
         })
     settles_sends left address p q a b own h (Shut k e full f c) = subst (λ (x : Pooled). Sends x b) (sym f) (shut_sends (Some k) p a b c h)
 
@@ -237,7 +240,7 @@ module _ (asked : Address → Type 0) where
     flight_sends : (result : Result Polled PoolFault) (f : Flight) (p q : Pooled) (a b : WireState) → OpensGiven a → Owns f p a → SendsOwn asked a f.exchange → Sends p a → FlightTo result f p q a b → Sends q b
     flight_sends (Ok polls.Pending) f p q a b g o s h t =
         is_pool (record p { polled = p.polled ++ (record f { exchange = t.0.now }) ∷ [] }) q b t.1 (with_flight p (record f { exchange = t.0.now }) b (goes_on f a b t.0 s) (rest_sends poll.Pending f p a b g o t.0 s h))
-    flight_sends (Ok (polls.Came ticket answer)) f p q a b g o s h t =
+    flight_sends (Ok (polls.Came ticket address answer)) f p q a b g o s h t =
         settles_sends (left_link t.1.now) t.1.now.address p q t.0 b (λ k e. left_sends p.limit f a t.0 answer t.1 k e s) (rest_sends (poll.Ready (Ok answer)) f p a t.0 g o t.1 s h) t.3
     flight_sends (Ok polls.Failed) f p q a b g o s h t =
         is_pool _ q b t.4 (with_waiting p _ b (asked_polled (poll.Ready (Err t.0)) f a b t.1 s) (rest_sends (poll.Ready (Err t.0)) f p a b g o t.1 s h))
@@ -252,27 +255,27 @@ module _ (asked : Address → Type 0) where
 
     record Taken (p : Pooled) (a : WireState) (first : Waiting) (spare : List Spare) (link : Option ℕ) : Type 0 where
       own : SendsOwn asked a (starting first.address p.limit link)
-      left : AllByRecursion (λ s. SendsOwn asked a (starting s.address p.limit (Some s.link))) spare
+      left : AllByRecursion (λ s. SendsOn asked p.limit a s) spare
 
-    for_other : (limit : ℕ) (a : WireState) (s : Spare) (address : Address) (k : ℕ) → s.link ≡ k → asked address → SendsOwn asked a (starting s.address limit (Some s.link)) → SendsOwn asked a (starting address limit (Some k))
+    for_other : (limit : ℕ) (a : WireState) (s : Spare) (address : Address) (k : ℕ) → s.link ≡ k → asked address → SendsOn asked limit a s → SendsOwn asked a (starting address limit (Some k))
     for_other limit a s address k at is h =
         subst (λ (i : ℕ). SendsOwn asked a (starting address limit (Some i))) at
-        (record { is_asked = is; whole = h.whole; are_asked = h.are_asked; received = h.received; stands = h.stands; front = record { rest = request_for address; is_whole = refl } })
+        (record { is_asked = is; whole = h.1.whole; are_asked = h.1.are_asked; received = h.1.received; stands = h.1.stands; front = record { rest = request_for address; is_whole = refl } })
 
     taken : (p : Pooled) (a : WireState) (first : Waiting) (spare : List Spare) (link : Option ℕ) → asked first.address
-        → AllByRecursion (λ s. SendsOwn asked a (starting s.address p.limit (Some s.link))) p.spare → TakesLink first p.spare spare link → Taken p a first spare link
+        → AllByRecursion (λ s. SendsOn asked p.limit a s) p.spare → TakesLink first p.spare spare link → Taken p a first spare link
     taken p a first spare None is h t = record {
       own = record { is_asked = is; whole = []; are_asked = tt; received = []; stands = (refl, refl, refl, refl); front = record { rest = request_for first.address; is_whole = refl } };
-      left = subst (λ (l : List Spare). AllByRecursion (λ s. SendsOwn asked a (starting s.address p.limit (Some s.link))) l) (sym t.0) h;
+      left = subst (λ (l : List Spare). AllByRecursion (λ s. SendsOn asked p.limit a s) l) (sym t.0) h;
     }
     taken p a first spare (Some k) is h t =
         let o = t.1.3 in
-        let all = subst (λ (l : List Spare). AllByRecursion (λ s. SendsOwn asked a (starting s.address p.limit (Some s.link))) l) o.is_old h in
-        let behind = all_behind (λ (s : Spare). SendsOwn asked a (starting s.address p.limit (Some s.link))) o.before (t.1.0 ∷ o.after) all in
+        let all = subst (λ (l : List Spare). AllByRecursion (λ s. SendsOn asked p.limit a s) l) o.is_old h in
+        let behind = all_behind (λ (s : Spare). SendsOn asked p.limit a s) o.before (t.1.0 ∷ o.after) all in
         record {
           own = for_other p.limit a t.1.0 first.address k t.1.1 is behind.0;
-          left = subst (λ (l : List Spare). AllByRecursion (λ s. SendsOwn asked a (starting s.address p.limit (Some s.link))) l) (sym o.is_new)
-              (all_append (λ (s : Spare). SendsOwn asked a (starting s.address p.limit (Some s.link))) o.before o.after (all_front _ o.before (t.1.0 ∷ o.after) all) behind.1);
+          left = subst (λ (l : List Spare). AllByRecursion (λ s. SendsOn asked p.limit a s) l) (sym o.is_new)
+              (all_append (λ (s : Spare). SendsOn asked p.limit a s) o.before o.after (all_front _ o.before (t.1.0 ∷ o.after) all) behind.1);
         }
 
     record Begun (q : Pooled) (f : Flight) (a : WireState) : Type 0 where

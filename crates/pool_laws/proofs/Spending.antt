@@ -1,7 +1,7 @@
 -- Each exchange is started for a link that is given, a rise of the wire's faults, or a reply that came.
 use Rattle.std.proofs.Common.{ℕ, ◌≡◌, ◌≢◌, ◌+◌, ◌-◌, ◌≤◌, ◌++◌, List, [], ◌∷◌, length, length-append, map, Option, Some, None, true, false, Result, Ok, Err, refl, sym, ◌∙◌, ap, subst, arith}
 use Rattle.std.proofs.lemmas.List.{length-map}
-use Rattle.tpf_base.specs.Addresses.{Address}
+use Rattle.tpf_base.specs.Addresses.{Address, authority_of}
 use Rattle.tpf_base.specs.Causes.{Rose, RoseBy}
 use Rattle.tpf_base.specs.Links.{WireState, OpensGiven}
 use Rattle.tpf_base.specs.declared.fault.Fault.{Fault}
@@ -62,11 +62,11 @@ no_memory result on = λ e. absurd (let x : true ≡ false = sym (ap is_end e) �
 polled_memory : (fault : PoolFault) → ◌≢◌ {A = Result Stepped PoolFault} (Err fault) (Err faults.OutOfMemory) → ◌≢◌ {A = Result Polled PoolFault} (Err fault) (Err faults.OutOfMemory)
 polled_memory fault some = λ e. some (ap (λ (x : PoolFault). Err x) (same_fault fault faults.OutOfMemory e))
 
-no_came : (ticket : ℕ) (answer : Reply) → ◌≡◌ {A = Result Polled PoolFault} (Ok (polls.Came ticket answer)) (Err faults.OutOfMemory) → ⊥
-no_came ticket answer e = cc
+no_came : (ticket : ℕ) (address : Address) (answer : Reply) → ◌≡◌ {A = Result Polled PoolFault} (Ok (polls.Came ticket address answer)) (Err faults.OutOfMemory) → ⊥
+no_came ticket address answer e = cc
 
-came_memory : (ticket : ℕ) (answer : Reply) → ◌≢◌ {A = Result Polled PoolFault} (Ok (polls.Came ticket answer)) (Err faults.OutOfMemory)
-came_memory ticket answer = λ e. no_came ticket answer e
+came_memory : (ticket : ℕ) (address : Address) (answer : Reply) → ◌≢◌ {A = Result Polled PoolFault} (Ok (polls.Came ticket address answer)) (Err faults.OutOfMemory)
+came_memory ticket address answer = λ e. no_came ticket address answer e
 
 -- ---- what is spent
 
@@ -144,10 +144,10 @@ module _ (since : WireState) (asked : ℕ) where
   settle_spent : (o : Option ℕ) (address : Address) (p q : Pooled) (a b : WireState) → Settles o address p q a b → Paid p a → Spent q b
   settle_spent o address p q a b (NoLink e f g) h = subst (λ (x : WireState). Spent q x) (sym g) (lost p q a f h)
   settle_spent o address p q a b (Kept i e room f g) h =
-      let s : Spare = record { link = i; address = address } in
-      let r : Pooled = record p { spare = p.spare ++ (record { link = i; address = address }) ∷ [] } in
-      subst (λ (x : WireState). Spent q x) (sym g) (spent_as (record p { spare = p.spare ++ (record { link = i; address = address }) ∷ [] }) q a f
-      (holds_one p (record p { spare = p.spare ++ (record { link = i; address = address }) ∷ [] }) a refl (omega (arith, length-append p.spare (s ∷ []))) h))
+      let s : Spare = record { link = i; authority = authority_of address } in
+      let r : Pooled = record p { spare = p.spare ++ (record { link = i; authority = authority_of address }) ∷ [] } in
+      subst (λ (x : WireState). Spent q x) (sym g) (spent_as (record p { spare = p.spare ++ (record { link = i; authority = authority_of address }) ∷ [] }) q a f
+      (holds_one p (record p { spare = p.spare ++ (record { link = i; authority = authority_of address }) ∷ [] }) a refl (omega (arith, length-append p.spare (s ∷ []))) h))
   settle_spent o address p q a b (Shut i e full f c) h =
       let s = lost p q a f h in
       goes_on q q a b refl (omega arith) c.only.given (omega (arith, c.faults)) s
@@ -158,7 +158,7 @@ module _ (since : WireState) (asked : ℕ) where
       spent_as (record p { polled = p.polled ++ (record f { exchange = t.0.now }) ∷ [] }) q b t.1
       (holds_one p (record p { polled = p.polled ++ (record f { exchange = t.0.now }) ∷ [] }) b refl (omega (arith, length-append p.polled (g ∷ [])))
       (paid_by_link poll.Pending f p a b t.0 s t.0.answers.k t.0.answers.link))
-  flight_spent (Ok (polls.Came ticket answer)) f p q a b some s t =
+  flight_spent (Ok (polls.Came ticket address answer)) f p q a b some s t =
       settle_spent (left_link t.1.now) t.1.now.address p q t.0 b t.3 (paid_by_link (poll.Ready (Ok answer)) f p a t.0 t.1 s t.1.answers.k t.1.answers.link)
   flight_spent (Ok polls.Failed) f p q a b some s t =
       spent_as (record p { waiting = again (record f { exchange = t.1.now }) ∷ p.waiting }) q b t.4
@@ -278,7 +278,7 @@ fault_spent since asked pool wire h = record { later = h.later; rises = h.rises;
 
 pub step_spent : StepsSpend
 step_spent since asked (Ok Idle) old new wire wire' given suits some h to = subst (λ (q : Pooled). SpentSince since asked q wire') (sym to.1) (subst (λ (b : WireState). SpentSince since asked old b) (sym to.2) h)
-step_spent since asked (Ok (Came ticket answer)) old new wire wire' given suits some h to =
-    spent_out since asked new wire' (ended_spent since asked (Ok (polls.Came ticket answer)) old new wire wire' given suits (came_memory ticket answer) (spent_in since asked old wire h) to)
+step_spent since asked (Ok (Came ticket address answer)) old new wire wire' given suits some h to =
+    spent_out since asked new wire' (ended_spent since asked (Ok (polls.Came ticket address answer)) old new wire wire' given suits (came_memory ticket address answer) (spent_in since asked old wire h) to)
 step_spent since asked (Ok Waited) old new wire wire' given suits some h to = spent_out since asked new wire' (in_wait since asked (Ok Waited) old new wire wire' given suits (spent_in since asked old wire h) to)
 step_spent since asked (Err fault) old new wire wire' given suits some h to = spent_out since asked new wire' (breaks_spent since asked fault old new wire wire' given suits some (spent_in since asked old wire h) to)

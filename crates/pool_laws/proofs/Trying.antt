@@ -19,8 +19,10 @@ use Rattle.request_pool.specs.Polls.{Settles, NoLink, Kept, Shut, FailsTo, Fligh
 use Rattle.request_pool.specs.Runs.{Begins, Starts, Overruns, Flies, Starves, PollsNext, Turn, Start, Next, Round, Moment, Runs, Running, Last, OfStart, OfPoll, is_end}
 use Rattle.request_pool.specs.Steps.{GivesUp, WaitsTo, Passes, Stalls, Misses, Lacks, Lines, EndsInRun, EndsInFault, AtOnce, InRun, InWait}
 use Rattle.request_pool.proofs.Steps.{in_line, suits_lined}
+use Rattle.http_ends.proofs.Lists.{all_append, all_front}
+use Rattle.request_pool.proofs.Holding.{end_of}
 use Rattle.pool_laws.specs.Counting.{tries_waiting, tries_flying, tries, FewFailed, StartsAreTries, StepsCountTries, EmptyPoolsFewFailed, PutsFewFailed, StepsFewFailed}
-use Rattle.pool_laws.proofs.Lists.{all_append, all_front, all_behind}
+use Rattle.pool_laws.proofs.Lists.{all_behind}
 use Rattle.pool_laws.proofs.KeptBySteps.{IsKept, by_running, by_step}
 
 tries-append : (xs ys : List Flight) → tries_flying (xs ++ ys) ≡ tries_flying xs + tries_flying ys
@@ -50,7 +52,7 @@ module _ (r : ℕ) where
   pub flight_few : (result : Result Polled PoolFault) (f : Flight) (p q : Pooled) (a b : WireState) → f.failed ≤ r → Few r p → FlightTo result f p q a b → Few r q
   flight_few (Ok polls.Pending) f p q a b n h t =
       few_as _ q t.1 (record { is = h.is; waiting = h.waiting; polled = all_append (λ (x : Flight). x.failed ≤ r) p.polled ((record f { exchange = t.0.now }) ∷ []) h.polled (n, tt); due = h.due })
-  flight_few (Ok (polls.Came ticket answer)) f p q a b n h t = settle_few (left_link t.1.now) t.1.now.address p q t.0 b t.3 h
+  flight_few (Ok (polls.Came ticket address answer)) f p q a b n h t = settle_few (left_link t.1.now) t.1.now.address p q t.0 b t.3 h
   flight_few (Ok polls.Failed) f p q a b n h t = few_as _ q t.4 (record { is = h.is; waiting = (once_more f.failed p.retries h.is t.3, h.waiting); polled = h.polled; due = h.due })
   flight_few (Err faults.Exchange) f p q a b n h t = few_as p q t.2 h
   flight_few (Err (faults.Cut received)) f p q a b n h t = few_as p q t.2 h
@@ -147,7 +149,7 @@ pub flight_tries : (result : Result Polled PoolFault) (f : Flight) (p q : Pooled
 flight_tries (Ok polls.Pending) f p q a b t =
     let g : Flight = record f { exchange = t.0.now } in
     record { started = ap (λ (x : Pooled). x.started) t.1; count = ap tries t.1 ∙ omega (arith, tries-append (p.polled ++ g ∷ []) p.due, tries-append p.polled (g ∷ []), tries-append p.polled p.due) }
-flight_tries (Ok (polls.Came ticket answer)) f p q a b t =
+flight_tries (Ok (polls.Came ticket address answer)) f p q a b t =
     let s = settle_tries (left_link t.1.now) t.1.now.address p q t.0 b t.3 in
     record { started = s.0; count = omega (arith, s.1) }
 flight_tries (Ok polls.Failed) f p q a b t = record { started = ap (λ (x : Pooled). x.started) t.4; count = ap tries t.4 ∙ omega arith }
@@ -163,7 +165,7 @@ record TriesTo (result : Result Polled PoolFault) (p q : Pooled) : Type 0 where
   over : ℕ
   balance : StartsAreTries over p q
   none : is_end result ≡ false → over ≡ 0
-  some : (ticket : ℕ) (answer : Reply) → result ≡ Ok (polls.Came ticket answer) → 1 ≤ over
+  some : (ticket : ℕ) (address : Address) (answer : Reply) → result ≡ Ok (polls.Came ticket address answer) → 1 ≤ over
   few : (r : ℕ) → Few r p → over ≤ r + 1
 
 start_balance : (v : Bool) (n w ps ms qs tp tm tq : ℕ) → n ≡ w → tp ≡ w + tm → ms ≡ ps + 1 → qs ≡ ms → tq ≡ tm + (if v then 0 else n + 1) → qs + tp ≡ ps + tq + (if v then n + 1 else 0)
@@ -186,11 +188,8 @@ few_over : (v : Bool) (n r : ℕ) → n ≤ r → (if v then n + 1 else 0) ≤ r
 few_over true n r h = omega (arith, h)
 few_over false n r h = omega arith
 
-no_came : (ticket : ℕ) (answer : Reply) (result : Result Polled PoolFault) (fault : PoolFault) → result ≡ Err fault → result ≡ Ok (polls.Came ticket answer) → ⊥
-no_came ticket answer result fault e f = let g : ◌≡◌ {A = Result Polled PoolFault} (Err fault) (Ok (polls.Came ticket answer)) = sym e ∙ f in cc
-
-end_of : (result : Result Polled PoolFault) (fault : PoolFault) → result ≡ Err fault → is_end result ≡ false → ⊥
-end_of result fault e f = let g : true ≡ false = sym (ap is_end e) ∙ f in cc
+no_came : (ticket : ℕ) (address : Address) (answer : Reply) (result : Result Polled PoolFault) (fault : PoolFault) → result ≡ Err fault → result ≡ Ok (polls.Came ticket address answer) → ⊥
+no_came ticket address answer result fault e f = let g : ◌≡◌ {A = Result Polled PoolFault} (Err fault) (Ok (polls.Came ticket address answer)) = sym e ∙ f in cc
 
 taken_tries : (p q : Pooled) (f : Flight) → Begins p q f → tries p ≡ f.failed + tries q
 taken_tries p q f b =
@@ -202,7 +201,7 @@ starts_tries result p q a b (Overruns e budget f g) = record {
   over = 0;
   balance = omega (arith, ap (λ (x : Pooled). x.started) f, ap tries f);
   none = λ n. refl;
-  some = λ ticket answer c. absurd (no_came ticket answer result faults.Budget e c);
+  some = λ ticket address answer c. absurd (no_came ticket address answer result faults.Budget e c);
   few = λ r h. omega arith;
 }
 starts_tries result p q a b (Flies mid f budget begins to) =
@@ -211,14 +210,14 @@ starts_tries result p q a b (Flies mid f budget begins to) =
       over = if is_end result then f.failed + 1 else 0;
       balance = start_balance (is_end result) f.failed f.failed p.started mid.started q.started (tries p) (tries mid) (tries q) refl (taken_tries p mid f begins) (ap (λ (x : Pooled). x.started) begins.is_new) t.started t.count;
       none = none_over (is_end result) f.failed;
-      some = λ ticket answer c. some_over (is_end result) f.failed (ap is_end c);
+      some = λ ticket address answer c. some_over (is_end result) f.failed (ap is_end c);
       few = λ r h. few_over (is_end result) f.failed r (begun r p mid f h begins).failed;
     }
 starts_tries result p q a b (Starves e mid f begins is shuts) = record {
   over = f.failed;
   balance = omega (arith, ap (λ (x : Pooled). x.started) is, ap tries is, taken_tries p mid f begins);
   none = λ n. absurd (end_of result faults.OutOfMemory e n);
-  some = λ ticket answer c. absurd (no_came ticket answer result faults.OutOfMemory e c);
+  some = λ ticket address answer c. absurd (no_came ticket address answer result faults.OutOfMemory e c);
   few = λ r h. omega (arith, (begun r p mid f h begins).failed);
 }
 
@@ -232,7 +231,7 @@ next_tries result p q a b n =
       over = if is_end result then n.f.failed + 1 else 0;
       balance = next_balance (is_end result) n.f.failed p.started q.started (tries p) (tries r) (tries q) all t.started t.count;
       none = none_over (is_end result) n.f.failed;
-      some = λ ticket answer c. some_over (is_end result) n.f.failed (ap is_end c);
+      some = λ ticket address answer c. some_over (is_end result) n.f.failed (ap is_end c);
       few = λ k h. few_over (is_end result) n.f.failed k (subst (λ (l : List Flight). AllByRecursion (λ x. x.failed ≤ k) l) n.is_next h.due).0;
     }
 
@@ -282,12 +281,12 @@ run_few : (p line q : Pooled) (a b : WireState) → OpensGiven a → SuitsWire p
 run_few p line q a b g s h l r =
     by_running (λ x w. Few p.retries x) (few_is_kept p.retries) line q a b g (suits_lined p line a l s) (in_line (Few p.retries) p line l (gathered_few p.retries p (few_in p h)) (few_in p h)) r
 
-came_tries : (ticket : ℕ) (answer : Reply) (p q : Pooled) (a b : WireState) → OpensGiven a → SuitsWire p a → FewFailed p → EndsInRun (Ok (polls.Came ticket answer)) p q a b → StepTries 1 (p.retries + 1) p q
-came_tries ticket answer p q a b g s h e =
-    let t = last_tries (Ok (polls.Came ticket answer)) e.mid q e.between b e.last in
+came_tries : (ticket : ℕ) (address : Address) (answer : Reply) (p q : Pooled) (a b : WireState) → OpensGiven a → SuitsWire p a → FewFailed p → EndsInRun (Ok (polls.Came ticket address answer)) p q a b → StepTries 1 (p.retries + 1) p q
+came_tries ticket address answer p q a b g s h e =
+    let t = last_tries (Ok (polls.Came ticket address answer)) e.mid q e.between b e.last in
     record {
       over = t.over;
-      some = t.some ticket answer refl;
+      some = t.some ticket address answer refl;
       few = t.few p.retries (run_few p e.line e.mid a e.between g s h e.lines e.running);
       balance = from_line t.over p e.line q e.lines (balance_then t.over e.line e.mid q (runs_balance e.running.moments _ e.mid a e.between e.running.runs) t.balance);
     }
@@ -352,7 +351,7 @@ break_tries fault p q a b g s h (InWait e) =
 
 pub step_tries : StepsCountTries
 step_tries (Ok Idle) old new wire wire' given suits h to = to.1
-step_tries (Ok (Came ticket reply)) old new wire wire' given suits h to = let t = came_tries ticket reply old new wire wire' given suits h to in (t.over, t.some, t.few, t.balance)
+step_tries (Ok (Came ticket address reply)) old new wire wire' given suits h to = let t = came_tries ticket address reply old new wire wire' given suits h to in (t.over, t.some, t.few, t.balance)
 step_tries (Ok Waited) old new wire wire' given suits h to =
     from_line 0 old to.line new to.lines (balance_then 0 to.line to.mid new (runs_balance to.running.moments _ to.mid wire to.between to.running.runs)
     (waited_balance (Ok Waited) Waited to.mid new to.between wire' refl to.waits))

@@ -120,6 +120,12 @@ page_is_long limit answer text why read ok page is bad = elim (cases_lt limit (l
   | inl many ↦ many
 ]
 
+-- an answer of another status is refused for its status alone
+pub other_refusal : (limit : ℕ) (answer : Answer) (text : List ℕ) (why : ReplyFault) → AnswerIsRead limit answer false → answer.status ≢ 200
+    → text ≡ answer_text answer false false → reply_of text false limit ≡ Bad why → why ≡ BadStatus answer.status
+other_refusal limit answer text why read other is bad =
+    same_fault _ why (BadStatus answer.status) bad (ap (λ (t : List ℕ). reply_of t false limit) (is ∙ text_is answer false) ∙ read.other other answer.body false)
+
 more_bad : (r : Reading) (fault : ReplyFault) → r ≡ More → r ≡ Bad fault → ⊥
 more_bad r fault m b = cc
 

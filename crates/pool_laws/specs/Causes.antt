@@ -39,8 +39,8 @@ pub record HoldsNoneBelow (n : ℕ) (pool : Pooled) (wire : WireState) : Type 0 
 -- ---- a reply
 
 -- An ask with the ticket was held, and what was received in reply to its request is read as the reply, whole. The link is none of those given before a moment at which none was held.
-pub record IsRead (ticket : ℕ) (answer : Reply) (old new : Pooled) (before after : WireState) : Type 0 where
-  pub hands : HandsOut ticket old new
+pub record IsRead (ticket : ℕ) (address : Address) (answer : Reply) (old new : Pooled) (before after : WireState) : Type 0 where
+  pub hands : HandsOut ticket address old new
   pub received : List ℕ
   pub on : RepliedOn old.limit hands.ask.address received after
   pub given : on.k < after.given
@@ -52,8 +52,8 @@ pub record IsRead (ticket : ℕ) (answer : Reply) (old new : Pooled) (before aft
 
 abbrev pub RepliesAreRead : Type 0
 RepliesAreRead =
-    (ticket : ℕ) (answer : Reply) (old new : Pooled) (before after : WireState) → OpensGiven before → SuitsWire old before → AnswersSoFar old before
-    → StepsTo (Ok (Came ticket answer)) old new before after → IsRead ticket answer old new before after
+    (ticket : ℕ) (address : Address) (answer : Reply) (old new : Pooled) (before after : WireState) → OpensGiven before → SuitsWire old before → AnswersSoFar old before
+    → StepsTo (Ok (Came ticket address answer)) old new before after → IsRead ticket address answer old new before after
 
 -- ---- faults
 

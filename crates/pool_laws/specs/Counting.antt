@@ -40,7 +40,7 @@ StartsAreTries over old new = new.started + tries old ≡ old.started + tries ne
 
 -- The tries of the ask whose reply came are 1 to one more than it may be tried again. A wait ends no ask. A fault may lose one.
 abbrev pub CountsTries : Result Stepped PoolFault → Pooled → Pooled → Type 0
-CountsTries (Ok (Came ticket reply)) old new = (over : ℕ) × (1 ≤ over) × (over ≤ old.retries + 1) × StartsAreTries over old new
+CountsTries (Ok (Came ticket address reply)) old new = (over : ℕ) × (1 ≤ over) × (over ≤ old.retries + 1) × StartsAreTries over old new
 CountsTries (Ok Waited) old new = StartsAreTries 0 old new
 CountsTries (Ok Idle) old new = new ≡ old
 CountsTries (Err fault) old new = (over : ℕ) × (over ≤ old.retries + 1) × StartsAreTries over old new

@@ -1,12 +1,13 @@
 -- What was sent and received on the links that a pool holds: whole requests for addresses, and one whole reply to each.
 use Rattle.std.specs.Prelude.{ℕ, ◌≡◌, ◌<◌, ◌++◌, Bool, false, List, [], ◌∷◌, length, Option, Some, None, Result}
 use Rattle.std.specs.List.{AllByRecursion}
-use Rattle.tpf_base.specs.Addresses.{Address, IsAddress}
+use Rattle.tpf_base.specs.Addresses.{Address, IsAddress, authority_of}
 use Rattle.tpf_base.specs.HttpReply.{Whole, reply_of}
 use Rattle.tpf_base.specs.Links.{WireState, OpensGiven, told_by}
 use Rattle.http_ends.specs.Cuts.{Answered, sent_for, bytes_of, sent_of, received_of}
 use Rattle.exchange.specs.Exchanges.{Exchanging, Stands, starting}
 use Rattle.request_pool.specs.declared.asks.Flight.{Flight}
+use Rattle.request_pool.specs.declared.asks.Spare.{Spare}
 use Rattle.request_pool.specs.declared.fault.Polled.{Polled}
 use Rattle.request_pool.specs.declared.fault.PoolFault.{PoolFault}
 use Rattle.request_pool.specs.declared.fault.Stepped.{Stepped}
@@ -42,12 +43,16 @@ pub record Follows (limit : ℕ) (wire : WireState) (e : Exchanging) : Type 0 wh
   pub stands : Stands (bytes_of (sent_of before)) (received_of before) e wire
   pub peer : HasPeer e.address e.link wire
 
+-- On a link that was left so does an exchange that starts for an address with its authority.
+abbrev pub FollowsOn : ℕ → WireState → Spare → Type 0
+FollowsOn limit wire s = (address : Address) × (s.authority ≡ authority_of address) × Follows limit wire (starting address limit (Some s.link))
+
 -- What a pool knows of its links: the asks are for addresses; each exchange in flight follows whole replies on its link; and so would one that starts on a link that was left.
 pub record AnswersSoFar (pool : Pooled) (wire : WireState) : Type 0 where
   pub waiting : AllByRecursion (λ w. IsWebAddress w.address) pool.waiting
   pub polled : AllByRecursion (λ f. Follows pool.limit wire f.exchange) pool.polled
   pub due : AllByRecursion (λ f. Follows pool.limit wire f.exchange) pool.due
-  pub spare : AllByRecursion (λ s. Follows pool.limit wire (starting s.address pool.limit (Some s.link))) pool.spare
+  pub spare : AllByRecursion (λ s. FollowsOn pool.limit wire s) pool.spare
 
 -- ---- what keeps it
 

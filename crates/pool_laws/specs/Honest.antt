@@ -8,9 +8,9 @@ use Rattle.tpf_base.specs.Links.{All, Link, WireState, IsToldBy, ReceivesOwed}
 use Rattle.http_wire.specs.declared.message.ReplyFault.{ReplyFault}
 use Rattle.http_wire.specs.declared.message.ReplyFault.TheVariants as faults
 use Rattle.template_fill.specs.Metadata.{Config}
-use Rattle.tpf_base.specs.Marks.{Served}
+use Rattle.tpf_base.specs.Marks.{Mark, Served}
 use Rattle.template_fill.specs.Answers.{answer_to}
-use Rattle.template_fill.specs.Responses.{Owes}
+use Rattle.template_fill.specs.Responses.{IsVersion, Owes}
 use Rattle.http_ends.specs.Requests.{request_for, asks}
 use Rattle.http_ends.specs.Cuts.{Answered, IsAnswered, bytes_of, sent_of, received_of}
 use Rattle.exchange.specs.Exchanges.{Exchanging, Stands}
@@ -26,7 +26,13 @@ abbrev pub IsAnsweredByAll : List (List Triple) → Config → Address → Type 
 IsAnsweredByAll history config address =
     (version : ℕ) → 1 ≤ version → version ≤ length history → (answer_to history (Served version) config (asks address)).status ≡ 200
 
--- A poll refused its reply: its link is told whole, owes the response to what was sent on it, and held whole replies to whole requests before. Then the reply is too long.
+-- The answer to the request for the address, over one of the versions, has a body that is longer than the limit.
+pub record IsPastLimit (history : List (List Triple)) (config : Config) (limit : ℕ) (address : Address) : Type 0 where
+  pub mark : Mark
+  pub version : IsVersion (length history) mark
+  pub long : limit < length (answer_to history mark config (asks address)).body
+
+-- A poll refused its reply: its link is told whole, owes the response to what was sent on it, and held whole replies to whole requests before. Then the reply is too long, and the body of an answer to its request is longer than the limit.
 abbrev pub RefusedAsTooLongAlone : Type 0
 RefusedAsTooLongAlone =
     (history : List (List Triple)) (config : Config) (before : List Answered) (limit : ℕ) (text : List ℕ) (old new : Exchanging) (wire wire' : WireState) (fault : ReplyFault) (received : List ℕ)
@@ -34,4 +40,4 @@ RefusedAsTooLongAlone =
     → IsToldBy All (wire'.links refused.ends.k) → ReceivesOwed (wire'.links refused.ends.k) → OwesResponse history config (wire'.links refused.ends.k)
     → Stands (bytes_of (sent_of before)) (received_of before) old wire → AllByRecursion (IsAnswered limit) before
     → IsAddress text new.address → length (request_for new.address) ≤ head_limit → new.limit < 2 ^ 64 → IsAnsweredByAll history config new.address
-    → fault ≡ faults.TooLong
+    → (fault ≡ faults.TooLong) × IsPastLimit history config new.limit new.address

@@ -10,6 +10,7 @@ use Rattle.http_ends.specs.Requests.{request_for}
 use Rattle.exchange.specs.Exchanges.{Exchanging, IsFront, Stands, starting}
 use Rattle.request_pool.specs.declared.asks.Waiting.{Waiting}
 use Rattle.request_pool.specs.declared.asks.Flight.{Flight}
+use Rattle.request_pool.specs.declared.asks.Spare.{Spare}
 use Rattle.request_pool.specs.declared.fault.PoolFault.{PoolFault}
 use Rattle.request_pool.specs.declared.fault.Stepped.{Stepped}
 use Rattle.request_pool.specs.Pools.{Pooled, empty_pool, held, in_flight}
@@ -152,6 +153,10 @@ pub record OwnRequests (limit : ℕ) (since : WireState) (requests : ℕ → Lin
   pub front : IsFront e.sent (request_for e.address)
   pub on : IsOn since requests answered (if is_sent e then Unanswered e.address else NoneWhole) e.link
 
+-- so it would be of one that starts on a link that was left
+abbrev pub RequestsOn : ℕ → WireState → (ℕ → LinkRequests) → WireState → Spare → Type 0
+RequestsOn limit since requests wire s = (address : Address) × OwnRequests limit since requests wire (starting address limit (Some s.link))
+
 -- Since a moment, asks for these addresses were put: what was requested on each link that was given, for each test no more whole requests than tries that were used, and in all no more than exchanges that were started.
 pub record RequestedSince (asked : List Address) (since : WireState) (pool : Pooled) (wire : WireState) : Type 0 where
   pub requests : ℕ → LinkRequests
@@ -160,7 +165,7 @@ pub record RequestedSince (asked : List Address) (since : WireState) (pool : Poo
   pub waiting : AllByRecursion (λ w. IsWebAddress w.address) pool.waiting
   pub polled : AllByRecursion (λ f. OwnRequests pool.limit since requests wire f.exchange) pool.polled
   pub due : AllByRecursion (λ f. OwnRequests pool.limit since requests wire f.exchange) pool.due
-  pub spare : AllByRecursion (λ s. OwnRequests pool.limit since requests wire (starting s.address pool.limit (Some s.link))) pool.spare
+  pub spare : AllByRecursion (λ s. RequestsOn pool.limit since requests wire s) pool.spare
   pub few_failed : FewFailed pool
   pub tries : (test : Address → Bool)
       → count_sent test requests since wire + (left_waiting test pool.retries pool.waiting + left_flying test pool.retries (in_flight pool)) ≤ (pool.retries + 1) * count_by test asked

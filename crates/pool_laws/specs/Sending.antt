@@ -6,6 +6,7 @@ use Rattle.tpf_base.specs.Links.{Link, WireState, OpensGiven}
 use Rattle.tpf_base.specs.Sending.{Holds}
 use Rattle.http_ends.specs.Requests.{request_for}
 use Rattle.exchange.specs.Exchanges.{Exchanging, IsFront, Stands, starting}
+use Rattle.request_pool.specs.declared.asks.Spare.{Spare}
 use Rattle.request_pool.specs.declared.fault.PoolFault.{PoolFault}
 use Rattle.request_pool.specs.declared.fault.Stepped.{Stepped}
 use Rattle.request_pool.specs.Pools.{Pooled, empty_pool}
@@ -39,13 +40,17 @@ pub record SendsOwn (asked : Address → Type 0) (wire : WireState) (e : Exchang
   pub stands : Stands (requests_for whole) received e wire
   pub front : IsFront e.sent (request_for e.address)
 
+-- On a link that was left so would one that starts for an address that was asked for.
+abbrev pub SendsOn : (Address → Type 0) → ℕ → WireState → Spare → Type 0
+SendsOn asked limit wire s = (address : Address) × SendsOwn asked wire (starting address limit (Some s.link))
+
 -- A pool's asks are for such addresses; so is what was sent on each link that was given since the moment, and by each exchange in flight; and on each link that was left stand whole requests.
 pub record SentSince (asked : Address → Type 0) (since : WireState) (pool : Pooled) (wire : WireState) : Type 0 where
   pub given : (k : ℕ) → since.given ≤ k → k < wire.given → SendsFor asked (wire.links k)
   pub waiting : AllByRecursion (λ w. asked w.address) pool.waiting
   pub polled : AllByRecursion (λ f. SendsOwn asked wire f.exchange) pool.polled
   pub due : AllByRecursion (λ f. SendsOwn asked wire f.exchange) pool.due
-  pub spare : AllByRecursion (λ s. SendsOwn asked wire (starting s.address pool.limit (Some s.link))) pool.spare
+  pub spare : AllByRecursion (λ s. SendsOn asked pool.limit wire s) pool.spare
 
 -- ---- what keeps it, for a list of addresses
 

@@ -13,9 +13,9 @@ use Rattle.request_pool.specs.declared.fault.Stepped.TheVariants.{Came, Waited, 
 use Rattle.request_pool.specs.Pools.{Pooled, IsOverBudget, bounds_of}
 use Rattle.request_pool.specs.Polls.{FailsTo, Settles, NoLink, Kept, Shut, FlightTo}
 use Rattle.request_pool.specs.Runs.{Starts, Overruns, Flies, Starves, Turn, Start, Next, Round, Moment, Runs, Last, OfStart, OfPoll}
-use Rattle.request_pool.specs.Steps.{WaitsTo, Passes, Stalls, Misses, Lacks, Lines, InLine, AsLeft, EndsInWait, EndsInRun, EndsInFault, AtOnce, InRun, InWait, StepsTo}
+use Rattle.request_pool.specs.Steps.{WaitsTo, Passes, Stalls, Misses, Lacks, Lines, InLine, AsLeft, EndsInWait, EndsInRun, EndsInFault, AtOnce, InRun, InWait, StepsTo, EndsPool}
 use Rattle.request_pool.specs.Owned.{SuitsWire}
-use Rattle.request_pool.specs.Faults.{keeps_bytes}
+use Rattle.request_pool.specs.Faults.{kept_of}
 
 settles_bounds : (o : Option ℕ) (address : Address) (p q : Pooled) (a b : WireState) → Settles o address p q a b → bounds_of q ≡ bounds_of p
 settles_bounds o address p q a b (NoLink e f h) = ap bounds_of f
@@ -24,7 +24,7 @@ settles_bounds o address p q a b (Shut k e full f c) = ap bounds_of f
 
 pub flight_bounds : (result : Result Polled PoolFault) (f : Flight) (p q : Pooled) (a b : WireState) → FlightTo result f p q a b → bounds_of q ≡ bounds_of p
 flight_bounds (Ok polls.Pending) f p q a b h = ap bounds_of h.1
-flight_bounds (Ok (polls.Came ticket answer)) f p q a b h = settles_bounds (left_link h.1.now) h.1.now.address p q h.0 b h.3
+flight_bounds (Ok (polls.Came ticket address answer)) f p q a b h = settles_bounds (left_link h.1.now) h.1.now.address p q h.0 b h.3
 flight_bounds (Ok polls.Failed) f p q a b h = ap bounds_of h.4
 flight_bounds (Err faults.Exchange) f p q a b h = ap bounds_of h.2
 flight_bounds (Err (faults.Cut received)) f p q a b h = ap bounds_of h.2
@@ -77,7 +77,7 @@ breaks_bounds fault p q a b (InWait h) = ends_bounds (Err fault) p q a b h
 breaks_bounds fault p q a b (AtOnce e f h) = ap bounds_of f
 
 pub step_bounds : (result : Result Stepped PoolFault) (p q : Pooled) (a b : WireState) → StepsTo result p q a b → bounds_of q ≡ bounds_of p
-step_bounds (Ok (Came ticket answer)) p q a b h = ended_bounds (Ok (polls.Came ticket answer)) p q a b h
+step_bounds (Ok (Came ticket address answer)) p q a b h = ended_bounds (Ok (polls.Came ticket address answer)) p q a b h
 step_bounds (Ok Waited) p q a b h = ends_bounds (Ok Waited) p q a b h
 step_bounds (Ok Idle) p q a b h = ap bounds_of h.1
 step_bounds (Err fault) p q a b h = breaks_bounds fault p q a b h
@@ -85,21 +85,13 @@ step_bounds (Err fault) p q a b h = breaks_bounds fault p q a b h
 pub step_fault : (result : Result Stepped PoolFault) (p q : Pooled) (a b : WireState) → p.fault ≡ None → StepsTo result p q a b → q.fault ≡ None
 step_fault result p q a b e h = ap (λ (x : Pooled). x.fault) (step_bounds result p q a b h) ∙ e
 
--- ---- the fault again
-
-pub again_err : (shown fault : PoolFault) → (shown ≡ fault) ⊎ (shown ≡ faults.OutOfMemory) → (◌≡◌ {A = Result Stepped PoolFault} (Err shown) (Err fault)) ⊎ (◌≡◌ {A = Result Stepped PoolFault} (Err shown) (Err faults.OutOfMemory))
-again_err shown fault (inl e) = inl (ap (λ (x : PoolFault). Err x) e)
-again_err shown fault (inr e) = inr (ap (λ (x : PoolFault). Err x) e)
+-- ---- the fault that ends it
 
 pub no_both : (o : Option PoolFault) (fault : PoolFault) → o ≡ None → o ≡ Some fault → ⊥
 no_both o fault e f = let g : None ≡ Some fault = sym e ∙ f in cc
 
--- the fault with which a pool ends is the one that is shown, where it keeps no bytes
-pub plain_end : (ended fault shown : PoolFault) (p q : Pooled) → q ≡ record p { fault = Some ended } → q.fault ≡ Some fault → keeps_bytes fault ≡ false → (keeps_bytes ended ≡ false → shown ≡ ended) → shown ≡ fault
-plain_end ended fault shown p q e s k h =
-    let known : q.fault ≡ Some ended = ap (λ (x : Pooled). x.fault) e in
-    let same : ended ≡ fault = cc (known, s) in
-    h (subst (λ (x : PoolFault). keeps_bytes x ≡ false) (sym same) k) ∙ same
+pub again_fault : (o : Option PoolFault) (shown kept fault : PoolFault) → shown ≡ kept → o ≡ Some kept → o ≡ Some fault → ◌≡◌ {A = Result Stepped PoolFault} (Err shown) (Err fault)
+again_fault o shown kept fault e f h = let g : Some kept ≡ Some fault = sym f ∙ h in let same : kept ≡ fault = cc in ap (λ (x : PoolFault). Err x) (e ∙ same)
 
 pub suits_fault : (p q : Pooled) (o : Option PoolFault) (a : WireState) → q ≡ record p { fault = o } → SuitsWire p a → SuitsWire q a
 suits_fault p q o a e s = subst (λ (x : Pooled). SuitsWire x a) (sym e) (record { polled = s.polled; due = s.due; owned = s.owned })
@@ -107,14 +99,11 @@ suits_fault p q o a e s = subst (λ (x : Pooled). SuitsWire x a) (sym e) (record
 no_fault_is : (p : Pooled) → p.fault ≡ None → record p { fault = None } ≡ p
 no_fault_is p e = ap (λ (x : Option PoolFault). record p { fault = x }) (sym e)
 
-pub end_steps : (fault shown : PoolFault) (p q r : Pooled) (a b : WireState) → p.fault ≡ None → StepsTo (Err fault) p q a b → r ≡ record q { fault = Some fault } → (shown ≡ fault) ⊎ (shown ≡ faults.OutOfMemory)
-    → (y : PoolFault) × StepsTo (Err y) p (record r { fault = None }) a b × (r.fault ≡ Some y) × ((shown ≡ y) ⊎ (shown ≡ faults.OutOfMemory))
-end_steps fault shown p q r a b e h i s = (
-  fault,
-  subst (λ (x : Pooled). StepsTo (Err fault) p x a b) (sym (ap (λ (x : Pooled). record x { fault = None }) i ∙ no_fault_is q (step_fault (Err fault) p q a b e h))) h,
-  ap (λ (x : Pooled). x.fault) i,
-  s,
-)
+pub end_steps : (fault : PoolFault) (p q r : Pooled) (a b : WireState) → p.fault ≡ None → StepsTo (Err fault) p q a b → r ≡ record q { fault = Some (kept_of fault) } → EndsPool fault p r a b
+end_steps fault p q r a b e h i = record {
+  steps = subst (λ (x : Pooled). StepsTo (Err fault) p x a b) (sym (ap (λ (x : Pooled). record x { fault = None }) i ∙ no_fault_is q (step_fault (Err fault) p q a b e h))) h;
+  kept = ap (λ (x : Pooled). x.fault) i;
+}
 
 pub end_bounds : (result : Result Stepped PoolFault) (p q r : Pooled) (o : Option PoolFault) (a b : WireState) → StepsTo result p q a b → r ≡ record q { fault = o } → bounds_of (record r { fault = None }) ≡ bounds_of (record p { fault = None })
 end_bounds result p q r o a b h i = ap (λ (x : Pooled). bounds_of (record x { fault = None })) i ∙ ap (λ (x : Pooled). record x { fault = None }) (step_bounds result p q a b h)
@@ -124,20 +113,6 @@ went_bounds result p q a b h = ap (λ (x : Pooled). record x { fault = None }) (
 
 pub no_idle : (fault : PoolFault) → ◌≡◌ {A = Result Stepped PoolFault} (Err fault) (Ok Idle) → ⊥
 no_idle fault e = cc
-
-err_is : (x y : PoolFault) → ◌≡◌ {A = Result Stepped PoolFault} (Err x) (Err y) → x ≡ y
-err_is x y e = cc
-
-shown_by : (fault shown other : PoolFault) → fault ≡ other → (shown ≡ fault) ⊎ (shown ≡ faults.OutOfMemory) → (◌≡◌ {A = Result Stepped PoolFault} (Err shown) (Err other)) ⊎ (◌≡◌ {A = Result Stepped PoolFault} (Err shown) (Err faults.OutOfMemory))
-shown_by fault shown other e (inl s) = inl (ap (λ (x : PoolFault). Err x) (s ∙ e))
-shown_by fault shown other e (inr s) = inr (ap (λ (x : PoolFault). Err x) s)
-
--- the budget is over, or memory
-pub over_shown : (fault shown : PoolFault) → (◌≡◌ {A = Result Stepped PoolFault} (Err fault) (Err faults.Budget)) ⊎ (◌≡◌ {A = Result Stepped PoolFault} (Err fault) (Err faults.OutOfMemory))
-    → (shown ≡ fault) ⊎ (shown ≡ faults.OutOfMemory) → (◌≡◌ {A = Result Stepped PoolFault} (Err shown) (Err faults.Budget)) ⊎ (◌≡◌ {A = Result Stepped PoolFault} (Err shown) (Err faults.OutOfMemory))
-over_shown fault shown (inl e) s = shown_by fault shown faults.Budget (err_is fault faults.Budget e) s
-over_shown fault shown (inr e) (inl s) = inr (ap (λ (x : PoolFault). Err x) (s ∙ err_is fault faults.OutOfMemory e))
-over_shown fault shown (inr e) (inr s) = inr (ap (λ (x : PoolFault). Err x) s)
 
 pub not_over : (b : Bool) (q : Pooled) → (IsOverBudget q → IsTrue b) → b ≡ false → IsOverBudget q → ⊥
 not_over b q h e o = let t : false ≡ true = sym e ∙ h o in cc

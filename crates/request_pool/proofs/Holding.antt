@@ -55,17 +55,17 @@ flight_holds (Ok polls.Pending) f p q a b e h =
 flight_holds (Ok polls.Failed) f p q a b e h =
     let same : held q ≡ ask_flying f ∷ held p = ap held h.4 ∙ ap (λ (x : Ask). x ∷ held p) (same_ask _ f a b h.1) in
     subst (λ (l : List Ask). IsPermutation (held_with f p) l) (sym same) (held_out f p)
-flight_holds (Ok (polls.Came ticket answer)) f p q a b e h = cc
+flight_holds (Ok (polls.Came ticket address answer)) f p q a b e h = cc
 flight_holds (Err fault) f p q a b e h = cc
 
-begun_holds : (p q : Pooled) (f : Flight) → Begins p q f → IsPermutation (held p) (held_with f q)
+pub begun_holds : (p q : Pooled) (f : Flight) → Begins p q f → IsPermutation (held p) (held_with f q)
 begun_holds p q f b =
     let r : Pooled = record p { waiting = b.rest; spare = b.spare; started = p.started + 1 } in
     let first : held p ≡ ask_waiting b.first ∷ held r = ap (λ (l : List Waiting). map ask_waiting l ++ map ask_flying (in_flight p)) b.is_first in
     let same : ask_flying f ≡ ask_waiting b.first = ap ask_flying b.flight in
     IsPermutation-sym _ _ (permuted (held_with f q) (held p) (held_with f r) (ask_flying f ∷ held r) (ap (held_with f) b.is_new) (first ∙ ap (λ (x : Ask). x ∷ held r) (sym same)) (held_out f r))
 
-end_of : (result : Result Polled PoolFault) (fault : PoolFault) → result ≡ Err fault → is_end result ≡ false → ⊥
+pub end_of : (result : Result Polled PoolFault) (fault : PoolFault) → result ≡ Err fault → is_end result ≡ false → ⊥
 end_of result fault e f = let g : true ≡ false = sym (ap is_end e) ∙ f in cc
 
 starts_holds : (result : Result Polled PoolFault) (p q : Pooled) (a b : WireState) → is_end result ≡ false → Starts result p q a b → IsPermutation (held p) (held q)
@@ -91,37 +91,39 @@ running_holds p q a b h = runs_hold h.moments p q a b h.runs
 
 -- ---- at the end of a run
 
-settles_held : (o : Option ℕ) (address : Address) (p q : Pooled) (a b : WireState) → Settles o address p q a b → held q ≡ held p
+pub settles_held : (o : Option ℕ) (address : Address) (p q : Pooled) (a b : WireState) → Settles o address p q a b → held q ≡ held p
 settles_held o address p q a b (NoLink e f h) = ap held f
 settles_held o address p q a b (Kept k e room f h) = ap held f
 settles_held o address p q a b (Shut k e full f c) = ap held f
 
-flight_came : (ticket : ℕ) (answer : Reply) (f : Flight) (p q : Pooled) (a b : WireState) → FlightTo (Ok (polls.Came ticket answer)) f p q a b → IsPermutation (held_with f p) (ask_flying f ∷ held q)
-flight_came ticket answer f p q a b h =
+flight_came : (ticket : ℕ) (address : Address) (answer : Reply) (f : Flight) (p q : Pooled) (a b : WireState) → FlightTo (Ok (polls.Came ticket address answer)) f p q a b → IsPermutation (held_with f p) (ask_flying f ∷ held q)
+flight_came ticket address answer f p q a b h =
     subst (λ (l : List Ask). IsPermutation (held_with f p) (ask_flying f ∷ l)) (sym (settles_held (left_link h.1.now) h.1.now.address p q h.0 b h.3)) (held_out f p)
 
-no_came : (ticket : ℕ) (answer : Reply) (fault : PoolFault) → ◌≡◌ {A = Result Polled PoolFault} (Ok (polls.Came ticket answer)) (Err fault) → ⊥
-no_came ticket answer fault e = cc
+pub no_came : (ticket : ℕ) (address : Address) (answer : Reply) (fault : PoolFault) → ◌≡◌ {A = Result Polled PoolFault} (Ok (polls.Came ticket address answer)) (Err fault) → ⊥
+no_came ticket address answer fault e = cc
 
-starts_came : (ticket : ℕ) (answer : Reply) (p q : Pooled) (a b : WireState) → Starts (Ok (polls.Came ticket answer)) p q a b → HandsOut ticket p q
-starts_came ticket answer p q a b (Overruns r budget f h) = absurd (no_came ticket answer faults.Budget r)
-starts_came ticket answer p q a b (Starves r mid f begins is shuts) = absurd (no_came ticket answer faults.OutOfMemory r)
-starts_came ticket answer p q a b (Flies mid f budget begins to) = record {
+starts_came : (ticket : ℕ) (address : Address) (answer : Reply) (p q : Pooled) (a b : WireState) → Starts (Ok (polls.Came ticket address answer)) p q a b → HandsOut ticket address p q
+starts_came ticket address answer p q a b (Overruns r budget f h) = absurd (no_came ticket address answer faults.Budget r)
+starts_came ticket address answer p q a b (Starves r mid f begins is shuts) = absurd (no_came ticket address answer faults.OutOfMemory r)
+starts_came ticket address answer p q a b (Flies mid f budget begins to) = record {
   ask = ask_flying f;
   is_ticket = sym to.2;
-  others = IsPermutation-trans _ _ _ (begun_holds p mid f begins) (flight_came ticket answer f mid q a b to);
+  is_address = sym (to.4 ∙ to.1.touches.address);
+  others = IsPermutation-trans _ _ _ (begun_holds p mid f begins) (flight_came ticket address answer f mid q a b to);
 }
 
-next_came : (ticket : ℕ) (answer : Reply) (p q : Pooled) (a b : WireState) → PollsNext (Ok (polls.Came ticket answer)) p q a b → HandsOut ticket p q
-next_came ticket answer p q a b h = record {
+next_came : (ticket : ℕ) (address : Address) (answer : Reply) (p q : Pooled) (a b : WireState) → PollsNext (Ok (polls.Came ticket address answer)) p q a b → HandsOut ticket address p q
+next_came ticket address answer p q a b h = record {
   ask = ask_flying h.f;
   is_ticket = sym h.to.2;
-  others = subst (λ (l : List Flight). IsPermutation (map ask_waiting p.waiting ++ map ask_flying (p.polled ++ l)) (ask_flying h.f ∷ held q)) (sym h.is_next) (flight_came ticket answer h.f (record p { due = h.rest }) q a b h.to);
+  is_address = sym (h.to.4 ∙ h.to.1.touches.address);
+  others = subst (λ (l : List Flight). IsPermutation (map ask_waiting p.waiting ++ map ask_flying (p.polled ++ l)) (ask_flying h.f ∷ held q)) (sym h.is_next) (flight_came ticket address answer h.f (record p { due = h.rest }) q a b h.to);
 }
 
-last_came : (ticket : ℕ) (answer : Reply) (p q : Pooled) (a b : WireState) → Last (Ok (polls.Came ticket answer)) p q a b → HandsOut ticket p q
-last_came ticket answer p q a b (OfStart h) = starts_came ticket answer p q a b h
-last_came ticket answer p q a b (OfPoll h) = next_came ticket answer p q a b h
+last_came : (ticket : ℕ) (address : Address) (answer : Reply) (p q : Pooled) (a b : WireState) → Last (Ok (polls.Came ticket address answer)) p q a b → HandsOut ticket address p q
+last_came ticket address answer p q a b (OfStart h) = starts_came ticket address answer p q a b h
+last_came ticket address answer p q a b (OfPoll h) = next_came ticket address answer p q a b h
 
 gathered_held : (p : Pooled) → held (record p { polled = in_flight p; due = [] }) ≡ held p
 gathered_held p = ap (λ (l : List Flight). map ask_waiting p.waiting ++ map ask_flying l) (append-nil (in_flight p))
@@ -130,12 +132,13 @@ pub lined_held : (p r : Pooled) → Lines p r → held r ≡ held p
 lined_held p r (InLine e) = ap held e ∙ gathered_held p
 lined_held p r (AsLeft e) = ap held e
 
-pub step_came : (ticket : ℕ) (answer : Reply) (p q : Pooled) (a b : WireState) → EndsInRun (Ok (polls.Came ticket answer)) p q a b → HandsOut ticket p q
-step_came ticket answer p q a b h =
-    let c = last_came ticket answer h.mid q h.between b h.last in
+pub step_came : (ticket : ℕ) (address : Address) (answer : Reply) (p q : Pooled) (a b : WireState) → EndsInRun (Ok (polls.Came ticket address answer)) p q a b → HandsOut ticket address p q
+step_came ticket address answer p q a b h =
+    let c = last_came ticket address answer h.mid q h.between b h.last in
     record {
       ask = c.ask;
       is_ticket = c.is_ticket;
+      is_address = c.is_address;
       others = subst (λ (l : List Ask). IsPermutation l (c.ask ∷ held q)) (lined_held p h.line h.lines) (IsPermutation-trans _ _ _ (running_holds h.line h.mid a h.between h.running) c.others);
     }
 
@@ -158,6 +161,6 @@ step_waited s p q a b h =
     subst (λ (l : List Ask). IsPermutation l (held q)) (lined_held p h.line h.lines) (IsPermutation-trans _ _ _ (running_holds h.line h.mid a h.between h.running) (waits_held (Ok s) s h.mid q h.between b refl h.waits))
 
 pub step_holds : (s : Stepped) (p q : Pooled) (a b : WireState) → StepsTo (Ok s) p q a b → HoldsOn s p q
-step_holds (Came ticket answer) p q a b h = step_came ticket answer p q a b h
+step_holds (Came ticket address answer) p q a b h = step_came ticket address answer p q a b h
 step_holds Waited p q a b h = step_waited Waited p q a b h
 step_holds Idle p q a b h = h.1

@@ -36,10 +36,10 @@ left_shut e a b c =
     (subst (λ (x : Option ℕ). ClosedOn x b) (sym same) c.closes.is_open, inr (subst (λ (x : Option ℕ). Shuts x a b) (sym same) c.closes))
 
 pub on_came : (result : Result Polled PoolFault) (answer : Reply) (f : Flight) (e : Exchanging) (p q : Pooled) (a m b : WireState) → Touches f.exchange e a m → Answers f.exchange e a m (poll.Ready (Ok answer))
-    → IfOk result (λ polled. (polled ≡ polls.Came f.ticket answer) × Settles (left_link e) e.address p q m b)
+    → IfOk result (λ polled. (polled ≡ polls.Came f.ticket e.address answer) × Settles (left_link e) e.address p q m b)
     → IfErr result (λ fault. (fault ≡ faults.OutOfMemory) × (q ≡ p) × ClosesLeft (left_link e) m b) → FlightTo result f p q a b
 on_came (Ok polled) answer f e p q a m b t w h i =
-    subst (λ (x : Polled). FlightTo (Ok x) f p q a b) (sym h.0) (m, record { now = e; touches = t; answers = w }, refl, h.1)
+    subst (λ (x : Polled). FlightTo (Ok x) f p q a b) (sym h.0) (m, record { now = e; touches = t; answers = w }, refl, h.1, refl)
 on_came (Err fault) answer f e p q a m b t w h i =
     subst (λ (x : PoolFault). FlightTo (Err x) f p q a b) (sym i.0) (poll.Ready (Ok answer), m, record { now = e; touches = t; answers = w }, i.1, left_shut e m b i.2)
 

@@ -23,6 +23,7 @@ use Rattle.request_pool.specs.Runs.{Starts, Overruns, Flies, Starves, Turn, Star
 use Rattle.request_pool.specs.Steps.{RisenOn, AsleepOn}
 use Rattle.request_pool.proofs.Owned.{at_or_off, on_same, linked_open, flights_on-append, rest_none}
 use Rattle.request_pool.proofs.Suits.{Owns, owns_begun, owns_next, flight_suits, underway-append, suits_as}
+use Rattle.request_pool.proofs.Holding.{end_of}
 
 -- links are not forgotten, and no count of stalls falls
 pub record Later (a b : WireState) : Type 0 where
@@ -38,7 +39,7 @@ later_then a b c h i = record { given = omega (arith, h.given, i.given); stalls 
 same_stalls : (a b : WireState) (k : ℕ) → b.links k ≡ a.links k → (a.links k).stalls ≤ (b.links k).stalls
 same_stalls a b k e = let f : (b.links k).stalls ≡ (a.links k).stalls = ap (λ (x : Link). x.stalls) e in omega (arith, f)
 
-some_is : (i k : ℕ) → Some i ≡ Some k → i ≡ k
+pub some_is : (i k : ℕ) → Some i ≡ Some k → i ≡ k
 some_is i k e = cc
 
 later_link : (address : Address) (o p : Option ℕ) (a b : WireState) → LinkAfter address o p a b → ((k : ℕ) → p ≢ Some k → b.links k ≡ a.links k) → Later a b
@@ -56,7 +57,7 @@ later_link address None (Some i) a b l same = record {
 pub later_poll : (e f : Exchanging) (a b : WireState) → Touches e f a b → Later a b
 later_poll e f a b t = later_link e.address e.link f.link a b t.link t.others
 
-given_is : (a : WireState) (k : ℕ) → OpensGiven a → (a.links k).is_open ≡ true → k < a.given
+pub given_is : (a : WireState) (k : ℕ) → OpensGiven a → (a.links k).is_open ≡ true → k < a.given
 given_is a k g h = elim (cases_lt k a.given) [ inl l ↦ l | inr l ↦ absurd (let e : true ≡ false = sym h ∙ g k l in cc) ]
 
 opens_link : (address : Address) (o p : Option ℕ) (a b : WireState) → LinkAfter address o p a b → ((k : ℕ) → p ≢ Some k → b.links k ≡ a.links k) → OpensGiven a → IsLinked o a → OpensGiven b
@@ -141,7 +142,7 @@ asleep_on : (o : Option ℕ) (a b : WireState) → ((k : ℕ) → o ≡ Some k �
 asleep_on None a b same h = h
 asleep_on (Some k) a b same h = ap (λ (x : Link). x.woken) (same k refl) ∙ h
 
-on_its : (o : Option ℕ) (k : ℕ) → o ≡ Some k → on_link o k ≡ 1
+pub on_its : (o : Option ℕ) (k : ℕ) → o ≡ Some k → on_link o k ≡ 1
 on_its None k e = cc
 on_its (Some i) k e = on_same i k (some_is i k e)
 
@@ -195,11 +196,8 @@ flight_fares (Ok polls.Failed) known since f p q a b e g o later risen asleep h 
       risen = λ (k : known ≡ true). subst (λ (x : Pooled). AreRisen since b x.polled) (sym h.4) (are_risen since a b p.polled l (risen k));
       asleep = λ (k : known ≡ true). subst (λ (x : Pooled). AreAsleep b x.polled) (sym h.4) (asleep_rest (poll.Ready (Err h.0)) f p a b g o h.1 (asleep k));
     }
-flight_fares (Ok (polls.Came ticket answer)) known since f p q a b e g o later risen asleep h = cc
+flight_fares (Ok (polls.Came ticket address answer)) known since f p q a b e g o later risen asleep h = cc
 flight_fares (Err fault) known since f p q a b e g o later risen asleep h = cc
-
-end_of : (result : Result Polled PoolFault) (fault : PoolFault) → result ≡ Err fault → is_end result ≡ false → ⊥
-end_of result fault e f = let g : true ≡ false = sym (ap is_end e) ∙ f in cc
 
 starts_fares : (result : Result Polled PoolFault) (known : Bool) (since : WireState) (p q : Pooled) (a b : WireState) → is_end result ≡ false → Fares known since p a → Starts result p q a b → Fares known since q b
 starts_fares result known since p q a b e h (Overruns r budget f i) = absurd (end_of result faults.Budget r e)

@@ -62,7 +62,7 @@ settles_keeps o address p q a b (Shut k e full f c) = keeps_same p q f
 
 flight_keeps : (result : Result Polled PoolFault) (f : Flight) (p q : Pooled) (a b : WireState) → FlightTo result f p q a b → Keeps p q
 flight_keeps (Ok polls.Pending) f p q a b h = keeps_as p _ q h.1 (record { links = refl; budget = refl; started = refl; due = refl })
-flight_keeps (Ok (polls.Came ticket answer)) f p q a b h = settles_keeps _ _ p q h.0 b h.3
+flight_keeps (Ok (polls.Came ticket address answer)) f p q a b h = settles_keeps _ _ p q h.0 b h.3
 flight_keeps (Ok polls.Failed) f p q a b h = keeps_as p _ q h.4 (record { links = refl; budget = refl; started = refl; due = refl })
 flight_keeps (Err faults.Exchange) f p q a b h = keeps_same p q h.2
 flight_keeps (Err (faults.Cut received)) f p q a b h = keeps_same p q h.2
@@ -208,8 +208,8 @@ held_after p q r a b l h n = still_held (held q) (held r) (running_holds q r a b
 ended_at : (result : Result Polled PoolFault) (p q r : Pooled) (a b : WireState) → Lines p q → is_end result ≡ true → RunsTo result q r a b → EndsInRun result p r a b
 ended_at result p q r a b l end h = let e = ended result q r a b end h in record { line = q; lines = l; mid = e.mid; between = e.between; running = e.running; last = e.last }
 
-pub came_steps : (ticket : ℕ) (answer : Reply) (p q r : Pooled) (a b : WireState) → Lines p q → RunsTo (Ok (polls.Came ticket answer)) q r a b → StepsTo (Ok (Came ticket answer)) p r a b
-came_steps ticket answer p q r a b e h = ended_at (Ok (polls.Came ticket answer)) p q r a b e refl h
+pub came_steps : (ticket : ℕ) (address : Address) (answer : Reply) (p q r : Pooled) (a b : WireState) → Lines p q → RunsTo (Ok (polls.Came ticket address answer)) q r a b → StepsTo (Ok (Came ticket address answer)) p r a b
+came_steps ticket address answer p q r a b e h = ended_at (Ok (polls.Came ticket address answer)) p q r a b e refl h
 
 pub fault_steps : (fault : PoolFault) (p q r : Pooled) (a b : WireState) → Lines p q → RunsTo (Err fault) q r a b → StepsTo (Err fault) p r a b
 fault_steps fault p q r a b e h = InRun (ended_at (Err fault) p q r a b e refl h)

@@ -2,7 +2,7 @@
 use Rattle.std.proofs.Common.{ℕ, ◌≡◌, ◌+◌, ◌≤◌, ◌⊎◌, inl, inr, ◌++◌, List, [], ◌∷◌, Option, Some, None, true, Result, Ok, Err, refl, sym, ◌∙◌, ap, subst, arith}
 use Rattle.futures.specs.declared.task.Poll.{Poll}
 use Rattle.futures.specs.declared.task.Poll.TheVariants as poll
-use Rattle.tpf_base.specs.Addresses.{Address}
+use Rattle.tpf_base.specs.Addresses.{Address, authority_of}
 use Rattle.tpf_base.specs.declared.fault.Fault.{Fault}
 use Rattle.tpf_base.specs.declared.wire.Ready.{Ready}
 use Rattle.tpf_base.specs.declared.wire.Ready.TheVariants as ready
@@ -69,10 +69,10 @@ settles_suits s o address p q a b up ud rest none linked (NoLink e f h) = suits_
 settles_suits s o address p q a b up ud rest none linked (Kept k e room f h) =
     let l = left_is s o k e in
     let own = own_after (Some k) a (held_on p) rest (λ (j : ℕ) (x : Some k ≡ Some j). none j (l.1 ∙ x)) (linked_at o k a l.1 (linked l.0)) in
-    suits_as (record p { spare = p.spare ++ (record { link = k; address = address }) ∷ [] }) q a b f h (record {
+    suits_as (record p { spare = p.spare ++ (record { link = k; authority = authority_of address }) ∷ [] }) q a b f h (record {
       polled = up;
       due = ud;
-      owned = λ j. omega (arith, own j, spare_on-append p.spare ((record { link = k; address = address }) ∷ []) j);
+      owned = λ j. omega (arith, own j, spare_on-append p.spare ((record { link = k; authority = authority_of address }) ∷ []) j);
     })
 settles_suits s o address p q a b up ud rest none linked (Shut k e full f c) =
     let l = left_is s o k e in
@@ -92,7 +92,7 @@ flight_suits (Ok polls.Pending) f p q a b g o h =
       due = o.due;
       owned = λ k. omega (arith, own k, flights_on-append p.polled ((record f { exchange = h.0.now }) ∷ []) k);
     })
-flight_suits (Ok (polls.Came ticket answer)) f p q a b g o h =
+flight_suits (Ok (polls.Came ticket address answer)) f p q a b g o h =
     let w = h.1.answers in
     settles_suits h.1.now.standing h.1.now.link h.1.now.address p q h.0 b o.polled o.due (rest_of (poll.Ready (Ok answer)) f p a h.0 g o h.1) (none_of (poll.Ready (Ok answer)) f p a h.0 g o h.1)
     (λ (e : h.1.now.standing ≡ Left). subst (λ (x : Option ℕ). IsLinked x h.0) (sym w.link) (w.is_open e).0) h.3

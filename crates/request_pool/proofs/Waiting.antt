@@ -31,7 +31,7 @@ settles_waits o address p q a b (Shut k e full f c) = c.only.waits
 
 flight_waits : (result : Result Polled PoolFault) (f : Flight) (p q : Pooled) (a b : WireState) → FlightTo result f p q a b → b.waits ≡ a.waits
 flight_waits (Ok polls.Pending) f p q a b h = h.0.touches.waits
-flight_waits (Ok (polls.Came ticket answer)) f p q a b h = settles_waits (left_link h.1.now) h.1.now.address p q h.0 b h.3 ∙ h.1.touches.waits
+flight_waits (Ok (polls.Came ticket address answer)) f p q a b h = settles_waits (left_link h.1.now) h.1.now.address p q h.0 b h.3 ∙ h.1.touches.waits
 flight_waits (Ok polls.Failed) f p q a b h = h.1.touches.waits
 flight_waits (Err faults.Exchange) f p q a b h = h.0.touches.waits
 flight_waits (Err (faults.Cut received)) f p q a b h = h.0.touches.waits
@@ -79,7 +79,7 @@ breaks_waits fault p q a b (InWait h) = inr (ends_waits (Err fault) p q a b h)
 breaks_waits fault p q a b (AtOnce e f h) = inl (ap (λ (x : WireState). x.waits) h)
 
 pub step_waits : (result : Result Stepped PoolFault) (p q : Pooled) (a b : WireState) → StepsTo result p q a b → WaitsOnce result a b
-step_waits (Ok (Came ticket answer)) p q a b h = ended_waits (Ok (polls.Came ticket answer)) p q a b h
+step_waits (Ok (Came ticket address answer)) p q a b h = ended_waits (Ok (polls.Came ticket address answer)) p q a b h
 step_waits (Ok Waited) p q a b h = ends_waits (Ok Waited) p q a b h
 step_waits (Ok Idle) p q a b h = ap (λ (x : WireState). x.waits) h.2
 step_waits (Err fault) p q a b h = breaks_waits fault p q a b h

@@ -1,5 +1,5 @@
 -- Links are closed.
-use Rattle.std.specs.Prelude.{ℕ, ◌≡◌, ◌+◌, ◌<◌, false, length, Option}
+use Rattle.std.specs.Prelude.{ℕ, ◌≡◌, ◌+◌, ◌<◌, false, length, Option, []}
 use Rattle.tpf_base.specs.Links.{Link, WireState}
 use Rattle.request_pool.specs.Pools.{Pooled}
 use Rattle.request_pool.specs.Owned.{on_link, held_on}
@@ -29,6 +29,10 @@ pub record ClosesSome (was is : ℕ → ℕ) (wire wire' : WireState) : Type 0 w
 -- how many exchanges in flight and links that were left a pool holds
 abbrev pub count_held : Pooled → ℕ
 count_held pool = length pool.polled + length pool.due + length pool.spare
+
+-- no exchange is in flight, and no link was left
+abbrev pub HoldsNoLink : Pooled → Type 0
+HoldsNoLink pool = (pool.polled ≡ []) × (pool.due ≡ []) × (pool.spare ≡ [])
 
 -- An exchange, or a link that was left, with this link was taken out of a pool.
 pub record PopsLink (link : Option ℕ) (old new : Pooled) : Type 0 where

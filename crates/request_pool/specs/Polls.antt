@@ -1,5 +1,5 @@
 -- What a poll of one exchange in flight comes to.
-use Rattle.std.specs.Prelude.{ℕ, ◌≡◌, ◌+◌, ◌<◌, ◌≤◌, ◌⊎◌, ◌++◌, List, [], ◌∷◌, length, Option, Some, None, Result, Ok, Err, IfOk}
+use Rattle.std.specs.Prelude.{ℕ, ◌≡◌, ◌+◌, ◌<◌, ◌≤◌, ◌⊎◌, ◌++◌, List, [], ◌∷◌, length, Option, Some, None, Result, Ok, Err, IfOk, slice_index_or}
 use Rattle.std.specs.List.{All}
 use Rattle.futures.specs.declared.task.Poll.{Poll}
 use Rattle.futures.specs.declared.task.Poll.TheVariants as poll
@@ -18,7 +18,7 @@ use Rattle.request_pool.specs.declared.fault.Polled.{Polled}
 use Rattle.request_pool.specs.declared.fault.Polled.TheVariants as polls
 use Rattle.request_pool.specs.declared.fault.PoolFault.{PoolFault}
 use Rattle.request_pool.specs.declared.fault.PoolFault.TheVariants as faults
-use Rattle.request_pool.specs.Pools.{Pooled}
+use Rattle.request_pool.specs.Pools.{Pooled, with_polled, with_spare}
 
 -- ---- links
 
@@ -27,10 +27,10 @@ abbrev pub Shuts : Option ℕ → WireState → WireState → Type 0
 Shuts None wire wire' = wire' ≡ wire
 Shuts (Some k) wire wire' = Closes k wire wire'
 
--- A link that an exchange left is kept with the address where the pool keeps fewer than its bound, and else closed.
+-- A link that an exchange left is kept with the authority of its address where the pool keeps fewer than its bound, and else closed.
 pub data Settles (left : Option ℕ) (address : Address) (old new : Pooled) (wire wire' : WireState) : Type 0 where
   NoLink : left ≡ None → new ≡ old → wire' ≡ wire → Settles left address old new wire wire'
-  Kept : (k : ℕ) → left ≡ Some k → length old.spare < old.links → new ≡ record old { spare = old.spare ++ (record { link = k; address = address }) ∷ [] } → wire' ≡ wire → Settles left address old new wire wire'
+  Kept : (k : ℕ) → left ≡ Some k → length old.spare < old.links → new ≡ with_spare k address old → wire' ≡ wire → Settles left address old new wire wire'
   Shut : (k : ℕ) → left ≡ Some k → old.links ≤ length old.spare → new ≡ old → Closes k wire wire' → Settles left address old new wire wire'
 
 -- a link was left, and is closed
@@ -41,7 +41,14 @@ pub record ClosesLeft (left : Option ℕ) (wire wire' : WireState) : Type 0 wher
 
 -- the link was left by an exchange with the same authority
 abbrev pub IsFor : Address → Spare → Type 0
-IsFor address spare = authority_of spare.address ≡ authority_of address
+IsFor address spare = spare.authority ≡ authority_of address
+
+-- none of the links was left for it, and the one at a place was
+abbrev pub NoneIsFor : Address → List Spare → Type 0
+NoneIsFor address spares = All (λ s. ¬ IsFor address s) spares
+
+abbrev pub IsForAt : Address → List Spare → ℕ → Type 0
+IsForAt address spares i = (i < length spares) × ((d : Spare) → IsFor address (slice_index_or spares i d))
 
 -- one of the links is taken
 pub record TakesOne (spare : Spare) (old new : List Spare) : Type 0 where
@@ -73,6 +80,25 @@ EndsTo (exchanges.Cut received) result f old new = FailsTo (faults.Cut received)
 EndsTo (exchanges.Bad fault received) result f old new = (result ≡ Err (faults.Reply fault received)) × (new ≡ old)
 EndsTo exchanges.OutOfMemory result f old new = (result ≡ Err faults.OutOfMemory) × (new ≡ old)
 
+-- an ask under a ticket that failed so often
+abbrev pub waiting_for : ℕ → Address → ℕ → Waiting
+waiting_for ticket address failed = record { ticket = ticket; address = address; failed = failed }
+
+-- an exchange goes on, behind the others that were polled; or its link is closed out of memory
+abbrev pub GoesBehind : Flight → Polled → Pooled → Pooled → WireState → WireState → Type 0
+GoesBehind f polled old new wire wire' = (polled ≡ polls.Pending) × (new ≡ with_polled f old) × (wire' ≡ wire)
+
+abbrev pub IsLost : Flight → PoolFault → Pooled → Pooled → WireState → WireState → Type 0
+IsLost f fault old new wire wire' = (fault ≡ faults.OutOfMemory) × (new ≡ old) × Shuts f.exchange.link wire wire'
+
+-- the reply of an exchange is handed out with its address; or it is lost out of memory, and a link that was left is closed
+abbrev pub IsHandedOut : Flight → Reply → Polled → Pooled → Pooled → WireState → WireState → Type 0
+IsHandedOut f answer polled old new wire wire' =
+    (polled ≡ polls.Came f.ticket f.exchange.address answer) × Settles (left_link f.exchange) f.exchange.address old new wire wire'
+
+abbrev pub LosesReply : Flight → PoolFault → Pooled → Pooled → WireState → WireState → Type 0
+LosesReply f fault old new wire wire' = (fault ≡ faults.OutOfMemory) × (new ≡ old) × ClosesLeft (left_link f.exchange) wire wire'
+
 -- one poll of an exchange and its answer, after which it is another
 pub record Polls (answer : Poll (Result Reply ExchangeFault)) (f : Flight) (wire wire' : WireState) : Type 0 where
   pub now : Exchanging
@@ -93,9 +119,9 @@ IsShut link wire wire' = ClosedOn link wire' × ((wire' ≡ wire) ⊎ Shuts link
 -- What a poll of an exchange comes to that was taken out of the pool: it goes on behind the others that were polled; its reply came; it failed and its ask waits again; its ask failed too often; its reply is refused; or memory ran out.
 abbrev pub FlightTo : Result Polled PoolFault → Flight → Pooled → Pooled → WireState → WireState → Type 0
 FlightTo (Ok polls.Pending) f old new wire wire' =
-    (h : Polls poll.Pending f wire wire') × (new ≡ record old { polled = old.polled ++ (record f { exchange = h.now }) ∷ [] })
-FlightTo (Ok (polls.Came ticket answer)) f old new wire wire' =
-    (mid : WireState) × (h : Polls (poll.Ready (Ok answer)) f wire mid) × (ticket ≡ f.ticket) × Settles (left_link h.now) h.now.address old new mid wire'
+    (h : Polls poll.Pending f wire wire') × (new ≡ with_polled (record f { exchange = h.now }) old)
+FlightTo (Ok (polls.Came ticket address answer)) f old new wire wire' =
+    (mid : WireState) × (h : Polls (poll.Ready (Ok answer)) f wire mid) × (ticket ≡ f.ticket) × Settles (left_link h.now) h.now.address old new mid wire' × (address ≡ h.now.address)
 FlightTo (Ok polls.Failed) f old new wire wire' =
     (why : ExchangeFault) × (h : Polls (poll.Ready (Err why)) f wire wire') × IsFailure why × (f.failed < old.retries)
     × (new ≡ record old { waiting = again (record f { exchange = h.now }) ∷ old.waiting })

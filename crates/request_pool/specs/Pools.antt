@@ -1,6 +1,6 @@
 -- A pool of exchanges: what it holds.
-use Rattle.std.specs.Prelude.{ℕ, ◌≢◌, ◌<◌, ◌≤◌, List, [], ◌++◌, map, length, Option, None}
-use Rattle.tpf_base.specs.Addresses.{Address}
+use Rattle.std.specs.Prelude.{ℕ, ◌≢◌, ◌<◌, ◌≤◌, List, [], ◌∷◌, ◌++◌, map, length, Option, None}
+use Rattle.tpf_base.specs.Addresses.{Address, authority_of}
 use Rattle.request_pool.specs.declared.fault.PoolFault.{PoolFault}
 use Rattle.request_pool.specs.declared.asks.Waiting.{Waiting}
 use Rattle.request_pool.specs.declared.asks.Flight.{Flight}
@@ -41,6 +41,22 @@ bounds_of pool = record pool { waiting = []; polled = []; due = []; spare = []; 
 -- the exchanges in flight, the oldest first
 abbrev pub in_flight : Pooled → List Flight
 in_flight pool = pool.polled ++ pool.due
+
+-- a pool with one more ask, behind those that wait
+abbrev pub with_ask : ℕ → Address → Pooled → Pooled
+with_ask ticket address pool = record pool { waiting = pool.waiting ++ (record { ticket = ticket; address = address; failed = 0 }) ∷ [] }
+
+-- with one more exchange, behind those that were polled
+abbrev pub with_polled : Flight → Pooled → Pooled
+with_polled f pool = record pool { polled = pool.polled ++ f ∷ [] }
+
+-- with one more link that was left, for the authority of an address
+abbrev pub with_spare : ℕ → Address → Pooled → Pooled
+with_spare k address pool = record pool { spare = pool.spare ++ (record { link = k; authority = authority_of address }) ∷ [] }
+
+-- an ask waits, and a place is free
+abbrev pub CanStart : Pooled → Type 0
+CanStart pool = (length (in_flight pool) < pool.links) × (pool.waiting ≢ [])
 
 -- an ask waits, a place is free, and as many exchanges were started as the budget allows
 pub record IsOverBudget (pool : Pooled) : Type 0 where

@@ -24,6 +24,10 @@ pub record Begins (old new : Pooled) (f : Flight) : Type 0 where
   pub is_new : new ≡ record old { waiting = rest; spare = spare; started = old.started + 1 }
   pub flight : f ≡ record { ticket = first.ticket; failed = first.failed; exchange = starting first.address old.limit link }
 
+-- out of memory the first ask is lost, and its link is to be closed
+abbrev pub BeginsNone : Pooled → Pooled → Option ℕ → Type 0
+BeginsNone old new link = (mid : Pooled) × (f : Flight) × Begins old mid f × (new ≡ record mid { started = old.started }) × (f.exchange.link ≡ link)
+
 -- A start: one more is wanted than the budget allows; or the exchange is polled at once; or memory runs out before that, and the ask is lost.
 pub data Starts (result : Result Polled PoolFault) (old new : Pooled) (wire wire' : WireState) : Type 0 where
   Overruns : result ≡ Err faults.Budget → IsOverBudget new → new ≡ old → wire' ≡ wire → Starts result old new wire wire'
@@ -41,7 +45,7 @@ pub record PollsNext (result : Result Polled PoolFault) (old new : Pooled) (wire
 abbrev pub is_end : Result Polled PoolFault → Bool
 is_end (Ok Pending) = false
 is_end (Ok Failed) = false
-is_end (Ok (Came ticket answer)) = true
+is_end (Ok (Came ticket address answer)) = true
 is_end (Err fault) = true
 
 -- one turn of a pool that goes on: an exchange is started, or polled, or all in flight are due again

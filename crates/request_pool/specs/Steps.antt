@@ -6,6 +6,7 @@ use Rattle.tpf_base.specs.Causes.{Rose, HasCause, counted}
 use Rattle.tpf_base.specs.declared.fault.Fault.{Fault}
 use Rattle.tpf_base.specs.declared.fault.Fault.TheVariants as failures
 use Rattle.tpf_base.specs.declared.wire.Ready.{Ready}
+use Rattle.tpf_base.specs.Addresses.{Address}
 use Rattle.tpf_base.specs.Links.{WireState}
 use Rattle.tpf_base.specs.Calls.{OnlyWaits, Wakes, GivesNone, WaitsSteadily}
 use Rattle.request_pool.specs.declared.asks.Flight.{Flight}
@@ -15,6 +16,7 @@ use Rattle.request_pool.specs.declared.fault.PoolFault.{PoolFault}
 use Rattle.request_pool.specs.declared.fault.PoolFault.TheVariants as faults
 use Rattle.request_pool.specs.declared.fault.Stepped.{Stepped}
 use Rattle.request_pool.specs.declared.fault.Stepped.TheVariants.{Came, Waited, Idle}
+use Rattle.request_pool.specs.Faults.{kept_of}
 use Rattle.request_pool.specs.Pools.{Pooled, Ask, held, in_flight}
 use Rattle.request_pool.specs.Polls.{Shuts, FailsTo}
 use Rattle.request_pool.specs.Runs.{Running, Last}
@@ -96,25 +98,31 @@ pub data EndsInFault (fault : PoolFault) (old new : Pooled) (wire wire' : WireSt
 -- each result of a step
 abbrev pub StepsTo : Result Stepped PoolFault → Pooled → Pooled → WireState → WireState → Type 0
 StepsTo (Ok Idle) old new wire wire' = (held old ≡ []) × (new ≡ old) × (wire' ≡ wire)
-StepsTo (Ok (Came ticket answer)) old new wire wire' = EndsInRun (Ok (polls.Came ticket answer)) old new wire wire'
+StepsTo (Ok (Came ticket address answer)) old new wire wire' = EndsInRun (Ok (polls.Came ticket address answer)) old new wire wire'
 StepsTo (Ok Waited) old new wire wire' = EndsInWait (Ok Waited) old new wire wire'
 StepsTo (Err fault) old new wire wire' = EndsInFault fault old new wire wire'
 
--- An ask with this ticket was held and is held no longer, and each other ask is held as before.
-pub record HandsOut (ticket : ℕ) (old new : Pooled) : Type 0 where
+-- A step ended with this fault, which is handed over; the pool keeps it without its bytes.
+pub record EndsPool (fault : PoolFault) (old new : Pooled) (wire wire' : WireState) : Type 0 where
+  pub steps : StepsTo (Err fault) old (record new { fault = None }) wire wire'
+  pub kept : new.fault ≡ Some (kept_of fault)
+
+-- An ask with this ticket and this address was held and is held no longer, and each other ask is held as before.
+pub record HandsOut (ticket : ℕ) (address : Address) (old new : Pooled) : Type 0 where
   pub ask : Ask
   pub is_ticket : ask.ticket ≡ ticket
+  pub is_address : ask.address ≡ address
   pub others : IsPermutation (held old) (ask ∷ held new)
 
 -- what becomes of the asks
 abbrev pub HoldsOn : Stepped → Pooled → Pooled → Type 0
-HoldsOn (Came ticket answer) old new = HandsOut ticket old new
+HoldsOn (Came ticket address answer) old new = HandsOut ticket address old new
 HoldsOn Waited old new = IsPermutation (held old) (held new)
 HoldsOn Idle old new = new ≡ old
 
 -- how often the wire was waited for
 abbrev pub WaitsOnce : Result Stepped PoolFault → WireState → WireState → Type 0
-WaitsOnce (Ok (Came ticket answer)) wire wire' = wire'.waits ≡ wire.waits
+WaitsOnce (Ok (Came ticket address answer)) wire wire' = wire'.waits ≡ wire.waits
 WaitsOnce (Ok Waited) wire wire' = wire'.waits ≡ counted wire.waits
 WaitsOnce (Ok Idle) wire wire' = wire'.waits ≡ wire.waits
 WaitsOnce (Err fault) wire wire' = (wire'.waits ≡ wire.waits) ⊎ (wire'.waits ≡ counted wire.waits)

@@ -1,6 +1,7 @@
 // What a pool holds.
 use exchange::Exchange;
 use template_fill::WebAddress;
+use tpf_base::Bytes;
 
 /// An address that is asked for under a ticket and waits, and how often that failed.
 #[derive(Drop)]
@@ -18,9 +19,9 @@ pub(crate) struct Flight {
     pub(crate) exchange: Exchange,
 }
 
-/// A link that an exchange left open, and the address that it was for.
+/// A link that an exchange left open, and the authority of the address that it was for.
 #[derive(Drop)]
 pub(crate) struct Spare {
     pub(crate) link: u64,
-    pub(crate) address: WebAddress,
+    pub(crate) authority: Bytes,
 }

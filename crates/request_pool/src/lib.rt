@@ -15,9 +15,13 @@
 #![tactic(auto)]
 
 mod asks;
+mod closes;
 mod fault;
+mod flying;
 mod links;
 mod pool;
+mod rounds;
+mod waits;
 
 pub use fault::{Polled, PoolFault, Stepped};
 pub use pool::Pool;

@@ -1,9 +1,8 @@
 // The links that a pool holds.
-ghost use Rattle.std.specs.Prelude.{ℕ, ◌<◌, length, MatchOption, slice_index_or};
-ghost use Rattle.std.specs.List.{All};
+ghost use Rattle.std.specs.Prelude.{ℕ, ◌↔◌, IsTrue, MatchOption};
 ghost use Rattle.tpf_base.specs.Links.{SameAllowed};
 ghost use Rattle.exchange.specs.Exchanges.{IsLinked};
-ghost use Rattle.request_pool.specs.Polls.{Shuts, IsFor, TakesLink};
+ghost use Rattle.request_pool.specs.Polls.{Shuts, IsFor, TakesLink, NoneIsFor, IsForAt, waiting_for};
 
 use crate::asks::Spare;
 use template_fill::WebAddress;
@@ -20,12 +19,19 @@ pub(crate) fn shut<W: Wire>(wire: &mut W, link: Option<u64>)
     }
 }
 
+/// Whether a link was left for the authority of an address.
+fn is_for(left: &Spare, address: &WebAddress) -> bool
+    ensures { IsTrue result ↔ IsFor address.now left.now }
+{
+    left.authority.as_slice() == address.authority().as_bytes()
+}
+
 /// The place of the first link that was left for the authority of an address.
 fn place_of(spare: &[Spare], address: &WebAddress) -> Option<usize>
-    ensures { MatchOption result (All (λ s. ¬ IsFor address.now s) spare.now) (λ i. (i < length spare.now) × ((d : Spare) → IsFor address.now (slice_index_or spare.now i d))) }
+    ensures { MatchOption result (NoneIsFor address.now spare.now) (λ i. IsForAt address.now spare.now i) }
 {
     for (place, left) in spare.iter().enumerate() {
-        if left.address.same_authority(address) {
+        if is_for(left, address) {
             return Some(place);
         }
     }
@@ -35,7 +41,7 @@ fn place_of(spare: &[Spare], address: &WebAddress) -> Option<usize>
 /// Takes the first link that was left for the authority of an address out of the list. An ask that
 /// failed before takes none.
 pub(crate) fn take_link(spare: &mut Vec<Spare>, address: &WebAddress, failed: u32) -> Option<u64>
-    ensures { (ticket : ℕ) → TakesLink (record { ticket = ticket; address = address.now; failed = failed }) spare.old.items spare.new.items result }
+    ensures { (ticket : ℕ) → TakesLink (waiting_for ticket address.now failed) spare.old.items spare.new.items result }
 {
     if failed > 0 {
         return None;

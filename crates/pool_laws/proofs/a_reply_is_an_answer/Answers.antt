@@ -1,12 +1,5 @@
-use Rattle.http_ends.specs.Requests.{AddressesArePlain}
-use Rattle.http_ends.specs.Answers.{AnswersAreRead, LongHeadsAreRefused, HeadsAreShort, AnswersHaveStatus, PagesAreNQuads, ServerAnswersAreRead, ReadingsStay}
-use Rattle.http_ends.specs.Cuts.{RequestIsSent, ResponseIsCut, RepliesAreCut, NextAnswerIsCut}
-use Rattle.pool_laws.proofs.Answers.{EndsAreTrue, replies_are_answers, refusals_are_too_long, cuts_are_faults}
+use Rattle.pool_laws.proofs.Answers.{replies_are_answers, refusals_are_too_long, cuts_are_faults, ends}
 use Rattle.pool_laws.proofs.a_reply_is_an_answer.Goals as goal
-
-ends : AddressesArePlain → AnswersAreRead → LongHeadsAreRefused → HeadsAreShort → AnswersHaveStatus → ServerAnswersAreRead → PagesAreNQuads → RequestIsSent → ResponseIsCut → RepliesAreCut → NextAnswerIsCut → ReadingsStay → EndsAreTrue
-ends plain reads long short status server pages sends responses replies next stays =
-    record { plain = plain; reads = reads; long = long; short = short; status = status; server = server; pages = pages; sends = sends; responses = responses; replies = replies; next = next; stays = stays }
 
 pub returns-clause-replies : goal.returns-clause-replies
 returns-clause-replies g c =

@@ -1,13 +1,6 @@
-use Rattle.http_ends.specs.Requests.{AddressesArePlain}
-use Rattle.http_ends.specs.Answers.{AnswersAreRead, LongHeadsAreRefused, HeadsAreShort, AnswersHaveStatus, PagesAreNQuads, ServerAnswersAreRead, ReadingsStay}
-use Rattle.http_ends.specs.Cuts.{RequestIsSent, ResponseIsCut, RepliesAreCut, NextAnswerIsCut}
-use Rattle.pool_laws.proofs.Answers.{EndsAreTrue}
+use Rattle.pool_laws.proofs.Answers.{ends}
 use Rattle.pool_laws.proofs.Rising.{empty_rose, put_rose, fault_rose, steps_rose, steps_rose_by_some}
 use Rattle.pool_laws.proofs.failures_are_rises.Goals as goal
-
-ends : AddressesArePlain → AnswersAreRead → LongHeadsAreRefused → HeadsAreShort → AnswersHaveStatus → ServerAnswersAreRead → PagesAreNQuads → RequestIsSent → ResponseIsCut → RepliesAreCut → NextAnswerIsCut → ReadingsStay → EndsAreTrue
-ends plain reads long short status server pages sends responses replies next stays =
-    record { plain = plain; reads = reads; long = long; short = short; status = status; server = server; pages = pages; sends = sends; responses = responses; replies = replies; next = next; stays = stays }
 
 pub returns-clause-empty : goal.returns-clause-empty
 returns-clause-empty g c = empty_rose

@@ -1,10 +1,12 @@
 -- The link is the one that was left, and the address that of the exchange.
-use Rattle.std.proofs.Common.{refl, sym, ◌∙◌}
+use Rattle.std.proofs.Common.{refl, sym, ◌∙◌, ap}
+use Rattle.tpf_base.specs.Addresses.{Address}
+use Rattle.request_pool.specs.declared.fault.Polled.TheVariants as polls
 use Rattle.request_pool.proofs.Outcomes.{settles_as}
 use Rattle.request_pool.proofs.pool.Pool.come.Goals as goal
 
 pub returns-in-Ok-clause-ok : goal.returns-in-Ok-clause-ok
-returns-in-Ok-clause-ok g c = (refl, settles_as _ _ _ _ _ _ _ _ c.leave-left.ensures c.into_address.ensures c.in-Ok.ensures.ok)
+returns-in-Ok-clause-ok g c = (ap (λ (x : Address). polls.Came c.args.flight.ticket x c.args.reply) c.into_address-address.ensures, settles_as _ _ _ _ _ _ _ _ c.leave-left.ensures c.into_address-address.ensures c.in-Ok.ensures.ok)
 
 pub returns-in-Err-clause-err : goal.returns-in-Err-clause-err
 returns-in-Err-clause-err g c = let e = c.in-Err.ensures.err in (refl, e.0, record { k = e.1.k; is_left = sym c.leave-left.ensures ∙ e.1.is_left; closes = e.1.closes })

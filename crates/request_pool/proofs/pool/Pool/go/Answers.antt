@@ -42,7 +42,7 @@ pub unreachable-requires : goal.unreachable-requires
 unreachable-requires g c = no_failed c.lines_up.new.self c.run_on.new.self (g.W.Wire.state c.args.wire.now) (g.W.Wire.state c.run_on.new.wire) (rw c.in-Ok-Failed.field-0-is at c.in-Ok-Failed.ensures.runs)
 
 pub returns-in-Ok-Came-clause-steps : goal.returns-in-Ok-Came-clause-steps
-returns-in-Ok-Came-clause-steps g c = came_steps c.in-Ok-Came.ticket c.in-Ok-Came.reply c.args.self.now c.lines_up.new.self c.run_on.new.self (g.W.Wire.state c.args.wire.now) (g.W.Wire.state c.run_on.new.wire) (c.if-not-lines_up.ensures.ok refl)
+returns-in-Ok-Came-clause-steps g c = came_steps c.in-Ok-Came.ticket c.in-Ok-Came.address c.in-Ok-Came.reply c.args.self.now c.lines_up.new.self c.run_on.new.self (g.W.Wire.state c.args.wire.now) (g.W.Wire.state c.run_on.new.wire) (c.if-not-lines_up.ensures.ok refl)
     (rw c.in-Ok-Came.field-0-is at c.in-Ok-Came.ensures.runs)
 
 pub returns-in-Ok-Came-clause-over : goal.returns-in-Ok-Came-clause-over

@@ -1,5 +1,5 @@
 use Rattle.client_tests.proofs.PoolLemmas.{closed_holds, closed_suits}
-use Rattle.client_tests.proofs.pooling.emptied.Goals as goal
+use Rattle.client_tests.proofs.ending.emptied.Goals as goal
 
 pub returns-then-held-eq0 : goal.returns-then-held-eq0
 returns-then-held-eq0 g c = record {

@@ -1,4 +1,4 @@
-use Rattle.client_tests.proofs.pooling.one_more.Goals as goal
+use Rattle.client_tests.proofs.ending.one_more.Goals as goal
 
 pub steps-requires : goal.steps-requires
 steps-requires g c = record { suits = c.put_all.ensures.suits _ (c.requires.suits _) }
