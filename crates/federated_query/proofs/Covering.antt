@@ -1,5 +1,5 @@
 -- A call over several honest servers is covered by what they offer together.
-use Rattle.std.proofs.Common.{ℕ, suc, ◌≡◌, ◌<◌, ◌^◌, ◌++◌, Bool, true, if◌then◌else◌, List, [], ◌∷◌, map, length, Option, refl, sym, ap, subst, ◌∙◌, arith, append-nil}
+use Rattle.std.proofs.Common.{ℕ, suc, ◌≡◌, ◌<◌, ◌^◌, ◌++◌, Bool, true, if◌then◌else◌, List, [], ◌∷◌, map, length, Option, Some, refl, sym, ap, subst, ◌∙◌, arith, append-nil}
 use Rattle.std.specs.List.{All, AllByRecursion, AllZip, flat_map}
 use Rattle.std.proofs.lemmas.Bool.{le-leb}
 use Rattle.std.proofs.lemmas.List.Elements.{All-head}
@@ -12,7 +12,7 @@ use Rattle.template_fill.specs.Bodies.{version_of}
 use Rattle.template_fill.specs.Configurations.{IsHistory, VersionsAreValid}
 use Rattle.fragment_page.specs.declared.page.Page.{Page}
 use Rattle.bgp_core.specs.Queries.{QueryData}
-use Rattle.request_pool.specs.Pools.{Pooled, Ask, empty_pool, held}
+use Rattle.request_pool.specs.Pools.{Pooled, Ask, empty_pool}
 use Rattle.join_core.specs.Blocks.{is_askable}
 use Rattle.join_core.specs.Beginnings.{no_names_bound, solutions_of}
 use Rattle.join_core.specs.Evaluations.{HasHome}
@@ -23,46 +23,25 @@ use Rattle.plan_laws.specs.JointWorlds.{union, addresses_at, joint_world}
 use Rattle.plan_laws.proofs.JointWorlds.{one-union}
 use Rattle.joint_pages.specs.Truths.{IsPageOfAll}
 use Rattle.tpf_client.specs.declared.options.Options.{Options}
-use Rattle.tpf_client.specs.Traffic.{Event, Asked, Came, Waited, Broke, Moves, Travels, IsLawful, Comes}
-use Rattle.tpf_client.specs.Turns.{AsksAt, AreTrue, asked_in}
+use Rattle.tpf_client.specs.Traffic.{Event, Asked, Came, Waited, Broke, IsLawful}
+use Rattle.tpf_client.specs.Turns.{AsksAt, AreTrue}
 use Rattle.tpf_client.specs.Told.{told_at}
 use Rattle.tpf_client.specs.Starts.{ReadsStarts, forms_of, versions_of}
 use Rattle.tpf_client.specs.Calls.{RunsPool}
 use Rattle.tpf_client.specs.Offers.{Publisher, AreVersions, are_served, worlds_of, data_of, servers_offer, joint_addresses}
 use Rattle.tpf_client.specs.Ends.{AnswersAs, AreHonestServers}
 use Rattle.tpf_client.specs.Honest.{Laws}
-use Rattle.tpf_client.proofs.Covered.{SomeChoice, ChoiceBehind, Covered}
+use Rattle.tpf_client.proofs.Answered.{replies-answer}
+use Rattle.tpf_client.proofs.Covered.{BeginsWith, ChoiceBehind, Covered}
+use Rattle.tpf_client.proofs.Came.{CameFrom, came-from}
 use Rattle.tpf_client.proofs.Distinct.{none-distinct}
 use Rattle.tpf_client.proofs.Honesty.{Keeps, IsAnyAnswer, any-answers}
-use Rattle.tpf_client.proofs.Keeping.{Between, all-permuted, between-after}
 use Rattle.tpf_client.proofs.Known.{begun}
-use Rattle.tpf_client.proofs.Traveling.{one-event}
 use Rattle.federated_query.specs.Servers.{AreApart, joint_sources}
 use Rattle.federated_query.specs.Limits.{first_versions}
 use Rattle.federated_query.proofs.Standing.{servers-stand, servers-number}
 use Rattle.federated_query.proofs.Numbers.{number_at, told-number, has-number}
 use Rattle.federated_query.proofs.Together.{Together, together, front-all, behind-all, some-page}
-
--- ---- of each ask whose reply came holds what holds of those that were put
-
-abbrev CameFrom : (Ask → Type 0) → Event → Type 0
-CameFrom P (Asked ask) = Unit {0}
-CameFrom P (Came ask reply) = P ask
-CameFrom P Waited = Unit {0}
-CameFrom P (Broke fault) = Unit {0}
-
-module _ (allows : List ℕ → ℕ → List ℕ → List ℕ → Type 0) (base : Pooled) (P : Ask → Type 0) where
-  after : (event : Event) (p q : Pooled) (v w : WireState) → AllByRecursion P (asked_in (event ∷ [])) → Between allows base P p v → Moves allows event p q v w → Between allows base P q w
-  after event p q v w a b m = between-after allows base P (event ∷ []) p q v w a b (one-event allows event p q v w m)
-
-  came-from : (events : List Event) (p q : Pooled) (v w : WireState) → Between allows base P p v → AllByRecursion P (asked_in events) → Travels allows events p q v w → AllByRecursion (CameFrom P) events
-  came-from [] p q v w b a t = tt
-  came-from (Asked ask ∷ events) p q v w b a t = (tt, came-from events t.0.pool q t.0.wire w (after (Asked ask) p t.0.pool v t.0.wire (a.0, tt) b t.1) a.1 t.2)
-  came-from (Came ask reply ∷ events) p q v w b a t =
-      let h : Comes ask reply p t.0.pool v t.0.wire = t.1.happens in
-      ((all-permuted P (held p) (ask ∷ held t.0.pool) h.others (b.are h.had_none)).0, came-from events t.0.pool q t.0.wire w (after (Came ask reply) p t.0.pool v t.0.wire tt b t.1) a t.2)
-  came-from (Waited ∷ events) p q v w b a t = (tt, came-from events t.0.pool q t.0.wire w (after Waited p t.0.pool v t.0.wire tt b t.1) a t.2)
-  came-from (Broke fault ∷ events) p q v w b a t = (tt, came-from events t.0.pool q t.0.wire w (after (Broke fault) p t.0.pool v t.0.wire tt b t.1) a t.2)
 
 -- ---- the first versions
 
@@ -72,11 +51,13 @@ ones-are allows [] (p ∷ publishers) a = absurd a
 ones-are allows (start ∷ starts) [] a = absurd a
 ones-are allows (start ∷ starts) (p ∷ publishers) a = (record { low = omega arith; high = a.0.is_publisher.is_history.low }, ones-are allows starts publishers a.1)
 
-ones-many : (allows : List ℕ → ℕ → List ℕ → List ℕ → Type 0) (starts : List Address) (publishers : List Publisher) → AllZip (AnswersAs allows) starts publishers → length starts ≡ length (first_versions publishers)
-ones-many allows [] [] a = refl
-ones-many allows [] (p ∷ publishers) a = absurd a
-ones-many allows (start ∷ starts) [] a = absurd a
-ones-many allows (start ∷ starts) (p ∷ publishers) a = ap (λ (n : ℕ). suc n) (ones-many allows starts publishers a.1)
+as-many : (allows : List ℕ → ℕ → List ℕ → List ℕ → Type 0) (starts : List Address) (publishers : List Publisher) (versions : List ℕ) → AllZip (AnswersAs allows) starts publishers → AreVersions publishers versions → length starts ≡ length versions
+as-many allows [] [] [] a v = refl
+as-many allows [] [] (version ∷ versions) a v = absurd v
+as-many allows [] (p ∷ publishers) versions a v = absurd a
+as-many allows (start ∷ starts) [] versions a v = absurd a
+as-many allows (start ∷ starts) (p ∷ publishers) [] a v = absurd v
+as-many allows (start ∷ starts) (p ∷ publishers) (version ∷ versions) a v = ap (λ (n : ℕ). suc n) (as-many allows starts publishers versions a.1 v.1)
 
 -- ---- what they hold
 
@@ -135,8 +116,8 @@ module _ (laws : Laws) (valid : VersionsAreValid) (allows : List ℕ → ℕ →
     tells = honest.tells;
   }
 
-  any-of : (events : List Event) (pool : Pooled) → RunsPool allows options since now events pool → AllByRecursion (IsAnyAnswer allows) events
-  any-of events pool r = any-answers allows laws.puts laws.steps laws.faults events (empty_pool options.links options.retries options.budget options.max_body) pool since r.between begins-so r.travels
+  pub any-of : (events : List Event) (pool : Pooled) → RunsPool allows options since now events pool → AllByRecursion (IsAnyAnswer allows) events
+  any-of events pool r = any-answers allows laws.puts laws.steps laws.faults (replies-answer laws allows) events (empty_pool options.links options.retries options.budget options.max_body) pool since r.between begins-so r.travels
 
   abbrev AtHome : Ask → Type 0
   AtHome ask = HasHome starts ask.address
@@ -145,13 +126,12 @@ module _ (laws : Laws) (valid : VersionsAreValid) (allows : List ℕ → ℕ →
   homes-of events pool r asks =
       came-from allows (begun options) AtHome events (begun options) pool since r.between (record { given = lawful.given; suits = record { polled = tt; due = tt; owned = λ k. omega arith }; are = λ none. tt; bounds = refl }) asks r.travels
 
-  first-choice : SomeChoice (servers_offer publishers q starts) starts
-  first-choice = record {
-    choice = first_versions publishers;
-    is_choice = ones-are allows starts publishers honest.servers;
-    versions = number_at starts (first_versions publishers);
-    has = λ address home. has-number starts (first_versions publishers) (ones-many allows starts publishers honest.servers) apart address home.0 home.1 home.2;
-    rest = if are_served publishers starts (first_versions publishers) then plan (joint_world (worlds_of publishers (first_versions publishers))) q.patterns (no_names_bound q) else [];
+  pub begins-with : (versions : List ℕ) → AreVersions publishers versions → BeginsWith (servers_offer publishers q starts) starts versions
+  begins-with versions are = record {
+    is_choice = are;
+    versions = number_at starts versions;
+    has = λ address home. has-number starts versions (as-many allows starts publishers versions honest.servers are) apart address home.0 home.1 home.2;
+    rest = if are_served publishers starts versions then plan (joint_world (worlds_of publishers versions)) q.patterns (no_names_bound q) else [];
     addresses = refl;
   }
 
@@ -170,7 +150,7 @@ module _ (laws : Laws) (valid : VersionsAreValid) (allows : List ℕ → ℕ →
   whole-plan : (versions : List ℕ) → are_served publishers starts versions ≡ true → starts ++ plan-over versions ≡ joint_addresses publishers q starts versions
   whole-plan versions e = ap (λ (l : List Address). starts ++ l) (sym (ap (λ (b : Bool). if b then plan-over versions else []) e))
 
-  choice-behind : (first later : List Event) (pool : Pooled) → RunsPool allows options since now (first ++ later) pool → AsksAt starts (first ++ later) → (told : List Page) (reads : ReadsStarts starts told first) → ChoiceBehind joint_sources (servers_offer publishers q starts) q starts first later told reads
+  pub choice-behind : (first later : List Event) (pool : Pooled) → RunsPool allows options since now (first ++ later) pool → AsksAt starts (first ++ later) → (told : List Page) (reads : ReadsStarts starts told first) → ChoiceBehind joint_sources (servers_offer publishers q starts) q starts first later told reads
   choice-behind first later pool r asks told reads =
       let any = any-of (first ++ later) pool r in
       let t = together laws allows publishers starts told first honest.servers reads (front-all (IsAnyAnswer allows) first later any) in
@@ -195,10 +175,18 @@ module _ (laws : Laws) (valid : VersionsAreValid) (allows : List ℕ → ℕ →
         addresses = whole-plan t.versions t.served;
       }
 
+  -- the start pages told the versions of that choice
+  pub told-choice : (first later : List Event) (pool : Pooled) (r : RunsPool allows options since now (first ++ later) pool) (asks : AsksAt starts (first ++ later)) (told : List Page) (reads : ReadsStarts starts told first)
+      → versions_of told ≡ map (λ n. Some n) (choice-behind first later pool r asks told reads).choice
+  unfolding choice-behind
+  told-choice first later pool r asks told reads = (together laws allows publishers starts told first honest.servers reads (front-all (IsAnyAnswer allows) first later (any-of (first ++ later) pool r))).told_are
+
   pub servers-covered : Covered joint_sources (servers_offer publishers q starts) allows options since now starts q
   servers-covered = record {
     tells = honest.tells;
-    begins = first-choice;
+    first = first_versions publishers;
+    is_first = ones-are allows starts publishers honest.servers;
+    begins = begins-with;
     behind = choice-behind;
     stands = λ address home. servers-stand allows publishers q starts honest.servers address home;
     numbers = λ choice is address server version stands has. servers-number publishers starts choice address server version apart is stands has;

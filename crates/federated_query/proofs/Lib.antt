@@ -4,3 +4,4 @@ pub mod Together
 pub mod Covering
 pub mod Tested
 pub mod Fitting
+mod Still

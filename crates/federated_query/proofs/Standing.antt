@@ -1,5 +1,5 @@
 -- Where honest servers stand at starts that are apart, one stands at each address with the authority of one of these, and the version that a choice has there is one of its.
-use Rattle.std.proofs.Common.{ℕ, ◌≡◌, inl, inr, List, [], ◌∷◌, refl, sym, ap, subst, ◌∙◌, ⊎_elim}
+use Rattle.std.proofs.Common.{ℕ, ◌≡◌, inl, inr, true, List, [], ◌∷◌, refl, sym, ap, subst, ◌∙◌, ⊎_elim}
 use Rattle.std.specs.List.{All, AllZip, Contains}
 use Rattle.std.proofs.lemmas.List.Elements.{All-head, All-tail}
 use Rattle.list_laws.proofs.Members.{head_or_tail, none_in}
@@ -11,6 +11,7 @@ use Rattle.join_core.specs.Evaluations.{HasHome}
 use Rattle.tpf_client.specs.Offers.{Publisher, StandsAmong, HasAmong, AreVersions, IsVersionOf, servers_offer}
 use Rattle.tpf_client.specs.Ends.{AnswersAs}
 use Rattle.tpf_client.proofs.Covered.{StandsThere}
+use Rattle.tpf_client.proofs.Honesty.{over-any}
 use Rattle.federated_query.specs.Servers.{AreApart}
 
 -- ---- authorities
@@ -56,6 +57,8 @@ module _ (allows : List ℕ → ℕ → List ℕ → List ℕ → Type 0) where
         is_history = r.answers.is_publisher.is_history;
         is_config = r.answers.is_publisher.is_config;
         is_honest = r.answers.is_honest;
+        served = λ version. true;
+        is_over = over-any allows address.host address.port r.server.history r.server.config r.answers.is_honest;
       }
 
 -- ---- the version that a choice has there
@@ -67,7 +70,7 @@ none-stands start [] (p ∷ publishers) address server apart own s = s
 none-stands start (other ∷ starts) (p ∷ publishers) address server apart own (inl h) = not-both start other address (All-head (λ x. authority_of start ≡ authority_of x → ⊥) other starts apart) own h.0
 none-stands start (other ∷ starts) (p ∷ publishers) address server apart own (inr h) = none-stands start starts publishers address server (All-tail (λ x. authority_of start ≡ authority_of x → ⊥) other starts apart) own h
 
-none-has : (start : Address) (starts : List Address) (versions : List ℕ) (address : Address) (told : ℕ) → All (λ other. authority_of start ≡ authority_of other → ⊥) starts → ShareAuthority start address → HasAmong starts versions address told → ⊥
+pub none-has : (start : Address) (starts : List Address) (versions : List ℕ) (address : Address) (told : ℕ) → All (λ other. authority_of start ≡ authority_of other → ⊥) starts → ShareAuthority start address → HasAmong starts versions address told → ⊥
 none-has start [] versions address told apart own h = h
 none-has start (other ∷ starts) [] address told apart own h = h
 none-has start (other ∷ starts) (version ∷ versions) address told apart own (inl h) = not-both start other address (All-head (λ x. authority_of start ≡ authority_of x → ⊥) other starts apart) own h.0

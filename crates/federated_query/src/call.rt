@@ -1,14 +1,14 @@
 // The call.
-ghost use Rattle.std.specs.Prelude.{ℕ, ◌≡◌, ◌≤◌, ◌<◌, ◌^◌, List, length, true, IfOk, IfErr, OnErr, None};
+ghost use Rattle.std.specs.Prelude.{ℕ, ◌≡◌, ◌≤◌, ◌<◌, ◌^◌, length, true, IfOk, IfErr, OnErr, None};
 ghost use Rattle.tpf_base.specs.Causes.{Rose};
 ghost use Rattle.tpf_base.specs.Links.{SameAllowed};
-ghost use Rattle.tpf_client.specs.Acts.{ActsOnWire};
-ghost use Rattle.tpf_client.specs.Calls.{WritesAll, WritesSome, most_over, RunsPool, WritesResult, WritesPrefix};
+ghost use Rattle.tpf_client.specs.Calls.{most_over, WritesResult, WritesPrefix};
+ghost use Rattle.tpf_client.specs.Ended.{WritesOverEnds};
+ghost use Rattle.tpf_client.specs.Still.{SucceedsStillOver};
 ghost use Rattle.tpf_client.specs.Ends.{servers_ends};
 ghost use Rattle.tpf_client.specs.Honest.{WritesSolutions, WritesSolutionsFront};
 ghost use Rattle.tpf_client.specs.Offers.{servers_offer};
 ghost use Rattle.tpf_client.specs.Plans.{RisesFew, PlanFits, MayStill};
-ghost use Rattle.tpf_client.specs.Shown.{ShowsGiven};
 ghost use Rattle.tpf_client.specs.Sinks.{LeavesSink};
 ghost use Rattle.federated_query.specs.Servers.{AreApart, joint_sources, OverServers};
 ghost use Rattle.federated_query.specs.Limits.{ServersFit};
@@ -44,7 +44,8 @@ fn is_bounded(max_body: u64)
 /// Over a wire whose other ends answer as a server does at each start, each with data of its own, requests are sent for the starts
 /// and the plan of a join over all servers alone: each pattern is asked for at every server, and the sum of their counts says
 /// which one is matched first. Where each answer is a page within the options, and the wire fails at most as often as a request
-/// may be sent again, the answer is `Ok`, `OutOfMemory`, or `Changed` where the data of a server did change (`complete`). Each
+/// may be sent again, the answer is `Ok`, `OutOfMemory`, or `Changed` where the data of a server did change (`complete`); and
+/// `Ok` or `OutOfMemory` where each server answers over one version, whatever it served before the call (`still`). Each
 /// answer is a page where the data of no server change, each is within the limits of what is served and answers its start, and the
 /// starts and the terms of the query are short (`limits`).
 ///
@@ -64,19 +65,34 @@ pub fn federate<R: Wait, W: Dial, K: Sink>(
     requires window { 1 ≤ options.now.window }
     requires some { 1 ≤ options.now.links }
     requires few { options.now.links ≤ 256 }
-    ensures whole { IfOk result (λ report. WritesResult query.now report.rows (K.state out.old).taken (K.state out.new).taken) }
+    ensures whole { IfOk result (λ report. WritesResult query.now report.rows (K.state out.old).taken
+        (K.state out.new).taken) }
     ensures front { OnErr result (WritesPrefix query.now (K.state out.old).taken (K.state out.new).taken) }
-    ensures ok { IfOk result (λ report. WritesAll (RunsPool (W.allows wire.old) options.now (W.state wire.old) (W.state wire.new)) joint_sources query.now starts.now report (K.state out.old).taken (K.state out.new).taken) }
-    ensures err { IfErr result (λ fault. WritesSome (RunsPool (W.allows wire.old) options.now (W.state wire.old) (W.state wire.new)) joint_sources query.now starts.now options.now.budget fault (K.state out.old).taken (K.state out.new).taken) }
-    ensures shown { IfErr result (λ fault. (some : WritesSome (RunsPool (W.allows wire.old) options.now (W.state wire.old) (W.state wire.new)) joint_sources query.now starts.now options.now.budget fault (K.state out.old).taken (K.state out.new).taken)
-        × ShowsGiven (RunsPool (W.allows wire.old) options.now (W.state wire.old) (W.state wire.new)) joint_sources query.now starts.now options.now.budget fault (K.state out.old).faults (K.state out.new).faults (K.state out.old).taken (K.state out.new).taken some) }
-    ensures headline { OverServers (W.allows wire.old) starts.now (W.state wire.old) (λ publishers. IfOk result (λ report. WritesSolutions (servers_offer publishers query.now starts.now) query.now report.version report.rows (K.state out.old).taken (K.state out.new).taken)) }
-    ensures prefix { OverServers (W.allows wire.old) starts.now (W.state wire.old) (λ publishers. OnErr result (WritesSolutionsFront (servers_offer publishers query.now starts.now) query.now (K.state out.old).taken (K.state out.new).taken)) }
-    ensures acts { ActsOnWire (W.allows wire.old) (servers_ends query.now starts.now) options.now starts.now (most_over options.now query.now (length starts.now)) result (λ report. report) (W.state wire.old) (W.state wire.new) }
-    ensures complete { OverServers (W.allows wire.old) starts.now (W.state wire.old) (λ publishers. (W.state wire.old).nature.lively ≡ true → (rise : ℕ) → RisesFew options.now rise (W.state wire.old) (W.state wire.new)
-        → PlanFits (servers_offer publishers query.now starts.now) options.now rise → (Rose (K.state out.old).faults (K.state out.new).faults → ⊥) → IfErr result (MayStill (servers_offer publishers query.now starts.now))) }
-    ensures limits { OverServers (W.allows wire.old) starts.now (W.state wire.old) (λ publishers. (W.state wire.old).nature.lively ≡ true → (rise : ℕ) → RisesFew options.now rise (W.state wire.old) (W.state wire.new)
-        → ServersFit publishers query.now starts.now options.now rise → (Rose (K.state out.old).faults (K.state out.new).faults → ⊥) → IfErr result (MayStill (servers_offer publishers query.now starts.now))) }
+    ensures ended { WritesOverEnds (W.allows wire.old) (servers_ends query.now starts.now) joint_sources
+        query.now starts.now options.now (most_over options.now query.now (length starts.now)) result
+        (W.state wire.old) (W.state wire.new) (K.state out.old) (K.state out.new) }
+    ensures headline { OverServers (W.allows wire.old) starts.now (W.state wire.old)
+        (λ publishers. IfOk result (λ report. WritesSolutions
+        (servers_offer publishers query.now starts.now) query.now report.version report.rows (K.state out.old).taken
+        (K.state out.new).taken)) }
+    ensures prefix { OverServers (W.allows wire.old) starts.now (W.state wire.old)
+        (λ publishers. OnErr result (WritesSolutionsFront (servers_offer publishers query.now starts.now) query.now
+        (K.state out.old).taken (K.state out.new).taken)) }
+    ensures complete { OverServers (W.allows wire.old) starts.now (W.state wire.old)
+        (λ publishers. (W.state wire.old).nature.lively ≡ true → (rise : ℕ)
+        → RisesFew options.now rise (W.state wire.old) (W.state wire.new)
+        → PlanFits (servers_offer publishers query.now starts.now) options.now rise
+        → (Rose (K.state out.old).faults (K.state out.new).faults → ⊥)
+        → IfErr result (MayStill (servers_offer publishers query.now starts.now))) }
+    ensures limits { OverServers (W.allows wire.old) starts.now (W.state wire.old)
+        (λ publishers. (W.state wire.old).nature.lively ≡ true → (rise : ℕ)
+        → RisesFew options.now rise (W.state wire.old) (W.state wire.new)
+        → ServersFit publishers query.now starts.now options.now rise
+        → (Rose (K.state out.old).faults (K.state out.new).faults → ⊥)
+        → IfErr result (MayStill (servers_offer publishers query.now starts.now))) }
+    ensures still { SucceedsStillOver (W.allows wire.old) options.now query.now starts.now (W.state wire.old)
+        (W.state wire.new)
+        (Rose (K.state out.old).faults (K.state out.new).faults) result }
     ensures version { IfOk result (λ report. report.version ≡ None) }
     ensures sink { LeavesSink (K.state out.old) (K.state out.new) result }
     ensures allowed { SameAllowed (W.allows wire.old) (W.allows wire.new) }

@@ -237,6 +237,7 @@ module _ (allows : List ℕ → ℕ → List ℕ → List ℕ → Type 0) (optio
       one_lively_cause = λ p honest alive. tt;
       is_told = λ p honest. told-all p honest;
       spent_plan = λ p honest. tt;
+      one_spent = λ p honest. tt;
       unprovoked = λ p honest. all-spares allows options start g.names p.history p.config (blocks_of (group_tree g)) a.done since now a.gives honest;
     }
 
@@ -276,7 +277,8 @@ module _ (allows : List ℕ → ℕ → List ℕ → List ℕ → Type 0) (optio
       one_cause = λ p honest. (ended p honest).cause.1;
       one_lively_cause = λ p honest alive. ((ended p honest).lively alive).1;
       is_told = λ p honest. tt;
-      spent_plan = λ p honest. (ended p honest).spent;
+      spent_plan = λ p honest. (ended p honest).spent.0;
+      one_spent = λ p honest. (ended p honest).spent.1;
       unprovoked = λ p honest. some-spares allows options start g.names p.history p.config (blocks_of (group_tree g)) fault since now a honest;
     }
 

@@ -1,5 +1,5 @@
 -- Why the call of a query with groups ended with a fault.
-use Rattle.std.proofs.Common.{ℕ, ◌≡◌, ◌≢◌, ◌≤◌, ◌-◌, ◌++◌, true, List, [], ◌∷◌, Option, Some, refl, sym, ap, subst, ◌∙◌, arith}
+use Rattle.std.proofs.Common.{ℕ, ◌≡◌, ◌≢◌, ◌-◌, ◌++◌, List, [], ◌∷◌, Option, Some, refl, sym, ap, subst, ◌∙◌, arith}
 use Rattle.std.specs.List.{AllByRecursion, Contains}
 use Rattle.list_laws.proofs.Members.{at_head, in_tail, all_from, in_flat_map}
 use Rattle.list_laws.proofs.Told.{all_in}
@@ -10,10 +10,12 @@ use Rattle.tpf_base.specs.Links.{WireState, Nature}
 use Rattle.template_fill.specs.Metadata.{Config}
 use Rattle.http_wire.specs.declared.message.ReplyFault.{ReplyFault}
 use Rattle.bgp_core.specs.declared.pattern.Pattern.{Pattern}
+use Rattle.request_pool.specs.Pools.{Pooled}
 use Rattle.group_query.specs.Trees.{GroupData, group_tree, blocks_of, block_query}
 use Rattle.tpf_client.specs.declared.options.Options.{Options}
 use Rattle.tpf_client.specs.declared.fault.ClientFault.{ClientFault}
 use Rattle.tpf_client.specs.declared.fault.ClientFault.TheVariants as faults
+use Rattle.tpf_client.specs.Traffic.{Event}
 use Rattle.tpf_client.specs.Calls.{IsReceived, IsCause}
 use Rattle.tpf_client.specs.Honest.{IsHonestWire}
 use Rattle.tpf_client.specs.Offers.{Publisher, publisher, IsVersionOf, server_offer, addresses_of}
@@ -31,17 +33,17 @@ module _ (allows : List ℕ → ℕ → List ℕ → List ℕ → Type 0) (optio
   abbrev own-options : Options
   own-options = with_budget options left
 
-  abbrev received-in : (received : List ℕ) → IsReceived allows own-options between now received → IsReceivedIn options.max_body since now received
-  received-in received r = record { address = r.ask.address; on = r.on; fresh = let a = moves.given in let b = r.fresh in omega (arith, a, b); below = r.below }
+  abbrev received-in : (events : List Event) (received : List ℕ) → IsReceived own-options events between now received → IsReceivedIn options.max_body since now received
+  received-in events received r = record { address = r.ask.address; on = r.on; fresh = let a = moves.given in let b = r.fresh in omega (arith, a, b); below = r.below }
 
-  own-cause : (own : ClientFault) (before after : ℕ) → own ≢ faults.Sink → IsCause allows own-options between now own → IsGroupCause options since now before after (of_block options.budget own)
-  own-cause faults.Exchange before after s c = rose-later 1 since.faults between.faults now.faults moves.faults c
-  own-cause faults.Stalled before after s c = (c.0, λ alive. c.1 (ap (λ (x : Nature). x.lively) moves.nature ∙ alive))
-  own-cause (faults.Cut received) before after s c = record { is_received = received-in received c.is_received; ended = c.ended; more = c.more }
-  own-cause (faults.Reply fault received) before after s c = record { is_received = received-in received c.is_received; why = c.why; is_fault = c.is_fault; bad = c.bad }
-  own-cause (faults.Page fault body) before after s c = let r = c.replied in record {
+  own-cause : (events : List Event) (pool : Pooled) (own : ClientFault) (before after : ℕ) → own ≢ faults.Sink → IsCause own-options events pool between now own → IsGroupCause options since now before after (of_block options.budget own)
+  own-cause events pool faults.Exchange before after s c = rose-later 1 since.faults between.faults now.faults moves.faults c
+  own-cause events pool faults.Stalled before after s c = (c.0, λ alive. c.1 (ap (λ (x : Nature). x.lively) moves.nature ∙ alive))
+  own-cause events pool (faults.Cut received) before after s c = record { is_received = received-in events received c.is_received; ended = c.ended; more = c.more }
+  own-cause events pool (faults.Reply fault received) before after s c = record { is_received = received-in events received c.is_received; why = c.why; is_fault = c.is_fault; bad = c.bad }
+  own-cause events pool (faults.Page fault body) before after s c = let r = c.replied in record {
     received = r.received;
-    is_received = received-in r.received r.is_received;
+    is_received = received-in events r.received r.is_received;
     at_end = r.at_end;
     n = r.n;
     keeps = r.keeps;
@@ -49,10 +51,10 @@ module _ (allows : List ℕ → ℕ → List ℕ → List ℕ → Type 0) (optio
     ended = r.ended;
     why = c.why;
   }
-  own-cause (faults.Changed first other) before after s c = c.differs
-  own-cause (faults.Budget n) before after s c = refl
-  own-cause faults.Sink before after s c = absurd (s refl)
-  own-cause faults.OutOfMemory before after s c = tt
+  own-cause events pool (faults.Changed first other) before after s c = c.differs
+  own-cause events pool (faults.Budget n) before after s c = refl
+  own-cause events pool faults.Sink before after s c = absurd (s refl)
+  own-cause events pool faults.OutOfMemory before after s c = tt
 
 pub cause-of : (allows : List ℕ → ℕ → List ℕ → List ℕ → Type 0) (options : Options) (start : Address) (names : List (List ℕ)) (blocks : List (List Pattern)) (fault : ClientFault) (since now : WireState) (before after : ℕ)
     → (fault ≡ faults.Sink → Rose before after) → AsksSome allows options start names blocks fault since now → IsGroupCause options since now before after fault
@@ -64,7 +66,7 @@ cause-of allows options start names blocks fault since now before after sunk s =
     by : Stops allows options start names s.done s.rest fault s.between now → IsGroupCause options since now before after fault
     by (InBlock ps more own r e ends) =
         subst (IsGroupCause options since now before after) (sym e)
-        (own-cause allows options start since s.between now moves (options.budget - requests_of s.done) own before after ends.no_sink ends.acts.cause)
+        (own-cause allows options start since s.between now moves (options.budget - requests_of s.done) ends.acts.happened.events ends.acts.happened.pool own before after ends.no_sink ends.acts.cause)
     by (IsSpent ps more r spent e is) = subst (IsGroupCause options since now before after) (sym e) refl
     by (Differs ps more first later b r d ne e gives) = subst (IsGroupCause options since now before after) (sym e) ne
     by (IsLacking e is) = subst (IsGroupCause options since now before after) (sym e) tt

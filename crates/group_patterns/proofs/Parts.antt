@@ -12,7 +12,7 @@ use Rattle.tpf_base.specs.Addresses.{Address}
 use Rattle.tpf_base.specs.Causes.{Rose, RoseBy}
 use Rattle.tpf_base.specs.Links.{Link, WireState, Nature}
 use Rattle.pool_laws.specs.Failing.{FailsBy, ended_links, times_ended}
-use Rattle.pool_laws.specs.Requested.{LinkRequests, NoneWhole, TellsRequests, SentByRises, over_links, whole_requests, whole_answers, count_sent, count_answered, any}
+use Rattle.pool_laws.specs.Requested.{LinkRequests, NoneWhole, TellsRequests, SentByRises, whole_requests, whole_answers, count_sent, count_answered, any}
 use Rattle.pool_laws.specs.Sending.{IsPart, Nothing, FrontOf, SendsFor}
 use Rattle.tpf_client.specs.declared.options.Options.{Options}
 use Rattle.tpf_client.specs.Failing.{Spends}

@@ -1,13 +1,11 @@
 -- What the calls for blocks did by the plans of these, said of the plan of all.
-use Rattle.std.proofs.Common.{ℕ, ◌≡◌, ◌≤◌, ◌<◌, ◌+◌, ◌-◌, ◌*◌, ◌++◌, true, List, [], ◌∷◌, length, Option, Some, refl, sym, ap, subst, ◌∙◌, arith, append_assoc, length-append}
-use Rattle.std.specs.Prelude.{Result, Ok, Err}
+use Rattle.std.proofs.Common.{ℕ, ◌≡◌, ◌≤◌, ◌<◌, ◌+◌, ◌-◌, ◌*◌, ◌++◌, true, List, [], ◌∷◌, length, Option, Some, refl, sym, ap, subst, ◌∙◌, arith, append_assoc}
+use Rattle.std.specs.Prelude.{Result, Ok}
 use Rattle.std.specs.List.{AllByRecursion}
 use Rattle.std.proofs.Math.Nat.{mul-le-mul_left}
-use Rattle.list_laws.proofs.Each.{all_append}
 use Rattle.list_laws.proofs.Options.{one_value}
 use Rattle.tpf_base.specs.Addresses.{Address}
-use Rattle.tpf_base.specs.Causes.{RoseBy}
-use Rattle.tpf_base.specs.Links.{WireState, Nature}
+use Rattle.tpf_base.specs.Links.{WireState}
 use Rattle.bgp_core.specs.declared.pattern.Pattern.{Pattern}
 use Rattle.group_query.specs.Trees.{block_query}
 use Rattle.tpf_client.specs.declared.options.Options.{Options}
@@ -22,7 +20,7 @@ use Rattle.tpf_client.specs.Failing.{Spends}
 use Rattle.group_patterns.specs.Blocks.{BlockRows, requests_of, with_budget, GivesAll}
 use Rattle.group_patterns.specs.Plans.{plans_over, StartedInTurn}
 use Rattle.group_patterns.proofs.Parts.{RequestedFor, DoneFor, PacesOf, RepliedFor, AnsweredFor, done-nothing, answered-nothing, spends-nothing, done-both, answers-both, spends-both}
-use Rattle.group_patterns.proofs.Wires.{Onward, row-onward, chain-onward, honest-then}
+use Rattle.group_patterns.proofs.Wires.{row-onward, chain-onward, honest-then}
 
 -- ---- plans
 
@@ -178,5 +176,5 @@ module _ (allows : List ℕ → ℕ → List ℕ → List ℕ → Type 0) (optio
   chain-started left [] (b ∷ bs) u w g = absurd g
   chain-started left (ps ∷ pss) [] u w g = absurd g
   chain-started left (ps ∷ pss) (b ∷ bs) u w g =
-      let a = g.1.acts.answered in
-      (g.0, b.report.requests, requests_of bs, record { events = a.events; pool = a.pool; runs = a.runs; is_started = a.started }, chain-started (left - b.report.requests) pss bs g.0 w g.2, refl)
+      let h = g.1.acts.happened in
+      (g.0, b.report.requests, requests_of bs, record { events = h.events; pool = h.pool; runs = h.runs; is_started = g.1.acts.answered.started }, chain-started (left - b.report.requests) pss bs g.0 w g.2, refl)

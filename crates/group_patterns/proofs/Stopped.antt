@@ -1,27 +1,28 @@
 -- What a call that ended with a fault did by the plan of all blocks: those that gave their rows, and the one at which it stopped.
-use Rattle.std.proofs.Common.{ℕ, ◌≡◌, ◌≢◌, ◌≤◌, ◌<◌, ◌+◌, ◌-◌, ◌++◌, true, List, [], ◌∷◌, length, Option, Some, refl, sym, ap, subst, ◌∙◌, arith, length-append}
-use Rattle.std.specs.Prelude.{Result, Ok, Err}
+use Rattle.std.proofs.Common.{ℕ, ◌≡◌, ◌≢◌, ◌≤◌, ◌<◌, ◌+◌, ◌-◌, ◌++◌, ◌⊎◌, inl, inr, ⊎_elim, true, List, [], ◌∷◌, length, Option, Some, refl, sym, ap, subst, ◌∙◌, arith, length-append}
+use Rattle.std.specs.Prelude.{Ok, Err}
 use Rattle.std.specs.List.{AllByRecursion, Contains}
 use Rattle.std.proofs.lemmas.List.Elements.{Contains-append_left, Contains-append_right}
 use Rattle.list_laws.proofs.Each.{all_append}
 use Rattle.list_laws.proofs.Lists.{snoc_append}
-use Rattle.list_laws.proofs.Members.{at_head, in_tail, all_from}
+use Rattle.list_laws.proofs.Members.{at_head, all_from}
 use Rattle.list_laws.proofs.Told.{all_in}
 use Rattle.tpf_base.specs.Addresses.{Address}
 use Rattle.tpf_base.specs.Causes.{RoseBy}
 use Rattle.tpf_base.specs.Links.{WireState, Nature}
+use Rattle.http_wire.specs.declared.message.ReplyFault.{ReplyFault}
 use Rattle.bgp_core.specs.declared.pattern.Pattern.{Pattern}
 use Rattle.group_query.specs.Trees.{GroupData, group_tree, blocks_of, block_query}
 use Rattle.tpf_client.specs.declared.options.Options.{Options}
-use Rattle.tpf_client.specs.declared.options.Report.{Report}
 use Rattle.tpf_client.specs.declared.fault.ClientFault.{ClientFault}
 use Rattle.tpf_client.specs.declared.fault.ClientFault.TheVariants as faults
 use Rattle.tpf_client.specs.Honest.{IsHonestWire}
 use Rattle.tpf_client.specs.Offers.{Publisher, IsVersionOf, server_offer, addresses_of}
 use Rattle.tpf_client.specs.Requests.{DialsAtMost, GivesAtMost, tries_of}
-use Rattle.tpf_client.specs.Plans.{AtEach, IsAnswered, IsReadByAll, StartedIn, IsHonestCause, IsLivelyCause}
+use Rattle.tpf_client.specs.Plans.{AtEach, AtChosen, IsAnswered, IsAnsweredAt, IsReadByAll, IsLongAnswer, IsPageGone, StartedIn, IsHonestCause, IsLivelyCause}
 use Rattle.tpf_client.specs.Failing.{ForBudget, SpendsPlan}
-use Rattle.tpf_client.specs.Acts.{IsHonestCauseOf, IsLivelyCauseOf}
+use Rattle.tpf_client.specs.Acts.{IsHonestCauseOf, IsLivelyCauseOf, IsSpentOf}
+use Rattle.tpf_client.proofs.Homes.{all-so}
 use Rattle.group_patterns.specs.Blocks.{BlockRows, requests_of, with_budget, left_by, GivesRows, EndsBlock, of_block, Stops, InBlock, IsSpent, Differs, IsLacking, IsUnwritten, AsksSome}
 use Rattle.group_patterns.specs.Plans.{plans_over, plan_over, AreVersions, group_offer, StartedInTurn, StartedByBlocks}
 use Rattle.group_patterns.proofs.LinkCounts.{rose-none, rose-later, rose-both}
@@ -94,7 +95,7 @@ module _ (p : Publisher) (allows : List ℕ → ℕ → List ℕ → List ℕ �
     pub cause : (c : IsHonestCause (group_offer p g start) options fault) × IsHonestCauseOf (group_offer p g start) options versions fault c
     pub counted : since.nature.lively ≡ true → CountedOver versions since now
     pub lively : since.nature.lively ≡ true → (c : IsLivelyCause (group_offer p g start) options since now fault) × IsLivelyCauseOf (group_offer p g start) options since now versions fault c
-    pub spent : ForBudget (SpendsPlan (group_offer p g start) options) fault
+    pub spent : (s : ForBudget (SpendsPlan (group_offer p g start) options) fault) × IsSpentOf (group_offer p g start) options versions fault s
 
   module _ (fault : ClientFault) (since now : WireState) (honest : IsHonestWire allows p.history p.config since) (s : AsksSome allows options start g.names (blocks_of (group_tree g)) fault since now)
       (c : ChainDone p allows options start g.names s.asked s.done since s.between) where
@@ -201,12 +202,13 @@ module _ (p : Publisher) (allows : List ℕ → ℕ → List ℕ → List ℕ �
         )
 
     -- and less than the tries that it may take
-    spent-with : (later : List ℕ) (own : ℕ) → AreVersions p.history g (c.versions ++ later) → options.budget - requests_of s.done < own → own ≤ tries_of options (rest-plan later) → SpendsPlan (group_offer p g start) options
+    spent-with : (later : List ℕ) (own : ℕ) → AreVersions p.history g (c.versions ++ later) → options.budget - requests_of s.done < own → own ≤ tries_of options (rest-plan later)
+        → (x : SpendsPlan (group_offer p g start) options) × (x.choice ≡ c.versions ++ later)
     spent-with later own are over most =
         let a = c.answered.most in
         let t = plan-tries later in
         let l = within in
-        record { choice = c.versions ++ later; is_choice = are; tries = omega (arith, a, t, l, over, most) }
+        (record { choice = c.versions ++ later; is_choice = are; tries = omega (arith, a, t, l, over, most) }, refl)
 
     -- ---- no block was asked any more
 
@@ -246,7 +248,7 @@ module _ (p : Publisher) (allows : List ℕ → ℕ → List ℕ → List ℕ �
 
       bare : (own : ClientFault) → ((x : IsHonestCause (group_offer p g start) options own) × IsHonestCauseOf (group_offer p g start) options (c.versions ++ ones.0) own x)
           → (since.nature.lively ≡ true → (x : IsLivelyCause (group_offer p g start) options since now own) × IsLivelyCauseOf (group_offer p g start) options since now (c.versions ++ ones.0) own x)
-          → ForBudget (SpendsPlan (group_offer p g start) options) own → fault ≡ own → EndDone fault since now
+          → ((x : ForBudget (SpendsPlan (group_offer p g start) options) own) × IsSpentOf (group_offer p g start) options (c.versions ++ ones.0) own x) → fault ≡ own → EndDone fault since now
       bare own cause lively spent e = subst (λ (f : ClientFault). EndDone f since now) (sym e) (record {
         versions = c.versions ++ ones.0;
         are_versions = none-versions;
@@ -320,6 +322,26 @@ module _ (p : Publisher) (allows : List ℕ → ℕ → List ℕ → List ℕ �
       }
 
       module _ (version : ℕ) (are : AreVersions p.history g (c.versions ++ later-with version)) where
+        -- where the versions of all blocks answer the whole plan, this version answers that of the block
+        own-answered : (choice : ℕ) → choice ≡ version → AllByRecursion (AtChosen (group_offer p g start) (c.versions ++ later-with version) IsAnsweredAt) (plan-with (later-with version))
+            → AllByRecursion (AtChosen (server_offer p (block_query g.names ps) start) choice IsAnsweredAt) (own-at choice)
+        own-answered choice same all =
+            subst (λ (n : ℕ). AllByRecursion (AtChosen (server_offer p (block_query g.names ps) start) n IsAnsweredAt) (own-at n)) (sym same)
+            (all-so (AtChosen (group_offer p g start) (c.versions ++ later-with version) IsAnsweredAt) (AtChosen (server_offer p (block_query g.names ps) start) version IsAnsweredAt)
+            (λ address holds. λ server told stands has. holds server told stands (subst (λ (n : ℕ). Contains (c.versions ++ later-with version) n) (sym has) (in-versions version)))
+            (own-at version) (all-own (AtChosen (group_offer p g start) (c.versions ++ later-with version) IsAnsweredAt) version all))
+
+        -- the page that the block's version has is gone
+        own-gone : (server : Publisher) (choice : ℕ) (address : Address) (why : ReplyFault) → choice ≡ version → IsPageGone (server_offer p (block_query g.names ps) start) choice server address why → IsPageGone (group_offer p g start) (c.versions ++ later-with version) server address why
+        own-gone server choice address why same h = record {
+          is_fault = h.is_fault;
+          version = h.version;
+          has = subst (λ (n : ℕ). Contains (c.versions ++ later-with version) n) (sym (h.has ∙ same)) (in-versions version);
+          other = h.other;
+          is_other = h.is_other;
+          fewer = h.fewer;
+        }
+
         -- a cause over an honest wire, of the whole plan
         own-honest : (own : ClientFault) (h : IsHonestCause (server_offer p (block_query g.names ps) start) (left_by options s.done) own) → IsHonestCauseOf (server_offer p (block_query g.names ps) start) (left_by options s.done) version own h
             → (x : IsHonestCause (group_offer p g start) options (of_block options.budget own)) × IsHonestCauseOf (group_offer p g start) options (c.versions ++ later-with version) (of_block options.budget own) x
@@ -339,6 +361,17 @@ module _ (p : Publisher) (allows : List ℕ → ℕ → List ℕ → List ℕ �
                   server = k.server;
                   stands = k.stands;
                   long = k.long;
+                };
+            why = λ all.
+                let k = h.why (own-answered h.choice same all) in
+                record {
+                  address = k.address;
+                  is_asked = among version k.address (subst (λ (n : ℕ). Contains (own-at n) k.address) same k.is_asked);
+                  server = k.server;
+                  stands = k.stands;
+                  why = ⊎_elim
+                      (λ (l : IsLongAnswer k.server options.max_body k.address why received). let r : IsLongAnswer k.server options.max_body k.address why received ⊎ IsPageGone (group_offer p g start) (c.versions ++ later-with version) k.server k.address why = inl l in r)
+                      (λ (l : IsPageGone (server_offer p (block_query g.names ps) start) h.choice k.server k.address why). inr (own-gone k.server h.choice k.address why same l)) k.why;
                 };
           },
           refl,
@@ -382,6 +415,20 @@ module _ (p : Publisher) (allows : List ℕ → ℕ → List ℕ → List ℕ �
         own-lively faults.Sink alive h same = (tt, tt)
         own-lively faults.OutOfMemory alive h same = (tt, tt)
 
+        -- and what a budget that is spent is less than
+        own-spent : (own : ClientFault) (h : ForBudget (SpendsPlan (server_offer p (block_query g.names ps) start) (left_by options s.done)) own) → IsSpentOf (server_offer p (block_query g.names ps) start) (left_by options s.done) version own h
+            → (x : ForBudget (SpendsPlan (group_offer p g start) options) (of_block options.budget own)) × IsSpentOf (group_offer p g start) options (c.versions ++ later-with version) (of_block options.budget own) x
+        own-spent faults.Exchange h same = (tt, tt)
+        own-spent faults.Stalled h same = (tt, tt)
+        own-spent (faults.Cut received) h same = (tt, tt)
+        own-spent (faults.Reply why received) h same = (tt, tt)
+        own-spent (faults.Page why body) h same = (tt, tt)
+        own-spent (faults.Changed first other) h same = (tt, tt)
+        own-spent (faults.Budget n) h same =
+            spent-with (later-with version) (tries_of options (own-at version)) are (subst (λ (v : ℕ). options.budget - requests_of s.done < tries_of options (own-at v)) same h.tries) (next-tries version)
+        own-spent faults.Sink h same = (tt, tt)
+        own-spent faults.OutOfMemory h same = (tt, tt)
+
       -- the call for it ended
       ended-in : (own : ClientFault) → fault ≡ of_block options.budget own → EndsBlock allows (left_by options s.done) start (block_query g.names ps) own s.between now → EndDone fault since now
       ended-in own e ends =
@@ -409,7 +456,7 @@ module _ (p : Publisher) (allows : List ℕ → ℕ → List ℕ → List ℕ �
                   rises = k.rises;
                   rose = k.rose;
                   own = k.started;
-                  is_started = own-started k.started k.is_started;
+                  is_started = own-started k.started (record { events = ends.acts.happened.events; pool = ends.acts.happened.pool; runs = ends.acts.happened.runs; is_started = sym k.is_started });
                   few = omega (arith, size, most, f);
                   dials = omega (arith, size, most, d);
                   given = omega (arith, size, most, h);
@@ -417,9 +464,8 @@ module _ (p : Publisher) (allows : List ℕ → ℕ → List ℕ → List ℕ �
             lively = λ alive.
                 subst (λ (f : ClientFault). (x : IsLivelyCause (group_offer p g start) options since now f) × IsLivelyCauseOf (group_offer p g start) options since now (c.versions ++ later) f x) (sym e)
                 (own-lively version are own alive (acts.lively_cause p honest-behind (alive-behind alive)) (acts.one_lively_cause p honest-behind (alive-behind alive)));
-            spent = subst (λ (f : ClientFault). ForBudget (SpendsPlan (group_offer p g start) options) f) (sym e)
-                (for-block (SpendsPlan (server_offer p (block_query g.names ps) start) (left_by options s.done)) (SpendsPlan (group_offer p g start) options) options.budget own
-                (λ h. spent-with (later-with h.choice) (tries_of options (own-at h.choice)) (next-versions h.choice h.is_choice) h.tries (next-tries h.choice)) (acts.spent_plan p honest-behind));
+            spent = subst (λ (f : ClientFault). (x : ForBudget (SpendsPlan (group_offer p g start) options) f) × IsSpentOf (group_offer p g start) options (c.versions ++ later) f x) (sym e)
+                (own-spent version are own (acts.spent_plan p honest-behind) (acts.one_spent p honest-behind));
           }
 
       -- it gave its rows, and told another version than the first
@@ -462,7 +508,7 @@ module _ (p : Publisher) (allows : List ℕ → ℕ → List ℕ → List ℕ �
             counted = λ alive.
                 let k = (block-answered p allows options start g.names ps left s.between now honest-behind _ b.report acts).paced (alive-behind alive) in
                 let most = next-long version in
-                let a = gives.acts.answered in
+                let h = gives.acts.happened in
                 let f = k.few in
                 let dialled = on.dials in
                 let linked = on.given in
@@ -470,13 +516,13 @@ module _ (p : Publisher) (allows : List ℕ → ℕ → List ℕ → List ℕ �
                   rises = k.rises;
                   rose = k.rose;
                   own = b.report.requests;
-                  is_started = own-started b.report.requests (record { events = a.events; pool = a.pool; runs = a.runs; is_started = a.started });
+                  is_started = own-started b.report.requests (record { events = h.events; pool = h.pool; runs = h.runs; is_started = gives.acts.answered.started });
                   few = omega (arith, most, f);
                   dials = omega (arith, most, f, dialled);
                   given = omega (arith, most, f, linked);
                 });
             lively = λ alive. subst (λ (f : ClientFault). (x : IsLivelyCause (group_offer p g start) options since now f) × IsLivelyCauseOf (group_offer p g start) options since now (c.versions ++ later) f x) (sym e) (tt, tt);
-            spent = subst (λ (f : ClientFault). ForBudget (SpendsPlan (group_offer p g start) options) f) (sym e) tt;
+            spent = subst (λ (f : ClientFault). (x : ForBudget (SpendsPlan (group_offer p g start) options) f) × IsSpentOf (group_offer p g start) options (c.versions ++ later) f x) (sym e) (tt, tt);
           }
 
       -- nothing of the budget is left for it
@@ -505,5 +551,5 @@ module _ (p : Publisher) (allows : List ℕ → ℕ → List ℕ → List ℕ �
         by (InBlock ps more own r e ends) = ended-in ps more r own e ends
         by (IsSpent ps more r spent e is) = spent-before ps more r is spent e
         by (Differs ps more first later b r d ne e gives) = differed ps more r first later b d ne e gives
-        by (IsLacking e is) = bare is faults.OutOfMemory (tt, tt) (λ alive. (tt, tt)) tt e
-        by (IsUnwritten r e is) = bare is faults.Sink (tt, tt) (λ alive. (tt, tt)) tt e
+        by (IsLacking e is) = bare is faults.OutOfMemory (tt, tt) (λ alive. (tt, tt)) (tt, tt) e
+        by (IsUnwritten r e is) = bare is faults.Sink (tt, tt) (λ alive. (tt, tt)) (tt, tt) e

@@ -1,5 +1,5 @@
 // The blocks of a query with groups, asked one after another.
-ghost use Rattle.std.specs.Prelude.{ℕ, ◌≡◌, ◌≤◌, ◌⊎◌, length, [], IfErr, OnOk, IsErrOf, true, false};
+ghost use Rattle.std.specs.Prelude.{◌≡◌, ◌≤◌, ◌⊎◌, length, [], IfErr, OnOk, IsErrOf, true, false};
 ghost use Rattle.std.specs.List.{AllByRecursion};
 ghost use Rattle.tpf_base.specs.Links.{SameAllowed};
 ghost use Rattle.bgp_core.specs.Queries.{IsPatternOf};
@@ -109,8 +109,10 @@ impl Asking {
     ) -> Result<(), ClientFault>
         requires bounds { SuitsCalls options.now }
         requires fit { AllByRecursion (IsPatternOf (length names.now)) patterns.now }
-        ensures ok { OnOk result (AsksBlock (W.allows wire.old) options.now start.now names.now patterns.now self.old self.new (W.state wire.old) (W.state wire.new)) }
-        ensures err { IfErr result (λ fault. BlockEnds (W.allows wire.old) options.now start.now names.now patterns.now self.old fault (W.state wire.old) (W.state wire.new)) }
+        ensures ok { OnOk result (AsksBlock (W.allows wire.old) options.now start.now names.now patterns.now self.old
+            self.new (W.state wire.old) (W.state wire.new)) }
+        ensures err { IfErr result (λ fault. BlockEnds (W.allows wire.old) options.now start.now names.now
+            patterns.now self.old fault (W.state wire.old) (W.state wire.new)) }
         ensures sink { IsErrOf result ClientFault.Sink → ⊥ }
         ensures allowed { SameAllowed (W.allows wire.old) (W.allows wire.new) }
     {
@@ -144,8 +146,10 @@ impl Asking {
     ) -> Result<(), ClientFault>
         requires bounds { SuitsCalls options.now }
         requires fit { BlocksFit (length names.now) (block_in step.now) }
-        ensures ok { OnOk result (AsksStep (W.allows wire.old) options.now start.now names.now (block_in step.now) self.old self.new (W.state wire.old) (W.state wire.new)) }
-        ensures err { IfErr result (λ fault. StepEnds (W.allows wire.old) options.now start.now names.now (block_in step.now) self.old fault (W.state wire.old) (W.state wire.new)) }
+        ensures ok { OnOk result (AsksStep (W.allows wire.old) options.now start.now names.now
+            (block_in step.now) self.old self.new (W.state wire.old) (W.state wire.new)) }
+        ensures err { IfErr result (λ fault. StepEnds (W.allows wire.old) options.now start.now names.now
+            (block_in step.now) self.old fault (W.state wire.old) (W.state wire.new)) }
         ensures sink { IsErrOf result ClientFault.Sink → ⊥ }
         ensures allowed { SameAllowed (W.allows wire.old) (W.allows wire.new) }
     {
@@ -169,8 +173,10 @@ impl Asking {
         requires bounds { SuitsCalls options.now }
         requires fresh { self.old ≡ no_progress options.now.budget }
         requires fit { BlocksFit (length names.now) (blocks_in steps.now) }
-        ensures ok { OnOk result (AsksBlocks (W.allows wire.old) options.now start.now names.now (blocks_in steps.now) self.new (W.state wire.old) (W.state wire.new)) }
-        ensures err { IfErr result (λ fault. AsksSome (W.allows wire.old) options.now start.now names.now (blocks_in steps.now) fault (W.state wire.old) (W.state wire.new)) }
+        ensures ok { OnOk result (AsksBlocks (W.allows wire.old) options.now start.now names.now
+            (blocks_in steps.now) self.new (W.state wire.old) (W.state wire.new)) }
+        ensures err { IfErr result (λ fault. AsksSome (W.allows wire.old) options.now start.now names.now
+            (blocks_in steps.now) fault (W.state wire.old) (W.state wire.new)) }
         ensures sink { IsErrOf result ClientFault.Sink → ⊥ }
         ensures allowed { SameAllowed (W.allows wire.old) (W.allows wire.new) }
     {

@@ -1,10 +1,10 @@
 // One block of a query with groups, asked as a query of its own.
-ghost use Rattle.std.specs.Prelude.{ℕ, ◌≡◌, ◌≤◌, length, IfOk, IfErr, IsErrOf, MatchOption, [], ◌∷◌};
+ghost use Rattle.std.specs.Prelude.{◌≡◌, ◌≤◌, length, IfOk, IfErr, IsErrOf, MatchOption, [], ◌∷◌};
 ghost use Rattle.std.specs.List.{AllByRecursion};
 ghost use Rattle.tpf_base.specs.Links.{SameAllowed};
 ghost use Rattle.bgp_core.specs.Queries.{IsPatternOf};
 ghost use Rattle.group_query.specs.Trees.{block_query};
-ghost use Rattle.group_patterns.specs.Blocks.{BlockRows, GivesRows};
+ghost use Rattle.group_patterns.specs.Blocks.{GivesRows};
 ghost use Rattle.group_patterns.specs.Asking.{SuitsCalls, CallEnds, block_in};
 
 use bgp_core::{Pattern, Query, Row, copy_patterns};
@@ -63,8 +63,11 @@ pub(crate) fn collect_block<R: Wait, W: Dial>(
     requires bounds { SuitsCalls options.now }
     requires left { 1 ≤ options.now.budget }
     requires fit { AllByRecursion (IsPatternOf (length names.now)) patterns.now }
-    ensures ok { IfOk result (λ r. GivesRows (W.allows wire.old) options.now start.now (block_query names.now patterns.now) (record { report = r.1; rows = r.0.items }) (W.state wire.old) (W.state wire.new)) }
-    ensures err { IfErr result (λ fault. CallEnds (W.allows wire.old) options.now start.now names.now patterns.now fault (W.state wire.old) (W.state wire.new)) }
+    ensures ok { IfOk result (λ r. GivesRows (W.allows wire.old) options.now start.now
+        (block_query names.now patterns.now) (record { report = r.1; rows = r.0.items }) (W.state wire.old)
+        (W.state wire.new)) }
+    ensures err { IfErr result (λ fault. CallEnds (W.allows wire.old) options.now start.now names.now patterns.now
+        fault (W.state wire.old) (W.state wire.new)) }
     ensures sink { IsErrOf result ClientFault.Sink → ⊥ }
     ensures allowed { SameAllowed (W.allows wire.old) (W.allows wire.new) }
 {

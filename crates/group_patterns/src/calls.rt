@@ -35,8 +35,10 @@ fn ask_blocks<R: Wait, W: Dial>(
     wire: &mut W,
 ) -> Result<Asking, ClientFault>
     requires bounds { SuitsCalls options.now }
-    ensures ok { IfOk result (λ asking. AsksBlocks (W.allows wire.old) options.now start.now query.now.names (blocks_of (group_tree query.now)) asking (W.state wire.old) (W.state wire.new)) }
-    ensures err { IfErr result (λ fault. AsksSome (W.allows wire.old) options.now start.now query.now.names (blocks_of (group_tree query.now)) fault (W.state wire.old) (W.state wire.new)) }
+    ensures ok { IfOk result (λ asking. AsksBlocks (W.allows wire.old) options.now start.now query.now.names
+        (blocks_of (group_tree query.now)) asking (W.state wire.old) (W.state wire.new)) }
+    ensures err { IfErr result (λ fault. AsksSome (W.allows wire.old) options.now start.now query.now.names
+        (blocks_of (group_tree query.now)) fault (W.state wire.old) (W.state wire.new)) }
     ensures sink { IsErrOf result ClientFault.Sink → ⊥ }
     ensures allowed { SameAllowed (W.allows wire.old) (W.allows wire.new) }
 {
@@ -85,8 +87,10 @@ fn gather<R: Wait, W: Dial>(
     wire: &mut W,
 ) -> Result<(Vec<Row>, Report), ClientFault>
     requires bounds { SuitsCalls options.now }
-    ensures ok { IfOk result (λ r. Gathers (W.allows wire.old) options.now start.now query.now r.1 r.0.items (W.state wire.old) (W.state wire.new)) }
-    ensures err { IfErr result (λ fault. AsksSome (W.allows wire.old) options.now start.now query.now.names (blocks_of (group_tree query.now)) fault (W.state wire.old) (W.state wire.new)) }
+    ensures ok { IfOk result (λ r. Gathers (W.allows wire.old) options.now start.now query.now r.1 r.0.items
+        (W.state wire.old) (W.state wire.new)) }
+    ensures err { IfErr result (λ fault. AsksSome (W.allows wire.old) options.now start.now query.now.names
+        (blocks_of (group_tree query.now)) fault (W.state wire.old) (W.state wire.new)) }
     ensures sink { IsErrOf result ClientFault.Sink → ⊥ }
     ensures allowed { SameAllowed (W.allows wire.old) (W.allows wire.new) }
 {
@@ -107,8 +111,10 @@ fn write_answers<R: Wait, W: Dial, K: Sink>(
     out: &mut K,
 ) -> Result<Report, ClientFault>
     requires bounds { SuitsCalls options.now }
-    ensures ok { IfOk result (λ report. WritesGathered (W.allows wire.old) options.now start.now query.now report (W.state wire.old) (W.state wire.new) (K.state out.old).taken (K.state out.new).taken) }
-    ensures err { IfErr result (λ fault. WritesGatheredFront (W.allows wire.old) options.now start.now query.now fault (W.state wire.old) (W.state wire.new) (K.state out.old).taken (K.state out.new).taken) }
+    ensures ok { IfOk result (λ report. WritesGathered (W.allows wire.old) options.now start.now query.now report
+        (W.state wire.old) (W.state wire.new) (K.state out.old).taken (K.state out.new).taken) }
+    ensures err { IfErr result (λ fault. WritesGatheredFront (W.allows wire.old) options.now start.now query.now fault
+        (W.state wire.old) (W.state wire.new) (K.state out.old).taken (K.state out.new).taken) }
     ensures sink { LeavesSink (K.state out.old) (K.state out.new) result }
     ensures allowed { SameAllowed (W.allows wire.old) (W.allows wire.new) }
 {
@@ -152,15 +158,27 @@ pub fn answer<R: Wait, W: Dial, K: Sink>(
     requires window { 1 ≤ options.now.window }
     requires some { 1 ≤ options.now.links }
     requires few { options.now.links ≤ 256 }
-    ensures whole { IfOk result (λ report. WritesGroup query.now report.rows (K.state out.old).taken (K.state out.new).taken) }
+    ensures whole { IfOk result (λ report. WritesGroup query.now report.rows (K.state out.old).taken
+        (K.state out.new).taken) }
     ensures front { OnErr result (WritesGroupPrefix query.now (K.state out.old).taken (K.state out.new).taken) }
-    ensures ok { IfOk result (λ report. WritesGathered (W.allows wire.old) options.now start.now query.now report (W.state wire.old) (W.state wire.new) (K.state out.old).taken (K.state out.new).taken) }
-    ensures err { IfErr result (λ fault. WritesGatheredFront (W.allows wire.old) options.now start.now query.now fault (W.state wire.old) (W.state wire.new) (K.state out.old).taken (K.state out.new).taken) }
-    ensures headline { OverHonest (W.allows wire.old) (W.state wire.old) (λ history config. IfOk result (λ report. WritesGroupAnswers history query.now report.version report.rows (K.state out.old).taken (K.state out.new).taken)) }
-    ensures prefix { OverHonest (W.allows wire.old) (W.state wire.old) (λ history config. OnErr result (WritesGroupAnswersFront history query.now (K.state out.old).taken (K.state out.new).taken)) }
-    ensures acts { ActsOnGroups (W.allows wire.old) options.now start.now query.now result (W.state wire.old) (W.state wire.new) (K.state out.old).faults (K.state out.new).faults }
-    ensures complete { OverHonest (W.allows wire.old) (W.state wire.old) (λ history config. (W.state wire.old).nature.lively ≡ true → (rise : ℕ) → RisesFew options.now rise (W.state wire.old) (W.state wire.new)
-        → PlanFits (group_offer (publisher history config) query.now start.now) options.now rise → (Rose (K.state out.old).faults (K.state out.new).faults → ⊥) → IfErr result (MayStill (group_offer (publisher history config) query.now start.now))) }
+    ensures ok { IfOk result (λ report. WritesGathered (W.allows wire.old) options.now start.now query.now report
+        (W.state wire.old) (W.state wire.new) (K.state out.old).taken (K.state out.new).taken) }
+    ensures err { IfErr result (λ fault. WritesGatheredFront (W.allows wire.old) options.now start.now query.now fault
+        (W.state wire.old) (W.state wire.new) (K.state out.old).taken (K.state out.new).taken) }
+    ensures headline { OverHonest (W.allows wire.old) (W.state wire.old)
+        (λ history config. IfOk result (λ report. WritesGroupAnswers history query.now report.version report.rows
+        (K.state out.old).taken (K.state out.new).taken)) }
+    ensures prefix { OverHonest (W.allows wire.old) (W.state wire.old)
+        (λ history config. OnErr result (WritesGroupAnswersFront history query.now (K.state out.old).taken
+        (K.state out.new).taken)) }
+    ensures acts { ActsOnGroups (W.allows wire.old) options.now start.now query.now result (W.state wire.old)
+        (W.state wire.new) (K.state out.old).faults (K.state out.new).faults }
+    ensures complete { OverHonest (W.allows wire.old) (W.state wire.old)
+        (λ history config. (W.state wire.old).nature.lively ≡ true → (rise : ℕ)
+        → RisesFew options.now rise (W.state wire.old) (W.state wire.new)
+        → PlanFits (group_offer (publisher history config) query.now start.now) options.now rise
+        → (Rose (K.state out.old).faults (K.state out.new).faults → ⊥)
+        → IfErr result (MayStill (group_offer (publisher history config) query.now start.now))) }
     ensures sink { LeavesSink (K.state out.old) (K.state out.new) result }
     ensures allowed { SameAllowed (W.allows wire.old) (W.allows wire.new) }
 {

@@ -1,5 +1,5 @@
 // The text of a result, from rows that are there.
-ghost use Rattle.std.specs.Prelude.{ℕ, ◌≡◌, ◌++◌, OnOk, OnErr, IfErr};
+ghost use Rattle.std.specs.Prelude.{◌≡◌, ◌++◌, OnOk, OnErr, IfErr};
 ghost use Rattle.std.specs.Io.KnownBytes.{Appends};
 ghost use Rattle.tpf_base.specs.Wrote.{AppendsPrefix, WritesWhole};
 ghost use Rattle.result_json.specs.Results.{result_text};
@@ -21,7 +21,8 @@ const GATHERED: usize = 65536;
 /// Adds a row, and gives what is pending to the sink where that is much.
 fn add_row<'a, K: Sink>(writer: &mut ResultWriter<'a>, row: &Row, out: &mut K) -> Result<(), Fault>
     ensures ok { OnOk result (AddsRow row.now writer.old writer.new (K.state out.old).taken (K.state out.new).taken) }
-    ensures err { OnErr result (AppendsPrefix (K.state out.old).taken (K.state out.new).taken (writer.old.pending ++ row_piece writer.old.query writer.old.has_rows row.now)) }
+    ensures err { OnErr result (AppendsPrefix (K.state out.old).taken (K.state out.new).taken
+        (writer.old.pending ++ row_piece writer.old.query writer.old.has_rows row.now)) }
     ensures sink { KeepsSink (K.state out.old) (K.state out.new) result }
 {
     match writer.row(row) {
@@ -53,8 +54,10 @@ fn write_pieces<'a, K: Sink>(
     out: &mut K,
 ) -> Result<(), Fault>
     requires fresh { writer.old ≡ begun_text writer.old.query }
-    ensures ok { OnOk result (Appends (K.state out.old).taken (K.state out.new).taken (result_text writer.old.query rows.now)) }
-    ensures err { OnErr result (AppendsPrefix (K.state out.old).taken (K.state out.new).taken (result_text writer.old.query rows.now)) }
+    ensures ok { OnOk result (Appends (K.state out.old).taken (K.state out.new).taken
+        (result_text writer.old.query rows.now)) }
+    ensures err { OnErr result (AppendsPrefix (K.state out.old).taken (K.state out.new).taken
+        (result_text writer.old.query rows.now)) }
     ensures sink { KeepsSink (K.state out.old) (K.state out.new) result }
 {
     pieces_make_the_text();
@@ -74,8 +77,10 @@ pub(crate) fn write_rows<K: Sink>(
     rows: &[Row],
     out: &mut K,
 ) -> Result<(), ClientFault>
-    ensures ok { OnOk result (Appends (K.state out.old).taken (K.state out.new).taken (result_text query.now rows.now)) }
-    ensures err { OnErr result (AppendsPrefix (K.state out.old).taken (K.state out.new).taken (result_text query.now rows.now)) }
+    ensures ok { OnOk result (Appends (K.state out.old).taken (K.state out.new).taken
+        (result_text query.now rows.now)) }
+    ensures err { OnErr result (AppendsPrefix (K.state out.old).taken (K.state out.new).taken
+        (result_text query.now rows.now)) }
     ensures local { IfErr result IsLocal }
     ensures sink { LeavesSink (K.state out.old) (K.state out.new) result }
 {

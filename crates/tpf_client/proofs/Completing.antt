@@ -17,13 +17,13 @@ use Rattle.tpf_client.proofs.Homes.{all-so}
 use Rattle.tpf_client.proofs.Planned.{at-member}
 
 -- so many rises are not among so few
-not-so-many : (retries before now rise : ℕ) → now ≡ before + rise → now < 2 ^ 64 - 1 → rise ≤ retries → RoseBy (retries + 1) before now → ⊥
+pub not-so-many : (retries before now rise : ℕ) → now ≡ before + rise → now < 2 ^ 64 - 1 → rise ≤ retries → RoseBy (retries + 1) before now → ⊥
 not-so-many retries before now rise e c f h = omega (arith, e, c, f, h)
 
-not-over : (before now rise rises most budget : ℕ) → now ≡ before + rise → now < 2 ^ 64 - 1 → RoseBy rises before now → most + rise ≤ budget → budget < most + rises → ⊥
+pub not-over : (before now rise rises most budget : ℕ) → now ≡ before + rise → now < 2 ^ 64 - 1 → RoseBy rises before now → most + rise ≤ budget → budget < most + rises → ⊥
 not-over before now rise rises most budget e c h w o = omega (arith, e, c, h, w, o)
 
-too-long : (most n m : ℕ) → most < n → n ≡ m → m ≤ most → ⊥
+pub too-long : (most n m : ℕ) → most < n → n ≡ m → m ≤ most → ⊥
 too-long most n m l e s = omega (arith, l, e, s)
 
 module _ (offer : Offer) (options : Options) (since now : WireState) (rise : ℕ) (few : RisesFew options rise since now) (fits : PlanFits offer options rise) where

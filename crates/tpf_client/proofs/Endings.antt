@@ -43,7 +43,7 @@ split allows (e ∷ before) event p q v w t =
 
 moves-onward : (allows : List ℕ → ℕ → List ℕ → List ℕ → Type 0) (event : Event) (p q : Pooled) (v w : WireState) → Moves allows event p q v w → Onward v w
 moves-onward allows (Asked ask) p q v w m = onward_same v w m.happens.1
-moves-onward allows (Came ask reply) p q v w m = let h : Comes ask reply p q v w = m.happens in onward_step (Ok (stepped.Came ask.ticket reply)) p q v w h.steps
+moves-onward allows (Came ask reply) p q v w m = let h : Comes ask reply p q v w = m.happens in onward_step (Ok (stepped.Came ask.ticket ask.address reply)) p q v w h.steps
 moves-onward allows Waited p q v w m = let h : Waits p q v w = m.happens in onward_step (Ok stepped.Waited) p q v w h.steps
 moves-onward allows (Broke fault) p q v w m = let h : Breaks fault p q v w = m.happens in onward_step (Err fault) p (without_fault q) v w h.steps
 

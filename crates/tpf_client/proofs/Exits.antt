@@ -13,39 +13,39 @@ use Rattle.tpf_client.specs.declared.options.Report.{Report}
 use Rattle.tpf_client.specs.declared.fault.ClientFault.{ClientFault}
 use Rattle.tpf_client.specs.Traffic.{Event, IsLawful}
 use Rattle.tpf_client.specs.Turns.{asked_in, address_of}
-use Rattle.tpf_client.specs.Calls.{Returns, WritesSome, RunsPool, StartsFew}
+use Rattle.tpf_client.specs.Calls.{Returns, WritesSome, Happened, AreThese}
 use Rattle.tpf_client.specs.Sources.{Sources}
 use Rattle.tpf_client.specs.Offers.{Offer}
 use Rattle.tpf_client.specs.Honest.{Laws}
 use Rattle.tpf_client.specs.Requests.{TrafficLaws, AreClosed, AreDialledFor, OthersStay, MovesOn, DialsAtMost, GivesAtMost, tries_of, AnswersAll, RequestsAreTries, DialsAreTries}
-use Rattle.tpf_client.specs.Plans.{SendsAsked, AsksPlan, StaysUnprovoked}
+use Rattle.tpf_client.specs.Plans.{SendsOnly, AsksPlan, StaysUnprovoked}
 use Rattle.tpf_client.specs.Acts.{WithCause}
 use Rattle.tpf_client.proofs.Answering.{all-answered}
 use Rattle.tpf_client.proofs.Endings.{travels-onward, same-bounds}
 use Rattle.tpf_client.proofs.Known.{Exit, exit-of, begun}
 use Rattle.tpf_client.proofs.Covered.{Covered, served-at}
 use Rattle.tpf_client.proofs.Sparing.{spares-so}
-use Rattle.tpf_client.proofs.Planned.{RunOf, least-started, returns-run, some-run, PlannedRun, ExplainedRun, WholeRun, returns-whole, some-explained, few-asked, all-counted}
-use Rattle.tpf_client.proofs.Sent.{sends-asked, sends-so}
+use Rattle.tpf_client.proofs.Planned.{RunOf, least-started, finished, PlannedRun, ExplainedRun, WholeRun, returns-whole, whole-run, some-explained, explained-run, few-asked, all-counted}
+use Rattle.tpf_client.proofs.Sent.{sends-asked}
 use Rattle.tpf_client.proofs.Shutting.{if-err-from, either-way}
 
 -- what holds at each exit, whatever the call answers
-pub record AnyExit (allows : List ℕ → ℕ → List ℕ → List ℕ → Type 0) (options : Options) (starts : List Address) (since now : WireState) : Type 0 where
+pub record AnyExit (options : Options) (starts : List Address) (events : List Event) (pool : Pooled) (since now : WireState) : Type 0 where
   pub closed : AreClosed since now
   pub peers : AreDialledFor starts since now
   pub others : OthersStay since now
   pub moves : MovesOn since now
   pub dials : DialsAtMost options.budget since now
   pub given : GivesAtMost options.budget since now
-  pub started : StartsFew allows options since now
-  pub sent : SendsAsked allows options starts since now
+  pub started : pool.started ≤ options.budget
+  pub sent : SendsOnly (map address_of (asked_in events)) since now
 
 -- and where it answers rows
-pub record RowsExit (allows : List ℕ → ℕ → List ℕ → List ℕ → Type 0) (options : Options) (starts : List Address) (report : Report) (since now : WireState) : Type 0 where
+pub record RowsExit (options : Options) (report : Report) (events : List Event) (pool : Pooled) (since now : WireState) : Type 0 where
   pub within : report.requests ≤ options.budget
   pub dials : DialsAtMost report.requests since now
   pub given : GivesAtMost report.requests since now
-  pub answers : AnswersAll allows options starts report.requests since now
+  pub answers : AnswersAll options report.requests events pool
 
 at-most : (a b c : ℕ) → a ≤ b → b ≤ c → a ≤ c
 at-most a b c l m = omega (arith, l, m)
@@ -75,7 +75,7 @@ module _ (laws : Laws) (traffic : TrafficLaws) (allows : List ℕ → ℕ → Li
         dials = still-rose since.dials run.runs.between.dials now.dials o.dials closes.dials;
       }
 
-  pub any-exit : RunOf allows options starts since now → AnyExit allows options starts since now
+  pub any-exit : (run : RunOf allows options starts since now) → AnyExit options starts run.events run.pool since now
   any-exit run =
       let x = exit run in
       record {
@@ -85,27 +85,23 @@ module _ (laws : Laws) (traffic : TrafficLaws) (allows : List ℕ → ℕ → Li
         moves = moves-on run;
         dials = more-than now.dials since.dials run.pool.started options.budget x.dials x.within;
         given = more-than now.given since.given run.pool.started options.budget x.given x.within;
-        started = record { events = run.events; pool = run.pool; runs = run.runs; few = x.within };
-        sent = sends-so laws traffic allows options since now lawful starts run;
+        started = x.within;
+        sent = sends-asked laws traffic allows options since now lawful starts run;
       }
 
   -- an exit with rows
-  pub rows-exit : (sources : Sources) (q : QueryData) (report : Report) (rows : List Places) → Returns (RunsPool allows options since now) sources q starts report rows → RowsExit allows options starts report since now
-  rows-exit sources q report rows r =
-      let run = returns-run allows options since now starts sources q report rows r in
-      let x : Exit starts options since now (length (asked_in run.events)) report.requests = subst (λ (n : ℕ). Exit starts options since now (length (asked_in run.events)) n) (sym r.requests) (exit run) in
-      let least : length (asked_in run.events) ≤ report.requests = subst (λ (n : ℕ). length (asked_in run.events) ≤ n) (sym r.requests) (least-started traffic allows options since now lawful starts run r.no_fault r.none_held) in
+  pub rows-exit : (run : RunOf allows options starts since now) (sources : Sources) (q : QueryData) (report : Report) (rows : List Places) → Returns (AreThese run.events run.pool) sources q starts report rows → RowsExit options report run.events run.pool since now
+  rows-exit run sources q report rows r =
+      let f = finished allows options since now starts run sources q report rows r in
+      let x : Exit starts options since now (length (asked_in run.events)) report.requests = subst (λ (n : ℕ). Exit starts options since now (length (asked_in run.events)) n) (sym f.requests) (exit run) in
+      let least : length (asked_in run.events) ≤ report.requests = subst (λ (n : ℕ). length (asked_in run.events) ≤ n) (sym f.requests) (least-started traffic allows options since now lawful starts run f.no_fault f.none_held) in
       record {
         within = x.within;
         dials = x.dials;
         given = x.given;
         answers = record {
-          events = run.events;
-          pool = run.pool;
-          runs = run.runs;
-          asks = run.asks;
-          answered = all-answered allows run.events (begun options) run.pool since run.runs.between run.runs.travels r.no_fault refl r.none_held;
-          started = sym r.requests;
+          answered = all-answered allows run.events (begun options) run.pool since run.runs.between run.runs.travels f.no_fault refl f.none_held;
+          started = sym f.requests;
           few = x.few;
           each = least;
         };
@@ -163,29 +159,29 @@ module _ (laws : Laws) (traffic : TrafficLaws) (allows : List ℕ → ℕ → Li
 
 -- ---- a call
 
-module _ (allows : List ℕ → ℕ → List ℕ → List ℕ → Type 0) (options : Options) (since now : WireState) (starts : List Address) (sources : Sources) (q : QueryData) where
+module _ (allows : List ℕ → ℕ → List ℕ → List ℕ → Type 0) (options : Options) (since now : WireState) (starts : List Address) (sources : Sources) (q : QueryData) (h : Happened allows options starts since now) where
   abbrev Call : List Event → Pooled → Type 0
-  Call events pool = RunsPool allows options since now events pool
-
-  -- whatever it answers
-  pub at-run : {A : Type 0} (result : Result A ClientFault) (P : A → Type 0) (t u : Option (List ℕ)) → IfOk result P → IfErr result (λ fault. WritesSome Call sources q starts options.budget fault t u)
-      → ((x : A) → P x → (report : Report) × (rows : List Places) × Returns Call sources q starts report rows) → RunOf allows options starts since now
-  at-run result P t u ok err f =
-      either-way result P (λ fault. WritesSome Call sources q starts options.budget fault t u) (RunOf allows options starts since now) ok err
-      (λ x p. let r = f x p in returns-run allows options since now starts sources q r.0 r.1 r.2) (λ fault w. some-run allows options since now starts sources q fault t u w)
+  Call events pool = AreThese h.events h.pool events pool
 
   module _ (offer : Offer) (covered : Covered sources offer allows options since now starts q) where
     pub at-whole : (report : Report) (rows : List Places) → Returns Call sources q starts report rows → WholeRun allows offer options since now starts report
-    at-whole report rows r = returns-whole allows sources offer options since now starts q covered report rows r
+    at-whole report rows r = returns-whole allows sources offer options since now starts q covered h report rows r
 
     pub at-explained : (fault : ClientFault) (t u : Option (List ℕ)) → WritesSome Call sources q starts options.budget fault t u → ExplainedRun allows offer options since now starts fault
-    at-explained fault t u w = some-explained allows sources offer options since now starts q covered fault t u w
+    at-explained fault t u w = some-explained allows sources offer options since now starts q covered h fault t u w
 
     pub at-planned : {A : Type 0} (result : Result A ClientFault) (P : A → Type 0) (t u : Option (List ℕ)) → IfOk result P → IfErr result (λ fault. WritesSome Call sources q starts options.budget fault t u)
         → ((x : A) → P x → (report : Report) × (rows : List Places) × Returns Call sources q starts report rows) → PlannedRun allows offer options since now starts
     at-planned result P t u ok err f =
         either-way result P (λ fault. WritesSome Call sources q starts options.budget fault t u) (PlannedRun allows offer options since now starts) ok err
         (λ x p. let r = f x p in (at-whole r.0 r.1 r.2).planned) (λ fault w. (at-explained fault t u w).planned)
+
+    -- it is what happened
+    pub planned-run : {A : Type 0} (result : Result A ClientFault) (P : A → Type 0) (t u : Option (List ℕ)) (ok : IfOk result P) (err : IfErr result (λ fault. WritesSome Call sources q starts options.budget fault t u))
+        (f : (x : A) → P x → (report : Report) × (rows : List Places) × Returns Call sources q starts report rows) → (at-planned result P t u ok err f).run ≡ h
+    unfolding at-planned either-way at-whole at-explained
+    planned-run (Ok x) P t u ok err f = whole-run allows sources offer options since now starts q covered h (f x ok).0 (f x ok).1 (f x ok).2
+    planned-run (Err fault) P t u ok err f = explained-run allows sources offer options since now starts q covered h fault t u err
 
     -- at Ok its choice is the one that is reported
     pub told-planned : {A : Type 0} (result : Result A ClientFault) (P : A → Type 0) (told : A → Report) (t u : Option (List ℕ)) (ok : IfOk result P) (err : IfErr result (λ fault. WritesSome Call sources q starts options.budget fault t u))

@@ -20,11 +20,11 @@ use Rattle.tpf_client.specs.Traffic.{Event, Broke, Travels, EndsWith, IsLawful, 
 use Rattle.tpf_client.specs.Causes.{Explains, Versions}
 use Rattle.tpf_client.specs.Sources.{Sources}
 use Rattle.tpf_client.specs.Turns.{AsksAt, asked_in}
-use Rattle.tpf_client.specs.Calls.{WritesSome, RunsPool}
+use Rattle.tpf_client.specs.Calls.{WritesSome, RunsPool, Happened, AreThese}
 use Rattle.tpf_client.specs.Honest.{Laws}
 use Rattle.tpf_client.specs.Requests.{TrafficLaws}
 use Rattle.tpf_client.specs.Failing.{IsFailedOften}
-use Rattle.tpf_client.proofs.Caused.{CausedRun, some-caused}
+use Rattle.tpf_client.proofs.Caused.{some-caused}
 use Rattle.tpf_client.proofs.Received.{SameTold}
 use Rattle.tpf_client.proofs.Homes.{asks-front}
 use Rattle.tpf_client.proofs.Keeping.{IsKeptBy, Taken, taken, between-after, by-events}
@@ -112,7 +112,7 @@ module _ (laws : Laws) (traffic : TrafficLaws) (allows : List ℕ → ℕ → Li
       failed-often faults.Sink versions events p e r a = tt
       failed-often faults.OutOfMemory versions events p e r a = tt
 
-      pub fault-failed : (sources : Sources) (q : QueryData) (fault : ClientFault) (t u : Option (List ℕ)) → WritesSome (RunsPool allows options since now) sources q starts options.budget fault t u → IsFailedOften options since now fault
-      fault-failed sources q fault t u w =
-          let x : CausedRun allows options since now starts fault = some-caused allows options since now starts sources q fault t u w in
-          failed-often fault x.versions x.run.events x.run.pool x.explains x.run.runs x.run.asks
+      pub fault-failed : (h : Happened allows options starts since now) (sources : Sources) (q : QueryData) (fault : ClientFault) (t u : Option (List ℕ)) → WritesSome (AreThese h.events h.pool) sources q starts options.budget fault t u → IsFailedOften options since now fault
+      fault-failed h sources q fault t u w =
+          let x = some-caused starts h.events h.pool sources q options.budget fault t u w in
+          failed-often fault x.versions h.events h.pool x.explains h.runs h.asks

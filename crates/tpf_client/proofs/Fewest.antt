@@ -7,6 +7,7 @@ use Rattle.tpf_base.specs.Links.{WireState, OpensGiven}
 use Rattle.request_pool.specs.declared.fault.PoolFault.{PoolFault}
 use Rattle.request_pool.specs.declared.fault.Stepped.TheVariants as stepped
 use Rattle.request_pool.specs.declared.asks.Waiting.{Waiting}
+use Rattle.request_pool.specs.Faults.{kept_of}
 use Rattle.request_pool.specs.Pools.{Pooled, Ask, held, in_flight}
 use Rattle.request_pool.specs.Owned.{SuitsWire}
 use Rattle.pool_laws.specs.Counting.{tries, tries_waiting, tries_flying, FewFailed, PutsFewFailed, StepsFewFailed, StepsCountTries}
@@ -80,15 +81,15 @@ module _ (few-puts : PutsFewFailed) (few-steps : StepsFewFailed) (counts : Steps
       omega (arith, r, d)
   least-so (Came ask reply ∷ events) n p q v w g s l t none =
       let h : Comes ask reply p t.0.pool v t.0.wire = t.1.happens in
-      let c = counts (Ok (stepped.Came ask.ticket reply)) p t.0.pool v t.0.wire g s l.few h.steps in
+      let c = counts (Ok (stepped.Came ask.ticket ask.address reply)) p t.0.pool v t.0.wire g s l.few h.steps in
       least-so events n t.0.pool q t.0.wire w t.1.lawful.given t.1.suits
-      (record { few = few-steps (Ok (stepped.Came ask.ticket reply)) p t.0.pool v t.0.wire g s l.few h.steps; least = least-came ask n c.0 p t.0.pool h.others c.1 c.3 l.least }) t.2 none
+      (record { few = few-steps (Ok (stepped.Came ask.ticket ask.address reply)) p t.0.pool v t.0.wire g s l.few h.steps; least = least-came ask n c.0 p t.0.pool h.others c.1 c.3 l.least }) t.2 none
   least-so (Waited ∷ events) n p q v w g s l t none =
       let h : Waits p t.0.pool v t.0.wire = t.1.happens in
       let c = counts (Ok stepped.Waited) p t.0.pool v t.0.wire g s l.few h.steps in
       least-so events n t.0.pool q t.0.wire w t.1.lawful.given t.1.suits
       (record { few = few-steps (Ok stepped.Waited) p t.0.pool v t.0.wire g s l.few h.steps; least = least-waited n p t.0.pool h.others c l.least }) t.2 none
-  least-so (Broke fault ∷ events) n p q v w g s l t none = let h : Breaks fault p t.0.pool v t.0.wire = t.1.happens in absurd (no-break allows fault events t.0.pool q t.0.wire w h.kept t.2 none)
+  least-so (Broke fault ∷ events) n p q v w g s l t none = let h : Breaks fault p t.0.pool v t.0.wire = t.1.happens in absurd (no-break allows (kept_of fault) events t.0.pool q t.0.wire w h.kept t.2 none)
 
   pub fewest : (events : List Event) (p q : Pooled) (v w : WireState) → OpensGiven v → SuitsWire p v → FewFailed p → tries p ≡ 0 → Travels allows events p q v w → q.fault ≡ None → held q ≡ [] → length (asked_in events) ≤ q.started
   fewest events p q v w g s few z t none held-none =

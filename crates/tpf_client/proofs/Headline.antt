@@ -11,9 +11,10 @@ use Rattle.template_fill.specs.Metadata.{Config}
 use Rattle.template_fill.specs.Bodies.{version_of}
 use Rattle.template_fill.specs.Answered.{is_answered}
 use Rattle.template_fill.specs.Templates.{Template}
-use Rattle.request_pool.specs.Pools.{Pooled, empty_pool}
-use Rattle.pool_laws.specs.Answers.{IsBodyOf}
+use Rattle.request_pool.specs.Pools.{Pooled, Ask, empty_pool}
+use Rattle.pool_laws.specs.Answers.{IsBodyOver}
 use Rattle.join_core.specs.Blocks.{IsBlockSize}
+use Rattle.join_core.specs.Evaluations.{HasHome}
 use Rattle.plan_laws.specs.Servers.{server_world}
 use Rattle.tpf_client.specs.declared.options.Options.{Options}
 use Rattle.tpf_client.specs.Traffic.{Event, Came, EndsWith, IsLawful}
@@ -22,9 +23,13 @@ use Rattle.tpf_client.specs.Starts.{start_ask, ReadsStart}
 use Rattle.tpf_client.specs.Sources.{IsSourceOf, world_sources}
 use Rattle.tpf_client.specs.Calls.{RunsPool}
 use Rattle.tpf_client.specs.Offers.{IsVersionOf}
-use Rattle.tpf_client.specs.Honest.{Laws, IsHonestWire, IsAnswer}
+use Rattle.tpf_client.specs.Honest.{Laws}
+use Rattle.tpf_client.specs.Turns.{AsksAt}
+use Rattle.tpf_client.proofs.Answered.{replies-answer}
+use Rattle.tpf_client.proofs.Came.{CameFrom, came-from}
 use Rattle.tpf_client.proofs.Distinct.{none-distinct}
-use Rattle.tpf_client.proofs.Honesty.{Keeps, all-answers}
+use Rattle.tpf_client.proofs.Known.{begun}
+use Rattle.tpf_client.proofs.Honesty.{Keeps, IsAnswer, ServesAt, any-answers, all-answers}
 use Rattle.tpf_client.proofs.Truth.{IsServedStart, start-served, start-world}
 
 both-true : (a b : Bool) → a ≡ true → b ≡ true → (a && b) ≡ true
@@ -32,19 +37,19 @@ both-true true true e f = refl
 both-true true false e f = f
 both-true false b e f = e
 
-module _ (history : List (List Triple)) (config : Config) where
-  answers-behind : (first later : List Event) → AllByRecursion (IsAnswer history config) (first ++ later) → AllByRecursion (IsAnswer history config) later
+module _ (history : List (List Triple)) (config : Config) (served : ℕ → Bool) where
+  answers-behind : (first later : List Event) → AllByRecursion (IsAnswer history config served) (first ++ later) → AllByRecursion (IsAnswer history config served) later
   answers-behind [] later h = h
   answers-behind (event ∷ first) later h = answers-behind first later h.1
 
-  answers-front : (first later : List Event) → AllByRecursion (IsAnswer history config) (first ++ later) → AllByRecursion (IsAnswer history config) first
+  answers-front : (first later : List Event) → AllByRecursion (IsAnswer history config served) (first ++ later) → AllByRecursion (IsAnswer history config served) first
   answers-front [] later h = tt
   answers-front (event ∷ first) later h = (h.0, answers-front first later h.1)
 
-  pub answer-last : (event : Event) (events : List Event) → EndsWith event events → AllByRecursion (IsAnswer history config) events → IsAnswer history config event
-  answer-last event events e h = (answers-behind e.before (event ∷ []) (subst (λ (l : List Event). AllByRecursion (IsAnswer history config) l) e.is_last h)).0
+  pub answer-last : (event : Event) (events : List Event) → EndsWith event events → AllByRecursion (IsAnswer history config served) events → IsAnswer history config served event
+  answer-last event events e h = (answers-behind e.before (event ∷ []) (subst (λ (l : List Event). AllByRecursion (IsAnswer history config served) l) e.is_last h)).0
 
-module _ (laws : Laws) (allows : List ℕ → ℕ → List ℕ → List ℕ → Type 0) (history : List (List Triple)) (config : Config) (options : Options) (since now : WireState) (honest : IsHonestWire allows history config since) (lawful : IsLawful allows since) (limit : options.max_body < 2 ^ 64) (start : Address) (block : ℕ) (sized : IsBlockSize block) where
+module _ (laws : Laws) (allows : List ℕ → ℕ → List ℕ → List ℕ → Type 0) (history : List (List Triple)) (config : Config) (served : ℕ → Bool) (options : Options) (since now : WireState) (start : Address) (honest : ServesAt allows start history config served since) (lawful : IsLawful allows since) (limit : options.max_body < 2 ^ 64) (block : ℕ) (sized : IsBlockSize block) where
   begins-so : Keeps allows laws.puts laws.steps laws.faults (empty_pool options.links options.retries options.budget options.max_body) since
   begins-so = record {
     given = lawful.given;
@@ -55,26 +60,36 @@ module _ (laws : Laws) (allows : List ℕ → ℕ → List ℕ → List ℕ → 
     tells = honest.tells;
   }
 
-  pub all-of : (events : List Event) (pool : Pooled) → RunsPool allows options since now events pool → AllByRecursion (IsAnswer history config) events
-  all-of events pool r = all-answers allows laws.puts laws.steps laws.faults history config honest.is_honest events (empty_pool options.links options.retries options.budget options.max_body) pool since r.between begins-so r.travels
+  abbrev AtHome : Ask → Type 0
+  AtHome ask = HasHome (start ∷ []) ask.address
+
+  homes-of : (events : List Event) (pool : Pooled) → RunsPool allows options since now events pool → AsksAt (start ∷ []) events → AllByRecursion (CameFrom AtHome) events
+  homes-of events pool r asks =
+      came-from allows (begun options) AtHome events (begun options) pool since r.between (record { given = lawful.given; suits = record { polled = tt; due = tt; owned = λ k. omega arith }; are = λ none. tt; bounds = refl }) asks r.travels
+
+  pub all-of : (events : List Event) (pool : Pooled) → RunsPool allows options since now events pool → AsksAt (start ∷ []) events → AllByRecursion (IsAnswer history config served) events
+  all-of events pool r asks =
+      all-answers allows start history config served honest.is_honest events
+      (any-answers allows laws.puts laws.steps laws.faults (replies-answer laws allows) events (empty_pool options.links options.retries options.budget options.max_body) pool since r.between begins-so r.travels)
+      (homes-of events pool r asks)
 
   abbrev StartIsServed : (first : List Event) (page : Page) → ReadsStart start page first → ℕ → Type 0
   StartIsServed first page reads version = IsServedStart laws.given laws.answered laws.only laws.worlds laws.forms laws.pages laws.kept laws.addresses history config honest.is_history honest.is_config start page version
 
-  served-of : (first later : List Event) (pool : Pooled) (version : ℕ) → RunsPool allows options since now (first ++ later) pool → (page : Page) (reads : ReadsStart start page first) → page.version ≡ Some version → StartIsServed first page reads version
-  served-of first later pool version r page reads told =
-      let all = all-of (first ++ later) pool r in
-      let b : IsBodyOf history config start reads.reply.body = answer-last history config (Came (start_ask start) reads.reply) first reads.last (answers-front history config first later all) in
-      start-served laws.given laws.answered laws.only laws.worlds laws.forms laws.pages laws.kept laws.addresses history config honest.is_history honest.is_config start reads.reply.body page version b reads.taken told
+  served-of : (first later : List Event) (pool : Pooled) (version : ℕ) → RunsPool allows options since now (first ++ later) pool → AsksAt (start ∷ []) (first ++ later) → (page : Page) (reads : ReadsStart start page first) → page.version ≡ Some version → StartIsServed first page reads version
+  served-of first later pool version r asks page reads told =
+      let all = all-of (first ++ later) pool r asks in
+      let b : IsBodyOver history config served start reads.reply.body = answer-last history config served (Came (start_ask start) reads.reply) first reads.last (answers-front history config served first later all) in
+      start-served laws.given laws.answered laws.only laws.worlds laws.forms laws.pages laws.kept laws.addresses history config honest.is_history honest.is_config start reads.reply.body page version b.is_body reads.taken told
 
   same-port : (m n : ℕ) (h g : List ℕ) → h ≡ g → m ≡ n → authority_text h m ≡ authority_text g n
   same-port m n h g e f = ap (λ (x : List ℕ). authority_text x m) e ∙ ap (λ (k : ℕ). authority_text g k) f
 
   -- the version of the start page has the whole plan to ask for
-  pub start-is-served : (first later : List Event) (pool : Pooled) (version : ℕ) → RunsPool allows options since now (first ++ later) pool → (page : Page) (reads : ReadsStart start page first) → page.version ≡ Some version
+  pub start-is-served : (first later : List Event) (pool : Pooled) (version : ℕ) → RunsPool allows options since now (first ++ later) pool → AsksAt (start ∷ []) (first ++ later) → (page : Page) (reads : ReadsStart start page first) → page.version ≡ Some version
       → (is_answered history (Served version) config start && bytes_eq (authority_of start) (authority_of config.base)) ≡ true
-  start-is-served first later pool version r page reads told =
-      let s = served-of first later pool version r page reads told in
+  start-is-served first later pool version r asks page reads told =
+      let s = served-of first later pool version r asks page reads told in
       let base : page.form.template.start ≡ config.base = ap (λ (t : Template). t.start) s.form.template in
       let host : start.host ≡ config.base.host = sym reads.home.host ∙ ap (λ (a : Address). a.host) base in
       let port : start.port ≡ config.base.port = sym reads.home.port ∙ ap (λ (a : Address). a.port) base in
@@ -82,12 +97,9 @@ module _ (laws : Laws) (allows : List ℕ → ℕ → List ℕ → List ℕ → 
       both-true (is_answered history (Served version) config start) (bytes_eq (authority_of start) (authority_of config.base)) s.is_given same
 
   -- the world of the start page
-  pub world-of : (first later : List Event) (pool : Pooled) → RunsPool allows options since now (first ++ later) pool → (page : Page) (reads : ReadsStart start page first)
-      → (version : ℕ) × IsVersionOf history version × (page.version ≡ Some version) × IsSourceOf (world_sources block) (server_world block (version_of history version) config) (page.form ∷ []) (λ address. page.version) later
-  world-of first later pool r page reads =
-      let all = all-of (first ++ later) pool r in
-      let b : IsBodyOf history config start reads.reply.body = answer-last history config (Came (start_ask start) reads.reply) first reads.last (answers-front history config first later all) in
-      start-world laws.given laws.answered laws.only laws.worlds laws.forms laws.pages laws.kept laws.addresses history config honest.is_history honest.is_config block sized start reads.reply.body page later honest.few b reads.taken (answers-behind history config first later all)
-
-  pub first-version : IsVersionOf history 1
-  first-version = record { low = omega arith; high = honest.is_history.low }
+  pub world-of : (first later : List Event) (pool : Pooled) → RunsPool allows options since now (first ++ later) pool → AsksAt (start ∷ []) (first ++ later) → (page : Page) (reads : ReadsStart start page first)
+      → (version : ℕ) × IsVersionOf history version × (served version ≡ true) × (page.version ≡ Some version) × IsSourceOf (world_sources block) (server_world block (version_of history version) config) (page.form ∷ []) (λ address. page.version) later
+  world-of first later pool r asks page reads =
+      let all = all-of (first ++ later) pool r asks in
+      let b : IsBodyOver history config served start reads.reply.body = answer-last history config served (Came (start_ask start) reads.reply) first reads.last (answers-front history config served first later all) in
+      start-world laws.given laws.answered laws.only laws.worlds laws.forms laws.pages laws.kept laws.addresses history config honest.is_history honest.is_config block sized served start reads.reply.body page later honest.few b reads.taken (answers-behind history config served first later all)

@@ -19,7 +19,7 @@ use Rattle.tpf_client.specs.Traffic.{Event, is_under, AreDistinct}
 use Rattle.tpf_client.specs.Causes.{Versions}
 use Rattle.tpf_client.specs.Turns.{Limits, keeps_both, most_waiting, Meets, IsOut, Went, Failed, address_of, asked_in, is_number, is_pair}
 use Rattle.tpf_client.specs.Sources.{Sources, sources_of}
-use Rattle.tpf_client.specs.Calls.{Joins, JoinsSome, RanFew}
+use Rattle.tpf_client.specs.Calls.{Joins, JoinsSome}
 use Rattle.tpf_client.proofs.Distinct.{none-distinct}
 use Rattle.tpf_client.proofs.Meeting.{quiet-holds-none}
 
@@ -78,21 +78,15 @@ module _ {Source Eval : Type 0} (suits : Source → Eval → Type 0) (account : 
   pub begun-so : Meets limits (keeps_both keeps_to keeps_small limits e) (standing e) old
   begun-so = begins-meets limits (keeps_both keeps_to keeps_small limits e) (standing e) old (begun.keeps, begun.small) begun.none_out none no_fault
 
-  -- no more asks wait than the window lets
-  pub few-of : (k : Eval) (events : List Event) (given : List Places) → Went suits account (keeps_both keeps_to keeps_small) standing is_true allows e k versions events given old new wire wire' → RanFew allows (length q.patterns * (window * length forms)) old new wire wire'
-  few-of k events given went = record { events = events; travels = went.travels; on_wire = went.on_wire; few = went.few limits begun-so }
-
-  pub few-failed : (budget : ℕ) (fault : ClientFault) (events : List Event) (given : List Places) → Failed suits account (keeps_both keeps_to keeps_small) standing is_true allows e versions budget fault events given old new wire wire' → RanFew allows (length q.patterns * (window * length forms)) old new wire wire'
-  few-failed budget fault events given failed = record { events = events; travels = failed.travels; on_wire = failed.on_wire; few = failed.few limits begun-so }
-
   pub joins-of : ((source : Source) (x : Eval) → suits source x → (standing x).done ≡ true → account source x ≡ nothing) → ((x : Eval) → (standing x).done ≡ true → ((standing x).out ≡ []) × ((standing x).waiting ≡ 0))
-      → (k : Eval) (events : List Event) (given : List Places) → (standing k).done ≡ true → Went suits account (keeps_both keeps_to keeps_small) standing is_true allows e k versions events given old new wire wire' → Joins allows from q starts forms versions events given old new wire wire'
+      → (k : Eval) (events : List Event) (given : List Places) → (standing k).done ≡ true → Went suits account (keeps_both keeps_to keeps_small) standing is_true allows e k versions events given old new wire wire' → Joins allows (length q.patterns * (window * length forms)) from q starts forms versions events given old new wire wire'
   joins-of owes_nothing is_quiet k events given done went =
       let m = went.meets limits begun-so in
       record {
         travels = went.travels;
         on_wire = went.on_wire;
         asks = went.homes limits begun-so;
+        few = went.few limits begun-so;
         none_held = quiet-holds-none limits (keeps_both keeps_to keeps_small limits k) (standing k) new m (is_quiet k done).0;
         no_fault = m.no_fault;
         pages = went.pages;
@@ -107,12 +101,13 @@ module _ {Source Eval : Type 0} (suits : Source → Eval → Type 0) (account : 
             };
       }
 
-  pub some-of : (budget : ℕ) (fault : ClientFault) (events : List Event) (given : List Places) → Failed suits account (keeps_both keeps_to keeps_small) standing is_true allows e versions budget fault events given old new wire wire' → JoinsSome allows from q starts forms versions budget fault events given old new wire wire'
+  pub some-of : (budget : ℕ) (fault : ClientFault) (events : List Event) (given : List Places) → Failed suits account (keeps_both keeps_to keeps_small) standing is_true allows e versions budget fault events given old new wire wire' → JoinsSome allows (length q.patterns * (window * length forms)) from q starts forms versions budget fault events given old new wire wire'
   some-of budget fault events given failed = record {
     travels = failed.travels;
     on_wire = failed.on_wire;
     explains = failed.explains;
     asks = failed.homes limits begun-so;
+    few = failed.few limits begun-so;
     gives = λ source is.
         let b = begun.owes source is.fits in
         let o = failed.owes source (record { is_suited = begun.is_suited source is.fits; is_out = nothing-out old (account source e) none b.out; pages = is.pages }) in

@@ -10,6 +10,7 @@ use Rattle.tpf_base.specs.Links.{WireState, OpensGiven}
 use Rattle.request_pool.specs.declared.fault.PoolFault.{PoolFault}
 use Rattle.request_pool.specs.declared.fault.Stepped.{Stepped}
 use Rattle.request_pool.specs.declared.fault.Stepped.TheVariants as stepped
+use Rattle.request_pool.specs.Faults.{kept_of}
 use Rattle.request_pool.specs.Pools.{Pooled, Ask, held, bounds_of}
 use Rattle.request_pool.specs.Owned.{SuitsWire}
 use Rattle.request_pool.specs.Steps.{StepsTo}
@@ -50,13 +51,13 @@ module _ (allows : List ℕ → ℕ → List ℕ → List ℕ → Type 0) (base 
   pub record IsKeptWith (I : List Ask → Pooled → WireState → Type 0) : Type 0 where
     pub puts : (asks : List Ask) (ask : Ask) (p : Pooled) (v : WireState) → P ask → IsWebAddress ask.address → I asks p v → I (asks ++ ask ∷ []) (record p { waiting = p.waiting ++ (record { ticket = ask.ticket; address = ask.address; failed = 0 }) ∷ [] }) v
     pub steps : (asks : List Ask) (answer : Stepped) (p q : Pooled) (v w : WireState) → Taken p q v w → I asks p v → StepsTo (Ok answer) p q v w → I asks q w
-    pub breaks : (asks : List Ask) (fault : PoolFault) (p q : Pooled) (v w : WireState) → Taken p q v w → I asks p v → StepsTo (Err fault) p (without_fault q) v w → q.fault ≡ Some fault → I asks q w
+    pub breaks : (asks : List Ask) (fault : PoolFault) (p q : Pooled) (v w : WireState) → Taken p q v w → I asks p v → StepsTo (Err fault) p (without_fault q) v w → q.fault ≡ Some (kept_of fault) → I asks q w
 
   -- the same with their number
   pub record IsKeptBy (I : ℕ → Pooled → WireState → Type 0) : Type 0 where
     pub puts : (n : ℕ) (ask : Ask) (p : Pooled) (v : WireState) → P ask → IsWebAddress ask.address → I n p v → I (n + 1) (record p { waiting = p.waiting ++ (record { ticket = ask.ticket; address = ask.address; failed = 0 }) ∷ [] }) v
     pub steps : (n : ℕ) (answer : Stepped) (p q : Pooled) (v w : WireState) → Taken p q v w → I n p v → StepsTo (Ok answer) p q v w → I n q w
-    pub breaks : (n : ℕ) (fault : PoolFault) (p q : Pooled) (v w : WireState) → Taken p q v w → I n p v → StepsTo (Err fault) p (without_fault q) v w → q.fault ≡ Some fault → I n q w
+    pub breaks : (n : ℕ) (fault : PoolFault) (p q : Pooled) (v w : WireState) → Taken p q v w → I n p v → StepsTo (Err fault) p (without_fault q) v w → q.fault ≡ Some (kept_of fault) → I n q w
 
   -- ---- one event
 
@@ -67,7 +68,7 @@ module _ (allows : List ℕ → ℕ → List ℕ → List ℕ → Type 0) (base 
       all-permuted P (ask ∷ held p) (held q) (IsPermutation-sym (held q) (ask ∷ held p) (put-held ask p q h)) (a.0, b.are had)
   are-next (Came ask reply) p q v w a b m none = let h : Comes ask reply p q v w = m.happens in (all-permuted P (held p) (ask ∷ held q) h.others (b.are h.had_none)).1
   are-next Waited p q v w a b m none = let h : Waits p q v w = m.happens in all-permuted P (held p) (held q) h.others (b.are h.had_none)
-  are-next (Broke fault) p q v w a b m none = let h : Breaks fault p q v w = m.happens in absurd (not-some q.fault fault h.kept none)
+  are-next (Broke fault) p q v w a b m none = let h : Breaks fault p q v w = m.happens in absurd (not-some q.fault (kept_of fault) h.kept none)
 
   next : (event : Event) (p q : Pooled) (v w : WireState) → AllByRecursion P (asked_in (event ∷ [])) → Between p v → Moves allows event p q v w → Between q w
   next event p q v w a b m = record { given = m.lawful.given; suits = m.suits; are = λ none. are-next event p q v w a b m none; bounds = m.bounds ∙ b.bounds }
@@ -105,7 +106,7 @@ module _ (allows : List ℕ → ℕ → List ℕ → List ℕ → Type 0) (base 
     by-asks (Came ask reply ∷ events) asks p q v w b a i t =
         let h : Comes ask reply p t.0.pool v t.0.wire = t.1.happens in
         let at = taken (Came ask reply) p t.0.pool v t.0.wire (some-held ask (held p) (held t.0.pool) h.others) h.had_none b t.1 in
-        by-asks events asks t.0.pool q t.0.wire w (next (Came ask reply) p t.0.pool v t.0.wire tt b t.1) a (k.steps asks (stepped.Came ask.ticket reply) p t.0.pool v t.0.wire at i h.steps) t.2
+        by-asks events asks t.0.pool q t.0.wire w (next (Came ask reply) p t.0.pool v t.0.wire tt b t.1) a (k.steps asks (stepped.Came ask.ticket ask.address reply) p t.0.pool v t.0.wire at i h.steps) t.2
     by-asks (Waited ∷ events) asks p q v w b a i t =
         let h : Waits p t.0.pool v t.0.wire = t.1.happens in
         let at = taken Waited p t.0.pool v t.0.wire h.some h.had_none b t.1 in

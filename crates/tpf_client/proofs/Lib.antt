@@ -1,10 +1,11 @@
+pub mod Answered
 pub mod Distinct
 pub mod Traveling
 pub mod Accounting
 pub mod Homes
 pub mod Told
 pub mod Meeting
-pub mod Books
+pub mod Tickets
 pub mod Waiting
 pub mod Turning
 pub mod Going
@@ -16,6 +17,7 @@ pub mod Fewest
 pub mod Answering
 pub mod Few
 pub mod Onward
+pub mod Came
 pub mod Honesty
 pub mod Truth
 pub mod Texts
@@ -35,10 +37,14 @@ pub mod LivelyCauses
 pub mod Requested
 pub mod Failing
 pub mod Spending
+pub mod Gone
+pub mod Still
+pub mod Choices
 pub mod Completing
 pub mod Shutting
 pub mod Exits
 pub mod Clauses
+pub mod Ended
 pub mod Written
 pub mod Starting
 pub mod Several

@@ -1,5 +1,5 @@
 -- How many requests a call makes that is covered by an offer, over a lively wire, and why it fails there.
-use Rattle.std.proofs.Common.{ℕ, suc, ◌≡◌, ◌≢◌, ◌≤◌, ◌<◌, ◌+◌, ◌^◌, List, [], ◌∷◌, length, true, refl, inl, inr, arith}
+use Rattle.std.proofs.Common.{ℕ, suc, ◌≡◌, ◌≢◌, ◌≤◌, ◌<◌, ◌+◌, ◌^◌, List, [], ◌∷◌, length, true, refl, ◌∙◌, inl, inr, arith}
 use Rattle.std.proofs.lemmas.Bool.{cases_lt}
 use Rattle.tpf_base.specs.Addresses.{Address}
 use Rattle.tpf_base.specs.Causes.{Rose, RoseBy}
@@ -19,7 +19,7 @@ use Rattle.tpf_client.specs.Sources.{Sources}
 use Rattle.tpf_client.specs.Offers.{Offer}
 use Rattle.tpf_client.specs.Honest.{Laws}
 use Rattle.tpf_client.specs.Requests.{TrafficLaws}
-use Rattle.tpf_client.specs.Plans.{StartedIn, CountsRises, PacesRequests, OverrunsPlan, IsLivelyCause}
+use Rattle.tpf_client.specs.Plans.{CountsRises, PacesRequests, OverrunsPlan, IsLivelyCause}
 use Rattle.tpf_client.specs.Acts.{IsLivelyCauseOf}
 use Rattle.tpf_client.proofs.Endings.{ending, same-bounds}
 use Rattle.tpf_client.proofs.Known.{Exit, exit-of}
@@ -37,6 +37,10 @@ as-often n before now low h = omega (arith, low, h)
 -- without a rise there are none of so many
 pub no-rises : (n before now : ℕ) → RoseBy n before now → (Rose before now → ⊥) → n ≡ 0
 no-rises n before now h none = elim (cases_lt 0 n) [ inl low ↦ absurd (none (as-often n before now low h)) | inr high ↦ omega (arith, high) ]
+
+-- the same count of the same number
+abbrev pub counts-as : (offer : Offer) (since now : WireState) (n m : ℕ) → n ≡ m → CountsRises (λ started. started ≡ n) offer since now → CountsRises (λ started. started ≡ m) offer since now
+counts-as offer since now n m e c = record { choice = c.choice; is_choice = c.is_choice; rises = c.rises; rose = c.rose; started = c.started; is_started = c.is_started ∙ e; few = c.few; dials = c.dials; given = c.given }
 
 module _ (laws : Laws) (traffic : TrafficLaws) (allows : List ℕ → ℕ → List ℕ → List ℕ → Type 0) (options : Options) (since now : WireState) (lawful : IsLawful allows since) (limit : options.max_body < 2 ^ 64) (starts : List Address)
     (sources : Sources) (offer : Offer) (q : QueryData) (covered : Covered sources offer allows options since now starts q) where
@@ -59,7 +63,7 @@ module _ (laws : Laws) (traffic : TrafficLaws) (allows : List ℕ → ℕ → Li
     few-started : (started waiting asked failures most : ℕ) → started + waiting ≤ asked + failures → asked ≤ most → started ≤ most + failures
     few-started started waiting asked failures most l m = omega (arith, l, m)
 
-    pub counts-so : PlannedRun allows offer options since now starts → CountsRises (StartedIn allows options since now) offer since now
+    pub counts-so : (x : PlannedRun allows offer options since now starts) → CountsRises (λ started. started ≡ x.run.pool.started) offer since now
     counts-so x =
         let i = rises-of x in
         let out = exit x in
@@ -71,7 +75,7 @@ module _ (laws : Laws) (traffic : TrafficLaws) (allows : List ℕ → ℕ → Li
           rises = i.failures;
           rose = same-rise i.failures since.faults x.run.runs.between.faults now.faults x.run.runs.closes.faults i.all;
           started = x.run.pool.started;
-          is_started = record { events = x.run.events; pool = x.run.pool; runs = x.run.runs; is_started = refl };
+          is_started = refl;
           few = few;
           dials = more-than now.dials since.dials x.run.pool.started (most + i.failures) out.dials few;
           given = more-than now.given since.given x.run.pool.started (most + i.failures) out.given few;

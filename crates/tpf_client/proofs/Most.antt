@@ -100,7 +100,7 @@ module _ (k most : ℕ) where
         due = h.due;
         few = omega (arith, h.few, room-append k p.polled (g ∷ []), tries-append p.polled (g ∷ []));
       })
-  flight_most (Ok (polls.Came ticket answer)) f p q a b h t = settle_most (left_link t.1.now) t.1.now.address p q t.0 b t.3 (lost f p p refl h)
+  flight_most (Ok (polls.Came ticket address answer)) f p q a b h t = settle_most (left_link t.1.now) t.1.now.address p q t.0 b t.3 (lost f p p refl h)
   flight_most (Ok polls.Failed) f p q a b h t = waits_again f (record f { exchange = t.1.now }) p q refl t.3 t.4 h
   flight_most (Err faults.Exchange) f p q a b h t = lost f p q t.2 h
   flight_most (Err (faults.Cut received)) f p q a b h t = lost f p q t.2 h

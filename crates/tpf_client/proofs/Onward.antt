@@ -80,7 +80,7 @@ onward_settles o address p q a b (Shut k e full f c) = onward_shuts (Some k) a b
 
 onward_flight : (result : Result Polled PoolFault) (f : Flight) (p q : Pooled) (a b : WireState) → FlightTo result f p q a b → Onward a b
 onward_flight (Ok polls.Pending) f p q a b h = onward_poll f.exchange h.0.now a b h.0.touches
-onward_flight (Ok (polls.Came ticket answer)) f p q a b h = onward_then a h.0 b (onward_poll f.exchange h.1.now a h.0 h.1.touches) (onward_settles (left_link h.1.now) h.1.now.address p q h.0 b h.3)
+onward_flight (Ok (polls.Came ticket address answer)) f p q a b h = onward_then a h.0 b (onward_poll f.exchange h.1.now a h.0 h.1.touches) (onward_settles (left_link h.1.now) h.1.now.address p q h.0 b h.3)
 onward_flight (Ok polls.Failed) f p q a b h = onward_poll f.exchange h.1.now a b h.1.touches
 onward_flight (Err faults.Exchange) f p q a b h = onward_poll f.exchange h.0.now a b h.0.touches
 onward_flight (Err (faults.Cut received)) f p q a b h = onward_poll f.exchange h.0.now a b h.0.touches
@@ -127,7 +127,7 @@ onward_in_wait result p q a b h = onward_then a h.between b (onward_running h.li
 
 pub onward_step : (result : Result Stepped PoolFault) (p q : Pooled) (a b : WireState) → StepsTo result p q a b → Onward a b
 onward_step (Ok Idle) p q a b h = onward_same a b h.2
-onward_step (Ok (Came ticket answer)) p q a b h = onward_ended (Ok (polls.Came ticket answer)) p q a b h
+onward_step (Ok (Came ticket address answer)) p q a b h = onward_ended (Ok (polls.Came ticket address answer)) p q a b h
 onward_step (Ok Waited) p q a b h = onward_in_wait (Ok Waited) p q a b h
 onward_step (Err fault) p q a b (AtOnce e f h) = onward_same a b h
 onward_step (Err fault) p q a b (InRun h) = onward_ended (Err fault) p q a b h

@@ -21,40 +21,46 @@ use Rattle.tpf_client.specs.Traffic.{Event, IsLawful}
 use Rattle.tpf_client.specs.Causes.{Explains, Versions}
 use Rattle.tpf_client.specs.Told.{told_at}
 use Rattle.tpf_client.specs.Sources.{Sources}
-use Rattle.tpf_client.specs.Turns.{AsksAt, asked_in, address_of}
+use Rattle.tpf_client.specs.Turns.{asked_in, address_of}
 use Rattle.tpf_client.specs.Starts.{start_ask, ReadsStarts, AsksStarts, versions_of}
-use Rattle.tpf_client.specs.Calls.{Returns, WritesSome, Before, Behind, AtEnd, RunsPool}
+use Rattle.tpf_client.specs.Calls.{Returns, WritesSome, EndsBefore, EndsBehind, EndsAtEnd, Before, Behind, AtEnd, RunsPool, Happened, AreThese}
 use Rattle.tpf_client.specs.Offers.{Offer}
 use Rattle.tpf_client.specs.Requests.{TrafficLaws}
 use Rattle.tpf_client.proofs.Accounting.{asked-append}
-use Rattle.tpf_client.proofs.Homes.{starts-alone, asked-starts}
+use Rattle.tpf_client.proofs.Homes.{asked-starts}
 use Rattle.tpf_client.proofs.Going.{explains-later, explains-as}
 use Rattle.tpf_client.proofs.Fewest.{fewest}
-use Rattle.tpf_client.proofs.Covered.{SomeChoice, ChoiceBehind, Covered}
+use Rattle.tpf_client.proofs.Covered.{BeginsWith, ChoiceBehind, Covered}
 use Rattle.tpf_client.proofs.Known.{begun}
 
 -- what holds of all holds of each
 pub at-member : {X : Type 0} (P : X → Type 0) (xs : List X) (x : X) → AllByRecursion P xs → Contains xs x → P x
 at-member P xs x a c = All-contains P xs x (All-from_recursion P xs a) c
 
--- what a call did, from a pool that holds nothing
-pub record RunOf (allows : List ℕ → ℕ → List ℕ → List ℕ → Type 0) (options : Options) (starts : List Address) (since now : WireState) : Type 0 where
-  pub events : List Event
-  pub pool : Pooled
-  pub runs : RunsPool allows options since now events pool
-  pub asks : AsksAt starts events
+-- what happened in a call
+abbrev pub RunOf : (List ℕ → ℕ → List ℕ → List ℕ → Type 0) → Options → List Address → WireState → WireState → Type 0
+RunOf allows options starts since now = Happened allows options starts since now
 
-module _ (allows : List ℕ → ℕ → List ℕ → List ℕ → Type 0) (options : Options) (since now : WireState) (starts : List Address) (sources : Sources) (q : QueryData) where
-  abbrev Runs : List Event → Pooled → Type 0
-  Runs events pool = RunsPool allows options since now events pool
+-- what a call that gave its rows left
+pub record Finished (report : Report) (pool : Pooled) : Type 0 where
+  pub none_held : held pool ≡ []
+  pub no_fault : pool.fault ≡ None
+  pub requests : report.requests ≡ pool.started
 
-  abbrev pub returns-run : (report : Report) (rows : List Places) → Returns Runs sources q starts report rows → RunOf allows options starts since now
-  returns-run report rows r = record { events = r.first ++ r.later; pool = r.pool; runs = r.runs; asks = r.asks }
+module _ (allows : List ℕ → ℕ → List ℕ → List ℕ → Type 0) (options : Options) (since now : WireState) (starts : List Address) (h : Happened allows options starts since now) where
+  -- what is said of these events is said of what happened
+  abbrev pub Theirs : List Event → Pooled → Type 0
+  Theirs events pool = AreThese h.events h.pool events pool
 
-  abbrev pub some-run : (fault : ClientFault) (t u : Option (List ℕ)) → WritesSome Runs sources q starts options.budget fault t u → RunOf allows options starts since now
-  some-run fault t u (Before b) = record { events = b.events; pool = b.pool; runs = b.runs; asks = starts-alone starts b.events b.asked }
-  some-run fault t u (Behind b) = record { events = b.first ++ b.later; pool = b.pool; runs = b.runs; asks = b.asks }
-  some-run fault t u (AtEnd b) = record { events = b.first ++ b.later; pool = b.pool; runs = b.runs; asks = b.asks }
+  pub these-run : (events : List Event) (pool : Pooled) → Theirs events pool → RunsPool allows options since now events pool
+  these-run events pool is = subst (λ (l : List Event). RunsPool allows options since now l pool) (sym is.events_are) (subst (λ (p : Pooled). RunsPool allows options since now h.events p) (sym is.pool_is) h.runs)
+
+  pub finished : (sources : Sources) (q : QueryData) (report : Report) (rows : List Places) → Returns Theirs sources q starts report rows → Finished report h.pool
+  finished sources q report rows r = record {
+    none_held = subst (λ (p : Pooled). held p ≡ []) r.runs.pool_is r.none_held;
+    no_fault = subst (λ (p : Pooled). p.fault ≡ None) r.runs.pool_is r.no_fault;
+    requests = r.requests ∙ ap (λ (p : Pooled). p.started) r.runs.pool_is;
+  }
 
 -- where all was answered, as many requests were started as asks were put, or more
 module _ (traffic : TrafficLaws) (allows : List ℕ → ℕ → List ℕ → List ℕ → Type 0) (options : Options) (since now : WireState) (lawful : IsLawful allows since) (starts : List Address) where
@@ -104,16 +110,16 @@ module _ (offer : Offer) where
 
   module _ (q : QueryData) (starts : List Address) where
     -- the first of the starts, or nothing
-    alone-plan : (s : SomeChoice offer starts) (events : List Event) → AsksStarts starts events → OfPlan (asked_in events) s.choice
-    alone-plan s events a =
-        let same : map address_of (asked_in events) ++ (a.later ++ s.rest) ≡ offer.addresses s.choice =
+    alone-plan : (choice : offer.Choice) (s : BeginsWith offer starts choice) (events : List Event) → AsksStarts starts events → OfPlan (asked_in events) choice
+    alone-plan choice s events a =
+        let same : map address_of (asked_in events) ++ (a.later ++ s.rest) ≡ offer.addresses choice =
         ap (λ (l : List Ask). map address_of l ++ (a.later ++ s.rest)) a.asked
         ∙ (ap (λ (l : List Address). l ++ (a.later ++ s.rest)) (starts-addresses a.first)
         ∙ (sym (append_assoc a.first a.later s.rest) ∙ (ap (λ (l : List Address). l ++ s.rest) (sym a.starts_are) ∙ s.addresses))) in
         record {
           is_choice = s.is_choice;
           rest = a.later ++ s.rest;
-          plan_is = subst (λ (l : List Address). IsPermutation (offer.addresses s.choice) l) (sym same) (IsPermutation-refl (offer.addresses s.choice));
+          plan_is = subst (λ (l : List Address). IsPermutation (offer.addresses choice) l) (sym same) (IsPermutation-refl (offer.addresses choice));
         }
 
     module _ (sources : Sources) where
@@ -161,58 +167,102 @@ module _ (allows : List ℕ → ℕ → List ℕ → List ℕ → Type 0) (offer
     pub is_reported : offer.IsReported planned.choice report.version
     pub requests : report.requests ≡ planned.run.pool.started
 
-module _ (allows : List ℕ → ℕ → List ℕ → List ℕ → Type 0) (sources : Sources) (offer : Offer) (options : Options) (since now : WireState) (starts : List Address) (q : QueryData) (covered : Covered sources offer allows options since now starts q) where
-  pub returns-whole : (report : Report) (rows : List Places) → Returns (RunsPool allows options since now) sources q starts report rows → WholeRun allows offer options since now starts report
+-- the asks of the same events
+abbrev of-plan-at : (offer : Offer) (l m : List Event) (choice : offer.Choice) → l ≡ m → OfPlan offer (asked_in l) choice → OfPlan offer (asked_in m) choice
+of-plan-at offer l m choice e o = record { is_choice = o.is_choice; rest = o.rest; plan_is = subst (λ (x : List Event). IsPermutation (offer.addresses choice) (map address_of (asked_in x) ++ o.rest)) e o.plan_is }
+
+module _ (allows : List ℕ → ℕ → List ℕ → List ℕ → Type 0) (sources : Sources) (offer : Offer) (options : Options) (since now : WireState) (starts : List Address) (q : QueryData) (covered : Covered sources offer allows options since now starts q) (h : Happened allows options starts since now) where
+  abbrev Here : List Event → Pooled → Type 0
+  Here events pool = AreThese h.events h.pool events pool
+
+  pub returns-whole : (report : Report) (rows : List Places) → Returns Here sources q starts report rows → WholeRun allows offer options since now starts report
   unfolding whole-plan behind-plan
   returns-whole report rows r =
-      let c = covered.behind r.first r.later r.pool r.runs r.asks r.told r.reads in
+      let c = covered.behind r.first r.later r.pool (these-run allows options since now starts h (r.first ++ r.later) r.pool r.runs) r.asks r.told r.reads in
       let g = r.gives c.source c.is_source in
+      let f = finished allows options since now starts h sources q report rows r in
       record {
-        planned = record { run = returns-run allows options since now starts sources q report rows r; choice = c.choice; of_plan = whole-plan offer q starts sources r.first r.later r.told r.reads c g.plan_is };
+        planned = record { run = h; choice = c.choice; of_plan = of-plan-at offer (r.first ++ r.later) h.events c.choice r.runs.events_are (whole-plan offer q starts sources r.first r.later r.told r.reads c g.plan_is) };
         none_left = refl;
-        none_held = r.none_held;
-        no_fault = r.no_fault;
+        none_held = f.none_held;
+        no_fault = f.no_fault;
         is_reported = subst (λ (v : Option ℕ). offer.IsReported c.choice v) (sym r.is_version) c.is_reported;
-        requests = r.requests;
+        requests = f.requests;
       }
 
-  told-by : (told versions : Versions) (fault : ClientFault) (first later : List Event) → ((address : Address) → told address ≡ versions address) → Explains told options.budget fault later → Explains versions options.budget fault (first ++ later)
-  told-by told versions fault first later same x = explains-later versions options.budget fault first later (explains-as told versions options.budget fault later same x)
+  pub whole-run : (report : Report) (rows : List Places) (r : Returns Here sources q starts report rows) → (returns-whole report rows r).planned.run ≡ h
+  unfolding returns-whole
+  whole-run report rows r = refl
 
-  pub some-explained : (fault : ClientFault) (t u : Option (List ℕ)) → WritesSome (RunsPool allows options since now) sources q starts options.budget fault t u → ExplainedRun allows offer options since now starts fault
-  some-explained fault t u (Before b) = record {
-    planned = record {
-      run = record { events = b.events; pool = b.pool; runs = b.runs; asks = starts-alone starts b.events b.asked };
-      choice = covered.begins.choice;
-      of_plan = alone-plan offer q starts covered.begins b.events b.asked;
-    };
-    versions = covered.begins.versions;
-    has = covered.begins.has;
-    explains = b.explains (λ address. Some (covered.begins.versions address));
-  }
+  told-by : (told versions : Versions) (fault : ClientFault) (first later : List Event) → first ++ later ≡ h.events → ((address : Address) → told address ≡ versions address) → Explains told options.budget fault later → Explains versions options.budget fault h.events
+  told-by told versions fault first later e same x =
+      subst (λ (l : List Event). Explains versions options.budget fault l) e (explains-later versions options.budget fault first later (explains-as told versions options.budget fault later same x))
+
+  -- before the start pages were read, by each choice
+  pub before-explained : (fault : ClientFault) (t u : Option (List ℕ)) → EndsBefore Here starts options.budget fault t u → (choice : offer.Choice) → offer.IsChoice choice → ExplainedRun allows offer options since now starts fault
+  before-explained fault t u b choice is =
+      let s = covered.begins choice is in
+      record {
+        planned = record {
+          run = h;
+          choice = choice;
+          of_plan = of-plan-at offer b.events h.events choice b.runs.events_are (alone-plan offer q starts choice s b.events b.asked);
+        };
+        versions = s.versions;
+        has = s.has;
+        explains = subst (λ (l : List Event). Explains (λ address. Some (s.versions address)) options.budget fault l) b.runs.events_are (b.explains (λ address. Some (s.versions address)));
+      }
+
+  pub before-choice : (fault : ClientFault) (t u : Option (List ℕ)) (b : EndsBefore Here starts options.budget fault t u) (choice : offer.Choice) (is : offer.IsChoice choice) → (before-explained fault t u b choice is).planned.choice ≡ choice
+  unfolding before-explained
+  before-choice fault t u b choice is = refl
+
+  pub before-run : (fault : ClientFault) (t u : Option (List ℕ)) (b : EndsBefore Here starts options.budget fault t u) (choice : offer.Choice) (is : offer.IsChoice choice) → (before-explained fault t u b choice is).planned.run ≡ h
+  unfolding before-explained
+  before-run fault t u b choice is = refl
+
+  pub some-explained : (fault : ClientFault) (t u : Option (List ℕ)) → WritesSome Here sources q starts options.budget fault t u → ExplainedRun allows offer options since now starts fault
+  some-explained fault t u (Before b) = before-explained fault t u b covered.first covered.is_first
   some-explained fault t u (Behind b) =
-      let c = covered.behind b.first b.later b.pool b.runs b.asks b.told b.reads in
+      let c = covered.behind b.first b.later b.pool (these-run allows options since now starts h (b.first ++ b.later) b.pool b.runs) b.asks b.told b.reads in
       let g = b.gives c.source c.is_source in
       record {
         planned = record {
-          run = record { events = b.first ++ b.later; pool = b.pool; runs = b.runs; asks = b.asks };
+          run = h;
           choice = c.choice;
-          of_plan = behind-plan offer q starts sources b.first b.later b.told b.reads c g.rest g.plan_is;
+          of_plan = of-plan-at offer (b.first ++ b.later) h.events c.choice b.runs.events_are (behind-plan offer q starts sources b.first b.later b.told b.reads c g.rest g.plan_is);
         };
         versions = c.versions;
         has = c.has;
-        explains = told-by (told_at starts (versions_of b.told)) (λ address. Some (c.versions address)) fault b.first b.later c.tells b.explains;
+        explains = told-by (told_at starts (versions_of b.told)) (λ address. Some (c.versions address)) fault b.first b.later b.runs.events_are c.tells b.explains;
       }
   some-explained fault t u (AtEnd b) =
-      let c = covered.behind b.first b.later b.pool b.runs b.asks b.told b.reads in
+      let c = covered.behind b.first b.later b.pool (these-run allows options since now starts h (b.first ++ b.later) b.pool b.runs) b.asks b.told b.reads in
       let g = b.gives c.source c.is_source in
       record {
         planned = record {
-          run = record { events = b.first ++ b.later; pool = b.pool; runs = b.runs; asks = b.asks };
+          run = h;
           choice = c.choice;
-          of_plan = whole-plan offer q starts sources b.first b.later b.told b.reads c g.plan_is;
+          of_plan = of-plan-at offer (b.first ++ b.later) h.events c.choice b.runs.events_are (whole-plan offer q starts sources b.first b.later b.told b.reads c g.plan_is);
         };
         versions = c.versions;
         has = c.has;
-        explains = told-by (told_at starts (versions_of b.told)) (λ address. Some (c.versions address)) fault b.first b.later c.tells b.explains;
+        explains = told-by (told_at starts (versions_of b.told)) (λ address. Some (c.versions address)) fault b.first b.later b.runs.events_are c.tells b.explains;
       }
+
+  pub explained-run : (fault : ClientFault) (t u : Option (List ℕ)) (w : WritesSome Here sources q starts options.budget fault t u) → (some-explained fault t u w).planned.run ≡ h
+  unfolding some-explained
+  explained-run fault t u (Before b) = before-run fault t u b covered.first covered.is_first
+  explained-run fault t u (Behind b) = refl
+  explained-run fault t u (AtEnd b) = refl
+
+  -- the choice is the one that the start pages told
+  pub behind-choice : (fault : ClientFault) (t u : Option (List ℕ)) (b : EndsBehind Here sources q starts options.budget fault t u)
+      → (some-explained fault t u (Behind b)).planned.choice ≡ (covered.behind b.first b.later b.pool (these-run allows options since now starts h (b.first ++ b.later) b.pool b.runs) b.asks b.told b.reads).choice
+  unfolding some-explained
+  behind-choice fault t u b = refl
+
+  pub end-choice : (fault : ClientFault) (t u : Option (List ℕ)) (b : EndsAtEnd Here sources q starts options.budget fault t u)
+      → (some-explained fault t u (AtEnd b)).planned.choice ≡ (covered.behind b.first b.later b.pool (these-run allows options since now starts h (b.first ++ b.later) b.pool b.runs) b.asks b.told b.reads).choice
+  unfolding some-explained
+  end-choice fault t u b = refl

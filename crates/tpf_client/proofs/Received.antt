@@ -8,6 +8,7 @@ use Rattle.std.proofs.lemmas.List.Sorted.{IsPermutation-sym, Contains-permutatio
 use Rattle.list_laws.proofs.Members.{at_head, in_tail, head_or_tail, none_in}
 use Rattle.tpf_base.specs.Addresses.{Address}
 use Rattle.tpf_base.specs.Links.{Link, Nature, WireState, told_by}
+use Rattle.request_pool.specs.Faults.{kept_of}
 use Rattle.request_pool.specs.Pools.{Pooled, Ask, held}
 use Rattle.request_pool.specs.Owned.{held_on}
 use Rattle.request_pool.specs.Closing.{ClosesSome, IsClosed}
@@ -50,7 +51,7 @@ held-asked allows (Came ask reply ∷ events) p q v w t none a c =
 held-asked allows (Waited ∷ events) p q v w t none a c =
     let h : Waits p t.0.pool v t.0.wire = t.1.happens in
     or-before a p t.0.pool (asked_in events) (wait-back a p t.0.pool h.others) (held-asked allows events t.0.pool q t.0.wire w t.2 none a c)
-held-asked allows (Broke fault ∷ events) p q v w t none a c = let h : Breaks fault p t.0.pool v t.0.wire = t.1.happens in absurd (no-break allows fault events t.0.pool q t.0.wire w h.kept t.2 none)
+held-asked allows (Broke fault ∷ events) p q v w t none a c = let h : Breaks fault p t.0.pool v t.0.wire = t.1.happens in absurd (no-break allows (kept_of fault) events t.0.pool q t.0.wire w h.kept t.2 none)
 
 asked-front : (a : Ask) (first second : List Event) → Contains (asked_in first) a → Contains (asked_in (first ++ second)) a
 asked-front a [] second c = absurd (none_in a c)

@@ -9,6 +9,7 @@ use Rattle.tpf_base.specs.Addresses.{Address}
 use Rattle.tpf_base.specs.Links.{WireState}
 use Rattle.join_core.specs.Evaluations.{HasHome}
 use Rattle.bgp_core.specs.Queries.{QueryData}
+use Rattle.request_pool.specs.Faults.{kept_of}
 use Rattle.request_pool.specs.Pools.{Pooled, Ask, held}
 use Rattle.pool_laws.specs.Requested.{LastRequest, NoneWhole, Unanswered, Replied, LinkRequests, TellsRequests, RequestedSince, AnsweredSince, SentByRises, addresses_of as links_addresses, last_whole, last_answered, whole_requests, whole_answers, over_links, count_sent, count_answered, any}
 use Rattle.pool_laws.specs.Rising.{FailuresRose}
@@ -137,7 +138,7 @@ module _ (laws : Laws) (traffic : TrafficLaws) (allows : List ℕ → ℕ → Li
         subst (λ (l : List Address). AnsweredSince l since (record p { waiting = p.waiting ++ (record { ticket = ask.ticket; address = ask.address; failed = 0 }) ∷ [] }) v) (sym (map-append address_of asks (ask ∷ [])))
         (traffic.puts_answered (map address_of asks) since ask.ticket ask.address p v web (i none));
     steps = λ asks answer p q v w at i t none. traffic.steps_answered (map address_of asks) since answer p q v w at.given at.suits (i at.no_fault) t;
-    breaks = λ asks fault p q v w at i t kept none. absurd (not-some q.fault fault kept none);
+    breaks = λ asks fault p q v w at i t kept none. absurd (not-some q.fault (kept_of fault) kept none);
   }
 
   requested-so : (run : RunOf allows options starts since now) → RequestedSince (map address_of (asked_in run.events)) since (shut run.pool) now

@@ -17,6 +17,7 @@ use Rattle.tpf_client.specs.Turns.{asked_in}
 use Rattle.tpf_client.specs.Calls.{RunsPool}
 use Rattle.tpf_client.specs.Honest.{Laws}
 use Rattle.tpf_client.specs.Requests.{TrafficLaws}
+use Rattle.tpf_client.proofs.Answered.{failures-rise}
 use Rattle.tpf_client.proofs.Homes.{all-so, asks-front}
 use Rattle.tpf_client.proofs.Keeping.{IsKeptBy, Taken, taken, between-after, by-events}
 use Rattle.tpf_client.proofs.Known.{Knows, begun, begun-knows, begun-between, knows-put, knows-step, knows-fault}
@@ -55,7 +56,7 @@ module _ (laws : Laws) (traffic : TrafficLaws) (allows : List ℕ → ℕ → Li
     step-rose : (n : ℕ) (result : Result Stepped PoolFault) (p r q : Pooled) (v w : WireState) → Taken allows (begun options) (IsOwn starts) p r v w → Rises n p v → StepsTo result p q v w → StepRose result since.faults n p q w
     step-rose n result p r q v w at i t =
         let after = knows-step laws traffic starts since (options.retries + 1) (omega arith) n result p q v w at.given at.suits i.knows t in
-        at.lawful.rises since.faults n result p q v at.given at.suits i.knows.answers (small-limit options limit p.limit (ap (λ (x : Pooled). x.limit) at.bounds)) (tells-on allows options since starts all n q w after at.lawful) (few-idle n q w after at.lawful) (all-served p at.are) i.rose t
+        failures-rise laws allows w since.faults n result p q v at.given at.suits i.knows.answers (small-limit options limit p.limit (ap (λ (x : Pooled). x.limit) at.bounds)) (tells-on allows options since starts all n q w after at.lawful) (few-idle n q w after at.lawful) (all-served p at.are) i.rose t
 
     rises-kept : IsKeptBy allows (begun options) (IsOwn starts) Rises
     rises-kept = record {

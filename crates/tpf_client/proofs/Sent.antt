@@ -13,7 +13,7 @@ use Rattle.tpf_client.specs.Turns.{asked_in, address_of}
 use Rattle.tpf_client.specs.Calls.{RunsPool}
 use Rattle.tpf_client.specs.Honest.{Laws}
 use Rattle.tpf_client.specs.Requests.{TrafficLaws}
-use Rattle.tpf_client.specs.Plans.{SendsOnly, SendsAsked}
+use Rattle.tpf_client.specs.Plans.{SendsOnly}
 use Rattle.tpf_client.proofs.Keeping.{IsKeptBy, by-events}
 use Rattle.tpf_client.proofs.Known.{begun, begun-between}
 use Rattle.tpf_client.proofs.Planned.{RunOf}
@@ -38,6 +38,3 @@ module _ (laws : Laws) (traffic : TrafficLaws) (allows : List ℕ → ℕ → Li
   sends-asked run =
       let addresses = map address_of (asked_in run.events) in
       sends-only laws traffic allows options since lawful starts addresses now run.events run.pool (all_from (λ ask. Contains addresses ask.address) (asked_in run.events) (λ ask c. Contains-map address_of (asked_in run.events) ask c)) run.runs
-
-  pub sends-so : (run : RunOf allows options starts since now) → SendsAsked allows options starts since now
-  sends-so run = record { events = run.events; pool = run.pool; runs = run.runs; asks = run.asks; sent = sends-asked run }

@@ -1,38 +1,89 @@
 -- A call with one start, over a wire to one server.
-use Rattle.std.proofs.Common.{ℕ, ◌≤◌, ◌<◌, ◌^◌, List, [], ◌∷◌, Option}
-use Rattle.std.specs.Prelude.{Result, IfOk, IfErr}
+use Rattle.std.proofs.Common.{ℕ, ◌≡◌, ◌≤◌, ◌<◌, ◌^◌, Bool, true, List, [], ◌∷◌, length, Option, refl, sym, ap, subst, ◌∙◌}
+use Rattle.std.proofs.lemmas.Bool.{eqb-true}
+use Rattle.std.specs.Prelude.{Result, IfErr, IsErrOf}
 use Rattle.tpf_base.specs.Addresses.{Address}
-use Rattle.tpf_base.specs.Links.{WireState}
+use Rattle.tpf_base.specs.Links.{All, WireState}
+use Rattle.tpf_base.specs.Wrote.{SinkState}
+use Rattle.template_fill.specs.Bodies.{version_of}
 use Rattle.bgp_core.specs.Queries.{QueryData}
 use Rattle.bgp_core.specs.Solutions.{Places}
-use Rattle.request_pool.specs.Pools.{Pooled}
 use Rattle.tpf_client.specs.declared.options.Options.{Options}
 use Rattle.tpf_client.specs.declared.options.Report.{Report}
 use Rattle.tpf_client.specs.declared.fault.ClientFault.{ClientFault}
-use Rattle.tpf_client.specs.Traffic.{Event, IsLawful}
+use Rattle.tpf_client.specs.declared.fault.ClientFault.TheVariants as faults
+use Rattle.tpf_client.specs.Traffic.{IsLawful}
 use Rattle.tpf_client.specs.Sources.{world_sources}
-use Rattle.tpf_client.specs.Calls.{RunsPool, Returns, WritesSome, most_asked}
+use Rattle.tpf_client.specs.Calls.{Happened, AreThese, WritesSome, most_asked}
 use Rattle.join_core.specs.Blocks.{IsBlockSize}
-use Rattle.tpf_client.specs.Offers.{Publisher, offer_in_blocks}
+use Rattle.join_core.specs.Evaluations.{HasHome}
+use Rattle.tpf_client.specs.Offers.{Publisher, IsVersionOf, Offer, offer_in_blocks}
 use Rattle.tpf_client.specs.Ends.{ends_in_blocks}
 use Rattle.tpf_client.specs.Honest.{Laws, IsHonestWire}
 use Rattle.tpf_client.specs.Requests.{TrafficLaws}
-use Rattle.tpf_client.specs.WireActs.{ActsAt}
-use Rattle.tpf_client.specs.Acts.{ActsOnWire}
+use Rattle.tpf_client.specs.Ended.{WritesEnded, GivesEnded, WritesOverEnds, GivesOverEnds}
+use Rattle.tpf_client.specs.Plans.{RisesFew, ChoiceFits}
+use Rattle.tpf_client.specs.Still.{only, AnswersOver, IsWant}
 use Rattle.tpf_client.proofs.Covered.{Covered}
-use Rattle.tpf_client.proofs.Serving.{server-covered}
-use Rattle.tpf_client.proofs.Clauses.{acts-by-plan, acts-on-wire, most-one}
+use Rattle.tpf_client.proofs.Honesty.{ServesAt}
+use Rattle.tpf_client.proofs.Planned.{ExplainedRun, some-explained}
+use Rattle.tpf_client.proofs.Shutting.{if-err-from}
+use Rattle.tpf_client.proofs.Still.{ServesOnly, wants}
+use Rattle.tpf_client.proofs.Serving.{some_offer, server-covered, offer-covered, covered-served}
+use Rattle.tpf_client.proofs.Clauses.{writes-over, gives-over, most-one}
 
 module _ (laws : Laws) (traffic : TrafficLaws) (allows : List ℕ → ℕ → List ℕ → List ℕ → Type 0) (options : Options) (since now : WireState) (lawful : IsLawful allows since) (limit : options.max_body < 2 ^ 64) (start : Address) (q : QueryData) (block : ℕ) (sized : IsBlockSize block) where
   -- what an honest server offers covers the call
   pub covers : (p : Publisher) → IsHonestWire allows p.history p.config since → Covered (world_sources block) (offer_in_blocks block p q start) allows options since now (start ∷ []) q
   covers p honest = server-covered laws allows options since now lawful limit p honest start q block sized
 
-  abbrev Call : List Event → Pooled → Type 0
-  Call events pool = RunsPool allows options since now events pool
+  pub writes-single : 1 ≤ options.links → (result : Result Report ClientFault) (out out' : SinkState) → WritesEnded allows (world_sources block) q (start ∷ []) options result since now out out'
+      → WritesOverEnds allows (ends_in_blocks block q start) (world_sources block) q (start ∷ []) options (most_asked options q) result since now out out'
+  writes-single some result out out' w = writes-over laws traffic allows options since now lawful (start ∷ []) (world_sources block) q limit some (ends_in_blocks block q start) covers (most_asked options q) (most-one options q start) result out out' w
 
-  pub acts-so : {A : Type 0} (some : 1 ≤ options.links) (result : Result A ClientFault) (told : A → Report) (P : A → Type 0) (t u : Option (List ℕ)) → IfOk result P → IfErr result (λ fault. WritesSome Call (world_sources block) q (start ∷ []) options.budget fault t u)
-      → ((x : A) → P x → (rows : List Places) × Returns Call (world_sources block) q (start ∷ []) (told x) rows) → ActsAt allows options (start ∷ []) q result told since now → ActsOnWire allows (ends_in_blocks block q start) options (start ∷ []) (most_asked options q) result told since now
-  acts-so some result told P t u ok err returns acts =
-      acts-on-wire allows (ends_in_blocks block q start) options (start ∷ []) (most_asked options q) q result told since now (most-one options q start) acts
-      (acts-by-plan laws traffic allows options since now lawful (start ∷ []) (world_sources block) q result told P t u ok err returns limit some (ends_in_blocks block q start) covers)
+  pub gives-single : 1 ≤ options.links → {A : Type 0} (result : Result A ClientFault) (told : A → Report) (rows : A → List Places) → GivesEnded allows (world_sources block) q (start ∷ []) options result told rows since now
+      → GivesOverEnds allows (ends_in_blocks block q start) (world_sources block) q (start ∷ []) options (most_asked options q) result told rows since now
+  gives-single some result told rows w = gives-over laws traffic allows options since now lawful (start ∷ []) (world_sources block) q limit some (ends_in_blocks block q start) covers (most_asked options q) (most-one options q start) result told rows w
+
+  -- ---- one version is served
+
+  module _ (p : Publisher) (version : ℕ) (over : AnswersOver allows start p version) (tells : since.nature.tells ≡ All) where
+    serves : ServesAt allows start p.history p.config (only version) since
+    serves = record {
+      tells = tells;
+      is_history = over.is_history;
+      is_config = over.is_config;
+      few = λ other is. subst (λ (n : ℕ). length (version_of p.history n) < 2 ^ 64) (sym (eqb-true other version is)) over.few;
+      is_honest = over.is_honest;
+    }
+
+    abbrev IsOne : ℕ → Type 0
+    IsOne other = version ≡ other
+
+    abbrev one-offer : Offer
+    one-offer = some_offer IsOne block p q start
+
+    covered : Covered (world_sources block) one-offer allows options since now (start ∷ []) q
+    covered =
+        offer-covered laws allows options since now lawful limit p start (only version) serves q block sized IsOne (λ other is served. sym (eqb-true other version served))
+        (λ other is. subst (λ (n : ℕ). IsVersionOf p.history n) is over.is_version) version refl
+
+    served-there : (address : Address) (own : HasHome (start ∷ []) address) → (covered.stands address own).served ≡ only version
+    unfolding covered
+    served-there address own =
+        covered-served laws allows options since now lawful limit p start (only version) serves q block sized IsOne (λ other is served. sym (eqb-true other version served))
+        (λ other is. subst (λ (n : ℕ). IsVersionOf p.history n) is over.is_version) version refl address own
+
+    serves-only : ServesOnly laws traffic allows options since now lawful limit (start ∷ []) (world_sources block) one-offer q covered version
+    serves-only = record {
+      alone = λ other is. is;
+      served = λ address own other is. eqb-true other version (sym (ap (λ (test : ℕ → Bool). test other) (served-there address own)) ∙ is);
+      one = λ address own a b e f. e ∙ sym f;
+    }
+
+    pub wants-so : {A : Type 0} (h : Happened allows options (start ∷ []) since now) (result : Result A ClientFault) (t u : Option (List ℕ)) (alive : since.nature.lively ≡ true) (rise : ℕ) → RisesFew options rise since now → ChoiceFits (offer_in_blocks block p q start) options rise version
+        → IfErr result (λ fault. WritesSome (AreThese h.events h.pool) (world_sources block) q (start ∷ []) options.budget fault t u) → (IsErrOf result faults.Sink → ⊥) → IfErr result IsWant
+    wants-so h result t u alive rise few fits err sink =
+        wants laws traffic allows options since now lawful limit (start ∷ []) (world_sources block) one-offer q covered rise few alive result version serves-only (record { fit = fits.fit; within = fits.within })
+        (if-err-from result (λ fault. WritesSome (AreThese h.events h.pool) (world_sources block) q (start ∷ []) options.budget fault t u) (λ fault. ExplainedRun allows one-offer options since now (start ∷ []) fault) err
+        (λ fault w. some-explained allows (world_sources block) one-offer options since now (start ∷ []) q covered h fault t u w)) sink

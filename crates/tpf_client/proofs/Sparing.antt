@@ -6,6 +6,7 @@ use Rattle.tpf_base.specs.Addresses.{Address}
 use Rattle.tpf_base.specs.Links.{All, Nature, WireState}
 use Rattle.request_pool.specs.declared.fault.PoolFault.{PoolFault}
 use Rattle.request_pool.specs.declared.fault.Stepped.{Stepped}
+use Rattle.request_pool.specs.Faults.{kept_of}
 use Rattle.request_pool.specs.Pools.{Pooled, Ask, held}
 use Rattle.request_pool.specs.Steps.{StepsTo}
 use Rattle.pool_laws.specs.Provoking.{WaitsReady, SparesWire, HasHung, StepSpares}
@@ -17,6 +18,7 @@ use Rattle.tpf_client.specs.Calls.{RunsPool}
 use Rattle.tpf_client.specs.Honest.{Laws}
 use Rattle.tpf_client.specs.Requests.{TrafficLaws}
 use Rattle.tpf_client.specs.Plans.{NoneOpen}
+use Rattle.tpf_client.proofs.Answered.{none-hang}
 use Rattle.tpf_client.proofs.Keeping.{IsKeptBy, Taken, not-some, by-events}
 use Rattle.tpf_client.proofs.Known.{Knows, begun, begun-knows, begun-between, knows-put, knows-step, knows-fault}
 use Rattle.tpf_client.proofs.Rises.{IsOwn, IsServedAt, all-served, tells-on, small-limit}
@@ -41,7 +43,7 @@ module _ (laws : Laws) (traffic : TrafficLaws) (allows : List ℕ → ℕ → Li
 
   not-hung : (n : ℕ) (p r q : Pooled) (v w : WireState) → Taken allows (begun options) (IsOwn starts) p r v w → Knows starts since (options.retries + 1) n q w → HasHung (map (λ (ask : Ask). ask.address) (held p)) p.limit w → ⊥
   not-hung n p r q v w at k h =
-      at.lawful.hang p.limit (map (λ (ask : Ask). ask.address) (held p)) (small-limit options limit p.limit (ap (λ (x : Pooled). x.limit) at.bounds))
+      none-hang laws allows w p.limit (map (λ (ask : Ask). ask.address) (held p)) (small-limit options limit p.limit (ap (λ (x : Pooled). x.limit) at.bounds))
       (tells-on allows options since starts all n q w k at.lawful)
       (all-addresses (IsServedBySome allows) (held p) (all-served laws traffic allows options since lawful starts all served limit p at.are)) h
 
@@ -75,7 +77,7 @@ module _ (laws : Laws) (traffic : TrafficLaws) (allows : List ℕ → ℕ → Li
         let s = step-spares n (Err fault) p q (without_fault q) v w at i after (ap (λ (x : Pooled). x.budget) at.after) t in
         record {
           knows = knows-fault laws traffic starts since (options.retries + 1) (omega arith) n q w after;
-          ready = λ none. absurd (not-some q.fault fault kept none);
+          ready = λ none. absurd (not-some q.fault (kept_of fault) kept none);
           spares = spares-on n (Err fault) p q (without_fault q) v w at i after s;
         };
   }

@@ -12,6 +12,7 @@ use Rattle.bgp_core.specs.Solutions.{Places}
 use Rattle.request_pool.specs.declared.fault.PoolFault.{PoolFault}
 use Rattle.request_pool.specs.declared.fault.PoolFault.TheVariants as pool
 use Rattle.request_pool.specs.declared.fault.Stepped.{Stepped}
+use Rattle.request_pool.specs.Faults.{kept_of}
 use Rattle.request_pool.specs.Pools.{Pooled, Ask, IsOverBudget, held}
 use Rattle.pool_laws.specs.Spending.{SpentSince, AnsweredMost}
 use Rattle.pool_laws.specs.Requested.{AnsweredSince, TellsRequests, count_answered, any}
@@ -22,19 +23,20 @@ use Rattle.tpf_client.specs.declared.fault.ClientFault.TheVariants as faults
 use Rattle.tpf_client.specs.Traffic.{Event, Broke, EndsWith, IsLawful, without_fault, Breaks}
 use Rattle.tpf_client.specs.Causes.{Explains, Versions}
 use Rattle.tpf_client.specs.Turns.{AsksAt, asked_in, address_of}
-use Rattle.tpf_client.specs.Calls.{Returns, WritesSome, RunsPool}
+use Rattle.tpf_client.specs.Calls.{Returns, WritesSome, RunsPool, Happened, AreThese}
 use Rattle.tpf_client.specs.Sources.{Sources}
 use Rattle.tpf_client.specs.Offers.{Offer}
 use Rattle.tpf_client.specs.Honest.{Laws}
 use Rattle.tpf_client.specs.Requests.{TrafficLaws, tries_of}
+use Rattle.tpf_client.specs.Acts.{IsSpentOf}
 use Rattle.tpf_client.specs.Failing.{ForBudget, Spends, SpendsRequests, SpendsTries, SpendsPlan}
-use Rattle.tpf_client.proofs.Caused.{CausedRun, some-caused}
+use Rattle.tpf_client.proofs.Caused.{CausedBy, some-caused}
 use Rattle.tpf_client.proofs.Homes.{asks-front}
 use Rattle.tpf_client.proofs.Keeping.{IsKeptBy, not-some, by-events, with-asks}
 use Rattle.tpf_client.proofs.Known.{begun, begun-between, knows-so, exit-of}
 use Rattle.tpf_client.proofs.Most.{most_waits}
 use Rattle.tpf_client.proofs.Endings.{ending, same-pool, same-bounds}
-use Rattle.tpf_client.proofs.Planned.{RunOf, ExplainedRun, returns-run, few-asked}
+use Rattle.tpf_client.proofs.Planned.{RunOf, ExplainedRun, finished, few-asked}
 use Rattle.tpf_client.proofs.Requested.{shut, count-any, all-answers, WereAnswered, answered-kept, answered-so}
 
 not-error : (answer : Stepped) → ◌≡◌ {A = Result Stepped PoolFault} (Ok answer) (Err pool.OutOfMemory) → ⊥
@@ -66,7 +68,7 @@ module _ (laws : Laws) (traffic : TrafficLaws) (allows : List ℕ → ℕ → Li
   spent-kept = record {
     puts = λ n ask p v own web i none. traffic.puts_spend since n ask.ticket ask.address p v (i none);
     steps = λ n answer p q v w at i t none. traffic.steps_spend since n (Ok answer) p q v w at.given at.suits (no-error answer) (i at.no_fault) t;
-    breaks = λ n fault p q v w at i t kept none. absurd (not-some q.fault fault kept none);
+    breaks = λ n fault p q v w at i t kept none. absurd (not-some q.fault (kept_of fault) kept none);
   }
 
   -- ---- the last step
@@ -142,13 +144,13 @@ module _ (laws : Laws) (traffic : TrafficLaws) (allows : List ℕ → ℕ → Li
       let most : p.started < (options.retries + 1) * length (asked_in events) = most_waits (options.retries + 1) ((options.retries + 1) * length (asked_in events)) p s.over.waits k.most in
       omega (arith, budget, over, most)
 
-  tries-of : (events : List Event) (p : Pooled) → EndsWith (Broke pool.Budget) events → RunsPool allows options since now events p → AsksAt starts events → SpendsTries allows options starts since now
+  tries-of : (events : List Event) (p : Pooled) → EndsWith (Broke pool.Budget) events → RunsPool allows options since now events p → AsksAt starts events → SpendsTries options events p
   tries-of events p e r a =
       let s = spent-so events p e r a in
       let budget = same-bounds laws traffic allows options since now lawful starts events p a r in
       let over : p.budget ≤ p.started = s.over.spent in
       let within = (exit-of laws traffic starts options allows since lawful now events p a r budget).within in
-      record { events = events; pool = p; runs = r; asks = a; spent = omega (arith, budget, over, within); tries = few-tries events p e r a }
+      record { spent = omega (arith, budget, over, within); tries = few-tries events p e r a }
 
   -- ---- rows
 
@@ -186,8 +188,10 @@ module _ (laws : Laws) (traffic : TrafficLaws) (allows : List ℕ → ℕ → Li
       same-given : (s g n r k : ℕ) → s ≤ g + r + k → n ≡ g → s ≤ n + r + k
       same-given s g n r k l e = omega (arith, l, e)
 
-  pub rows-paid : (sources : Sources) (q : QueryData) (report : Report) (rows : List Places) → Returns (RunsPool allows options since now) sources q starts report rows → Spends options.max_body report.requests since now
-  rows-paid sources q report rows r = subst (λ (n : ℕ). Spends options.max_body n since now) (sym r.requests) (run-paid (returns-run allows options since now starts sources q report rows r) r.no_fault r.none_held)
+  pub rows-paid : (h : Happened allows options starts since now) (sources : Sources) (q : QueryData) (report : Report) (rows : List Places) → Returns (AreThese h.events h.pool) sources q starts report rows → Spends options.max_body report.requests since now
+  rows-paid h sources q report rows r =
+      let f = finished allows options since now starts h sources q report rows r in
+      subst (λ (n : ℕ). Spends options.max_body n since now) (sym f.requests) (run-paid h f.no_fault f.none_held)
 
   -- ---- of a call
 
@@ -202,7 +206,7 @@ module _ (laws : Laws) (traffic : TrafficLaws) (allows : List ℕ → ℕ → Li
   spends-requests faults.Sink versions events p e r a = tt
   spends-requests faults.OutOfMemory versions events p e r a = tt
 
-  spends-tries : (fault : ClientFault) (versions : Versions) (events : List Event) (p : Pooled) → Explains versions options.budget fault events → RunsPool allows options since now events p → AsksAt starts events → ForBudget (SpendsTries allows options starts since now) fault
+  spends-tries : (fault : ClientFault) (versions : Versions) (events : List Event) (p : Pooled) → Explains versions options.budget fault events → RunsPool allows options since now events p → AsksAt starts events → ForBudget (SpendsTries options events p) fault
   spends-tries faults.Exchange versions events p e r a = tt
   spends-tries faults.Stalled versions events p e r a = tt
   spends-tries (faults.Cut received) versions events p e r a = tt
@@ -213,15 +217,15 @@ module _ (laws : Laws) (traffic : TrafficLaws) (allows : List ℕ → ℕ → Li
   spends-tries faults.Sink versions events p e r a = tt
   spends-tries faults.OutOfMemory versions events p e r a = tt
 
-  module _ (sources : Sources) (q : QueryData) (fault : ClientFault) (t u : Option (List ℕ)) (w : WritesSome (RunsPool allows options since now) sources q starts options.budget fault t u) where
-    caused : CausedRun allows options since now starts fault
-    caused = some-caused allows options since now starts sources q fault t u w
+  module _ (h : Happened allows options starts since now) (sources : Sources) (q : QueryData) (fault : ClientFault) (t u : Option (List ℕ)) (w : WritesSome (AreThese h.events h.pool) sources q starts options.budget fault t u) where
+    caused : CausedBy options.budget fault h.events
+    caused = some-caused starts h.events h.pool sources q options.budget fault t u w
 
     pub fault-requests : ForBudget (SpendsRequests options since now) fault
-    fault-requests = spends-requests fault caused.versions caused.run.events caused.run.pool caused.explains caused.run.runs caused.run.asks
+    fault-requests = spends-requests fault caused.versions h.events h.pool caused.explains h.runs h.asks
 
-    pub fault-tries : ForBudget (SpendsTries allows options starts since now) fault
-    fault-tries = spends-tries fault caused.versions caused.run.events caused.run.pool caused.explains caused.run.runs caused.run.asks
+    pub fault-tries : ForBudget (SpendsTries options h.events h.pool) fault
+    fault-tries = spends-tries fault caused.versions h.events h.pool caused.explains h.runs h.asks
 
   -- ---- over an offer
 
@@ -229,13 +233,28 @@ module _ (laws : Laws) (traffic : TrafficLaws) (allows : List ℕ → ℕ → Li
     abbrev Run : ClientFault → Type 0
     Run fault = ExplainedRun allows offer options since now starts fault
 
-    plan-of : (n : ℕ) → Run (faults.Budget n) → SpendsPlan offer options
-    plan-of n x =
+    plan-tries : (n : ℕ) → (x : Run (faults.Budget n)) → options.budget < tries_of options (offer.addresses x.planned.choice)
+    plan-tries n x =
         let run = x.planned.run in
         let choice = x.planned.choice in
         let low : options.budget < (options.retries + 1) * length (asked_in run.events) = few-tries run.events run.pool x.explains.1 run.runs run.asks in
         let times = mul-le-mul_left (options.retries + 1) (few-asked offer (asked_in run.events) choice x.planned.of_plan) in
-        record { choice = choice; is_choice = x.planned.of_plan.is_choice; tries = less-than options.budget ((options.retries + 1) * length (asked_in run.events)) (tries_of options (offer.addresses choice)) low times }
+        less-than options.budget ((options.retries + 1) * length (asked_in run.events)) (tries_of options (offer.addresses choice)) low times
+
+    plan-of : (n : ℕ) → Run (faults.Budget n) → SpendsPlan offer options
+    plan-of n x = record { choice = x.planned.choice; is_choice = x.planned.of_plan.is_choice; tries = plan-tries n x }
+
+    -- it is less than the tries of the choice of the run
+    pub spent-over : (fault : ClientFault) (x : Run fault) → ForBudget (options.budget < tries_of options (offer.addresses x.planned.choice)) fault
+    spent-over faults.Exchange x = tt
+    spent-over faults.Stalled x = tt
+    spent-over (faults.Cut received) x = tt
+    spent-over (faults.Reply fault received) x = tt
+    spent-over (faults.Page fault body) x = tt
+    spent-over (faults.Changed first other) x = tt
+    spent-over (faults.Budget n) x = plan-tries n x
+    spent-over faults.Sink x = tt
+    spent-over faults.OutOfMemory x = tt
 
     pub plan-spent : (fault : ClientFault) → Run fault → ForBudget (SpendsPlan offer options) fault
     plan-spent faults.Exchange x = tt
@@ -247,3 +266,16 @@ module _ (laws : Laws) (traffic : TrafficLaws) (allows : List ℕ → ℕ → Li
     plan-spent (faults.Budget n) x = plan-of n x
     plan-spent faults.Sink x = tt
     plan-spent faults.OutOfMemory x = tt
+
+    -- it is said of the choice of the run
+    pub plan-spent-of : (fault : ClientFault) (x : Run fault) → IsSpentOf offer options x.planned.choice fault (plan-spent fault x)
+    unfolding plan-spent plan-of
+    plan-spent-of faults.Exchange x = tt
+    plan-spent-of faults.Stalled x = tt
+    plan-spent-of (faults.Cut received) x = tt
+    plan-spent-of (faults.Reply fault received) x = tt
+    plan-spent-of (faults.Page fault body) x = tt
+    plan-spent-of (faults.Changed first other) x = tt
+    plan-spent-of (faults.Budget n) x = refl
+    plan-spent-of faults.Sink x = tt
+    plan-spent-of faults.OutOfMemory x = tt

@@ -18,7 +18,7 @@ use Rattle.http_ends.specs.Requests.{asks}
 use Rattle.fragment_page.specs.declared.page.Page.{Page}
 use Rattle.control_reader.specs.Takes.{Takes}
 use Rattle.control_laws.specs.Law.{NothingElseIsRead, IsReadFrom, IsServerForm}
-use Rattle.pool_laws.specs.Answers.{IsBodyOf}
+use Rattle.pool_laws.specs.Answers.{IsBodyOf, IsBodyOver}
 use Rattle.join_core.specs.Worlds.{IsPageAt}
 use Rattle.join_core.specs.Blocks.{IsBlockSize}
 use Rattle.plan_laws.specs.Servers.{asked_at, server_world, ServersAreWorlds, ServersHaveForms, ServersPagesAreTrue}
@@ -27,7 +27,7 @@ use Rattle.tpf_client.specs.Traffic.{Event, Asked, Came, Waited, Broke}
 use Rattle.tpf_client.specs.Turns.{AreTrue, IsTrueReply}
 use Rattle.tpf_client.specs.Sources.{IsSourceOf, world_sources}
 use Rattle.tpf_client.specs.Offers.{IsVersionOf}
-use Rattle.tpf_client.specs.Honest.{IsAnswer}
+use Rattle.tpf_client.proofs.Honesty.{IsAnswer}
 
 -- ---- what is read of the addresses of pages
 
@@ -108,28 +108,31 @@ module _ (given : PagesAreGiven) (answered : AnsweredGivePages) (only : NothingE
       subst (λ (r : Selection). Takes (page_body history v config r (suc k)) address page) is
       (subst (λ (l : List ℕ). Takes l address page) (b.body_is ∙ ap (λ (a : Answer). a.body) g.answer) t)))
 
-  true-event : (version : ℕ) (event : Event) → IsAnswer history config event → IsTrueReply (IsPageAt (server_world block (version_of history version) config)) (λ address. Some version) event
-  true-event version (Asked ask) a = tt
-  true-event version (Came ask reply) a = λ page t told. true-page version ask.address reply.body page a t told
-  true-event version Waited a = tt
-  true-event version (Broke fault) a = tt
+  true-event : (served : ℕ → Bool) (version : ℕ) (event : Event) → IsAnswer history config served event → IsTrueReply (IsPageAt (server_world block (version_of history version) config)) (λ address. Some version) event
+  true-event served version (Asked ask) a = tt
+  true-event served version (Came ask reply) a = λ page t told. true-page version ask.address reply.body page a.is_body t told
+  true-event served version Waited a = tt
+  true-event served version (Broke fault) a = tt
 
-  true-events : (version : ℕ) (events : List Event) → AllByRecursion (IsAnswer history config) events → AreTrue (IsPageAt (server_world block (version_of history version) config)) (λ address. Some version) events
-  true-events version [] a = tt
-  true-events version (event ∷ events) a = (true-event version event a.0, true-events version events a.1)
+  true-events : (served : ℕ → Bool) (version : ℕ) (events : List Event) → AllByRecursion (IsAnswer history config served) events → AreTrue (IsPageAt (server_world block (version_of history version) config)) (λ address. Some version) events
+  true-events served version [] a = tt
+  true-events served version (event ∷ events) a = (true-event served version event a.0, true-events served version events a.1)
 
   -- the world of the start page's version
-  pub start-world : (address : Address) (body : List ℕ) (page : Page) (events : List Event) → ((version : ℕ) → length (version_of history version) < 2 ^ 64) → IsBodyOf history config address body → Takes body address page → AllByRecursion (IsAnswer history config) events
-      → (version : ℕ) × IsVersionOf history version × (page.version ≡ Some version) × IsSourceOf (world_sources block) (server_world block (version_of history version) config) (page.form ∷ []) (λ address. page.version) events
-  start-world address body page events few b t a =
+  pub start-world : (served : ℕ → Bool) (address : Address) (body : List ℕ) (page : Page) (events : List Event) → ((version : ℕ) → served version ≡ true → length (version_of history version) < 2 ^ 64) → IsBodyOver history config served address body → Takes body address page
+      → AllByRecursion (IsAnswer history config served) events
+      → (version : ℕ) × IsVersionOf history version × (served version ≡ true) × (page.version ≡ Some version) × IsSourceOf (world_sources block) (server_world block (version_of history version) config) (page.form ∷ []) (λ address. page.version) events
+  start-world served address body page events few o t a =
+      let b = o.is_body in
       let r = reads given answered only worlds forms pages kept addresses history config is_history is_config address body page b t in
       let v = version_at b.mark in
       let form = forms block (version_of history v) config page.form is_config r.form in (
         v,
         r.is_version,
+        o.is_served,
         r.told,
         record {
-          fits = record { world = worlds block history v config sized.0 sized.1 is_history is_config (few v); one = form.one; forms_are = form.forms; rows = refl };
-          pages = subst (λ (o : Option ℕ). AreTrue (IsPageAt (server_world block (version_of history v) config)) (λ address. o) events) (sym r.told) (true-events v events a);
+          fits = record { world = worlds block history v config sized.0 sized.1 is_history is_config (few v o.is_served); one = form.one; forms_are = form.forms; rows = refl };
+          pages = subst (λ (o : Option ℕ). AreTrue (IsPageAt (server_world block (version_of history v) config)) (λ address. o) events) (sym r.told) (true-events served v events a);
         },
       )

@@ -1,13 +1,12 @@
--- The asks of a call: a pool, and the address of each ticket that it holds.
-use Rattle.std.specs.Prelude.{ℕ, ◌≡◌, ◌≢◌, ◌⊎◌, List, [], ◌∷◌, ◌++◌, Option, Some, None, Result, Ok, Err}
-use Rattle.std.specs.List.{All, AllByRecursion}
+-- The asks of a call: a pool, of which no two asks have one ticket.
+use Rattle.std.specs.Prelude.{ℕ, ◌≡◌, ◌⊎◌, List, [], ◌∷◌, ◌++◌, None, Result, Ok, Err}
+use Rattle.std.specs.List.{AllByRecursion}
 use Rattle.std.specs.List.Sorted.{IsPermutation}
-use Rattle.std.specs.BTreeMap.{BTreeMap, get}
-use Rattle.std.specs.Ordering.{nat_cmp}
-use Rattle.tpf_base.specs.Addresses.{Address}
 use Rattle.tpf_base.specs.Links.{WireState}
 use Rattle.request_pool.specs.declared.fault.PoolFault.{PoolFault}
 use Rattle.request_pool.specs.declared.fault.PoolFault.TheVariants as faults
+use Rattle.request_pool.specs.declared.fault.Stepped.{Stepped}
+use Rattle.request_pool.specs.declared.fault.Stepped.TheVariants as steps
 use Rattle.request_pool.specs.Pools.{Pooled, Ask, held, bounds_of}
 use Rattle.request_pool.specs.Owned.{SuitsWire}
 use Rattle.fragment_page.specs.declared.page.Page.{Page}
@@ -19,16 +18,6 @@ use Rattle.tpf_client.specs.declared.asks.Next.{Next}
 use Rattle.tpf_client.specs.declared.asks.Next.TheVariants.{Came, Waited, Idle}
 use Rattle.tpf_client.specs.Traffic as traffic
 use Rattle.tpf_client.specs.Traffic.{Event, AreDistinct, Puts, Moves, Travels, without_fault}
-
--- tickets differ, and the book has the address of each ask
-pub record IsBook (addresses : BTreeMap ℕ Address) (asks : List Ask) : Type 0 where
-  pub distinct : AreDistinct asks
-  pub found : All (λ ask. get nat_cmp addresses ask.ticket ≡ Some ask.address) asks
-
--- the ticket has this address now, or none, and each other ticket has what it had
-pub record Notes (ticket : ℕ) (address : Option Address) (old new : BTreeMap ℕ Address) : Type 0 where
-  pub now : get nat_cmp new ticket ≡ address
-  pub others : (t : ℕ) → t ≢ ticket → get nat_cmp new t ≡ get nat_cmp old t
 
 -- one ask was put
 pub record PutsOne (ask : Ask) (old new : Pooled) : Type 0 where
@@ -43,13 +32,20 @@ abbrev pub PutsAll : List Ask → Pooled → Pooled → Type 0
 PutsAll [] old new = new ≡ old
 PutsAll (ask ∷ asks) old new = (mid : Pooled) × PutsOne ask old mid × PutsAll asks mid new
 
--- unless the pool ended, the book has the addresses of the asks that it holds
-abbrev pub IsBookOf : BTreeMap ℕ Address → Pooled → Type 0
-IsBookOf addresses pool = pool.fault ≡ None → IsBook addresses (held pool)
+-- unless the pool ended, no two asks that it holds have one ticket
+abbrev pub TicketsDiffer : Pooled → Type 0
+TicketsDiffer pool = pool.fault ≡ None → AreDistinct (held pool)
 
 -- the ask to which a reply arrived
 abbrev pub ask_of : Arrived → Ask
 ask_of arrived = record { ticket = arrived.ticket; address = arrived.address }
+
+-- what a step of the pool comes to
+abbrev pub next_of : Result Stepped PoolFault → Result Next PoolFault
+next_of (Ok (steps.Came ticket address reply)) = Ok (Came (record { ticket = ticket; address = address; reply = reply }))
+next_of (Ok steps.Waited) = Ok Waited
+next_of (Ok steps.Idle) = Ok Idle
+next_of (Err fault) = Err fault
 
 -- what a step of the asks comes to
 abbrev pub StepsOn : (List ℕ → ℕ → List ℕ → List ℕ → Type 0) → Result Next PoolFault → Pooled → Pooled → WireState → WireState → Type 0

@@ -52,23 +52,25 @@ pub record WritesPrefix (q : QueryData) (taken taken' : Option (List ℕ)) : Typ
 
 -- ---- the evaluation
 
--- The evaluation of the query gave these rows and is done.
-pub record Joins (allows : List ℕ → ℕ → List ℕ → List ℕ → Type 0) (sources : Sources) (q : QueryData) (starts : List Address) (forms : List Form) (versions : Versions) (events : List Event) (rows : List Places) (old new : Pooled) (wire wire' : WireState) : Type 0 where
+-- The evaluation of the query gave these rows and is done. No more asks wait at any moment than the most.
+pub record Joins (allows : List ℕ → ℕ → List ℕ → List ℕ → Type 0) (most : ℕ) (sources : Sources) (q : QueryData) (starts : List Address) (forms : List Form) (versions : Versions) (events : List Event) (rows : List Places) (old new : Pooled) (wire wire' : WireState) : Type 0 where
   pub travels : Travels allows events old new wire wire'
   pub on_wire : SuitsWire new wire'
   pub asks : AsksAt starts events
+  pub few : WaitFew most (length (held old)) events
   pub none_held : held new ≡ []
   pub no_fault : new.fault ≡ None
   pub pages : ArePages versions events
   pub width : All (λ row. length row ≡ length q.names) rows
   pub gives : (source : sources.Source) → IsSourceOf sources source forms versions events → GivesSolutions sources source q rows events
 
--- The evaluation of the query gave these rows, and then there was a fault.
-pub record JoinsSome (allows : List ℕ → ℕ → List ℕ → List ℕ → Type 0) (sources : Sources) (q : QueryData) (starts : List Address) (forms : List Form) (versions : Versions) (budget : ℕ) (fault : ClientFault) (events : List Event) (rows : List Places) (old new : Pooled) (wire wire' : WireState) : Type 0 where
+-- The evaluation of the query gave these rows, and then there was a fault. No more asks wait at any moment than the most.
+pub record JoinsSome (allows : List ℕ → ℕ → List ℕ → List ℕ → Type 0) (most : ℕ) (sources : Sources) (q : QueryData) (starts : List Address) (forms : List Form) (versions : Versions) (budget : ℕ) (fault : ClientFault) (events : List Event) (rows : List Places) (old new : Pooled) (wire wire' : WireState) : Type 0 where
   pub travels : Travels allows events old new wire wire'
   pub on_wire : SuitsWire new wire'
   pub explains : Explains versions budget fault events
   pub asks : AsksAt starts events
+  pub few : WaitFew most (length (held old)) events
   pub gives : (source : sources.Source) → IsSourceOf sources source forms versions events → GivesSome sources source q rows events
 
 -- ---- the wire
@@ -79,6 +81,18 @@ pub record RunsPool (allows : List ℕ → ℕ → List ℕ → List ℕ → Typ
   pub travels : Travels allows events (empty_pool options.links options.retries options.budget options.max_body) pool since between
   pub on_wire : SuitsWire pool between
   pub closes : ClosesSome (held_on pool) (λ k. 0) between now
+
+-- What happened in a call: its events, one after another, each ask among them for the authority of a start; and the pool at their end.
+pub record Happened (allows : List ℕ → ℕ → List ℕ → List ℕ → Type 0) (options : Options) (starts : List Address) (since now : WireState) : Type 0 where
+  pub events : List Event
+  pub pool : Pooled
+  pub runs : RunsPool allows options since now events pool
+  pub asks : AsksAt starts events
+
+-- these are the events, and this is the pool
+pub record AreThese (events : List Event) (pool : Pooled) (events' : List Event) (pool' : Pooled) : Type 0 where
+  pub events_are : events' ≡ events
+  pub pool_is : pool' ≡ pool
 
 -- ---- a call on its wire, and the text; `ran` says which events there were, and which pool stood at their end
 
@@ -148,15 +162,9 @@ pub data WritesSome (ran : List Event → Pooled → Type 0) (sources : Sources)
   Behind : EndsBehind ran sources q starts budget fault taken taken' → WritesSome ran sources q starts budget fault taken taken'
   AtEnd : EndsAtEnd ran sources q starts budget fault taken taken' → WritesSome ran sources q starts budget fault taken taken'
 
--- the events between a pool and its wire
-pub record Ran (allows : List ℕ → ℕ → List ℕ → List ℕ → Type 0) (old new : Pooled) (wire wire' : WireState) (events : List Event) (pool : Pooled) : Type 0 where
-  pub is_pool : pool ≡ new
-  pub travels : Travels allows events old new wire wire'
-  pub on_wire : SuitsWire new wire'
-
 -- the events between a pool and its wire, in which no more asks wait at any moment than the most
-pub record RanFew (allows : List ℕ → ℕ → List ℕ → List ℕ → Type 0) (most : ℕ) (old new : Pooled) (wire wire' : WireState) : Type 0 where
-  pub events : List Event
+pub record Ran (allows : List ℕ → ℕ → List ℕ → List ℕ → Type 0) (most : ℕ) (old new : Pooled) (wire wire' : WireState) (events : List Event) (pool : Pooled) : Type 0 where
+  pub is_pool : pool ≡ new
   pub travels : Travels allows events old new wire wire'
   pub on_wire : SuitsWire new wire'
   pub few : WaitFew most (length (held old)) events
@@ -169,60 +177,36 @@ most_over options q servers = max 1 (length q.patterns * (options.window * serve
 abbrev pub most_asked : Options → QueryData → ℕ
 most_asked options q = max 1 (length q.patterns * options.window)
 
--- The events of a call, in which no more asks wait at any moment than the most.
-pub record AsksFew (allows : List ℕ → ℕ → List ℕ → List ℕ → Type 0) (options : Options) (most : ℕ) (since now : WireState) : Type 0 where
-  pub events : List Event
-  pub pool : Pooled
-  pub runs : RunsPool allows options since now events pool
-  pub few : WaitFew most 0 events
-
 -- ---- behind the start pages
 
 -- All rows were written.
-pub record WritesRest (allows : List ℕ → ℕ → List ℕ → List ℕ → Type 0) (sources : Sources) (q : QueryData) (starts : List Address) (forms : List Form) (versions : List (Option ℕ)) (report : Report) (old new : Pooled) (wire wire' : WireState) (taken taken' : Option (List ℕ)) : Type 0 where
+pub record WritesRest (allows : List ℕ → ℕ → List ℕ → List ℕ → Type 0) (most : ℕ) (sources : Sources) (q : QueryData) (starts : List Address) (forms : List Form) (versions : List (Option ℕ)) (report : Report) (old new : Pooled) (wire wire' : WireState) (taken taken' : Option (List ℕ)) : Type 0 where
   pub events : List Event
   pub rows : List Places
-  pub joins : Joins allows sources q starts forms (told_at starts versions) events rows old new wire wire'
+  pub joins : Joins allows most sources q starts forms (told_at starts versions) events rows old new wire wire'
   pub is_version : report.version ≡ sources.reported (first_of versions)
   pub requests : report.requests ≡ new.started
   pub count : report.rows ≡ counted_by (length rows) 0
   pub text : Appends taken taken' (result_text q rows)
 
 -- All rows were gathered.
-pub record GathersRest (allows : List ℕ → ℕ → List ℕ → List ℕ → Type 0) (sources : Sources) (q : QueryData) (starts : List Address) (forms : List Form) (versions : List (Option ℕ)) (report : Report) (rows : List Places) (old new : Pooled) (wire wire' : WireState) : Type 0 where
+pub record GathersRest (allows : List ℕ → ℕ → List ℕ → List ℕ → Type 0) (most : ℕ) (sources : Sources) (q : QueryData) (starts : List Address) (forms : List Form) (versions : List (Option ℕ)) (report : Report) (rows : List Places) (old new : Pooled) (wire wire' : WireState) : Type 0 where
   pub events : List Event
-  pub joins : Joins allows sources q starts forms (told_at starts versions) events rows old new wire wire'
+  pub joins : Joins allows most sources q starts forms (told_at starts versions) events rows old new wire wire'
   pub is_version : report.version ≡ sources.reported (first_of versions)
   pub requests : report.requests ≡ new.started
   pub count : report.rows ≡ counted_by (length rows) 0
 
-pub data WritesLess (allows : List ℕ → ℕ → List ℕ → List ℕ → Type 0) (sources : Sources) (q : QueryData) (starts : List Address) (forms : List Form) (versions : Versions) (budget : ℕ) (fault : ClientFault) (old new : Pooled) (wire wire' : WireState) (taken taken' : Option (List ℕ)) : Type 0 where
-  PartOf : (events : List Event) (rows : List Places) → JoinsSome allows sources q starts forms versions budget fault events rows old new wire wire' → AppendsPrefix taken taken' (front_text q ++ rows_text q false rows)
-      → WritesLess allows sources q starts forms versions budget fault old new wire wire' taken taken'
-  WholeOf : (events : List Event) (rows : List Places) → Joins allows sources q starts forms versions events rows old new wire wire' → Explains versions budget fault events → AppendsPrefix taken taken' (result_text q rows)
-      → WritesLess allows sources q starts forms versions budget fault old new wire wire' taken taken'
+pub data WritesLess (allows : List ℕ → ℕ → List ℕ → List ℕ → Type 0) (most : ℕ) (sources : Sources) (q : QueryData) (starts : List Address) (forms : List Form) (versions : Versions) (budget : ℕ) (fault : ClientFault) (old new : Pooled) (wire wire' : WireState) (taken taken' : Option (List ℕ)) : Type 0 where
+  PartOf : (events : List Event) (rows : List Places) → JoinsSome allows most sources q starts forms versions budget fault events rows old new wire wire' → AppendsPrefix taken taken' (front_text q ++ rows_text q false rows)
+      → WritesLess allows most sources q starts forms versions budget fault old new wire wire' taken taken'
+  WholeOf : (events : List Event) (rows : List Places) → Joins allows most sources q starts forms versions events rows old new wire wire' → Explains versions budget fault events → AppendsPrefix taken taken' (result_text q rows)
+      → WritesLess allows most sources q starts forms versions budget fault old new wire wire' taken taken'
 
 -- ---- causes
 
--- no more exchanges were started than the budget says
-pub record StartsFew (allows : List ℕ → ℕ → List ℕ → List ℕ → Type 0) (options : Options) (since now : WireState) : Type 0 where
-  pub events : List Event
-  pub pool : Pooled
-  pub runs : RunsPool allows options since now events pool
-  pub few : pool.started ≤ options.budget
-
--- as many exchanges were started as the budget says
-pub record IsSpent (allows : List ℕ → ℕ → List ℕ → List ℕ → Type 0) (options : Options) (since now : WireState) : Type 0 where
-  pub events : List Event
-  pub pool : Pooled
-  pub runs : RunsPool allows options since now events pool
-  pub spent : options.budget ≤ pool.started
-
 -- These bytes were received in reply to the request for an address that was asked in the call, on a link that was given in it.
-pub record IsReceived (allows : List ℕ → ℕ → List ℕ → List ℕ → Type 0) (options : Options) (since now : WireState) (received : List ℕ) : Type 0 where
-  pub events : List Event
-  pub pool : Pooled
-  pub runs : RunsPool allows options since now events pool
+pub record IsReceived (options : Options) (events : List Event) (since now : WireState) (received : List ℕ) : Type 0 where
   pub ask : Ask
   pub asked : Contains (asked_in events) ask
   pub on : RepliedOn options.max_body ask.address received now
@@ -230,22 +214,22 @@ pub record IsReceived (allows : List ℕ → ℕ → List ℕ → List ℕ → T
   pub below : on.k < now.given
 
 -- The link ended, and what was received is no whole reply at its end.
-pub record IsCutShort (allows : List ℕ → ℕ → List ℕ → List ℕ → Type 0) (options : Options) (since now : WireState) (received : List ℕ) : Type 0 where
-  pub is_received : IsReceived allows options since now received
+pub record IsCutShort (options : Options) (events : List Event) (since now : WireState) (received : List ℕ) : Type 0 where
+  pub is_received : IsReceived options events since now received
   pub ended : Holds (now.links is_received.on.k).ended true
   pub more : reply_of received true options.max_body ≡ replies.More
 
 -- What was received has this fault.
-pub record IsRefusedReply (allows : List ℕ → ℕ → List ℕ → List ℕ → Type 0) (options : Options) (since now : WireState) (fault : ReplyFault) (received : List ℕ) : Type 0 where
-  pub is_received : IsReceived allows options since now received
+pub record IsRefusedReply (options : Options) (events : List Event) (since now : WireState) (fault : ReplyFault) (received : List ℕ) : Type 0 where
+  pub is_received : IsReceived options events since now received
   pub why : replies.ReplyFault
   pub is_fault : fault ≡ shown_fault why
   pub bad : reply_of received false options.max_body ≡ replies.Bad why
 
 -- This is the body of a whole reply, which was received. Where the reply is whole at its end alone the link ended.
-pub record IsReplyBody (allows : List ℕ → ℕ → List ℕ → List ℕ → Type 0) (options : Options) (since now : WireState) (body : List ℕ) : Type 0 where
+pub record IsReplyBody (options : Options) (events : List Event) (since now : WireState) (body : List ℕ) : Type 0 where
   pub received : List ℕ
-  pub is_received : IsReceived allows options since now received
+  pub is_received : IsReceived options events since now received
   pub at_end : Bool
   pub n : ℕ
   pub keeps : Bool
@@ -253,27 +237,27 @@ pub record IsReplyBody (allows : List ℕ → ℕ → List ℕ → List ℕ → 
   pub ended : at_end ≡ true → Holds (now.links is_received.on.k).ended true
 
 -- The body of a whole reply is for this reason no page of the address that was asked.
-pub record IsNoPageOf (allows : List ℕ → ℕ → List ℕ → List ℕ → Type 0) (options : Options) (since now : WireState) (fault : PageFault) (body : List ℕ) : Type 0 where
-  pub replied : IsReplyBody allows options since now body
+pub record IsNoPageOf (options : Options) (events : List Event) (since now : WireState) (fault : PageFault) (body : List ℕ) : Type 0 where
+  pub replied : IsReplyBody options events since now body
   pub why : Faults body replied.is_received.ask.address fault
 
 -- The body of a whole reply is a page of the address that was asked, and tells another version than the first.
-pub record IsOtherVersion (allows : List ℕ → ℕ → List ℕ → List ℕ → Type 0) (options : Options) (since now : WireState) (first other : Option ℕ) : Type 0 where
+pub record IsOtherVersion (options : Options) (events : List Event) (since now : WireState) (first other : Option ℕ) : Type 0 where
   pub body : List ℕ
-  pub replied : IsReplyBody allows options since now body
+  pub replied : IsReplyBody options events since now body
   pub page : Page
   pub taken : Takes body replied.is_received.ask.address page
   pub version : page.version ≡ other
   pub differs : first ≢ other
 
--- What each fault shows of the wire and of what came: the faults rose; so many waits followed one another, which is never so over a lively wire; a link was cut; a reply is refused; a body is no page; a page tells another version; the budget is spent.
-abbrev pub IsCause : (List ℕ → ℕ → List ℕ → List ℕ → Type 0) → Options → WireState → WireState → ClientFault → Type 0
-IsCause allows options since now faults.Exchange = Rose since.faults now.faults
-IsCause allows options since now faults.Stalled = (1000 ≤ now.idle) × (since.nature.lively ≡ true → ⊥)
-IsCause allows options since now (faults.Cut received) = IsCutShort allows options since now received
-IsCause allows options since now (faults.Reply fault received) = IsRefusedReply allows options since now fault received
-IsCause allows options since now (faults.Page fault body) = IsNoPageOf allows options since now fault body
-IsCause allows options since now (faults.Changed first other) = IsOtherVersion allows options since now first other
-IsCause allows options since now (faults.Budget n) = (n ≡ options.budget) × IsSpent allows options since now
-IsCause allows options since now faults.Sink = Unit {0}
-IsCause allows options since now faults.OutOfMemory = Unit {0}
+-- What each fault shows of the wire and of what came: the faults rose; so many waits followed one another, which is never so over a lively wire; a link was cut; a reply is refused; a body is no page; a page tells another version; as many exchanges were started as the budget says.
+abbrev pub IsCause : Options → List Event → Pooled → WireState → WireState → ClientFault → Type 0
+IsCause options events pool since now faults.Exchange = Rose since.faults now.faults
+IsCause options events pool since now faults.Stalled = (1000 ≤ now.idle) × (since.nature.lively ≡ true → ⊥)
+IsCause options events pool since now (faults.Cut received) = IsCutShort options events since now received
+IsCause options events pool since now (faults.Reply fault received) = IsRefusedReply options events since now fault received
+IsCause options events pool since now (faults.Page fault body) = IsNoPageOf options events since now fault body
+IsCause options events pool since now (faults.Changed first other) = IsOtherVersion options events since now first other
+IsCause options events pool since now (faults.Budget n) = (n ≡ options.budget) × (options.budget ≤ pool.started)
+IsCause options events pool since now faults.Sink = Unit {0}
+IsCause options events pool since now faults.OutOfMemory = Unit {0}

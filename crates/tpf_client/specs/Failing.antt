@@ -1,6 +1,5 @@
 -- Why a call failed too often, and what its requests were spent for, whatever the other ends of its wire answer.
 use Rattle.std.specs.Prelude.{ℕ, ◌≡◌, ◌≤◌, ◌<◌, ◌+◌, ◌-◌, ◌*◌, List, length}
-use Rattle.tpf_base.specs.Addresses.{Address}
 use Rattle.tpf_base.specs.Causes.{RoseBy}
 use Rattle.tpf_base.specs.Links.{WireState}
 use Rattle.request_pool.specs.Pools.{Pooled}
@@ -10,8 +9,7 @@ use Rattle.tpf_client.specs.declared.options.Options.{Options}
 use Rattle.tpf_client.specs.declared.fault.ClientFault.{ClientFault}
 use Rattle.tpf_client.specs.declared.fault.ClientFault.TheVariants as faults
 use Rattle.tpf_client.specs.Traffic.{Event}
-use Rattle.tpf_client.specs.Turns.{AsksAt, asked_in}
-use Rattle.tpf_client.specs.Calls.{RunsPool}
+use Rattle.tpf_client.specs.Turns.{asked_in}
 use Rattle.tpf_client.specs.Offers.{Offer}
 use Rattle.tpf_client.specs.Requests.{tries_of}
 
@@ -56,12 +54,8 @@ pub record Spends (limit many : ℕ) (since now : WireState) : Type 0 where
 abbrev pub SpendsRequests : Options → WireState → WireState → Type 0
 SpendsRequests options since now = Spends options.max_body options.budget since now
 
--- The events of a call, in which each ask was for the authority of a start: just as many requests were started as the budget says, and fewer than the asks may be tried.
-pub record SpendsTries (allows : List ℕ → ℕ → List ℕ → List ℕ → Type 0) (options : Options) (starts : List Address) (since now : WireState) : Type 0 where
-  pub events : List Event
-  pub pool : Pooled
-  pub runs : RunsPool allows options since now events pool
-  pub asks : AsksAt starts events
+-- In these events just as many requests were started as the budget says, and fewer than the asks may be tried.
+pub record SpendsTries (options : Options) (events : List Event) (pool : Pooled) : Type 0 where
   pub spent : pool.started ≡ options.budget
   pub tries : options.budget < (options.retries + 1) * length (asked_in events)
 

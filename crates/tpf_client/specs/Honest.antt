@@ -14,15 +14,16 @@ use Rattle.bgp_core.specs.Queries.{QueryData}
 use Rattle.bgp_core.specs.Solutions.{Places}
 use Rattle.result_json.specs.Results.{result_text}
 use Rattle.rdf_terms.specs.Askable.{AskableAreKept}
-use Rattle.template_fill.specs.Authorities.{PagesAreAddresses}
+use Rattle.template_fill.specs.Authorities.{PagesAreAddresses, AuthoritiesAreHostsAndPorts}
 use Rattle.template_fill.specs.Answered.{PagesAreGiven, AnsweredGivePages}
 use Rattle.control_laws.specs.Law.{NothingElseIsRead}
 use Rattle.control_reader.specs.Laws.{NoPageAtFault}
 use Rattle.result_json.specs.Pieces.{PiecesMakeTheText, RowsGoOn}
+use Rattle.http_ends.specs.Requests.{AddressesArePlain}
+use Rattle.http_ends.specs.Answers.{AnswersAreRead, LongHeadsAreRefused, HeadsAreShort, AnswersHaveStatus, PagesAreNQuads, ServerAnswersAreRead, ReadingsStay}
+use Rattle.http_ends.specs.Cuts.{RequestIsSent, ResponseIsCut, RepliesAreCut, NextAnswerIsCut}
 use Rattle.pool_laws.specs.Following.{EmptyPoolsFollow, PutsFollow, StepsFollow, FaultsFollow}
-use Rattle.pool_laws.specs.Answers.{IsBodyOf}
 use Rattle.plan_laws.specs.Servers.{ServersAreWorlds, ServersHaveForms, ServersPagesAreTrue}
-use Rattle.tpf_client.specs.Traffic.{Event, Asked, Came, Waited, Broke}
 use Rattle.tpf_client.specs.Offers.{Offer}
 
 -- A wire that tells all and whose other ends answer, on every link, as a server of this history and configuration does. Each version has fewer triples than a page can count.
@@ -32,13 +33,6 @@ pub record IsHonestWire (allows : List ℕ → ℕ → List ℕ → List ℕ →
   pub is_history : IsHistory history
   pub is_config : IsConfig config
   pub few : (version : ℕ) → length (version_of history version) < 2 ^ 64
-
--- a reply is the body of the server's answer to the request for its address, over one of the versions
-abbrev pub IsAnswer : List (List Triple) → Config → Event → Type 0
-IsAnswer history config (Asked ask) = Unit {0}
-IsAnswer history config (Came ask reply) = IsBodyOf history config ask.address reply.body
-IsAnswer history config Waited = Unit {0}
-IsAnswer history config (Broke fault) = Unit {0}
 
 -- The text of some ordering of the rows of one choice, the one that is reported, was written whole.
 pub record WritesSolutions (offer : Offer) (q : QueryData) (reported : Option ℕ) (n : ℕ) (taken taken' : Option (List ℕ)) : Type 0 where
@@ -83,3 +77,16 @@ pub record Laws : Type 0 where
   pub addresses : PagesAreAddresses
   pub pieces : PiecesMakeTheText
   pub goes_on : RowsGoOn
+  pub plain : AddressesArePlain
+  pub reads : AnswersAreRead
+  pub long : LongHeadsAreRefused
+  pub short : HeadsAreShort
+  pub status : AnswersHaveStatus
+  pub server : ServerAnswersAreRead
+  pub quads : PagesAreNQuads
+  pub sends : RequestIsSent
+  pub responses : ResponseIsCut
+  pub replies : RepliesAreCut
+  pub next : NextAnswerIsCut
+  pub stays : ReadingsStay
+  pub authorities : AuthoritiesAreHostsAndPorts

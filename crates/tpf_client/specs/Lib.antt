@@ -19,3 +19,6 @@ pub mod Requested
 pub mod Failing
 pub mod WireActs
 pub mod Acts
+pub mod Choices
+pub mod Still
+pub mod Ended

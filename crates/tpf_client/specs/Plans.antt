@@ -1,16 +1,18 @@
 -- What a call sends, how many requests it makes and why it ends with a fault, over wires whose other ends answer as a server does.
-use Rattle.std.specs.Prelude.{ℕ, ◌≡◌, ◌≢◌, ◌≤◌, ◌<◌, ◌+◌, ◌-◌, ◌^◌, ◌++◌, true, false, List, length, map, Option, Some}
+use Rattle.std.specs.Prelude.{ℕ, ◌≡◌, ◌≢◌, ◌≤◌, ◌<◌, ◌+◌, ◌-◌, ◌^◌, ◌++◌, ◌⊎◌, true, false, List, length, Option, Some}
 use Rattle.std.specs.List.{AllByRecursion, Contains}
 use Rattle.std.specs.List.Sorted.{IsPermutation}
 use Rattle.rdf_terms.specs.declared.term.Triple.{Triple}
-use Rattle.tpf_base.specs.Addresses.{Address}
+use Rattle.rdf_terms.specs.Selections.{Selection, selected_last}
+use Rattle.tpf_base.specs.Addresses.{Address, target_of}
 use Rattle.tpf_base.specs.Causes.{Rose, RoseBy}
 use Rattle.tpf_base.specs.HttpHeads.{head_limit}
 use Rattle.tpf_base.specs.Links.{WireState}
 use Rattle.tpf_base.specs.Marks.{Served}
 use Rattle.template_fill.specs.HttpAnswer.{Answer}
 use Rattle.template_fill.specs.Metadata.{Config}
-use Rattle.template_fill.specs.Answers.{answer_to}
+use Rattle.template_fill.specs.Answers.{answer_to, AsksFor}
+use Rattle.template_fill.specs.Bodies.{version_of}
 use Rattle.http_wire.specs.declared.message.ReplyFault.{ReplyFault}
 use Rattle.http_wire.specs.declared.message.ReplyFault.TheVariants as refusals
 use Rattle.http_ends.specs.Requests.{asks, request_for}
@@ -26,7 +28,6 @@ use Rattle.tpf_client.specs.declared.options.Report.{Report}
 use Rattle.tpf_client.specs.declared.fault.ClientFault.{ClientFault}
 use Rattle.tpf_client.specs.declared.fault.ClientFault.TheVariants as faults
 use Rattle.tpf_client.specs.Traffic.{Event}
-use Rattle.tpf_client.specs.Turns.{AsksAt, asked_in, address_of}
 use Rattle.tpf_client.specs.Calls.{RunsPool}
 use Rattle.tpf_client.specs.Offers.{Publisher, Offer, IsVersionOf}
 use Rattle.tpf_client.specs.Honest.{IsHonestWire}
@@ -37,14 +38,6 @@ use Rattle.tpf_client.specs.Requests.{DialsAtMost, GivesAtMost}
 -- on each link that was given in the call, where the wire tells, whole requests for these addresses were sent, and then nothing or a front of the request for one of them
 abbrev pub SendsOnly : List Address → WireState → WireState → Type 0
 SendsOnly addresses since now = (k : ℕ) → since.given ≤ k → k < now.given → SendsFor (Contains addresses) (now.links k)
-
--- The events of a call, in which each ask was for the authority of a start; and only for what was asked were requests sent.
-pub record SendsAsked (allows : List ℕ → ℕ → List ℕ → List ℕ → Type 0) (options : Options) (starts : List Address) (since now : WireState) : Type 0 where
-  pub events : List Event
-  pub pool : Pooled
-  pub runs : RunsPool allows options since now events pool
-  pub asks : AsksAt starts events
-  pub sent : SendsOnly (map address_of (asked_in events)) since now
 
 -- Only for these addresses requests were sent, and each was asked for at most as often as one of the choices has it to ask for.
 pub record AsksPlan (offer : Offer) (since now : WireState) : Type 0 where
@@ -102,6 +95,33 @@ pub record IsFit (most : ℕ) (p : Publisher) (address : Address) : Type 0 where
   pub is_read : IsReadByAll p address
   pub is_small : IsSmallByAll most p address
 
+-- ---- what the version of a choice answers
+
+-- of an address, by the version that a choice has of each server that stands there
+abbrev pub AtChosen : (offer : Offer) → offer.Choice → (Publisher → ℕ → Address → Type 0) → Address → Type 0
+AtChosen offer choice holds address =
+    (p : Publisher) (version : ℕ) → offer.StandsAt address p → offer.HasVersion choice address version → holds p version address
+
+-- the request for the address is within the limit of heads, and this version answers it with status 200
+pub record IsAnsweredAt (p : Publisher) (version : ℕ) (address : Address) : Type 0 where
+  pub short : IsShort address
+  pub answered : (answer_at p version address).status ≡ 200
+
+-- this version answers it so, with a body of at most so many bytes that is read as a page
+pub record IsFitAt (most : ℕ) (p : Publisher) (version : ℕ) (address : Address) : Type 0 where
+  pub is_answered : IsAnsweredAt p version address
+  pub page : Page
+  pub is_read : Takes (answer_at p version address).body address page
+  pub is_small : length (answer_at p version address).body ≤ most
+
+-- the address asks for a page of a fragment that one version has, and that is past the last one of another
+pub record HasFewerPages (p : Publisher) (address : Address) (version other : ℕ) : Type 0 where
+  pub selection : Selection
+  pub page : ℕ
+  pub asks : AsksFor p.config selection page (target_of address)
+  pub is_there : page ≤ selected_last (version_of p.history version) selection p.config.page_size
+  pub is_past : selected_last (version_of p.history other) selection p.config.page_size < page
+
 -- ---- how many requests there are
 
 -- The events of a call, by which so many requests were started.
@@ -144,13 +164,36 @@ pub record HasLongPage (offer : Offer) (limit : ℕ) (addresses : List Address) 
   pub stands : offer.StandsAt address server
   pub long : HasLongBody server.history server.config limit address received
 
--- Where all that one of the choices has to ask for is answered, the reply is too long.
+-- the reply is a front of an answer of the server for the address, over one of its versions, whose body is longer than the limit
+pub record IsLongAnswer (p : Publisher) (limit : ℕ) (address : Address) (fault : ReplyFault) (received : List ℕ) : Type 0 where
+  pub is_fault : fault ≡ refusals.TooLong
+  pub long : HasLongBody p.history p.config limit address received
+
+-- the reply has status 404, since another version than the one that the choice has there has fewer pages
+pub record IsPageGone (offer : Offer) (choice : offer.Choice) (p : Publisher) (address : Address) (fault : ReplyFault) : Type 0 where
+  pub is_fault : fault ≡ refusals.Status 404
+  pub version : ℕ
+  pub has : offer.HasVersion choice address version
+  pub other : ℕ
+  pub is_other : IsVersionOf p.history other
+  pub fewer : HasFewerPages p address version other
+
+-- of an address that the choice has to ask for the reply is so, by a server that stands there
+pub record RefusesFor (offer : Offer) (options : Options) (choice : offer.Choice) (fault : ReplyFault) (received : List ℕ) : Type 0 where
+  pub address : Address
+  pub is_asked : Contains (offer.addresses choice) address
+  pub server : Publisher
+  pub stands : offer.StandsAt address server
+  pub why : IsLongAnswer server options.max_body address fault received ⊎ IsPageGone offer choice server address fault
+
+-- Where all that one of the choices has to ask for is answered by the versions that it has, the reply is too long, or a page of another version is gone; where all versions answer it, it is too long.
 pub record RefusesLong (offer : Offer) (options : Options) (fault : ReplyFault) (received : List ℕ) : Type 0 where
   pub choice : offer.Choice
   pub is_choice : offer.IsChoice choice
   pub too_long : AllByRecursion (AtEach offer IsAnswered) (offer.addresses choice) → fault ≡ refusals.TooLong
   pub long : AllByRecursion (AtEach offer IsAnswered) (offer.addresses choice)
       → HasLongPage offer options.max_body (offer.addresses choice) received
+  pub why : AllByRecursion (AtChosen offer choice IsAnsweredAt) (offer.addresses choice) → RefusesFor offer options choice fault received
 
 -- Not all that one of the choices has to ask for is read as pages.
 pub record MissesPage (offer : Offer) : Type 0 where
@@ -178,7 +221,7 @@ pub record ChangesVersion (offer : Offer) (first other : Option ℕ) : Type 0 wh
   pub versions : TellsVersions server.history first other
   pub is_chosen : offer.HasVersion choice address versions.one
 
--- A reply is refused only as too long, where the addresses are answered; a body is no page only where one is not read so; and versions differ only where there are two.
+-- A reply is refused only as too long, or for a page that another version has not, where the addresses are answered; a body is no page only where one is not read so; and versions differ only where there are two.
 abbrev pub IsHonestCause : Offer → Options → ClientFault → Type 0
 IsHonestCause offer options faults.Exchange = Unit {0}
 IsHonestCause offer options faults.Stalled = Unit {0}
@@ -216,6 +259,11 @@ IsLivelyCause offer options since now faults.OutOfMemory = Unit {0}
 pub record PlanFits (offer : Offer) (options : Options) (more : ℕ) : Type 0 where
   pub fit : InPlans offer (IsFit options.max_body)
   pub within : (choice : offer.Choice) → offer.IsChoice choice → length (offer.addresses choice) + more ≤ options.budget
+
+-- It fits over one choice: all that this has to ask for is answered so by the versions that it has.
+pub record ChoiceFits (offer : Offer) (options : Options) (more : ℕ) (choice : offer.Choice) : Type 0 where
+  pub fit : AllByRecursion (AtChosen offer choice (IsFitAt options.max_body)) (offer.addresses choice)
+  pub within : length (offer.addresses choice) + more ≤ options.budget
 
 -- The wire's faults rose by so many, at most as often as a request may be asked again.
 pub record RisesFew (options : Options) (rise : ℕ) (since now : WireState) : Type 0 where

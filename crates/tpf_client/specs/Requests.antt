@@ -18,8 +18,7 @@ use Rattle.request_pool.specs.Pools.{Pooled}
 use Rattle.tpf_client.specs.declared.options.Options.{Options}
 use Rattle.tpf_client.specs.declared.options.Report.{Report}
 use Rattle.tpf_client.specs.Traffic.{Event}
-use Rattle.tpf_client.specs.Turns.{AsksAt, asked_in, answered_in}
-use Rattle.tpf_client.specs.Calls.{RunsPool}
+use Rattle.tpf_client.specs.Turns.{asked_in, answered_in}
 use Rattle.tpf_client.specs.Offers.{Offer}
 
 -- ---- links
@@ -45,12 +44,8 @@ pub record MovesOn (since now : WireState) : Type 0 where
 
 -- ---- answers
 
--- The events of a call in which each ask was for the authority of a start, and was answered; so many requests were started.
-pub record AnswersAll (allows : List ℕ → ℕ → List ℕ → List ℕ → Type 0) (options : Options) (starts : List Address) (requests : ℕ) (since now : WireState) : Type 0 where
-  pub events : List Event
-  pub pool : Pooled
-  pub runs : RunsPool allows options since now events pool
-  pub asks : AsksAt starts events
+-- In these events each ask was answered; so many requests were started.
+pub record AnswersAll (options : Options) (requests : ℕ) (events : List Event) (pool : Pooled) : Type 0 where
   pub answered : IsPermutation (asked_in events) (answered_in events)
   pub started : pool.started ≡ requests
   pub few : requests ≤ (options.retries + 1) * length (asked_in events)

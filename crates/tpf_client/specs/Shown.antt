@@ -4,6 +4,7 @@ use Rattle.std.specs.Io.KnownBytes.{Appends}
 use Rattle.tpf_base.specs.Addresses.{Address}
 use Rattle.tpf_base.specs.Causes.{Rose}
 use Rattle.tpf_base.specs.Links.{WireState}
+use Rattle.tpf_base.specs.Wrote.{SinkState}
 use Rattle.template_fill.specs.declared.form.Form.{Form}
 use Rattle.bgp_core.specs.Queries.{QueryData}
 use Rattle.bgp_core.specs.Solutions.{Places}
@@ -25,7 +26,12 @@ ShowsGiven ran sources q starts budget fault before now taken taken' (Before e) 
 ShowsGiven ran sources q starts budget fault before now taken taken' (Behind e) = ShowsRows fault before now q e.rows taken taken'
 ShowsGiven ran sources q starts budget fault before now taken taken' (AtEnd e) = IsLocal fault
 
+-- A call that ended with a fault wrote a front of the text, and shows all rows that it gave.
+pub record WritesShown (ran : List Event → Pooled → Type 0) (sources : Sources) (q : QueryData) (starts : List Address) (budget : ℕ) (fault : ClientFault) (out out' : SinkState) : Type 0 where
+  pub some : WritesSome ran sources q starts budget fault out.taken out'.taken
+  pub shown : ShowsGiven ran sources q starts budget fault out.faults out'.faults out.taken out'.taken some
+
 -- the same behind the start pages
-abbrev pub ShowsRest : (allows : List ℕ → ℕ → List ℕ → List ℕ → Type 0) (sources : Sources) (q : QueryData) (starts : List Address) (forms : List Form) (versions : Versions) (budget : ℕ) (fault : ClientFault) (old new : Pooled) (wire wire' : WireState) (before now : ℕ) (taken taken' : Option (List ℕ)) → WritesLess allows sources q starts forms versions budget fault old new wire wire' taken taken' → Type 0
-ShowsRest allows sources q starts forms versions budget fault old new wire wire' before now taken taken' (PartOf events rows j text) = ShowsRows fault before now q rows taken taken'
-ShowsRest allows sources q starts forms versions budget fault old new wire wire' before now taken taken' (WholeOf events rows j e text) = IsLocal fault
+abbrev pub ShowsRest : (allows : List ℕ → ℕ → List ℕ → List ℕ → Type 0) (most : ℕ) (sources : Sources) (q : QueryData) (starts : List Address) (forms : List Form) (versions : Versions) (budget : ℕ) (fault : ClientFault) (old new : Pooled) (wire wire' : WireState) (before now : ℕ) (taken taken' : Option (List ℕ)) → WritesLess allows most sources q starts forms versions budget fault old new wire wire' taken taken' → Type 0
+ShowsRest allows most sources q starts forms versions budget fault old new wire wire' before now taken taken' (PartOf events rows j text) = ShowsRows fault before now q rows taken taken'
+ShowsRest allows most sources q starts forms versions budget fault old new wire wire' before now taken taken' (WholeOf events rows j e text) = IsLocal fault

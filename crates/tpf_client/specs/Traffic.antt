@@ -7,12 +7,10 @@ use Rattle.tpf_base.specs.Links.{WireState, IsToldBy, ReceivesOwed, OwesAllowed,
 use Rattle.http_wire.specs.declared.message.Reply.{Reply}
 use Rattle.request_pool.specs.declared.fault.PoolFault.{PoolFault}
 use Rattle.request_pool.specs.declared.fault.Stepped.TheVariants as stepped
+use Rattle.request_pool.specs.Faults.{kept_of}
 use Rattle.request_pool.specs.Pools.{Pooled, Ask, held, bounds_of}
 use Rattle.request_pool.specs.Owned.{SuitsWire}
 use Rattle.request_pool.specs.Steps.{StepsTo}
-use Rattle.pool_laws.specs.Answers.{RepliesAreAnswers, RefusalsAreTooLong}
-use Rattle.pool_laws.specs.Rising.{StepsRoseBySome}
-use Rattle.pool_laws.specs.Provoking.{NoneHangBySome}
 
 -- an ask was put; the whole reply to one came; nothing came in a step; or a step ended with a fault
 pub data Event : Type 0 where
@@ -33,7 +31,7 @@ pub record Puts (ask : Ask) (old new : Pooled) : Type 0 where
 
 -- the reply to an ask came, which is held no longer
 pub record Comes (ask : Ask) (reply : Reply) (old new : Pooled) (wire wire' : WireState) : Type 0 where
-  pub steps : StepsTo (Ok (stepped.Came ask.ticket reply)) old new wire wire'
+  pub steps : StepsTo (Ok (stepped.Came ask.ticket ask.address reply)) old new wire wire'
   pub others : IsPermutation (held old) (ask ∷ held new)
   pub had_none : old.fault ≡ None
   pub no_fault : new.fault ≡ None
@@ -46,12 +44,12 @@ pub record Waits (old new : Pooled) (wire wire' : WireState) : Type 0 where
   pub had_none : old.fault ≡ None
   pub no_fault : new.fault ≡ None
 
--- a step with asks ended with a fault, which the pool keeps
+-- a step with asks ended with a fault, which the pool keeps without its bytes
 pub record Breaks (fault : PoolFault) (old new : Pooled) (wire wire' : WireState) : Type 0 where
   pub some : held old ≢ []
   pub steps : StepsTo (Err fault) old (without_fault new) wire wire'
   pub had_none : old.fault ≡ None
-  pub kept : new.fault ≡ Some fault
+  pub kept : new.fault ≡ Some (kept_of fault)
 
 abbrev pub Happens : Event → Pooled → Pooled → WireState → WireState → Type 0
 Happens (Asked ask) old new wire wire' = Puts ask old new × (wire' ≡ wire)
@@ -67,17 +65,13 @@ is_under ticket ask = if ask.ticket == ticket then 1 else 0
 pub record AreDistinct (asks : List Ask) : Type 0 where
   pub once : (ticket : ℕ) → sum_by (is_under ticket) asks ≤ 1
 
--- What every wire keeps to at each moment; `allows` is what its other ends may owe. Over honest other ends a reply that comes just before is their answer, one that is refused is too long, each failure is a rise of the wire's faults, and no exchange hangs.
+-- What every wire keeps to at each moment; `allows` is what its other ends may owe: of each link as much is told as the wire tells, none is open that was not given, what was received is a front of what is owed, and that is what may be owed; and on a lively wire never 1000 waits follow one another.
 pub record IsLawful (allows : List ℕ → ℕ → List ℕ → List ℕ → Type 0) (wire : WireState) : Type 0 where
   pub told : (k : ℕ) → IsToldBy wire.nature.tells (wire.links k)
   pub given : OpensGiven wire
   pub received : (k : ℕ) → ReceivesOwed (wire.links k)
   pub owed : (k : ℕ) → OwesAllowed allows (wire.links k)
   pub lively : IsLively wire
-  pub replies : RepliesAreAnswers allows wire
-  pub refused : RefusalsAreTooLong allows wire
-  pub rises : StepsRoseBySome allows wire
-  pub hang : NoneHangBySome allows wire
 
 -- An event, and what holds after it: the pool suits the wire, its tickets differ, unless it ended, and its bounds are as before.
 pub record Moves (allows : List ℕ → ℕ → List ℕ → List ℕ → Type 0) (event : Event) (old new : Pooled) (wire wire' : WireState) : Type 0 where

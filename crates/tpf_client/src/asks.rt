@@ -1,21 +1,17 @@
 // What is asked for.
-ghost use Rattle.std.specs.Prelude.{ℕ, ◌≡◌, ◌≢◌, ◌<◌, ◌≤◌, ◌^◌, Some, None, OnOk, OnErr};
-ghost use Rattle.std.specs.BTreeMap.{get};
-ghost use Rattle.std.specs.Ordering.{nat_cmp};
+ghost use Rattle.std.specs.Prelude.{◌≡◌, ◌≢◌, ◌<◌, ◌≤◌, ◌^◌, None, OnOk, OnErr};
 ghost use Rattle.std.specs.List.{AllByRecursion};
 ghost use Rattle.tpf_base.specs.Links.{SameAllowed};
 ghost use Rattle.request_pool.specs.Pools.{empty_pool, held};
 ghost use Rattle.request_pool.specs.Owned.{SuitsWire, held_on};
 ghost use Rattle.request_pool.specs.Closing.{ClosesSome};
 ghost use Rattle.tpf_client.specs.Traffic.{IsLawful};
-ghost use Rattle.tpf_client.specs.Asking.{Notes, PutsOne, StepsOn};
+ghost use Rattle.tpf_client.specs.Asking.{PutsOne, StepsOn, next_of};
 
 use crate::Options;
 use http_wire::Reply;
-use pool_laws::{a_reply_is_an_answer, failures_are_rises, steps_provoke_nothing};
 use request_pool::{Pool, PoolFault, Stepped};
 use std::alloc::Global;
-use std::collections::BTreeMap;
 use std::marker::Model;
 use template_fill::WebAddress;
 use tpf_base::{Dial, OutOfMemory, Wire};
@@ -39,56 +35,49 @@ pub(crate) enum Next {
     Idle,
 }
 
-/// The asks of a call: a pool of exchanges, and the address of each ask that it holds, so that a
-/// reply comes with the address that was asked for. Contracts see the pool.
+/// The asks of a call: a pool of exchanges, of which no two asks have one ticket. Contracts see the
+/// pool.
 #[derive(Drop)]
 pub(crate) struct Asks {
-    alloc: Global,
     pool: Pool,
-    addresses: BTreeMap<u64, WebAddress>,
 }
 
 impl Model for Asks {
     ghost use Rattle.request_pool.specs.Pools.{Pooled};
-    ghost use Rattle.tpf_client.specs.Asking.{IsBookOf};
+    ghost use Rattle.tpf_client.specs.Asking.{TicketsDiffer};
 
     ghost Value = { Pooled };
 
     ghost view = { λ a. a.pool };
 
-    ghost invariant = { λ a. IsBookOf a.addresses a.pool };
+    ghost invariant = { λ a. TicketsDiffer a.pool };
 }
 
 /// What every wire keeps to. It does nothing.
 pub fn is_lawful<W: Wire>(wire: &W)
     ensures { IsLawful (W.allows wire.now) (W.state wire.now) }
-{
-    a_reply_is_an_answer(wire);
-    failures_are_rises(wire);
-    steps_provoke_nothing(wire);
-}
+{}
 
-/// Notes the address of a ticket. Out of memory, all are as they were.
-fn note(
-    addresses: &mut BTreeMap<u64, WebAddress>,
-    ticket: u64,
-    address: WebAddress,
-) -> Result<(), OutOfMemory>
-    ensures ok { OnOk result (Notes ticket (Some address) addresses.old addresses.new) }
-    ensures err { OnErr result ((t : ℕ) → get nat_cmp addresses.new t ≡ get nat_cmp addresses.old t) }
+/// What a step of the pool comes to.
+fn next_of(stepped: Result<Stepped, PoolFault>) -> Result<Next, PoolFault>
+    ensures { result ≡ next_of stepped }
 {
-    match addresses.insert(ticket, address) {
-        Ok(_) => Ok(()),
-        Err(_) => Err(OutOfMemory),
+    match stepped {
+        Ok(
+            Stepped::Came {
+                ticket,
+                address,
+                reply,
+            },
+        ) => Ok(Next::Came(Arrived {
+            ticket,
+            address,
+            reply,
+        })),
+        Ok(Stepped::Waited) => Ok(Next::Waited),
+        Ok(Stepped::Idle) => Ok(Next::Idle),
+        Err(fault) => Err(fault),
     }
-}
-
-/// Takes the address of a ticket out, where it was noted.
-fn forget(addresses: &mut BTreeMap<u64, WebAddress>, ticket: u64) -> Option<WebAddress>
-    ensures found { result ≡ get nat_cmp addresses.old ticket }
-    ensures others { Notes ticket None addresses.old addresses.new }
-{
-    addresses.remove(&ticket)
 }
 
 impl Asks {
@@ -96,11 +85,11 @@ impl Asks {
     pub(crate) fn new(alloc: Global, options: &Options) -> Asks
         requires some { 0 < options.now.links }
         requires few { options.now.links ≤ 256 }
-        ensures empty { result ≡ empty_pool options.now.links options.now.retries options.now.budget options.now.max_body }
+        ensures empty { result ≡ empty_pool options.now.links options.now.retries options.now.budget
+            options.now.max_body }
         ensures limit { options.now.max_body < 2 ^ 64 }
     {
         Asks {
-            alloc,
             pool: Pool::new(
                 alloc,
                 options.links,
@@ -108,7 +97,6 @@ impl Asks {
                 options.budget,
                 options.max_body,
             ),
-            addresses: BTreeMap::new(alloc),
         }
     }
 
@@ -126,9 +114,7 @@ impl Asks {
         ensures err { OnErr result (self.new ≡ self.old) }
     {
         address.is_valid();
-        let copy = address.copy(self.alloc)?;
-        note(&mut self.addresses, ticket, address)?;
-        self.pool.put(ticket, copy)
+        self.pool.put(ticket, address)
     }
 
     /// Starts and polls what is asked for, and waits where nothing moved.
@@ -140,21 +126,7 @@ impl Asks {
     {
         let stepped = self.pool.step(wire);
         is_lawful(wire);
-        match stepped {
-            Err(fault) => Err(fault),
-            Ok(stepped) => match stepped {
-                Stepped::Came { ticket, reply } => match forget(&mut self.addresses, ticket) {
-                    Some(address) => Ok(Next::Came(Arrived {
-                        ticket,
-                        address,
-                        reply,
-                    })),
-                    None => unreachable!(),
-                },
-                Stepped::Waited => Ok(Next::Waited),
-                Stepped::Idle => Ok(Next::Idle),
-            },
-        }
+        next_of(stepped)
     }
 
     /// Closes all links that are held. Nothing is asked for afterwards.

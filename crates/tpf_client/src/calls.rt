@@ -11,19 +11,19 @@ ghost use Rattle.request_pool.specs.Pools.{held};
 ghost use Rattle.request_pool.specs.Owned.{SuitsWire};
 ghost use Rattle.join_core.specs.Rounds.{FormsAtHome};
 ghost use Rattle.tpf_client.specs.Traffic.{Event};
-ghost use Rattle.tpf_client.specs.Calls.{Joins, JoinsSome, GathersRest, WritesRest, WritesLess, WritesAll, WritesSome, Returns, Ran, RanFew, most_over, most_asked, RunsPool, WritesResult, WritesPrefix};
+ghost use Rattle.tpf_client.specs.Calls.{Joins, JoinsSome, GathersRest, WritesRest, WritesLess, WritesAll, WritesSome, Returns, Ran, most_over, most_asked, WritesResult, WritesPrefix};
 ghost use Rattle.tpf_client.specs.Causes.{IsLocal};
 ghost use Rattle.tpf_client.specs.Sinks.{LeavesSink};
-ghost use Rattle.tpf_client.specs.Shown.{ShowsGiven, ShowsRest};
+ghost use Rattle.tpf_client.specs.Shown.{WritesShown, ShowsRest};
 ghost use Rattle.tpf_client.specs.Told.{told_at, told_by};
 ghost use Rattle.tpf_client.specs.Sources.{sources_of, world_sources};
-ghost use Rattle.tpf_client.specs.WireActs.{ActsAt};
 ghost use Rattle.tpf_client.specs.Offers.{publisher, offer_in_blocks};
 ghost use Rattle.tpf_client.specs.Ends.{ends_in_blocks};
 ghost use Rattle.tpf_client.specs.Honest.{Laws, IsSolutions, WritesSolutions, WritesSolutionsFront};
 ghost use Rattle.tpf_client.specs.Requests.{TrafficLaws};
 ghost use Rattle.tpf_client.specs.Plans.{OverHonest, RisesFew, PlanFits, MayStill};
-ghost use Rattle.tpf_client.specs.Acts.{ActsOnWire};
+ghost use Rattle.tpf_client.specs.Still.{SucceedsStill};
+ghost use Rattle.tpf_client.specs.Ended.{WritesEnded, GivesEnded, WritesOverEnds, GivesOverEnds};
 
 use crate::asks::{Asks, is_lawful};
 use crate::fault::of_sink;
@@ -34,6 +34,7 @@ use crate::{ClientFault, Options, Report};
 use bgp_core::{Query, Row};
 use control_laws::controls_read_back;
 use control_reader::a_body_is_one_page;
+use http_ends::{a_reading_stays, a_response_is_cut, an_answer_is_read, requests_are_cut};
 use join_core::{BlockSize, Evaluates, FormList, Join};
 use plan_laws::a_server_is_a_world;
 use pool_laws::{
@@ -47,7 +48,9 @@ use std::alloc::Global;
 use std::marker::PhantomData;
 use std::slice;
 use std::sync::Wait;
-use template_fill::{WebAddress, pages_are_answered, pages_share_authority};
+use template_fill::{
+    WebAddress, authorities_are_hosts_and_ports, pages_are_answered, pages_share_authority,
+};
 use tpf_base::{Dial, Fault, Sink};
 
 /// Joins the pages of a query whose start pages told forms.
@@ -70,12 +73,19 @@ fn join_pages<R: Wait, E: Evaluates + Drop, W: Dial, B, T: TakesRows<B>>(
     requires none { held asks.old ≡ [] }
     requires no_fault { asks.old.fault ≡ None }
     requires suits { SuitsWire asks.old (W.state wire.old) }
-    ensures joins { OnOk result ((events : List Event) × (given : List Places) × Joins (W.allows wire.old) (sources_of E.Source E.fits E.is_true E.rows E.plan E.reported options.now.block) query.now bounds.entry.starts.now forms (told_by bounds.entry) events given asks.old asks.new (W.state wire.old) (W.state wire.new)
+    ensures joins { OnOk result ((events : List Event) × (given : List Places)
+        × Joins (W.allows wire.old) (length query.now.patterns * (options.now.window * length forms))
+        (sources_of E.Source E.fits E.is_true E.rows E.plan E.reported options.now.block) query.now
+        bounds.entry.starts.now forms (told_by bounds.entry) events given asks.old asks.new (W.state wire.old)
+        (W.state wire.new)
         × T.takes given rows.old rows.new behind.old behind.new) }
-    ensures some { IfErr result (λ fault. (events : List Event) × (given : List Places) × JoinsSome (W.allows wire.old) (sources_of E.Source E.fits E.is_true E.rows E.plan E.reported options.now.block) query.now bounds.entry.starts.now forms (told_by bounds.entry) bounds.entry.budget fault events given asks.old asks.new (W.state wire.old) (W.state wire.new)
-        × T.takes_front given rows.old rows.new behind.old behind.new × (IsLocal fault ⊎ T.takes given rows.old rows.new behind.old behind.new)) }
-    ensures few { RanFew (W.allows wire.old) (length query.now.patterns * (options.now.window * length forms)) asks.old asks.new
-        (W.state wire.old) (W.state wire.new) }
+    ensures some { IfErr result (λ fault. (events : List Event) × (given : List Places)
+        × JoinsSome (W.allows wire.old) (length query.now.patterns * (options.now.window * length forms))
+        (sources_of E.Source E.fits E.is_true E.rows E.plan E.reported options.now.block) query.now
+        bounds.entry.starts.now forms (told_by bounds.entry) bounds.entry.budget fault events given asks.old asks.new
+        (W.state wire.old) (W.state wire.new)
+        × T.takes_front given rows.old rows.new behind.old behind.new
+        × (IsLocal fault ⊎ T.takes given rows.old rows.new behind.old behind.new)) }
     ensures sink { LeavesSink (T.sink behind.old) (T.sink behind.new) result }
     ensures allowed { SameAllowed (W.allows wire.old) (W.allows wire.new) }
 {
@@ -111,13 +121,28 @@ fn write_joined<'a, 'b, R: Wait, E: Evaluates + Drop, W: Dial, K: Sink>(
     requires no_fault { asks.old.fault ≡ None }
     requires suits { SuitsWire asks.old (W.state wire.old) }
     requires fresh { text.old ≡ begun query.now }
-    ensures ok { OnOk result ((events : List Event) × (rows : List Places) × Joins (W.allows wire.old) (sources_of E.Source E.fits E.is_true E.rows E.plan E.reported options.now.block) query.now bounds.entry.starts.now forms (told_by bounds.entry) events rows asks.old asks.new (W.state wire.old) (W.state wire.new)
-        × Appends (K.state out.old).taken (K.state out.new).taken (result_text query.now rows) × (text.new.count ≡ counted_by (length rows) 0)) }
-    ensures err { IfErr result (λ fault. WritesLess (W.allows wire.old) (sources_of E.Source E.fits E.is_true E.rows E.plan E.reported options.now.block) query.now bounds.entry.starts.now forms (told_by bounds.entry) bounds.entry.budget fault asks.old asks.new (W.state wire.old) (W.state wire.new) (K.state out.old).taken (K.state out.new).taken) }
-    ensures shown { IfErr result (λ fault. (less : WritesLess (W.allows wire.old) (sources_of E.Source E.fits E.is_true E.rows E.plan E.reported options.now.block) query.now bounds.entry.starts.now forms (told_by bounds.entry) bounds.entry.budget fault asks.old asks.new (W.state wire.old) (W.state wire.new) (K.state out.old).taken (K.state out.new).taken)
-        × ShowsRest (W.allows wire.old) (sources_of E.Source E.fits E.is_true E.rows E.plan E.reported options.now.block) query.now bounds.entry.starts.now forms (told_by bounds.entry) bounds.entry.budget fault asks.old asks.new (W.state wire.old) (W.state wire.new) (K.state out.old).faults (K.state out.new).faults (K.state out.old).taken (K.state out.new).taken less) }
-    ensures few { RanFew (W.allows wire.old) (length query.now.patterns * (options.now.window * length forms)) asks.old asks.new
-        (W.state wire.old) (W.state wire.new) }
+    ensures ok { OnOk result ((events : List Event) × (rows : List Places)
+        × Joins (W.allows wire.old) (length query.now.patterns * (options.now.window * length forms))
+        (sources_of E.Source E.fits E.is_true E.rows E.plan E.reported options.now.block) query.now
+        bounds.entry.starts.now forms (told_by bounds.entry) events rows asks.old asks.new (W.state wire.old)
+        (W.state wire.new)
+        × Appends (K.state out.old).taken (K.state out.new).taken (result_text query.now rows)
+        × (text.new.count ≡ counted_by (length rows) 0)) }
+    ensures err { IfErr result (λ fault. WritesLess (W.allows wire.old)
+        (length query.now.patterns * (options.now.window * length forms))
+        (sources_of E.Source E.fits E.is_true E.rows E.plan E.reported options.now.block) query.now
+        bounds.entry.starts.now forms (told_by bounds.entry) bounds.entry.budget fault asks.old asks.new
+        (W.state wire.old) (W.state wire.new) (K.state out.old).taken (K.state out.new).taken) }
+    ensures shown { IfErr result (λ fault. (less : WritesLess (W.allows wire.old)
+        (length query.now.patterns * (options.now.window * length forms))
+        (sources_of E.Source E.fits E.is_true E.rows E.plan E.reported options.now.block) query.now
+        bounds.entry.starts.now forms (told_by bounds.entry) bounds.entry.budget fault asks.old asks.new
+        (W.state wire.old) (W.state wire.new) (K.state out.old).taken (K.state out.new).taken)
+        × ShowsRest (W.allows wire.old) (length query.now.patterns * (options.now.window * length forms))
+        (sources_of E.Source E.fits E.is_true E.rows E.plan E.reported options.now.block) query.now
+        bounds.entry.starts.now forms (told_by bounds.entry) bounds.entry.budget fault asks.old asks.new
+        (W.state wire.old) (W.state wire.new) (K.state out.old).faults (K.state out.new).faults
+        (K.state out.old).taken (K.state out.new).taken less) }
     ensures sink { LeavesSink (K.state out.old) (K.state out.new) result }
     ensures allowed { SameAllowed (W.allows wire.old) (W.allows wire.new) }
 {
@@ -157,12 +182,26 @@ fn write_rows<R: Wait, E: Evaluates + Drop, W: Dial, K: Sink>(
     requires none { held asks.old ≡ [] }
     requires no_fault { asks.old.fault ≡ None }
     requires suits { SuitsWire asks.old (W.state wire.old) }
-    ensures ok { IfOk result (λ report. WritesRest (W.allows wire.old) (sources_of E.Source E.fits E.is_true E.rows E.plan E.reported options.now.block) query.now starts.now pages.forms pages.versions.items report asks.old asks.new (W.state wire.old) (W.state wire.new) (K.state out.old).taken (K.state out.new).taken) }
-    ensures err { IfErr result (λ fault. WritesLess (W.allows wire.old) (sources_of E.Source E.fits E.is_true E.rows E.plan E.reported options.now.block) query.now starts.now pages.forms (told_at starts.now pages.versions.items) options.now.budget fault asks.old asks.new (W.state wire.old) (W.state wire.new) (K.state out.old).taken (K.state out.new).taken) }
-    ensures shown { IfErr result (λ fault. (less : WritesLess (W.allows wire.old) (sources_of E.Source E.fits E.is_true E.rows E.plan E.reported options.now.block) query.now starts.now pages.forms (told_at starts.now pages.versions.items) options.now.budget fault asks.old asks.new (W.state wire.old) (W.state wire.new) (K.state out.old).taken (K.state out.new).taken)
-        × ShowsRest (W.allows wire.old) (sources_of E.Source E.fits E.is_true E.rows E.plan E.reported options.now.block) query.now starts.now pages.forms (told_at starts.now pages.versions.items) options.now.budget fault asks.old asks.new (W.state wire.old) (W.state wire.new) (K.state out.old).faults (K.state out.new).faults (K.state out.old).taken (K.state out.new).taken less) }
-    ensures few { RanFew (W.allows wire.old) (length query.now.patterns * (options.now.window * length pages.forms)) asks.old asks.new
-        (W.state wire.old) (W.state wire.new) }
+    ensures ok { IfOk result (λ report. WritesRest (W.allows wire.old)
+        (length query.now.patterns * (options.now.window * length pages.forms))
+        (sources_of E.Source E.fits E.is_true E.rows E.plan E.reported options.now.block) query.now starts.now
+        pages.forms pages.versions.items report asks.old asks.new (W.state wire.old) (W.state wire.new)
+        (K.state out.old).taken (K.state out.new).taken) }
+    ensures err { IfErr result (λ fault. WritesLess (W.allows wire.old)
+        (length query.now.patterns * (options.now.window * length pages.forms))
+        (sources_of E.Source E.fits E.is_true E.rows E.plan E.reported options.now.block) query.now starts.now
+        pages.forms (told_at starts.now pages.versions.items) options.now.budget fault asks.old asks.new
+        (W.state wire.old) (W.state wire.new) (K.state out.old).taken (K.state out.new).taken) }
+    ensures shown { IfErr result (λ fault. (less : WritesLess (W.allows wire.old)
+        (length query.now.patterns * (options.now.window * length pages.forms))
+        (sources_of E.Source E.fits E.is_true E.rows E.plan E.reported options.now.block) query.now starts.now
+        pages.forms (told_at starts.now pages.versions.items) options.now.budget fault asks.old asks.new
+        (W.state wire.old) (W.state wire.new) (K.state out.old).taken (K.state out.new).taken)
+        × ShowsRest (W.allows wire.old) (length query.now.patterns * (options.now.window * length pages.forms))
+        (sources_of E.Source E.fits E.is_true E.rows E.plan E.reported options.now.block) query.now starts.now
+        pages.forms (told_at starts.now pages.versions.items) options.now.budget fault asks.old asks.new
+        (W.state wire.old) (W.state wire.new) (K.state out.old).faults (K.state out.new).faults
+        (K.state out.old).taken (K.state out.new).taken less) }
     ensures sink { LeavesSink (K.state out.old) (K.state out.new) result }
     ensures allowed { SameAllowed (W.allows wire.old) (W.allows wire.new) }
 {
@@ -207,12 +246,14 @@ fn write_result<R: Wait, E: Evaluates + Drop, W: Dial, K: Sink>(
     requires none { held asks.old ≡ [] }
     requires no_fault { asks.old.fault ≡ None }
     requires suits { SuitsWire asks.old (W.state wire.old) }
-    ensures ok { IfOk result (λ report. WritesAll (Ran (W.allows wire.old) asks.old asks.new (W.state wire.old) (W.state wire.new)) (sources_of E.Source E.fits E.is_true E.rows E.plan E.reported options.now.block) query.now starts.now report (K.state out.old).taken (K.state out.new).taken) }
-    ensures err { IfErr result (λ fault. WritesSome (Ran (W.allows wire.old) asks.old asks.new (W.state wire.old) (W.state wire.new)) (sources_of E.Source E.fits E.is_true E.rows E.plan E.reported options.now.block) query.now starts.now options.now.budget fault (K.state out.old).taken (K.state out.new).taken) }
-    ensures shown { IfErr result (λ fault. (some : WritesSome (Ran (W.allows wire.old) asks.old asks.new (W.state wire.old) (W.state wire.new)) (sources_of E.Source E.fits E.is_true E.rows E.plan E.reported options.now.block) query.now starts.now options.now.budget fault (K.state out.old).taken (K.state out.new).taken)
-        × ShowsGiven (Ran (W.allows wire.old) asks.old asks.new (W.state wire.old) (W.state wire.new)) (sources_of E.Source E.fits E.is_true E.rows E.plan E.reported options.now.block) query.now starts.now options.now.budget fault (K.state out.old).faults (K.state out.new).faults (K.state out.old).taken (K.state out.new).taken some) }
-    ensures few { RanFew (W.allows wire.old) (most_over options.now query.now (length starts.now)) asks.old asks.new
-        (W.state wire.old) (W.state wire.new) }
+    ensures ok { IfOk result (λ report. WritesAll (Ran (W.allows wire.old)
+        (most_over options.now query.now (length starts.now)) asks.old asks.new (W.state wire.old) (W.state wire.new))
+        (sources_of E.Source E.fits E.is_true E.rows E.plan E.reported options.now.block) query.now starts.now report
+        (K.state out.old).taken (K.state out.new).taken) }
+    ensures err { IfErr result (λ fault. WritesShown (Ran (W.allows wire.old)
+        (most_over options.now query.now (length starts.now)) asks.old asks.new (W.state wire.old) (W.state wire.new))
+        (sources_of E.Source E.fits E.is_true E.rows E.plan E.reported options.now.block) query.now starts.now
+        options.now.budget fault (K.state out.old) (K.state out.new)) }
     ensures suits { SuitsWire asks.new (W.state wire.new) }
     ensures sink { LeavesSink (K.state out.old) (K.state out.new) result }
     ensures allowed { SameAllowed (W.allows wire.old) (W.allows wire.new) }
@@ -238,6 +279,11 @@ pub fn solutions_rest_on_laws()
     pages_share_authority();
     pieces_make_the_text();
     rows_go_on();
+    requests_are_cut();
+    an_answer_is_read();
+    a_reading_stays();
+    a_response_is_cut();
+    authorities_are_hosts_and_ports();
 }
 
 /// The laws on which what is said of links and requests rests. It does nothing.
@@ -290,13 +336,13 @@ pub fn evaluate_to<R: Wait, E: Evaluates + Drop, W: Dial, K: Sink>(
     requires window { 1 ≤ options.now.window }
     requires some { 1 ≤ options.now.links }
     requires few { options.now.links ≤ 256 }
-    ensures whole { IfOk result (λ report. WritesResult query.now report.rows (K.state out.old).taken (K.state out.new).taken) }
+    ensures whole { IfOk result (λ report. WritesResult query.now report.rows (K.state out.old).taken
+        (K.state out.new).taken) }
     ensures front { OnErr result (WritesPrefix query.now (K.state out.old).taken (K.state out.new).taken) }
-    ensures ok { IfOk result (λ report. WritesAll (RunsPool (W.allows wire.old) options.now (W.state wire.old) (W.state wire.new)) (sources_of E.Source E.fits E.is_true E.rows E.plan E.reported options.now.block) query.now starts.now report (K.state out.old).taken (K.state out.new).taken) }
-    ensures err { IfErr result (λ fault. WritesSome (RunsPool (W.allows wire.old) options.now (W.state wire.old) (W.state wire.new)) (sources_of E.Source E.fits E.is_true E.rows E.plan E.reported options.now.block) query.now starts.now options.now.budget fault (K.state out.old).taken (K.state out.new).taken) }
-    ensures shown { IfErr result (λ fault. (some : WritesSome (RunsPool (W.allows wire.old) options.now (W.state wire.old) (W.state wire.new)) (sources_of E.Source E.fits E.is_true E.rows E.plan E.reported options.now.block) query.now starts.now options.now.budget fault (K.state out.old).taken (K.state out.new).taken)
-        × ShowsGiven (RunsPool (W.allows wire.old) options.now (W.state wire.old) (W.state wire.new)) (sources_of E.Source E.fits E.is_true E.rows E.plan E.reported options.now.block) query.now starts.now options.now.budget fault (K.state out.old).faults (K.state out.new).faults (K.state out.old).taken (K.state out.new).taken some) }
-    ensures acts { ActsAt (W.allows wire.old) options.now starts.now query.now result (λ report. report) (W.state wire.old) (W.state wire.new) }
+    ensures ended { WritesEnded (W.allows wire.old)
+        (sources_of E.Source E.fits E.is_true E.rows E.plan E.reported options.now.block)
+        query.now starts.now options.now result
+        (W.state wire.old) (W.state wire.new) (K.state out.old) (K.state out.new) }
     ensures sink { LeavesSink (K.state out.old) (K.state out.new) result }
     ensures allowed { SameAllowed (W.allows wire.old) (W.allows wire.new) }
 {
@@ -324,7 +370,9 @@ pub fn evaluate_to<R: Wait, E: Evaluates + Drop, W: Dial, K: Sink>(
 /// Over a wire whose other ends answer as a server does, requests are sent for the start and the plan
 /// of the query alone, and no more of them than these and the failures of the wire. Where each answer
 /// is a page within the options, and the wire fails at most as often as a request may be sent again,
-/// the answer is `Ok`, `OutOfMemory`, or `Changed` where the data did change.
+/// the answer is `Ok`, `OutOfMemory`, or `Changed` where the data did change. Where they did not change in
+/// the call, whatever was served before it, it is `Ok` or `OutOfMemory`. What is said of a call that fails
+/// is said of the version of the start page, and of each version where that was not read.
 ///
 /// `Exchange`, `Stalled` and `Cut` come where a request failed once more than it may be sent again,
 /// `Reply` where a reply is refused, `Page` where a body is no page, `Changed` where a page tells
@@ -342,17 +390,30 @@ pub fn query<R: Wait, W: Dial, K: Sink>(
     requires window { 1 ≤ options.now.window }
     requires some { 1 ≤ options.now.links }
     requires few { options.now.links ≤ 256 }
-    ensures whole { IfOk result (λ report. WritesResult query.now report.rows (K.state out.old).taken (K.state out.new).taken) }
+    ensures whole { IfOk result (λ report. WritesResult query.now report.rows (K.state out.old).taken
+        (K.state out.new).taken) }
     ensures front { OnErr result (WritesPrefix query.now (K.state out.old).taken (K.state out.new).taken) }
-    ensures ok { IfOk result (λ report. WritesAll (RunsPool (W.allows wire.old) options.now (W.state wire.old) (W.state wire.new)) (world_sources options.now.block) query.now (start.now ∷ []) report (K.state out.old).taken (K.state out.new).taken) }
-    ensures err { IfErr result (λ fault. WritesSome (RunsPool (W.allows wire.old) options.now (W.state wire.old) (W.state wire.new)) (world_sources options.now.block) query.now (start.now ∷ []) options.now.budget fault (K.state out.old).taken (K.state out.new).taken) }
-    ensures shown { IfErr result (λ fault. (some : WritesSome (RunsPool (W.allows wire.old) options.now (W.state wire.old) (W.state wire.new)) (world_sources options.now.block) query.now (start.now ∷ []) options.now.budget fault (K.state out.old).taken (K.state out.new).taken)
-        × ShowsGiven (RunsPool (W.allows wire.old) options.now (W.state wire.old) (W.state wire.new)) (world_sources options.now.block) query.now (start.now ∷ []) options.now.budget fault (K.state out.old).faults (K.state out.new).faults (K.state out.old).taken (K.state out.new).taken some) }
-    ensures headline { OverHonest (W.allows wire.old) (W.state wire.old) (λ history config. IfOk result (λ report. WritesSolutions (offer_in_blocks options.now.block (publisher history config) query.now start.now) query.now report.version report.rows (K.state out.old).taken (K.state out.new).taken)) }
-    ensures prefix { OverHonest (W.allows wire.old) (W.state wire.old) (λ history config. OnErr result (WritesSolutionsFront (offer_in_blocks options.now.block (publisher history config) query.now start.now) query.now (K.state out.old).taken (K.state out.new).taken)) }
-    ensures acts { ActsOnWire (W.allows wire.old) (ends_in_blocks options.now.block query.now start.now) options.now (start.now ∷ []) (most_asked options.now query.now) result (λ report. report) (W.state wire.old) (W.state wire.new) }
-    ensures complete { OverHonest (W.allows wire.old) (W.state wire.old) (λ history config. (W.state wire.old).nature.lively ≡ true → (rise : ℕ) → RisesFew options.now rise (W.state wire.old) (W.state wire.new)
-        → PlanFits (offer_in_blocks options.now.block (publisher history config) query.now start.now) options.now rise → (Rose (K.state out.old).faults (K.state out.new).faults → ⊥) → IfErr result (MayStill (offer_in_blocks options.now.block (publisher history config) query.now start.now))) }
+    ensures ended { WritesOverEnds (W.allows wire.old)
+        (ends_in_blocks options.now.block query.now start.now) (world_sources options.now.block)
+        query.now (start.now ∷ []) options.now (most_asked options.now query.now) result
+        (W.state wire.old) (W.state wire.new) (K.state out.old) (K.state out.new) }
+    ensures headline { OverHonest (W.allows wire.old) (W.state wire.old)
+        (λ history config. IfOk result (λ report. WritesSolutions
+        (offer_in_blocks options.now.block (publisher history config) query.now start.now) query.now report.version
+        report.rows (K.state out.old).taken (K.state out.new).taken)) }
+    ensures prefix { OverHonest (W.allows wire.old) (W.state wire.old)
+        (λ history config. OnErr result (WritesSolutionsFront
+        (offer_in_blocks options.now.block (publisher history config) query.now start.now) query.now
+        (K.state out.old).taken (K.state out.new).taken)) }
+    ensures complete { OverHonest (W.allows wire.old) (W.state wire.old)
+        (λ history config. (W.state wire.old).nature.lively ≡ true → (rise : ℕ)
+        → RisesFew options.now rise (W.state wire.old) (W.state wire.new)
+        → PlanFits (offer_in_blocks options.now.block (publisher history config) query.now start.now) options.now rise
+        → (Rose (K.state out.old).faults (K.state out.new).faults → ⊥)
+        → IfErr result (MayStill (offer_in_blocks options.now.block (publisher history config) query.now start.now))) }
+    ensures still { SucceedsStill (W.allows wire.old) options.now query.now start.now (W.state wire.old)
+        (W.state wire.new)
+        (Rose (K.state out.old).faults (K.state out.new).faults) result }
     ensures sink { LeavesSink (K.state out.old) (K.state out.new) result }
     ensures allowed { SameAllowed (W.allows wire.old) (W.allows wire.new) }
 {
@@ -392,10 +453,15 @@ fn gather_rows<R: Wait, E: Evaluates + Drop, W: Dial>(
     requires none { held asks.old ≡ [] }
     requires no_fault { asks.old.fault ≡ None }
     requires suits { SuitsWire asks.old (W.state wire.old) }
-    ensures ok { IfOk result (λ r. GathersRest (W.allows wire.old) (sources_of E.Source E.fits E.is_true E.rows E.plan E.reported options.now.block) query.now starts.now pages.forms pages.versions.items r.1 r.0.items asks.old asks.new (W.state wire.old) (W.state wire.new)) }
-    ensures err { IfErr result (λ fault. WritesLess (W.allows wire.old) (sources_of E.Source E.fits E.is_true E.rows E.plan E.reported options.now.block) query.now starts.now pages.forms (told_at starts.now pages.versions.items) options.now.budget fault asks.old asks.new (W.state wire.old) (W.state wire.new) None None) }
-    ensures few { RanFew (W.allows wire.old) (length query.now.patterns * (options.now.window * length pages.forms)) asks.old asks.new
-        (W.state wire.old) (W.state wire.new) }
+    ensures ok { IfOk result (λ r. GathersRest (W.allows wire.old)
+        (length query.now.patterns * (options.now.window * length pages.forms))
+        (sources_of E.Source E.fits E.is_true E.rows E.plan E.reported options.now.block) query.now starts.now
+        pages.forms pages.versions.items r.1 r.0.items asks.old asks.new (W.state wire.old) (W.state wire.new)) }
+    ensures err { IfErr result (λ fault. WritesLess (W.allows wire.old)
+        (length query.now.patterns * (options.now.window * length pages.forms))
+        (sources_of E.Source E.fits E.is_true E.rows E.plan E.reported options.now.block) query.now starts.now
+        pages.forms (told_at starts.now pages.versions.items) options.now.budget fault asks.old asks.new
+        (W.state wire.old) (W.state wire.new) None None) }
     ensures sink { IsErrOf result ClientFault.Sink → ⊥ }
     ensures allowed { SameAllowed (W.allows wire.old) (W.allows wire.new) }
 {
@@ -448,10 +514,14 @@ fn gather<R: Wait, E: Evaluates + Drop, W: Dial>(
     requires none { held asks.old ≡ [] }
     requires no_fault { asks.old.fault ≡ None }
     requires suits { SuitsWire asks.old (W.state wire.old) }
-    ensures ok { IfOk result (λ r. Returns (Ran (W.allows wire.old) asks.old asks.new (W.state wire.old) (W.state wire.new)) (sources_of E.Source E.fits E.is_true E.rows E.plan E.reported options.now.block) query.now starts.now r.1 r.0.items) }
-    ensures err { IfErr result (λ fault. WritesSome (Ran (W.allows wire.old) asks.old asks.new (W.state wire.old) (W.state wire.new)) (sources_of E.Source E.fits E.is_true E.rows E.plan E.reported options.now.block) query.now starts.now options.now.budget fault None None) }
-    ensures few { RanFew (W.allows wire.old) (most_over options.now query.now (length starts.now)) asks.old asks.new
-        (W.state wire.old) (W.state wire.new) }
+    ensures ok { IfOk result (λ r. Returns (Ran (W.allows wire.old)
+        (most_over options.now query.now (length starts.now)) asks.old asks.new (W.state wire.old) (W.state wire.new))
+        (sources_of E.Source E.fits E.is_true E.rows E.plan E.reported options.now.block) query.now starts.now r.1
+        r.0.items) }
+    ensures err { IfErr result (λ fault. WritesSome (Ran (W.allows wire.old)
+        (most_over options.now query.now (length starts.now)) asks.old asks.new (W.state wire.old) (W.state wire.new))
+        (sources_of E.Source E.fits E.is_true E.rows E.plan E.reported options.now.block) query.now starts.now
+        options.now.budget fault None None) }
     ensures suits { SuitsWire asks.new (W.state wire.new) }
     ensures sink { IsErrOf result ClientFault.Sink → ⊥ }
     ensures allowed { SameAllowed (W.allows wire.old) (W.allows wire.new) }
@@ -478,9 +548,9 @@ pub fn evaluate_rows<R: Wait, E: Evaluates + Drop, W: Dial>(
     requires window { 1 ≤ options.now.window }
     requires some { 1 ≤ options.now.links }
     requires few { options.now.links ≤ 256 }
-    ensures ok { IfOk result (λ r. Returns (RunsPool (W.allows wire.old) options.now (W.state wire.old) (W.state wire.new)) (sources_of E.Source E.fits E.is_true E.rows E.plan E.reported options.now.block) query.now starts.now r.1 r.0.items) }
-    ensures err { IfErr result (λ fault. WritesSome (RunsPool (W.allows wire.old) options.now (W.state wire.old) (W.state wire.new)) (sources_of E.Source E.fits E.is_true E.rows E.plan E.reported options.now.block) query.now starts.now options.now.budget fault None None) }
-    ensures acts { ActsAt (W.allows wire.old) options.now starts.now query.now result (λ r. r.1) (W.state wire.old) (W.state wire.new) }
+    ensures ended { GivesEnded (W.allows wire.old)
+        (sources_of E.Source E.fits E.is_true E.rows E.plan E.reported options.now.block)
+        query.now starts.now options.now result (λ r. r.1) (λ r. r.0.items) (W.state wire.old) (W.state wire.new) }
     ensures sink { IsErrOf result ClientFault.Sink → ⊥ }
     ensures allowed { SameAllowed (W.allows wire.old) (W.allows wire.new) }
 {
@@ -507,12 +577,20 @@ pub fn collect<R: Wait, W: Dial>(
     requires window { 1 ≤ options.now.window }
     requires some { 1 ≤ options.now.links }
     requires few { options.now.links ≤ 256 }
-    ensures ok { IfOk result (λ r. Returns (RunsPool (W.allows wire.old) options.now (W.state wire.old) (W.state wire.new)) (world_sources options.now.block) query.now (start.now ∷ []) r.1 r.0.items) }
-    ensures err { IfErr result (λ fault. WritesSome (RunsPool (W.allows wire.old) options.now (W.state wire.old) (W.state wire.new)) (world_sources options.now.block) query.now (start.now ∷ []) options.now.budget fault None None) }
-    ensures headline { OverHonest (W.allows wire.old) (W.state wire.old) (λ history config. IfOk result (λ r. IsSolutions (offer_in_blocks options.now.block (publisher history config) query.now start.now) r.1.version r.0.items)) }
-    ensures acts { ActsOnWire (W.allows wire.old) (ends_in_blocks options.now.block query.now start.now) options.now (start.now ∷ []) (most_asked options.now query.now) result (λ r. r.1) (W.state wire.old) (W.state wire.new) }
-    ensures complete { OverHonest (W.allows wire.old) (W.state wire.old) (λ history config. (W.state wire.old).nature.lively ≡ true → (rise : ℕ) → RisesFew options.now rise (W.state wire.old) (W.state wire.new)
-        → PlanFits (offer_in_blocks options.now.block (publisher history config) query.now start.now) options.now rise → IfErr result (MayStill (offer_in_blocks options.now.block (publisher history config) query.now start.now))) }
+    ensures ended { GivesOverEnds (W.allows wire.old)
+        (ends_in_blocks options.now.block query.now start.now) (world_sources options.now.block)
+        query.now (start.now ∷ []) options.now (most_asked options.now query.now) result (λ r. r.1) (λ r. r.0.items)
+        (W.state wire.old) (W.state wire.new) }
+    ensures headline { OverHonest (W.allows wire.old) (W.state wire.old)
+        (λ history config. IfOk result (λ r. IsSolutions
+        (offer_in_blocks options.now.block (publisher history config) query.now start.now) r.1.version r.0.items)) }
+    ensures complete { OverHonest (W.allows wire.old) (W.state wire.old)
+        (λ history config. (W.state wire.old).nature.lively ≡ true → (rise : ℕ)
+        → RisesFew options.now rise (W.state wire.old) (W.state wire.new)
+        → PlanFits (offer_in_blocks options.now.block (publisher history config) query.now start.now) options.now rise
+        → IfErr result (MayStill (offer_in_blocks options.now.block (publisher history config) query.now start.now))) }
+    ensures still { SucceedsStill (W.allows wire.old) options.now query.now start.now (W.state wire.old)
+        (W.state wire.new) ⊥ result }
     ensures sink { IsErrOf result ClientFault.Sink → ⊥ }
     ensures allowed { SameAllowed (W.allows wire.old) (W.allows wire.new) }
 {

@@ -84,7 +84,8 @@ fn await_start<R: Wait, W: Dial>(
     requires suits { SuitsWire asks.old (W.state wire.old) }
     requires no_fault { asks.old.fault ≡ None }
     requires one { IsPermutation (held asks.old) (start_ask start.now ∷ []) }
-    ensures starts { Starts (W.allows wire.old) start.now [] budget result asks.old asks.new (W.state wire.old) (W.state wire.new) }
+    ensures starts { Starts (W.allows wire.old) start.now [] budget result asks.old asks.new (W.state wire.old)
+        (W.state wire.new) }
     ensures no_sink { IsErrOf result ClientFault.Sink → ⊥ }
     ensures allowed { SameAllowed (W.allows wire.old) (W.allows wire.new) }
 {
@@ -106,7 +107,8 @@ fn ask_start<R: Wait, W: Dial>(
     requires suits { SuitsWire asks.old (W.state wire.old) }
     requires no_fault { asks.old.fault ≡ None }
     requires none { held asks.old ≡ [] }
-    ensures starts { Starts (W.allows wire.old) start.now (start_ask start.now ∷ []) budget result asks.old asks.new (W.state wire.old) (W.state wire.new) }
+    ensures starts { Starts (W.allows wire.old) start.now (start_ask start.now ∷ []) budget result asks.old asks.new
+        (W.state wire.old) (W.state wire.new) }
     ensures no_sink { IsErrOf result ClientFault.Sink → ⊥ }
     ensures allowed { SameAllowed (W.allows wire.old) (W.allows wire.new) }
 {
@@ -152,7 +154,8 @@ pub(crate) fn ask_starts<R: Wait, W: Dial>(
     requires suits { SuitsWire asks.old (W.state wire.old) }
     requires no_fault { asks.old.fault ≡ None }
     requires none { held asks.old ≡ [] }
-    ensures starts { StartsAll (W.allows wire.old) starts.now budget result asks.old asks.new (W.state wire.old) (W.state wire.new) }
+    ensures starts { StartsAll (W.allows wire.old) starts.now budget result asks.old asks.new (W.state wire.old)
+        (W.state wire.new) }
     ensures no_sink { IsErrOf result ClientFault.Sink → ⊥ }
     ensures allowed { SameAllowed (W.allows wire.old) (W.allows wire.new) }
 {

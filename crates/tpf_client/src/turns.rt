@@ -30,10 +30,14 @@ fn hand_one<E: Evaluates>(
     evaluation: &mut E,
     asks: &mut Asks,
 ) -> Result<bool, OutOfMemory>
-    requires meets { (limits : Limits) × Meets limits (keeps_both E.keeps_to E.keeps_small limits evaluation.old) (E.standing evaluation.old) asks.old }
+    requires meets { (limits : Limits) × Meets limits (keeps_both E.keeps_to E.keeps_small limits evaluation.old)
+        (E.standing evaluation.old) asks.old }
     requires given { (E.standing evaluation.old).given < 2 ^ 64 - 1 }
-    ensures some { result ≡ Ok true → (ask : Ask) × Hands E.suits E.account (keeps_both E.keeps_to E.keeps_small) E.standing evaluation.old evaluation.new (ask ∷ []) asks.old asks.new }
-    ensures none { result ≡ Ok false → Hands E.suits E.account (keeps_both E.keeps_to E.keeps_small) E.standing evaluation.old evaluation.new [] asks.old asks.new × EndsInQuiet (E.standing evaluation.new) }
+    ensures some { result ≡ Ok true → (ask : Ask) × Hands E.suits E.account
+        (keeps_both E.keeps_to E.keeps_small) E.standing evaluation.old evaluation.new (ask ∷ []) asks.old asks.new }
+    ensures none { result ≡ Ok false → Hands E.suits E.account
+        (keeps_both E.keeps_to E.keeps_small) E.standing evaluation.old evaluation.new [] asks.old asks.new
+        × EndsInQuiet (E.standing evaluation.new) }
     ensures err { OnErr result (asks.new ≡ asks.old) }
 {
     match evaluation.next_ask(alloc) {
@@ -56,10 +60,14 @@ fn hand_over<E: Evaluates>(
     asks: &mut Asks,
     tickets: &mut u64,
 ) -> Result<(), OutOfMemory>
-    requires meets { (limits : Limits) × Meets limits (keeps_both E.keeps_to E.keeps_small limits evaluation.old) (E.standing evaluation.old) asks.old }
+    requires meets { (limits : Limits) × Meets limits (keeps_both E.keeps_to E.keeps_small limits evaluation.old)
+        (E.standing evaluation.old) asks.old }
     requires given { tickets.old ≡ (E.standing evaluation.old).given }
-    ensures ok { OnOk result ((asked : List Ask) × Hands E.suits E.account (keeps_both E.keeps_to E.keeps_small) E.standing evaluation.old evaluation.new asked asks.old asks.new × EndsInQuiet (E.standing evaluation.new)) }
-    ensures err { OnErr result ((asked : List Ask) × (mid : E) × Hands E.suits E.account (keeps_both E.keeps_to E.keeps_small) E.standing evaluation.old mid asked asks.old asks.new) }
+    ensures ok { OnOk result ((asked : List Ask) × Hands E.suits E.account
+        (keeps_both E.keeps_to E.keeps_small) E.standing evaluation.old evaluation.new asked asks.old asks.new
+        × EndsInQuiet (E.standing evaluation.new)) }
+    ensures err { OnErr result ((asked : List Ask) × (mid : E) × Hands E.suits E.account
+        (keeps_both E.keeps_to E.keeps_small) E.standing evaluation.old mid asked asks.old asks.new) }
     ensures given { OnOk result (tickets.new ≡ (E.standing evaluation.new).given) }
 {
     'asks: while *tickets < u64::MAX {
@@ -82,8 +90,10 @@ fn give_rows<E: Evaluates, B, T: TakesRows<B>>(
     rows: &mut T,
     behind: &mut B,
 ) -> Result<(), Fault>
-    ensures gives { (given : List Places) × Gives E.suits E.account (keeps_both E.keeps_to E.keeps_small) E.standing evaluation.old evaluation.new given
-        × OnOk result (T.takes given rows.old rows.new behind.old behind.new) × OnErr result (T.takes_front given rows.old rows.new behind.old behind.new) }
+    ensures gives { (given : List Places) × Gives E.suits E.account
+        (keeps_both E.keeps_to E.keeps_small) E.standing evaluation.old evaluation.new given
+        × OnOk result (T.takes given rows.old rows.new behind.old behind.new)
+        × OnErr result (T.takes_front given rows.old rows.new behind.old behind.new) }
     ensures none { OnOk result ((E.standing evaluation.new).waiting ≡ 0) }
     ensures sink { KeepsSink (T.sink behind.old) (T.sink behind.new) result }
 {
@@ -118,7 +128,9 @@ fn take_reply<E: Evaluates>(
     version: Option<u64>,
 ) -> Result<(), ClientFault>
     requires out { Contains (E.standing evaluation.old).out arrived.ticket }
-    ensures ok { OnOk result (TakesReply E.suits E.account (keeps_both E.keeps_to E.keeps_small) E.standing E.is_true evaluation.old evaluation.new arrived (λ address. version)) }
+    ensures ok { OnOk result (TakesReply E.suits E.account
+        (keeps_both E.keeps_to E.keeps_small) E.standing E.is_true evaluation.old evaluation.new arrived
+        (λ address. version)) }
     ensures err { IfErr result (IsTakeFault arrived (λ address. version)) }
 {
     pages_keep_authority();
@@ -150,15 +162,20 @@ fn prepare<E: Evaluates, B, T: TakesRows<B>>(
     rows: &mut T,
     behind: &mut B,
 ) -> Result<bool, ClientFault>
-    requires meets { (limits : Limits) × Meets limits (keeps_both E.keeps_to E.keeps_small limits evaluation.old) (E.standing evaluation.old) asks.old }
+    requires meets { (limits : Limits) × Meets limits (keeps_both E.keeps_to E.keeps_small limits evaluation.old)
+        (E.standing evaluation.old) asks.old }
     requires given { tickets.old ≡ (E.standing evaluation.old).given }
-    ensures ok { OnOk result ((taken : List Places) × (asked : List Ask) × Readies E.suits E.account (keeps_both E.keeps_to E.keeps_small) E.standing evaluation.old evaluation.new taken asked asks.old asks.new
+    ensures ok { OnOk result ((taken : List Places) × (asked : List Ask)
+        × Readies E.suits E.account (keeps_both E.keeps_to E.keeps_small) E.standing evaluation.old evaluation.new
+        taken asked asks.old asks.new
         × T.takes taken rows.old rows.new behind.old behind.new) }
     ensures quiet { OnOk result (EndsInQuiet (E.standing evaluation.new)) }
     ensures none { OnOk result ((E.standing evaluation.new).waiting ≡ 0) }
     ensures done { IfOk result (λ done. done ≡ (E.standing evaluation.new).done) }
     ensures given { OnOk result (tickets.new ≡ (E.standing evaluation.new).given) }
-    ensures err { IfErr result (λ fault. (taken : List Places) × (asked : List Ask) × (end : E) × Readies E.suits E.account (keeps_both E.keeps_to E.keeps_small) E.standing evaluation.old end taken asked asks.old asks.new
+    ensures err { IfErr result (λ fault. (taken : List Places) × (asked : List Ask) × (end : E)
+        × Readies E.suits E.account (keeps_both E.keeps_to E.keeps_small) E.standing evaluation.old end taken asked
+        asks.old asks.new
         × T.takes_front taken rows.old rows.new behind.old behind.new × IsLocal fault) }
     ensures sink { LeavesSink (T.sink behind.old) (T.sink behind.new) result }
 {
@@ -180,12 +197,18 @@ fn take_next<R: Wait, E: Evaluates, W: Dial>(
     asks: &mut Asks,
     wire: &mut W,
 ) -> Result<(), ClientFault>
-    requires meets { (limits : Limits) × Meets limits (keeps_both E.keeps_to E.keeps_small limits evaluation.old) (E.standing evaluation.old) asks.old }
+    requires meets { (limits : Limits) × Meets limits (keeps_both E.keeps_to E.keeps_small limits evaluation.old)
+        (E.standing evaluation.old) asks.old }
     requires some { held asks.old ≢ [] }
     requires suits { SuitsWire asks.old (W.state wire.old) }
-    ensures ok { OnOk result ((events : List Event) × Went E.suits E.account (keeps_both E.keeps_to E.keeps_small) E.standing E.is_true (W.allows wire.old) evaluation.old evaluation.new (told_by bounds.entry) events [] asks.old asks.new (W.state wire.old) (W.state wire.new)) }
+    ensures ok { OnOk result ((events : List Event) × Went E.suits E.account
+        (keeps_both E.keeps_to E.keeps_small) E.standing E.is_true (W.allows wire.old) evaluation.old evaluation.new
+        (told_by bounds.entry) events [] asks.old asks.new (W.state wire.old) (W.state wire.new)) }
     ensures given { OnOk result ((E.standing evaluation.new).given ≡ (E.standing evaluation.old).given) }
-    ensures err { IfErr result (λ fault. (events : List Event) × Failed E.suits E.account (keeps_both E.keeps_to E.keeps_small) E.standing E.is_true (W.allows wire.old) evaluation.old (told_by bounds.entry) bounds.entry.budget fault events [] asks.old asks.new (W.state wire.old) (W.state wire.new)) }
+    ensures err { IfErr result (λ fault. (events : List Event) × Failed E.suits E.account
+        (keeps_both E.keeps_to E.keeps_small) E.standing E.is_true (W.allows wire.old) evaluation.old
+        (told_by bounds.entry) bounds.entry.budget fault events [] asks.old asks.new (W.state wire.old)
+        (W.state wire.new)) }
     ensures no_sink { IsErrOf result ClientFault.Sink → ⊥ }
     ensures allowed { SameAllowed (W.allows wire.old) (W.allows wire.new) }
 {
@@ -211,15 +234,23 @@ fn turn<R: Wait, E: Evaluates, W: Dial, B, T: TakesRows<B>>(
     rows: &mut T,
     behind: &mut B,
 ) -> Result<bool, ClientFault>
-    requires meets { (limits : Limits) × Meets limits (keeps_both E.keeps_to E.keeps_small limits evaluation.old) (E.standing evaluation.old) asks.old }
+    requires meets { (limits : Limits) × Meets limits (keeps_both E.keeps_to E.keeps_small limits evaluation.old)
+        (E.standing evaluation.old) asks.old }
     requires given { tickets.old ≡ (E.standing evaluation.old).given }
     requires suits { SuitsWire asks.old (W.state wire.old) }
-    ensures went { OnOk result ((events : List Event) × (taken : List Places) × Went E.suits E.account (keeps_both E.keeps_to E.keeps_small) E.standing E.is_true (W.allows wire.old) evaluation.old evaluation.new (told_by bounds.entry) events taken asks.old asks.new (W.state wire.old) (W.state wire.new)
+    ensures went { OnOk result ((events : List Event) × (taken : List Places)
+        × Went E.suits E.account (keeps_both E.keeps_to E.keeps_small) E.standing E.is_true
+        (W.allows wire.old) evaluation.old evaluation.new (told_by bounds.entry) events taken asks.old asks.new
+        (W.state wire.old) (W.state wire.new)
         × T.takes taken rows.old rows.new behind.old behind.new) }
     ensures given { OnOk result (tickets.new ≡ (E.standing evaluation.new).given) }
     ensures done { result ≡ Ok true → (E.standing evaluation.new).done ≡ true }
-    ensures failed { IfErr result (λ fault. (events : List Event) × (taken : List Places) × Failed E.suits E.account (keeps_both E.keeps_to E.keeps_small) E.standing E.is_true (W.allows wire.old) evaluation.old (told_by bounds.entry) bounds.entry.budget fault events taken asks.old asks.new (W.state wire.old) (W.state wire.new)
-        × T.takes_front taken rows.old rows.new behind.old behind.new × (IsLocal fault ⊎ T.takes taken rows.old rows.new behind.old behind.new)) }
+    ensures failed { IfErr result (λ fault. (events : List Event) × (taken : List Places)
+        × Failed E.suits E.account (keeps_both E.keeps_to E.keeps_small) E.standing E.is_true
+        (W.allows wire.old) evaluation.old (told_by bounds.entry) bounds.entry.budget fault events taken asks.old
+        asks.new (W.state wire.old) (W.state wire.new)
+        × T.takes_front taken rows.old rows.new behind.old behind.new
+        × (IsLocal fault ⊎ T.takes taken rows.old rows.new behind.old behind.new)) }
     ensures sink { LeavesSink (T.sink behind.old) (T.sink behind.new) result }
     ensures allowed { SameAllowed (W.allows wire.old) (W.allows wire.new) }
 {
@@ -281,14 +312,22 @@ pub(crate) fn evaluate<R: Wait, E: Evaluates, W: Dial, B, T: TakesRows<B>>(
     rows: &mut T,
     behind: &mut B,
 ) -> Result<(), ClientFault>
-    requires meets { (limits : Limits) × Meets limits (keeps_both E.keeps_to E.keeps_small limits evaluation.old) (E.standing evaluation.old) asks.old }
+    requires meets { (limits : Limits) × Meets limits (keeps_both E.keeps_to E.keeps_small limits evaluation.old)
+        (E.standing evaluation.old) asks.old }
     requires given { (E.standing evaluation.old).given ≡ 0 }
     requires suits { SuitsWire asks.old (W.state wire.old) }
-    ensures went { OnOk result ((events : List Event) × (taken : List Places) × Went E.suits E.account (keeps_both E.keeps_to E.keeps_small) E.standing E.is_true (W.allows wire.old) evaluation.old evaluation.new (told_by bounds.entry) events taken asks.old asks.new (W.state wire.old) (W.state wire.new)
+    ensures went { OnOk result ((events : List Event) × (taken : List Places)
+        × Went E.suits E.account (keeps_both E.keeps_to E.keeps_small) E.standing E.is_true
+        (W.allows wire.old) evaluation.old evaluation.new (told_by bounds.entry) events taken asks.old asks.new
+        (W.state wire.old) (W.state wire.new)
         × T.takes taken rows.old rows.new behind.old behind.new) }
     ensures done { OnOk result ((E.standing evaluation.new).done ≡ true) }
-    ensures failed { IfErr result (λ fault. (events : List Event) × (taken : List Places) × Failed E.suits E.account (keeps_both E.keeps_to E.keeps_small) E.standing E.is_true (W.allows wire.old) evaluation.old (told_by bounds.entry) bounds.entry.budget fault events taken asks.old asks.new (W.state wire.old) (W.state wire.new)
-        × T.takes_front taken rows.old rows.new behind.old behind.new × (IsLocal fault ⊎ T.takes taken rows.old rows.new behind.old behind.new)) }
+    ensures failed { IfErr result (λ fault. (events : List Event) × (taken : List Places)
+        × Failed E.suits E.account (keeps_both E.keeps_to E.keeps_small) E.standing E.is_true
+        (W.allows wire.old) evaluation.old (told_by bounds.entry) bounds.entry.budget fault events taken asks.old
+        asks.new (W.state wire.old) (W.state wire.new)
+        × T.takes_front taken rows.old rows.new behind.old behind.new
+        × (IsLocal fault ⊎ T.takes taken rows.old rows.new behind.old behind.new)) }
     ensures sink { LeavesSink (T.sink behind.old) (T.sink behind.new) result }
     ensures allowed { SameAllowed (W.allows wire.old) (W.allows wire.new) }
 {

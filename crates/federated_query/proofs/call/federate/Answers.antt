@@ -2,18 +2,22 @@
 use Rattle.std.proofs.Common.{ℕ, ◌≡◌, ◌≤◌, true, List, length, arith}
 use Rattle.std.specs.Prelude.{IfErr}
 use Rattle.tpf_base.specs.Causes.{Rose}
-use Rattle.tpf_client.specs.Acts.{ActsOnWire}
-use Rattle.tpf_client.specs.Calls.{most_over}
+use Rattle.request_pool.specs.Pools.{Pooled}
+use Rattle.tpf_client.specs.Traffic.{Event}
+use Rattle.tpf_client.specs.Calls.{RunsPool, AreThese, most_over}
 use Rattle.tpf_client.specs.Ends.{AreHonestServers, servers_ends}
+use Rattle.tpf_client.specs.Ended.{WritesOverEnds}
 use Rattle.tpf_client.specs.Offers.{Publisher, servers_offer}
 use Rattle.tpf_client.specs.Plans.{RisesFew, PlanFits, MayStill}
-use Rattle.tpf_client.proofs.Shutting.{if-ok, on-err-of}
-use Rattle.tpf_client.proofs.Clauses.{acts-by-plan, acts-on-wire}
+use Rattle.tpf_client.proofs.Shutting.{if-ok, if-err, on-err-of}
+use Rattle.tpf_client.proofs.Planned.{these-run}
+use Rattle.tpf_client.proofs.Clauses.{writes-over}
 use Rattle.tpf_client.proofs.Completing.{completes}
 use Rattle.tpf_client.proofs.Covered.{Covered, solutions-written, front-written}
 use Rattle.federated_query.specs.Servers.{joint_sources}
 use Rattle.federated_query.proofs.Covering.{servers-covered}
 use Rattle.federated_query.proofs.Fitting.{plan-fits}
+use Rattle.federated_query.proofs.Still.{still-wants}
 use Rattle.federated_query.proofs.call.federate.Given as given
 use Rattle.federated_query.proofs.call.federate.Goals as goal
 
@@ -25,27 +29,30 @@ covers : (g : given.Over) (c : goal.After-evaluate_to g) (publishers : List Publ
 covers g c publishers honest =
     servers-covered c.solutions_rest_on_laws.ensures c.versions_are_valid.ensures.versions (g.W.Wire.allows c.args.wire.now) c.args.options.now (g.W.Wire.state c.args.wire.now) (g.W.Wire.state c.evaluate_to.new.wire) c.is_lawful.ensures c.is_bounded.ensures publishers c.args.starts.now c.requires.starts c.requires.apart honest c.args.query.now
 
-acts : (g : given.Over) (c : goal.After-evaluate_to g)
-    → ActsOnWire (g.W.Wire.allows c.args.wire.now) (servers_ends c.args.query.now c.args.starts.now) c.args.options.now c.args.starts.now (most_over c.args.options.now c.args.query.now (length c.args.starts.now)) c.evaluate_to.result (λ report. report) (g.W.Wire.state c.args.wire.now) (g.W.Wire.state c.evaluate_to.new.wire)
-acts g c =
-    acts-on-wire (g.W.Wire.allows c.args.wire.now) (servers_ends c.args.query.now c.args.starts.now) c.args.options.now c.args.starts.now (most_over c.args.options.now c.args.query.now (length c.args.starts.now)) c.args.query.now c.evaluate_to.result (λ report. report) (g.W.Wire.state c.args.wire.now) (g.W.Wire.state c.evaluate_to.new.wire)
-    (same-most (most_over c.args.options.now c.args.query.now (length c.args.starts.now))) c.evaluate_to.ensures.acts
-    (acts-by-plan c.solutions_rest_on_laws.ensures c.traffic_rests_on_laws.ensures (g.W.Wire.allows c.args.wire.now) c.args.options.now (g.W.Wire.state c.args.wire.now) (g.W.Wire.state c.evaluate_to.new.wire) c.is_lawful.ensures c.args.starts.now joint_sources c.args.query.now c.evaluate_to.result (λ report. report)
-    _ _ _ c.evaluate_to.ensures.ok c.evaluate_to.ensures.err (λ report w. (w.rows, w.returns)) c.is_bounded.ensures c.requires.some (servers_ends c.args.query.now c.args.starts.now) (covers g c))
+ended : (g : given.Over) (c : goal.After-evaluate_to g)
+    → WritesOverEnds (g.W.Wire.allows c.args.wire.now) (servers_ends c.args.query.now c.args.starts.now) joint_sources c.args.query.now c.args.starts.now c.args.options.now (most_over c.args.options.now c.args.query.now (length c.args.starts.now)) c.evaluate_to.result (g.W.Wire.state c.args.wire.now) (g.W.Wire.state c.evaluate_to.new.wire) (g.K.Sink.state c.args.out.now) (g.K.Sink.state c.evaluate_to.new.out)
+ended g c =
+    writes-over c.solutions_rest_on_laws.ensures c.traffic_rests_on_laws.ensures (g.W.Wire.allows c.args.wire.now) c.args.options.now (g.W.Wire.state c.args.wire.now) (g.W.Wire.state c.evaluate_to.new.wire) c.is_lawful.ensures c.args.starts.now joint_sources c.args.query.now c.is_bounded.ensures c.requires.some (servers_ends c.args.query.now c.args.starts.now) (covers g c)
+    (most_over c.args.options.now c.args.query.now (length c.args.starts.now)) (same-most (most_over c.args.options.now c.args.query.now (length c.args.starts.now))) c.evaluate_to.result (g.K.Sink.state c.args.out.now) (g.K.Sink.state c.evaluate_to.new.out) c.evaluate_to.ensures.ended
+
+-- what happened in it is a run of the pool
+abbrev runs : (g : given.Over) (c : goal.After-evaluate_to g) (events : List Event) (pool : Pooled) → AreThese (ended g c).acts.happened.events (ended g c).acts.happened.pool events pool
+    → RunsPool (g.W.Wire.allows c.args.wire.now) c.args.options.now (g.W.Wire.state c.args.wire.now) (g.W.Wire.state c.evaluate_to.new.wire) events pool
+runs g c events pool is = these-run (g.W.Wire.allows c.args.wire.now) c.args.options.now (g.W.Wire.state c.args.wire.now) (g.W.Wire.state c.evaluate_to.new.wire) c.args.starts.now (ended g c).acts.happened events pool is
+
+pub returns-clause-ended : goal.returns-clause-ended
+returns-clause-ended g c = ended g c
 
 pub returns-clause-headline : goal.returns-clause-headline
 returns-clause-headline g c = λ publishers honest.
     if-ok c.evaluate_to.result _ _ (λ report w.
-    solutions-written joint_sources (servers_offer publishers c.args.query.now c.args.starts.now) (g.W.Wire.allows c.args.wire.now) c.args.options.now (g.W.Wire.state c.args.wire.now) (g.W.Wire.state c.evaluate_to.new.wire) c.args.starts.now c.args.query.now (covers g c publishers honest) report _ _ w) c.evaluate_to.ensures.ok
+    solutions-written joint_sources (servers_offer publishers c.args.query.now c.args.starts.now) (g.W.Wire.allows c.args.wire.now) c.args.options.now (g.W.Wire.state c.args.wire.now) (g.W.Wire.state c.evaluate_to.new.wire) c.args.starts.now c.args.query.now (covers g c publishers honest) _ (runs g c) report _ _ w) (ended g c).ok
 
 pub returns-clause-prefix : goal.returns-clause-prefix
 returns-clause-prefix g c = λ publishers honest.
     on-err-of c.evaluate_to.result _ _ (λ fault w.
-    front-written joint_sources (servers_offer publishers c.args.query.now c.args.starts.now) (g.W.Wire.allows c.args.wire.now) c.args.options.now (g.W.Wire.state c.args.wire.now) (g.W.Wire.state c.evaluate_to.new.wire) c.args.starts.now c.args.query.now (covers g c publishers honest)
-    c.solutions_rest_on_laws.ensures.pieces c.solutions_rest_on_laws.ensures.goes_on c.args.options.now.budget fault _ _ w) c.evaluate_to.ensures.err
-
-pub returns-clause-acts : goal.returns-clause-acts
-returns-clause-acts g c = acts g c
+    front-written joint_sources (servers_offer publishers c.args.query.now c.args.starts.now) (g.W.Wire.allows c.args.wire.now) c.args.options.now (g.W.Wire.state c.args.wire.now) (g.W.Wire.state c.evaluate_to.new.wire) c.args.starts.now c.args.query.now (covers g c publishers honest) _ (runs g c)
+    c.solutions_rest_on_laws.ensures.pieces c.solutions_rest_on_laws.ensures.goes_on c.args.options.now.budget fault _ _ w.fails.some) (ended g c).err
 
 -- where the plan fits
 complete : (g : given.Over) (c : goal.After-evaluate_to g) (publishers : List Publisher) → AreHonestServers (g.W.Wire.allows c.args.wire.now) c.args.starts.now publishers (g.W.Wire.state c.args.wire.now)
@@ -53,8 +60,8 @@ complete : (g : given.Over) (c : goal.After-evaluate_to g) (publishers : List Pu
     → PlanFits (servers_offer publishers c.args.query.now c.args.starts.now) c.args.options.now rise → (Rose (g.K.Sink.state c.args.out.now).faults (g.K.Sink.state c.evaluate_to.new.out).faults → ⊥)
     → IfErr c.evaluate_to.result (MayStill (servers_offer publishers c.args.query.now c.args.starts.now))
 complete g c publishers honest alive rise few fits none =
-    completes (servers_offer publishers c.args.query.now c.args.starts.now) c.args.options.now (g.W.Wire.state c.args.wire.now) (g.W.Wire.state c.evaluate_to.new.wire) rise few fits c.evaluate_to.result ((acts g c).plan.honest_cause publishers honest)
-    ((acts g c).plan.lively_cause publishers honest alive) (λ e. none (c.evaluate_to.ensures.sink.sink e))
+    completes (servers_offer publishers c.args.query.now c.args.starts.now) c.args.options.now (g.W.Wire.state c.args.wire.now) (g.W.Wire.state c.evaluate_to.new.wire) rise few fits c.evaluate_to.result ((ended g c).acts.plan.honest_cause publishers honest)
+    ((ended g c).acts.plan.lively_cause publishers honest alive) (λ e. none (c.evaluate_to.ensures.sink.sink e))
 
 pub returns-clause-complete : goal.returns-clause-complete
 returns-clause-complete g c = complete g c
@@ -65,4 +72,9 @@ returns-clause-limits g c = λ publishers honest alive rise few within none.
     (plan-fits c.joint_plans_are_read.ensures c.plans_are_read.ensures.start c.pages_are_answered.ensures.answered (g.W.Wire.allows c.args.wire.now) publishers c.args.query.now c.args.starts.now c.args.options.now rise c.requires.starts c.requires.apart honest.servers within) none
 
 pub returns-clause-version : goal.returns-clause-version
-returns-clause-version g c = if-ok c.evaluate_to.result _ _ (λ report w. w.returns.is_version) c.evaluate_to.ensures.ok
+returns-clause-version g c = if-ok c.evaluate_to.result _ _ (λ report w. w.returns.is_version) (ended g c).ok
+
+pub returns-clause-still : goal.returns-clause-still
+returns-clause-still g c = λ publishers versions honest still alive rise few fits none.
+    still-wants c.solutions_rest_on_laws.ensures c.traffic_rests_on_laws.ensures c.versions_are_valid.ensures.versions (g.W.Wire.allows c.args.wire.now) c.args.options.now (g.W.Wire.state c.args.wire.now) (g.W.Wire.state c.evaluate_to.new.wire) c.is_lawful.ensures c.is_bounded.ensures publishers c.args.starts.now c.requires.starts c.requires.apart honest c.args.query.now versions still
+    (ended g c).acts.happened c.evaluate_to.result _ _ alive rise few fits (if-err c.evaluate_to.result _ _ (λ fault w. w.fails.some) (ended g c).err) (λ e. none (c.evaluate_to.ensures.sink.sink e))

@@ -7,8 +7,4 @@ returns g c = record {
   received = λ k. g.met.W.Wire.received_is_owed c.args.wire.now k;
   owed = λ k. g.met.W.Wire.owed_is_allowed c.args.wire.now k;
   lively = g.met.W.Wire.is_lively c.args.wire.now;
-  replies = c.a_reply_is_an_answer.ensures.replies;
-  refused = c.a_reply_is_an_answer.ensures.refused;
-  rises = c.failures_are_rises.ensures.step_by_some;
-  hang = c.steps_provoke_nothing.ensures.hang_by_some;
 }

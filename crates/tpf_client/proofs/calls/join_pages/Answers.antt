@@ -2,11 +2,11 @@
 use Rattle.std.proofs.Common.{[], ◌*◌, length, inl}
 use Rattle.tpf_client.specs.Told.{told_by}
 use Rattle.tpf_client.specs.Turns.{Limits, keeps_both}
-use Rattle.tpf_client.proofs.Joining.{Begun, limits-of, begins-meets, joins-of, some-of, few-of, few-failed}
-use Rattle.tpf_client.proofs.Shutting.{on-ok-two, if-err-from, either-on}
+use Rattle.tpf_client.proofs.Joining.{Begun, limits-of, begins-meets, joins-of, some-of}
+use Rattle.tpf_client.proofs.Shutting.{on-ok-two, if-err-from}
 use Rattle.tpf_client.proofs.Sinks.{stays-none, leaves-lacking}
 use Rattle.tpf_client.proofs.Waiting.{same-allowed}
-use Rattle.tpf_client.proofs.Written.{nothing-joined, nothing-ran}
+use Rattle.tpf_client.proofs.Written.{nothing-joined}
 use Rattle.tpf_client.proofs.calls.join_pages.Given as given
 use Rattle.tpf_client.proofs.calls.join_pages.Goals as goal
 
@@ -50,22 +50,11 @@ returns-in-Ok-clause-some g c =
       f.4,
     ))
 
-pub returns-in-Ok-clause-few : goal.returns-in-Ok-clause-few
-returns-in-Ok-clause-few g c =
-    either-on c.evaluate.result _ _ _ c.evaluate.ensures.went c.evaluate.ensures.failed
-    (λ went. few-of g.E.Evaluates.suits g.E.Evaluates.account g.E.Evaluates.keeps_to g.E.Evaluates.keeps_small g.E.Evaluates.standing g.E.Evaluates.is_true g.E.Evaluates.fits g.E.Evaluates.rows g.E.Evaluates.plan g.E.Evaluates.reported (g.W.Wire.allows c.args.wire.now) c.args.query.now c.args.bounds.starts.now c.args.forms (told_by c.args.bounds) c.args.options.now.window c.args.options.now.block c.in-Ok.evaluation c.args.asks.now c.evaluate.new.asks (g.W.Wire.state c.args.wire.now) (g.W.Wire.state c.evaluate.new.wire)
-    c.requires.none c.requires.no_fault (begins g c) c.evaluate.new.evaluation went.0 went.1 went.2)
-    (λ fault f. few-failed g.E.Evaluates.suits g.E.Evaluates.account g.E.Evaluates.keeps_to g.E.Evaluates.keeps_small g.E.Evaluates.standing g.E.Evaluates.is_true g.E.Evaluates.fits g.E.Evaluates.rows g.E.Evaluates.plan g.E.Evaluates.reported (g.W.Wire.allows c.args.wire.now) c.args.query.now c.args.bounds.starts.now c.args.forms (told_by c.args.bounds) c.args.options.now.window c.args.options.now.block c.in-Ok.evaluation c.args.asks.now c.evaluate.new.asks (g.W.Wire.state c.args.wire.now) (g.W.Wire.state c.evaluate.new.wire)
-    c.requires.none c.requires.no_fault (begins g c) c.args.bounds.budget fault f.0 f.1 f.2)
-
-pub returns-in-Err-clause-few : goal.returns-in-Err-clause-few
-returns-in-Err-clause-few g c = nothing-ran (g.W.Wire.allows c.args.wire.now) _ c.args.asks.now (g.W.Wire.state c.args.wire.now) c.requires.none c.requires.suits
-
 pub returns-in-Err-clause-some : goal.returns-in-Err-clause-some
 returns-in-Err-clause-some g c = (
   [],
   [],
-  nothing-joined (g.W.Wire.allows c.args.wire.now) _ c.args.query.now c.args.bounds.starts.now c.args.forms (told_by c.args.bounds) c.args.bounds.budget c.args.asks.now (g.W.Wire.state c.args.wire.now) c.requires.suits,
+  nothing-joined (g.W.Wire.allows c.args.wire.now) _ _ c.args.query.now c.args.bounds.starts.now c.args.forms (told_by c.args.bounds) c.args.bounds.budget c.args.asks.now (g.W.Wire.state c.args.wire.now) c.requires.none c.requires.suits,
   g.met.T.TakesRows.front_all [] _ _ _ _ (g.met.T.TakesRows.takes_none c.args.rows.now c.args.behind.now),
   inl tt,
 )

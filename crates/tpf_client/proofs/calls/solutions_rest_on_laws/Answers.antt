@@ -17,4 +17,17 @@ returns c = record {
   addresses = c.pages_share_authority.ensures.addresses;
   pieces = c.pieces_make_the_text.ensures;
   goes_on = c.rows_go_on.ensures;
+  plain = c.requests_are_cut.ensures.plain;
+  reads = c.an_answer_is_read.ensures.read;
+  long = c.an_answer_is_read.ensures.refused;
+  short = c.an_answer_is_read.ensures.short;
+  status = c.an_answer_is_read.ensures.status;
+  server = c.an_answer_is_read.ensures.server;
+  quads = c.an_answer_is_read.ensures.pages;
+  sends = c.a_response_is_cut.ensures.sent;
+  responses = c.a_response_is_cut.ensures.cut;
+  replies = c.a_response_is_cut.ensures.replies;
+  next = c.a_response_is_cut.ensures.next;
+  stays = c.a_reading_stays.ensures.stays;
+  authorities = c.authorities_are_hosts_and_ports.ensures;
 }

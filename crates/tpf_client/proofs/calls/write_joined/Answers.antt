@@ -66,13 +66,13 @@ pub returns-in-Err-OutOfMemory-clause-err : goal.returns-in-Err-OutOfMemory-clau
 returns-in-Err-OutOfMemory-clause-err g c =
     let s = c.in-Err.ensures.some in
     let w = subst (λ (x : Text). WritesFront s.1 x c.join_pages.new.rows (g.K.Sink.state c.args.out.now).taken (g.K.Sink.state c.join_pages.new.behind).taken) c.requires.fresh s.3 in
-    PartOf s.0 s.1 (with-fault _ _ _ _ _ _ _ _ _ s.0 s.1 _ _ _ _ tt s.2) (front-handed c.args.query.now s.1 c.join_pages.new.rows _ _ _ w (some-given c.join_pages.new.rows _ _ c.in-Err-OutOfMemory.ensures.writes.err))
+    PartOf s.0 s.1 (with-fault _ _ _ _ _ _ _ _ _ _ s.0 s.1 _ _ _ _ tt s.2) (front-handed c.args.query.now s.1 c.join_pages.new.rows _ _ _ w (some-given c.join_pages.new.rows _ _ c.in-Err-OutOfMemory.ensures.writes.err))
 
 pub returns-in-Err-OutOfMemory-clause-shown : goal.returns-in-Err-OutOfMemory-clause-shown
 returns-in-Err-OutOfMemory-clause-shown g c =
     let s = c.in-Err.ensures.some in
     let w = subst (λ (x : Text). WritesFront s.1 x c.join_pages.new.rows (g.K.Sink.state c.args.out.now).taken (g.K.Sink.state c.join_pages.new.behind).taken) c.requires.fresh s.3 in
-    (PartOf s.0 s.1 (with-fault _ _ _ _ _ _ _ _ _ s.0 s.1 _ _ _ _ tt s.2) (front-handed c.args.query.now s.1 c.join_pages.new.rows _ _ _ w (some-given c.join_pages.new.rows _ _ c.in-Err-OutOfMemory.ensures.writes.err)), λ other rose. absurd (other tt))
+    (PartOf s.0 s.1 (with-fault _ _ _ _ _ _ _ _ _ _ s.0 s.1 _ _ _ _ tt s.2) (front-handed c.args.query.now s.1 c.join_pages.new.rows _ _ _ w (some-given c.join_pages.new.rows _ _ c.in-Err-OutOfMemory.ensures.writes.err)), λ other rose. absurd (other tt))
 
 pub returns-in-Ok-finish-clause-sink : goal.returns-in-Ok-finish-clause-sink
 returns-in-Ok-finish-clause-sink g c = leaves-ok _ _ _ (stays-then _ _ _ (leaves-stays _ _ _ c.in-Ok.ensures.sink) (stays-ok _ _ _ (writes-keeps _ _ _ _ c.in-Ok-finish.ensures.writes)))

@@ -1,12 +1,12 @@
 -- The text begins with what stands in front of the rows.
-use Rattle.std.proofs.Common.{ℕ, List, Option, ◌∙◌, ap, subst}
+use Rattle.std.proofs.Common.{ℕ, List, length, Option, ◌*◌, ◌∙◌, ap, subst}
 use Rattle.result_json.specs.Pieces.{Writing}
 use Rattle.tpf_client.specs.Told.{told_at}
 use Rattle.tpf_client.specs.Calls.{Joins, WritesLess}
 use Rattle.tpf_client.specs.Sources.{sources_of}
 use Rattle.tpf_client.specs.Shown.{ShowsRest}
 use Rattle.tpf_client.proofs.Told.{first-at}
-use Rattle.tpf_client.proofs.Written.{nothing-begun, nothing-shown, nothing-ran}
+use Rattle.tpf_client.proofs.Written.{nothing-begun, nothing-shown}
 use Rattle.tpf_client.proofs.Sinks.{stays-none, leaves-stays, leaves-ok, leaves-lacking, leaves-as}
 use Rattle.tpf_client.proofs.Waiting.{same-allowed}
 use Rattle.tpf_client.proofs.calls.write_rows.Goals as goal
@@ -15,16 +15,13 @@ pub write_joined-requires-clause-fresh : goal.write_joined-requires-clause-fresh
 write_joined-requires-clause-fresh g c = c.new-text.ensures ∙ ap (λ (w : Writing). record { writer = w; count = 0 }) c.in-Ok.ensures
 
 pub returns-in-Err-clause-err : goal.returns-in-Err-clause-err
-returns-in-Err-clause-err g c = nothing-begun (g.W.Wire.allows c.args.wire.now) _ c.args.query.now c.args.starts.now c.args.pages.forms (told_at c.args.starts.now c.args.pages.versions.items) c.args.options.now.budget c.args.asks.now (g.W.Wire.state c.args.wire.now) _ c.requires.suits
-
-pub returns-in-Err-clause-few : goal.returns-in-Err-clause-few
-returns-in-Err-clause-few g c = nothing-ran (g.W.Wire.allows c.args.wire.now) _ c.args.asks.now (g.W.Wire.state c.args.wire.now) c.requires.none c.requires.suits
+returns-in-Err-clause-err g c = nothing-begun (g.W.Wire.allows c.args.wire.now) _ _ c.args.query.now c.args.starts.now c.args.pages.forms (told_at c.args.starts.now c.args.pages.versions.items) c.args.options.now.budget c.args.asks.now (g.W.Wire.state c.args.wire.now) _ c.requires.none c.requires.suits
 
 pub returns-in-Err-clause-allowed : goal.returns-in-Err-clause-allowed
 returns-in-Err-clause-allowed g c = same-allowed (g.W.Wire.allows c.args.wire.now)
 
 pub returns-in-Err-clause-shown : goal.returns-in-Err-clause-shown
-returns-in-Err-clause-shown g c = (nothing-begun (g.W.Wire.allows c.args.wire.now) _ c.args.query.now c.args.starts.now c.args.pages.forms (told_at c.args.starts.now c.args.pages.versions.items) c.args.options.now.budget c.args.asks.now (g.W.Wire.state c.args.wire.now) _ c.requires.suits, nothing-shown _ _ _ _ _ _ _ _ _ _ c.requires.suits _ _)
+returns-in-Err-clause-shown g c = (nothing-begun (g.W.Wire.allows c.args.wire.now) _ _ c.args.query.now c.args.starts.now c.args.pages.forms (told_at c.args.starts.now c.args.pages.versions.items) c.args.options.now.budget c.args.asks.now (g.W.Wire.state c.args.wire.now) _ c.requires.none c.requires.suits, nothing-shown _ _ _ _ _ _ _ _ _ _ _ c.requires.none c.requires.suits _ _)
 
 pub returns-in-Err-clause-sink : goal.returns-in-Err-clause-sink
 returns-in-Err-clause-sink g c = leaves-lacking _ _ (stays-none (g.K.Sink.state c.args.out.now))
@@ -33,10 +30,10 @@ pub returns-in-Err-write_joined-clause-sink : goal.returns-in-Err-write_joined-c
 returns-in-Err-write_joined-clause-sink g c = leaves-as _ _ c.in-Err-write_joined.fault c.in-Err-write_joined.ensures.sink
 
 pub returns-in-Err-write_joined-clause-err : goal.returns-in-Err-write_joined-clause-err
-returns-in-Err-write_joined-clause-err g c = subst (λ (l : List (Option ℕ)). WritesLess (g.W.Wire.allows c.args.wire.now) (sources_of g.E.Evaluates.Source g.E.Evaluates.fits g.E.Evaluates.is_true g.E.Evaluates.rows g.E.Evaluates.plan g.E.Evaluates.reported c.args.options.now.block) c.args.query.now c.args.starts.now c.args.pages.forms (told_at c.args.starts.now l) c.args.options.now.budget c.in-Err-write_joined.fault c.args.asks.now c.write_joined.new.asks (g.W.Wire.state c.args.wire.now) (g.W.Wire.state c.write_joined.new.wire) (g.K.Sink.state c.args.out.now).taken (g.K.Sink.state c.write_joined.new.out).taken) c.as_slice.ensures.value c.in-Err-write_joined.ensures.err
+returns-in-Err-write_joined-clause-err g c = subst (λ (l : List (Option ℕ)). WritesLess (g.W.Wire.allows c.args.wire.now) (length c.args.query.now.patterns * (c.args.options.now.window * length c.args.pages.forms)) (sources_of g.E.Evaluates.Source g.E.Evaluates.fits g.E.Evaluates.is_true g.E.Evaluates.rows g.E.Evaluates.plan g.E.Evaluates.reported c.args.options.now.block) c.args.query.now c.args.starts.now c.args.pages.forms (told_at c.args.starts.now l) c.args.options.now.budget c.in-Err-write_joined.fault c.args.asks.now c.write_joined.new.asks (g.W.Wire.state c.args.wire.now) (g.W.Wire.state c.write_joined.new.wire) (g.K.Sink.state c.args.out.now).taken (g.K.Sink.state c.write_joined.new.out).taken) c.as_slice.ensures.value c.in-Err-write_joined.ensures.err
 
 pub returns-in-Err-write_joined-clause-shown : goal.returns-in-Err-write_joined-clause-shown
-returns-in-Err-write_joined-clause-shown g c = subst (λ (l : List (Option ℕ)). (less : WritesLess (g.W.Wire.allows c.args.wire.now) (sources_of g.E.Evaluates.Source g.E.Evaluates.fits g.E.Evaluates.is_true g.E.Evaluates.rows g.E.Evaluates.plan g.E.Evaluates.reported c.args.options.now.block) c.args.query.now c.args.starts.now c.args.pages.forms (told_at c.args.starts.now l) c.args.options.now.budget c.in-Err-write_joined.fault c.args.asks.now c.write_joined.new.asks (g.W.Wire.state c.args.wire.now) (g.W.Wire.state c.write_joined.new.wire) (g.K.Sink.state c.args.out.now).taken (g.K.Sink.state c.write_joined.new.out).taken) × ShowsRest (g.W.Wire.allows c.args.wire.now) (sources_of g.E.Evaluates.Source g.E.Evaluates.fits g.E.Evaluates.is_true g.E.Evaluates.rows g.E.Evaluates.plan g.E.Evaluates.reported c.args.options.now.block) c.args.query.now c.args.starts.now c.args.pages.forms (told_at c.args.starts.now l) c.args.options.now.budget c.in-Err-write_joined.fault c.args.asks.now c.write_joined.new.asks (g.W.Wire.state c.args.wire.now) (g.W.Wire.state c.write_joined.new.wire) (g.K.Sink.state c.args.out.now).faults (g.K.Sink.state c.write_joined.new.out).faults (g.K.Sink.state c.args.out.now).taken (g.K.Sink.state c.write_joined.new.out).taken less) c.as_slice.ensures.value c.in-Err-write_joined.ensures.shown
+returns-in-Err-write_joined-clause-shown g c = subst (λ (l : List (Option ℕ)). (less : WritesLess (g.W.Wire.allows c.args.wire.now) (length c.args.query.now.patterns * (c.args.options.now.window * length c.args.pages.forms)) (sources_of g.E.Evaluates.Source g.E.Evaluates.fits g.E.Evaluates.is_true g.E.Evaluates.rows g.E.Evaluates.plan g.E.Evaluates.reported c.args.options.now.block) c.args.query.now c.args.starts.now c.args.pages.forms (told_at c.args.starts.now l) c.args.options.now.budget c.in-Err-write_joined.fault c.args.asks.now c.write_joined.new.asks (g.W.Wire.state c.args.wire.now) (g.W.Wire.state c.write_joined.new.wire) (g.K.Sink.state c.args.out.now).taken (g.K.Sink.state c.write_joined.new.out).taken) × ShowsRest (g.W.Wire.allows c.args.wire.now) (length c.args.query.now.patterns * (c.args.options.now.window * length c.args.pages.forms)) (sources_of g.E.Evaluates.Source g.E.Evaluates.fits g.E.Evaluates.is_true g.E.Evaluates.rows g.E.Evaluates.plan g.E.Evaluates.reported c.args.options.now.block) c.args.query.now c.args.starts.now c.args.pages.forms (told_at c.args.starts.now l) c.args.options.now.budget c.in-Err-write_joined.fault c.args.asks.now c.write_joined.new.asks (g.W.Wire.state c.args.wire.now) (g.W.Wire.state c.write_joined.new.wire) (g.K.Sink.state c.args.out.now).faults (g.K.Sink.state c.write_joined.new.out).faults (g.K.Sink.state c.args.out.now).taken (g.K.Sink.state c.write_joined.new.out).taken less) c.as_slice.ensures.value c.in-Err-write_joined.ensures.shown
 
 pub returns-clause-ok : goal.returns-clause-ok
 returns-clause-ok g c =
@@ -44,7 +41,7 @@ returns-clause-ok g c =
     record {
       events = j.0;
       rows = j.1;
-      joins = subst (λ (l : List (Option ℕ)). Joins (g.W.Wire.allows c.args.wire.now) (sources_of g.E.Evaluates.Source g.E.Evaluates.fits g.E.Evaluates.is_true g.E.Evaluates.rows g.E.Evaluates.plan g.E.Evaluates.reported c.args.options.now.block) c.args.query.now c.args.starts.now c.args.pages.forms (told_at c.args.starts.now l) j.0 j.1 c.args.asks.now c.write_joined.new.asks (g.W.Wire.state c.args.wire.now) (g.W.Wire.state c.write_joined.new.wire)) c.as_slice.ensures.value j.2;
+      joins = subst (λ (l : List (Option ℕ)). Joins (g.W.Wire.allows c.args.wire.now) (length c.args.query.now.patterns * (c.args.options.now.window * length c.args.pages.forms)) (sources_of g.E.Evaluates.Source g.E.Evaluates.fits g.E.Evaluates.is_true g.E.Evaluates.rows g.E.Evaluates.plan g.E.Evaluates.reported c.args.options.now.block) c.args.query.now c.args.starts.now c.args.pages.forms (told_at c.args.starts.now l) j.0 j.1 c.args.asks.now c.write_joined.new.asks (g.W.Wire.state c.args.wire.now) (g.W.Wire.state c.write_joined.new.wire)) c.as_slice.ensures.value j.2;
       is_version = c.report_version.ensures ∙ ap g.E.Evaluates.reported (first-at c.args.pages.versions.items c.index.result.now c.requires.told c.index.ensures);
       requests = c.started.ensures;
       count = c.count.ensures ∙ j.4;
