@@ -1,5 +1,5 @@
 -- The laws of what a command keeps: of no call, and of one after another. For proofs alone.
-use Rattle.std.proofs.Common.{ℕ, ◌≡◌, ◌≤◌, ◌+◌, ◌++◌, List, replicate, refl, sym, ap, subst, ◌∙◌, arith}
+use Rattle.std.proofs.Common.{ℕ, ◌≡◌, ◌+◌, ◌++◌, List, replicate, refl, sym, ap, subst, ◌∙◌, arith}
 use Rattle.std.proofs.lemmas.List.{append-nil, append_assoc, replicate-append-replicate}
 use Rattle.tpf_base.specs.Outside.{ShelfState, AsksOnce}
 use Rattle.tpf_base.specs.Wrote.{SinkState}

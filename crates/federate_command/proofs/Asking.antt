@@ -1,5 +1,5 @@
 -- The end of the command says the rest: what the file holds is answered by itself, and where nothing stands in the way it succeeds.
-use Rattle.std.proofs.Common.{ℕ, ◌≡◌, ◌⊎◌, inl, inr, List, [], ◌∷◌, length, Option, Some, Result, Ok, Err, refl, sym, subst, arith}
+use Rattle.std.proofs.Common.{ℕ, ◌≡◌, ◌⊎◌, inl, inr, List, length, Option, Some, Result, Ok, Err, refl, subst, arith}
 use Rattle.std.specs.List.{AllByRecursion, AllZip}
 use Rattle.tpf_base.specs.Addresses.{Address}
 use Rattle.tpf_base.specs.Causes.{Rose}

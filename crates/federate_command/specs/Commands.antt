@@ -10,13 +10,13 @@ use Rattle.bgp_core.specs.Queries.{QueryData}
 use Rattle.tpf_client.specs.declared.options.Options.{Options}
 use Rattle.tpf_client.specs.declared.options.Report.{Report}
 use Rattle.tpf_client.specs.declared.fault.ClientFault.{ClientFault}
-use Rattle.tpf_client.specs.Acts.{ActsOnWire}
-use Rattle.tpf_client.specs.Calls.{WritesAll, WritesSome, RunsPool, WritesResult, WritesPrefix, most_over}
+use Rattle.tpf_client.specs.Calls.{WritesResult, WritesPrefix, most_over}
+use Rattle.tpf_client.specs.Ended.{WritesOverEnds}
+use Rattle.tpf_client.specs.Still.{SucceedsStillOver}
 use Rattle.tpf_client.specs.Ends.{AreHonestServers, servers_ends}
 use Rattle.tpf_client.specs.Honest.{WritesSolutions, WritesSolutionsFront}
 use Rattle.tpf_client.specs.Offers.{Publisher, servers_offer}
 use Rattle.tpf_client.specs.Plans.{AtEach, IsSmallByAll, RisesFew, PlanFits, MayStill}
-use Rattle.tpf_client.specs.Shown.{ShowsGiven}
 use Rattle.tpf_client.specs.Sinks.{LeavesSink}
 use Rattle.group_faults.specs.declared.fault.GroupWhy.{GroupWhy}
 use Rattle.data_files.specs.declared.fault.QueryFileFault.TheVariants as query_faults
@@ -32,18 +32,16 @@ use Rattle.query_command.specs.Files.{FailsByFile, KeepsOutput}
 use Rattle.federated_query.specs.Limits.{IsShortStart, ServesStart, first_addresses, ServersFit}
 use Rattle.federated_query.specs.Servers.{joint_sources, OverServers}
 
--- What a query over several servers promised of its wire and its output: the text of some rows was written, or a front of one; over a wire that is honest for several servers, of the solutions over the union of what they hold; what was done on the wire and why, by their plan; where that fits and the faults are few a fault is want of memory, or the data of a server changed, and it fits where the servers are within the limits; no version is told; and the output did not fail unless that is the fault.
+-- What a query over several servers promised of its wire and its output: the text of some rows was written, or a front of one; over a wire that is honest for several servers, of the solutions over the union of what they hold; what was done on the wire and why, by their plan, and what was written, of one list of events (`ended`); all that is said of a call that failed is said of one version of each server, those of the start pages where they were read; where the plan fits and the faults are few a fault is want of memory, or the data of a server changed, and it fits where the servers are within the limits; no version is told; and the output did not fail unless that is the fault.
 pub record Federates (allows : List ℕ → ℕ → List ℕ → List ℕ → Type 0) (q : QueryData) (starts : List Address) (options : Options) (result : Result Report ClientFault) (old new : WireState) (out out' : SinkState) : Type 0 where
   pub whole : IfOk result (λ report. WritesResult q report.rows out.taken out'.taken)
   pub front : OnErr result (WritesPrefix q out.taken out'.taken)
-  pub ok : IfOk result (λ report. WritesAll (RunsPool allows options old new) joint_sources q starts report out.taken out'.taken)
-  pub err : IfErr result (λ fault. WritesSome (RunsPool allows options old new) joint_sources q starts options.budget fault out.taken out'.taken)
-  pub shown : IfErr result (λ fault. (some : WritesSome (RunsPool allows options old new) joint_sources q starts options.budget fault out.taken out'.taken) × ShowsGiven (RunsPool allows options old new) joint_sources q starts options.budget fault out.faults out'.faults out.taken out'.taken some)
   pub headline : OverServers allows starts old (λ publishers. IfOk result (λ report. WritesSolutions (servers_offer publishers q starts) q report.version report.rows out.taken out'.taken))
   pub prefix : OverServers allows starts old (λ publishers. OnErr result (WritesSolutionsFront (servers_offer publishers q starts) q out.taken out'.taken))
-  pub acts : ActsOnWire allows (servers_ends q starts) options starts (most_over options q (length starts)) result (λ report. report) old new
+  pub ended : WritesOverEnds allows (servers_ends q starts) joint_sources q starts options (most_over options q (length starts)) result old new out out'
   pub complete : OverServers allows starts old (λ publishers. old.nature.lively ≡ true → (rise : ℕ) → RisesFew options rise old new → PlanFits (servers_offer publishers q starts) options rise → (Rose out.faults out'.faults → ⊥) → IfErr result (MayStill (servers_offer publishers q starts)))
   pub limits : OverServers allows starts old (λ publishers. old.nature.lively ≡ true → (rise : ℕ) → RisesFew options rise old new → ServersFit publishers q starts options rise → (Rose out.faults out'.faults → ⊥) → IfErr result (MayStill (servers_offer publishers q starts)))
+  pub still : SucceedsStillOver allows options q starts old new (Rose out.faults out'.faults) result
   pub version : IfOk result (λ report. report.version ≡ None)
   pub sink : LeavesSink out out' result
 

@@ -59,7 +59,8 @@ fn generated_quads(alloc: Global, persons: u32) -> Result<Vec<Quad>, OutOfMemory
 fn generated_table(alloc: Global, persons: u32, authority: &str) -> Result<Table, OutOfMemory>
     requires few { persons ≤ 1000000 }
     requires authority { IsAuthority authority.now }
-    ensures { IfOk result (λ table. IsServed authority.now (chosen choices.DefaultGraph (generated persons)) (triples_in table)) }
+    ensures { IfOk result (λ table.
+        IsServed authority.now (chosen choices.DefaultGraph (generated persons)) (triples_in table)) }
 {
     let quads = generated_quads(alloc, persons)?;
     match Table::build(
@@ -79,7 +80,8 @@ fn generated_table(alloc: Global, persons: u32, authority: &str) -> Result<Table
 /// The same under the authority of the base.
 fn table_of(alloc: Global, persons: u32, config: &Config) -> Result<Table, OutOfMemory>
     requires { persons ≤ 1000000 }
-    ensures { IfOk result (λ table. IsServed (authority_of config.now.base) (chosen choices.DefaultGraph (generated persons)) (triples_in table)) }
+    ensures { IfOk result (λ table.
+        IsServed (authority_of config.now.base) (chosen choices.DefaultGraph (generated persons)) (triples_in table)) }
 {
     config.is_valid();
     generated_table(alloc, persons, config.base().authority())

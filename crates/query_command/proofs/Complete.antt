@@ -1,5 +1,5 @@
 -- Where none of the causes is there, a command succeeds, or memory is wanting.
-use Rattle.std.proofs.Common.{ℕ, ◌≡◌, ◌≤◌, ◌<◌, ◌^◌, [], ◌∷◌, List, length, Option, None, Result, Ok, Err, IfOk, IfErr, codes, refl, sym, subst}
+use Rattle.std.proofs.Common.{ℕ, ◌≡◌, ◌≤◌, ◌<◌, ◌^◌, List, length, Option, None, Result, Ok, Err, IfOk, IfErr, codes, refl, sym, subst}
 use Rattle.std.specs.List.{AllByRecursion}
 use Rattle.tpf_base.specs.Addresses.{Address, address_text}
 use Rattle.tpf_base.specs.Links.{WireState}
@@ -13,7 +13,7 @@ use Rattle.plan_laws.specs.Fitting.{PlansAreRead, StartsAreRead}
 use Rattle.tpf_client.specs.declared.options.Options.{Options}
 use Rattle.tpf_client.specs.declared.fault.ClientFault.{ClientFault}
 use Rattle.tpf_client.specs.declared.fault.ClientFault.TheVariants as clients
-use Rattle.tpf_client.specs.Offers.{Offer, publisher, offer_in_blocks}
+use Rattle.tpf_client.specs.Offers.{Publisher, Offer}
 use Rattle.tpf_client.specs.Plans.{MayStill, ChangesVersion}
 use Rattle.data_files.proofs.Outcomes.{one_query}
 use Rattle.query_command.specs.Limits.{QueriesAreAskable}
@@ -43,7 +43,7 @@ use Rattle.query_command.specs.Plans.{plan_of, offer_of, SendsInside, RequestsIn
 use Rattle.query_command.specs.Commands.{AsksFile, AsksGenerated}
 use Rattle.query_command.proofs.Reading.{gives_answer, gives_data, gives_query_of}
 use Rattle.query_command.proofs.Counting.{gives_counts}
-use Rattle.query_command.proofs.Fitting.{one_server, plan_fits}
+use Rattle.query_command.proofs.Fitting.{plan_fits}
 use Rattle.query_command.proofs.Planned.{is_memory}
 
 -- data that are served have no fault
@@ -101,25 +101,26 @@ same_query one other e = cc
 module _ (told : Option Files) (name : List ℕ) (allows : List ℕ → ℕ → List ℕ → List ℕ → Type 0) (start : Address) (options : Options) (old new : WireState) (out out' : ℕ) (taken taken' : Option (List ℕ)) where
   -- a call that failed over a wire, and the valid patterns of its query
   pub asked_complete : PlansAreRead → StartsAreRead → AnsweredGivePages → QueriesAreAskable → IsBlockSize options.block → (fault : ClientFault) → (a : AnswersSome told name allows start options fault old new out out' taken taken') → AllByRecursion IsValidPattern a.q.patterns
-      → length (address_text start) ≤ 65536 → ¬ (Rose out out') → OfQuery told name (λ q. (triples : List Triple) (config : Config) → FitsOver allows q start options triples config old new → fault ≡ clients.OutOfMemory)
-  asked_complete plans starts gives askable sized fault a valid short fine = λ files is q holds triples config fits.
+      → length (address_text start) ≤ 65536 → ¬ (Rose out out') → OfQuery told name (λ q. (p : Publisher) (version : ℕ) → FitsOver allows q start options p version old new → fault ≡ clients.OutOfMemory)
+  asked_complete plans starts gives askable sized fault a valid short fine = λ files is q holds p version fits.
       let same : q ≡ a.q = same_query q a.q (one_query grammars.Patterns files name (reads q) (reads a.q) holds (a.is_read.tells files is)) in
-      let own : FitsOver allows a.q start options triples config old new = subst (λ (x : QueryData). FitsOver allows x start options triples config old new) same fits in
-      still_memory (offer_in_blocks options.block (publisher (triples ∷ []) config) a.q start) (one_server options.block triples config a.q start) fault (a.writes.complete (triples ∷ []) config own.honest own.lively own.rise own.rises (plan_fits plans starts gives allows a.q start options triples config old new sized (askable files name a.q (a.is_read.tells files is) valid) short own) fine)
+      let own : FitsOver allows a.q start options p version old new = subst (λ (x : QueryData). FitsOver allows x start options p version old new) same fits in
+      a.writes.still p version own.answers own.tells own.lively own.rise own.rises
+      (plan_fits plans starts gives allows a.q start options p version old new sized (askable files name a.q (a.is_read.tells files is) valid) short own) fine
 
 module _ (shelf shelf' : ShelfState) (name : List ℕ) (allows : List ℕ → ℕ → List ℕ → List ℕ → Type 0) (start : Address) (options : Options) (wire wire' : WireState) (out out' : SinkState) where
   query_complete : (result : Result Report AnswerFault) → IfErr result (AskCause shelf shelf' name allows start options wire wire' out out') → QueryDecides (grammar_of options) shelf shelf' name (λ outcome. GivesAnswer outcome result)
-      → (length (address_text start) ≤ 65536 → ¬ (Rose out.faults out'.faults) → OfQuery shelf.told name (λ q. (triples : List Triple) (config : Config) → FitsOver allows q start options triples config wire wire' → IfErr result IsClientWanting))
+      → (length (address_text start) ≤ 65536 → ¬ (Rose out.faults out'.faults) → OfQuery shelf.told name (λ q. (p : Publisher) (version : ℕ) → FitsOver allows q start options p version wire wire' → IfErr result IsClientWanting))
       → SucceedsOver shelf shelf' name allows start options wire wire' out out' result
-  query_complete (Ok report) cause exact asked short quiet fine = λ files is q holds triples config fits. tt
-  query_complete (Err (faults.Data fault)) cause exact asked short quiet fine = λ files is q holds triples config fits. absurd cause
-  query_complete (Err (faults.Query fault)) cause exact asked short quiet fine = λ files is q holds triples config fits. query_memory q fault (exact quiet files is (reads q) holds)
-  query_complete (Err (faults.Client fault)) cause exact asked short quiet fine = λ files is q holds triples config fits. asked short fine files is q holds triples config fits
+  query_complete (Ok report) cause exact asked short quiet fine = λ files is q holds p version fits. tt
+  query_complete (Err (faults.Data fault)) cause exact asked short quiet fine = λ files is q holds p version fits. absurd cause
+  query_complete (Err (faults.Query fault)) cause exact asked short quiet fine = λ files is q holds p version fits. query_memory q fault (exact quiet files is (reads q) holds)
+  query_complete (Err (faults.Client fault)) cause exact asked short quiet fine = λ files is q holds p version fits. asked short fine files is q holds p version fits
 
   -- the answer or its cause, and that the call over the wire succeeds where nothing stands in the way, say the rest
   pub asks_server : (result : Result Report AnswerFault) → IfOk result (λ report. Answers shelf.told name allows start options report wire wire' out.taken out'.taken)
       → IfErr result (AskCause shelf shelf' name allows start options wire wire' out out')
-      → (length (address_text start) ≤ 65536 → ¬ (Rose out.faults out'.faults) → OfQuery shelf.told name (λ q. (triples : List Triple) (config : Config) → FitsOver allows q start options triples config wire wire' → IfErr result IsClientWanting))
+      → (length (address_text start) ≤ 65536 → ¬ (Rose out.faults out'.faults) → OfQuery shelf.told name (λ q. (p : Publisher) (version : ℕ) → FitsOver allows q start options p version wire wire' → IfErr result IsClientWanting))
       → ReadsNamed name shelf shelf' (FailsByFile result) → KeepsOutput out out' result → AsksServer shelf shelf' allows wire wire' out out' name start options result
   asks_server result ok err asked named output =
       let exact = gives_answer shelf shelf' name allows start options wire wire' out out' result ok err in

@@ -1,11 +1,13 @@
 -- What a query asks of a server in the same process is answered with pages that are read, within the limits of the program.
-use Rattle.std.proofs.Common.{ℕ, ◌≡◌, ◌+◌, ◌≤◌, Bool, true, false, [], ◌∷◌, List, length, Option, if◌then◌else◌, sym, subst, ◌∙◌, arith, lit≤}
+use Rattle.std.proofs.Common.{ℕ, ◌≡◌, ◌≤◌, Bool, true, false, [], ◌∷◌, List, length, Option, if◌then◌else◌, sym, subst, ◌∙◌, arith, lit≤}
 use Rattle.std.specs.List.{AllByRecursion}
+use Rattle.std.proofs.lemmas.Bool.{eqb-true}
 use Rattle.rdf_terms.specs.declared.term.Triple.{Triple}
 use Rattle.tpf_base.specs.Addresses.{Address, address_text, authority_of}
 use Rattle.tpf_base.specs.Links.{WireState}
 use Rattle.tpf_base.specs.Marks.{Served}
 use Rattle.template_fill.specs.Metadata.{Config}
+use Rattle.template_fill.specs.Bodies.{version_of}
 use Rattle.template_fill.specs.Configurations.{IsConfig, IsHistory, IsValidDataSet}
 use Rattle.template_fill.specs.Answered.{is_answered, AnsweredGivePages}
 use Rattle.bgp_core.specs.Queries.{QueryData}
@@ -14,7 +16,7 @@ use Rattle.plan_laws.specs.Fitting.{IsRead, AreServable, IsAskable, IsServable, 
 use Rattle.tpf_client.specs.Offers.{Publisher, IsVersionOf, publisher, is_served, addresses_in_blocks, offer_in_blocks}
 use Rattle.plan_laws.proofs.Starts.{base_of_start, target_of_start}
 use Rattle.tpf_client.specs.declared.options.Options.{Options}
-use Rattle.tpf_client.specs.Plans.{AtEach, TellsVersions, ChangesVersion, IsAnswered, IsReadByAll, IsSmallByAll, IsFit, PlanFits}
+use Rattle.tpf_client.specs.Plans.{AtEach, AtChosen, TellsVersions, ChangesVersion, IsAnswered, IsReadByAll, IsSmallByAll, IsFit, IsFitAt, ChoiceFits, answer_at}
 use Rattle.tpf_client.proofs.Fitting.{answered_of, read_by_all, fit_of}
 use Rattle.tpf_client.proofs.Serving.{at-server}
 use Rattle.query_command.specs.Loops.{local_base}
@@ -105,30 +107,55 @@ module _ (triples : List Triple) (config : Config) (most : ℕ) where
   fits [] r s = tt
   fits (address ∷ list) r s = (fit_of (publisher (triples ∷ []) config) (one_version triples) most address r.0 s.0, fits list r.1 s.1)
 
--- the plan from a start that is answered is read
+-- the plan of a version from a start that it answers is read
+pub version_plan_is_read : PlansAreRead → StartsAreRead → AnsweredGivePages → (block : ℕ) → IsBlockSize block → (p : Publisher) (version : ℕ) (start : Address) (q : QueryData) → IsHistory p.history → IsConfig p.config → IsVersionOf p.history version
+    → AreServable (version_of p.history version) → authority_of start ≡ authority_of p.config.base → is_answered p.history (Served version) p.config start ≡ true → length (address_text start) ≤ 65536
+    → AllByRecursion IsAskable q.patterns → AllByRecursion (IsRead p.history (Served version) p.config) (addresses_in_blocks block p q start version)
+version_plan_is_read plans starts gives block sized p version start q is_history is_config is servable authority answered text askable =
+    let s : IsServable p.history (Served version) p.config = record {
+      is_history = is_history;
+      is_config = is_config;
+      version = record { low = is.low; high = is.high };
+      triples = servable;
+      base = base_of_start p.config.base start is_config.no_query authority ((gives p.history (Served version) p.config start).0 answered).gives.asks.path text;
+    } in (
+      starts p.history (Served version) p.config start s authority (target_of_start start text) answered,
+      if_all (IsRead p.history (Served version) p.config) (is_served p start version) _ (plans block p.history (Served version) p.config q.patterns (length q.names) sized.0 sized.1 s askable),
+    )
+
+-- so it is of one data set
 pub start_plan_is_read : PlansAreRead → StartsAreRead → AnsweredGivePages → (block : ℕ) → IsBlockSize block → (triples : List Triple) (config : Config) (start : Address) (q : QueryData) → IsHistory (triples ∷ []) → IsConfig config → AreServable triples
     → authority_of start ≡ authority_of config.base → is_answered (triples ∷ []) (Served 1) config start ≡ true → length (address_text start) ≤ 65536
     → AllByRecursion IsAskable q.patterns → AllByRecursion (IsRead (triples ∷ []) (Served 1) config) (addresses_in_blocks block (publisher (triples ∷ []) config) q start 1)
 start_plan_is_read plans starts gives block sized triples config start q is_history is_config servable authority answered text askable =
-    let s : IsServable (triples ∷ []) (Served 1) config = record {
-      is_history = is_history;
-      is_config = is_config;
-      version = record { low = omega arith; high = omega arith };
-      triples = servable;
-      base = base_of_start config.base start is_config.no_query authority ((gives (triples ∷ []) (Served 1) config start).0 answered).gives.asks.path text;
-    } in (
-      starts (triples ∷ []) (Served 1) config start s authority (target_of_start start text) answered,
-      if_all (IsRead (triples ∷ []) (Served 1) config) (is_served (publisher (triples ∷ []) config) start 1) _ (plans block (triples ∷ []) (Served 1) config q.patterns (length q.names) sized.0 sized.1 s askable),
-    )
+    version_plan_is_read plans starts gives block sized (publisher (triples ∷ []) config) 1 start q is_history is_config (record { low = omega arith; high = omega arith }) servable authority answered text askable
 
-pub plan_fits : PlansAreRead → StartsAreRead → AnsweredGivePages → (allows : List ℕ → ℕ → List ℕ → List ℕ → Type 0) (q : QueryData) (start : Address) (options : Options) (triples : List Triple) (config : Config) (old new : WireState)
-    → IsBlockSize options.block → AllByRecursion IsAskable q.patterns → length (address_text start) ≤ 65536 → (f : FitsOver allows q start options triples config old new) → PlanFits (offer_in_blocks options.block (publisher (triples ∷ []) config) q start) options f.rise
-plan_fits plans starts gives allows q start options triples config old new sized askable text f =
-    let reads = start_plan_is_read plans starts gives options.block sized triples config start q f.honest.is_history f.honest.is_config f.servable f.authority f.answered text askable in
-    let offer = offer_in_blocks options.block (publisher (triples ∷ []) config) q start in
-    let all = all_weaker (IsFit options.max_body (publisher (triples ∷ []) config)) (AtEach offer (IsFit options.max_body)) (at-server options.block (publisher (triples ∷ []) config) q start (IsFit options.max_body))
-    (addresses_in_blocks options.block (publisher (triples ∷ []) config) q start 1) (fits triples config options.max_body (addresses_in_blocks options.block (publisher (triples ∷ []) config) q start 1) reads f.small) in
+-- what is read is fit where its body is small
+fit_at : (most : ℕ) (p : Publisher) (version : ℕ) (address : Address) → IsRead p.history (Served version) p.config address → length (answer_at p version address).body ≤ most → IsFitAt most p version address
+fit_at most p version address r small = record {
+  is_answered = record { short = r.short; answered = eqb-true (answer_at p version address).status 200 r.answered };
+  page = r.page;
+  is_read = r.taken;
+  is_small = small;
+}
+
+fit_all : (most : ℕ) (p : Publisher) (version : ℕ) (list : List Address) → AllByRecursion (IsRead p.history (Served version) p.config) list → AllByRecursion (λ address. length (answer_at p version address).body ≤ most) list
+    → AllByRecursion (IsFitAt most p version) list
+fit_all most p version [] r s = tt
+fit_all most p version (address ∷ list) r s = (fit_at most p version address r.0 s.0, fit_all most p version list r.1 s.1)
+
+-- at each server that stands there, which is the one, by the one version
+at_chosen : (block : ℕ) (p : Publisher) (q : QueryData) (start : Address) (version most : ℕ) (address : Address) → IsFitAt most p version address → AtChosen (offer_in_blocks block p q start) version (IsFitAt most) address
+at_chosen block p q start version most address fit = λ server told stands has.
+    subst (λ (s : Publisher). IsFitAt most s told address) (sym stands) (subst (λ (n : ℕ). IsFitAt most p n address) (sym has) fit)
+
+pub plan_fits : PlansAreRead → StartsAreRead → AnsweredGivePages → (allows : List ℕ → ℕ → List ℕ → List ℕ → Type 0) (q : QueryData) (start : Address) (options : Options) (p : Publisher) (version : ℕ) (old new : WireState)
+    → IsBlockSize options.block → AllByRecursion IsAskable q.patterns → length (address_text start) ≤ 65536 → (f : FitsOver allows q start options p version old new) → ChoiceFits (offer_in_blocks options.block p q start) options f.rise version
+plan_fits plans starts gives allows q start options p version old new sized askable text f =
+    let list = addresses_in_blocks options.block p q start version in
+    let reads = version_plan_is_read plans starts gives options.block sized p version start q f.answers.is_history f.answers.is_config f.answers.is_version f.servable f.authority f.answered text askable in
     record {
-      fit = λ version is. at_version options.block triples config q start (AllByRecursion (AtEach offer (IsFit options.max_body))) version is all;
-      within = λ version is. at_version options.block triples config q start (λ (list : List Address). length list + f.rise ≤ options.budget) version is f.within;
+      fit = all_weaker (IsFitAt options.max_body p version) (AtChosen (offer_in_blocks options.block p q start) version (IsFitAt options.max_body)) (at_chosen options.block p q start version options.max_body) list
+          (fit_all options.max_body p version list reads f.small);
+      within = f.within;
     }

@@ -11,7 +11,7 @@ use Rattle.pattern_parser.specs.Queries.{is_select, is_brace, prologue, prefixes
 use Rattle.pattern_parser.specs.Short.{IsShortPattern}
 use Rattle.plan_laws.specs.Fitting.{IsAskable}
 use Rattle.group_query.specs.Trees as trees
-use Rattle.group_query.specs.Trees.{Tree, empty, join, optional, union, GroupData, group_tree, blocks_of}
+use Rattle.group_query.specs.Trees.{Tree, empty, optional, union, GroupData, group_tree, blocks_of}
 use Rattle.group_parser.specs.Groups.{Element, Triples, Groups, Optional, joined, united, translated, Reading, IsBlock, AreUnions, AreElements, IsGroup}
 use Rattle.group_parser.specs.Texts.{ReadsGroups}
 use Rattle.group_parser.proofs.Walked.{block_is_read}

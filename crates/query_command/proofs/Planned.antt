@@ -10,7 +10,6 @@ use Rattle.tpf_base.specs.Marks.{Served, version_at}
 use Rattle.template_fill.specs.HttpAnswer.{Answer}
 use Rattle.template_fill.specs.Metadata.{Config}
 use Rattle.bgp_core.specs.Queries.{QueryData}
-use Rattle.request_pool.specs.Pools.{Pooled, empty_pool}
 use Rattle.pool_laws.specs.Answers.{HasLongBody}
 use Rattle.pool_laws.specs.Requested.{over_links, whole_requests}
 use Rattle.loop_wire.specs.Looped.{Looped, CountsDue, FewFaults, every_of}
@@ -20,16 +19,16 @@ use Rattle.tpf_client.specs.declared.options.Options.{Options}
 use Rattle.tpf_client.specs.declared.options.Report.{Report}
 use Rattle.tpf_client.specs.declared.fault.ClientFault.{ClientFault}
 use Rattle.tpf_client.specs.declared.fault.ClientFault.TheVariants as faults
-use Rattle.tpf_client.specs.Traffic.{Event}
-use Rattle.tpf_client.specs.Calls.{RunsPool}
+use Rattle.tpf_client.specs.Calls.{most_asked}
+use Rattle.tpf_client.specs.Acts.{ActsOnWire}
+use Rattle.tpf_client.specs.Ends.{ends_in_blocks}
 use Rattle.tpf_client.specs.Offers.{Publisher, publisher, IsVersionOf, Offer, addresses_in_blocks}
 use Rattle.tpf_client.specs.Honest.{IsHonestWire}
 use Rattle.tpf_client.specs.Requested.{CallRequests, RequestsPlan, AnswersPlan}
 use Rattle.tpf_client.specs.Failing.{SpendsPlan}
-use Rattle.tpf_client.specs.Plans.{StartedIn, CountsRises, AsksPlan, IsSmallByAll, HasLongPage, OverrunsPlan, answer_at}
-use Rattle.tpf_client.proofs.Endings.{travels-onward}
+use Rattle.tpf_client.specs.Plans.{CountsRises, AsksPlan, IsSmallByAll, HasLongPage, OverrunsPlan, answer_at}
 use Rattle.plan_laws.specs.Fitting.{IsRead}
-use Rattle.query_command.specs.Answers.{KeepsToPlan, WritesOver, FailsOver}
+use Rattle.query_command.specs.Answers.{WritesOver, FailsOver}
 use Rattle.query_command.specs.Loops.{LoopsServer, allows_of, wire_of, begun, local_base}
 use Rattle.query_command.specs.Plans.{plan_of, offer_of, SendsPlan, BoundsRequests, CountsRequests, PassesBudget, MayEnd, MayEndBy, EndsAsPlanned, IsWithin}
 use Rattle.query_command.proofs.Failing.{FewFailed, few_failed, counts_requests, fails_often, passes_budget, not_often, not_passed}
@@ -60,15 +59,16 @@ bounds_requests server seed n after q options r =
           subst (λ (links : ℕ). over_links (λ k. count_by test (whole_requests (all.on k))) 0 links ≤ (options.retries + 1) * count_by test (plan_of options (serving server).data_set (serving server).config q)) (from_none (wire_of after).given) (all.few test);
     }
 
--- the nature of a wire stays
-nature_stays : (allows : List ℕ → ℕ → List ℕ → List ℕ → Type 0) (options : Options) (since now : WireState) (events : List Event) (pool : Pooled) → RunsPool allows options since now events pool → now.nature ≡ since.nature
-nature_stays allows options since now events pool r = r.closes.nature ∙ (travels-onward allows events (empty_pool options.links options.retries options.budget options.max_body) pool since r.between r.travels).nature
+-- what a call did on a wire that was made for a server
+abbrev pub ActsThere : FragmentServer → ℕ → ℕ → Looped FragmentServer → QueryData → Options → Result Report ClientFault → Type 0
+ActsThere server seed n after q options result =
+    ActsOnWire (allows_of (begun server seed n)) (ends_in_blocks options.block q local_base) options (local_base ∷ []) (most_asked options q) result (λ report. report) (wire_of (begun server seed n)) (wire_of after)
 
 module _ (server : FragmentServer) (seed n : ℕ) (after : Looped FragmentServer) (q : QueryData) (options : Options)
     (honest : IsHonestWire (allows_of (begun server seed n)) ((serving server).data_set ∷ []) (serving server).config (wire_of (begun server seed n)))
     (reads : AllByRecursion (IsRead ((serving server).data_set ∷ []) (Served 1) (serving server).config) (plan_of options (serving server).data_set (serving server).config q))
     (due : CountsDue after.counts.failing after.counts.dials after.counts.faults after.provoked) (small : options.budget < 2 ^ 63)
-    (plan : KeepsToPlan (allows_of (begun server seed n)) q local_base options (wire_of (begun server seed n)) (wire_of after)) where
+    (result : Result Report ClientFault) (acts : ActsThere server seed n after q options result) where
   abbrev triples : List Triple
   triples = (serving server).data_set
 
@@ -84,17 +84,17 @@ module _ (server : FragmentServer) (seed n : ℕ) (after : Looped FragmentServer
   abbrev most : ℕ
   most = length (plan_of options triples config q)
 
-  counted : CountsRises (StartedIn (allows_of (begun server seed n)) options since now) (offer_of options triples config q) since now
-  counted = plan.counted (publisher (triples ∷ []) config) honest refl
+  counted : CountsRises (λ started. started ≡ acts.happened.pool.started) (offer_of options triples config q) since now
+  counted = acts.plan.counted (publisher (triples ∷ []) config) honest refl
 
   length_is : (version : ℕ) → IsVersionOf (triples ∷ []) version → length (addresses_in_blocks options.block (publisher (triples ∷ []) config) q local_base version) ≡ most
   length_is version is = at_version options.block triples config q local_base (λ (list : List Address). length list ≡ most) version is refl
 
   few : FewFailed n most now.faults
   few =
-      let spares = plan.unprovoked (publisher (triples ∷ []) config) honest refl (λ k. refl) (omega (arith, small)) in
-      let every : every_of after.counts.failing ≡ Some n = ap (λ (x : Nature). x.every) (nature_stays (allows_of (begun server seed n)) options since now counted.is_started.events counted.is_started.pool counted.is_started.runs) in
-      let dials = plan.dials in
+      let spares = acts.plan.unprovoked (publisher (triples ∷ []) config) honest refl (λ k. refl) (omega (arith, small)) in
+      let every : every_of after.counts.failing ≡ Some n = ap (λ (x : Nature). x.every) acts.moves.nature in
+      let dials = acts.dials in
       let f : FewFaults n now.dials now.faults now.provoked = due n every (omega (arith, dials, small)) in
       let made = counted.dials in
       few_failed n most now.faults now.dials now.provoked counted.rises options.budget f spares.provoked small dials counted.rose
@@ -104,8 +104,8 @@ module _ (server : FragmentServer) (seed n : ℕ) (after : Looped FragmentServer
 
   pub requests_counted : (report : Report) (taken taken' : Option (List ℕ)) → WritesOver (allows_of (begun server seed n)) q local_base options report since now taken taken' → CountsRequests n options.retries most report.requests
   requests_counted report taken taken' w =
-      let paced = w.paced (publisher (triples ∷ []) config) honest refl in
-      let tries = w.tries (publisher (triples ∷ []) config) honest in
+      let paced = w.acts.plan.paced (publisher (triples ∷ []) config) honest refl in
+      let tries = w.acts.plan.requests (publisher (triples ∷ []) config) honest in
       let size = length_is paced.choice paced.is_choice in
       counts_requests n options.retries most now.faults few report.requests paced.rises
       (subst (λ (k : ℕ). k ≤ report.requests) size paced.each) paced.rose (subst (λ (k : ℕ). report.requests ≤ k + paced.rises) size paced.few)
@@ -120,41 +120,41 @@ module _ (server : FragmentServer) (seed n : ℕ) (after : Looped FragmentServer
       (subst (λ (k : ℕ). options.budget < (options.retries + 1) * k) (length_is s.choice s.is_choice) s.tries)
 
   pub may_end : (fault : ClientFault) (out out' : ℕ) (taken taken' : Option (List ℕ)) → FailsOver (allows_of (begun server seed n)) q local_base options fault since now out out' taken taken' → MayEnd n options triples config q fault
-  may_end faults.Exchange out out' taken taken' f = fails_often n options.retries most now.faults few (f.lively_cause (publisher (triples ∷ []) config) honest refl)
-  may_end faults.Stalled out out' taken taken' f = f.lively_cause (publisher (triples ∷ []) config) honest refl
-  may_end (faults.Cut received) out out' taken taken' f = fails_often n options.retries most now.faults few (f.lively_cause (publisher (triples ∷ []) config) honest refl)
+  may_end faults.Exchange out out' taken taken' f = fails_often n options.retries most now.faults few (f.acts.plan.lively_cause (publisher (triples ∷ []) config) honest refl)
+  may_end faults.Stalled out out' taken taken' f = f.acts.plan.lively_cause (publisher (triples ∷ []) config) honest refl
+  may_end (faults.Cut received) out out' taken taken' f = fails_often n options.retries most now.faults few (f.acts.plan.lively_cause (publisher (triples ∷ []) config) honest refl)
   may_end (faults.Reply fault received) out out' taken taken' f =
-      let c = f.honest_cause (publisher (triples ∷ []) config) honest in
+      let c = f.acts.plan.honest_cause (publisher (triples ∷ []) config) honest in
       let answered = all_answered triples config options q reads c.choice c.is_choice in (
         c.too_long answered,
         subst (λ (list : List Address). HasLongPage (offer_of options triples config q) options.max_body list received) (at_version options.block triples config q local_base (λ (list : List Address). list ≡ plan_of options triples config q) c.choice c.is_choice refl) (c.long answered),
       )
-  may_end (faults.Page fault body) out out' taken taken' f = let c = f.honest_cause (publisher (triples ∷ []) config) honest in c.unread (all_read triples config options q reads c.choice c.is_choice)
-  may_end (faults.Changed first other) out out' taken taken' f = let c = f.honest_cause (publisher (triples ∷ []) config) honest in one_server options.block triples config q local_base first other c
-  may_end (faults.Budget m) out out' taken taken' f = (f.cause.0, overruns (f.lively_cause (publisher (triples ∷ []) config) honest refl) (f.spent_plan (publisher (triples ∷ []) config) honest))
+  may_end (faults.Page fault body) out out' taken taken' f = let c = f.acts.plan.honest_cause (publisher (triples ∷ []) config) honest in c.unread (all_read triples config options q reads c.choice c.is_choice)
+  may_end (faults.Changed first other) out out' taken taken' f = let c = f.acts.plan.honest_cause (publisher (triples ∷ []) config) honest in one_server options.block triples config q local_base first other c
+  may_end (faults.Budget m) out out' taken taken' f = (f.acts.cause.0, overruns (f.acts.plan.lively_cause (publisher (triples ∷ []) config) honest refl) (f.acts.plan.spent_plan (publisher (triples ∷ []) config) honest))
   may_end faults.Sink out out' taken taken' f = tt
   may_end faults.OutOfMemory out out' taken taken' f = tt
 
 -- ---- the call as it ended
 
 pub sends_from : (server : FragmentServer) (seed n : ℕ) (after : Looped FragmentServer) (q : QueryData) (options : Options)
-    → KeepsToPlan (allows_of (begun server seed n)) q local_base options (wire_of (begun server seed n)) (wire_of after)
+    → (result : Result Report ClientFault) → ActsThere server seed n after q options result
     → IsHonestWire (allows_of (begun server seed n)) ((serving server).data_set ∷ []) (serving server).config (wire_of (begun server seed n))
     → LoopsServer server seed n (Some after) (λ old new. SendsPlan options (serving server).data_set (serving server).config q (wire_of new))
-sends_from server seed n after q options plan honest = record {
+sends_from server seed n after q options result acts honest = record {
   after = after;
   is_inside = refl;
-  says = sends_plan server seed n after q options (plan.asked (publisher ((serving server).data_set ∷ []) (serving server).config) honest);
+  says = sends_plan server seed n after q options (acts.plan.asked (publisher ((serving server).data_set ∷ []) (serving server).config) honest);
 }
 
 pub requests_from : (server : FragmentServer) (seed n : ℕ) (after : Looped FragmentServer) (q : QueryData) (options : Options)
-    → KeepsToPlan (allows_of (begun server seed n)) q local_base options (wire_of (begun server seed n)) (wire_of after)
+    → (result : Result Report ClientFault) → ActsThere server seed n after q options result
     → IsHonestWire (allows_of (begun server seed n)) ((serving server).data_set ∷ []) (serving server).config (wire_of (begun server seed n))
     → LoopsServer server seed n (Some after) (λ old new. BoundsRequests options (serving server).data_set (serving server).config q (wire_of new))
-requests_from server seed n after q options plan honest = record {
+requests_from server seed n after q options result acts honest = record {
   after = after;
   is_inside = refl;
-  says = bounds_requests server seed n after q options (plan.requested (publisher ((serving server).data_set ∷ []) (serving server).config) honest);
+  says = bounds_requests server seed n after q options (acts.plan.requested (publisher ((serving server).data_set ∷ []) (serving server).config) honest);
 }
 
 same_some : {A : Type 0} (x y : A) → ◌≡◌ {A = Option A} (Some x) (Some y) → x ≡ y
@@ -170,18 +170,18 @@ pub ends_from : (server : FragmentServer) (seed n : ℕ) (after : Looped Fragmen
 ends_from server seed n after q options out out' taken taken' (Ok report) honest reads due small ok err =
     let w : WritesOver (allows_of (begun server seed n)) q local_base options report (wire_of (begun server seed n)) (wire_of after) taken taken' =
     subst (λ (wire : Looped FragmentServer). WritesOver (allows_of (begun server seed n)) q local_base options report (wire_of (begun server seed n)) (wire_of wire) taken taken') (same_some ok.after after (sym ok.is_inside)) ok.says in
-    requests_counted server seed n after q options honest reads due small w.plan report taken taken' w
+    requests_counted server seed n after q options honest reads due small (Ok report) w.acts report taken taken' w
 ends_from server seed n after q options out out' taken taken' (Err fault) honest reads due small ok err =
     let f : FailsOver (allows_of (begun server seed n)) q local_base options fault (wire_of (begun server seed n)) (wire_of after) out out' taken taken' =
     subst (λ (wire : Looped FragmentServer). FailsOver (allows_of (begun server seed n)) q local_base options fault (wire_of (begun server seed n)) (wire_of wire) out out' taken taken') (same_some err.after after (sym err.is_inside)) err.says in
-    may_end server seed n after q options honest reads due small f.plan fault out out' taken taken' f
+    may_end server seed n after q options honest reads due small (Err fault) f.acts fault out out' taken taken' f
 
 -- what was answered
 pub answers_from : (server : FragmentServer) (seed n : ℕ) (after : Looped FragmentServer) (q : QueryData) (options : Options) (taken taken' : Option (List ℕ)) (result : Result Report ClientFault)
     → IsHonestWire (allows_of (begun server seed n)) ((serving server).data_set ∷ []) (serving server).config (wire_of (begun server seed n))
     → IfOk result (λ report. LoopsServer server seed n (Some after) (λ wire wire'. WritesOver (allows_of wire) q local_base options report (wire_of wire) (wire_of wire') taken taken'))
     → IfOk result (λ report. LoopsServer server seed n (Some after) (λ wire wire'. AnswersPlan (offer_of options (serving server).data_set (serving server).config q) options report (wire_of wire) (wire_of wire')))
-answers_from server seed n after q options taken taken' (Ok report) honest ok = record { after = ok.after; is_inside = ok.is_inside; says = ok.says.replied (publisher ((serving server).data_set ∷ []) (serving server).config) honest }
+answers_from server seed n after q options taken taken' (Ok report) honest ok = record { after = ok.after; is_inside = ok.is_inside; says = ok.says.acts.plan.replied (publisher ((serving server).data_set ∷ []) (serving server).config) honest }
 answers_from server seed n after q options taken taken' (Err fault) honest ok = tt
 
 -- ---- completeness

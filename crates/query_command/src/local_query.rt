@@ -1,5 +1,5 @@
 // The query of a file through a server in the same process.
-ghost use Rattle.std.specs.Prelude.{◌≡◌, ◌<◌, ◌≤◌, ◌^◌, [], ◌∷◌, true, length, None, IfOk, IfErr, IsErrOf, OnErr};
+ghost use Rattle.std.specs.Prelude.{◌≡◌, ◌<◌, ◌≤◌, ◌^◌, true, length, None, IfOk, IfErr, IsErrOf, OnErr};
 ghost use Rattle.std.specs.List.{AllByRecursion};
 ghost use Rattle.data_files.specs.Kept.{KeepsSink};
 ghost use Rattle.file_server.specs.Servers.{serving};

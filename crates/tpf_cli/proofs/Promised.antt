@@ -13,11 +13,8 @@ use Rattle.bgp_core.specs.Queries.{QueryData}
 use Rattle.tpf_client.specs.declared.options.Options.{Options}
 use Rattle.tpf_client.specs.Offers.{Publisher, Offer}
 use Rattle.tpf_client.specs.declared.options.Report.{Report}
-use Rattle.tpf_client.specs.declared.fault.ClientFault.TheVariants as clients
 use Rattle.data_files.specs.declared.query.Grammar.TheVariants as grammars
 use Rattle.data_files.specs.declared.fault.DataFault.{DataFault}
-use Rattle.data_files.specs.declared.fault.DataFault.TheVariants as data_faults
-use Rattle.data_files.specs.declared.fault.QueryFileFault.TheVariants as query_faults
 use Rattle.data_files.specs.Data.{IfTold, Serves, served}
 use Rattle.data_files.specs.Kept.{KeepsShelf, KeepsSink}
 use Rattle.data_files.specs.KeptLaws.{shelf_same, reads_keep, sink_same}
@@ -111,10 +108,10 @@ module _ (a : Around) where
   -- ---- the other commands
 
   server_succeeds : (name : List ℕ) (client : ClientWords) (answer : Result Report AnswerFault) (url : Address) → IsTyped url → ServerAsked a.shelf a.shelf' a.allows a.wire a.wire' a.out a.out' name url (options_of client) answer → ¬ (Rose a.shelf.faults a.shelf'.faults) → ¬ (Rose a.out.faults a.out'.faults)
-      → OfQuery a.shelf.told name (λ q. (triples : List Triple) (config : Config) → FitsOver a.allows q url (options_of client) triples config a.wire a.wire' → IsDone (answer_status answer))
-  server_succeeds name client (Ok report) url typed h quiet fine = λ files is q holds triples config fits. inl refl
-  server_succeeds name client (Err fault) url typed (Groups g h) quiet fine = λ files is q holds triples config fits. absurd (no_plain (grammar_of (options_of client)) a.shelf.told name g h.is_read files is q holds)
-  server_succeeds name client (Err fault) url typed (Plain h) quiet fine = λ files is q holds triples config fits. wanting_done fault (h.complete typed quiet fine files is q holds triples config fits)
+      → OfQuery a.shelf.told name (λ q. (p : Publisher) (version : ℕ) → FitsOver a.allows q url (options_of client) p version a.wire a.wire' → IsDone (answer_status answer))
+  server_succeeds name client (Ok report) url typed h quiet fine = λ files is q holds p version fits. inl refl
+  server_succeeds name client (Err fault) url typed (Groups g h) quiet fine = λ files is q holds p version fits. absurd (no_plain (grammar_of (options_of client)) a.shelf.told name g h.is_read files is q holds)
+  server_succeeds name client (Err fault) url typed (Plain h) quiet fine = λ files is q holds p version fits. wanting_done fault (h.complete typed quiet fine files is q holds p version fits)
 
   servers_succeed : (several : Federated) (answer : Result Report AnswerFault) → AllByRecursion IsTyped several.urls → ServersAsked a.shelf a.shelf' a.allows a.wire a.wire' a.out a.out' several.query several.urls (options_of several.client) answer → ¬ (Rose a.shelf.faults a.shelf'.faults) → ¬ (Rose a.out.faults a.out'.faults)
       → OfQuery a.shelf.told several.query (λ q. (publishers : List Publisher) → FitsServers a.allows q several.urls (options_of several.client) publishers a.wire a.wire' → IsDone (answer_status answer))

@@ -17,7 +17,6 @@ use Rattle.group_faults.specs.declared.fault.GroupWhy.{GroupWhy}
 use Rattle.tpf_client.specs.declared.options.Options.{Options}
 use Rattle.tpf_client.specs.declared.options.Report.{Report}
 use Rattle.tpf_client.specs.declared.fault.ClientFault.{ClientFault}
-use Rattle.tpf_client.specs.declared.fault.ClientFault.TheVariants as clients
 use Rattle.data_files.specs.declared.query.Grammar.{Grammar}
 use Rattle.data_files.specs.declared.query.Grammar.TheVariants as grammars
 use Rattle.data_files.specs.declared.fault.DataFault.{DataFault}

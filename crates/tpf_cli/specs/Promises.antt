@@ -173,7 +173,7 @@ SucceedsOf a (Some (local name query_name choice page client seed fail_every)) s
     → OfFiles a.shelf.told (view_of name query_name choice page client seed fail_every) (λ triples q. PlanIsWithin fail_every (options_of client) triples (local_config (options_of client) page) q → IsDone status)
 SucceedsOf a (Some (query url query_name client)) status =
     ¬ (Rose a.shelf.faults a.shelf'.faults) → ¬ (Rose a.out.faults a.out'.faults)
-    → OfQuery a.shelf.told query_name (λ q. (triples : List Triple) (config : Config) → FitsOver a.allows q url (options_of client) triples config a.wire a.wire' → IsDone status)
+    → OfQuery a.shelf.told query_name (λ q. (p : Publisher) (version : ℕ) → FitsOver a.allows q url (options_of client) p version a.wire a.wire' → IsDone status)
 SucceedsOf a (Some (federate several)) status =
     ¬ (Rose a.shelf.faults a.shelf'.faults) → ¬ (Rose a.out.faults a.out'.faults)
     → OfQuery a.shelf.told several.query (λ q. (publishers : List Publisher) → FitsServers a.allows q several.urls (options_of several.client) publishers a.wire a.wire' → IsDone status)

@@ -120,8 +120,8 @@ pub fn write_fault<E: Sink>(
     why: &[u8],
     status: Status,
 ) -> Status
-    ensures says { SaysLine (code_of result) (code_of status) (front.now ++ decimal n ++ codes ": " ++ why.now ++ codes "\n")
-        (E.state err.old) (E.state err.new) }
+    ensures says { SaysLine (code_of result) (code_of status)
+        (front.now ++ decimal n ++ codes ": " ++ why.now ++ codes "\n") (E.state err.old) (E.state err.new) }
     ensures keeps { KeepsSink (E.state err.old) (E.state err.new) }
 {
     match fault_line(alloc, front, n, why) {
@@ -138,7 +138,8 @@ pub fn write_named<E: Sink>(
     name: &[u8],
     status: Status,
 ) -> Status
-    ensures says { SaysLine (code_of result) (code_of status) (front.now ++ name.now ++ codes "\n") (E.state err.old) (E.state err.new) }
+    ensures says { SaysLine (code_of result) (code_of status) (front.now ++ name.now ++ codes "\n")
+        (E.state err.old) (E.state err.new) }
     ensures keeps { KeepsSink (E.state err.old) (E.state err.new) }
 {
     match named_line(alloc, front, name) {
@@ -155,7 +156,8 @@ pub fn write_number<E: Sink>(
     n: u64,
     status: Status,
 ) -> Status
-    ensures says { SaysLine (code_of result) (code_of status) (front.now ++ decimal n ++ codes "\n") (E.state err.old) (E.state err.new) }
+    ensures says { SaysLine (code_of result) (code_of status) (front.now ++ decimal n ++ codes "\n")
+        (E.state err.old) (E.state err.new) }
     ensures keeps { KeepsSink (E.state err.old) (E.state err.new) }
 {
     match number_line(alloc, front, n) {

@@ -177,7 +177,8 @@ fn say_service<E: Sink>(
 
 /// Says what came of generated data: nothing where they were written.
 fn say_made<E: Sink>(err: &mut E, made: &Result<(), Fault>) -> Status
-    ensures says { SaysLine (code_of result) (made_status made.now) (made_line made.now) (E.state err.old) (E.state err.new) }
+    ensures says { SaysLine (code_of result) (made_status made.now) (made_line made.now)
+        (E.state err.old) (E.state err.new) }
     ensures keeps { KeepsSink (E.state err.old) (E.state err.new) }
 {
     match made {

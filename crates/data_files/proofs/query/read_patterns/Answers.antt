@@ -1,5 +1,4 @@
 use Rattle.std.proofs.Common.{ℕ, List, subst, rules}
-use Rattle.bgp_core.specs.Queries.{QueryData}
 use Rattle.pattern_parser.specs.Queries.{ReadsQuery}
 use Rattle.data_files.proofs.Causes.{no_query_file, query_file_failed}
 use Rattle.data_files.proofs.Held.{held_patterns}

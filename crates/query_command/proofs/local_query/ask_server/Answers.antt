@@ -9,16 +9,13 @@ use Rattle.query_command.proofs.local_query.ask_server.Goals as goal
 
 pub returns-clause-answers : goal.returns-clause-answers
 returns-clause-answers g c =
-    loops_ok c.args.server c.args.asked.now.seed c.args.asked.now.fail_every c.new-wire.result c.query-answer.new.wire c.new-wire.ensures c.args.query.now c.args.asked.now.start.now local_base c.requires.start c.args.asked.now.options ((g.K.Sink.state c.args.out.now).faults) ((g.K.Sink.state c.query-answer.new.out).faults) ((g.K.Sink.state c.args.out.now).taken) ((g.K.Sink.state c.query-answer.new.out).taken) c.query-answer.result c.query-answer.ensures.whole c.query-answer.ensures.ok c.query-answer.ensures.headline
-    (record { closed = c.query-answer.ensures.acts.closed; peers = c.query-answer.ensures.acts.peers; others = c.query-answer.ensures.acts.others; sent = c.query-answer.ensures.acts.sent; dials = c.query-answer.ensures.acts.dials; given = c.query-answer.ensures.acts.given; asked = c.query-answer.ensures.acts.plan.asked; tries = c.query-answer.ensures.acts.plan.planned; counted = c.query-answer.ensures.acts.plan.counted; unprovoked = c.query-answer.ensures.acts.plan.unprovoked; requested = c.query-answer.ensures.acts.plan.requested })
-    c.query-answer.ensures.acts.answered c.query-answer.ensures.acts.plan.requests c.query-answer.ensures.acts.plan.paced c.query-answer.ensures.acts.plan.replied c.query-answer.ensures.acts.within c.query-answer.ensures.acts.dialled c.query-answer.ensures.acts.linked c.query-answer.ensures.acts
+    loops_ok c.args.server c.args.asked.now.seed c.args.asked.now.fail_every c.new-wire.result c.query-answer.new.wire c.new-wire.ensures c.args.query.now c.args.asked.now.start.now local_base c.requires.start c.args.asked.now.options ((g.K.Sink.state c.args.out.now).faults) ((g.K.Sink.state c.query-answer.new.out).faults) ((g.K.Sink.state c.args.out.now).taken) ((g.K.Sink.state c.query-answer.new.out).taken) c.query-answer.result
+    c.query-answer.ensures.whole c.query-answer.ensures.ended.acts c.query-answer.ensures.ended.ok c.query-answer.ensures.headline
 
 pub returns-clause-cause : goal.returns-clause-cause
 returns-clause-cause g c =
-    loops_err c.args.server c.args.asked.now.seed c.args.asked.now.fail_every c.new-wire.result c.query-answer.new.wire c.new-wire.ensures c.args.query.now c.args.asked.now.start.now local_base c.requires.start c.args.asked.now.options ((g.K.Sink.state c.args.out.now).faults) ((g.K.Sink.state c.query-answer.new.out).faults) ((g.K.Sink.state c.args.out.now).taken) ((g.K.Sink.state c.query-answer.new.out).taken) c.query-answer.result c.query-answer.ensures.front c.query-answer.ensures.err c.query-answer.ensures.shown c.query-answer.ensures.prefix c.query-answer.ensures.acts.cause c.query-answer.ensures.sink.sink
-    (record { closed = c.query-answer.ensures.acts.closed; peers = c.query-answer.ensures.acts.peers; others = c.query-answer.ensures.acts.others; sent = c.query-answer.ensures.acts.sent; dials = c.query-answer.ensures.acts.dials; given = c.query-answer.ensures.acts.given; asked = c.query-answer.ensures.acts.plan.asked; tries = c.query-answer.ensures.acts.plan.planned; counted = c.query-answer.ensures.acts.plan.counted; unprovoked = c.query-answer.ensures.acts.plan.unprovoked; requested = c.query-answer.ensures.acts.plan.requested })
-    c.query-answer.ensures.acts.plan.honest_cause c.query-answer.ensures.acts.plan.lively_cause c.query-answer.ensures.complete
-    c.query-answer.ensures.acts.failed_often c.query-answer.ensures.acts.spent_requests c.query-answer.ensures.acts.spent_tries c.query-answer.ensures.acts.plan.spent_plan c.query-answer.ensures.acts
+    loops_err c.args.server c.args.asked.now.seed c.args.asked.now.fail_every c.new-wire.result c.query-answer.new.wire c.new-wire.ensures c.args.query.now c.args.asked.now.start.now local_base c.requires.start c.args.asked.now.options ((g.K.Sink.state c.args.out.now).faults) ((g.K.Sink.state c.query-answer.new.out).faults) ((g.K.Sink.state c.args.out.now).taken) ((g.K.Sink.state c.query-answer.new.out).taken) c.query-answer.result
+    c.query-answer.ensures.front c.query-answer.ensures.ended.acts c.query-answer.ensures.ended.err c.query-answer.ensures.prefix c.query-answer.ensures.sink.sink c.query-answer.ensures.complete c.query-answer.ensures.still
 
 pub returns-clause-answer : goal.returns-clause-answer
 returns-clause-answer g c =
@@ -30,16 +27,14 @@ returns-clause-front g c =
 
 pub returns-clause-sent : goal.returns-clause-sent
 returns-clause-sent g c =
-    sends_from c.args.server c.args.asked.now.seed c.args.asked.now.fail_every c.query-answer.new.wire c.args.query.now c.args.asked.now.options
-    (keeps c.args.server c.args.asked.now.seed c.args.asked.now.fail_every c.new-wire.result c.query-answer.new.wire c.new-wire.ensures c.args.query.now c.args.asked.now.start.now local_base c.requires.start c.args.asked.now.options ((g.K.Sink.state c.args.out.now).faults) ((g.K.Sink.state c.query-answer.new.out).faults) ((g.K.Sink.state c.args.out.now).taken) ((g.K.Sink.state c.query-answer.new.out).taken)
-    (record { closed = c.query-answer.ensures.acts.closed; peers = c.query-answer.ensures.acts.peers; others = c.query-answer.ensures.acts.others; sent = c.query-answer.ensures.acts.sent; dials = c.query-answer.ensures.acts.dials; given = c.query-answer.ensures.acts.given; asked = c.query-answer.ensures.acts.plan.asked; tries = c.query-answer.ensures.acts.plan.planned; counted = c.query-answer.ensures.acts.plan.counted; unprovoked = c.query-answer.ensures.acts.plan.unprovoked; requested = c.query-answer.ensures.acts.plan.requested }))
+    sends_from c.args.server c.args.asked.now.seed c.args.asked.now.fail_every c.query-answer.new.wire c.args.query.now c.args.asked.now.options c.query-answer.result
+    (keeps c.args.server c.args.asked.now.seed c.args.asked.now.fail_every c.new-wire.result c.query-answer.new.wire c.new-wire.ensures c.args.query.now c.args.asked.now.start.now local_base c.requires.start c.args.asked.now.options ((g.K.Sink.state c.args.out.now).faults) ((g.K.Sink.state c.query-answer.new.out).faults) ((g.K.Sink.state c.args.out.now).taken) ((g.K.Sink.state c.query-answer.new.out).taken) c.query-answer.result c.query-answer.ensures.ended.acts)
     (honest_wire c.args.server c.args.asked.now.seed c.args.asked.now.fail_every c.requires.first (valid_served c.args.server c.server.result.now c.server.ensures c.is_valid.ensures.data_set) (config_served c.args.server c.server.result.now c.server.ensures c.is_valid.ensures.config) c.is_few.ensures)
 
 pub returns-clause-requested : goal.returns-clause-requested
 returns-clause-requested g c =
-    requests_from c.args.server c.args.asked.now.seed c.args.asked.now.fail_every c.query-answer.new.wire c.args.query.now c.args.asked.now.options
-    (keeps c.args.server c.args.asked.now.seed c.args.asked.now.fail_every c.new-wire.result c.query-answer.new.wire c.new-wire.ensures c.args.query.now c.args.asked.now.start.now local_base c.requires.start c.args.asked.now.options ((g.K.Sink.state c.args.out.now).faults) ((g.K.Sink.state c.query-answer.new.out).faults) ((g.K.Sink.state c.args.out.now).taken) ((g.K.Sink.state c.query-answer.new.out).taken)
-    (record { closed = c.query-answer.ensures.acts.closed; peers = c.query-answer.ensures.acts.peers; others = c.query-answer.ensures.acts.others; sent = c.query-answer.ensures.acts.sent; dials = c.query-answer.ensures.acts.dials; given = c.query-answer.ensures.acts.given; asked = c.query-answer.ensures.acts.plan.asked; tries = c.query-answer.ensures.acts.plan.planned; counted = c.query-answer.ensures.acts.plan.counted; unprovoked = c.query-answer.ensures.acts.plan.unprovoked; requested = c.query-answer.ensures.acts.plan.requested }))
+    requests_from c.args.server c.args.asked.now.seed c.args.asked.now.fail_every c.query-answer.new.wire c.args.query.now c.args.asked.now.options c.query-answer.result
+    (keeps c.args.server c.args.asked.now.seed c.args.asked.now.fail_every c.new-wire.result c.query-answer.new.wire c.new-wire.ensures c.args.query.now c.args.asked.now.start.now local_base c.requires.start c.args.asked.now.options ((g.K.Sink.state c.args.out.now).faults) ((g.K.Sink.state c.query-answer.new.out).faults) ((g.K.Sink.state c.args.out.now).taken) ((g.K.Sink.state c.query-answer.new.out).taken) c.query-answer.result c.query-answer.ensures.ended.acts)
     (honest_wire c.args.server c.args.asked.now.seed c.args.asked.now.fail_every c.requires.first (valid_served c.args.server c.server.result.now c.server.ensures c.is_valid.ensures.data_set) (config_served c.args.server c.server.result.now c.server.ensures c.is_valid.ensures.config) c.is_few.ensures)
 
 pub returns-clause-ends : goal.returns-clause-ends

@@ -15,7 +15,7 @@ pub returns-in-Err-clause-asks : goal.returns-in-Err-clause-asks
 returns-in-Err-clause-asks g c =
     sums.Plain (asks_server _ _ c.args.name.now _ c.args.start.now c.args.options.now _ _ _ _ (Err (faults.Query c.in-Err.fault)) tt
     (subst (λ (grammar : Grammar). QueryCause grammar (g.F.Shelf.state c.args.shelf.now) (g.F.Shelf.state c.read_query.new.shelf) c.args.name.now c.in-Err.fault) c.grammar_of.ensures c.in-Err.ensures.err, refl, refl)
-    (λ short fine files is q holds triples config fits. tt)
+    (λ short fine files is q holds p version fits. tt)
     (reads_as _ _ _ _ _ (λ e. cc) (λ e. cc) c.in-Err.ensures.reads)
     (record { keeps = sink_none _; spared = λ fine. tt }))
 
@@ -28,21 +28,13 @@ returns-in-Ok-query_server-clause-asks g c =
       is_read = plain_file _ _ _ c.in-Ok.query c.in-Plain.query c.in-Plain.is c.in-Ok.ensures.ok;
       writes = record {
         whole = e.whole;
-        writes = e.ok;
+        acts = e.ended.acts;
+        writes = e.ended.ok;
         headline = e.headline;
-        plan = record { closed = e.acts.closed; peers = e.acts.peers; others = e.acts.others; sent = e.acts.sent; dials = e.acts.dials; given = e.acts.given; asked = e.acts.plan.asked; tries = e.acts.plan.planned; counted = e.acts.plan.counted; unprovoked = e.acts.plan.unprovoked; requested = e.acts.plan.requested };
-        answered = e.acts.answered;
-        tries = e.acts.plan.requests;
-        paced = e.acts.plan.paced;
-        replied = e.acts.plan.replied;
-        within = e.acts.within;
-        dialled = e.acts.dialled;
-        linked = e.acts.linked;
-        acts = e.acts;
       };
     })
     tt
-    (λ short fine files is q holds triples config fits. tt)
+    (λ short fine files is q holds p version fits. tt)
     (reads_as _ _ _ _ _ (λ e. cc) (λ e. absurd e) c.in-Ok.ensures.reads)
     (record { keeps = record { later = e.sink.later; faultless = e.sink.faultless; spared = λ fine. (e.sink.spared fine).0 }; spared = λ fine. tt }))
 
@@ -55,20 +47,12 @@ returns-in-Plain-clause-asks g c =
       is_read = plain_file _ _ _ c.in-Ok.query c.in-Plain.query c.in-Plain.is c.in-Ok.ensures.ok;
       writes = record {
         front = e.front;
-        writes = e.err;
-        shown = e.shown;
+        acts = e.ended.acts;
+        fails = e.ended.err;
         headline = e.prefix;
-        cause = e.acts.cause;
         sink = λ is. e.sink.sink (cc);
-        plan = record { closed = e.acts.closed; peers = e.acts.peers; others = e.acts.others; sent = e.acts.sent; dials = e.acts.dials; given = e.acts.given; asked = e.acts.plan.asked; tries = e.acts.plan.planned; counted = e.acts.plan.counted; unprovoked = e.acts.plan.unprovoked; requested = e.acts.plan.requested };
-        honest_cause = e.acts.plan.honest_cause;
-        lively_cause = e.acts.plan.lively_cause;
         complete = e.complete;
-        failed_often = e.acts.failed_often;
-        spent_requests = e.acts.spent_requests;
-        spent_tries = e.acts.spent_tries;
-        spent_plan = e.acts.plan.spent_plan;
-        acts = e.acts;
+        still = e.still;
       };
     })
     (valid_read c.in-Plain.query _ c.patterns-patterns.ensures.value c.patterns-patterns.ensures.valid)

@@ -1,5 +1,5 @@
 -- What is said of the server is said of its file.
-use Rattle.std.proofs.Common.{refl, sym, ap, subst, is_some, ◌∙◌, Result, Err, ℕ}
+use Rattle.std.proofs.Common.{sym, ap, subst, is_some, ◌∙◌, Err, ℕ}
 use Rattle.template_fill.specs.Metadata.{Config}
 use Rattle.tpf_base.specs.Addresses.{authority_of}
 use Rattle.tpf_base.specs.Outside.{AsksOnce}

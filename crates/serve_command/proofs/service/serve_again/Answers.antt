@@ -1,7 +1,6 @@
 -- The supply is of the file, under the base that the server has, and stays so.
 use Rattle.std.proofs.Common.{rules, ap, subst, ◌∙◌}
 use Rattle.tpf_base.specs.Addresses.{authority_of}
-use Rattle.tpf_base.specs.Outside.{ShelfState}
 use Rattle.data_files.specs.Data.{IsOfFile}
 use Rattle.data_files.specs.Kept.{KeepsShelf, AsksOnly}
 use Rattle.file_server.specs.Servers.{serving}

@@ -1,6 +1,5 @@
-use Rattle.std.proofs.Common.{refl}
 use Rattle.data_files.specs.KeptLaws.{sink_none}
-use Rattle.tpf_cli.proofs.Asked.{no_numbers, all_numbers}
+use Rattle.tpf_cli.proofs.Asked.{no_numbers}
 use Rattle.tpf_cli.proofs.commands.write_numbers.Goals as goal
 
 pub returns-in-Err-clause-line : goal.returns-in-Err-clause-line

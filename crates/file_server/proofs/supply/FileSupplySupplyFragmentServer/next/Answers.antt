@@ -1,4 +1,4 @@
-use Rattle.std.proofs.Common.{◌≤◌, ◌∙◌, sym, ap, subst, arith}
+use Rattle.std.proofs.Common.{◌∙◌, sym, ap, subst, arith}
 use Rattle.tpf_base.specs.Addresses.{authority_of}
 use Rattle.tpf_base.specs.Outside.{AsksOnce}
 use Rattle.data_files.specs.Kept.{KeepsShelf, AsksOnly}
