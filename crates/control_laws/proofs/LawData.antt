@@ -1,86 +1,29 @@
 -- The data of a page: distinct triples without blank nodes, in the default graph.
-use Rattle.std.proofs.Common.{◌≡◌, ℕ, zero, suc, ◌-◌, ◌*◌, inl, inr, Bool, true, false, not, List, [], ◌∷◌, ◌++◌, map, take, drop, refl, sym, ◌∙◌, ap, subst}
+use Rattle.std.proofs.Common.{◌≡◌, ℕ, ◌-◌, ◌*◌, inl, inr, List, [], ◌∷◌, ◌++◌, map, take, drop, sym, ◌∙◌, ap, subst}
 use Rattle.std.specs.Prelude.{is_none}
 use Rattle.std.specs.List.{AllByRecursion, Contains, filter}
-use Rattle.std.specs.List.Sorted.{IsStrictlySortedBy}
-use Rattle.std.specs.Cmp.{IsTotalOrder}
-use Rattle.std.specs.declared.cmp.Ordering.{Ordering}
-use Rattle.std.specs.declared.cmp.Ordering.TheVariants.{Less}
-use Rattle.std.proofs.lemmas.Cmp.{tied_itself}
 use Rattle.std.proofs.lemmas.List.Elements.{All-from_recursion, recursion_from_All, All-contains, All-contains_itself, All-weaker, All-take, All-drop}
-use Rattle.list_laws.proofs.Ascending.{less_not_equal}
+use Rattle.list_laws.proofs.Ascending.{strict_take, strict_drop}
 use Rattle.rdf_terms.specs.declared.term.Term.{Term}
 use Rattle.rdf_terms.specs.declared.term.Term.TheVariants.{Iri, Blank, Literal}
 use Rattle.rdf_terms.specs.declared.term.Triple.{Triple}
 use Rattle.rdf_terms.specs.declared.term.Quad.{Quad}
 use Rattle.rdf_terms.specs.Selections.{Selection, selected, selected_page}
-use Rattle.rdf_terms.specs.Same.{triple_eq}
-use Rattle.rdf_terms.specs.EqualityLaws.{triple_decides}
 use Rattle.rdf_terms.specs.Slots.{order_of}
 use Rattle.rdf_terms.specs.Triples.{IsIri, IsIriOrLiteral, IsGroundTriple}
 use Rattle.rdf_terms.proofs.FragmentLaws.{order_of_total}
 use Rattle.rdf_terms.proofs.SelectionLaws.{one-selection}
 use Rattle.template_fill.specs.Bodies.{in_default_graph}
 use Rattle.page_controls.specs.Contents.{firsts, default_triples, page_triples, IsBlank, HoldsBlank, HasBlankData}
-
--- ---- lists without repeats
-
-abbrev AreDistinct : List Triple → Type 0
-AreDistinct [] = Unit {0}
-AreDistinct (t ∷ ts) = AllByRecursion (λ s. not (triple_eq t s) ≡ true) ts × AreDistinct ts
-
-filter_all : (test : Triple → Bool) (ts : List Triple) → AllByRecursion (λ t. test t ≡ true) ts → filter test ts ≡ ts
-filter_all test [] h = refl
-filter_all test (t ∷ ts) h = rw (h.0, filter_all test ts h.1) refl
-
-firsts_same : (ts : List Triple) → AreDistinct ts → firsts ts ≡ ts
-firsts_same [] h = refl
-firsts_same (t ∷ ts) h = rw (firsts_same ts h.1, filter_all (λ s. not (triple_eq t s)) ts h.0) refl
-
--- ---- ascending lists
-
-all_weaker : (P Q : Triple → Type 0) → ((t : Triple) → P t → Q t) → (ts : List Triple) → AllByRecursion P ts → AllByRecursion Q ts
-all_weaker P Q f [] h = tt
-all_weaker P Q f (t ∷ ts) h = (f t h.0, all_weaker P Q f ts h.1)
-
-all_take : (P : Triple → Type 0) (n : ℕ) (ts : List Triple) → AllByRecursion P ts → AllByRecursion P (take n ts)
-all_take P zero ts h = tt
-all_take P (suc n) [] h = tt
-all_take P (suc n) (t ∷ ts) h = (h.0, all_take P n ts h.1)
-
-differs : (R : Triple → Triple → Ordering) → IsTotalOrder R → (t s : Triple) → R t s ≡ Less → not (triple_eq t s) ≡ true
-differs R o t s less =
-    let go : (b : Bool) → triple_eq t s ≡ b → not b ≡ true =
-    λ b. elim b as (λ v. triple_eq t s ≡ v → not v ≡ true) [
-      | true ↦ λ same. absurd (less_not_equal (sym less ∙ ap (λ (u : Triple). R t u) (sym ((triple_decides t s).0 same)) ∙ tied_itself o t))
-      | false ↦ λ _. refl
-    ] in
-    go (triple_eq t s) refl
-
-ascending_distinct : (R : Triple → Triple → Ordering) → IsTotalOrder R → (ts : List Triple) → IsStrictlySortedBy R ts → AreDistinct ts
-unfolding IsStrictlySortedBy
-ascending_distinct R o [] h = tt
-ascending_distinct R o (t ∷ ts) h = (all_weaker (λ s. R t s ≡ Less) (λ s. not (triple_eq t s) ≡ true) (λ s less. differs R o t s less) ts h.0, ascending_distinct R o ts h.1)
-
-ascending_take : (R : Triple → Triple → Ordering) (n : ℕ) (ts : List Triple) → IsStrictlySortedBy R ts → IsStrictlySortedBy R (take n ts)
-unfolding IsStrictlySortedBy
-ascending_take R zero ts h = tt
-ascending_take R (suc n) [] h = tt
-ascending_take R (suc n) (t ∷ ts) h = (all_take (λ s. R t s ≡ Less) n ts h.0, ascending_take R n ts h.1)
-
-ascending_drop : (R : Triple → Triple → Ordering) (n : ℕ) (ts : List Triple) → IsStrictlySortedBy R ts → IsStrictlySortedBy R (drop n ts)
-unfolding IsStrictlySortedBy
-ascending_drop R zero ts h = h
-ascending_drop R (suc n) [] h = tt
-ascending_drop R (suc n) (t ∷ ts) h = ascending_drop R n ts h.1
+use Rattle.control_reader.proofs.Distinct.{ascending_firsts}
 
 -- ---- pages
 
 -- a page has each triple once
 pub page_firsts : (triples : List Triple) (s : Selection) (k size : ℕ) → firsts (selected_page triples s k size) ≡ selected_page triples s k size
 page_firsts triples s k size =
-    let ascending = ascending_take (order_of s.slots) size (drop ((k - 1) * size) (selected triples s)) (ascending_drop (order_of s.slots) ((k - 1) * size) (selected triples s) (one-selection.is triples s).ascending) in
-    firsts_same (selected_page triples s k size) (ascending_distinct (order_of s.slots) (order_of_total s.slots) (selected_page triples s k size) ascending)
+    let ascending = strict_take (order_of s.slots) size (drop ((k - 1) * size) (selected triples s)) (strict_drop (order_of s.slots) ((k - 1) * size) (selected triples s) (one-selection.is triples s).ascending) in
+    ascending_firsts (order_of s.slots) (order_of_total s.slots) (selected_page triples s k size) ascending
 
 -- what holds of each triple of the data holds of each of a page
 pub page_all : (P : Triple → Type 0) (triples : List Triple) (s : Selection) (k size : ℕ) → AllByRecursion P triples → AllByRecursion P (selected_page triples s k size)

@@ -1,7 +1,7 @@
 -- Triples that hold a blank node.
 use Rattle.std.proofs.Common.{◌≡◌, Bool, true, false, ◌||◌, List, refl, sym, subst, inl, inr, ⊎_elim}
 use Rattle.std.specs.List.{Contains, list_any}
-use Rattle.std.proofs.lemmas.Bool.{or_right, or_cases}
+use Rattle.std.proofs.lemmas.Bool.{or_left, or_right, or_cases}
 use Rattle.list_laws.proofs.Members.{any_of, some_of}
 use Rattle.list_laws.proofs.Tests.{not_both_ways}
 use Rattle.rdf_terms.specs.declared.term.Term.{Term}
@@ -25,10 +25,6 @@ holds_is : (t : Triple) → holds_blank t ≡ true → HoldsBlank t
 holds_is t h =
     ⊎_elim (λ a. inl (blank_is t.subject a)) (λ a. inr (⊎_elim (λ b. inl (blank_is t.predicate b)) (λ b. inr (blank_is t.object b)) (or_cases (is_blank t.predicate) (is_blank t.object) a)))
     (or_cases (is_blank t.subject) (is_blank t.predicate || is_blank t.object) h)
-
-or_left : (a b : Bool) → a ≡ true → (a || b) ≡ true
-or_left true b h = refl
-or_left false b h = absurd (cc)
 
 is_holds : (t : Triple) → HoldsBlank t → holds_blank t ≡ true
 is_holds t h =

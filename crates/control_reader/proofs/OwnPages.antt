@@ -22,13 +22,11 @@ use Rattle.own_controls.proofs.Controls.{body, texts_of, topic_is, count_is, nex
 use Rattle.own_controls.proofs.Joined.{reads_behind, terms_short}
 use Rattle.own_controls.proofs.Readable.{safe_metadata, all_readable}
 use Rattle.control_reader.specs.Takes.{IsBody, Takes}
+use Rattle.control_reader.specs.Ascending.{triples_of}
 use Rattle.control_reader.specs.Blanks.{TakesTriples}
 use Rattle.control_reader.specs.Own.{IsData, IsOwnForm, IsOwnNext, own_texts}
 
 -- ---- the data
-
-abbrev triples_of : List Quad → List Triple
-triples_of quads = map (λ (q : Quad). q.triple) quads
 
 no_graph : (q : Quad) → is_none q.graph ≡ true → in_default_graph q.triple ≡ q
 no_graph q h = by q.graph refl h

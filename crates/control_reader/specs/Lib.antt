@@ -4,3 +4,4 @@ pub mod Outcomes
 pub mod Laws
 pub mod Authorities
 pub mod Own
+pub mod Ascending

@@ -4,6 +4,7 @@ ghost use Rattle.std.specs.List.{list_any};
 ghost use Rattle.page_controls.specs.Contents.{page_triples, HasBlankData};
 ghost use Rattle.page_controls.specs.Outcomes.{Answers};
 ghost use Rattle.page_controls.specs.Marks.{marked};
+ghost use Rattle.control_reader.specs.Ascending.{triples_of};
 ghost use Rattle.control_reader.specs.Blanks.{is_blank, holds_blank, TakesTriples};
 
 use fragment_page::PageFault;
@@ -39,6 +40,27 @@ fn marked(alloc: Global, quads: Vec<Quad>, marks: Vec<bool>) -> Result<Vec<Tripl
         .filter(|(_, mark)| *mark)
         .map(|(quad, _)| quad.triple)
         .collect(alloc)?;
+    Ok(triples)
+}
+
+/// The triples of the quads.
+fn triples_of(alloc: Global, quads: Vec<Quad>) -> Result<Vec<Triple>, OutOfMemory>
+    ensures { IfOk result (λ v. v.items ≡ triples_of quads.items) }
+{
+    let triples = quads.into_iter().map(|quad| quad.triple).collect(alloc)?;
+    Ok(triples)
+}
+
+/// The distinct triples of the default graph, where all quads stand in it and no triple comes twice.
+pub(crate) fn take_all(alloc: Global, quads: Vec<Quad>) -> Result<Vec<Triple>, PageFault>
+    requires { triples_of quads.items ≡ page_triples quads.items }
+    ensures { Answers (λ v. TakesTriples quads.items v.items)
+        (λ fault. (fault ≡ PageFault.BlankData) × HasBlankData quads.items) result }
+{
+    let triples = triples_of(alloc, quads)?;
+    if have_blank(triples.as_slice()) {
+        return Err(PageFault::BlankData);
+    }
     Ok(triples)
 }
 

@@ -13,6 +13,7 @@
 //! ```
 #![tactic(auto)]
 
+mod ascending;
 mod contents;
 mod laws;
 mod own;

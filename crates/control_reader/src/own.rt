@@ -1,5 +1,5 @@
 // The page of a server of our own, whose controls are compared and not read.
-ghost use Rattle.std.specs.Prelude.{ℕ, ◌≡◌, List, is_none, Some, IfOk};
+ghost use Rattle.std.specs.Prelude.{ℕ, ◌≡◌, true, List, is_none, Some, IfOk};
 ghost use Rattle.std.specs.List.{list_all};
 ghost use Rattle.rdf_terms.specs.declared.term.Quad.{Quad};
 ghost use Rattle.tpf_base.specs.Addresses.{IsAddress, authority_of};
@@ -9,7 +9,8 @@ ghost use Rattle.control_reader.specs.Takes.{Takes};
 ghost use Rattle.control_reader.specs.Own.{IsData, IsOwnForm, IsOwnNext, own_texts};
 ghost use Rattle.control_reader.specs.Blanks.{TakesTriples};
 
-use crate::contents::take_triples;
+use crate::ascending::ascend;
+use crate::contents::{take_all, take_triples};
 use crate::read::LONGEST;
 use fragment_page::{Page, PageFault, TripleList};
 use nquads_text::{TextFault, read_all};
@@ -63,7 +64,19 @@ fn data_quads(alloc: Global, front: &[u8]) -> Result<Vec<Quad>, NotOwn>
     }
 }
 
-/// Their distinct triples.
+/// The distinct triples of quads of the default graph. Those of a server's page ascend, so none of them is looked for.
+fn distinct_triples(alloc: Global, quads: Vec<Quad>) -> Result<Vec<Triple>, PageFault>
+    requires { list_all (λ (q : Quad). is_none q.graph) quads.items ≡ true }
+    ensures { IfOk result (λ v. TakesTriples quads.items v.items) }
+{
+    if ascend(quads.as_slice()) {
+        return take_all(alloc, quads);
+    }
+    let marks = first_marks(alloc, quads.as_slice())?;
+    take_triples(alloc, quads, marks)
+}
+
+/// The distinct triples of the lines before the controls.
 fn data_triples(alloc: Global, front: &[u8]) -> Result<Vec<Triple>, NotOwn>
     ensures { IfOk result (λ v. (quads : List Quad) × IsData front.now quads × TakesTriples quads v.items) }
 {
@@ -71,8 +84,7 @@ fn data_triples(alloc: Global, front: &[u8]) -> Result<Vec<Triple>, NotOwn>
         Ok(quads) => quads,
         Err(fault) => return Err(fault),
     };
-    let marks = first_marks(alloc, quads.as_slice())?;
-    match take_triples(alloc, quads, marks) {
+    match distinct_triples(alloc, quads) {
         Ok(triples) => Ok(triples),
         Err(PageFault::OutOfMemory) => Err(NotOwn::OutOfMemory),
         Err(_) => Err(NotOwn::Other),
