@@ -1,74 +1,25 @@
--- The base of a server, and the texts of addresses that begin with its text.
-use Rattle.std.proofs.Common.{◌≡◌, ℕ, ◌<◌, List, [], ◌∷◌, ◌++◌, true, ◌==◌, if◌then◌else◌, nat_le, Some, Option, length, refl, sym, ◌∙◌, ap, subst, arith, inl, inr, append_assoc}
+-- The texts of addresses that begin with that of a server's base.
+use Rattle.std.proofs.Common.{◌≡◌, ℕ, List, [], ◌∷◌, ◌++◌, true, Some, length, refl, sym, ◌∙◌, ap, subst, inl, inr, append_assoc}
 use Rattle.std.specs.Prelude.{codes}
 use Rattle.std.specs.List.{list_all, prefix_len}
 use Rattle.std.specs.Char.{is_ascii}
 use Rattle.std.proofs.lemmas.List.Folds.{list_all-append}
-use Rattle.std.proofs.lemmas.Bool.Decides.{nat_tests}
 use Rattle.std.proofs.Math.Seq.{drop-append_seam, take-append_seam}
 use Rattle.rdf_terms.specs.Iri.{is_iri_byte}
 use Rattle.rdf_terms.specs.Selections.{Selection}
-use Rattle.tpf_base.specs.Addresses.{Address, IsAddress, IsPortTyped, is_host_byte, is_host, is_address_byte, is_path_byte, is_path, is_query_part, query_text, authority_text, authority_of, target_of, address_text}
+use Rattle.tpf_base.specs.Addresses.{Address, IsAddress, IsPortTyped, is_host_byte, is_host, is_address_byte, authority_text, authority_of, target_of, address_text}
 use Rattle.template_fill.specs.ReadAddress.{read_spelled, with_target}
-use Rattle.template_fill.specs.WebAddress.{IsNormal, Extends, port_text, is_lower}
+use Rattle.template_fill.specs.WebAddress.{IsNormal, Extends, port_text}
 use Rattle.template_fill.specs.Pages.{page_address, page_mark, page_pair, selection_text}
 use Rattle.own_controls.specs.Safe.{IsWeb}
+use Rattle.own_controls.proofs.Addresses.{base_normal, base_web}
 use Rattle.own_controls.proofs.Web.{web_more}
-use Rattle.template_fill.proofs.Addresses.{and_left, and_right, all_host, is_host-lower, is_lower-lower, not_empty, authority-port, is_port_typed, normal_is_address, keeps, kept_iri, is_ascii-address, iri_byte-address}
-use Rattle.template_fill.proofs.Reading.{prefix_len-front, after_scheme-of, IsTail, is_tail, port_part-of, one_address}
+use Rattle.template_fill.proofs.Addresses.{all_host, authority-port, is_port_typed, normal_is_address, is_ascii-address, iri_byte-address}
+use Rattle.template_fill.proofs.Reading.{prefix_len-front, after_scheme-of, IsTail, port_part-of, one_address}
 use Rattle.template_fill.proofs.Passing.{list_all-wider}
 use Rattle.template_fill.proofs.PageTexts.{page_extends}
 
--- ---- the base in its normal form
-
-pub record RootedPath (path : List ℕ) : Type 0 where
-  pub after : List ℕ
-  pub is_path : path ≡ 47 ∷ after
-  pub bytes : list_all is_path_byte after ≡ true
-
-rooted_path : (typed : List ℕ) → is_path typed ≡ true → RootedPath (if length typed == 0 then codes "/" else typed)
-rooted_path [] h = record { after = []; is_path = refl; bytes = refl }
-rooted_path (b ∷ rest) h =
-    let slash : b ≡ 47 = grind (arith, nat_tests, and_left (b == 47) _ h) in
-    record { after = rest; is_path = rw (not_empty b rest) (ap (λ x. x ∷ rest) slash); bytes = and_right (b == 47) _ h }
-
-pub port_bounds : (typed : List ℕ) (port : ℕ) → IsPortTyped typed port → (0 < port) × (port < 65536)
-port_bounds typed port (inl h) = (omega (arith, h.1), omega (arith, h.1))
-port_bounds typed port (inr h) = (grind (arith, nat_tests, and_left (nat_le 1 port) _ h.1), grind (arith, nat_tests, and_right (nat_le 1 port) _ h.1))
-
-target_normal : (host path : List ℕ) (port : ℕ) (query : Option (List ℕ)) → is_host host ≡ true → is_lower host ≡ true → 0 < port → port < 65536 → RootedPath path → is_query_part query ≡ true → IsNormal host port (path ++ query_text query)
-target_normal host path port query own lower low high root asked =
-    let tail = is_tail (47 ∷ root.after) query root.bytes asked in
-    record {
-      is_host = own;
-      lower = lower;
-      low = low;
-      high = high;
-      after_slash = root.after ++ query_text query;
-      slash = ap (λ front. front ++ query_text query) root.is_path;
-      bytes = tail.rest;
-    }
-
--- an address that is read from its own text has the parts of the normal form
-pub base_normal : (base : Address) → IsAddress (address_text base) base → IsNormal base.host base.port (target_of base)
-base_normal base r =
-    let bounds = port_bounds r.typed_port base.port r.port in
-    let root : RootedPath base.path = subst RootedPath (sym r.path_kept) (rooted_path r.typed_path r.path) in
-    target_normal base.host base.path base.port base.query (rw r.host_kept (is_host-lower r.typed_host r.host)) (rw r.host_kept (is_lower-lower r.typed_host)) bounds.0 bounds.1 root r.query
-
-pub text_is : (base : Address) → address_text base ≡ codes "http://" ++ (authority_text base.host base.port ++ target_of base)
-text_is base = refl
-
 -- ---- texts that are IRIs of ASCII
-
-normal_web : (host target : List ℕ) (port : ℕ) → IsNormal host port target → IsWeb (codes "http://" ++ (authority_text host port ++ target))
-normal_web host target port n =
-    let text = codes "http://" ++ (authority_text host port ++ target) in
-    let kept = (keeps text host target (length host) (length (authority_text host port)) port n refl refl refl).0 in
-    record { iri = kept_iri text (length host) (length (authority_text host port)) port kept; ascii = kept.ascii }
-
-pub base_web : (base : Address) → IsAddress (address_text base) base → IsWeb (address_text base)
-base_web base h = normal_web base.host (target_of base) base.port (base_normal base h)
 
 pub extends_web : (base : Address) (text : List ℕ) → IsAddress (address_text base) base → Extends base text → IsWeb text
 extends_web base text h e =

@@ -10,7 +10,8 @@ use Rattle.template_fill.specs.WebAddress.{IsNormal}
 use Rattle.template_fill.specs.Templates.{Part, before, after, sections_after, parts_of, part_of, shape_of, names_of, is_name, begins_with_slash, start_of, read_template, expansion}
 use Rattle.template_fill.specs.Pages.{server_template, template_text}
 use Rattle.template_fill.proofs.Addresses.{and_left, and_right, is_lower-same}
-use Rattle.control_laws.proofs.LawAddresses.{base_normal, base_web, base_parts, normal_spelled}
+use Rattle.own_controls.proofs.Addresses.{base_normal, base_web}
+use Rattle.control_laws.proofs.LawAddresses.{base_parts, normal_spelled}
 
 differs : (p : ℕ → Bool) (b x : ℕ) → p b ≡ true → p x ≡ false → (b == x) ≡ false
 differs p b x passes fails =

@@ -29,8 +29,9 @@ use Rattle.page_controls.specs.Controls.{IsTopic, IsCount, IsLeastForm, IsFormOf
 use Rattle.control_reader.specs.Takes.{IsBody, Takes}
 use Rattle.control_laws.specs.Law.{IsWithinLimits, IsNextOf, IsServerForm, IsPageOf, IsReadFrom, IsVersionNumber, ControlsReadBack, NothingElseIsRead, PagesAreThere}
 use Rattle.page_controls.proofs.Fine.{one_version}
+use Rattle.own_controls.proofs.Addresses.{base_web}
 use Rattle.own_controls.proofs.Web.{web_more}
-use Rattle.control_laws.proofs.LawAddresses.{base_web, extends_web, page_longer, longer, longer_is, same_authority}
+use Rattle.control_laws.proofs.LawAddresses.{extends_web, page_longer, longer, longer_is, same_authority}
 use Rattle.own_controls.proofs.Controls.{body, texts_of, topic_is, count_is, next_is, no_next_is, least_is, version_is}
 use Rattle.control_laws.proofs.LawData.{page_firsts, page_all, default_data, no_blank_data}
 use Rattle.control_laws.proofs.LawMetadata.{Parts, metadata, parts_for, metadata_is}

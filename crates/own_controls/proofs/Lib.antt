@@ -9,3 +9,4 @@ pub mod Sections
 pub mod Joined
 pub mod Owned
 pub mod Pieces
+pub mod Addresses

@@ -13,6 +13,15 @@ pub stripped : (bytes text piece : List ℕ) (r : Option (Bor (List ℕ))) → t
 stripped bytes text piece None e h = tt
 stripped bytes text piece (Some rest) e h = h ∙ ap (λ (l : List ℕ). l ++ rest.now) e
 
+-- what stands behind a text stands behind an equal one
+pub behind_same : (bytes one other : List ℕ) (r : Option (Bor (List ℕ))) → one ≡ other → IfSome r (λ rest. bytes ≡ one ++ rest.now) → IfSome r (λ rest. bytes ≡ other ++ rest.now)
+behind_same bytes one other None e h = tt
+behind_same bytes one other (Some rest) e h = h ∙ ap (λ (l : List ℕ). l ++ rest.now) e
+
+-- no piece stands in front of all
+pub behind_none : (bytes piece : List ℕ) → piece ≡ [] → bytes ≡ piece ++ bytes
+behind_none bytes piece none = ap (λ (l : List ℕ). l ++ bytes) (sym none)
+
 -- ---- numbers
 
 digits_again : (digits : List ℕ) (n : ℕ) → is_count_text digits ≡ true → n ≡ digits_value 10 digits → (get_or digits 0 0 ≡ 48 → length digits ≡ 1) → decimal_text n ≡ digits

@@ -6,14 +6,14 @@ use Rattle.own_controls.specs.declared.lines.LineText.{LineText}
 abbrev pub graph_end : List ℕ → List ℕ
 graph_end page = codes " <" ++ (page ++ codes "#metadata> .\n")
 
--- a line: five pieces, and the graph
+-- a line: five pieces, and what all lines end with
 abbrev pub line_text : List ℕ → LineText → List ℕ
-line_text page l = l.opening.now ++ (l.one.now ++ (l.middle.now ++ (l.other.now ++ (l.closing.now ++ graph_end page))))
+line_text ending l = l.opening.now ++ (l.one.now ++ (l.middle.now ++ (l.other.now ++ (l.closing.now ++ ending))))
 
 -- lines, one after another
 abbrev pub lines_text : List ℕ → List LineText → List ℕ
-lines_text page [] = []
-lines_text page (l ∷ ls) = line_text page l ++ lines_text page ls
+lines_text ending [] = []
+lines_text ending (l ∷ ls) = line_text ending l ++ lines_text ending ls
 
 -- nothing, or a text whose last line ends with LF
 abbrev pub EndsLine : List ℕ → Type 0

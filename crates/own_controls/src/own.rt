@@ -5,6 +5,7 @@ ghost use Rattle.std.specs.Char.{is_ascii};
 ghost use Rattle.rdf_terms.specs.Canon.{canon};
 ghost use Rattle.tpf_base.specs.Addresses.{address_text};
 ghost use Rattle.template_fill.specs.Metadata.{topic_quads, form_quads, count_quads, link_quads, version_quads};
+ghost use Rattle.own_controls.specs.Lines.{graph_end};
 ghost use Rattle.own_controls.specs.Metadata.{graph_of, mappings, link_target};
 ghost use Rattle.own_controls.specs.Safe.{IsWeb};
 ghost use Rattle.own_controls.specs.Own.{IsOwn};
@@ -14,8 +15,8 @@ use crate::piece::{behind, behind_end, text_to};
 use crate::section::{
     behind_counts, behind_form, behind_link, behind_mappings, behind_topic, behind_version,
 };
-use crate::start::{Halves, cut};
-use rdf_terms::is_iri;
+use crate::start::{Halves, cut, line_ending};
+use rdf_terms::{has_scheme, is_iri};
 use template_fill::WebAddress;
 
 /// The most bytes that the metadata may have.
@@ -88,8 +89,20 @@ fn is_web(text: &str) -> bool
     is_iri(text) && is_ascii(text.as_bytes())
 }
 
+/// Whether a text is an IRI of ASCII, where the page's address is one: then a front of it is one if it has a scheme.
+fn is_web_beside(page: &str, text: &str) -> bool
+    requires { IsWeb page.now }
+    ensures { IsTrue result → IsWeb text.now }
+{
+    match behind(page.as_bytes(), text) {
+        None => is_web(text),
+        Some(_) => has_scheme(text.as_bytes()),
+    }
+}
+
 /// The template, and the base that it begins with.
-fn texts_of<'a>(first: &'a str, base: &'a str, template: &'a str) -> Option<Texts<'a>>
+fn texts_of<'a>(page: &str, first: &'a str, base: &'a str, template: &'a str) -> Option<Texts<'a>>
+    requires { IsWeb page.now }
     ensures base { IfSome result (λ t. IsWeb t.base.now) }
     ensures first { IfSome result (λ t. IsWeb t.first.now) }
     ensures template { IfSome result (λ t. t.template.now ≡ t.base.now ++ codes "{?subject,predicate,object}") }
@@ -99,7 +112,7 @@ fn texts_of<'a>(first: &'a str, base: &'a str, template: &'a str) -> Option<Text
     if !over.is_empty() {
         return None;
     }
-    if !is_web(base) || !is_web(first) {
+    if !is_web_beside(page, base) || !is_web_beside(page, first) {
         return None;
     }
     Some(Texts {
@@ -110,7 +123,8 @@ fn texts_of<'a>(first: &'a str, base: &'a str, template: &'a str) -> Option<Text
 }
 
 /// The texts that these lines are made of, as far as they have the form that is awaited.
-fn texts_in(lines: &[u8]) -> Option<Texts<'_>>
+fn texts_in<'a>(lines: &'a [u8], page: &str) -> Option<Texts<'a>>
+    requires { IsWeb page.now }
     ensures base { IfSome result (λ t. IsWeb t.base.now) }
     ensures first { IfSome result (λ t. IsWeb t.first.now) }
     ensures template { IfSome result (λ t. t.template.now ≡ t.base.now ++ codes "{?subject,predicate,object}") }
@@ -121,11 +135,17 @@ fn texts_in(lines: &[u8]) -> Option<Texts<'_>>
     let template = behind(fourth, TEMPLATE)?;
     let base = text_to(template, b'{')?;
     let data_set = behind(behind(behind(second, "<")?, base)?, PART)?;
-    texts_of(text_to(data_set, b'>')?, base, text_to(template, b'"')?)
+    texts_of(
+        page,
+        text_to(data_set, b'>')?,
+        base,
+        text_to(template, b'"')?,
+    )
 }
 
 /// What stands behind the lines that tell of the form.
-fn behind_texts<'a>(bytes: &'a [u8], page: &str, texts: &Texts) -> Option<&'a [u8]>
+fn behind_texts<'a>(bytes: &'a [u8], page: &str, ending: &[u8], texts: &Texts) -> Option<&'a [u8]>
+    requires ending { ending.now ≡ graph_end page.now }
     requires base { IsWeb texts.now.base.now }
     requires template { texts.now.template.now ≡ texts.now.base.now ++ codes "{?subject,predicate,object}" }
     ensures { IfSome result (λ rest. bytes.now
@@ -133,13 +153,14 @@ fn behind_texts<'a>(bytes: &'a [u8], page: &str, texts: &Texts) -> Option<&'a [u
         ++ (canon (form_quads (graph_of page.now) texts.now.template.now)
         ++ (canon (mappings (graph_of page.now)) ++ rest.now))) }
 {
-    let form = behind_topic(bytes, page, texts.first, texts.base)?;
-    let mappings = behind_form(form, page, texts.template)?;
-    behind_mappings(mappings, page)
+    let form = behind_topic(bytes, page, ending, texts.first, texts.base)?;
+    let mappings = behind_form(form, ending, texts.template)?;
+    behind_mappings(mappings, ending)
 }
 
 /// The number of triples.
-fn count_in<'a>(bytes: &'a [u8], page: &str, first: &str) -> Option<Counted<'a>>
+fn count_in<'a>(bytes: &'a [u8], page: &str, ending: &[u8], first: &str) -> Option<Counted<'a>>
+    requires { ending.now ≡ graph_end page.now }
     ensures lines { IfSome result (λ c. bytes.now
         ≡ canon (count_quads (graph_of page.now) page.now first.now c.count) ++ c.rest.now) }
     ensures few { IfSome result (λ c. c.count ≤ 9999999999999999999) }
@@ -147,7 +168,7 @@ fn count_in<'a>(bytes: &'a [u8], page: &str, first: &str) -> Option<Counted<'a>>
     let total = behind_end(bytes)?;
     let text = text_to(behind(behind(behind(total, "<")?, page)?, TOTAL)?, b'"')?;
     let count = number(text)?;
-    let rest = behind_counts(bytes, page, first, text)?;
+    let rest = behind_counts(bytes, page, ending, first, text)?;
     Some(Counted { count, rest })
 }
 
@@ -159,7 +180,8 @@ fn target_in<'a>(bytes: &'a [u8], page: &str, middle: &str) -> Option<&'a str> {
 
 /// The link to another page, if the first line is one.
 #[tactic(auto, unfolding(template_fill::specs::Metadata::link_quads))]
-fn link_in<'a>(bytes: &'a [u8], page: &str, middle: &str) -> Option<Link<'a>>
+fn link_in<'a>(bytes: &'a [u8], page: &str, ending: &[u8], middle: &str) -> Option<Link<'a>>
+    requires { ending.now ≡ graph_end page.now }
     ensures line { (name : List ℕ) → middle.now ≡ codes "> <http://www.w3.org/ns/hydra/core#" ++ (name ++ codes "> <")
         → IfSome result (λ link. bytes.now ≡ canon (link_quads (is_some link.target) (graph_of page.now) page.now name
         (link_target page.now link.target)) ++ link.rest.now) }
@@ -174,7 +196,7 @@ fn link_in<'a>(bytes: &'a [u8], page: &str, middle: &str) -> Option<Link<'a>>
             if !is_web(target) {
                 return None;
             }
-            let rest = behind_link(bytes, page, middle, target)?;
+            let rest = behind_link(bytes, page, ending, middle, target)?;
             Some(Link {
                 target: Some(target),
                 rest,
@@ -184,13 +206,14 @@ fn link_in<'a>(bytes: &'a [u8], page: &str, middle: &str) -> Option<Link<'a>>
 }
 
 /// The version that the last line tells.
-fn version_in(bytes: &[u8], page: &str, base: &str) -> Option<u64>
-    ensures line { IfSome result (λ n. bytes.now ≡ canon (version_quads (graph_of page.now) base.now n)) }
+fn version_in(bytes: &[u8], ending: &[u8], base: &str) -> Option<u64>
+    ensures line { (page : List ℕ) → ending.now ≡ graph_end page
+        → IfSome result (λ n. bytes.now ≡ canon (version_quads (graph_of page) base.now n)) }
     ensures early { IfSome result (λ n. n ≤ 9999999999999999999) }
 {
     let text = text_to(behind(behind(behind(bytes, "<")?, base)?, VERSION)?, b'"')?;
     let version = number(text)?;
-    let rest = behind_version(bytes, page, base, text)?;
+    let rest = behind_version(bytes, ending, base, text)?;
     if rest.is_empty() { Some(version) } else { None }
 }
 
@@ -201,15 +224,16 @@ pub fn own_controls<'a>(body: &'a [u8], address: &WebAddress) -> Option<OwnContr
 {
     let page = address.text();
     let Halves { front, lines } = cut(body, page)?;
-    if lines.len() > LONGEST || !is_web(page) {
+    if lines.len() > LONGEST {
         return None;
     }
-    let texts = texts_in(lines)?;
-    let counts = behind_texts(lines, page, &texts)?;
-    let told = count_in(counts, page, texts.first)?;
-    let next = link_in(told.rest, page, NEXT)?;
-    let previous = link_in(next.rest, page, PREVIOUS)?;
-    let version = version_in(previous.rest, page, texts.base)?;
+    let ending = line_ending(lines, page)?;
+    let texts = texts_in(lines, page)?;
+    let counts = behind_texts(lines, page, ending, &texts)?;
+    let told = count_in(counts, page, ending, texts.first)?;
+    let next = link_in(told.rest, page, ending, NEXT)?;
+    let previous = link_in(next.rest, page, ending, PREVIOUS)?;
+    let version = version_in(previous.rest, ending, texts.base)?;
     Some(OwnControls {
         front,
         count: told.count,

@@ -4,11 +4,21 @@ ghost use Rattle.std.specs.Prelude.{◌≡◌, ◌++◌, ◌∷◌, ◌<◌, len
 use memchr::memchr;
 use std::str;
 
+/// What stands behind these bytes at the front.
+pub(crate) fn behind_bytes<'a>(bytes: &'a [u8], front: &[u8]) -> Option<&'a [u8]>
+    ensures { IfSome result (λ rest. bytes.now ≡ front.now ++ rest.now) }
+{
+    bytes.strip_prefix(front)
+}
+
 /// What stands behind a piece at the front.
 pub(crate) fn behind<'a>(bytes: &'a [u8], piece: &str) -> Option<&'a [u8]>
     ensures { IfSome result (λ rest. bytes.now ≡ piece.now ++ rest.now) }
 {
-    bytes.strip_prefix(piece.as_bytes())
+    if piece.is_empty() {
+        return Some(bytes);
+    }
+    behind_bytes(bytes, piece.as_bytes())
 }
 
 /// What stands behind the first line, where that ends with LF alone.

@@ -1,6 +1,6 @@
 // Where the metadata of a page begin.
 ghost use Rattle.std.specs.Prelude.{◌≡◌, ◌++◌, IfSome};
-ghost use Rattle.own_controls.specs.Lines.{EndsLine};
+ghost use Rattle.own_controls.specs.Lines.{EndsLine, graph_end};
 
 use crate::piece::{behind, behind_end};
 
@@ -36,4 +36,32 @@ pub(crate) fn cut<'a>(body: &'a [u8], page: &str) -> Option<Halves<'a>>
         rest = behind_end(rest)?;
     }
     None
+}
+
+/// What stands behind the statement of the first line.
+fn behind_first<'a>(lines: &'a [u8], page: &str) -> Option<&'a [u8]> {
+    let about = "#metadata> <http://xmlns.com/foaf/0.1/primaryTopic> <";
+    let section = behind(behind(lines, "<")?, page)?;
+    let topic = behind(section, about)?;
+    behind(behind(topic, page)?, ">")
+}
+
+/// What stands behind the graph of the page's metadata and the end of its line.
+fn behind_graph<'a>(bytes: &'a [u8], page: &str) -> Option<&'a [u8]>
+    ensures { IfSome result (λ rest. bytes.now ≡ graph_end page.now ++ rest.now) }
+{
+    let from_page = behind(bytes, " <")?;
+    let from_section = behind(from_page, page)?;
+    let rest = behind(from_section, "#metadata> .\n")?;
+    Some(rest)
+}
+
+/// What each line of the page's metadata ends with, as the first one has it.
+pub(crate) fn line_ending<'a>(lines: &'a [u8], page: &str) -> Option<&'a [u8]>
+    ensures { IfSome result (λ ending. ending.now ≡ graph_end page.now) }
+{
+    let graph = behind_first(lines, page)?;
+    let rest = behind_graph(graph, page)?;
+    let (ending, _) = graph.split_at(graph.len() - rest.len());
+    Some(ending)
 }

@@ -13,9 +13,9 @@ loop-line-preserved c = λ end left.
     let i = c.loop-line.line-index in
     let below = c.loop-line-test.true in
     c.loop-line.invariant end
-    (one_more c.args.page.now all i (get_or all i none) below (get_or_default all i none (get_or all i none) below) c.loop-line.rest.now c.in_ok-rest.rest.now end c.in_ok-rest.ensures left)
+    (one_more c.args.ending.now all i (get_or all i none) below (get_or_default all i none (get_or all i none) below) c.loop-line.rest.now c.in_ok-rest.rest.now end c.in_ok-rest.ensures left)
 
 pub returns : goal.returns
 returns c =
     let past = c.loop-line-test.false in
-    c.loop-line.invariant c.loop-line.rest.now (no_more c.args.page.now c.args.lines.now c.loop-line.line-index c.loop-line.rest.now (omega (arith, past)))
+    c.loop-line.invariant c.loop-line.rest.now (no_more c.args.ending.now c.args.lines.now c.loop-line.line-index c.loop-line.rest.now (omega (arith, past)))

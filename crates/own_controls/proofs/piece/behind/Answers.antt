@@ -1,9 +1,8 @@
-use Rattle.std.proofs.lemmas.Bool.Decides.{Decides-eqb}
-use Rattle.std.proofs.lemmas.Slice.Eq.{strip_prefix_is}
-use Rattle.own_controls.proofs.Pieces.{stripped}
+use Rattle.own_controls.proofs.Pieces.{behind_same, behind_none, none_left}
 use Rattle.own_controls.proofs.piece.behind.Goals as goal
 
+pub returns-then-is_empty : goal.returns-then-is_empty
+returns-then-is_empty c = behind_none c.args.bytes.now c.args.piece.now (none_left c.args.piece.now c.is_empty.result c.is_empty.ensures c.if-is_empty.true)
+
 pub returns : goal.returns
-returns c =
-    stripped c.args.bytes.now c.as_bytes.result.now c.args.piece.now c.strip_prefix.result c.as_bytes.ensures.value
-    (strip_prefix_is Decides-eqb c.args.bytes.now c.as_bytes.result.now c.strip_prefix.result c.strip_prefix.ensures.cases)
+returns c = behind_same c.args.bytes.now c.as_bytes.result.now c.args.piece.now c.behind_bytes.result c.as_bytes.ensures.value c.behind_bytes.ensures
