@@ -1,8 +1,8 @@
 -- What a block asks a pattern for can be asked for, and is valid.
-use Rattle.std.proofs.Common.{ℕ, zero, suc, ◌≡◌, ◌<◌, ◌≤◌, Bool, true, false, ◌&&◌, cond, List, [], ◌∷◌, ◌++◌, length, map, refl, ap, arith}
+use Rattle.std.proofs.Common.{ℕ, zero, suc, ◌≡◌, ◌<◌, ◌≤◌, Bool, true, false, cond, List, [], ◌∷◌, ◌++◌, length, map, refl, ap, arith}
 use Rattle.std.specs.List.{All, AllByRecursion, list_all, list_any}
 use Rattle.std.proofs.lemmas.List.Elements.{All-head, All-tail}
-use Rattle.std.proofs.lemmas.Bool.{and_from}
+use Rattle.std.proofs.lemmas.Bool.{and_from, and_parts}
 use Rattle.rdf_terms.specs.declared.term.Term.{Term}
 use Rattle.rdf_terms.specs.declared.limits.TheConstants.{MOST_ROWS}
 use Rattle.rdf_terms.specs.declared.slots.Slots.{Slots}
@@ -48,14 +48,10 @@ distinct-step : (test : Slots → Bool) (s : Slots) (xs ys : List Slots) (b : Bo
 distinct-step test s xs ys true one h g = h
 distinct-step test s xs ys false one h g = and_from (test s) (list_all test ys) one g
 
-both : (a b : Bool) → (a && b) ≡ true → (a ≡ true) × (b ≡ true)
-both true b e = (refl, e)
-both false b e = cc
-
 distinct-all : (test : Slots → Bool) (before ss : List Slots) → list_all test ss ≡ true → list_all test (distinct_behind before ss) ≡ true
 distinct-all test before [] h = refl
 distinct-all test before (s ∷ ss) h =
-    let e = both (test s) (list_all test ss) h in
+    let e = and_parts (test s) (list_all test ss) h in
     distinct-step test s (distinct_behind before ss) (distinct_behind (before ++ s ∷ []) ss) (list_any (λ other. slots_eq other s) before) e.0 (distinct-all test before ss e.1) (distinct-all test (before ++ s ∷ []) ss e.1)
 
 bound-all : (p : Pattern) (rows : List Places) → All (λ row. askable (instance p row) ≡ true) rows → list_all askable (map (bound_places p) rows) ≡ true

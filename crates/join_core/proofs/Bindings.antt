@@ -1,6 +1,6 @@
 -- A row that fits a triple is extended by it, part by part: what was tested before stays true while parts are bound.
 use Rattle.std.proofs.Common.{ℕ, ◌≡◌, inl, inr, Bool, true, false, not, if◌then◌else◌, ◌&&◌, ◌||◌, nat_eq, Option, Some, None, slice_get, slice_set, refl, ap, sym, subst, ◌∙◌, arith}
-use Rattle.std.proofs.lemmas.Bool.{cases_eq}
+use Rattle.std.proofs.lemmas.Bool.{and_parts, cases_eq}
 use Rattle.rdf_terms.specs.Same.{term_eq}
 use Rattle.rdf_terms.specs.declared.term.Term.{Term}
 use Rattle.rdf_terms.specs.declared.term.Triple.{Triple}
@@ -10,7 +10,6 @@ use Rattle.bgp_core.specs.declared.pattern.Pattern.{Pattern}
 use Rattle.bgp_core.specs.Solutions.{Places, put, bind, extended, extension}
 use Rattle.bgp_core.specs.Fits.{allows_at, allows, agree, fits}
 use Rattle.bgp_core.proofs.Extending.{get-set, get-set_other}
-use Rattle.join_core.proofs.Valid.{both}
 
 -- what is tested before anything is bound
 pub record Fitting (p : Pattern) (row : Places) (t : Triple) : Type 0 where
@@ -23,11 +22,11 @@ pub record Fitting (p : Pattern) (row : Places) (t : Triple) : Type 0 where
 
 pub fitting : (p : Pattern) (row : Places) (t : Triple) → fits p row t ≡ true → Fitting p row t
 fitting p row t h =
-    let a = both (allows p.subject t.subject row && allows p.predicate t.predicate row && allows p.object t.object row && agree p.subject t.subject p.predicate t.predicate && agree p.subject t.subject p.object t.object) (agree p.predicate t.predicate p.object t.object) h in
-    let b = both (allows p.subject t.subject row && allows p.predicate t.predicate row && allows p.object t.object row && agree p.subject t.subject p.predicate t.predicate) (agree p.subject t.subject p.object t.object) a.0 in
-    let c = both (allows p.subject t.subject row && allows p.predicate t.predicate row && allows p.object t.object row) (agree p.subject t.subject p.predicate t.predicate) b.0 in
-    let d = both (allows p.subject t.subject row && allows p.predicate t.predicate row) (allows p.object t.object row) c.0 in
-    let e = both (allows p.subject t.subject row) (allows p.predicate t.predicate row) d.0 in
+    let a = and_parts (allows p.subject t.subject row && allows p.predicate t.predicate row && allows p.object t.object row && agree p.subject t.subject p.predicate t.predicate && agree p.subject t.subject p.object t.object) (agree p.predicate t.predicate p.object t.object) h in
+    let b = and_parts (allows p.subject t.subject row && allows p.predicate t.predicate row && allows p.object t.object row && agree p.subject t.subject p.predicate t.predicate) (agree p.subject t.subject p.object t.object) a.0 in
+    let c = and_parts (allows p.subject t.subject row && allows p.predicate t.predicate row && allows p.object t.object row) (agree p.subject t.subject p.predicate t.predicate) b.0 in
+    let d = and_parts (allows p.subject t.subject row && allows p.predicate t.predicate row) (allows p.object t.object row) c.0 in
+    let e = and_parts (allows p.subject t.subject row) (allows p.predicate t.predicate row) d.0 in
     record { subject = e.0; predicate = e.1; object = d.1; second = c.1; third = b.1; last = a.1 }
 
 passed : (b : Bool) (row new : Places) → ◌≡◌ {A = Option Places} (if b then Some row else None) (Some new) → row ≡ new

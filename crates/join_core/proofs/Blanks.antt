@@ -1,6 +1,7 @@
 -- What can be asked for has no blank node.
 use Rattle.std.proofs.Common.{◌≡◌, ◌&&◌, true, List, [], ◌∷◌}
 use Rattle.std.specs.List.{list_all, AllByRecursion}
+use Rattle.std.proofs.lemmas.Bool.{and_parts}
 use Rattle.rdf_terms.specs.declared.term.Term.{Term}
 use Rattle.rdf_terms.specs.declared.term.Term.TheVariants.{Iri, Blank, Literal}
 use Rattle.rdf_terms.specs.declared.slots.Slot.{Slot}
@@ -9,7 +10,6 @@ use Rattle.rdf_terms.specs.declared.slots.Slots.{Slots}
 use Rattle.rdf_terms.specs.Askable.{is_iri_term, is_iri_or_literal, slot_allows, askable}
 use Rattle.rdf_terms.specs.Valid.{IsNotBlank}
 use Rattle.template_fill.specs.Forms.{HasNoBlank, HasNoBlankSlot}
-use Rattle.join_core.proofs.Valid.{both}
 
 iri-not-blank : (t : Term) → is_iri_term t ≡ true → IsNotBlank t
 iri-not-blank (Iri text) h = tt
@@ -31,10 +31,10 @@ other-slot (Fixed t) h = other-not-blank t h
 
 pub asked-no-blank : (s : Slots) → askable s ≡ true → HasNoBlank s
 asked-no-blank s h =
-    let first = both (slot_allows is_iri_term s.subject) (slot_allows is_iri_term s.predicate && slot_allows is_iri_or_literal s.object) h in
-    let rest = both (slot_allows is_iri_term s.predicate) (slot_allows is_iri_or_literal s.object) first.1 in
+    let first = and_parts (slot_allows is_iri_term s.subject) (slot_allows is_iri_term s.predicate && slot_allows is_iri_or_literal s.object) h in
+    let rest = and_parts (slot_allows is_iri_term s.predicate) (slot_allows is_iri_or_literal s.object) first.1 in
     record { subject = iri-slot s.subject first.0; predicate = iri-slot s.predicate rest.0; object = other-slot s.object rest.1 }
 
 pub rows-no-blank : (rows : List Slots) → list_all askable rows ≡ true → AllByRecursion HasNoBlank rows
 rows-no-blank [] h = tt
-rows-no-blank (s ∷ rows) h = let b = both (askable s) (list_all askable rows) h in (asked-no-blank s b.0, rows-no-blank rows b.1)
+rows-no-blank (s ∷ rows) h = let b = and_parts (askable s) (list_all askable rows) h in (asked-no-blank s b.0, rows-no-blank rows b.1)

@@ -41,8 +41,8 @@ length-within cut ps rows some = front-below cut ps rows (min cut.most (length r
 
 -- ---- the blocks
 
-left : (cut : Cut) (ps : List Pattern) (row : Places) (rows : List Places) (n : ℕ) → length (row ∷ rows) ≤ suc n → length (drop (block_length cut ps (row ∷ rows)) (row ∷ rows)) ≤ n
-left cut ps row rows n h = let some = length-some cut ps (row ∷ rows) in omega (arith, length-drop (block_length cut ps (row ∷ rows)) (row ∷ rows))
+pub shorter : (cut : Cut) (ps : List Pattern) (row : Places) (rows : List Places) (n : ℕ) → length (row ∷ rows) ≤ suc n → length (drop (block_length cut ps (row ∷ rows)) (row ∷ rows)) ≤ n
+shorter cut ps row rows n h = let some = length-some cut ps (row ∷ rows) in omega (arith, length-drop (block_length cut ps (row ∷ rows)) (row ∷ rows))
 
 all-for : (cut : Cut) (ps : List Pattern) (n : ℕ) (rows : List Places) → length rows ≤ n → flat_map (λ block. block) (blocks_for cut ps n rows) ≡ rows
 all-for cut ps zero [] h = refl
@@ -50,7 +50,7 @@ all-for cut ps zero (row ∷ rows) h = absurd (omega arith)
 all-for cut ps (suc n) [] h = refl
 all-for cut ps (suc n) (row ∷ rows) h =
     let l = block_length cut ps (row ∷ rows) in
-    ap (λ x. take l (row ∷ rows) ++ x) (all-for cut ps n (drop l (row ∷ rows)) (left cut ps row rows n h)) ∙ take-append-drop l (row ∷ rows)
+    ap (λ x. take l (row ∷ rows) ++ x) (all-for cut ps n (drop l (row ∷ rows)) (shorter cut ps row rows n h)) ∙ take-append-drop l (row ∷ rows)
 
 some-for : (cut : Cut) (ps : List Pattern) (n : ℕ) (rows : List Places) → All (λ block. 0 < length block) (blocks_for cut ps n rows)
 some-for cut ps zero rows = All-nil (λ block. 0 < length block)

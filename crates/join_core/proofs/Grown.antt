@@ -2,6 +2,7 @@
 use Rattle.std.proofs.Common.{ℕ, zero, suc, ◌≡◌, ◌+◌, ◌-◌, ◌<◌, ◌≤◌, ◌&&◌, nat_le, nat_lt, min, Bool, true, false, if◌then◌else◌, List, [], ◌∷◌, ◌++◌, length, map, take, refl, ap, sym, subst, ◌∙◌, arith, get_or, length-take}
 use Rattle.std.proofs.lemmas.List.{take_more}
 use Rattle.std.specs.List.{list_any, AllByRecursion}
+use Rattle.std.proofs.lemmas.Bool.{and_right}
 use Rattle.std.proofs.lemmas.Bool.Decides.{nat_tests}
 use Rattle.rdf_terms.specs.declared.slots.Slots.{Slots}
 use Rattle.tpf_base.specs.Addresses.{Address, IsAddress, target_of}
@@ -118,10 +119,6 @@ grows-to-longest form m ps rows most has = from-one (form_cut form m) ps rows mo
 
 -- ---- one pattern after another
 
-and-false : (b : Bool) → (b && false) ≡ false
-and-false true = refl
-and-false false = refl
-
 fits-below : (cut : Cut) (ps : List Pattern) (rows : List Places) (n : ℕ) → Shrinks cut ps rows → all_fit cut ps (take (suc (suc n)) rows) ≡ true → 2 ≤ suc n → all_fit cut ps (take (suc n) rows) ≡ true
 fits-below cut ps rows zero s e two = absurd (omega (arith, two))
 fits-below cut ps rows (suc n) s e two = s n e
@@ -137,7 +134,7 @@ after-step cut p ps rows n true e s below =
 after-step cut p ps rows n false e s below =
     let fit = nat_le (cut.target (selection_for p (take (suc (suc n)) rows))) LONGEST_TARGET in
     let same = ap (λ (b : Bool). longest_front cut (p ∷ []) rows (if b then suc (suc n) else longest_front cut ps rows (suc n))) e in
-    ap (λ (b : Bool). if fit && b then suc (suc n) else longest_front cut (p ∷ ps) rows (suc n)) e ∙ ap (λ (b : Bool). if b then suc (suc n) else longest_front cut (p ∷ ps) rows (suc n)) (and-false fit) ∙ below ∙ sym same
+    ap (λ (b : Bool). if fit && b then suc (suc n) else longest_front cut (p ∷ ps) rows (suc n)) e ∙ ap (λ (b : Bool). if b then suc (suc n) else longest_front cut (p ∷ ps) rows (suc n)) (and_right fit false refl) ∙ below ∙ sym same
 
 after : (cut : Cut) (p : Pattern) (ps : List Pattern) (rows : List Places) → Shrinks cut ps rows → (n : ℕ) → longest_front cut (p ∷ ps) rows n ≡ longest_front cut (p ∷ []) rows (longest_front cut ps rows n)
 after cut p ps rows s zero = refl

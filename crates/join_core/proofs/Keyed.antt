@@ -233,7 +233,7 @@ count-step : (x : ℕ) (m : List ℕ) (a n : ℕ) (c : Bool) → a + length m �
 count-step x m a n true h = omega (arith, h)
 count-step x m a n false h = omega (arith, h)
 
-count-one : (n : NodeData) → count_by works (n ∷ []) ≡ cond (works n) 1 0
+pub count-one : (n : NodeData) → count_by works (n ∷ []) ≡ cond (works n) 1 0
 count-one n = omega arith
 
 count-cons : (n : NodeData) (ns : List NodeData) → count_by works (n ∷ ns) ≡ cond (works n) 1 0 + count_by works ns

@@ -1,5 +1,5 @@
 -- The lengths of blocks, and the blocks of these lengths.
-use Rattle.std.proofs.Common.{ℕ, zero, suc, ◌≡◌, ◌<◌, ◌≤◌, List, [], ◌∷◌, ◌++◌, get_or, length, take, drop, drop-cons, ◌+◌, true, refl, ap, sym, ◌∙◌, arith, append_assoc, append-nil, length-drop}
+use Rattle.std.proofs.Common.{ℕ, zero, suc, ◌≡◌, ◌<◌, ◌≤◌, List, [], ◌∷◌, ◌++◌, get_or, length, take, drop, drop-cons, ◌+◌, true, refl, ap, sym, ◌∙◌, arith, append_assoc, append-nil}
 use Rattle.std.specs.List.{All, AllByRecursion}
 use Rattle.list_laws.proofs.Tests.{and_first, and_second}
 use Rattle.rdf_terms.specs.Askable.{askable}
@@ -13,10 +13,7 @@ use Rattle.join_core.specs.Blocks.{Cut, form_cut, longest_front, block_length, b
 use Rattle.template_fill.specs.declared.form.Form.{Form}
 use Rattle.join_core.specs.Targets.{HasAddress, lengths_for, block_lengths}
 use Rattle.join_core.proofs.Grown.{one-after-another}
-use Rattle.join_core.proofs.Cuts.{length-some}
-
-shorter : (cut : Cut) (ps : List Pattern) (row : Places) (rows : List Places) (n : ℕ) → length (row ∷ rows) ≤ suc n → length (drop (block_length cut ps (row ∷ rows)) (row ∷ rows)) ≤ n
-shorter cut ps row rows n h = let some = length-some cut ps (row ∷ rows) in omega (arith, h, some, length-drop (block_length cut ps (row ∷ rows)) (row ∷ rows))
+use Rattle.join_core.proofs.Cuts.{shorter}
 
 -- more steps than rows change nothing
 blocks-enough : (cut : Cut) (ps : List Pattern) (n m : ℕ) (rows : List Places) → length rows ≤ n → length rows ≤ m → blocks_for cut ps n rows ≡ blocks_for cut ps m rows

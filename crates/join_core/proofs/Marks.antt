@@ -3,6 +3,8 @@ use Rattle.std.proofs.Common.{ℕ, zero, suc, ◌≡◌, ◌<◌, length-set, na
 use Rattle.std.specs.Prelude.{option_to_list}
 use Rattle.std.specs.List.{remove, list_all, Contains}
 use Rattle.std.specs.List.Sorted.{IsPermutation}
+use Rattle.std.proofs.lemmas.Bool.{and_parts}
+use Rattle.list_laws.proofs.Options.{map_some}
 use Rattle.std.proofs.lemmas.Bool.Decides.{nat_tests}
 use Rattle.std.proofs.lemmas.List.{get_or_default}
 use Rattle.std.proofs.lemmas.List.Sorted.{IsPermutation-refl, IsPermutation-sym, Contains-permutation}
@@ -25,12 +27,12 @@ use Rattle.join_core.specs.Nodes.{Stage, NodeData, node, Holds, FirstsHold, open
 use Rattle.join_core.specs.Nodes.Stage.{Asking, Walking}
 use Rattle.join_core.specs.Events.{CanAsk, CanAskStage, asked, IsNextRound, IsNextRoundOf, first_waiting, waits_for, with_first_at, is_full, one_more, next_walk, opened_by, out_by, after_by, MadeOf, chosen_page, chosen_page_by, IsChosen, IsFirstOf, made_of}
 use Rattle.join_core.specs.Joins.{outs, first_outs, tickets_of, first_tickets, Turn}
-use Rattle.join_core.proofs.Valid.{askable-all-at, both, pattern-at}
+use Rattle.join_core.proofs.Valid.{askable-all-at, pattern-at}
 use Rattle.join_core.proofs.Asked.{selection-askable}
 use Rattle.join_core.proofs.Over.{least-counts}
 use Rattle.join_core.proofs.Pages.{counts-told}
 use Rattle.join_core.proofs.Turns.{first-ask-turn, next-ask-turn, walk-turn, held-turn, asked-sound, choice-turn}
-use Rattle.join_core.proofs.Outs.{first_outs-push, first_tickets-push, map-some, first-came, tickets-came, put-back, waiting-within}
+use Rattle.join_core.proofs.Outs.{first_outs-push, first_tickets-push, first-came, tickets-came, put-back, waiting-within}
 
 -- ---- an ask
 
@@ -100,7 +102,7 @@ next-in block ps p k t ticket next true e h = record { chosen = p; pages = k; ne
 next-in block ps p k t ticket next false e h = cc
 
 next-of : (block : List Places) (ps : List Pattern) (stage : Stage) (ticket : ℕ) → waits_for ticket (node block ps stage) ≡ Some ForNext → WaitsNext (node block ps stage) ticket
-next-of block ps (Asking fs) ticket h = let m = map-some ForFirst (first_waiting ticket fs) ForNext h in let e : ForFirst m.0 ≡ ForNext = m.2 in cc
+next-of block ps (Asking fs) ticket h = let m = map_some ForFirst (first_waiting ticket fs) ForNext h in let e : ForFirst m.0 ≡ ForNext = m.2 in cc
 next-of block ps (Walking p k next None) ticket h = cc
 next-of block ps (Walking p k next (Some t)) ticket h = next-in block ps p k t ticket next (nat_eq t ticket) refl h
 
@@ -146,7 +148,7 @@ walking-no ticket t i false h = cc
 
 first-of : (block : List Places) (ps : List Pattern) (stage : Stage) (ticket i : ℕ) → waits_for ticket (node block ps stage) ≡ Some (ForFirst i) → WaitsFirst (node block ps stage) ticket i
 first-of block ps (Asking fs) ticket i h =
-    let m = map-some ForFirst (first_waiting ticket fs) (ForFirst i) h in
+    let m = map_some ForFirst (first_waiting ticket fs) (ForFirst i) h in
     let e : m.0 ≡ i = cc in
     record { firsts = fs; stage = refl; waiting = m.1 ∙ ap (λ x. let o : Option ℕ = Some x in o) e }
 first-of block ps (Walking p k next None) ticket i h = cc
@@ -254,7 +256,7 @@ Choice w n made rows after = Turn w n rows [] (made ++ option_to_list after)
 choice-by : (w : World) → IsWorld w → (block : List Places) (ps : List Pattern) (stage : Stage) (made : List NodeData) (rows : List Places) (after : Option NodeData) → Holds w (node block ps stage) → is_full (node block ps stage) ≡ true → IsChosen (cut_of w) (node block ps stage) made rows after → Choice w (node block ps stage) made rows after
 unfolding Choice
 choice-by w is block ps (Asking fs) made rows after holds full chosen =
-    let b = both (nat_eq (length fs) (length ps)) (list_all is_got fs) full in
+    let b = and_parts (nat_eq (length fs) (length ps)) (list_all is_got fs) full in
     choice-in w is block ps fs made rows after holds (grind (arith, nat_tests)) b.1 chosen
 choice-by w is block ps (Walking p k next out) made rows after holds full chosen = cc
 
@@ -276,11 +278,11 @@ got-tickets (Got page ∷ fs) h = got-tickets fs h
 pub full-outs : (w : World) (n : NodeData) → is_full n ≡ true → outs w n ≡ []
 full-outs w n full = by n.rows n.rest n.stage full where
   by : (block : List Places) (ps : List Pattern) (s : Stage) → is_full (node block ps s) ≡ true → outs w (node block ps s) ≡ []
-  by block ps (Asking fs) h = got-outs w block ps fs (both (nat_eq (length fs) (length ps)) (list_all is_got fs) h).1
+  by block ps (Asking fs) h = got-outs w block ps fs (and_parts (nat_eq (length fs) (length ps)) (list_all is_got fs) h).1
   by block ps (Walking p k next out) h = cc
 
 pub full-tickets : (n : NodeData) → is_full n ≡ true → tickets_of n ≡ []
 full-tickets n full = by n.rows n.rest n.stage full where
   by : (block : List Places) (ps : List Pattern) (s : Stage) → is_full (node block ps s) ≡ true → tickets_of (node block ps s) ≡ []
-  by block ps (Asking fs) h = got-tickets fs (both (nat_eq (length fs) (length ps)) (list_all is_got fs) h).1
+  by block ps (Asking fs) h = got-tickets fs (and_parts (nat_eq (length fs) (length ps)) (list_all is_got fs) h).1
   by block ps (Walking p k next out) h = cc

@@ -1,6 +1,7 @@
 -- A pattern takes a triple under one of some rows only where the server gives it for the block.
-use Rattle.std.proofs.Common.{ℕ, zero, suc, ◌≡◌, ◌⊎◌, inl, inr, Bool, true, false, ◌&&◌, ◌||◌, cond, List, [], ◌∷◌, ◌++◌, map, Option, Some, None, refl, ap, sym, subst}
+use Rattle.std.proofs.Common.{ℕ, zero, suc, ◌≡◌, ◌⊎◌, inl, inr, Bool, true, false, ◌&&◌, cond, List, [], ◌∷◌, ◌++◌, map, Option, Some, None, refl, ap, sym, subst}
 use Rattle.std.specs.List.{flat_map, list_any, AllByRecursion}
+use Rattle.std.proofs.lemmas.Bool.{and_from, or_cases, or_left, or_right}
 use Rattle.list_laws.proofs.Each.{all_so}
 use Rattle.rdf_terms.specs.declared.term.Term.{Term}
 use Rattle.rdf_terms.specs.declared.term.Triple.{Triple}
@@ -69,30 +70,19 @@ same-matches a b t h m =
     (subst (λ (s : Slot). matches_slot s t.predicate ≡ true) (slot-same a.predicate b.predicate e.1) k.1)
     (subst (λ (s : Slot). matches_slot s t.object ≡ true) (slot-same a.object b.object e.2) k.2)
 
-either : (a b : Bool) → (a || b) ≡ true → (a ≡ true) ⊎ (b ≡ true)
-either true b h = inl refl
-either false b h = inr h
-
-first : (a b : Bool) → a ≡ true → (a || b) ≡ true
-first a b h = rw h refl
-
-second : (a b : Bool) → b ≡ true → (a || b) ≡ true
-second true b h = refl
-second false b h = h
-
 -- a triple that matches a row matches one that stands before, where the row does
 found-before : (s : Slots) (before : List Slots) (t : Triple) → list_any (λ other. slots_eq other s) before ≡ true → matches s t ≡ true → matches_one before t ≡ true
 found-before s [] t h m = absurd (cc)
-found-before s (b ∷ before) t h m = elim (either (slots_eq b s) (list_any (λ other. slots_eq other s) before) h) [
-  | inl e ↦ first (matches b t) (matches_one before t) (same-matches s b t e m)
-  | inr e ↦ second (matches b t) (matches_one before t) (found-before s before t e m)
+found-before s (b ∷ before) t h m = elim (or_cases (slots_eq b s) (list_any (λ other. slots_eq other s) before) h) [
+  | inl e ↦ or_left (matches b t) (matches_one before t) (same-matches s b t e m)
+  | inr e ↦ or_right (matches b t) (matches_one before t) (found-before s before t e m)
 ]
 
 pushed : (before : List Slots) (s : Slots) (t : Triple) → matches_one (before ++ s ∷ []) t ≡ true → (matches_one before t ≡ true) ⊎ (matches s t ≡ true)
-pushed [] s t h = elim (either (matches s t) false h) [ inl e ↦ inr e | inr e ↦ absurd (cc) ]
-pushed (b ∷ before) s t h = elim (either (matches b t) (matches_one (before ++ s ∷ []) t) h) [
-  | inl e ↦ inl (first (matches b t) (matches_one before t) e)
-  | inr e ↦ elim (pushed before s t e) [ inl k ↦ inl (second (matches b t) (matches_one before t) k) | inr k ↦ inr k ]
+pushed [] s t h = elim (or_cases (matches s t) false h) [ inl e ↦ inr e | inr e ↦ absurd (cc) ]
+pushed (b ∷ before) s t h = elim (or_cases (matches b t) (matches_one (before ++ s ∷ []) t) h) [
+  | inl e ↦ inl (or_left (matches b t) (matches_one before t) e)
+  | inr e ↦ elim (pushed before s t e) [ inl k ↦ inl (or_right (matches b t) (matches_one before t) k) | inr k ↦ inr k ]
 ]
 
 Split : List Slots → List Slots → Triple → Type 0
@@ -105,16 +95,16 @@ there : (before : List Slots) (s : Slots) (ss : List Slots) (t : Triple) (b : Bo
 unfolding Split
 there before s ss t true e (inl m) one other = inl (found-before s before t e m)
 there before s ss t true e (inr m) one other = one m
-there before s ss t false e (inl m) one other = inr (first (matches s t) _ m)
+there before s ss t false e (inl m) one other = inr (or_left (matches s t) _ m)
 there before s ss t false e (inr m) one other = elim (other m) [
-  | inl k ↦ elim (pushed before s t k) [ inl x ↦ inl x | inr x ↦ inr (first (matches s t) _ x) ]
-  | inr k ↦ inr (second (matches s t) _ k)
+  | inl k ↦ elim (pushed before s t k) [ inl x ↦ inl x | inr x ↦ inr (or_left (matches s t) _ x) ]
+  | inr k ↦ inr (or_right (matches s t) _ k)
 ]
 
 behind : (before ss : List Slots) (t : Triple) → matches_one ss t ≡ true → Split before (distinct_behind before ss) t
 unfolding Split
 behind before [] t h = absurd (cc)
-behind before (s ∷ ss) t h = there before s ss t (list_any (λ other. slots_eq other s) before) refl (either (matches s t) (matches_one ss t) h) (behind before ss t) (behind (before ++ s ∷ []) ss t)
+behind before (s ∷ ss) t h = there before s ss t (list_any (λ other. slots_eq other s) before) refl (or_cases (matches s t) (matches_one ss t) h) (behind before ss t) (behind (before ++ s ∷ []) ss t)
 
 pub distinct-matches : (ss : List Slots) (t : Triple) → matches_one ss t ≡ true → matches_one (distinct_slots ss) t ≡ true
 unfolding Split
@@ -125,28 +115,25 @@ distinct-matches ss t h = elim (behind [] ss t h) [ inl e ↦ absurd (cc) | inr 
 one-of : (p : Pattern) (t : Triple) (rows : List Places) → AllByRecursion (λ row. matches (bound_places p row) t ≡ true → matches_one (map (bound_places p) rows) t ≡ true) rows
 one-of p t [] = tt
 one-of p t (row ∷ rows) = (
-  λ m. first (matches (bound_places p row) t) (matches_one (map (bound_places p) rows) t) m,
-  all_so _ _ (λ x h m. second (matches (bound_places p row) t) (matches_one (map (bound_places p) rows) t) (h m)) rows (one-of p t rows),
+  λ m. or_left (matches (bound_places p row) t) (matches_one (map (bound_places p) rows) t) m,
+  all_so _ _ (λ x h m. or_right (matches (bound_places p row) t) (matches_one (map (bound_places p) rows) t) (h m)) rows (one-of p t rows),
 )
 
 -- the server gives the triple for the selection
 abbrev pub given : World → Selection → Triple → Bool
 given w s t = matches s.slots t && w.keeps s.rows t
 
-both : (a b : Bool) → a ≡ true → b ≡ true → (a && b) ≡ true
-both a b x y = rw (x, y) refl
-
 abbrev pub Gives : World → Pattern → Selection → Triple → Places → Type 0
 Gives w p s t row = (new : Places) → extension p row t ≡ Some new → given w s t ≡ true
 
 block-gives : (w : World) → IsWorld w → (p : Pattern) (rows : List Places) (t : Triple) → AllByRecursion (Gives w p (selection_for p rows) t) rows
 block-gives w is p [] t = tt
-block-gives w is p (row ∷ []) t = (λ new e. both (matches (instance p row) t) (w.keeps [] t) (extension-matches p row t new e) (is.keeps_all t), tt)
+block-gives w is p (row ∷ []) t = (λ new e. and_from (matches (instance p row) t) (w.keeps [] t) (extension-matches p row t new e) (is.keeps_all t), tt)
 block-gives w is p (row ∷ other ∷ rows) t =
     let all : List Places = row ∷ other ∷ rows in
     all_so _ _ (λ x h new e.
     let m = extension-matches p x t new e in
-    both (matches (instance p []) t) (w.keeps (distinct_slots (map (bound_places p) all)) t) (pattern-matches p x t m)
+    and_from (matches (instance p []) t) (w.keeps (distinct_slots (map (bound_places p) all)) t) (pattern-matches p x t m)
     (is.keeps_rows (distinct_slots (map (bound_places p) all)) t (distinct-matches (map (bound_places p) all) t (h (row-matches p x t m)))))
     all (one-of p t all)
 

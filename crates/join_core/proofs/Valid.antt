@@ -2,7 +2,7 @@
 use Rattle.std.proofs.Common.{ℕ, zero, suc, ◌≡◌, ◌+◌, ◌<◌, ◌⊎◌, inl, inr, Bool, true, false, ◌&&◌, List, [], ◌∷◌, length, map, drop, drop-cons, get_or, Option, Some, None, slice_get, refl, ap, sym, subst, ◌∙◌, arith}
 use Rattle.std.specs.List.{All, AllByRecursion, flat_map, list_all, remove}
 use Rattle.std.proofs.lemmas.List.{get_or_default}
-use Rattle.std.proofs.lemmas.Bool.{cases_eq}
+use Rattle.std.proofs.lemmas.Bool.{and_parts, cases_eq}
 use Rattle.std.proofs.lemmas.List.Elements.{All-nil, All-cons, All-weaker}
 use Rattle.rdf_terms.specs.declared.term.Term.{Term}
 use Rattle.rdf_terms.specs.declared.term.Triple.{Triple}
@@ -87,14 +87,10 @@ instance-valid p row v h = record { subject = slot-valid row p.subject v.subject
 
 -- ---- one of all
 
-pub both : (a b : Bool) → (a && b) ≡ true → (a ≡ true) × (b ≡ true)
-both true b e = (refl, e)
-both false b e = cc
-
 pub list_all-at : {X : Type 0} (test : X → Bool) (xs : List X) (i : ℕ) (x : X) → list_all test xs ≡ true → i < length xs → x ≡ get_or xs i x → test x ≡ true
 list_all-at test [] i x h l e = absurd (omega arith)
-list_all-at test (y ∷ ys) zero x h l e = subst (λ z. test z ≡ true) (sym e) (both (test y) (list_all test ys) h).0
-list_all-at test (y ∷ ys) (suc i) x h l e = list_all-at test ys i x (both (test y) (list_all test ys) h).1 (omega arith) e
+list_all-at test (y ∷ ys) zero x h l e = subst (λ z. test z ≡ true) (sym e) (and_parts (test y) (list_all test ys) h).0
+list_all-at test (y ∷ ys) (suc i) x h l e = list_all-at test ys i x (and_parts (test y) (list_all test ys) h).1 (omega arith) e
 
 pub askable-at : (row : Places) (ps : List Pattern) (i : ℕ) (p : Pattern) → all_askable row ps ≡ true → i < length ps → p ≡ get_or ps i p → askable (instance p row) ≡ true
 askable-at row ps i p h l e = list_all-at (λ q. askable (instance q row)) ps i p h l e

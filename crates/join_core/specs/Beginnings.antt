@@ -8,14 +8,23 @@ use Rattle.bgp_core.specs.Queries.{QueryData}
 use Rattle.bgp_core.specs.Solutions.{Places, solutions}
 use Rattle.join_core.specs.Worlds.{World, IsWorld, IsOneServer, HasForms}
 use Rattle.join_core.specs.Nodes.{plan}
-use Rattle.join_core.specs.Evaluations.{Account}
+use Rattle.join_core.specs.Evaluations.{Account, Terms, Sizes}
 
+-- the row with a place for each name of a query, none of which is bound
 abbrev pub no_names_bound : QueryData → Places
 no_names_bound q = replicate (length q.names) None
 
 -- the solutions of a query over a data set (SPARQL 1.1 Query, 18.5), each with all its names
 abbrev pub solutions_of : List Triple → QueryData → List Places
 solutions_of triples q = solutions triples q.patterns (no_names_bound q)
+
+-- the asks keep to these authorities, and each row has a place for each name of the query
+abbrev pub terms_of : List Address → QueryData → Terms
+terms_of homes q = record { homes = homes; width = length q.names }
+
+-- as many patterns as the query has, and so many rows at a time
+abbrev pub sizes_of : QueryData → ℕ → Sizes
+sizes_of q rows = record { patterns = length q.patterns; window = rows }
 
 -- these rows are owed, and these addresses are to be asked for; no ticket is out
 pub record BeginsWith (rows : List Places) (addresses : List Address) (account : Account) : Type 0 where

@@ -4,6 +4,7 @@ use Rattle.std.specs.List.{All, Contains}
 use Rattle.std.specs.List.Sorted.{IsPermutation}
 use Rattle.tpf_base.specs.Addresses.{Address}
 use Rattle.template_fill.specs.Authorities.{ShareAuthority}
+use Rattle.fragment_page.specs.declared.page.Page.{Page}
 use Rattle.bgp_core.specs.Solutions.{Places}
 use Rattle.join_core.specs.declared.evaluation.Ask.{Ask}
 use Rattle.join_core.specs.declared.evaluation.Answered.{Answered}
@@ -48,6 +49,10 @@ OwesAfterAsk before after (Some ask) = HandsOver before after ask.ticket ask.add
 abbrev pub OwesAfterAnswer : Account → Account → ℕ → Answered → Type 0
 OwesAfterAnswer before after ticket Stranger = after ≡ before
 OwesAfterAnswer before after ticket Taken = EndsTicket before after ticket
+
+-- the page is true for each address with which the ticket is out
+abbrev pub IsTrueOut : (Address → Page → Type 0) → Account → ℕ → Page → Type 0
+IsTrueOut is_true account ticket page = (address : Address) → Contains account.out (ticket, address) → is_true address page
 
 -- ---- what is to be seen, whatever pages came
 

@@ -1,10 +1,11 @@
 -- Serves proofs alone: the laws of a join as an evaluation.
-use Rattle.std.proofs.Common.{ℕ, suc, ◌≡◌, ◌+◌, ◌*◌, ◌<◌, ◌≤◌, ◌&&◌, cond, Bool, true, false, List, [], ◌∷◌, ◌++◌, length, slice_index_or, Some, None, refl, ap, ◌∙◌, arith, length-append}
+use Rattle.std.proofs.Common.{ℕ, suc, ◌≡◌, ◌+◌, ◌*◌, ◌<◌, ◌≤◌, cond, true, List, [], ◌∷◌, ◌++◌, length, slice_index_or, Some, None, refl, ap, ◌∙◌, arith, length-append}
 use Rattle.std.specs.Prelude.{◌==◌}
 use Rattle.std.specs.List.{All, flat_map, count_by}
 use Rattle.std.specs.List.Sorted.{IsPermutation}
 use Rattle.std.proofs.Math.Nat.{mul-add}
 use Rattle.std.proofs.lemmas.Nat.{mul-le}
+use Rattle.std.proofs.lemmas.Bool.{and_parts}
 use Rattle.std.proofs.lemmas.Bool.Decides.{nat_tests}
 use Rattle.std.proofs.lemmas.List.Sums.{sum_by-cons}
 use Rattle.std.proofs.lemmas.List.Elements.{All-nil, All-head, All-tail, All-append, All-weaker}
@@ -32,16 +33,11 @@ none : {X : Type 0} (xs : List X) → (length xs == 0) ≡ true → xs ≡ []
 none [] e = refl
 none (x ∷ xs) e = absurd (no-suc (length xs) e)
 
-both : (a b : Bool) → (a && b) ≡ true → (a ≡ true) × (b ≡ true)
-both true true e = (refl, refl)
-both true false e = cc
-both false b e = cc
-
 no-rows : (j : JoinData) → is_over j ≡ true → j.waiting ≡ []
-no-rows j e = none j.waiting (both _ _ e).0
+no-rows j e = none j.waiting (and_parts _ _ e).0
 
 no-nodes : (j : JoinData) → is_over j ≡ true → nodes j.levels ≡ []
-no-nodes j e = none (nodes j.levels) (both (length j.waiting == 0) _ e).1
+no-nodes j e = none (nodes j.levels) (and_parts (length j.waiting == 0) _ e).1
 
 account : List Places → List Address → List (ℕ × Address) → Account
 account rows addresses tickets = record { owed = rows; left = addresses; out = tickets }

@@ -11,6 +11,7 @@ pub mod Shown
 pub mod Events
 pub mod Joins
 pub mod Levels
+pub mod Made
 pub mod Outcomes
 pub mod Runs
 pub mod Evaluations

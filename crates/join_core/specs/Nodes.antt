@@ -31,9 +31,17 @@ pub record NodeData : Type 0 where
 
 -- ---- what is owed for a node
 
+-- the row that a pattern makes of a row by a triple, if there is one
+abbrev pub found_of : Pattern → Places → Triple → List Places
+found_of p row t = rows_from (extension p row t) (λ r. r ∷ [])
+
+-- the rows that it makes of a block by a triple, in their order
+abbrev pub found_by : Pattern → List Places → Triple → List Places
+found_by p rows t = flat_map (λ row. found_of p row t) rows
+
 -- the rows that a pattern makes of a block by some triples: by the triples in their order, and then the rows
 abbrev pub found : Pattern → List Places → List Triple → List Places
-found p rows ts = flat_map (λ t. flat_map (λ row. rows_from (extension p row t) (λ r. r ∷ [])) rows) ts
+found p rows ts = flat_map (λ t. found_by p rows t) ts
 
 -- the solutions of some patterns under each of the rows
 abbrev pub solutions_under : World → List Pattern → List Places → List Places

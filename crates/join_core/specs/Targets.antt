@@ -9,8 +9,13 @@ use Rattle.template_fill.specs.Rows.{rows_text}
 use Rattle.bgp_core.specs.declared.pattern.Pattern.{Pattern}
 use Rattle.bgp_core.specs.Solutions.{Places}
 use Rattle.bgp_core.specs.Instances.{instance, bound_places}
+use Rattle.join_core.specs.declared.block.Cut.{Cut as FormsAndSize}
 use Rattle.join_core.specs.declared.block.Target.{Target}
-use Rattle.join_core.specs.Blocks.{Cut, slots_eq, distinct_slots, all_fit, block_length}
+use Rattle.join_core.specs.Blocks.{Cut, slots_eq, distinct_slots, all_fit, block_length, forms_cut}
+
+-- how rows are cut, by the forms and the most rows of a block
+abbrev pub cut_by : FormsAndSize → Cut
+cut_by cut = forms_cut cut.forms cut.block
 
 -- one more at the end, unless it stands there already
 abbrev pub with_distinct : List Slots → Slots → List Slots

@@ -9,8 +9,9 @@ use rdf_terms::{Term, Triple};
 use std::alloc::Global;
 use tpf_base::OutOfMemory;
 
-/// The row with the name of a part bound to a term. The term is moved where the name was not bound, and dropped where it
-/// was, or where the part is a term. Condition: the row lets the part become the term.
+/// The row with the name of a part bound to a term. The term is moved where the name was not bound,
+/// and dropped where it was, or where the part is a term. Condition: the row lets the part become
+/// the term.
 fn bind(alloc: Global, part: &Part, term: Term, mut row: Row) -> Result<Row, OutOfMemory>
     requires place { HasPlaceFor (length row) part.now }
     requires allowed { allows part.now term row ≡ true }
@@ -25,8 +26,8 @@ fn bind(alloc: Global, part: &Part, term: Term, mut row: Row) -> Result<Row, Out
     Ok(row)
 }
 
-/// The row with the names of a pattern bound to the terms of a triple, which is taken apart. Condition: the row lets the
-/// pattern become the triple.
+/// The row with the names of a pattern bound to the terms of a triple, which is taken apart.
+/// Condition: the row lets the pattern become the triple.
 fn bind_all(alloc: Global, pattern: &Pattern, triple: Triple, row: Row) -> Result<Row, OutOfMemory>
     requires places { HasPlacesFor (length row) pattern.now }
     requires allowed { fits pattern.now row triple ≡ true }
@@ -44,10 +45,10 @@ fn bind_all(alloc: Global, pattern: &Pattern, triple: Triple, row: Row) -> Resul
     Ok(whole)
 }
 
-/// The row extended by the names of the pattern so that the pattern becomes the triple: `None` exactly where there is no
-/// such row. The row is copied only where there is one, and shares what was bound with it; the terms of the names that are
-/// bound anew are moved out of the triple, each once, and the others are dropped. Condition: the row has a place for every
-/// name of the pattern.
+/// The row extended by the names of the pattern so that the pattern becomes the triple: `None`
+/// exactly where there is no such row. The row is copied only where there is one, and shares what
+/// was bound with it; the terms of the names that are bound anew are moved out of the triple, each
+/// once, and the others are dropped. Condition: the row has a place for every name of the pattern.
 pub(crate) fn extension(
     alloc: Global,
     pattern: &Pattern,

@@ -3,13 +3,12 @@ ghost use Rattle.std.specs.Prelude.{ℕ, ◌≡◌, ◌<◌, ◌≤◌, ◌++◌
 ghost use Rattle.std.specs.List.{All, AllByRecursion};
 ghost use Rattle.rdf_terms.specs.Askable.{askable};
 ghost use Rattle.rdf_terms.specs.declared.limits.TheConstants.{MOST_ROWS};
-ghost use Rattle.template_fill.specs.Forms.{HasNoBlank};
 ghost use Rattle.template_fill.specs.declared.form.Form.{Form};
 ghost use Rattle.bgp_core.specs.Solutions.{Places};
 ghost use Rattle.bgp_core.specs.Instances.{instance, bound_places};
-ghost use Rattle.join_core.specs.Blocks.{block_length, blocks, distinct_slots, form_cut, forms_cut, longest_front, selection_for};
+ghost use Rattle.join_core.specs.Blocks.{block_length, blocks, distinct_slots, form_cut, longest_front, selection_for};
 ghost use Rattle.join_core.specs.Nodes.{all_askable};
-ghost use Rattle.join_core.specs.Targets.{HasAddress, IsTarget, block_lengths, with_distinct};
+ghost use Rattle.join_core.specs.Targets.{HasAddress, IsTarget, block_lengths, cut_by, with_distinct};
 
 use crate::FormList;
 use crate::pattern_list::PatternList;
@@ -24,7 +23,8 @@ use tpf_base::OutOfMemory;
 /// The most bytes of the target of a request for a block of several rows.
 pub const LONGEST_TARGET: usize = 65536;
 
-/// The most rows for which one request asks: from 1, which is row by row, to 64. Contracts see it as that number.
+/// The most rows for which one request asks: from 1, which is row by row, to 64. Contracts see it
+/// as that number.
 #[derive(Clone, Copy, Debug, PartialEq, Eq)]
 pub struct BlockSize {
     rows: usize,
@@ -51,7 +51,8 @@ impl BlockSize {
         BlockSize { rows: 1 }
     }
 
-    /// At most so many rows; `None` exactly where that is no number from 1 to 64. It takes no memory.
+    /// At most so many rows; `None` exactly where that is no number from 1 to 64. It takes no
+    /// memory.
     pub fn new(rows: u32) -> Option<BlockSize>
         ensures { MatchOption result ((1 ≤ rows) × (rows ≤ MOST_ROWS) → ⊥) (λ size. size ≡ rows) }
     {
@@ -136,7 +137,8 @@ impl RowBlock {
     }
 }
 
-/// How rows are cut into blocks: at most so many rows, by the targets under the first of some forms.
+/// How rows are cut into blocks: at most so many rows, by the targets under the first of some
+/// forms.
 #[derive(Debug, Drop)]
 pub(crate) struct Cut {
     pub(crate) forms: FormList,
@@ -152,7 +154,8 @@ fn add_places(
     row: &Row,
     distinct: &mut Vec<Slots>,
 ) -> Result<(), OutOfMemory>
-    ensures { OnOk result (distinct.new.items ≡ with_distinct distinct.old.items (bound_places pattern.now row.now)) }
+    ensures { OnOk result (distinct.new.items ≡
+        with_distinct distinct.old.items (bound_places pattern.now row.now)) }
 {
     let places = bound_places(alloc, pattern, row)?;
     if !distinct.contains(&places) {
@@ -167,7 +170,8 @@ fn distinct_places(
     pattern: &Pattern,
     block: &RowBlock,
 ) -> Result<Vec<Slots>, OutOfMemory>
-    ensures { IfOk result (λ v. v.items ≡ distinct_slots (map (bound_places pattern.now) block.now)) }
+    ensures { IfOk result (λ v.
+        v.items ≡ distinct_slots (map (bound_places pattern.now) block.now)) }
 {
     let mut distinct = Vec::new(alloc);
     add_places(alloc, pattern, &block.first, &mut distinct)?;
@@ -184,14 +188,16 @@ fn free_instance(alloc: Global, pattern: &Pattern) -> Result<Slots, OutOfMemory>
     instance(alloc, pattern, &Row::empty(alloc, 0))
 }
 
-/// What a block asks a pattern for, the slots and the rows that restrict them: under one row the instance of the
-/// pattern; under several the pattern alone, restricted by what each of the rows binds in it.
+/// What a block asks a pattern for, the slots and the rows that restrict them: under one row the
+/// instance of the pattern; under several the pattern alone, restricted by what each of the rows
+/// binds in it.
 pub(crate) fn selection_of(
     alloc: Global,
     pattern: &Pattern,
     block: &RowBlock,
 ) -> Result<(Slots, Vec<Slots>), OutOfMemory>
-    ensures { IfOk result (λ p. record { slots = p.0; rows = p.1.items } ≡ selection_for pattern.now block.now) }
+    ensures { IfOk result (λ p.
+        record { slots = p.0; rows = p.1.items } ≡ selection_for pattern.now block.now) }
 {
     if block.others.is_empty() {
         return Ok((instance(alloc, pattern, &block.first)?, Vec::new(alloc)));
@@ -202,8 +208,8 @@ pub(crate) fn selection_of(
 
 // ---- how long a block may be
 
-/// What a block that grows asks of one pattern: what its rows bind there, each once, and how long the target of the
-/// first page is. The length stands still at 2^64 - 1.
+/// What a block that grows asks of one pattern: what its rows bind there, each once, and how long
+/// the target of the first page is. The length stands still at 2^64 - 1.
 #[derive(Drop)]
 struct Target {
     places: Vec<Slots>,
@@ -240,8 +246,9 @@ impl Target {
     }
 }
 
-/// How many rows at the front ask this pattern for a short target, at most so many and at least one. From the second
-/// row on a longer block has no shorter target, so they end before the first row that does not fit.
+/// How many rows at the front ask this pattern for a short target, at most so many and at least
+/// one. From the second row on a longer block has no shorter target, so they end before the first
+/// row that does not fit.
 fn fitting(
     alloc: Global,
     form: &Form,
@@ -253,7 +260,8 @@ fn fitting(
     requires within { most ≤ length rows.now }
     requires askable { All (λ row. askable (instance pattern.now row) ≡ true) rows.now }
     ensures front { (n : ℕ) →
-        IfOk result (λ k. k ≡ longest_front (form_cut form.now n) (pattern.now ∷ []) rows.now most) }
+        IfOk result (λ k.
+        k ≡ longest_front (form_cut form.now n) (pattern.now ∷ []) rows.now most) }
     ensures addressed { IfOk result (λ k. HasAddress form.now pattern.now) }
 {
     let mut target = Target::new(alloc, form, pattern)?;
@@ -267,8 +275,8 @@ fn fitting(
     Ok(most)
 }
 
-/// How many rows at the front ask each of the patterns from a place on for a short target, at most so many and at
-/// least one.
+/// How many rows at the front ask each of the patterns from a place on for a short target, at most
+/// so many and at least one.
 fn fitting_from(
     alloc: Global,
     form: &Form,
@@ -281,8 +289,10 @@ fn fitting_from(
     requires within { most ≤ length rows.now }
     requires askable { All (λ row. all_askable row patterns.now ≡ true) rows.now }
     ensures front { (n : ℕ) →
-        IfOk result (λ k. k ≡ longest_front (form_cut form.now n) (drop index patterns.now) rows.now most) }
-    ensures addressed { IfOk result (λ k. AllByRecursion (HasAddress form.now) (drop index patterns.now)) }
+        IfOk result (λ k.
+        k ≡ longest_front (form_cut form.now n) (drop index patterns.now) rows.now most) }
+    ensures addressed { IfOk result (λ k.
+        AllByRecursion (HasAddress form.now) (drop index patterns.now)) }
 {
     if index >= patterns.len() {
         return Ok(most);
@@ -302,7 +312,8 @@ fn front_length(
     requires most { 1 ≤ most }
     requires some { 0 < length rows.now }
     requires askable { All (λ row. all_askable row rest.now ≡ true) rows.now }
-    ensures length { IfOk result (λ n. n ≡ block_length (form_cut form.now most) rest.now rows.now) }
+    ensures length { IfOk result (λ n.
+        n ≡ block_length (form_cut form.now most) rest.now rows.now) }
     ensures some { IfOk result (λ n. 1 ≤ n) }
     ensures within { IfOk result (λ n. n ≤ length rows.now) }
 {
@@ -336,7 +347,8 @@ fn lengths(
 ) -> Result<Vec<usize>, OutOfMemory>
     requires most { 1 ≤ most }
     requires askable { All (λ row. all_askable row rest.now ≡ true) rows.now }
-    ensures { IfOk result (λ v. v.items ≡ block_lengths (form_cut form.now most) rest.now rows.now) }
+    ensures { IfOk result (λ v.
+        v.items ≡ block_lengths (form_cut form.now most) rest.now rows.now) }
 {
     let mut lengths = Vec::new(alloc);
     let mut left = rows;
@@ -371,8 +383,8 @@ fn take_block(
     Ok(block)
 }
 
-/// Cuts rows from the front into blocks, each of which is the longest of at most so many rows whose targets are short,
-/// and has at least one row. Row by row nothing is measured.
+/// Cuts rows from the front into blocks, each of which is the longest of at most so many rows whose
+/// targets are short, and has at least one row. Row by row nothing is measured.
 pub(crate) fn cut_rows(
     alloc: Global,
     cut: &Cut,
@@ -380,7 +392,7 @@ pub(crate) fn cut_rows(
     rows: Vec<Row>,
 ) -> Result<Vec<RowBlock>, OutOfMemory>
     requires { All (λ row. all_askable row rest.now ≡ true) rows.items }
-    ensures { IfOk result (λ v. v.items ≡ blocks (forms_cut cut.now.forms cut.now.block) rest.now rows.items) }
+    ensures { IfOk result (λ v. v.items ≡ blocks (cut_by cut.now) rest.now rows.items) }
 {
     let most = cut.block.get();
     if most == 1 {

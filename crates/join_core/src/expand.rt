@@ -1,12 +1,11 @@
 // What the triples of a page make of a block of rows.
-ghost use Rattle.std.specs.Prelude.{◌≡◌, ◌<◌, ◌++◌, ◌∷◌, [], length, map, IfOk, OnOk, drop};
-ghost use Rattle.std.specs.List.{All, flat_map};
+ghost use Rattle.std.specs.Prelude.{◌≡◌, ◌<◌, ◌++◌, length, map, IfOk, OnOk, drop};
+ghost use Rattle.std.specs.List.{All};
 ghost use Rattle.bgp_core.specs.Queries.{HasPlacesFor};
-ghost use Rattle.bgp_core.specs.Solutions.{extension, rows_from};
-ghost use Rattle.join_core.specs.Blocks.{forms_cut};
-ghost use Rattle.join_core.specs.Nodes.{found, nodes_in, rows_out, all_askable, askable_rows};
+ghost use Rattle.join_core.specs.Nodes.{found, found_by, found_of, nodes_in, rows_out, all_askable, askable_rows};
 ghost use Rattle.join_core.specs.Shown.{HavePlacesFor};
 ghost use Rattle.join_core.specs.Levels.{seed_node};
+ghost use Rattle.join_core.specs.Targets.{cut_by};
 
 use crate::binding::extension;
 use crate::block::{Cut, RowBlock, cut_rows};
@@ -52,7 +51,8 @@ fn askable_rows(
     Ok(kept)
 }
 
-/// Adds a node for each block of the rows, but for those under which a pattern cannot be asked for. There is a pattern.
+/// Adds a node for each block of the rows, but for those under which a pattern cannot be asked for.
+/// There is a pattern.
 fn add_nodes(
     alloc: Global,
     cut: &Cut,
@@ -62,7 +62,8 @@ fn add_nodes(
 ) -> Result<(), OutOfMemory>
     requires places { HavePlacesFor others.now.value rows.items }
     requires some { 0 < length others.now.value }
-    ensures { OnOk result (map seed_node nodes.new.items ≡ map seed_node nodes.old.items ++ nodes_in (forms_cut cut.now.forms cut.now.block) others.now.value rows.items) }
+    ensures { OnOk result (map seed_node nodes.new.items ≡ map seed_node nodes.old.items
+        ++ nodes_in (cut_by cut.now) others.now.value rows.items) }
 {
     let kept = askable_rows(alloc, others, rows)?;
     for block in cut_rows(alloc, cut, others, kept)? {
@@ -71,8 +72,8 @@ fn add_nodes(
     Ok(())
 }
 
-/// Rows with no pattern left are put out. The others become blocks, but for those under which a pattern that is left cannot be
-/// asked for.
+/// Rows with no pattern left are put out. The others become blocks, but for those under which a
+/// pattern that is left cannot be asked for.
 pub(crate) fn add_rows(
     alloc: Global,
     cut: &Cut,
@@ -82,8 +83,10 @@ pub(crate) fn add_rows(
     rows: &mut Vec<Row>,
 ) -> Result<(), OutOfMemory>
     requires { HavePlacesFor others.now.value found.items }
-    ensures nodes { OnOk result (map seed_node nodes.new.items ≡ map seed_node nodes.old.items ++ nodes_in (forms_cut cut.now.forms cut.now.block) others.now.value found.items) }
-    ensures rows { OnOk result (rows.new.items ≡ rows.old.items ++ rows_out others.now.value found.items) }
+    ensures nodes { OnOk result (map seed_node nodes.new.items ≡ map seed_node nodes.old.items
+        ++ nodes_in (cut_by cut.now) others.now.value found.items) }
+    ensures rows { OnOk result (rows.new.items ≡
+        rows.old.items ++ rows_out others.now.value found.items) }
 {
     if others.len() > 0 {
         return add_nodes(alloc, cut, others, found, nodes);
@@ -102,7 +105,8 @@ fn add_match(
     into: &mut Vec<Row>,
 ) -> Result<(), OutOfMemory>
     requires { HasPlacesFor (length row.now) chosen.now }
-    ensures { OnOk result (into.new.items ≡ into.old.items ++ rows_from (extension chosen.now row.now triple.now) (λ r. r ∷ [])) }
+    ensures { OnOk result (into.new.items ≡
+        into.old.items ++ found_of chosen.now row.now triple.now) }
 {
     if let Some(next) = match_triple(alloc, chosen, row, triple)? {
         into.push(next)?;
@@ -119,7 +123,8 @@ fn add_extension(
     into: &mut Vec<Row>,
 ) -> Result<(), OutOfMemory>
     requires { HasPlacesFor (length row.now) chosen.now }
-    ensures { OnOk result (into.new.items ≡ into.old.items ++ rows_from (extension chosen.now row.now triple) (λ r. r ∷ [])) }
+    ensures { OnOk result (into.new.items ≡
+        into.old.items ++ found_of chosen.now row.now triple) }
 {
     if let Some(next) = extension(alloc, chosen, row, triple)? {
         into.push(next)?;
@@ -136,7 +141,8 @@ fn add_held(
     into: &mut Vec<Row>,
 ) -> Result<(), OutOfMemory>
     requires { All (λ row. HasPlacesFor (length row) chosen.now) block.now }
-    ensures { OnOk result (into.new.items ≡ into.old.items ++ flat_map (λ row. rows_from (extension chosen.now row triple.now) (λ r. r ∷ [])) block.now) }
+    ensures { OnOk result (into.new.items ≡
+        into.old.items ++ found_by chosen.now block.now triple.now) }
 {
     add_match(alloc, chosen, block.first(), triple, into)?;
     for row in block.others() {
@@ -154,7 +160,8 @@ fn add_triple(
     into: &mut Vec<Row>,
 ) -> Result<(), OutOfMemory>
     requires { All (λ row. HasPlacesFor (length row) chosen.now) block.now }
-    ensures { OnOk result (into.new.items ≡ into.old.items ++ flat_map (λ row. rows_from (extension chosen.now row triple) (λ r. r ∷ [])) block.now) }
+    ensures { OnOk result (into.new.items ≡
+        into.old.items ++ found_by chosen.now block.now triple) }
 {
     if block.others().is_empty() {
         return add_extension(alloc, chosen, block.first(), triple, into);
@@ -162,7 +169,8 @@ fn add_triple(
     add_held(alloc, chosen, block, &triple, into)
 }
 
-/// The rows that the triples of a page make of a block, by the triples in their order and then the rows.
+/// The rows that the triples of a page make of a block, by the triples in their order and then the
+/// rows.
 pub(crate) fn expand(
     alloc: Global,
     chosen: &Pattern,

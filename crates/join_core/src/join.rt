@@ -1,14 +1,15 @@
 // The join over the pages of one server.
-ghost use Rattle.std.specs.Prelude.{ℕ, ◌≡◌, ◌+◌, ◌-◌, ◌*◌, ◌<◌, ◌≤◌, ◌^◌, ◌↔◌, List, [], length, replicate, min, None, Ok, IfOk, OnErr, MatchOption, IsTrue, ⊤};
-ghost use Rattle.std.specs.List.{All, count_by};
+ghost use Rattle.std.specs.Prelude.{ℕ, ◌≡◌, ◌+◌, ◌-◌, ◌*◌, ◌<◌, ◌≤◌, ◌^◌, ◌↔◌, List, [], length, min, None, Ok, IfOk, OnErr, MatchOption, IsTrue, ⊤};
+ghost use Rattle.std.specs.List.{count_by};
 ghost use Rattle.tpf_base.specs.Addresses.{Address};
 ghost use Rattle.join_core.specs.Worlds.{World, IsWorld, HasForms};
+ghost use Rattle.join_core.specs.Beginnings.{no_names_bound, terms_of};
 ghost use Rattle.join_core.specs.Events.{works};
 ghost use Rattle.join_core.specs.Rounds.{FormsAtHome};
 ghost use Rattle.join_core.specs.Evaluations.{Terms, AsksAtHome, NextAtHome};
 ghost use Rattle.join_core.specs.Sound.{KeepsTo, IsKeptSmall};
 ghost use Rattle.join_core.specs.Joins.{nodes, Suits, Begins, Opens, IsTrueFor, GivesRow, tickets_out, with_longest};
-ghost use Rattle.join_core.specs.Outcomes.{AskDone, AskNumbered, NothingToAsk, AnswerDone, AnswerNumbered, AnswerTakes, GivesWaiting, WaitsMore, LongestAfter};
+ghost use Rattle.join_core.specs.Outcomes.{AskDone, AskNumbered, NothingToAsk, AnswerDone, AnswerNumbered, AnswerTakes, GivesWaiting, WaitsMore, LongestAfter, IsStranger};
 ghost use Rattle.join_core.specs.JointPages.{joint_page};
 ghost use Rattle.join_core.specs.Ones.{SuitsOne, round_ask, AskStartsOne};
 ghost use Rattle.join_core.specs.Runs.{IsDone};
@@ -23,9 +24,10 @@ use std::alloc::Global;
 use std::marker::Model;
 use tpf_base::OutOfMemory;
 
-/// The join of a query's patterns over the pages of their fragments, where one server has them. A node is a block of rows with the
-/// patterns that are still to be matched; its depth is the number of patterns that were. The deepest node is started first, and
-/// at most a window of nodes work at a time. It is the join in rounds (`RoundJoin`), of which each has one address.
+/// The join of a query's patterns over the pages of their fragments, where one server has them. A
+/// node is a block of rows with the patterns that are still to be matched; its depth is the number
+/// of patterns that were. The deepest node is started first, and at most a window of nodes work at
+/// a time. It is the join in rounds (`RoundJoin`), of which each has one address.
 #[derive(Debug, Drop)]
 pub struct Join {
     join: RoundJoin,
@@ -40,9 +42,10 @@ impl Model for Join {
 }
 
 impl Join {
-    /// The join of a query's patterns, whose first pages have the addresses of the server's form, with at most `window` nodes
-    /// at work, each of one row. One node is open, the empty row with all patterns; for a query without patterns the empty row waits
-    /// at once. Of several forms the first server alone is asked. Condition: the window is at least 1. The only error is out of
+    /// The join of a query's patterns, whose first pages have the addresses of the server's form,
+    /// with at most `window` nodes at work, each of one row. One node is open, the empty row with
+    /// all patterns; for a query without patterns the empty row waits at once. Of several forms the
+    /// first server alone is asked. Condition: the window is at least 1. The only error is out of
     /// memory.
     pub fn new(
         alloc: Global,
@@ -51,13 +54,15 @@ impl Join {
         window: u32,
     ) -> Result<Join, OutOfMemory>
         requires { 1 ≤ window }
-        ensures begins { (w : World) → IsWorld w → HasForms w forms → w.block ≡ 1 → IfOk result (Begins w query.now.patterns (replicate (length query.now.names) None)) }
-        ensures opens { IfOk result (Opens query.now.patterns (replicate (length query.now.names) None)) }
+        ensures begins { (w : World) → IsWorld w → HasForms w forms → w.block ≡ 1 →
+            IfOk result (Begins w query.now.patterns (no_names_bound query.now)) }
+        ensures opens { IfOk result (Opens query.now.patterns (no_names_bound query.now)) }
         ensures forms { IfOk result (λ j. j.forms ≡ forms) }
         ensures window { IfOk result (λ j. j.window ≡ window) }
         ensures block { IfOk result (λ j. j.block ≡ 1) }
         ensures longest { IfOk result (λ j. j.longest ≡ 1) }
-        ensures keeps { (homes : List Address) → FormsAtHome homes forms → IfOk result (KeepsTo (record { homes = homes; width = length query.now.names })) }
+        ensures keeps { (homes : List Address) → FormsAtHome homes forms →
+            IfOk result (KeepsTo (terms_of homes query.now)) }
         ensures small { IfOk result (IsKeptSmall (length query.now.patterns) 1) }
         ensures tickets { IfOk result (λ j. (j.tickets ≡ 0) × (tickets_out j ≡ [])) }
     {
@@ -65,10 +70,11 @@ impl Join {
         Ok(Join { join })
     }
 
-    /// The same with nodes of blocks of at most `block` rows, each of which asks for what all its rows need at once by one address
-    /// (bindings-restricted Triple Pattern Fragments). The rows that a page makes are cut from the front into blocks, each the longest
-    /// for which no target of a first page has more than 65536 bytes, and of at least one row. Condition: the window is at least 1.
-    /// The only error is out of memory.
+    /// The same with nodes of blocks of at most `block` rows, each of which asks for what all its
+    /// rows need at once by one address (bindings-restricted Triple Pattern Fragments). The rows
+    /// that a page makes are cut from the front into blocks, each the longest for which no target
+    /// of a first page has more than 65536 bytes, and of at least one row. Condition: the window is
+    /// at least 1. The only error is out of memory.
     pub fn in_blocks(
         alloc: Global,
         query: &Query,
@@ -77,13 +83,15 @@ impl Join {
         block: BlockSize,
     ) -> Result<Join, OutOfMemory>
         requires { 1 ≤ window }
-        ensures begins { (w : World) → IsWorld w → HasForms w forms → w.block ≡ block → IfOk result (Begins w query.now.patterns (replicate (length query.now.names) None)) }
-        ensures opens { IfOk result (Opens query.now.patterns (replicate (length query.now.names) None)) }
+        ensures begins { (w : World) → IsWorld w → HasForms w forms → w.block ≡ block →
+            IfOk result (Begins w query.now.patterns (no_names_bound query.now)) }
+        ensures opens { IfOk result (Opens query.now.patterns (no_names_bound query.now)) }
         ensures forms { IfOk result (λ j. j.forms ≡ forms) }
         ensures window { IfOk result (λ j. j.window ≡ window) }
         ensures block { IfOk result (λ j. j.block ≡ block) }
         ensures longest { IfOk result (λ j. j.longest ≡ 1) }
-        ensures keeps { (homes : List Address) → FormsAtHome homes forms → IfOk result (KeepsTo (record { homes = homes; width = length query.now.names })) }
+        ensures keeps { (homes : List Address) → FormsAtHome homes forms →
+            IfOk result (KeepsTo (terms_of homes query.now)) }
         ensures small { IfOk result (IsKeptSmall (length query.now.patterns) 1) }
         ensures tickets { IfOk result (λ j. (j.tickets ≡ 0) × (tickets_out j ≡ [])) }
     {
@@ -91,27 +99,30 @@ impl Join {
         Ok(Join { join })
     }
 
-    /// How many nodes work: those that were started and wait for a page, or have a first page to hand out. The count stands
-    /// still at 2^64 - 1. It takes no memory.
+    /// How many nodes work: those that were started and wait for a page, or have a first page to
+    /// hand out. The count stands still at 2^64 - 1. It takes no memory.
     pub fn working(&self) -> usize
         ensures { result ≡ min (count_by works (nodes self.now.levels)) (2 ^ 64 - 1) }
     {
         self.join.working()
     }
 
-    /// The next page to ask for, if there is one, under a ticket with a new number. A node that was started asks for the
-    /// first pages of its patterns one after another. Where none has one to ask for, the deepest node that may be started is
-    /// started, and of equal ones the earliest opened. There is none exactly where no started node has a first page to hand
-    /// out and either `window` nodes work or none may be started. Condition: fewer than 2^64 - 1 tickets were given. The only
-    /// error is out of memory, and then nothing changed.
+    /// The next page to ask for, if there is one, under a ticket with a new number. A node that was
+    /// started asks for the first pages of its patterns one after another. Where none has one to
+    /// ask for, the deepest node that may be started is started, and of equal ones the earliest
+    /// opened. There is none exactly where no started node has a first page to hand out and either
+    /// `window` nodes work or none may be started. Condition: fewer than 2^64 - 1 tickets were
+    /// given. The only error is out of memory, and then nothing changed.
     pub fn next_ask(&mut self, alloc: Global) -> Result<Option<Ask>, OutOfMemory>
         requires { self.old.tickets < 2 ^ 64 - 1 }
-        ensures asks { (w : World) → SuitsOne w self.old → IfOk result (λ ask. AskDone w self.old self.new (round_ask ask)) }
+        ensures asks { (w : World) → SuitsOne w self.old →
+            IfOk result (λ ask. AskDone w self.old self.new (round_ask ask)) }
         ensures numbered { IfOk result (λ ask. AskNumbered self.old self.new (round_ask ask)) }
         ensures starts { IfOk result (AskStartsOne self.old self.new) }
         ensures nothing { (result ≡ Ok None) → NothingToAsk self.old }
         ensures keeps { (terms : Terms) → KeepsTo terms self.old → KeepsTo terms self.new }
-        ensures at_home { (terms : Terms) → KeepsTo terms self.old → IfOk result (AsksAtHome terms.homes) }
+        ensures at_home { (terms : Terms) → KeepsTo terms self.old →
+            IfOk result (AsksAtHome terms.homes) }
         ensures small { (n m : ℕ) → IsKeptSmall n m self.old → IsKeptSmall n m self.new }
         ensures failed { OnErr result (self.new ≡ self.old) }
     {
@@ -127,9 +138,10 @@ impl Join {
         }
     }
 
-    /// Takes the page that was asked for under a ticket. The node that waited for it walks on or holds it; where it then holds
-    /// all its first pages, it goes on with the one of the least count, the first on a tie, and ends where that count is 0.
-    /// `Stranger` exactly where the ticket was not handed out or was answered before; then nothing changes. The only error is
+    /// Takes the page that was asked for under a ticket. The node that waited for it walks on or
+    /// holds it; where it then holds all its first pages, it goes on with the one of the least
+    /// count, the first on a tie, and ends where that count is 0. `Stranger` exactly where the
+    /// ticket was not handed out or was answered before; then nothing changes. The only error is
     /// out of memory, and then nothing changed but that the page is gone: the ticket is out still.
     pub fn answer(
         &mut self,
@@ -137,43 +149,57 @@ impl Join {
         ticket: u64,
         page: Page,
     ) -> Result<Answered, OutOfMemory>
-        ensures taken { (w : World) → Suits w self.old → IsTrueFor w self.old ticket (joint_page page) → IfOk result (AnswerDone w self.old self.new ticket) }
+        ensures taken { (w : World) → Suits w self.old →
+            IsTrueFor w self.old ticket (joint_page page) →
+            IfOk result (AnswerDone w self.old self.new ticket) }
         ensures numbered { IfOk result (AnswerNumbered self.old self.new ticket) }
 
         // But for the length of the longest page, of which `longest` speaks.
-        ensures takes { IfOk result (AnswerTakes self.old (with_longest self.new self.old.longest) ticket (joint_page page)) }
-        ensures stranger { (result ≡ Ok Answered.Stranger) → All (λ t. (t ≡ ticket) → ⊥) (tickets_out self.old) }
-        ensures keeps { (terms : Terms) → KeepsTo terms self.old → NextAtHome terms.homes page.next → KeepsTo terms self.new }
-        ensures small { (n : ℕ) → IsKeptSmall n self.old.longest self.old → IsKeptSmall n self.new.longest self.new }
+        ensures takes { IfOk result
+            (AnswerTakes self.old (with_longest self.new self.old.longest)
+            ticket (joint_page page)) }
+        ensures stranger { (result ≡ Ok Answered.Stranger) → IsStranger self.old ticket }
+        ensures keeps { (terms : Terms) → KeepsTo terms self.old →
+            NextAtHome terms.homes page.next → KeepsTo terms self.new }
+        ensures small { (n : ℕ) → IsKeptSmall n self.old.longest self.old →
+            IsKeptSmall n self.new.longest self.new }
         ensures grows { WaitsMore self.old self.new }
-        ensures longest { IfOk result (LongestAfter self.old.longest self.new.longest (length page.triples)) }
+        ensures longest { IfOk result
+            (LongestAfter self.old.longest self.new.longest (length page.triples)) }
         ensures kept { self.new.tickets ≡ self.old.tickets }
         ensures failed { OnErr result (self.new ≡ self.old) }
     {
         self.join.answer(alloc, ticket, JointPage::one(alloc, page))
     }
 
-    /// Takes a row that waits; `None` exactly where none does, and then nothing changes. It takes no memory.
+    /// Takes a row that waits; `None` exactly where none does, and then nothing changes. It takes
+    /// no memory.
     pub fn take_row(&mut self) -> Option<Row>
         ensures none { MatchOption result (self.old.waiting ≡ []) (λ row. ⊤) }
         ensures stays { MatchOption result (self.new ≡ self.old) (λ row. ⊤) }
         ensures gives { MatchOption result ⊤ (GivesWaiting self.old self.new) }
-        ensures row { (w : World) → Suits w self.old → MatchOption result ⊤ (GivesRow w self.old self.new) }
+        ensures row { (w : World) → Suits w self.old →
+            MatchOption result ⊤ (GivesRow w self.old self.new) }
         ensures tickets { tickets_out self.new ≡ tickets_out self.old }
-        ensures one { MatchOption result ⊤ (λ row. length self.old.waiting ≡ length self.new.waiting + 1) }
+        ensures one { MatchOption result ⊤ (λ row.
+            length self.old.waiting ≡ length self.new.waiting + 1) }
         ensures keeps { (terms : Terms) → KeepsTo terms self.old → KeepsTo terms self.new }
-        ensures width { (terms : Terms) → KeepsTo terms self.old → MatchOption result ⊤ (λ row. length row ≡ terms.width) }
+        ensures width { (terms : Terms) → KeepsTo terms self.old →
+            MatchOption result ⊤ (λ row. length row ≡ terms.width) }
         ensures small { (n m : ℕ) → IsKeptSmall n m self.old → IsKeptSmall n m self.new }
-        ensures kept { (self.new.tickets ≡ self.old.tickets) × (self.new.longest ≡ self.old.longest) }
+        ensures kept { (self.new.tickets ≡ self.old.tickets)
+            × (self.new.longest ≡ self.old.longest) }
     {
         self.join.take_row()
     }
 
-    /// How many nodes are open; the count stands still at 2^64 - 1. With n patterns, pages of at most m triples and
-    /// blocks of at most b rows they are at most 1 + (n - 1) m b `window`. It takes no memory.
+    /// How many nodes are open; the count stands still at 2^64 - 1. With n patterns, pages of at
+    /// most m triples and blocks of at most b rows they are at most 1 + (n - 1) m b `window`. It
+    /// takes no memory.
     pub fn open_rows(&self) -> usize
         ensures value { result ≡ min (length (nodes self.now.levels)) (2 ^ 64 - 1) }
-        ensures small { (n m : ℕ) → IsKeptSmall n m self.now → result ≤ 1 + (n - 1) * ((m * self.now.block) * self.now.window) }
+        ensures small { (n m : ℕ) → IsKeptSmall n m self.now →
+            result ≤ 1 + (n - 1) * ((m * self.now.block) * self.now.window) }
     {
         self.join.open_rows()
     }

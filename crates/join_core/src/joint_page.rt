@@ -6,8 +6,9 @@ use crate::Round;
 use fragment_page::{Page, TripleList};
 use std::alloc::Global;
 
-/// The page of a round: the triples that are new, each once; how many triples the fragments are said to have together; and the
-/// next round, if there is a further page. Of one server it is the server's page.
+/// The page of a round: the triples that are new, each once; how many triples the fragments are
+/// said to have together; and the next round, if there is a further page. Of one server it is the
+/// server's page.
 #[derive(Debug, Drop)]
 pub struct JointPage {
     pub triples: TripleList,

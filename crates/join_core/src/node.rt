@@ -1,29 +1,28 @@
 // The nodes of a join.
-ghost use Rattle.std.specs.Prelude.{◌≡◌, ◌<◌, length, IfOk, OnOk, OnErr, IfSome, [], Some, None, true, false, IsTrue, ◌++◌, ◌==◌, map, slice_index_or, option_to_list, IfNone};
-ghost use Rattle.std.specs.List.{list_all, All, AllByRecursion, remove};
+ghost use Rattle.std.specs.Prelude.{◌≡◌, ◌<◌, length, IfOk, OnOk, OnErr, IfSome, Some, None, true, false, IsTrue, slice_index_or, IfNone};
+ghost use Rattle.std.specs.List.{list_all, All, remove};
 ghost use Rattle.bgp_core.specs.declared.pattern.Pattern.{Pattern};
 ghost use Rattle.bgp_core.specs.Queries.{HasPlacesFor};
 ghost use Rattle.bgp_core.specs.Instances.{instance};
 ghost use Rattle.rdf_terms.specs.Askable.{askable};
-ghost use Rattle.join_core.specs.Blocks.{forms_cut, selection_for};
+ghost use Rattle.join_core.specs.Blocks.{selection_for};
 ghost use Rattle.join_core.specs.Rounds.{IsFirstRound, ShareForms};
 ghost use Rattle.join_core.specs.Shown.{IsBlockFor, HavePlacesFor};
 ghost use Rattle.join_core.specs.Sound.{IsAskedBy};
-ghost use Rattle.join_core.specs.Nodes.{all_askable, fresh, node, opened, put_out, is_got};
+ghost use Rattle.join_core.specs.Nodes.{fresh, node, is_got};
 ghost use Rattle.join_core.specs.Nodes.Stage.{Walking};
-ghost use Rattle.join_core.specs.Events.{CanAsk, asked, IsNextRound, waits_for, first_waiting, with_first_at, is_full, next_walk, chosen_page, IsFirstOf, first_at, least_in, opened_by, out_by, after_by, MadeOf, IsChosen, has_ask, is_idle};
-ghost use Rattle.join_core.specs.Levels.{seed_node};
+ghost use Rattle.join_core.specs.Events.{CanAsk, asked, IsNextRound, waits_for, first_waiting, with_first_at, holding, is_full, chosen_page, IsFirstOf, first_at, least_in, opened_by, out_by, after_by, has_ask, is_idle};
+ghost use Rattle.join_core.specs.Made.{AllAreIdle, IsChoiceOf, IsMadeOf, opened_nodes};
+ghost use Rattle.join_core.specs.Targets.{cut_by};
 
 use crate::block::{Cut, RowBlock, selection_of};
 use crate::choice::least_count;
-use crate::expand::{add_rows, expand, expand_held};
 use crate::first::First;
+use crate::making::{Made, chosen_part, made_first_held, made_of, nothing};
 use crate::next_page::NextPage;
-use crate::opening::Opening;
 use crate::pattern_list::PatternList;
 use crate::{FormList, JointPage, Round};
-use bgp_core::{Pattern, Row};
-use fragment_page::TripleList;
+use bgp_core::Pattern;
 use std::alloc::Global;
 use std::marker::Model;
 use std::mem;
@@ -38,26 +37,20 @@ pub(crate) struct Walk {
     pub(crate) next: NextPage,
 }
 
-/// What a node does: it asks for the first pages of its patterns, or walks over the pages of the chosen one.
+/// What a node does: it asks for the first pages of its patterns, or walks over the pages of the
+/// chosen one.
 #[derive(Debug, Drop)]
 pub(crate) enum Progress {
     Asks(Vec<First>),
     Walks(Walk),
 }
 
-/// What a node waits for under a ticket: the first page of a pattern, by its place, or the next page.
+/// What a node waits for under a ticket: the first page of a pattern, by its place, or the next
+/// page.
 #[derive(Clone, Copy, Debug, Drop)]
 pub(crate) enum Waits {
     First(usize),
     Next,
-}
-
-/// What a page makes of a node: nodes that it opens, rows that it puts out, and the node after it, if it goes on.
-#[derive(Debug, Drop)]
-pub(crate) struct Made {
-    pub(crate) opened: Vec<Opening>,
-    pub(crate) rows: Vec<Row>,
-    pub(crate) after: Option<Node>,
 }
 
 /// A block of rows with the patterns that are still to be matched.
@@ -76,7 +69,8 @@ impl Model for Node {
 
     ghost view = { λ n. record { rows = n.rows; rest = n.rest.value; stage = stage_of n.progress } };
 
-    ghost invariant = { λ n. HavePlacesFor n.rest.value n.rows × IsMadeStage n.rows n.rest.value (stage_of n.progress) };
+    ghost invariant = { λ n. HavePlacesFor n.rest.value n.rows
+        × IsMadeStage n.rows n.rest.value (stage_of n.progress) };
 }
 
 /// The round of the first pages that a block asks of a pattern.
@@ -87,7 +81,8 @@ fn first_round(
     rows: &RowBlock,
 ) -> Result<Round, OutOfMemory>
     requires { All (λ row. askable (instance pattern.now row) ≡ true) rows.now }
-    ensures first { IfOk result (λ r. IsFirstRound forms.now (selection_for pattern.now rows.now) r) }
+    ensures first { IfOk result (λ r.
+        IsFirstRound forms.now (selection_for pattern.now rows.now) r) }
     ensures shared { IfOk result (λ r. ShareForms forms.now r.addresses) }
 {
     // That there is a row: contracts see a block as a list.
@@ -228,7 +223,7 @@ impl Node {
 }
 
 /// The node that walks over the pages of the chosen pattern, from a round on.
-fn walking(
+pub(crate) fn walking(
     alloc: Global,
     rows: &RowBlock,
     rest: &Rc<PatternList>,
@@ -238,7 +233,8 @@ fn walking(
 ) -> Result<Node, OutOfMemory>
     requires places { HavePlacesFor rest.now.value rows.now }
     requires chosen { All (λ row. HasPlacesFor (length row) chosen.now.value) rows.now }
-    ensures { IfOk result (λ n. n ≡ node rows.now rest.now.value (Walking chosen.now.value pages round None)) }
+    ensures { IfOk result (λ n. n ≡
+        node rows.now rest.now.value (Walking chosen.now.value pages round None)) }
 {
     let walk = Walk {
         chosen: chosen.clone()?,
@@ -252,153 +248,6 @@ fn walking(
     })
 }
 
-/// The node that walks on after some pages, if there is a further one, whose round it takes.
-fn walk_on(
-    alloc: Global,
-    rows: &RowBlock,
-    rest: &Rc<PatternList>,
-    chosen: &Rc<Pattern>,
-    pages: u64,
-    next: Option<Round>,
-) -> Result<Option<Node>, OutOfMemory>
-    requires places { HavePlacesFor rest.now.value rows.now }
-    requires chosen { All (λ row. HasPlacesFor (length row) chosen.now.value) rows.now }
-    ensures { IfOk result (λ o. o ≡ next_walk chosen.now.value rest.now.value rows.now pages next) }
-{
-    match next {
-        None => Ok(None),
-        Some(round) => Ok(Some(walking(alloc, rows, rest, chosen, pages, round)?)),
-    }
-}
-
-/// What a page of a pattern makes of a block. Its triples are moved or dropped one by one.
-fn made_of(
-    alloc: Global,
-    cut: &Cut,
-    rows: &RowBlock,
-    rest: &Rc<PatternList>,
-    chosen: &Rc<Pattern>,
-    pages: u64,
-    page: JointPage,
-) -> Result<Made, OutOfMemory>
-    requires places { HavePlacesFor rest.now.value rows.now }
-    requires chosen { All (λ row. HasPlacesFor (length row) chosen.now.value) rows.now }
-    ensures opened { IfOk result (λ m. map seed_node m.opened.items ≡ opened (forms_cut cut.now.forms cut.now.block) chosen.now.value rest.now.value rows.now page.triples) }
-    ensures rows { IfOk result (λ m. m.rows.items ≡ put_out chosen.now.value rest.now.value rows.now page.triples) }
-    ensures after { IfOk result (λ m. m.after ≡ next_walk chosen.now.value rest.now.value rows.now pages page.next) }
-    ensures idle { IfOk result (λ m. All (λ n. is_idle n ≡ true) (map seed_node m.opened.items ++ option_to_list m.after)) }
-{
-    let JointPage { triples, next, .. } = page;
-    let after = walk_on(alloc, rows, rest, chosen, pages, next)?;
-    let mut opened = Vec::new(alloc);
-    let mut out = Vec::new(alloc);
-    let found = expand(alloc, chosen, rows, triples.into_vec())?;
-    add_rows(alloc, cut, rest, found, &mut opened, &mut out)?;
-    Ok(Made {
-        opened,
-        rows: out,
-        after,
-    })
-}
-
-/// The round of a next page again, if there is one.
-fn copy_next(alloc: Global, next: &Option<Round>) -> Result<Option<Round>, OutOfMemory>
-    ensures { IfOk result (λ o. o ≡ next.now) }
-{
-    match next {
-        Some(round) => Ok(Some(round.copy(alloc)?)),
-        None => Ok(None),
-    }
-}
-
-/// What a page that stays held makes of a block, as `made_of`.
-fn made_of_held(
-    alloc: Global,
-    cut: &Cut,
-    rows: &RowBlock,
-    rest: &Rc<PatternList>,
-    chosen: &Rc<Pattern>,
-    pages: u64,
-    page: &JointPage,
-) -> Result<Made, OutOfMemory>
-    requires places { HavePlacesFor rest.now.value rows.now }
-    requires chosen { All (λ row. HasPlacesFor (length row) chosen.now.value) rows.now }
-    ensures opened { IfOk result (λ m. map seed_node m.opened.items ≡ opened (forms_cut cut.now.forms cut.now.block) chosen.now.value rest.now.value rows.now page.now.triples) }
-    ensures rows { IfOk result (λ m. m.rows.items ≡ put_out chosen.now.value rest.now.value rows.now page.now.triples) }
-    ensures after { IfOk result (λ m. m.after ≡ next_walk chosen.now.value rest.now.value rows.now pages page.now.next) }
-    ensures idle { IfOk result (λ m. All (λ n. is_idle n ≡ true) (map seed_node m.opened.items ++ option_to_list m.after)) }
-{
-    let further = copy_next(alloc, &page.next)?;
-    let after = walk_on(alloc, rows, rest, chosen, pages, further)?;
-    let mut opened = Vec::new(alloc);
-    let mut out = Vec::new(alloc);
-    let found = expand_held(alloc, chosen, rows, page.triples.as_slice())?;
-    add_rows(alloc, cut, rest, found, &mut opened, &mut out)?;
-    Ok(Made {
-        opened,
-        rows: out,
-        after,
-    })
-}
-
-/// What becomes of a node that makes nothing and does not go on.
-fn nothing(alloc: Global) -> Made
-    ensures opened { result.opened.items ≡ [] }
-    ensures rows { result.rows.items ≡ [] }
-    ensures after { result.after ≡ None }
-    ensures idle { All (λ n. is_idle n ≡ true) (map seed_node result.opened.items ++ option_to_list result.after) }
-{
-    Made {
-        opened: Vec::new(alloc),
-        rows: Vec::new(alloc),
-        after: None,
-    }
-}
-
-/// Whether a page says that its fragment has no triple.
-fn counts_none(page: &JointPage) -> bool
-    ensures { result ≡ (page.now.count == 0) }
-{
-    page.count == 0
-}
-
-/// What a node takes of the page that it chose: nothing where its count is 0.
-fn chosen_part(alloc: Global, page: JointPage) -> JointPage
-    ensures { result ≡ chosen_page page }
-{
-    if counts_none(&page) {
-        return JointPage {
-            triples: TripleList::from_vec(Vec::new(alloc)),
-            count: page.count,
-            next: None,
-        };
-    }
-    page
-}
-
-/// What the first page of the chosen pattern makes of a block where it stays held: nothing where
-/// its count is 0.
-fn made_first_held(
-    alloc: Global,
-    cut: &Cut,
-    rows: &RowBlock,
-    rest: &Rc<PatternList>,
-    chosen: &Rc<Pattern>,
-    page: &JointPage,
-) -> Result<Made, OutOfMemory>
-    requires places { HavePlacesFor rest.now.value rows.now }
-    requires chosen { All (λ row. HasPlacesFor (length row) chosen.now.value) rows.now }
-    ensures opened { IfOk result (λ m. map seed_node m.opened.items ≡ opened (forms_cut cut.now.forms cut.now.block) chosen.now.value rest.now.value rows.now (chosen_page page.now).triples) }
-    ensures rows { IfOk result (λ m. m.rows.items ≡ put_out chosen.now.value rest.now.value rows.now (chosen_page page.now).triples) }
-    ensures after { IfOk result (λ m. m.after ≡ next_walk chosen.now.value rest.now.value rows.now 1 (chosen_page page.now).next) }
-    ensures idle { IfOk result (λ m. All (λ n. is_idle n ≡ true) (map seed_node m.opened.items ++ option_to_list m.after)) }
-{
-    if counts_none(page) {
-        return Ok(nothing(alloc));
-    }
-    made_of_held(alloc, cut, rows, rest, chosen, 1, page)
-}
-
 impl Node {
     /// What the next page of a walk makes of the node.
     pub(crate) fn next_page(
@@ -407,10 +256,11 @@ impl Node {
         cut: &Cut,
         page: JointPage,
     ) -> Result<Made, OutOfMemory>
-        ensures opened { IfOk result (λ m. map seed_node m.opened.items ≡ opened_by (forms_cut cut.now.forms cut.now.block) self.now page.triples) }
+        ensures opened { IfOk result (λ m. opened_nodes m ≡
+            opened_by (cut_by cut.now) self.now page.triples) }
         ensures rows { IfOk result (λ m. m.rows.items ≡ out_by self.now page.triples) }
         ensures after { IfOk result (λ m. m.after ≡ after_by self.now page.next) }
-        ensures idle { IfOk result (λ m. All (λ n. is_idle n ≡ true) (map seed_node m.opened.items ++ option_to_list m.after)) }
+        ensures idle { IfOk result (λ m. AllAreIdle m) }
     {
         let Progress::Walks(walk) = &self.progress else {
             return Ok(nothing(alloc));
@@ -438,7 +288,8 @@ impl Node {
         Ok(rest)
     }
 
-    /// What the first page of the pattern at a place makes of the node: nothing where the count is 0.
+    /// What the first page of the pattern at a place makes of the node: nothing where the count is
+    /// 0.
     fn go_on(
         &self,
         alloc: Global,
@@ -447,8 +298,10 @@ impl Node {
         page: JointPage,
     ) -> Result<Made, OutOfMemory>
         requires { index < length self.now.rest }
-        ensures made { IfOk result (λ m. (p : Pattern) → p ≡ slice_index_or self.now.rest index p → MadeOf (forms_cut cut.now.forms cut.now.block) p (remove self.now.rest index) self.now.rows (1) (chosen_page page) (map seed_node m.opened.items) m.rows.items m.after) }
-        ensures idle { IfOk result (λ m. All (λ n. is_idle n ≡ true) (map seed_node m.opened.items ++ option_to_list m.after)) }
+        ensures made { IfOk result (λ m. (p : Pattern) → p ≡ slice_index_or self.now.rest index p →
+            IsMadeOf (cut_by cut.now) p (remove self.now.rest index) self.now.rows
+            1 (chosen_page page) m) }
+        ensures idle { IfOk result (λ m. AllAreIdle m) }
     {
         let rest = self.others(alloc, index)?;
         let page = chosen_part(alloc, page);
@@ -465,11 +318,12 @@ impl Node {
         }
     }
 
-    /// What the held first page of the pattern with the least count makes of the node, as `go_on`. The page stays held.
+    /// What the held first page of the pattern with the least count makes of the node, as `go_on`.
+    /// The page stays held.
     fn choose(&self, alloc: Global, cut: &Cut) -> Result<Made, OutOfMemory>
         requires { is_full self.now ≡ true }
-        ensures chosen { IfOk result (λ m. IsChosen (forms_cut cut.now.forms cut.now.block) self.now (map seed_node m.opened.items) m.rows.items m.after) }
-        ensures idle { IfOk result (λ m. All (λ n. is_idle n ≡ true) (map seed_node m.opened.items ++ option_to_list m.after)) }
+        ensures chosen { IfOk result (λ m. IsChoiceOf (cut_by cut.now) self.now m) }
+        ensures idle { IfOk result (λ m. AllAreIdle m) }
     {
         let Progress::Asks(firsts) = &self.progress else {
             return Ok(nothing(alloc));
@@ -485,7 +339,8 @@ impl Node {
         made_first_held(alloc, cut, &self.rows, &rest, self.rest.at(index), page)
     }
 
-    /// Puts a ticket back in the place of the page that came last and has the least count, and goes on with the page.
+    /// Puts a ticket back in the place of the page that came last and has the least count, and goes
+    /// on with the page.
     fn choose_last(
         &mut self,
         alloc: Global,
@@ -497,8 +352,8 @@ impl Node {
         requires place { IsFirstOf index self.old }
         requires least { least_in self.old.stage ≡ index }
         ensures back { self.new ≡ with_first_at index (First.Out ticket) self.old }
-        ensures chosen { IfOk result (λ m. IsChosen (forms_cut cut.now.forms cut.now.block) self.old (map seed_node m.opened.items) m.rows.items m.after) }
-        ensures idle { IfOk result (λ m. All (λ n. is_idle n ≡ true) (map seed_node m.opened.items ++ option_to_list m.after)) }
+        ensures chosen { IfOk result (λ m. IsChoiceOf (cut_by cut.now) self.old m) }
+        ensures idle { IfOk result (λ m. AllAreIdle m) }
     {
         match self.swap_first(index, First::Out(ticket)) {
             Some(First::Got(page)) => self.go_on(alloc, cut, index, page),
@@ -507,9 +362,10 @@ impl Node {
         }
     }
 
-    /// What the pattern with the least count makes of a node that holds all first pages, the last of which came to a place.
-    /// That page is moved where it is chosen, and gone either way: the ticket stands there again. A page that was held before
-    /// stays held, since it has to be there if memory runs out, and what is new of it is copied.
+    /// What the pattern with the least count makes of a node that holds all first pages, the last
+    /// of which came to a place. That page is moved where it is chosen, and gone either way: the
+    /// ticket stands there again. A page that was held before stays held, since it has to be there
+    /// if memory runs out, and what is new of it is copied.
     fn take_last(
         &mut self,
         alloc: Global,
@@ -520,8 +376,8 @@ impl Node {
         requires full { is_full self.old ≡ true }
         requires place { IsFirstOf index self.old }
         ensures back { self.new ≡ with_first_at index (First.Out ticket) self.old }
-        ensures chosen { IfOk result (λ m. IsChosen (forms_cut cut.now.forms cut.now.block) self.old (map seed_node m.opened.items) m.rows.items m.after) }
-        ensures idle { IfOk result (λ m. All (λ n. is_idle n ≡ true) (map seed_node m.opened.items ++ option_to_list m.after)) }
+        ensures chosen { IfOk result (λ m. IsChoiceOf (cut_by cut.now) self.old m) }
+        ensures idle { IfOk result (λ m. AllAreIdle m) }
     {
         if self.least() == index {
             return self.choose_last(alloc, cut, index, ticket);
@@ -531,8 +387,9 @@ impl Node {
         made
     }
 
-    /// Takes a first page. Where it is the last to come, the pattern with the least count is chosen, and the answer is what
-    /// its page makes of the node, which is as it was: it is to be replaced. Out of memory, the node is as it was.
+    /// Takes a first page. Where it is the last to come, the pattern with the least count is
+    /// chosen, and the answer is what its page makes of the node, which is as it was: it is to be
+    /// replaced. Out of memory, the node is as it was.
     pub(crate) fn take_first(
         &mut self,
         alloc: Global,
@@ -542,10 +399,14 @@ impl Node {
         page: JointPage,
     ) -> Result<Option<Made>, OutOfMemory>
         requires { waits_for ticket self.old ≡ Some (Waits.First index) }
-        ensures held { IfOk result (λ o. IfNone o ((is_full (with_first_at index (First.Got page) self.old) ≡ false) × (self.new ≡ with_first_at index (First.Got page) self.old))) }
-        ensures full { IfOk result (λ o. IfSome o (λ m. (is_full (with_first_at index (First.Got page) self.old) ≡ true) × (self.new ≡ self.old))) }
-        ensures chosen { IfOk result (λ o. IfSome o (λ m. IsChosen (forms_cut cut.now.forms cut.now.block) (with_first_at index (First.Got page) self.old) (map seed_node m.opened.items) m.rows.items m.after)) }
-        ensures idle { IfOk result (λ o. IfSome o (λ m. All (λ n. is_idle n ≡ true) (map seed_node m.opened.items ++ option_to_list m.after))) }
+        ensures held { IfOk result (λ o. IfNone o
+            ((is_full (holding index page self.old) ≡ false)
+            × (self.new ≡ holding index page self.old))) }
+        ensures full { IfOk result (λ o. IfSome o (λ m.
+            (is_full (holding index page self.old) ≡ true) × (self.new ≡ self.old))) }
+        ensures chosen { IfOk result (λ o. IfSome o (λ m.
+            IsChoiceOf (cut_by cut.now) (holding index page self.old) m)) }
+        ensures idle { IfOk result (λ o. IfSome o (λ m. AllAreIdle m)) }
         ensures failed { OnErr result (self.new ≡ self.old) }
     {
         self.set_first(index, First::Got(page));

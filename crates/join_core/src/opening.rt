@@ -11,8 +11,8 @@ use std::marker::Model;
 use std::rc::Rc;
 use tpf_base::OutOfMemory;
 
-/// A node that was not started: a block of rows, and the patterns that are still to be matched, which all such nodes of a page
-/// share.
+/// A node that was not started: a block of rows, and the patterns that are still to be matched,
+/// which all such nodes of a page share.
 #[derive(Debug, Drop)]
 pub(crate) struct Opening {
     rows: RowBlock,

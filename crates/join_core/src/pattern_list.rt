@@ -28,7 +28,8 @@ impl Model for PatternList {
 
 /// Adds a pattern, which both lists share then.
 fn share(list: &mut Vec<Rc<Pattern>>, pattern: &Rc<Pattern>) -> Result<(), OutOfMemory>
-    ensures { OnOk result (map rc_value list.new.items ≡ map rc_value list.old.items ++ pattern.now.value ∷ []) }
+    ensures { OnOk result (map rc_value list.new.items ≡
+        map rc_value list.old.items ++ pattern.now.value ∷ []) }
 {
     list.push(pattern.clone()?)?;
     Ok(())

@@ -1,8 +1,9 @@
 use Rattle.std.proofs.Common.{ℕ, ◌≡◌, ◌==◌, true, false, not, Bool, deque_len, ap, sym, subst, ◌∙◌}
 use Rattle.std.specs.List.{All}
+use Rattle.std.proofs.lemmas.Bool.{not-false}
 use Rattle.join_core.specs.Events.{is_idle}
 use Rattle.join_core.specs.Levels.{LevelData, nodes_of}
-use Rattle.join_core.proofs.Kept.{some-idle, none-idle, not-false, eq-zero}
+use Rattle.join_core.proofs.Kept.{some-idle, none-idle, eq-zero}
 use Rattle.join_core.proofs.level.Level.has_idle.Goals as goal
 
 pub returns-then-is_empty-clause-yes : goal.returns-then-is_empty-clause-yes

@@ -10,21 +10,21 @@ use Rattle.join_core.specs.Shown.{HavePlacesFor}
 use Rattle.join_core.specs.Levels.{seed_node}
 use Rattle.join_core.proofs.Valid.{found-places}
 use Rattle.join_core.proofs.Outs.{made-idle}
-use Rattle.join_core.proofs.node.made_of_held.Goals as goal
+use Rattle.join_core.proofs.making.made_of.Goals as goal
 
-pub expand_held-requires : goal.expand_held-requires
-expand_held-requires c =
+pub expand-requires : goal.expand-requires
+expand-requires c =
     let value : c.deref.result.now ≡ c.args.chosen.now.value = search rules in
     subst (λ (p : Pattern). All (λ row. HasPlacesFor (length row) p) c.args.rows.now) (sym value) c.requires.chosen
 
 pub add_rows-requires : goal.add_rows-requires
 add_rows-requires c =
-    let e : c.in_ok-found.found.items ≡ found c.args.chosen.now.value c.args.rows.now c.args.page.now.triples = search rules in
-    subst (λ (l : List Places). HavePlacesFor c.args.rest.now.value l) (sym e) (found-places c.args.rest.now.value c.args.chosen.now.value c.args.rows.now c.args.page.now.triples c.requires.places)
+    let e : c.in_ok-found.found.items ≡ found c.args.chosen.now.value c.args.rows.now c.args.page.triples = search rules in
+    subst (λ (l : List Places). HavePlacesFor c.args.rest.now.value l) (sym e) (found-places c.args.rest.now.value c.args.chosen.now.value c.args.rows.now c.args.page.triples c.requires.places)
 
 pub returns-clause-idle : goal.returns-clause-idle
 returns-clause-idle c =
     let cut = forms_cut c.args.cut.now.forms c.args.cut.now.block in
-    let m : map seed_node c.add_rows.new.nodes.items ≡ opened cut c.args.chosen.now.value c.args.rest.now.value c.args.rows.now c.args.page.now.triples = search rules in
-    let a : c.in_ok-after.after ≡ next_walk c.args.chosen.now.value c.args.rest.now.value c.args.rows.now c.args.pages c.args.page.now.next = search rules in
-    made-idle cut c.args.chosen.now.value c.args.rest.now.value c.args.rows.now c.args.pages c.args.page.now.triples c.args.page.now.next _ _ m a
+    let m : map seed_node c.add_rows.new.nodes.items ≡ opened cut c.args.chosen.now.value c.args.rest.now.value c.args.rows.now c.args.page.triples = search rules in
+    let a : c.in_ok-after.after ≡ next_walk c.args.chosen.now.value c.args.rest.now.value c.args.rows.now c.args.pages c.args.page.next = search rules in
+    made-idle cut c.args.chosen.now.value c.args.rest.now.value c.args.rows.now c.args.pages c.args.page.triples c.args.page.next _ _ m a
