@@ -3,13 +3,13 @@ use Rattle.std.proofs.Common.{ℕ, zero, suc, ◌≡◌, ◌+◌, ◌<◌, ◌�
 use Rattle.std.specs.List.{filter, flat_map, list_any, All, Contains}
 use Rattle.std.specs.List.Sorted.{IsPermutation, IsStrictlySortedBy}
 use Rattle.std.specs.Ordering.{is_eq}
-use Rattle.std.specs.declared.cmp.Ordering.{Ordering}
-use Rattle.std.specs.declared.cmp.Ordering.TheVariants.{Less, Equal, Greater}
-use Rattle.std.proofs.lemmas.Bool.{and_from, cases_lt}
+use Rattle.std.specs.declared.cmp.Ordering.TheVariants.{Equal}
+use Rattle.std.proofs.lemmas.Bool.{and_from, and_parts, cases_lt}
 use Rattle.std.proofs.lemmas.Bool.Decides.{nat_tests}
 use Rattle.std.proofs.lemmas.List.Elements.{All-nil, All-cons, All-head, All-tail, All-contains, Contains-append_left, Contains-append_right, Contains-append_cases}
 use Rattle.std.proofs.lemmas.List.Kept.{IsStrictlySortedBy-filter}
 use Rattle.std.proofs.lemmas.List.Sorted.{IsPermutation-sym, Contains-permutation}
+use Rattle.list_laws.proofs.Ascending.{is_equal}
 use Rattle.list_laws.proofs.Members.{at_head, in_tail, head_or_tail, none_in, in_filter, from_filter, in_flat_map, from_flat_map, Contains-map, from_map, any_of, some_of}
 use Rattle.list_laws.proofs.Told.{one_list}
 use Rattle.rdf_terms.specs.declared.term.Triple.{Triple}
@@ -44,7 +44,7 @@ sorted-is : (xs : List Triple) → IsFragment xs no-slots (sorted triple_order x
 unfolding no-slots fragment
 sorted-is xs = subst (λ (l : List Triple). IsFragment xs no-slots (sorted triple_order l)) (every xs) (fragment_is xs no-slots)
 
-ascends : (xs : List Triple) → IsStrictlySortedBy triple_order (sorted triple_order xs)
+pub ascends : (xs : List Triple) → IsStrictlySortedBy triple_order (sorted triple_order xs)
 unfolding no-slots
 ascends xs = (sorted-is xs).ascending
 
@@ -67,12 +67,8 @@ one-union set up =
 abbrev Stands : List Triple → Triple → Bool
 Stands before t = list_any (λ s. triple_eq s t) before
 
-eq-same : (s t : Triple) → triple_eq s t ≡ true → s ≡ t
-eq-same s t e = (triple_equal s t).0 (is-equal (triple_order s t) (sym (triple_ties s t) ∙ e)) where
-  is-equal : (o : Ordering) → is_eq o ≡ true → o ≡ Equal
-  is-equal Less e = cc
-  is-equal Equal e = refl
-  is-equal Greater e = cc
+pub eq-same : (s t : Triple) → triple_eq s t ≡ true → s ≡ t
+eq-same s t e = (triple_equal s t).0 (is_equal (triple_order s t) (sym (triple_ties s t) ∙ e))
 
 eq-itself : (t : Triple) → triple_eq t t ≡ true
 eq-itself t = triple_ties t t ∙ ap is_eq ((triple_equal t t).1 refl)
@@ -231,10 +227,6 @@ AreWorlds worlds = All IsWorld worlds
 
 -- ---- what is kept
 
-both-true : (a b : Bool) → (a && b) ≡ true → (a ≡ true) × (b ≡ true)
-both-true true b e = (refl, e)
-both-true false b e = cc
-
 kept-by : (worlds : List World) (rows : List Slots) (t : Triple) (w : World) → Contains worlds w → holds w t ≡ true → w.keeps rows t ≡ true → joint_keeps worlds rows t ≡ true
 kept-by worlds rows t w m h k =
     ap (λ (b : Bool). if b then list_any (λ v. holds v t && v.keeps rows t) worlds else true) (any_of (λ v. holds v t) worlds w m h)
@@ -244,7 +236,7 @@ keeper : (worlds : List World) (rows : List Slots) (t : Triple) (w : World) → 
 keeper worlds rows t w m h k =
     let any = sym (ap (λ (b : Bool). if b then list_any (λ v. holds v t && v.keeps rows t) worlds else true) (any_of (λ v. holds v t) worlds w m h)) ∙ k in
     let r = some_of (λ v. holds v t && v.keeps rows t) worlds any in
-    let e = both-true (holds r.0 t) (r.0.keeps rows t) r.2 in
+    let e = and_parts (holds r.0 t) (r.0.keeps rows t) r.2 in
     (r.0, r.1, e.0, e.1)
 
 kept-where : (worlds : List World) (rows : List Slots) (t : Triple) → ((w : World) → Contains worlds w → w.keeps rows t ≡ true) → (b : Bool) → list_any (λ w. holds w t) worlds ≡ b → joint_keeps worlds rows t ≡ true
@@ -311,11 +303,11 @@ module _ (worlds : List World) (are : AreWorlds worlds) (s : Selection) where
       (λ t m.
       let r = from-joint t m in
       let there = from_filter (kept r.0) r.0.triples t r.2 in
-      let e = both-true (matches s.slots t) (r.0.keeps s.rows t) (passes (kept r.0) r.0.triples t r.2) in
+      let e = and_parts (matches s.slots t) (r.0.keeps s.rows t) (passes (kept r.0) r.0.triples t r.2) in
       in_filter all-kept (union (triples-in worlds)) t (and_from (matches s.slots t) (joint_keeps worlds s.rows t) e.0 (kept-by worlds s.rows t r.0 r.1 (in-stands r.0.triples t there) e.1)) (in-union r.0 t r.1 there))
       (λ t m.
       let r = from-union t (from_filter all-kept (union (triples-in worlds)) t m) in
-      let e = both-true (matches s.slots t) (joint_keeps worlds s.rows t) (passes all-kept (union (triples-in worlds)) t m) in
+      let e = and_parts (matches s.slots t) (joint_keeps worlds s.rows t) (passes all-kept (union (triples-in worlds)) t m) in
       let v = keeper worlds s.rows t r.0 r.1 (in-stands r.0.triples t r.2) e.1 in
       in-joint v.0 t v.1 (in_filter (kept v.0) v.0.triples t (and_from (matches s.slots t) (v.0.keeps s.rows t) e.0 v.3) (stands-in v.0.triples t v.2)))
 

@@ -1,5 +1,5 @@
 -- What a server within the limits answers is read as pages.
-use Rattle.std.proofs.Common.{ℕ, zero, suc, ◌≡◌, ◌+◌, ◌-◌, ◌/◌, ◌<◌, ◌≤◌, ◌^◌, ◌==◌, max, nat_lt, Bool, true, false, List, [], ◌∷◌, ◌++◌, length, replicate, Option, Some, None, codes, slice_get, if◌then◌else◌, refl, sym, ap, subst, ◌∙◌, arith, length-append, append-nil, div-le_self}
+use Rattle.std.proofs.Common.{ℕ, suc, ◌≡◌, ◌+◌, ◌-◌, ◌/◌, ◌<◌, ◌≤◌, ◌^◌, ◌==◌, max, nat_lt, Bool, true, false, List, [], ◌∷◌, ◌++◌, length, replicate, Some, None, codes, if◌then◌else◌, refl, sym, ap, subst, ◌∙◌, arith, length-append, append-nil, div-le_self}
 use Rattle.std.specs.List.{AllByRecursion, Contains, filter}
 use Rattle.std.specs.declared.cmp.Ordering.{Ordering}
 use Rattle.std.specs.declared.cmp.Ordering.TheVariants.{Less, Equal, Greater}
@@ -42,6 +42,7 @@ use Rattle.bgp_core.specs.Queries.{IsValidPart}
 use Rattle.http_ends.specs.Requests.{request_for}
 use Rattle.plan_laws.specs.Servers.{server_world}
 use Rattle.join_core.specs.Nodes.{plan}
+use Rattle.join_core.proofs.Starts.{empty-place}
 use Rattle.plan_laws.specs.Fitting.{IsRead, AreServable, IsAskablePart, IsAskable, IsServable}
 use Rattle.plan_laws.proofs.Lengths.{IsShort, fragment_short, passed_short, address_short}
 use Rattle.plan_laws.proofs.Metadata.{AreFitting, HasFittingTexts, HasFittingTerms, joined, metadata_fits, data_fits}
@@ -184,13 +185,8 @@ good_triples short triples valid s =
 fitting_triples : (triples : List Triple) → AreServable triples → AllByRecursion HasFittingTerms triples
 fitting_triples triples s = all_from HasFittingTerms triples (λ t there. fitting_triple t (terms_each triples IsBrief s.terms t there))
 
-none_bound : (n k : ℕ) (t : Term) → slice_get (replicate {A = Option Term} n None) k ≡ Some (Some t) → ⊥
-none_bound zero k t e = cc
-none_bound (suc n) zero t e = cc
-none_bound (suc n) (suc k) t e = none_bound n k t e
-
 pub binds_none : (P : Term → Type 0) (n : ℕ) → Binds P (replicate n None)
-binds_none P n = record { each = λ k t e. absurd (none_bound n k t e) }
+binds_none P n = record { each = λ k t e. absurd (empty-place n k t e) }
 
 -- ---- pages
 

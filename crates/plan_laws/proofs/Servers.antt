@@ -290,13 +290,11 @@ next-is config s k last a (Some next) true e one at n = ap (λ (x : Address). le
 next-is config s k last a (Some next) false e one at n = let h = n.0 in absurd (grind (arith, nat_tests))
 
 -- the address of a round for one server
-head-of : Address → List Address → Address
-head-of a [] = a
-head-of a (x ∷ xs) = x
-
-one-address : (a b : Address) → round_of_one a ≡ round_of_one b → a ≡ b
-unfolding head-of
-one-address a b e = ap (λ (r : RoundData). head-of a r.addresses) e
+pub one-address : (a b : Address) → round_of_one a ≡ round_of_one b → a ≡ b
+one-address a b e = same (ap (λ (r : RoundData). r.addresses) e)
+  where
+    same : a ∷ [] ≡ b ∷ [] → a ≡ b
+    same f = cc
 
 pub pages-of : PagesAreAddresses → OneAddress → NothingElseIsRead → ServersPagesAreTrue
 pages-of addresses one only block history version config address page h number_is c read = record {

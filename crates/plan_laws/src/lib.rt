@@ -1,8 +1,9 @@
-//! What joins a plan with a server: a server of fragments is a world over which a join goes, and under the limits of the
-//! program a plan fits: each of its addresses is answered with a page that is read.
+//! What joins a plan with a server: a server of fragments is a world over which a join goes, and
+//! under the limits of the program a plan fits: each of its addresses is answered with a page that
+//! is read.
 //!
-//! A law is called where its statement is wanted, and does nothing when it runs. So a query over a server in the same process
-//! ends as planned:
+//! A law is called where its statement is wanted, and does nothing when it runs. So a query over a
+//! server in the same process ends as planned:
 //!
 //! ```rust
 //! plans_are_read();
@@ -27,12 +28,12 @@ use template_fill::{
 };
 
 /// Over data whose terms have canonical texts of at most 262144 bytes, and for patterns whose fixed
-/// terms have texts of at most 262204 bytes, a server answers each address of a plan with the status
-/// 200, and the body is read as a page of that address (`plan`): the addresses that stand in its
-/// metadata are short enough. It holds row by row and in blocks of at most 64 rows, whether the server reads
-/// the rows of an address or passes them over. So it does for its own base (`base`), and for each other address of its
-/// authority that it answers so at all (`start`). The number of triples has at most 19 digits, and the
-/// base and the start at most 65536 bytes.
+/// terms have texts of at most 262204 bytes, a server answers each address of a plan with the
+/// status 200, and the body is read as a page of that address (`plan`): the addresses that stand in
+/// its metadata are short enough. It holds row by row and in blocks of at most 64 rows, whether the
+/// server reads the rows of an address or passes them over. So it does for its own base (`base`),
+/// and for each other address of its authority that it answers so at all (`start`). The number of
+/// triples has at most 19 digits, and the base and the start at most 65536 bytes.
 pub fn plans_are_read()
     ensures plan { PlansAreRead }
     ensures base { BasesAreRead }
@@ -46,8 +47,9 @@ pub fn plans_are_read()
     versions_are_valid();
 }
 
-/// Over several servers within the same limits, each address of the plan of all of them together has the authority of the base of
-/// one of them, which answers it with the status 200 and a body that is read as a page of that address.
+/// Over several servers within the same limits, each address of the plan of all of them together
+/// has the authority of the base of one of them, which answers it with the status 200 and a body
+/// that is read as a page of that address.
 pub fn joint_plans_are_read()
     ensures { JointPlansAreRead }
 {
@@ -59,10 +61,12 @@ pub fn joint_plans_are_read()
     versions_are_valid();
 }
 
-/// A server of fragments is a world: the data of a version of its history, what it gives of them in pages of its size, and the
-/// addresses of these. One that reads the rows of an address gives of a fragment what matches one of them; one that passes them
-/// over gives the fragment, and its further pages stand where those of the fragment do. The form that its pages tell gives the addresses of the first pages, and a page that is read from
-/// the body which the server's definition gives under an address is true for it.
+/// A server of fragments is a world: the data of a version of its history, what it gives of them in
+/// pages of its size, and the addresses of these. One that reads the rows of an address gives of a
+/// fragment what matches one of them; one that passes them over gives the fragment, and its further
+/// pages stand where those of the fragment do. The form that its pages tell gives the addresses of
+/// the first pages, and a page that is read from the body which the server's definition gives under
+/// an address is true for it.
 pub fn a_server_is_a_world()
     ensures world { ServersAreWorlds }
     ensures form { ServersHaveForms }
@@ -77,9 +81,9 @@ pub fn a_server_is_a_world()
     versions_are_valid();
 }
 
-/// Several servers are a world together: the union of their triples, in which a triple that several of them have stands once,
-/// asked for in rounds of which each has a page of every server that has one of its number. So a join in rounds over them gives
-/// the solutions over the union.
+/// Several servers are a world together: the union of their triples, in which a triple that several
+/// of them have stands once, asked for in rounds of which each has a page of every server that has
+/// one of its number. So a join in rounds over them gives the solutions over the union.
 pub fn worlds_together_are_a_world()
     ensures { WorldsAreJoined }
 {}
