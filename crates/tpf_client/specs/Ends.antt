@@ -1,11 +1,8 @@
 -- Who holds what is offered to a call, and what it is for a wire to have them at its other ends.
-use Rattle.std.specs.Prelude.{ℕ, ◌≡◌, ◌<◌, ◌^◌, true, List, length}
+use Rattle.std.specs.Prelude.{ℕ, ◌≡◌, true, List}
 use Rattle.std.specs.List.{AllZip}
 use Rattle.tpf_base.specs.Addresses.{Address}
-use Rattle.tpf_base.specs.Links.{All, WireState}
-use Rattle.template_fill.specs.Bodies.{version_of}
-use Rattle.template_fill.specs.Configurations.{IsConfig, IsHistory}
-use Rattle.template_fill.specs.Responses.{answering, IsHonestAt}
+use Rattle.tpf_base.specs.Links.{WireState}
 use Rattle.bgp_core.specs.Queries.{QueryData}
 use Rattle.tpf_client.specs.Offers.{Publisher, Offer, offer_in_blocks, servers_offer}
 use Rattle.tpf_client.specs.Honest.{IsHonestWire}
@@ -26,13 +23,17 @@ OverLivelyEnds ends allows since holds = (holder : ends.Holder) → ends.AreHone
 
 -- ---- one server
 
--- one server at every address, with this offer: that of one query, or of the blocks of one
-abbrev pub publisher_ends : (Publisher → Offer) → Ends
-publisher_ends offer = record { Holder = Publisher; AreHonest = λ allows p wire. IsHonestWire allows p.history p.config wire; offer = offer }
+-- a wire whose other end at the host and the port of a start answers as the server of a publisher does
+abbrev pub AnswersAs : (List ℕ → ℕ → List ℕ → List ℕ → Type 0) → WireState → Address → Publisher → Type 0
+AnswersAs allows wire start p = IsHonestWire allows start p.history p.config wire
+
+-- one server, which stands at a start, with this offer: that of one query, or of the blocks of one
+abbrev pub publisher_ends : Address → (Publisher → Offer) → Ends
+publisher_ends start offer = record { Holder = Publisher; AreHonest = λ allows p wire. AnswersAs allows wire start p; offer = offer }
 
 -- one server, of which one query is asked from a start, for at most so many rows at once
 abbrev pub ends_in_blocks : ℕ → QueryData → Address → Ends
-ends_in_blocks block q start = publisher_ends (λ p. offer_in_blocks block p q start)
+ends_in_blocks block q start = publisher_ends start (λ p. offer_in_blocks block p q start)
 
 -- the same row by row
 abbrev pub server_ends : QueryData → Address → Ends
@@ -40,21 +41,9 @@ server_ends = ends_in_blocks 1
 
 -- ---- several servers
 
--- A history and a configuration, each version of which has fewer triples than a page can count.
-pub record IsPublisher (p : Publisher) : Type 0 where
-  pub is_history : IsHistory p.history
-  pub is_config : IsConfig p.config
-  pub few : (version : ℕ) → length (version_of p.history version) < 2 ^ 64
-
--- the other end at the host and the port of an address answers as a server of these does
-pub record AnswersAs (allows : List ℕ → ℕ → List ℕ → List ℕ → Type 0) (address : Address) (p : Publisher) : Type 0 where
-  pub is_publisher : IsPublisher p
-  pub is_honest : IsHonestAt allows address.host address.port (answering p.history p.config)
-
--- A wire that tells all: the other end at the host and port of each start answers as the server of the publisher at its place does. Of other hosts and ports nothing is said.
-pub record AreHonestServers (allows : List ℕ → ℕ → List ℕ → List ℕ → Type 0) (starts : List Address) (publishers : List Publisher) (wire : WireState) : Type 0 where
-  pub tells : wire.nature.tells ≡ All
-  pub servers : AllZip (AnswersAs allows) starts publishers
+-- At each start the other end answers as the server of the publisher at its place does. Of other hosts and ports nothing is said.
+abbrev pub AreHonestServers : (List ℕ → ℕ → List ℕ → List ℕ → Type 0) → List Address → List Publisher → WireState → Type 0
+AreHonestServers allows starts publishers wire = AllZip (AnswersAs allows wire) starts publishers
 
 -- several servers, of which one query is asked
 abbrev pub servers_ends : QueryData → List Address → Ends

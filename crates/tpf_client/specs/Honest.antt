@@ -3,12 +3,13 @@ use Rattle.std.specs.Prelude.{ℕ, ◌≡◌, ◌<◌, ◌^◌, List, length, Op
 use Rattle.std.specs.Io.KnownBytes.{Appends}
 use Rattle.std.specs.List.Sorted.{IsPermutation}
 use Rattle.rdf_terms.specs.declared.term.Triple.{Triple}
+use Rattle.tpf_base.specs.Addresses.{Address}
 use Rattle.tpf_base.specs.Causes.{counted_by}
 use Rattle.tpf_base.specs.Links.{All, WireState}
 use Rattle.tpf_base.specs.Wrote.{AppendsPrefix}
 use Rattle.template_fill.specs.Metadata.{Config}
 use Rattle.template_fill.specs.Configurations.{IsConfig, IsHistory}
-use Rattle.template_fill.specs.Responses.{IsHonest}
+use Rattle.template_fill.specs.Responses.{answering, IsHonestAt}
 use Rattle.template_fill.specs.Bodies.{version_of}
 use Rattle.bgp_core.specs.Queries.{QueryData}
 use Rattle.bgp_core.specs.Solutions.{Places}
@@ -26,10 +27,10 @@ use Rattle.pool_laws.specs.Following.{EmptyPoolsFollow, PutsFollow, StepsFollow,
 use Rattle.plan_laws.specs.Servers.{ServersAreWorlds, ServersHaveForms, ServersPagesAreTrue}
 use Rattle.tpf_client.specs.Offers.{Offer}
 
--- A wire that tells all and whose other ends answer, on every link, as a server of this history and configuration does. Each version has fewer triples than a page can count.
-pub record IsHonestWire (allows : List ℕ → ℕ → List ℕ → List ℕ → Type 0) (history : List (List Triple)) (config : Config) (wire : WireState) : Type 0 where
+-- A wire that tells all, and whose other end at the host and the port of an address answers, on every link, as a server of this history and configuration does. Of other hosts and ports nothing is said. Each version has fewer triples than a page can count.
+pub record IsHonestWire (allows : List ℕ → ℕ → List ℕ → List ℕ → Type 0) (address : Address) (history : List (List Triple)) (config : Config) (wire : WireState) : Type 0 where
   pub tells : wire.nature.tells ≡ All
-  pub is_honest : IsHonest allows history config
+  pub is_honest : IsHonestAt allows address.host address.port (answering history config)
   pub is_history : IsHistory history
   pub is_config : IsConfig config
   pub few : (version : ℕ) → length (version_of history version) < 2 ^ 64

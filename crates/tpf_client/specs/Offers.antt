@@ -59,7 +59,7 @@ addresses_in_blocks block p q start version =
 abbrev pub addresses_of : Publisher → QueryData → Address → ℕ → List Address
 addresses_of = addresses_in_blocks 1
 
--- One server, which stands at every address and is asked for at most so many rows at once. A choice is a version, which is reported.
+-- One server, which stands at each address that is asked for, and is asked for at most so many rows at once. A choice is a version, which is reported.
 abbrev pub offer_in_blocks : ℕ → Publisher → QueryData → Address → Offer
 offer_in_blocks block p q start = record {
   Choice = ℕ;

@@ -50,9 +50,9 @@ pub record AsksPlan (offer : Offer) (since now : WireState) : Type 0 where
 
 -- ---- what a server answers
 
--- over a wire whose other ends answer as a server of some history and configuration does
-abbrev pub OverHonest : (List ℕ → ℕ → List ℕ → List ℕ → Type 0) → WireState → (List (List Triple) → Config → Type 0) → Type 0
-OverHonest allows since holds = (history : List (List Triple)) (config : Config) → IsHonestWire allows history config since → holds history config
+-- over a wire whose other end at the host and the port of a start answers as a server of some history and configuration does
+abbrev pub OverHonest : (List ℕ → ℕ → List ℕ → List ℕ → Type 0) → Address → WireState → (List (List Triple) → Config → Type 0) → Type 0
+OverHonest allows start since holds = (history : List (List Triple)) (config : Config) → IsHonestWire allows start history config since → holds history config
 
 -- of an address, by each server that stands there
 abbrev pub AtEach : Offer → (Publisher → Address → Type 0) → Address → Type 0
@@ -65,10 +65,6 @@ InPlans offer holds = (choice : offer.Choice) → offer.IsChoice choice → AllB
 -- the request for the address is within the limit of heads
 abbrev pub IsShort : Address → Type 0
 IsShort address = length (request_for address) ≤ head_limit
-
--- over an honest wire on which never 1000 waits follow one another
-abbrev pub OverLively : (List ℕ → ℕ → List ℕ → List ℕ → Type 0) → WireState → (List (List Triple) → Config → Type 0) → Type 0
-OverLively allows since holds = OverHonest allows since (λ history config. since.nature.lively ≡ true → holds history config)
 
 -- what a version answers to the request for an address
 abbrev pub answer_at : Publisher → ℕ → Address → Answer

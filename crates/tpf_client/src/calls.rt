@@ -367,8 +367,8 @@ pub fn evaluate_to<R: Wait, E: Evaluates + Drop, W: Dial, K: Sink>(
 /// the start page alone. At `Ok` the requests that are reported are at most the connections of the call,
 /// the answers and the faults of the wire together.
 ///
-/// Over a wire whose other ends answer as a server does, requests are sent for the start and the plan
-/// of the query alone, and no more of them than these and the failures of the wire. Where each answer
+/// Over a wire whose other end at the host and port of the start answers as a server does, whatever other
+/// hosts and ports answer, requests are sent for the start and the plan of the query alone, and no more of them than these and the failures of the wire. Where each answer
 /// is a page within the options, and the wire fails at most as often as a request may be sent again,
 /// the answer is `Ok`, `OutOfMemory`, or `Changed` where the data did change. Where they did not change in
 /// the call, whatever was served before it, it is `Ok` or `OutOfMemory`. What is said of a call that fails
@@ -397,15 +397,15 @@ pub fn query<R: Wait, W: Dial, K: Sink>(
         (ends_in_blocks options.now.block query.now start.now) (world_sources options.now.block)
         query.now (start.now ∷ []) options.now (most_asked options.now query.now) result
         (W.state wire.old) (W.state wire.new) (K.state out.old) (K.state out.new) }
-    ensures headline { OverHonest (W.allows wire.old) (W.state wire.old)
+    ensures headline { OverHonest (W.allows wire.old) start.now (W.state wire.old)
         (λ history config. IfOk result (λ report. WritesSolutions
         (offer_in_blocks options.now.block (publisher history config) query.now start.now) query.now report.version
         report.rows (K.state out.old).taken (K.state out.new).taken)) }
-    ensures prefix { OverHonest (W.allows wire.old) (W.state wire.old)
+    ensures prefix { OverHonest (W.allows wire.old) start.now (W.state wire.old)
         (λ history config. OnErr result (WritesSolutionsFront
         (offer_in_blocks options.now.block (publisher history config) query.now start.now) query.now
         (K.state out.old).taken (K.state out.new).taken)) }
-    ensures complete { OverHonest (W.allows wire.old) (W.state wire.old)
+    ensures complete { OverHonest (W.allows wire.old) start.now (W.state wire.old)
         (λ history config. (W.state wire.old).nature.lively ≡ true → (rise : ℕ)
         → RisesFew options.now rise (W.state wire.old) (W.state wire.new)
         → PlanFits (offer_in_blocks options.now.block (publisher history config) query.now start.now) options.now rise
@@ -581,10 +581,10 @@ pub fn collect<R: Wait, W: Dial>(
         (ends_in_blocks options.now.block query.now start.now) (world_sources options.now.block)
         query.now (start.now ∷ []) options.now (most_asked options.now query.now) result (λ r. r.1) (λ r. r.0.items)
         (W.state wire.old) (W.state wire.new) }
-    ensures headline { OverHonest (W.allows wire.old) (W.state wire.old)
+    ensures headline { OverHonest (W.allows wire.old) start.now (W.state wire.old)
         (λ history config. IfOk result (λ r. IsSolutions
         (offer_in_blocks options.now.block (publisher history config) query.now start.now) r.1.version r.0.items)) }
-    ensures complete { OverHonest (W.allows wire.old) (W.state wire.old)
+    ensures complete { OverHonest (W.allows wire.old) start.now (W.state wire.old)
         (λ history config. (W.state wire.old).nature.lively ≡ true → (rise : ℕ)
         → RisesFew options.now rise (W.state wire.old) (W.state wire.new)
         → PlanFits (offer_in_blocks options.now.block (publisher history config) query.now start.now) options.now rise
