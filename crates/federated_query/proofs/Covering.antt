@@ -39,25 +39,25 @@ use Rattle.tpf_client.proofs.Honesty.{Keeps, IsAnyAnswer, any-answers}
 use Rattle.tpf_client.proofs.Known.{begun}
 use Rattle.federated_query.specs.Servers.{AreApart, joint_sources}
 use Rattle.federated_query.specs.Limits.{first_versions}
-use Rattle.federated_query.proofs.Standing.{servers-stand, servers-number}
+use Rattle.federated_query.proofs.Standing.{all-told, servers-stand, servers-number}
 use Rattle.federated_query.proofs.Numbers.{number_at, told-number, has-number}
 use Rattle.federated_query.proofs.Together.{Together, together, front-all, behind-all, some-page}
 
 -- ---- the first versions
 
-ones-are : (allows : List ℕ → ℕ → List ℕ → List ℕ → Type 0) (starts : List Address) (publishers : List Publisher) → AllZip (AnswersAs allows) starts publishers → AreVersions publishers (first_versions publishers)
-ones-are allows [] [] a = tt
-ones-are allows [] (p ∷ publishers) a = absurd a
-ones-are allows (start ∷ starts) [] a = absurd a
-ones-are allows (start ∷ starts) (p ∷ publishers) a = (record { low = omega arith; high = a.0.is_publisher.is_history.low }, ones-are allows starts publishers a.1)
+ones-are : (allows : List ℕ → ℕ → List ℕ → List ℕ → Type 0) (wire : WireState) (starts : List Address) (publishers : List Publisher) → AllZip (AnswersAs allows wire) starts publishers → AreVersions publishers (first_versions publishers)
+ones-are allows wire [] [] a = tt
+ones-are allows wire [] (p ∷ publishers) a = absurd a
+ones-are allows wire (start ∷ starts) [] a = absurd a
+ones-are allows wire (start ∷ starts) (p ∷ publishers) a = (record { low = omega arith; high = a.0.is_history.low }, ones-are allows wire starts publishers a.1)
 
-as-many : (allows : List ℕ → ℕ → List ℕ → List ℕ → Type 0) (starts : List Address) (publishers : List Publisher) (versions : List ℕ) → AllZip (AnswersAs allows) starts publishers → AreVersions publishers versions → length starts ≡ length versions
-as-many allows [] [] [] a v = refl
-as-many allows [] [] (version ∷ versions) a v = absurd v
-as-many allows [] (p ∷ publishers) versions a v = absurd a
-as-many allows (start ∷ starts) [] versions a v = absurd a
-as-many allows (start ∷ starts) (p ∷ publishers) [] a v = absurd v
-as-many allows (start ∷ starts) (p ∷ publishers) (version ∷ versions) a v = ap (λ (n : ℕ). suc n) (as-many allows starts publishers versions a.1 v.1)
+as-many : (allows : List ℕ → ℕ → List ℕ → List ℕ → Type 0) (wire : WireState) (starts : List Address) (publishers : List Publisher) (versions : List ℕ) → AllZip (AnswersAs allows wire) starts publishers → AreVersions publishers versions → length starts ≡ length versions
+as-many allows wire [] [] [] a v = refl
+as-many allows wire [] [] (version ∷ versions) a v = absurd v
+as-many allows wire [] (p ∷ publishers) versions a v = absurd a
+as-many allows wire (start ∷ starts) [] versions a v = absurd a
+as-many allows wire (start ∷ starts) (p ∷ publishers) [] a v = absurd v
+as-many allows wire (start ∷ starts) (p ∷ publishers) (version ∷ versions) a v = ap (λ (n : ℕ). suc n) (as-many allows wire starts publishers versions a.1 v.1)
 
 -- ---- what they hold
 
@@ -67,11 +67,11 @@ triples-are (p ∷ publishers) [] = refl
 triples-are (p ∷ publishers) (version ∷ versions) = ap (λ (l : List (List Triple)). version_of p.history version ∷ l) (triples-are publishers versions)
 
 -- the data of histories
-are-histories : (allows : List ℕ → ℕ → List ℕ → List ℕ → Type 0) (starts : List Address) (publishers : List Publisher) → AllZip (AnswersAs allows) starts publishers → AllByRecursion (λ p. IsHistory p.history) publishers
-are-histories allows [] [] a = tt
-are-histories allows [] (p ∷ publishers) a = absurd a
-are-histories allows (start ∷ starts) [] a = absurd a
-are-histories allows (start ∷ starts) (p ∷ publishers) a = (a.0.is_publisher.is_history, are-histories allows starts publishers a.1)
+are-histories : (allows : List ℕ → ℕ → List ℕ → List ℕ → Type 0) (wire : WireState) (starts : List Address) (publishers : List Publisher) → AllZip (AnswersAs allows wire) starts publishers → AllByRecursion (λ p. IsHistory p.history) publishers
+are-histories allows wire [] [] a = tt
+are-histories allows wire [] (p ∷ publishers) a = absurd a
+are-histories allows wire (start ∷ starts) [] a = absurd a
+are-histories allows wire (start ∷ starts) (p ∷ publishers) a = (a.0.is_history, are-histories allows wire starts publishers a.1)
 
 -- the data of the world of all servers are the union of theirs
 data-are : VersionsAreValid → (publishers : List Publisher) (versions : List ℕ) → AllByRecursion (λ p. IsHistory p.history) publishers → (joint_world (worlds_of publishers versions)).triples ≡ union (data_of publishers versions)
@@ -113,7 +113,7 @@ module _ (laws : Laws) (valid : VersionsAreValid) (allows : List ℕ → ℕ →
     answers = laws.empty options.links options.retries options.budget options.max_body since;
     distinct = λ e. none-distinct;
     limit = limit;
-    tells = honest.tells;
+    tells = all-told allows since starts publishers some honest;
   }
 
   pub any-of : (events : List Event) (pool : Pooled) → RunsPool allows options since now events pool → AllByRecursion (IsAnyAnswer allows) events
@@ -130,13 +130,13 @@ module _ (laws : Laws) (valid : VersionsAreValid) (allows : List ℕ → ℕ →
   begins-with versions are = record {
     is_choice = are;
     versions = number_at starts versions;
-    has = λ address home. has-number starts versions (as-many allows starts publishers versions honest.servers are) apart address home.0 home.1 home.2;
+    has = λ address home. has-number starts versions (as-many allows since starts publishers versions honest are) apart address home.0 home.1 home.2;
     rest = if are_served publishers starts versions then plan (joint_world (worlds_of publishers versions)) q.patterns (no_names_bound q) else [];
     addresses = refl;
   }
 
   -- each page that came is true for all servers
-  true-all : (told : List Page) (t : Together laws allows publishers starts told) (events : List Event) → AllByRecursion (IsAnyAnswer allows) events → AllByRecursion (CameFrom AtHome) events
+  true-all : (told : List Page) (t : Together laws allows since publishers starts told) (events : List Event) → AllByRecursion (IsAnyAnswer allows) events → AllByRecursion (CameFrom AtHome) events
       → AreTrue (IsPageOfAll (worlds_of publishers t.versions)) (told_at starts (versions_of told)) events
   true-all told t [] any came = tt
   true-all told t (Asked ask ∷ events) any came = (tt, true-all told t events any.1 came.1)
@@ -153,7 +153,7 @@ module _ (laws : Laws) (valid : VersionsAreValid) (allows : List ℕ → ℕ →
   pub choice-behind : (first later : List Event) (pool : Pooled) → RunsPool allows options since now (first ++ later) pool → AsksAt starts (first ++ later) → (told : List Page) (reads : ReadsStarts starts told first) → ChoiceBehind joint_sources (servers_offer publishers q starts) q starts first later told reads
   choice-behind first later pool r asks told reads =
       let any = any-of (first ++ later) pool r in
-      let t = together laws allows publishers starts told first honest.servers reads (front-all (IsAnyAnswer allows) first later any) in
+      let t = together laws allows since publishers starts told first honest reads (front-all (IsAnyAnswer allows) first later any) in
       let came = behind-all (CameFrom AtHome) first later (homes-of (first ++ later) pool r asks) in
       record {
         choice = t.versions;
@@ -171,7 +171,7 @@ module _ (laws : Laws) (valid : VersionsAreValid) (allows : List ℕ → ℕ →
           };
           pages = true-all told t later (behind-all (IsAnyAnswer allows) first later any) came;
         };
-        rows = ap (λ (triples : List Triple). solutions_of triples q) (data-are valid publishers t.versions (are-histories allows starts publishers honest.servers));
+        rows = ap (λ (triples : List Triple). solutions_of triples q) (data-are valid publishers t.versions (are-histories allows since starts publishers honest));
         addresses = whole-plan t.versions t.served;
       }
 
@@ -179,15 +179,15 @@ module _ (laws : Laws) (valid : VersionsAreValid) (allows : List ℕ → ℕ →
   pub told-choice : (first later : List Event) (pool : Pooled) (r : RunsPool allows options since now (first ++ later) pool) (asks : AsksAt starts (first ++ later)) (told : List Page) (reads : ReadsStarts starts told first)
       → versions_of told ≡ map (λ n. Some n) (choice-behind first later pool r asks told reads).choice
   unfolding choice-behind
-  told-choice first later pool r asks told reads = (together laws allows publishers starts told first honest.servers reads (front-all (IsAnyAnswer allows) first later (any-of (first ++ later) pool r))).told_are
+  told-choice first later pool r asks told reads = (together laws allows since publishers starts told first honest reads (front-all (IsAnyAnswer allows) first later (any-of (first ++ later) pool r))).told_are
 
   pub servers-covered : Covered joint_sources (servers_offer publishers q starts) allows options since now starts q
   servers-covered = record {
-    tells = honest.tells;
+    tells = all-told allows since starts publishers some honest;
     first = first_versions publishers;
-    is_first = ones-are allows starts publishers honest.servers;
+    is_first = ones-are allows since starts publishers honest;
     begins = begins-with;
     behind = choice-behind;
-    stands = λ address home. servers-stand allows publishers q starts honest.servers address home;
+    stands = λ address home. servers-stand allows since publishers q starts honest address home;
     numbers = λ choice is address server version stands has. servers-number publishers starts choice address server version apart is stands has;
   }

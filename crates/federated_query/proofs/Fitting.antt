@@ -4,6 +4,7 @@ use Rattle.std.specs.List.{AllByRecursion, AllZip, Contains}
 use Rattle.list_laws.proofs.Each.{all_append}
 use Rattle.list_laws.proofs.Members.{at_head, in_tail, head_or_tail, none_in}
 use Rattle.tpf_base.specs.Addresses.{Address, authority_of}
+use Rattle.tpf_base.specs.Links.{WireState}
 use Rattle.tpf_base.specs.Marks.{Served}
 use Rattle.template_fill.specs.Answered.{AnsweredGivePages}
 use Rattle.bgp_core.specs.Queries.{QueryData}
@@ -114,23 +115,23 @@ some-of [] [] s some = some
 some-of [] (start ∷ starts) s some = absurd s
 some-of (p ∷ publishers) starts s some = omega arith
 
-module _ (plans : JointPlansAreRead) (reads : StartsAreRead) (gives : AnsweredGivePages) (allows : List ℕ → ℕ → List ℕ → List ℕ → Type 0) where
-  is-within : (start : Address) (p : Publisher) → AnswersAs allows start p → ServesStart start p → IsShortStart start → IsWithin (server_of p)
+module _ (plans : JointPlansAreRead) (reads : StartsAreRead) (gives : AnsweredGivePages) (allows : List ℕ → ℕ → List ℕ → List ℕ → Type 0) (wire : WireState) where
+  is-within : (start : Address) (p : Publisher) → AnswersAs allows wire start p → ServesStart start p → IsShortStart start → IsWithin (server_of p)
   is-within start p a s short = record {
-    is_history = a.is_publisher.is_history;
-    is_config = a.is_publisher.is_config;
+    is_history = a.is_history;
+    is_config = a.is_config;
     version = record { low = omega arith; high = let still = s.still in omega (arith, still) };
     triples = s.servable;
-    base = base_of_start p.config.base start a.is_publisher.is_config.no_query s.authority ((gives p.history (Served 1) p.config start).0 s.answered).gives.asks.path short;
+    base = base_of_start p.config.base start a.is_config.no_query s.authority ((gives p.history (Served 1) p.config start).0 s.answered).gives.asks.path short;
   }
 
-  are-within : (starts : List Address) (publishers : List Publisher) → AllZip (AnswersAs allows) starts publishers → AllZip ServesStart starts publishers → AllByRecursion IsShortStart starts → AllByRecursion IsWithin (servers_of publishers)
+  are-within : (starts : List Address) (publishers : List Publisher) → AllZip (AnswersAs allows wire) starts publishers → AllZip ServesStart starts publishers → AllByRecursion IsShortStart starts → AllByRecursion IsWithin (servers_of publishers)
   are-within [] [] a s short = tt
   are-within [] (p ∷ publishers) a s short = absurd s
   are-within (start ∷ starts) [] a s short = absurd s
   are-within (start ∷ starts) (p ∷ publishers) a s short = (is-within start p a.0 s.0 short.0, are-within starts publishers a.1 s.1 short.1)
 
-  starts-read : (starts : List Address) (publishers : List Publisher) → AllZip (AnswersAs allows) starts publishers → AllZip ServesStart starts publishers → AllByRecursion IsShortStart starts → AllByRecursion (IsReadByOne (servers_of publishers)) starts
+  starts-read : (starts : List Address) (publishers : List Publisher) → AllZip (AnswersAs allows wire) starts publishers → AllZip ServesStart starts publishers → AllByRecursion IsShortStart starts → AllByRecursion (IsReadByOne (servers_of publishers)) starts
   starts-read [] [] a s short = tt
   starts-read [] (p ∷ publishers) a s short = absurd s
   starts-read (start ∷ starts) [] a s short = absurd s
@@ -145,7 +146,7 @@ module _ (plans : JointPlansAreRead) (reads : StartsAreRead) (gives : AnsweredGi
   )
 
   module _ (publishers : List Publisher) (q : QueryData) (starts : List Address) (options : Options) (more : ℕ) (some : 0 < length starts) (apart : AreApart starts)
-      (honest : AllZip (AnswersAs allows) starts publishers) (f : ServersFit publishers q starts options more) where
+      (honest : AllZip (AnswersAs allows wire) starts publishers) (f : ServersFit publishers q starts options more) where
     abbrev ReadByOne : Address → Type 0
     ReadByOne = IsReadByOne (servers_of publishers)
 

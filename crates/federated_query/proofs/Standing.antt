@@ -1,9 +1,11 @@
 -- Where honest servers stand at starts that are apart, one stands at each address with the authority of one of these, and the version that a choice has there is one of its.
-use Rattle.std.proofs.Common.{ℕ, ◌≡◌, inl, inr, true, List, [], ◌∷◌, refl, sym, ap, subst, ◌∙◌, ⊎_elim}
+use Rattle.std.proofs.Common.{ℕ, ◌≡◌, ◌<◌, inl, inr, true, List, [], ◌∷◌, length, refl, sym, ap, subst, ◌∙◌, arith, ⊎_elim}
 use Rattle.std.specs.List.{All, AllZip, Contains}
 use Rattle.std.proofs.lemmas.List.Elements.{All-head, All-tail}
 use Rattle.list_laws.proofs.Members.{head_or_tail, none_in}
 use Rattle.tpf_base.specs.Addresses.{Address, authority_text, authority_of}
+use Rattle.tpf_base.specs.Links as links
+use Rattle.tpf_base.specs.Links.{WireState}
 use Rattle.template_fill.specs.Authorities.{ShareAuthority}
 use Rattle.template_fill.specs.Responses.{answering, IsHonestAt}
 use Rattle.bgp_core.specs.Queries.{QueryData}
@@ -23,23 +25,34 @@ same-authority one other s = ap (λ (h : List ℕ). authority_text h one.port) (
 pub not-both : (one other address : Address) → (authority_of one ≡ authority_of other → ⊥) → ShareAuthority one address → ShareAuthority other address → ⊥
 not-both one other address apart p q = apart (same-authority one address p ∙ sym (same-authority other address q))
 
+-- ---- what the wire tells
+
+-- there is a start, so the wire tells all
+pub all-told : (allows : List ℕ → ℕ → List ℕ → List ℕ → Type 0) (wire : WireState) (starts : List Address) (publishers : List Publisher) → 0 < length starts → AllZip (AnswersAs allows wire) starts publishers → wire.nature.tells ≡ links.All
+all-told allows wire [] publishers some a = absurd (omega (arith, some))
+all-told allows wire (start ∷ starts) [] some a = absurd a
+all-told allows wire (start ∷ starts) (p ∷ publishers) some a = a.0.tells
+
 -- ---- a server at each address
 
-module _ (allows : List ℕ → ℕ → List ℕ → List ℕ → Type 0) where
+module _ (allows : List ℕ → ℕ → List ℕ → List ℕ → Type 0) (wire : WireState) where
   -- a server that stands among these at an address, and answers there
   record Among (publishers : List Publisher) (starts : List Address) (address : Address) : Type 0 where
     server : Publisher
     stands : StandsAmong publishers starts address server
-    answers : AnswersAs allows address server
+    answers : AnswersAs allows wire address server
 
-  pub at-share : (start address : Address) (p : Publisher) → ShareAuthority start address → AnswersAs allows start p → AnswersAs allows address p
+  pub at-share : (start address : Address) (p : Publisher) → ShareAuthority start address → AnswersAs allows wire start p → AnswersAs allows wire address p
   at-share start address p s a = record {
-    is_publisher = a.is_publisher;
+    tells = a.tells;
     is_honest = subst (λ (port : ℕ). IsHonestAt allows address.host port (answering p.history p.config)) (sym s.port)
         (subst (λ (host : List ℕ). IsHonestAt allows host start.port (answering p.history p.config)) (sym s.host) a.is_honest);
+    is_history = a.is_history;
+    is_config = a.is_config;
+    few = a.few;
   }
 
-  among : (starts : List Address) (publishers : List Publisher) → AllZip (AnswersAs allows) starts publishers → (home address : Address) → Contains starts home → ShareAuthority home address → Among publishers starts address
+  among : (starts : List Address) (publishers : List Publisher) → AllZip (AnswersAs allows wire) starts publishers → (home address : Address) → Contains starts home → ShareAuthority home address → Among publishers starts address
   among [] publishers a home address c s = absurd (none_in home c)
   among (start ∷ starts) [] a home address c s = absurd a
   among (start ∷ starts) (p ∷ publishers) a home address c s =
@@ -48,14 +61,14 @@ module _ (allows : List ℕ → ℕ → List ℕ → List ℕ → Type 0) where
       (λ (m : Contains starts home). let b = among starts publishers a.1 home address m s in let r : Among (p ∷ publishers) (start ∷ starts) address = record { server = b.server; stands = inr b.stands; answers = b.answers } in r)
       (head_or_tail start home starts c)
 
-  pub servers-stand : (publishers : List Publisher) (q : QueryData) (starts : List Address) → AllZip (AnswersAs allows) starts publishers → (address : Address) → HasHome starts address → StandsThere allows (servers_offer publishers q starts) address
+  pub servers-stand : (publishers : List Publisher) (q : QueryData) (starts : List Address) → AllZip (AnswersAs allows wire) starts publishers → (address : Address) → HasHome starts address → StandsThere allows (servers_offer publishers q starts) address
   servers-stand publishers q starts a address home =
       let r = among starts publishers a home.0 address home.1 home.2 in
       record {
         server = r.server;
         stands = r.stands;
-        is_history = r.answers.is_publisher.is_history;
-        is_config = r.answers.is_publisher.is_config;
+        is_history = r.answers.is_history;
+        is_config = r.answers.is_config;
         is_honest = r.answers.is_honest;
         served = λ version. true;
         is_over = over-any allows address.host address.port r.server.history r.server.config r.answers.is_honest;

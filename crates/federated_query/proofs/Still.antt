@@ -34,7 +34,7 @@ use Rattle.tpf_client.proofs.Shutting.{if-err-from}
 use Rattle.tpf_client.proofs.Still.{ServesOnly, wants}
 use Rattle.tpf_client.proofs.Truth.{reads}
 use Rattle.federated_query.specs.Servers.{AreApart, joint_sources}
-use Rattle.federated_query.proofs.Standing.{none-has, servers-number}
+use Rattle.federated_query.proofs.Standing.{all-told, none-has, servers-number}
 use Rattle.federated_query.proofs.Together.{front-all, behind-all}
 use Rattle.federated_query.proofs.Covering.{any-of, begins-with, choice-behind, told-choice}
 
@@ -163,7 +163,7 @@ module _ (laws : Laws) (traffic : TrafficLaws) (valid : VersionsAreValid) (allow
 
   unfoldable still-covered : Covered joint_sources still-offer allows options since now starts q
   still-covered = record {
-    tells = honest.tells;
+    tells = all-told allows since starts publishers some honest;
     first = versions;
     is_first = refl;
     begins = λ other e.

@@ -9,6 +9,7 @@ use Rattle.list_laws.proofs.Members.{head_or_tail, none_in}
 use Rattle.rdf_terms.specs.declared.term.Triple.{Triple}
 use Rattle.rdf_terms.specs.Selections.{Selection}
 use Rattle.tpf_base.specs.Addresses.{Address, authority_of}
+use Rattle.tpf_base.specs.Links.{WireState}
 use Rattle.tpf_base.specs.Marks.{Served, version_at}
 use Rattle.http_wire.specs.declared.message.Reply.{Reply}
 use Rattle.template_fill.specs.Answered.{is_answered}
@@ -98,7 +99,7 @@ one-row = (omega arith, omega arith)
 
 -- ---- the servers, start by start
 
-module _ (laws : Laws) (allows : List ℕ → ℕ → List ℕ → List ℕ → Type 0) where
+module _ (laws : Laws) (allows : List ℕ → ℕ → List ℕ → List ℕ → Type 0) (wire : WireState) where
   all-last : (event : Event) (events : List Event) → EndsWith event events → AllByRecursion (IsAnyAnswer allows) events → IsAnyAnswer allows event
   all-last event events e h = (behind-all (IsAnyAnswer allows) e.before (event ∷ []) (subst (λ (l : List Event). AllByRecursion (IsAnyAnswer allows) l) e.is_last h)).0
 
@@ -111,13 +112,13 @@ module _ (laws : Laws) (allows : List ℕ → ℕ → List ℕ → List ℕ → 
     served : is_served p start version ≡ true
     base : ShareAuthority start p.config.base
 
-  serves-start : (p : Publisher) (start : Address) (page : Page) (events : List Event) → AnswersAs allows start p → ReadsStart start page events → AllByRecursion (IsAnyAnswer allows) events → ServesStart p start page
+  serves-start : (p : Publisher) (start : Address) (page : Page) (events : List Event) → AnswersAs allows wire start p → ReadsStart start page events → AllByRecursion (IsAnyAnswer allows) events → ServesStart p start page
   serves-start p start page events a s all =
       let came : IsAnswerOfAny allows (start_ask start) s.reply = all-last (Came (start_ask start) s.reply) events s.last all in
       let b : IsBodyOf p.history p.config start s.reply.body = came.body p.history p.config a.is_honest in
-      let r = reads laws.given laws.answered laws.only laws.worlds laws.forms laws.pages laws.kept laws.addresses p.history p.config a.is_publisher.is_history a.is_publisher.is_config start s.reply.body page b s.taken in
+      let r = reads laws.given laws.answered laws.only laws.worlds laws.forms laws.pages laws.kept laws.addresses p.history p.config a.is_history a.is_config start s.reply.body page b s.taken in
       let v = version_at b.mark in
-      let k = start-served laws.given laws.answered laws.only laws.worlds laws.forms laws.pages laws.kept laws.addresses p.history p.config a.is_publisher.is_history a.is_publisher.is_config start s.reply.body page v b s.taken r.told in
+      let k = start-served laws.given laws.answered laws.only laws.worlds laws.forms laws.pages laws.kept laws.addresses p.history p.config a.is_history a.is_config start s.reply.body page v b s.taken r.told in
       let at : page.form.template.start ≡ p.config.base = ap (λ (t : Template). t.start) r.form.template in
       let own : ShareAuthority start p.config.base = subst (λ (x : Address). ShareAuthority start x) at s.home in
       record {
@@ -160,7 +161,7 @@ module _ (laws : Laws) (allows : List ℕ → ℕ → List ℕ → List ℕ → 
     pages = λ apart ask reply any page takes home m own e. absurd (none_in home m);
   }
 
-  module _ (p : Publisher) (start : Address) (page : Page) (publishers : List Publisher) (starts : List Address) (told : List Page) (a : AnswersAs allows start p) (s : ServesStart p start page) (r : Together publishers starts told) where
+  module _ (p : Publisher) (start : Address) (page : Page) (publishers : List Publisher) (starts : List Address) (told : List Page) (a : AnswersAs allows wire start p) (s : ServesStart p start page) (r : Together publishers starts told) where
     abbrev own-world : World
     own-world = server_world 1 (version_of p.history s.version) p.config
 
@@ -168,11 +169,11 @@ module _ (laws : Laws) (allows : List ℕ → ℕ → List ℕ → List ℕ → 
     worlds-behind = worlds_of publishers r.versions
 
     is-world : IsWorld own-world
-    is-world = laws.worlds 1 p.history s.version p.config one-row.0 one-row.1 a.is_publisher.is_history a.is_publisher.is_config (a.is_publisher.few s.version)
+    is-world = laws.worlds 1 p.history s.version p.config one-row.0 one-row.1 a.is_history a.is_config (a.few s.version)
 
     first-pages : (asked : Selection) → is_askable asked ≡ true → AreFirst (page.form ∷ forms_of told) asked (addresses_at asked 1 own-world ++ flat_map (addresses_at asked 1) worlds-behind)
     first-pages asked ask =
-        let form = laws.forms 1 (version_of p.history s.version) p.config page.form a.is_publisher.is_config s.form in
+        let form = laws.forms 1 (version_of p.history s.version) p.config page.form a.is_config s.form in
         let first = form.forms.first asked ask in
         let has : 1 ≤ own-world.last asked = some-page (own-world.last asked) (is-world.some asked) in
         subst (λ (b : Bool). AreFirst (page.form ∷ forms_of told) asked ((if b then address_of_page p.config.base asked 1 ∷ [] else []) ++ flat_map (addresses_at asked 1) worlds-behind)) (sym (le-leb 1 (own-world.last asked) has))
@@ -196,10 +197,10 @@ module _ (laws : Laws) (allows : List ℕ → ℕ → List ℕ → List ℕ → 
       own-page : ShareAuthority start ask.address → IsPageOfAll (own-world ∷ worlds-behind) ask.address came
       own-page own =
           let v-is : came.version ≡ Some s.version = e ∙ (first-so start starts page.version (versions_of told) ask.address (is-here start ask.address own) ∙ s.told) in
-          let there = at-share allows start ask.address p own a in
+          let there = at-share allows wire start ask.address p own a in
           let b : IsBodyOf p.history p.config ask.address reply.body = any.body p.history p.config there.is_honest in
           All-cons (λ w. IsPageAt w ask.address came) own-world worlds-behind
-          (true-page laws.given laws.answered laws.only laws.worlds laws.forms laws.pages laws.kept laws.addresses p.history p.config a.is_publisher.is_history a.is_publisher.is_config 1 one-row s.version ask.address reply.body came b takes v-is)
+          (true-page laws.given laws.answered laws.only laws.worlds laws.forms laws.pages laws.kept laws.addresses p.history p.config a.is_history a.is_config 1 one-row s.version ask.address reply.body came b takes v-is)
           (r.others ask.address came (apart-all start ask.address starts apart.0 own))
 
       -- it is of one behind
@@ -224,13 +225,13 @@ module _ (laws : Laws) (allows : List ℕ → ℕ → List ℕ → List ℕ → 
       as_many = ap (λ (n : ℕ). suc n) r.as_many;
       many_worlds = ap (λ (n : ℕ). suc n) r.many_worlds;
       worlds = All-cons IsWorld own-world worlds-behind is-world r.worlds;
-      one = All-cons IsOneServer own-world worlds-behind (laws.forms 1 (version_of p.history s.version) p.config page.form a.is_publisher.is_config s.form).one r.one;
+      one = All-cons IsOneServer own-world worlds-behind (laws.forms 1 (version_of p.history s.version) p.config page.form a.is_config s.form).one r.one;
       forms = first-pages;
       others = none-there;
       pages = λ apart ask reply any came takes home m own e. all-pages apart ask reply any came takes e home m own;
     }
 
-  pub together : (publishers : List Publisher) (starts : List Address) (told : List Page) (events : List Event) → AllZip (AnswersAs allows) starts publishers → ReadsStarts starts told events → AllByRecursion (IsAnyAnswer allows) events → Together publishers starts told
+  pub together : (publishers : List Publisher) (starts : List Address) (told : List Page) (events : List Event) → AllZip (AnswersAs allows wire) starts publishers → ReadsStarts starts told events → AllByRecursion (IsAnyAnswer allows) events → Together publishers starts told
   together [] [] [] events a r all = none-together
   together [] [] (page ∷ told) events a r all = absurd r
   together [] (start ∷ starts) told events a r all = absurd a

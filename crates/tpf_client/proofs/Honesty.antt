@@ -62,14 +62,14 @@ pub record ServesAt (allows : List ℕ → ℕ → List ℕ → List ℕ → Typ
   pub few : (version : ℕ) → served version ≡ true → length (version_of history version) < 2 ^ 64
   pub is_honest : IsHonestOver allows start.host start.port history config served
 
--- a wire that is honest everywhere
-pub serves-any : (allows : List ℕ → ℕ → List ℕ → List ℕ → Type 0) (start : Address) (history : List (List Triple)) (config : Config) (wire : WireState) → IsHonestWire allows history config wire → ServesAt allows start history config (λ version. true) wire
+-- where the other end is honest there, over any version
+pub serves-any : (allows : List ℕ → ℕ → List ℕ → List ℕ → Type 0) (start : Address) (history : List (List Triple)) (config : Config) (wire : WireState) → IsHonestWire allows start history config wire → ServesAt allows start history config (λ version. true) wire
 serves-any allows start history config wire honest = record {
   tells = honest.tells;
   is_history = honest.is_history;
   is_config = honest.is_config;
   few = λ version is. honest.few version;
-  is_honest = over-any allows start.host start.port history config (honest.is_honest start.host start.port);
+  is_honest = over-any allows start.host start.port history config honest.is_honest;
 }
 
 -- ---- the replies

@@ -109,8 +109,8 @@ module _ (laws : Laws) (allows : List ℕ → ℕ → List ℕ → List ℕ → 
 
 -- each version may be a choice
 pub server-covered : (laws : Laws) (allows : List ℕ → ℕ → List ℕ → List ℕ → Type 0) (options : Options) (since now : WireState) → IsLawful allows since → options.max_body < 2 ^ 64
-    → (p : Publisher) → IsHonestWire allows p.history p.config since → (start : Address) (q : QueryData) (block : ℕ) → IsBlockSize block → Covered (world_sources block) (offer_in_blocks block p q start) allows options since now (start ∷ []) q
-server-covered laws allows options since now lawful limit p honest start q block sized =
+    → (p : Publisher) (start : Address) → IsHonestWire allows start p.history p.config since → (q : QueryData) (block : ℕ) → IsBlockSize block → Covered (world_sources block) (offer_in_blocks block p q start) allows options since now (start ∷ []) q
+server-covered laws allows options since now lawful limit p start honest q block sized =
     offer-covered laws allows options since now lawful limit p start (λ version. true) (serves-any allows start p.history p.config since honest) q block sized
     (IsVersionOf p.history) (λ version is any. is) (λ version is. is) 1 (record { low = omega arith; high = honest.is_history.low })
 

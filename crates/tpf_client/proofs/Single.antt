@@ -34,8 +34,8 @@ use Rattle.tpf_client.proofs.Clauses.{writes-over, gives-over, most-one}
 
 module _ (laws : Laws) (traffic : TrafficLaws) (allows : List ℕ → ℕ → List ℕ → List ℕ → Type 0) (options : Options) (since now : WireState) (lawful : IsLawful allows since) (limit : options.max_body < 2 ^ 64) (start : Address) (q : QueryData) (block : ℕ) (sized : IsBlockSize block) where
   -- what an honest server offers covers the call
-  pub covers : (p : Publisher) → IsHonestWire allows p.history p.config since → Covered (world_sources block) (offer_in_blocks block p q start) allows options since now (start ∷ []) q
-  covers p honest = server-covered laws allows options since now lawful limit p honest start q block sized
+  pub covers : (p : Publisher) → IsHonestWire allows start p.history p.config since → Covered (world_sources block) (offer_in_blocks block p q start) allows options since now (start ∷ []) q
+  covers p honest = server-covered laws allows options since now lawful limit p start honest q block sized
 
   pub writes-single : 1 ≤ options.links → (result : Result Report ClientFault) (out out' : SinkState) → WritesEnded allows (world_sources block) q (start ∷ []) options result since now out out'
       → WritesOverEnds allows (ends_in_blocks block q start) (world_sources block) q (start ∷ []) options (most_asked options q) result since now out out'

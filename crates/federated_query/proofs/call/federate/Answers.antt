@@ -69,7 +69,7 @@ returns-clause-complete g c = complete g c
 pub returns-clause-limits : goal.returns-clause-limits
 returns-clause-limits g c = λ publishers honest alive rise few within none.
     complete g c publishers honest alive rise few
-    (plan-fits c.joint_plans_are_read.ensures c.plans_are_read.ensures.start c.pages_are_answered.ensures.answered (g.W.Wire.allows c.args.wire.now) publishers c.args.query.now c.args.starts.now c.args.options.now rise c.requires.starts c.requires.apart honest.servers within) none
+    (plan-fits c.joint_plans_are_read.ensures c.plans_are_read.ensures.start c.pages_are_answered.ensures.answered (g.W.Wire.allows c.args.wire.now) (g.W.Wire.state c.args.wire.now) publishers c.args.query.now c.args.starts.now c.args.options.now rise c.requires.starts c.requires.apart honest within) none
 
 pub returns-clause-version : goal.returns-clause-version
 returns-clause-version g c = if-ok c.evaluate_to.result _ _ (λ report w. w.returns.is_version) (ended g c).ok
