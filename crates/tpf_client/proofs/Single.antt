@@ -1,7 +1,7 @@
 -- A call with one start, over a wire to one server.
 use Rattle.std.proofs.Common.{ℕ, ◌≡◌, ◌≤◌, ◌<◌, ◌^◌, Bool, true, List, [], ◌∷◌, length, Option, refl, sym, ap, subst, ◌∙◌}
 use Rattle.std.proofs.lemmas.Bool.{eqb-true}
-use Rattle.std.specs.Prelude.{Result, IfErr, IsErrOf}
+use Rattle.std.specs.Prelude.{Result, IfOk, IfErr, IsErrOf}
 use Rattle.tpf_base.specs.Addresses.{Address}
 use Rattle.tpf_base.specs.Links.{All, WireState}
 use Rattle.tpf_base.specs.Wrote.{SinkState}
@@ -14,7 +14,7 @@ use Rattle.tpf_client.specs.declared.fault.ClientFault.{ClientFault}
 use Rattle.tpf_client.specs.declared.fault.ClientFault.TheVariants as faults
 use Rattle.tpf_client.specs.Traffic.{IsLawful}
 use Rattle.tpf_client.specs.Sources.{world_sources}
-use Rattle.tpf_client.specs.Calls.{Happened, AreThese, WritesSome, most_asked}
+use Rattle.tpf_client.specs.Calls.{Happened, AreThese, Returns, WritesSome, most_asked}
 use Rattle.join_core.specs.Blocks.{IsBlockSize}
 use Rattle.join_core.specs.Evaluations.{HasHome}
 use Rattle.tpf_client.specs.Offers.{Publisher, IsVersionOf, Offer, offer_in_blocks}
@@ -22,12 +22,14 @@ use Rattle.tpf_client.specs.Ends.{ends_in_blocks}
 use Rattle.tpf_client.specs.Honest.{Laws, IsHonestWire}
 use Rattle.tpf_client.specs.Requests.{TrafficLaws}
 use Rattle.tpf_client.specs.Ended.{WritesEnded, GivesEnded, WritesOverEnds, GivesOverEnds}
-use Rattle.tpf_client.specs.Plans.{RisesFew, ChoiceFits}
-use Rattle.tpf_client.specs.Still.{only, AnswersOver, IsWant}
+use Rattle.tpf_client.specs.Plans.{RisesFew, ChoiceFits, PacesRequests}
+use Rattle.tpf_client.specs.Still.{only, AnswersOver, IsWant, PacesChoice}
 use Rattle.tpf_client.proofs.Covered.{Covered}
 use Rattle.tpf_client.proofs.Honesty.{ServesAt}
 use Rattle.tpf_client.proofs.Planned.{ExplainedRun, some-explained}
-use Rattle.tpf_client.proofs.Shutting.{if-err-from}
+use Rattle.tpf_client.proofs.Exits.{at-whole}
+use Rattle.tpf_client.proofs.LivelyCauses.{paces-so}
+use Rattle.tpf_client.proofs.Shutting.{if-ok-from, if-err-from}
 use Rattle.tpf_client.proofs.Still.{ServesOnly, wants}
 use Rattle.tpf_client.proofs.Serving.{some_offer, server-covered, offer-covered, covered-served}
 use Rattle.tpf_client.proofs.Clauses.{writes-over, gives-over, most-one}
@@ -87,3 +89,25 @@ module _ (laws : Laws) (traffic : TrafficLaws) (allows : List ℕ → ℕ → Li
         wants laws traffic allows options since now lawful limit (start ∷ []) (world_sources block) one-offer q covered rise few alive result version serves-only (record { fit = fits.fit; within = fits.within })
         (if-err-from result (λ fault. WritesSome (AreThese h.events h.pool) (world_sources block) q (start ∷ []) options.budget fault t u) (λ fault. ExplainedRun allows one-offer options since now (start ∷ []) fault) err
         (λ fault w. some-explained allows (world_sources block) one-offer options since now (start ∷ []) q covered h fault t u w)) sink
+
+    -- what is paced by a choice of the offer that has this version alone is paced by this version
+    paces-choice : (report : Report) → PacesRequests one-offer report since now → PacesChoice (offer_in_blocks block p q start) version report since now
+    paces-choice report c = record {
+      paces = record {
+        choice = c.choice;
+        is_choice = subst (λ (n : ℕ). IsVersionOf p.history n) c.is_choice over.is_version;
+        is_reported = c.is_reported;
+        each = c.each;
+        rises = c.rises;
+        rose = c.rose;
+        few = c.few;
+        exact = c.exact;
+      };
+      is_choice = sym c.is_choice;
+    }
+
+    pub paces-still : {A : Type 0} (h : Happened allows options (start ∷ []) since now) (result : Result A ClientFault) (told : A → Report) (rows : A → List Places) → since.nature.lively ≡ true
+        → IfOk result (λ x. Returns (AreThese h.events h.pool) (world_sources block) q (start ∷ []) (told x) (rows x)) → IfOk result (λ x. PacesChoice (offer_in_blocks block p q start) version (told x) since now)
+    paces-still h result told rows alive ok =
+        if-ok-from result (λ x. Returns (AreThese h.events h.pool) (world_sources block) q (start ∷ []) (told x) (rows x)) (λ x. PacesChoice (offer_in_blocks block p q start) version (told x) since now) ok
+        (λ x r. paces-choice (told x) (paces-so laws traffic allows options since now lawful limit (start ∷ []) (world_sources block) one-offer q covered alive (told x) (at-whole allows options since now (start ∷ []) (world_sources block) q h one-offer covered (told x) (rows x) r)))

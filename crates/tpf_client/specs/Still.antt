@@ -1,5 +1,5 @@
 -- Over wires whose other ends answer over one version of their data alone, such as servers that read their data again before the call and not in it.
-use Rattle.std.specs.Prelude.{ℕ, ◌≡◌, ◌==◌, ◌<◌, ◌^◌, true, Bool, List, [], ◌∷◌, length, Result, IfErr}
+use Rattle.std.specs.Prelude.{ℕ, ◌≡◌, ◌==◌, ◌<◌, ◌^◌, true, Bool, List, [], ◌∷◌, length, Result, IfOk, IfErr}
 use Rattle.tpf_base.specs.Addresses.{Address}
 use Rattle.tpf_base.specs.Links.{All, WireState}
 use Rattle.template_fill.specs.Bodies.{version_of}
@@ -7,11 +7,12 @@ use Rattle.template_fill.specs.Configurations.{IsConfig, IsHistory}
 use Rattle.pool_laws.specs.Answers.{IsHonestOver}
 use Rattle.bgp_core.specs.Queries.{QueryData}
 use Rattle.tpf_client.specs.declared.options.Options.{Options}
+use Rattle.tpf_client.specs.declared.options.Report.{Report}
 use Rattle.tpf_client.specs.declared.fault.ClientFault.{ClientFault}
 use Rattle.tpf_client.specs.declared.fault.ClientFault.TheVariants as faults
-use Rattle.tpf_client.specs.Offers.{Publisher, IsVersionOf, offer_in_blocks, servers_offer}
+use Rattle.tpf_client.specs.Offers.{Publisher, Offer, IsVersionOf, offer_in_blocks, servers_offer}
 use Rattle.tpf_client.specs.Ends.{AreHonestServers}
-use Rattle.tpf_client.specs.Plans.{RisesFew, ChoiceFits}
+use Rattle.tpf_client.specs.Plans.{RisesFew, ChoiceFits, PacesRequests}
 
 -- this version alone
 abbrev pub only : ℕ → ℕ → Bool
@@ -54,3 +55,13 @@ abbrev pub SucceedsStillOver : {A : Type 0} → (List ℕ → ℕ → List ℕ �
 SucceedsStillOver allows options q starts since now Failed result =
     (publishers : List Publisher) (versions : List ℕ) → AreHonestServers allows starts publishers since → AnswerStill allows starts publishers versions → since.nature.lively ≡ true
     → (rise : ℕ) → RisesFew options rise since now → ChoiceFits (servers_offer publishers q starts) options rise versions → (Failed → ⊥) → IfErr result IsWant
+
+-- This choice is reported, and as many requests were started as it has addresses to ask for, or more, and no more than these and the rises of the wire's faults.
+pub record PacesChoice (offer : Offer) (choice : offer.Choice) (report : Report) (since now : WireState) : Type 0 where
+  pub paces : PacesRequests offer report since now
+  pub is_choice : paces.choice ≡ choice
+
+-- A query of one server that answers over one version: an answer reports this version, and its requests are those of this one.
+abbrev pub PacesStill : {A : Type 0} → (List ℕ → ℕ → List ℕ → List ℕ → Type 0) → Options → QueryData → Address → WireState → WireState → (A → Report) → Result A ClientFault → Type 0
+PacesStill allows options q start since now told result =
+    OverStill allows start since (λ p version. IfOk result (λ x. PacesChoice (offer_in_blocks options.block p q start) version (told x) since now))

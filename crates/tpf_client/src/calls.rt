@@ -22,7 +22,7 @@ ghost use Rattle.tpf_client.specs.Ends.{ends_in_blocks};
 ghost use Rattle.tpf_client.specs.Honest.{Laws, IsSolutions, WritesSolutions, WritesSolutionsFront};
 ghost use Rattle.tpf_client.specs.Requests.{TrafficLaws};
 ghost use Rattle.tpf_client.specs.Plans.{OverHonest, RisesFew, PlanFits, MayStill};
-ghost use Rattle.tpf_client.specs.Still.{SucceedsStill};
+ghost use Rattle.tpf_client.specs.Still.{SucceedsStill, PacesStill};
 ghost use Rattle.tpf_client.specs.Ended.{WritesEnded, GivesEnded, WritesOverEnds, GivesOverEnds};
 
 use crate::asks::{Asks, is_lawful};
@@ -591,6 +591,8 @@ pub fn collect<R: Wait, W: Dial>(
         → IfErr result (MayStill (offer_in_blocks options.now.block (publisher history config) query.now start.now))) }
     ensures still { SucceedsStill (W.allows wire.old) options.now query.now start.now (W.state wire.old)
         (W.state wire.new) ⊥ result }
+    ensures paced { PacesStill (W.allows wire.old) options.now query.now start.now (W.state wire.old)
+        (W.state wire.new) (λ r. r.1) result }
     ensures sink { IsErrOf result ClientFault.Sink → ⊥ }
     ensures allowed { SameAllowed (W.allows wire.old) (W.allows wire.new) }
 {

@@ -12,7 +12,7 @@ use Rattle.tpf_client.proofs.Shutting.{if-ok, if-err}
 use Rattle.tpf_client.proofs.Planned.{these-run}
 use Rattle.tpf_client.proofs.Covered.{solutions-given}
 use Rattle.tpf_client.proofs.Completing.{completes}
-use Rattle.tpf_client.proofs.Single.{covers, wants-so, gives-single}
+use Rattle.tpf_client.proofs.Single.{covers, wants-so, paces-still, gives-single}
 use Rattle.tpf_client.proofs.calls.collect.Given as given
 use Rattle.tpf_client.proofs.calls.collect.Goals as goal
 
@@ -53,3 +53,7 @@ returns-clause-complete g c = λ history config honest alive rise few fits.
 pub returns-clause-still : goal.returns-clause-still
 returns-clause-still g c = λ p version over tells alive rise few fits none.
     wants-so c.solutions_rest_on_laws.ensures c.traffic_rests_on_laws.ensures (g.W.Wire.allows c.args.wire.now) c.args.options.now (g.W.Wire.state c.args.wire.now) (g.W.Wire.state c.evaluate_rows.new.wire) c.is_lawful.ensures c.is_bounded.ensures c.args.start.now c.args.query.now c.args.options.now.block (c.is_sized.ensures.low, c.is_sized.ensures.high) p version over tells (ended g c).acts.happened c.evaluate_rows.result _ _ alive rise few fits (if-err c.evaluate_rows.result _ _ (λ fault w. w.some) (ended g c).err) c.evaluate_rows.ensures.sink
+
+pub returns-clause-paced : goal.returns-clause-paced
+returns-clause-paced g c = λ p version over tells alive.
+    paces-still c.solutions_rest_on_laws.ensures c.traffic_rests_on_laws.ensures (g.W.Wire.allows c.args.wire.now) c.args.options.now (g.W.Wire.state c.args.wire.now) (g.W.Wire.state c.evaluate_rows.new.wire) c.is_lawful.ensures c.is_bounded.ensures c.args.start.now c.args.query.now c.args.options.now.block (c.is_sized.ensures.low, c.is_sized.ensures.high) p version over tells (ended g c).acts.happened c.evaluate_rows.result (λ r. r.1) (λ r. r.0.items) alive (ended g c).ok
