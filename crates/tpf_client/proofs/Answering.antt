@@ -5,7 +5,7 @@ use Rattle.std.proofs.lemmas.List.Sorted.{IsPermutation-refl, IsPermutation-sym,
 use Rattle.tpf_base.specs.Links.{WireState}
 use Rattle.request_pool.specs.Faults.{kept_of}
 use Rattle.request_pool.specs.Pools.{Pooled, Ask, held}
-use Rattle.tpf_client.specs.Traffic.{Event, Asked, Came, Waited, Broke, Travels, Comes, Waits, Breaks}
+use Rattle.tpf_client.specs.Traffic.{Event, Asked, Came, Waited, Broke, Travels, Comes, StepWaits, StepBreaks}
 use Rattle.tpf_client.specs.Turns.{asked_in, answered_in}
 use Rattle.tpf_client.proofs.Distinct.{put-held}
 use Rattle.tpf_client.proofs.Fewest.{no-break}
@@ -33,9 +33,9 @@ answers-so allows (Came ask reply ∷ events) p q v w t none =
     let h : Comes ask reply p t.0.pool v t.0.wire = t.1.happens in
     came-then ask (held p) (held t.0.pool) (asked_in events) (answered_in events ++ held q) h.others (answers-so allows events t.0.pool q t.0.wire w t.2 none)
 answers-so allows (Waited ∷ events) p q v w t none =
-    let h : Waits p t.0.pool v t.0.wire = t.1.happens in
+    let h : StepWaits p t.0.pool v t.0.wire = t.1.happens in
     waited-then (held p) (held t.0.pool) (asked_in events) (answered_in events ++ held q) h.others (answers-so allows events t.0.pool q t.0.wire w t.2 none)
-answers-so allows (Broke fault ∷ events) p q v w t none = let h : Breaks fault p t.0.pool v t.0.wire = t.1.happens in absurd (no-break allows (kept_of fault) events t.0.pool q t.0.wire w h.kept t.2 none)
+answers-so allows (Broke fault ∷ events) p q v w t none = let h : StepBreaks fault p t.0.pool v t.0.wire = t.1.happens in absurd (no-break allows (kept_of fault) events t.0.pool q t.0.wire w h.kept t.2 none)
 
 -- where nothing is held at first and at last
 pub all-answered : (allows : List ℕ → ℕ → List ℕ → List ℕ → Type 0) (events : List Event) (p q : Pooled) (v w : WireState) → Travels allows events p q v w → q.fault ≡ None → held p ≡ [] → held q ≡ [] → IsPermutation (asked_in events) (answered_in events)

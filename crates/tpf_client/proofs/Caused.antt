@@ -21,7 +21,7 @@ use Rattle.bgp_core.specs.Queries.{QueryData}
 use Rattle.tpf_client.specs.declared.options.Options.{Options}
 use Rattle.tpf_client.specs.declared.fault.ClientFault.{ClientFault}
 use Rattle.tpf_client.specs.declared.fault.ClientFault.TheVariants as faults
-use Rattle.tpf_client.specs.Traffic.{Event, Came, Broke, Travels, EndsWith, IsLawful, AreDistinct, without_fault, Comes, Breaks}
+use Rattle.tpf_client.specs.Traffic.{Event, Came, Broke, Travels, EndsWith, IsLawful, AreDistinct, without_fault, Comes, StepBreaks}
 use Rattle.tpf_client.specs.Causes.{Explains, Versions, IsNoPage, IsChanged}
 use Rattle.tpf_client.specs.Told.{told_at}
 use Rattle.tpf_client.specs.Sources.{Sources}
@@ -70,7 +70,7 @@ module _ (laws : Laws) (traffic : TrafficLaws) (allows : List ℕ → ℕ → Li
   rose-of : (events : List Event) (p : Pooled) → EndsWith (Broke pool.Exchange) events → RunsPool allows options since now events p → AsksAt starts events → Rose since.faults now.faults
   rose-of events p e r a =
       let x = ends events (Broke pool.Exchange) p e r a in
-      let h : Breaks pool.Exchange x.mid p x.between r.between = x.last.happens in
+      let h : StepBreaks pool.Exchange x.mid p x.between r.between = x.last.happens in
       let c : Rose x.between.faults r.between.faults = traffic.causes pool.Exchange x.mid (without_fault p) x.between r.between x.given x.suits x.knows.answers h.steps in
       let o = travels-onward allows x.before (begun options) x.mid since x.between x.first in
       let same = r.closes.faults in
@@ -79,7 +79,7 @@ module _ (laws : Laws) (traffic : TrafficLaws) (allows : List ℕ → ℕ → Li
   idle-of : (events : List Event) (p : Pooled) → EndsWith (Broke pool.Stalled) events → RunsPool allows options since now events p → AsksAt starts events → (1000 ≤ now.idle) × (since.nature.lively ≡ true → ⊥)
   idle-of events p e r a =
       let x = ends events (Broke pool.Stalled) p e r a in
-      let h : Breaks pool.Stalled x.mid p x.between r.between = x.last.happens in
+      let h : StepBreaks pool.Stalled x.mid p x.between r.between = x.last.happens in
       let long : 1000 ≤ r.between.idle = traffic.causes pool.Stalled x.mid (without_fault p) x.between r.between x.given x.suits x.knows.answers h.steps in
       let same = r.closes.idle in
       let o = travels-onward allows events (begun options) p since r.between r.travels in
@@ -88,7 +88,7 @@ module _ (laws : Laws) (traffic : TrafficLaws) (allows : List ℕ → ℕ → Li
   spent-of : (events : List Event) (p : Pooled) → EndsWith (Broke pool.Budget) events → RunsPool allows options since now events p → AsksAt starts events → options.budget ≤ p.started
   spent-of events p e r a =
       let x = ends events (Broke pool.Budget) p e r a in
-      let h : Breaks pool.Budget x.mid p x.between r.between = x.last.happens in
+      let h : StepBreaks pool.Budget x.mid p x.between r.between = x.last.happens in
       let c : IsOverBudget (without_fault p) = traffic.causes pool.Budget x.mid (without_fault p) x.between r.between x.given x.suits x.knows.answers h.steps in
       let spent : p.budget ≤ p.started = c.spent in
       let b = same-bounds laws traffic allows options since now lawful starts events p a r in
@@ -109,7 +109,7 @@ module _ (laws : Laws) (traffic : TrafficLaws) (allows : List ℕ → ℕ → Li
   cut-of : (received : List ℕ) (events : List Event) (p : Pooled) → EndsWith (Broke (pool.Cut received)) events → RunsPool allows options since now events p → AsksAt starts events → IsCutShort options events since now received
   cut-of received events p e r a =
       let x = ends events (Broke (pool.Cut received)) p e r a in
-      let h : Breaks (pool.Cut received) x.mid p x.between r.between = x.last.happens in
+      let h : StepBreaks (pool.Cut received) x.mid p x.between r.between = x.last.happens in
       let c : IsCut received x.mid (without_fault p) x.between r.between = traffic.causes (pool.Cut received) x.mid (without_fault p) x.between r.between x.given x.suits x.knows.answers h.steps in
       let on = replied-closed x.mid.limit c.loses.ask.address received r.between now x.told r.closes.nature c.loses.on in
       cut-at x.mid.limit x.limit events p r c.loses.ask
@@ -120,7 +120,7 @@ module _ (laws : Laws) (traffic : TrafficLaws) (allows : List ℕ → ℕ → Li
   refused-of : (fault : ReplyFault) (received : List ℕ) (events : List Event) (p : Pooled) → EndsWith (Broke (pool.Reply fault received)) events → RunsPool allows options since now events p → AsksAt starts events → IsRefusedReply options events since now fault received
   refused-of fault received events p e r a =
       let x = ends events (Broke (pool.Reply fault received)) p e r a in
-      let h : Breaks (pool.Reply fault received) x.mid p x.between r.between = x.last.happens in
+      let h : StepBreaks (pool.Reply fault received) x.mid p x.between r.between = x.last.happens in
       let c : IsRefused fault received x.mid (without_fault p) x.between r.between = traffic.causes (pool.Reply fault received) x.mid (without_fault p) x.between r.between x.given x.suits x.knows.answers h.steps in
       let on = replied-closed x.mid.limit c.loses.ask.address received r.between now x.told r.closes.nature c.loses.on in
       refused-at x.mid.limit x.limit events p r c.loses.ask

@@ -12,7 +12,7 @@ use Rattle.tpf_client.specs.declared.options.Options.{Options}
 use Rattle.tpf_client.specs.declared.fault.ClientFault.{ClientFault}
 use Rattle.tpf_client.specs.declared.fault.ClientFault.TheVariants as faults
 use Rattle.tpf_client.specs.Offers.{Publisher, Offer}
-use Rattle.tpf_client.specs.Plans.{AtEach, IsAnswered, IsReadByAll, IsSmallByAll, IsFit, answer_at, RefusesLong, MissesPage, OverrunsPlan, IsHonestCause, IsLivelyCause, PlanFits, RisesFew, MayStill}
+use Rattle.tpf_client.specs.Plans.{AtEach, IsAnswerable, IsReadByAll, IsSmallByAll, IsFit, answer_at, RefusesLong, MissesPage, OverrunsPlan, IsHonestCause, IsLivelyCause, PlanFits, RisesFew, MayStill}
 use Rattle.tpf_client.proofs.Homes.{all-so}
 use Rattle.tpf_client.proofs.Planned.{at-member}
 
@@ -39,7 +39,7 @@ module _ (offer : Offer) (options : Options) (since now : WireState) (rise : ℕ
   not-refused fault received h =
       let addresses = offer.addresses h.choice in
       let all = fits.fit h.choice h.is_choice in
-      let long = h.long (all-so (AtEach offer (IsFit options.max_body)) (AtEach offer IsAnswered) (λ address f. λ server stands. (f server stands).is_answered) addresses all) in
+      let long = h.long (all-so (AtEach offer (IsFit options.max_body)) (AtEach offer IsAnswerable) (λ address f. λ server stands. (f server stands).is_answered) addresses all) in
       let f = at-member (AtEach offer (IsFit options.max_body)) addresses long.address all long.is_asked in
       not-long long.server long.address received long.long (f long.server long.stands).is_small
 

@@ -19,7 +19,7 @@ use Rattle.tpf_client.specs.declared.options.Report.{Report}
 use Rattle.tpf_client.specs.declared.fault.ClientFault.{ClientFault}
 use Rattle.tpf_client.specs.Traffic.{Event}
 use Rattle.tpf_client.specs.Turns.{AsksAt}
-use Rattle.tpf_client.specs.Told.{told_at, first_of}
+use Rattle.tpf_client.specs.Told.{told_at, told_first}
 use Rattle.tpf_client.specs.Starts.{ReadsStarts, forms_of, versions_of}
 use Rattle.tpf_client.specs.Sources.{Sources, IsSourceOf}
 use Rattle.tpf_client.specs.Calls.{WritesAll, WritesSome, Before, Behind, AtEnd, RunsPool, Returns}
@@ -41,7 +41,7 @@ pub record ChoiceBehind (sources : Sources) (offer : Offer) (q : QueryData) (sta
   pub is_choice : offer.IsChoice choice
   pub versions : Address → ℕ
   pub tells : (address : Address) → told_at starts (versions_of told) address ≡ Some (versions address)
-  pub is_reported : offer.IsReported choice (sources.reported (first_of (versions_of told)))
+  pub is_reported : offer.IsReported choice (sources.reported (told_first (versions_of told)))
   pub has : (address : Address) → HasHome starts address → offer.HasVersion choice address (versions address)
   pub source : sources.Source
   pub is_source : IsSourceOf sources source (forms_of told) (told_at starts (versions_of told)) later

@@ -10,7 +10,7 @@ use Rattle.request_pool.specs.Owned.{SuitsWire}
 use Rattle.request_pool.specs.declared.fault.Stepped.TheVariants as stepped
 use Rattle.request_pool.specs.Pools.{Pooled, Ask, held, bounds_of}
 use Rattle.tpf_client.specs.declared.options.Options.{Options}
-use Rattle.tpf_client.specs.Traffic.{Event, Asked, Came, Waited, Broke, Moves, Travels, EndsWith, IsLawful, without_fault, Comes, Waits, Breaks}
+use Rattle.tpf_client.specs.Traffic.{Event, Asked, Came, Waited, Broke, Moves, Travels, EndsWith, IsLawful, without_fault, Comes, StepWaits, StepBreaks}
 use Rattle.tpf_client.specs.Turns.{AsksAt, asked_in}
 use Rattle.tpf_client.specs.Calls.{RunsPool}
 use Rattle.tpf_client.specs.Honest.{Laws}
@@ -44,8 +44,8 @@ split allows (e ∷ before) event p q v w t =
 moves-onward : (allows : List ℕ → ℕ → List ℕ → List ℕ → Type 0) (event : Event) (p q : Pooled) (v w : WireState) → Moves allows event p q v w → Onward v w
 moves-onward allows (Asked ask) p q v w m = onward_same v w m.happens.1
 moves-onward allows (Came ask reply) p q v w m = let h : Comes ask reply p q v w = m.happens in onward_step (Ok (stepped.Came ask.ticket ask.address reply)) p q v w h.steps
-moves-onward allows Waited p q v w m = let h : Waits p q v w = m.happens in onward_step (Ok stepped.Waited) p q v w h.steps
-moves-onward allows (Broke fault) p q v w m = let h : Breaks fault p q v w = m.happens in onward_step (Err fault) p (without_fault q) v w h.steps
+moves-onward allows Waited p q v w m = let h : StepWaits p q v w = m.happens in onward_step (Ok stepped.Waited) p q v w h.steps
+moves-onward allows (Broke fault) p q v w m = let h : StepBreaks fault p q v w = m.happens in onward_step (Err fault) p (without_fault q) v w h.steps
 
 pub travels-onward : (allows : List ℕ → ℕ → List ℕ → List ℕ → Type 0) (events : List Event) (p q : Pooled) (v w : WireState) → Travels allows events p q v w → Onward v w
 travels-onward allows [] p q v w t = onward_same v w t.1

@@ -16,7 +16,7 @@ use Rattle.pool_laws.specs.Requested.{over_links}
 use Rattle.tpf_client.specs.declared.options.Options.{Options}
 use Rattle.tpf_client.specs.declared.fault.ClientFault.{ClientFault}
 use Rattle.tpf_client.specs.declared.fault.ClientFault.TheVariants as faults
-use Rattle.tpf_client.specs.Traffic.{Event, Broke, Travels, EndsWith, IsLawful, without_fault, Breaks}
+use Rattle.tpf_client.specs.Traffic.{Event, Broke, Travels, EndsWith, IsLawful, without_fault, StepBreaks}
 use Rattle.tpf_client.specs.Causes.{Explains, Versions}
 use Rattle.tpf_client.specs.Sources.{Sources}
 use Rattle.tpf_client.specs.Turns.{AsksAt, asked_in}
@@ -94,7 +94,7 @@ module _ (laws : Laws) (traffic : TrafficLaws) (allows : List ℕ → ℕ → Li
       ends-by-failures : (fault : PoolFault) (events : List Event) (p : Pooled) → EndsWith (Broke fault) events → RunsPool allows options since now events p → AsksAt starts events → EndsByFailures fault (options.retries + 1) since now
       ends-by-failures fault events p e r a =
           let x = ending laws traffic allows options since now lawful starts events (Broke fault) p e r a in
-          let h : Breaks fault x.mid p x.between r.between = x.last.happens in
+          let h : StepBreaks fault x.mid p x.between r.between = x.last.happens in
           let front = asks-front IsAt x.before (Broke fault ∷ []) (subst (λ (l : List Event). AsksAt starts l) x.is_last a) in
           let b = between-after allows (begun options) IsAt x.before (begun options) x.mid since x.between front (begun-between laws traffic starts options allows since lawful IsAt) x.first in
           let at = taken allows (begun options) IsAt (Broke fault) x.mid p x.between r.between h.some h.had_none b x.last in

@@ -5,7 +5,7 @@ use Rattle.std.proofs.lemmas.List.Sorted.{length_permutation}
 use Rattle.tpf_base.specs.Links.{WireState}
 use Rattle.request_pool.specs.Faults.{kept_of}
 use Rattle.request_pool.specs.Pools.{Pooled, Ask, held}
-use Rattle.tpf_client.specs.Traffic.{Event, Asked, Came, Waited, Broke, Travels, Puts, Comes, Waits, Breaks}
+use Rattle.tpf_client.specs.Traffic.{Event, Asked, Came, Waited, Broke, Travels, Puts, Comes, StepWaits, StepBreaks}
 use Rattle.tpf_client.specs.Asking.{PutsAll}
 use Rattle.tpf_client.specs.Turns.{WaitFew, asked_in}
 use Rattle.tpf_client.proofs.Accounting.{asked-asks}
@@ -86,7 +86,7 @@ few-then allows most (Came ask reply ∷ first) second p q v w t none f s =
     let e : length (held t.0.pool) ≡ length (held p) - 1 = came-count ask p t.0.pool h.others in
     (f.0, subst (λ (n : ℕ). WaitFew most n (first ++ second)) e (few-then allows most first second t.0.pool q t.0.wire w t.2 none (subst (λ (n : ℕ). WaitFew most n first) (sym e) f.1) s))
 few-then allows most (Waited ∷ first) second p q v w t none f s =
-    let h : Waits p t.0.pool v t.0.wire = t.1.happens in
+    let h : StepWaits p t.0.pool v t.0.wire = t.1.happens in
     let e : length (held t.0.pool) ≡ length (held p) = length_permutation (held p) (held t.0.pool) h.others in
     subst (λ (n : ℕ). WaitFew most n (first ++ second)) e (few-then allows most first second t.0.pool q t.0.wire w t.2 none (subst (λ (n : ℕ). WaitFew most n first) (sym e) f) s)
-few-then allows most (Broke fault ∷ first) second p q v w t none f s = let h : Breaks fault p t.0.pool v t.0.wire = t.1.happens in absurd (no-break allows (kept_of fault) first t.0.pool q t.0.wire w h.kept t.2 none)
+few-then allows most (Broke fault ∷ first) second p q v w t none f s = let h : StepBreaks fault p t.0.pool v t.0.wire = t.1.happens in absurd (no-break allows (kept_of fault) first t.0.pool q t.0.wire w h.kept t.2 none)

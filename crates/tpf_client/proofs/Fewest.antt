@@ -11,7 +11,7 @@ use Rattle.request_pool.specs.Faults.{kept_of}
 use Rattle.request_pool.specs.Pools.{Pooled, Ask, held, in_flight}
 use Rattle.request_pool.specs.Owned.{SuitsWire}
 use Rattle.pool_laws.specs.Counting.{tries, tries_waiting, tries_flying, FewFailed, PutsFewFailed, StepsFewFailed, StepsCountTries}
-use Rattle.tpf_client.specs.Traffic.{Event, Asked, Came, Waited, Broke, Travels, Puts, Comes, Waits, Breaks}
+use Rattle.tpf_client.specs.Traffic.{Event, Asked, Came, Waited, Broke, Travels, Puts, Comes, StepWaits, StepBreaks}
 use Rattle.tpf_client.specs.Turns.{asked_in}
 use Rattle.tpf_client.proofs.Distinct.{put-held}
 
@@ -29,8 +29,8 @@ fault-stays allows fault (Asked ask ∷ events) p q v w f t =
     let e = ap (λ (x : Pooled). x.fault) t.1.happens.0.put in
     fault-stays allows fault events t.0.pool q t.0.wire w (same-some p.fault t.0.pool.fault fault e f) t.2
 fault-stays allows fault (Came ask reply ∷ events) p q v w f t = let h : Comes ask reply p t.0.pool v t.0.wire = t.1.happens in absurd (not-some p.fault fault f h.had_none)
-fault-stays allows fault (Waited ∷ events) p q v w f t = let h : Waits p t.0.pool v t.0.wire = t.1.happens in absurd (not-some p.fault fault f h.had_none)
-fault-stays allows fault (Broke other ∷ events) p q v w f t = let h : Breaks other p t.0.pool v t.0.wire = t.1.happens in absurd (not-some p.fault fault f h.had_none)
+fault-stays allows fault (Waited ∷ events) p q v w f t = let h : StepWaits p t.0.pool v t.0.wire = t.1.happens in absurd (not-some p.fault fault f h.had_none)
+fault-stays allows fault (Broke other ∷ events) p q v w f t = let h : StepBreaks other p t.0.pool v t.0.wire = t.1.happens in absurd (not-some p.fault fault f h.had_none)
 
 pub no-break : (allows : List ℕ → ℕ → List ℕ → List ℕ → Type 0) (fault : PoolFault) (events : List Event) (p q : Pooled) (v w : WireState) → p.fault ≡ Some fault → Travels allows events p q v w → q.fault ≡ None → ⊥
 no-break allows fault events p q v w f t n = not-some q.fault fault (fault-stays allows fault events p q v w f t) n
@@ -85,11 +85,11 @@ module _ (few-puts : PutsFewFailed) (few-steps : StepsFewFailed) (counts : Steps
       least-so events n t.0.pool q t.0.wire w t.1.lawful.given t.1.suits
       (record { few = few-steps (Ok (stepped.Came ask.ticket ask.address reply)) p t.0.pool v t.0.wire g s l.few h.steps; least = least-came ask n c.0 p t.0.pool h.others c.1 c.3 l.least }) t.2 none
   least-so (Waited ∷ events) n p q v w g s l t none =
-      let h : Waits p t.0.pool v t.0.wire = t.1.happens in
+      let h : StepWaits p t.0.pool v t.0.wire = t.1.happens in
       let c = counts (Ok stepped.Waited) p t.0.pool v t.0.wire g s l.few h.steps in
       least-so events n t.0.pool q t.0.wire w t.1.lawful.given t.1.suits
       (record { few = few-steps (Ok stepped.Waited) p t.0.pool v t.0.wire g s l.few h.steps; least = least-waited n p t.0.pool h.others c l.least }) t.2 none
-  least-so (Broke fault ∷ events) n p q v w g s l t none = let h : Breaks fault p t.0.pool v t.0.wire = t.1.happens in absurd (no-break allows (kept_of fault) events t.0.pool q t.0.wire w h.kept t.2 none)
+  least-so (Broke fault ∷ events) n p q v w g s l t none = let h : StepBreaks fault p t.0.pool v t.0.wire = t.1.happens in absurd (no-break allows (kept_of fault) events t.0.pool q t.0.wire w h.kept t.2 none)
 
   pub fewest : (events : List Event) (p q : Pooled) (v w : WireState) → OpensGiven v → SuitsWire p v → FewFailed p → tries p ≡ 0 → Travels allows events p q v w → q.fault ≡ None → held q ≡ [] → length (asked_in events) ≤ q.started
   fewest events p q v w g s few z t none held-none =

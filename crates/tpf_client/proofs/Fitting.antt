@@ -7,7 +7,7 @@ use Rattle.template_fill.specs.Answered.{address_answer}
 use Rattle.control_reader.specs.Takes.{Takes}
 use Rattle.plan_laws.specs.Fitting.{IsRead}
 use Rattle.tpf_client.specs.Offers.{Publisher, IsVersionOf}
-use Rattle.tpf_client.specs.Plans.{IsAnswered, IsReadByAll, IsSmallByAll, IsFit, answer_at}
+use Rattle.tpf_client.specs.Plans.{IsAnswerable, IsReadByAll, IsSmallByAll, IsFit, answer_at}
 
 is_200 : (n : ℕ) → n == 200 ≡ true → n ≡ 200
 is_200 n h = grind (arith, nat_tests)
@@ -19,7 +19,7 @@ module _ (p : Publisher) (only : (version : ℕ) → IsVersionOf p.history versi
   status_at : (address : Address) → Reads address → (version : ℕ) → 1 ≡ version → (answer_at p version address).status ≡ 200
   status_at address r version is = subst (λ (v : ℕ). (answer_at p v address).status ≡ 200) is (is_200 (address_answer p.history (Served 1) p.config address).status r.answered)
 
-  pub answered_of : (address : Address) → IsRead p.history (Served 1) p.config address → IsAnswered p address
+  pub answered_of : (address : Address) → IsRead p.history (Served 1) p.config address → IsAnswerable p address
   answered_of address r = record { short = r.short; answered = λ version low high. status_at address r version (only version (record { low = low; high = high })) }
 
   pub read_by_all : (address : Address) → IsRead p.history (Served 1) p.config address → IsReadByAll p address

@@ -23,14 +23,14 @@ use Rattle.pool_laws.specs.Answers.{IsHonestOver, IsBodyOf, IsBodyOver, Brings, 
 use Rattle.tpf_client.specs.declared.options.Options.{Options}
 use Rattle.tpf_client.specs.declared.fault.ClientFault.{ClientFault}
 use Rattle.tpf_client.specs.declared.fault.ClientFault.TheVariants as faults
-use Rattle.tpf_client.specs.Traffic.{Came, Broke, EndsWith, IsLawful, without_fault, Comes, Breaks}
+use Rattle.tpf_client.specs.Traffic.{Came, Broke, EndsWith, IsLawful, without_fault, Comes, StepBreaks}
 use Rattle.tpf_client.specs.Turns.{asked_in}
 use Rattle.tpf_client.specs.Sources.{Sources}
 use Rattle.tpf_client.specs.Offers.{Publisher, Offer}
 use Rattle.tpf_client.specs.Honest.{Laws}
 use Rattle.tpf_client.specs.Requests.{TrafficLaws}
 use Rattle.tpf_client.specs.Causes.{IsNoPage, IsChanged}
-use Rattle.tpf_client.specs.Plans.{AtEach, AtChosen, IsShort, IsAnswered, IsAnsweredAt, IsReadByAll, IsLongAnswer, IsPageGone, RefusesLong, MissesPage, ChangesVersion, IsHonestCause, answer_at}
+use Rattle.tpf_client.specs.Plans.{AtEach, AtChosen, IsShort, IsAnswerable, IsAnsweredAt, IsReadByAll, IsLongAnswer, IsPageGone, RefusesLong, MissesPage, ChangesVersion, IsHonestCause, answer_at}
 use Rattle.tpf_client.specs.Acts.{IsHonestCauseOf}
 use Rattle.tpf_client.proofs.Endings.{ending, lost-in}
 use Rattle.tpf_client.proofs.Gone.{is-or-not, gone}
@@ -60,14 +60,14 @@ module _ (laws : Laws) (traffic : TrafficLaws) (allows : List ℕ → ℕ → Li
     pub own : HasHome starts address
     pub inside : Contains (offer.addresses x.planned.choice) address
     pub over : IsShort address → IsRefusedOver (covered.stands address own).server.history (covered.stands address own).server.config (covered.stands address own).served options.max_body fault address received
-    pub too_long : IsAnswered (covered.stands address own).server address → fault ≡ refusals.TooLong
-    pub long : IsAnswered (covered.stands address own).server address → HasLongBody (covered.stands address own).server.history (covered.stands address own).server.config options.max_body address received
+    pub too_long : IsAnswerable (covered.stands address own).server address → fault ≡ refusals.TooLong
+    pub long : IsAnswerable (covered.stands address own).server address → HasLongBody (covered.stands address own).server.history (covered.stands address own).server.config options.max_body address received
 
   pub refused-at : (fault : ReplyFault) (received : List ℕ) (x : Run (faults.Reply fault received)) → RefusedAt fault received x
   refused-at fault received x =
       let run = x.planned.run in
       let e = ending laws traffic allows options since now lawful starts run.events (Broke (pool.Reply fault received)) run.pool x.explains run.runs run.asks in
-      let h : Breaks (pool.Reply fault received) e.mid run.pool e.between run.runs.between = e.last.happens in
+      let h : StepBreaks (pool.Reply fault received) e.mid run.pool e.between run.runs.between = e.last.happens in
       let tells = tells-on allows options since starts covered.tells (length (asked_in run.events)) run.pool run.runs.between
       (knows-so laws traffic starts options allows since lawful run.events run.pool run.runs.between run.asks run.runs.travels) e.last.lawful in
       let small = small-limit options limit e.mid.limit e.limit in
@@ -117,13 +117,13 @@ module _ (laws : Laws) (traffic : TrafficLaws) (allows : List ℕ → ℕ → Li
       record {
         choice = choice;
         is_choice = x.planned.of_plan.is_choice;
-        too_long = λ all. r.too_long (at-member (AtEach offer IsAnswered) (offer.addresses choice) r.address all r.inside s.server s.stands);
+        too_long = λ all. r.too_long (at-member (AtEach offer IsAnswerable) (offer.addresses choice) r.address all r.inside s.server s.stands);
         long = λ all. record {
           address = r.address;
           is_asked = r.inside;
           server = s.server;
           stands = s.stands;
-          long = r.long (at-member (AtEach offer IsAnswered) (offer.addresses choice) r.address all r.inside s.server s.stands);
+          long = r.long (at-member (AtEach offer IsAnswerable) (offer.addresses choice) r.address all r.inside s.server s.stands);
         };
         why = λ all. record {
           address = r.address;

@@ -20,7 +20,7 @@ use Rattle.request_pool.specs.Owned.{SuitsWire}
 use Rattle.pool_laws.specs.Following.{AnswersSoFar, PutsFollow, StepsFollow, FaultsFollow}
 use Rattle.pool_laws.specs.Answers.{TellsAll, IsHonestOver, IsBodyOf, IsBodyOver, Brings, RepliesAreAnswers}
 use Rattle.join_core.specs.Evaluations.{HasHome}
-use Rattle.tpf_client.specs.Traffic.{Event, Asked, Came, Waited, Broke, Moves, Travels, AreDistinct, without_fault, Puts, Comes, Waits, Breaks}
+use Rattle.tpf_client.specs.Traffic.{Event, Asked, Came, Waited, Broke, Moves, Travels, AreDistinct, without_fault, Puts, Comes, StepWaits, StepBreaks}
 use Rattle.tpf_client.specs.Honest.{IsHonestWire}
 use Rattle.tpf_client.proofs.Came.{CameFrom}
 use Rattle.tpf_client.proofs.Distinct.{one-ask}
@@ -109,8 +109,8 @@ module _ (allows : List ℕ → ℕ → List ℕ → List ℕ → Type 0) (puts 
   goes : (event : Event) (p q : Pooled) (v w : WireState) → Keeps p v → Moves allows event p q v w → AnswersSoFar q w × Onward v w
   goes (Asked ask) p q v w k m = (after-put ask p q v w m.happens.0 m.happens.1 k.answers, onward_same v w m.happens.1)
   goes (Came ask reply) p q v w k m = let h : Comes ask reply p q v w = m.happens in (steps (Ok (stepped.Came ask.ticket ask.address reply)) p q v w k.given k.suits k.answers h.steps, onward_step (Ok (stepped.Came ask.ticket ask.address reply)) p q v w h.steps)
-  goes Waited p q v w k m = let h : Waits p q v w = m.happens in (steps (Ok stepped.Waited) p q v w k.given k.suits k.answers h.steps, onward_step (Ok stepped.Waited) p q v w h.steps)
-  goes (Broke fault) p q v w k m = let h : Breaks fault p q v w = m.happens in
+  goes Waited p q v w k m = let h : StepWaits p q v w = m.happens in (steps (Ok stepped.Waited) p q v w k.given k.suits k.answers h.steps, onward_step (Ok stepped.Waited) p q v w h.steps)
+  goes (Broke fault) p q v w k m = let h : StepBreaks fault p q v w = m.happens in
       (faults q w (steps (Err fault) p (without_fault q) v w k.given k.suits k.answers h.steps), onward_step (Err fault) p (without_fault q) v w h.steps)
 
   keeps-on : (event : Event) (p q : Pooled) (v w : WireState) → Keeps p v → Moves allows event p q v w → Keeps q w

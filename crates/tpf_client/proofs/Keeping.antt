@@ -15,7 +15,7 @@ use Rattle.request_pool.specs.Pools.{Pooled, Ask, held, bounds_of}
 use Rattle.request_pool.specs.Owned.{SuitsWire}
 use Rattle.request_pool.specs.Steps.{StepsTo}
 use Rattle.pool_laws.specs.Following.{IsWebAddress}
-use Rattle.tpf_client.specs.Traffic.{Event, Asked, Came, Waited, Broke, Moves, Travels, IsLawful, without_fault, Comes, Waits, Breaks}
+use Rattle.tpf_client.specs.Traffic.{Event, Asked, Came, Waited, Broke, Moves, Travels, IsLawful, without_fault, Comes, StepWaits, StepBreaks}
 use Rattle.tpf_client.specs.Turns.{asked_in}
 use Rattle.tpf_client.proofs.Distinct.{put-held}
 
@@ -67,8 +67,8 @@ module _ (allows : List ℕ → ℕ → List ℕ → List ℕ → Type 0) (base 
       let had : p.fault ≡ None = sym (ap (λ (x : Pooled). x.fault) h.put) ∙ none in
       all-permuted P (ask ∷ held p) (held q) (IsPermutation-sym (held q) (ask ∷ held p) (put-held ask p q h)) (a.0, b.are had)
   are-next (Came ask reply) p q v w a b m none = let h : Comes ask reply p q v w = m.happens in (all-permuted P (held p) (ask ∷ held q) h.others (b.are h.had_none)).1
-  are-next Waited p q v w a b m none = let h : Waits p q v w = m.happens in all-permuted P (held p) (held q) h.others (b.are h.had_none)
-  are-next (Broke fault) p q v w a b m none = let h : Breaks fault p q v w = m.happens in absurd (not-some q.fault (kept_of fault) h.kept none)
+  are-next Waited p q v w a b m none = let h : StepWaits p q v w = m.happens in all-permuted P (held p) (held q) h.others (b.are h.had_none)
+  are-next (Broke fault) p q v w a b m none = let h : StepBreaks fault p q v w = m.happens in absurd (not-some q.fault (kept_of fault) h.kept none)
 
   next : (event : Event) (p q : Pooled) (v w : WireState) → AllByRecursion P (asked_in (event ∷ [])) → Between p v → Moves allows event p q v w → Between q w
   next event p q v w a b m = record { given = m.lawful.given; suits = m.suits; are = λ none. are-next event p q v w a b m none; bounds = m.bounds ∙ b.bounds }
@@ -108,11 +108,11 @@ module _ (allows : List ℕ → ℕ → List ℕ → List ℕ → Type 0) (base 
         let at = taken (Came ask reply) p t.0.pool v t.0.wire (some-held ask (held p) (held t.0.pool) h.others) h.had_none b t.1 in
         by-asks events asks t.0.pool q t.0.wire w (next (Came ask reply) p t.0.pool v t.0.wire tt b t.1) a (k.steps asks (stepped.Came ask.ticket ask.address reply) p t.0.pool v t.0.wire at i h.steps) t.2
     by-asks (Waited ∷ events) asks p q v w b a i t =
-        let h : Waits p t.0.pool v t.0.wire = t.1.happens in
+        let h : StepWaits p t.0.pool v t.0.wire = t.1.happens in
         let at = taken Waited p t.0.pool v t.0.wire h.some h.had_none b t.1 in
         by-asks events asks t.0.pool q t.0.wire w (next Waited p t.0.pool v t.0.wire tt b t.1) a (k.steps asks stepped.Waited p t.0.pool v t.0.wire at i h.steps) t.2
     by-asks (Broke fault ∷ events) asks p q v w b a i t =
-        let h : Breaks fault p t.0.pool v t.0.wire = t.1.happens in
+        let h : StepBreaks fault p t.0.pool v t.0.wire = t.1.happens in
         let at = taken (Broke fault) p t.0.pool v t.0.wire h.some h.had_none b t.1 in
         by-asks events asks t.0.pool q t.0.wire w (next (Broke fault) p t.0.pool v t.0.wire tt b t.1) a (k.breaks asks fault p t.0.pool v t.0.wire at i h.steps h.kept) t.2
 

@@ -13,7 +13,7 @@ use Rattle.tpf_client.specs.declared.options.Options.{Options}
 use Rattle.tpf_client.specs.declared.options.Report.{Report}
 use Rattle.tpf_client.specs.declared.fault.ClientFault.{ClientFault}
 use Rattle.tpf_client.specs.declared.fault.ClientFault.TheVariants as faults
-use Rattle.tpf_client.specs.Traffic.{Broke, IsLawful, without_fault, Breaks}
+use Rattle.tpf_client.specs.Traffic.{Broke, IsLawful, without_fault, StepBreaks}
 use Rattle.tpf_client.specs.Turns.{asked_in}
 use Rattle.tpf_client.specs.Sources.{Sources}
 use Rattle.tpf_client.specs.Offers.{Offer}
@@ -124,7 +124,7 @@ module _ (laws : Laws) (traffic : TrafficLaws) (allows : List ℕ → ℕ → Li
         let i = rises-of x.planned in
         let most = length (offer.addresses x.planned.choice) in
         let e = ending laws traffic allows options since now lawful starts run.events (Broke pool.Budget) run.pool x.explains.1 run.runs run.asks in
-        let h : Breaks pool.Budget e.mid run.pool e.between run.runs.between = e.last.happens in
+        let h : StepBreaks pool.Budget e.mid run.pool e.between run.runs.between = e.last.happens in
         let c : IsOverBudget (without_fault run.pool) = traffic.causes pool.Budget e.mid (without_fault run.pool) e.between run.runs.between e.given e.suits e.knows.answers h.steps in
         let budget = same-bounds laws traffic allows options since now lawful starts run.events run.pool run.asks run.runs in
         record {

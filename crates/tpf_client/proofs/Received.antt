@@ -7,7 +7,7 @@ use Rattle.std.specs.List.Sorted.{IsPermutation}
 use Rattle.std.proofs.lemmas.List.Sorted.{IsPermutation-sym, Contains-permutation}
 use Rattle.list_laws.proofs.Members.{at_head, in_tail, head_or_tail, none_in}
 use Rattle.tpf_base.specs.Addresses.{Address}
-use Rattle.tpf_base.specs.Links.{Link, Nature, WireState, told_by}
+use Rattle.tpf_base.specs.Links.{Link, Nature, WireState, told_in}
 use Rattle.request_pool.specs.Faults.{kept_of}
 use Rattle.request_pool.specs.Pools.{Pooled, Ask, held}
 use Rattle.request_pool.specs.Owned.{held_on}
@@ -16,7 +16,7 @@ use Rattle.tpf_base.specs.Sending.{Holds}
 use Rattle.http_ends.specs.Requests.{request_for}
 use Rattle.http_ends.specs.Cuts.{bytes_of, sent_of, received_of}
 use Rattle.pool_laws.specs.Causes.{RepliedOn}
-use Rattle.tpf_client.specs.Traffic.{Event, Asked, Came, Waited, Broke, Travels, Comes, Waits, Breaks}
+use Rattle.tpf_client.specs.Traffic.{Event, Asked, Came, Waited, Broke, Travels, Comes, StepWaits, StepBreaks}
 use Rattle.tpf_client.specs.Turns.{asked_in}
 use Rattle.tpf_client.proofs.Distinct.{put-held}
 use Rattle.tpf_client.proofs.Fewest.{no-break}
@@ -49,9 +49,9 @@ held-asked allows (Came ask reply ∷ events) p q v w t none a c =
     let h : Comes ask reply p t.0.pool v t.0.wire = t.1.happens in
     or-before a p t.0.pool (asked_in events) (came-back ask a p t.0.pool h.others) (held-asked allows events t.0.pool q t.0.wire w t.2 none a c)
 held-asked allows (Waited ∷ events) p q v w t none a c =
-    let h : Waits p t.0.pool v t.0.wire = t.1.happens in
+    let h : StepWaits p t.0.pool v t.0.wire = t.1.happens in
     or-before a p t.0.pool (asked_in events) (wait-back a p t.0.pool h.others) (held-asked allows events t.0.pool q t.0.wire w t.2 none a c)
-held-asked allows (Broke fault ∷ events) p q v w t none a c = let h : Breaks fault p t.0.pool v t.0.wire = t.1.happens in absurd (no-break allows (kept_of fault) events t.0.pool q t.0.wire w h.kept t.2 none)
+held-asked allows (Broke fault ∷ events) p q v w t none a c = let h : StepBreaks fault p t.0.pool v t.0.wire = t.1.happens in absurd (no-break allows (kept_of fault) events t.0.pool q t.0.wire w h.kept t.2 none)
 
 asked-front : (a : Ask) (first second : List Event) → Contains (asked_in first) a → Contains (asked_in (first ++ second)) a
 asked-front a [] second c = absurd (none_in a c)
@@ -92,7 +92,7 @@ abbrev pub replied-closed : (limit : ℕ) (address : Address) (received : List �
 replied-closed limit address received v w same n r = record {
   k = r.k;
   is_address = r.is_address;
-  peer = (same r.k).peer ∙ subst (λ (x : Nature). (v.links r.k).peer ≡ told_by x.tells (address.host, address.port)) (sym n) r.peer;
+  peer = (same r.k).peer ∙ subst (λ (x : Nature). (v.links r.k).peer ≡ told_in x.tells (address.host, address.port)) (sym n) r.peer;
   before = r.before;
   replied = r.replied;
   sent_is = subst (λ (x : Option (List ℕ)). Holds x (bytes_of (sent_of r.before) ++ request_for address)) (sym (same r.k).sent) r.sent_is;

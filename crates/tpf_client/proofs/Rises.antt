@@ -12,7 +12,7 @@ use Rattle.request_pool.specs.Steps.{StepsTo}
 use Rattle.pool_laws.specs.Answers.{TellsAll}
 use Rattle.pool_laws.specs.Rising.{IsServedBySome, FailuresRose, StepRose, EndsByRises}
 use Rattle.tpf_client.specs.declared.options.Options.{Options}
-use Rattle.tpf_client.specs.Traffic.{Event, Broke, Travels, EndsWith, IsLawful, without_fault, Breaks}
+use Rattle.tpf_client.specs.Traffic.{Event, Broke, Travels, EndsWith, IsLawful, without_fault, StepBreaks}
 use Rattle.tpf_client.specs.Turns.{asked_in}
 use Rattle.tpf_client.specs.Calls.{RunsPool}
 use Rattle.tpf_client.specs.Honest.{Laws}
@@ -91,7 +91,7 @@ module _ (laws : Laws) (traffic : TrafficLaws) (allows : List ℕ → ℕ → Li
         → EndsByRises fault (options.retries + 1) since.faults now.faults
     ends-by-rises now fault events p e r a =
         let x = ending laws traffic allows options since now lawful starts events (Broke fault) p e r a in
-        let h : Breaks fault x.mid p x.between r.between = x.last.happens in
+        let h : StepBreaks fault x.mid p x.between r.between = x.last.happens in
         let front = asks-front (IsOwn starts) x.before (Broke fault ∷ []) (subst (λ (l : List Event). AllByRecursion (IsOwn starts) (asked_in l)) x.is_last a) in
         let b = between-after allows (begun options) (IsOwn starts) x.before (begun options) x.mid since x.between front (begun-between laws traffic starts options allows since lawful (IsOwn starts)) x.first in
         let at = taken allows (begun options) (IsOwn starts) (Broke fault) x.mid p x.between r.between h.some h.had_none b x.last in

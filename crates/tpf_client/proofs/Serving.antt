@@ -17,7 +17,7 @@ use Rattle.tpf_client.specs.Traffic.{Event, IsLawful}
 use Rattle.fragment_page.specs.declared.page.Page.{Page}
 use Rattle.join_core.specs.Beginnings.{no_names_bound}
 use Rattle.tpf_client.specs.Turns.{AsksAt}
-use Rattle.tpf_client.specs.Told.{told_at, first_of}
+use Rattle.tpf_client.specs.Told.{told_at, told_first}
 use Rattle.tpf_client.specs.Starts.{ReadsStarts, forms_of, versions_of}
 use Rattle.tpf_client.specs.Sources.{IsSourceOf, world_sources}
 use Rattle.tpf_client.specs.Calls.{RunsPool}
@@ -70,7 +70,7 @@ module _ (laws : Laws) (allows : List ℕ → ℕ → List ℕ → List ℕ → 
         is_choice = is-choice v.0 v.1 v.2;
         versions = λ address. v.0;
         tells = λ address. subst (λ (l : List Page). told_at (start ∷ []) (versions_of l) address ≡ Some v.0) (sym o.is) v.3;
-        is_reported = subst (λ (l : List Page). first_of (versions_of l) ≡ Some v.0) (sym o.is) v.3;
+        is_reported = subst (λ (l : List Page). told_first (versions_of l) ≡ Some v.0) (sym o.is) v.3;
         has = λ address own. refl;
         source = server_world block (version_of p.history v.0) p.config;
         is_source = subst (λ (l : List Page). IsSourceOf (world_sources block) (server_world block (version_of p.history v.0) p.config) (forms_of l) (told_at (start ∷ []) (versions_of l)) later) (sym o.is) v.4;

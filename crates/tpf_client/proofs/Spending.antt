@@ -20,7 +20,7 @@ use Rattle.tpf_client.specs.declared.options.Options.{Options}
 use Rattle.tpf_client.specs.declared.options.Report.{Report}
 use Rattle.tpf_client.specs.declared.fault.ClientFault.{ClientFault}
 use Rattle.tpf_client.specs.declared.fault.ClientFault.TheVariants as faults
-use Rattle.tpf_client.specs.Traffic.{Event, Broke, EndsWith, IsLawful, without_fault, Breaks}
+use Rattle.tpf_client.specs.Traffic.{Event, Broke, EndsWith, IsLawful, without_fault, StepBreaks}
 use Rattle.tpf_client.specs.Causes.{Explains, Versions}
 use Rattle.tpf_client.specs.Turns.{AsksAt, asked_in, address_of}
 use Rattle.tpf_client.specs.Calls.{Returns, WritesSome, RunsPool, Happened, AreThese}
@@ -85,7 +85,7 @@ module _ (laws : Laws) (traffic : TrafficLaws) (allows : List ℕ → ℕ → Li
   spent-so : (events : List Event) (p : Pooled) → EndsWith (Broke pool.Budget) events → RunsPool allows options since now events p → AsksAt starts events → Spent p
   spent-so events p e r a =
       let x = ending laws traffic allows options since now lawful starts events (Broke pool.Budget) p e r a in
-      let h : Breaks pool.Budget x.mid p x.between r.between = x.last.happens in
+      let h : StepBreaks pool.Budget x.mid p x.between r.between = x.last.happens in
       let front = asks-front IsAt x.before (Broke pool.Budget ∷ []) (subst (λ (l : List Event). AsksAt starts l) x.is_last a) in
       let first = begun-between laws traffic starts options allows since lawful IsAt in
       let answered : AnsweredSince (map address_of (asked_in x.before)) since x.mid x.between =

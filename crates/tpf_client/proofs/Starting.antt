@@ -19,7 +19,7 @@ use Rattle.tpf_client.specs.declared.fault.ClientFault.TheVariants as faults
 use Rattle.tpf_client.specs.Traffic.{Event, Asked, Came, Waited, Broke, Moves, IsLawful}
 use Rattle.tpf_client.specs.Causes.{Explains, Versions, shown_as}
 use Rattle.tpf_client.specs.Asking.{Arrives, Stops, PutsOne, StepsOn, ask_of, IsReadFault, ReadsPage}
-use Rattle.tpf_client.specs.Starts.{Starts, HasNoStart, start_ask}
+use Rattle.tpf_client.specs.Starts.{StartsOne, HasNoStart, start_ask}
 use Rattle.tpf_client.proofs.Traveling.{travels-then, one-event, no-events}
 use Rattle.tpf_client.proofs.Accounting.{pages-then, pages-waits}
 use Rattle.tpf_client.proofs.Waiting.{empty-list}
@@ -61,7 +61,7 @@ module _ (allows : List ℕ → ℕ → List ℕ → List ℕ → Type 0) (start
   explains-read versions faults.Sink arrived before e = absurd e
   explains-read versions faults.OutOfMemory arrived before e = tt
 
-  pub start-read : (r : Result Page ClientFault) (arrived : Arrived) → Arrives allows arrived p q v w → ReadsPage arrived r → IsPermutation (held p) (start_ask start ∷ []) → Starts allows start [] budget r p q v w
+  pub start-read : (r : Result Page ClientFault) (arrived : Arrived) → Arrives allows arrived p q v w → ReadsPage arrived r → IsPermutation (held p) (start_ask start ∷ []) → StartsOne allows start [] budget r p q v w
   start-read (Ok page) arrived h r one =
       let is = arrived-is arrived h one in
       record {
@@ -115,7 +115,7 @@ module _ (allows : List ℕ → ℕ → List ℕ → List ℕ → Type 0) (start
   put-moves : PutsOne (start_ask start) p q → SuitsWire p v → IsLawful allows v → Moves allows (Asked (start_ask start)) p q v v
   put-moves h s l = record { happens = (h.puts, refl); suits = h.suits v s; distinct = h.distinct; bounds = h.bounds; lawful = l }
 
-  pub starts-put : (result : Result Page ClientFault) → PutsOne (start_ask start) p q → SuitsWire p v → IsLawful allows v → Starts allows start [] budget result q r v w → Starts allows start (start_ask start ∷ []) budget result p r v w
+  pub starts-put : (result : Result Page ClientFault) → PutsOne (start_ask start) p q → SuitsWire p v → IsLawful allows v → StartsOne allows start [] budget result q r v w → StartsOne allows start (start_ask start ∷ []) budget result p r v w
   starts-put (Ok page) h s l k = record {
     events = Asked (start_ask start) ∷ [] ++ k.events;
     travels = travels-then allows (Asked (start_ask start) ∷ []) k.events p q r v v w (one-event allows (Asked (start_ask start)) p q v v (put-moves h s l)) k.travels;

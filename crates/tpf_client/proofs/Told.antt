@@ -4,7 +4,7 @@ use Rattle.std.specs.Str.{bytes_eq}
 use Rattle.std.proofs.lemmas.Slice.Eq.{bytes_eq-Decides}
 use Rattle.std.proofs.lemmas.List.{drop_more, drop_all}
 use Rattle.tpf_base.specs.Addresses.{Address, authority_of}
-use Rattle.tpf_client.specs.Told.{told_at, first_of}
+use Rattle.tpf_client.specs.Told.{told_at, told_first}
 
 -- the last start is not compared
 last-so : (starts : List Address) (version : Option ℕ) (versions : List (Option ℕ)) (address : Address) → length starts ≤ 1 → told_at starts (version ∷ versions) address ≡ version
@@ -69,6 +69,6 @@ module _ (starts : List Address) (versions : List (Option ℕ)) (address : Addre
   none-at few = ap (λ (l : List (Option ℕ)). told_at (drop i starts) l address) (drop_all i versions few)
 
 -- the version at the first place is the first
-pub first-at : (versions : List (Option ℕ)) (version : Option ℕ) → 0 < length versions → version ≡ get_or versions 0 version → version ≡ first_of versions
+pub first-at : (versions : List (Option ℕ)) (version : Option ℕ) → 0 < length versions → version ≡ get_or versions 0 version → version ≡ told_first versions
 first-at [] version some e = absurd (omega (arith, some))
 first-at (x ∷ versions) version some e = e

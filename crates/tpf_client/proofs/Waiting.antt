@@ -9,7 +9,7 @@ use Rattle.request_pool.specs.declared.fault.PoolFault.TheVariants as faults
 use Rattle.request_pool.specs.Pools.{Pooled, Ask, held}
 use Rattle.request_pool.specs.Owned.{SuitsWire}
 use Rattle.tpf_client.specs.declared.asks.Arrived.{Arrived}
-use Rattle.tpf_client.specs.Traffic.{Event, Came, Waited, Broke, Moves, Travels, Waits, Comes}
+use Rattle.tpf_client.specs.Traffic.{Event, Came, Waited, Broke, Moves, Travels, StepWaits, Comes}
 use Rattle.tpf_client.specs.Asking.{WaitsSo, Arrives, Stops, ask_of}
 use Rattle.tpf_client.proofs.Traveling.{no-events, one-event, travels-then, travels-allowed, waits-more}
 
@@ -35,7 +35,7 @@ module _ (allows later : List ℕ → ℕ → List ℕ → List ℕ → Type 0) 
 
   pub so-waits : WaitsSo allows p q u v → Moves later Waited q r v w → WaitsSo allows p r u w
   so-waits s m =
-      let h : Waits q r v w = m.happens in
+      let h : StepWaits q r v w = m.happens in
       record {
         before = s.before ++ Waited ∷ [];
         waits = waits-more s.before s.waits;

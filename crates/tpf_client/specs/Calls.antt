@@ -29,7 +29,7 @@ use Rattle.tpf_client.specs.declared.fault.ClientFault.{ClientFault}
 use Rattle.tpf_client.specs.declared.fault.ClientFault.TheVariants as faults
 use Rattle.tpf_client.specs.Traffic.{Event, Travels}
 use Rattle.tpf_client.specs.Causes.{Explains, Versions}
-use Rattle.tpf_client.specs.Told.{told_at, first_of}
+use Rattle.tpf_client.specs.Told.{told_at, told_first}
 use Rattle.tpf_client.specs.Starts.{ReadsStarts, AsksStarts, forms_of, versions_of}
 use Rattle.tpf_client.specs.Turns.{ArePages, AsksAt, WaitFew, asked_in}
 use Rattle.tpf_client.specs.Sources.{Sources, IsSourceOf, GivesSolutions, GivesSome}
@@ -107,7 +107,7 @@ pub record Returns (ran : List Event → Pooled → Type 0) (sources : Sources) 
   pub asks : AsksAt starts (first ++ later)
   pub none_held : held pool ≡ []
   pub no_fault : pool.fault ≡ None
-  pub is_version : report.version ≡ sources.reported (first_of (versions_of told))
+  pub is_version : report.version ≡ sources.reported (told_first (versions_of told))
   pub pages : ArePages (told_at starts (versions_of told)) later
   pub requests : report.requests ≡ pool.started
   pub count : report.rows ≡ counted_by (length rows) 0
@@ -184,7 +184,7 @@ pub record WritesRest (allows : List ℕ → ℕ → List ℕ → List ℕ → T
   pub events : List Event
   pub rows : List Places
   pub joins : Joins allows most sources q starts forms (told_at starts versions) events rows old new wire wire'
-  pub is_version : report.version ≡ sources.reported (first_of versions)
+  pub is_version : report.version ≡ sources.reported (told_first versions)
   pub requests : report.requests ≡ new.started
   pub count : report.rows ≡ counted_by (length rows) 0
   pub text : Appends taken taken' (result_text q rows)
@@ -193,7 +193,7 @@ pub record WritesRest (allows : List ℕ → ℕ → List ℕ → List ℕ → T
 pub record GathersRest (allows : List ℕ → ℕ → List ℕ → List ℕ → Type 0) (most : ℕ) (sources : Sources) (q : QueryData) (starts : List Address) (forms : List Form) (versions : List (Option ℕ)) (report : Report) (rows : List Places) (old new : Pooled) (wire wire' : WireState) : Type 0 where
   pub events : List Event
   pub joins : Joins allows most sources q starts forms (told_at starts versions) events rows old new wire wire'
-  pub is_version : report.version ≡ sources.reported (first_of versions)
+  pub is_version : report.version ≡ sources.reported (told_first versions)
   pub requests : report.requests ≡ new.started
   pub count : report.rows ≡ counted_by (length rows) 0
 

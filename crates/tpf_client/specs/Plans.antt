@@ -81,13 +81,13 @@ IsSmallByAll most p address =
     (version : ℕ) → IsVersionOf p.history version → (answer_at p version address).status ≡ 200 → length (answer_at p version address).body ≤ most
 
 -- the request for the address is within the limit of heads, and each version answers it with status 200
-pub record IsAnswered (p : Publisher) (address : Address) : Type 0 where
+pub record IsAnswerable (p : Publisher) (address : Address) : Type 0 where
   pub short : IsShort address
   pub answered : IsAnsweredByAll p.history p.config address
 
 -- each version answers it so, with a body of at most so many bytes that is read as a page
 pub record IsFit (most : ℕ) (p : Publisher) (address : Address) : Type 0 where
-  pub is_answered : IsAnswered p address
+  pub is_answered : IsAnswerable p address
   pub is_read : IsReadByAll p address
   pub is_small : IsSmallByAll most p address
 
@@ -186,8 +186,8 @@ pub record RefusesFor (offer : Offer) (options : Options) (choice : offer.Choice
 pub record RefusesLong (offer : Offer) (options : Options) (fault : ReplyFault) (received : List ℕ) : Type 0 where
   pub choice : offer.Choice
   pub is_choice : offer.IsChoice choice
-  pub too_long : AllByRecursion (AtEach offer IsAnswered) (offer.addresses choice) → fault ≡ refusals.TooLong
-  pub long : AllByRecursion (AtEach offer IsAnswered) (offer.addresses choice)
+  pub too_long : AllByRecursion (AtEach offer IsAnswerable) (offer.addresses choice) → fault ≡ refusals.TooLong
+  pub long : AllByRecursion (AtEach offer IsAnswerable) (offer.addresses choice)
       → HasLongPage offer options.max_body (offer.addresses choice) received
   pub why : AllByRecursion (AtChosen offer choice IsAnsweredAt) (offer.addresses choice) → RefusesFor offer options choice fault received
 

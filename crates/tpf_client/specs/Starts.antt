@@ -71,9 +71,9 @@ pub record HasNoStart (allows : List ℕ → ℕ → List ℕ → List ℕ → T
   pub asked_are : (asked_in events ≡ asked) ⊎ (asked_in events ≡ [])
   pub suits : SuitsWire new wire'
 
-abbrev pub Starts : (List ℕ → ℕ → List ℕ → List ℕ → Type 0) → Address → List Ask → ℕ → Result Page ClientFault → Pooled → Pooled → WireState → WireState → Type 0
-Starts allows start asked budget (Ok page) old new wire wire' = HasStart allows start asked page old new wire wire'
-Starts allows start asked budget (Err fault) old new wire wire' = HasNoStart allows start asked budget fault old new wire wire'
+abbrev pub StartsOne : (List ℕ → ℕ → List ℕ → List ℕ → Type 0) → Address → List Ask → ℕ → Result Page ClientFault → Pooled → Pooled → WireState → WireState → Type 0
+StartsOne allows start asked budget (Ok page) old new wire wire' = HasStart allows start asked page old new wire wire'
+StartsOne allows start asked budget (Err fault) old new wire wire' = HasNoStart allows start asked budget fault old new wire wire'
 
 -- ---- several starts
 

@@ -10,10 +10,10 @@ told_at [] (version ∷ versions) address = version
 told_at (start ∷ []) (version ∷ versions) address = version
 told_at (start ∷ next ∷ starts) (version ∷ versions) address = if bytes_eq (authority_of start) (authority_of address) then version else told_at (next ∷ starts) versions address
 
-abbrev pub told_by : Bounds → Address → Option ℕ
-told_by bounds address = told_at bounds.starts.now bounds.versions.now address
+abbrev pub told_in : Bounds → Address → Option ℕ
+told_in bounds address = told_at bounds.starts.now bounds.versions.now address
 
 -- the first of these versions
-abbrev pub first_of : List (Option ℕ) → Option ℕ
-first_of [] = None
-first_of (version ∷ versions) = version
+abbrev pub told_first : List (Option ℕ) → Option ℕ
+told_first [] = None
+told_first (version ∷ versions) = version

@@ -10,6 +10,7 @@ use Rattle.request_pool.specs.declared.fault.Stepped.TheVariants as stepped
 use Rattle.request_pool.specs.Faults.{kept_of}
 use Rattle.request_pool.specs.Pools.{Pooled, Ask, held, bounds_of}
 use Rattle.request_pool.specs.Owned.{SuitsWire}
+use Rattle.request_pool.specs.Runs.{Moment}
 use Rattle.request_pool.specs.Steps.{StepsTo}
 
 -- an ask was put; the whole reply to one came; nothing came in a step; or a step ended with a fault
@@ -37,7 +38,7 @@ pub record Comes (ask : Ask) (reply : Reply) (old new : Pooled) (wire wire' : Wi
   pub no_fault : new.fault ≡ None
 
 -- nothing came in a step with asks, and all are still held
-pub record Waits (old new : Pooled) (wire wire' : WireState) : Type 0 where
+pub record StepWaits (old new : Pooled) (wire wire' : WireState) : Type 0 where
   pub some : held old ≢ []
   pub steps : StepsTo (Ok stepped.Waited) old new wire wire'
   pub others : IsPermutation (held old) (held new)
@@ -45,7 +46,7 @@ pub record Waits (old new : Pooled) (wire wire' : WireState) : Type 0 where
   pub no_fault : new.fault ≡ None
 
 -- a step with asks ended with a fault, which the pool keeps without its bytes
-pub record Breaks (fault : PoolFault) (old new : Pooled) (wire wire' : WireState) : Type 0 where
+pub record StepBreaks (fault : PoolFault) (old new : Pooled) (wire wire' : WireState) : Type 0 where
   pub some : held old ≢ []
   pub steps : StepsTo (Err fault) old (without_fault new) wire wire'
   pub had_none : old.fault ≡ None
@@ -54,8 +55,8 @@ pub record Breaks (fault : PoolFault) (old new : Pooled) (wire wire' : WireState
 abbrev pub Happens : Event → Pooled → Pooled → WireState → WireState → Type 0
 Happens (Asked ask) old new wire wire' = Puts ask old new × (wire' ≡ wire)
 Happens (Came ask reply) old new wire wire' = Comes ask reply old new wire wire'
-Happens Waited old new wire wire' = Waits old new wire wire'
-Happens (Broke fault) old new wire wire' = Breaks fault old new wire wire'
+Happens Waited old new wire wire' = StepWaits old new wire wire'
+Happens (Broke fault) old new wire wire' = StepBreaks fault old new wire wire'
 
 -- one for the ticket
 abbrev pub is_under : ℕ → Ask → ℕ
@@ -80,11 +81,6 @@ pub record Moves (allows : List ℕ → ℕ → List ℕ → List ℕ → Type 0
   pub distinct : new.fault ≡ None → AreDistinct (held new)
   pub bounds : bounds_of (without_fault new) ≡ bounds_of (without_fault old)
   pub lawful : IsLawful allows wire'
-
--- a pool and its wire
-pub record Moment : Type 0 where
-  pub pool : Pooled
-  pub wire : WireState
 
 -- these events, one after another
 abbrev pub Travels : (List ℕ → ℕ → List ℕ → List ℕ → Type 0) → List Event → Pooled → Pooled → WireState → WireState → Type 0

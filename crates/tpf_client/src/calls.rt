@@ -15,7 +15,7 @@ ghost use Rattle.tpf_client.specs.Calls.{Joins, JoinsSome, GathersRest, WritesRe
 ghost use Rattle.tpf_client.specs.Causes.{IsLocal};
 ghost use Rattle.tpf_client.specs.Sinks.{LeavesSink};
 ghost use Rattle.tpf_client.specs.Shown.{WritesShown, ShowsRest};
-ghost use Rattle.tpf_client.specs.Told.{told_at, told_by};
+ghost use Rattle.tpf_client.specs.Told.{told_at, told_in};
 ghost use Rattle.tpf_client.specs.Sources.{sources_of, world_sources};
 ghost use Rattle.tpf_client.specs.Offers.{publisher, offer_in_blocks};
 ghost use Rattle.tpf_client.specs.Ends.{ends_in_blocks};
@@ -76,13 +76,13 @@ fn join_pages<R: Wait, E: Evaluates + Drop, W: Dial, B, T: TakesRows<B>>(
     ensures joins { OnOk result ((events : List Event) × (given : List Places)
         × Joins (W.allows wire.old) (length query.now.patterns * (options.now.window * length forms))
         (sources_of E.Source E.fits E.is_true E.rows E.plan E.reported options.now.block) query.now
-        bounds.entry.starts.now forms (told_by bounds.entry) events given asks.old asks.new (W.state wire.old)
+        bounds.entry.starts.now forms (told_in bounds.entry) events given asks.old asks.new (W.state wire.old)
         (W.state wire.new)
         × T.takes given rows.old rows.new behind.old behind.new) }
     ensures some { IfErr result (λ fault. (events : List Event) × (given : List Places)
         × JoinsSome (W.allows wire.old) (length query.now.patterns * (options.now.window * length forms))
         (sources_of E.Source E.fits E.is_true E.rows E.plan E.reported options.now.block) query.now
-        bounds.entry.starts.now forms (told_by bounds.entry) bounds.entry.budget fault events given asks.old asks.new
+        bounds.entry.starts.now forms (told_in bounds.entry) bounds.entry.budget fault events given asks.old asks.new
         (W.state wire.old) (W.state wire.new)
         × T.takes_front given rows.old rows.new behind.old behind.new
         × (IsLocal fault ⊎ T.takes given rows.old rows.new behind.old behind.new)) }
@@ -124,23 +124,23 @@ fn write_joined<'a, 'b, R: Wait, E: Evaluates + Drop, W: Dial, K: Sink>(
     ensures ok { OnOk result ((events : List Event) × (rows : List Places)
         × Joins (W.allows wire.old) (length query.now.patterns * (options.now.window * length forms))
         (sources_of E.Source E.fits E.is_true E.rows E.plan E.reported options.now.block) query.now
-        bounds.entry.starts.now forms (told_by bounds.entry) events rows asks.old asks.new (W.state wire.old)
+        bounds.entry.starts.now forms (told_in bounds.entry) events rows asks.old asks.new (W.state wire.old)
         (W.state wire.new)
         × Appends (K.state out.old).taken (K.state out.new).taken (result_text query.now rows)
         × (text.new.count ≡ counted_by (length rows) 0)) }
     ensures err { IfErr result (λ fault. WritesLess (W.allows wire.old)
         (length query.now.patterns * (options.now.window * length forms))
         (sources_of E.Source E.fits E.is_true E.rows E.plan E.reported options.now.block) query.now
-        bounds.entry.starts.now forms (told_by bounds.entry) bounds.entry.budget fault asks.old asks.new
+        bounds.entry.starts.now forms (told_in bounds.entry) bounds.entry.budget fault asks.old asks.new
         (W.state wire.old) (W.state wire.new) (K.state out.old).taken (K.state out.new).taken) }
     ensures shown { IfErr result (λ fault. (less : WritesLess (W.allows wire.old)
         (length query.now.patterns * (options.now.window * length forms))
         (sources_of E.Source E.fits E.is_true E.rows E.plan E.reported options.now.block) query.now
-        bounds.entry.starts.now forms (told_by bounds.entry) bounds.entry.budget fault asks.old asks.new
+        bounds.entry.starts.now forms (told_in bounds.entry) bounds.entry.budget fault asks.old asks.new
         (W.state wire.old) (W.state wire.new) (K.state out.old).taken (K.state out.new).taken)
         × ShowsRest (W.allows wire.old) (length query.now.patterns * (options.now.window * length forms))
         (sources_of E.Source E.fits E.is_true E.rows E.plan E.reported options.now.block) query.now
-        bounds.entry.starts.now forms (told_by bounds.entry) bounds.entry.budget fault asks.old asks.new
+        bounds.entry.starts.now forms (told_in bounds.entry) bounds.entry.budget fault asks.old asks.new
         (W.state wire.old) (W.state wire.new) (K.state out.old).faults (K.state out.new).faults
         (K.state out.old).taken (K.state out.new).taken less) }
     ensures sink { LeavesSink (K.state out.old) (K.state out.new) result }

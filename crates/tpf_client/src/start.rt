@@ -5,7 +5,7 @@ ghost use Rattle.tpf_base.specs.Links.{SameAllowed};
 ghost use Rattle.request_pool.specs.Pools.{held};
 ghost use Rattle.request_pool.specs.Owned.{SuitsWire};
 ghost use Rattle.tpf_client.specs.Asking.{Awaits, PutsOne, ReadsPage};
-ghost use Rattle.tpf_client.specs.Starts.{Starts, StartsAll, start_ask};
+ghost use Rattle.tpf_client.specs.Starts.{StartsOne, StartsAll, start_ask};
 
 use crate::ClientFault;
 use crate::asks::{Arrived, Asks, Next, is_lawful};
@@ -84,7 +84,7 @@ fn await_start<R: Wait, W: Dial>(
     requires suits { SuitsWire asks.old (W.state wire.old) }
     requires no_fault { asks.old.fault ≡ None }
     requires one { IsPermutation (held asks.old) (start_ask start.now ∷ []) }
-    ensures starts { Starts (W.allows wire.old) start.now [] budget result asks.old asks.new (W.state wire.old)
+    ensures starts { StartsOne (W.allows wire.old) start.now [] budget result asks.old asks.new (W.state wire.old)
         (W.state wire.new) }
     ensures no_sink { IsErrOf result ClientFault.Sink → ⊥ }
     ensures allowed { SameAllowed (W.allows wire.old) (W.allows wire.new) }
@@ -107,7 +107,7 @@ fn ask_start<R: Wait, W: Dial>(
     requires suits { SuitsWire asks.old (W.state wire.old) }
     requires no_fault { asks.old.fault ≡ None }
     requires none { held asks.old ≡ [] }
-    ensures starts { Starts (W.allows wire.old) start.now (start_ask start.now ∷ []) budget result asks.old asks.new
+    ensures starts { StartsOne (W.allows wire.old) start.now (start_ask start.now ∷ []) budget result asks.old asks.new
         (W.state wire.old) (W.state wire.new) }
     ensures no_sink { IsErrOf result ClientFault.Sink → ⊥ }
     ensures allowed { SameAllowed (W.allows wire.old) (W.allows wire.new) }

@@ -7,7 +7,7 @@ ghost use Rattle.request_pool.specs.Pools.{Ask, held};
 ghost use Rattle.request_pool.specs.Owned.{SuitsWire};
 ghost use Rattle.join_core.specs.Evaluations.{EndsInQuiet};
 ghost use Rattle.tpf_client.specs.Traffic.{Event};
-ghost use Rattle.tpf_client.specs.Told.{told_at, told_by};
+ghost use Rattle.tpf_client.specs.Told.{told_at, told_in};
 ghost use Rattle.tpf_client.specs.Turns.{Limits, keeps_both, Meets, Hands, Gives, Readies, TakesReply, Went, Failed};
 ghost use Rattle.tpf_client.specs.Causes.{IsTakeFault, IsLocal};
 ghost use Rattle.tpf_client.specs.Sinks.{KeepsSink, LeavesSink};
@@ -203,11 +203,11 @@ fn take_next<R: Wait, E: Evaluates, W: Dial>(
     requires suits { SuitsWire asks.old (W.state wire.old) }
     ensures ok { OnOk result ((events : List Event) × Went E.suits E.account
         (keeps_both E.keeps_to E.keeps_small) E.standing E.is_true (W.allows wire.old) evaluation.old evaluation.new
-        (told_by bounds.entry) events [] asks.old asks.new (W.state wire.old) (W.state wire.new)) }
+        (told_in bounds.entry) events [] asks.old asks.new (W.state wire.old) (W.state wire.new)) }
     ensures given { OnOk result ((E.standing evaluation.new).given ≡ (E.standing evaluation.old).given) }
     ensures err { IfErr result (λ fault. (events : List Event) × Failed E.suits E.account
         (keeps_both E.keeps_to E.keeps_small) E.standing E.is_true (W.allows wire.old) evaluation.old
-        (told_by bounds.entry) bounds.entry.budget fault events [] asks.old asks.new (W.state wire.old)
+        (told_in bounds.entry) bounds.entry.budget fault events [] asks.old asks.new (W.state wire.old)
         (W.state wire.new)) }
     ensures no_sink { IsErrOf result ClientFault.Sink → ⊥ }
     ensures allowed { SameAllowed (W.allows wire.old) (W.allows wire.new) }
@@ -240,14 +240,14 @@ fn turn<R: Wait, E: Evaluates, W: Dial, B, T: TakesRows<B>>(
     requires suits { SuitsWire asks.old (W.state wire.old) }
     ensures went { OnOk result ((events : List Event) × (taken : List Places)
         × Went E.suits E.account (keeps_both E.keeps_to E.keeps_small) E.standing E.is_true
-        (W.allows wire.old) evaluation.old evaluation.new (told_by bounds.entry) events taken asks.old asks.new
+        (W.allows wire.old) evaluation.old evaluation.new (told_in bounds.entry) events taken asks.old asks.new
         (W.state wire.old) (W.state wire.new)
         × T.takes taken rows.old rows.new behind.old behind.new) }
     ensures given { OnOk result (tickets.new ≡ (E.standing evaluation.new).given) }
     ensures done { result ≡ Ok true → (E.standing evaluation.new).done ≡ true }
     ensures failed { IfErr result (λ fault. (events : List Event) × (taken : List Places)
         × Failed E.suits E.account (keeps_both E.keeps_to E.keeps_small) E.standing E.is_true
-        (W.allows wire.old) evaluation.old (told_by bounds.entry) bounds.entry.budget fault events taken asks.old
+        (W.allows wire.old) evaluation.old (told_in bounds.entry) bounds.entry.budget fault events taken asks.old
         asks.new (W.state wire.old) (W.state wire.new)
         × T.takes_front taken rows.old rows.new behind.old behind.new
         × (IsLocal fault ⊎ T.takes taken rows.old rows.new behind.old behind.new)) }
@@ -318,13 +318,13 @@ pub(crate) fn evaluate<R: Wait, E: Evaluates, W: Dial, B, T: TakesRows<B>>(
     requires suits { SuitsWire asks.old (W.state wire.old) }
     ensures went { OnOk result ((events : List Event) × (taken : List Places)
         × Went E.suits E.account (keeps_both E.keeps_to E.keeps_small) E.standing E.is_true
-        (W.allows wire.old) evaluation.old evaluation.new (told_by bounds.entry) events taken asks.old asks.new
+        (W.allows wire.old) evaluation.old evaluation.new (told_in bounds.entry) events taken asks.old asks.new
         (W.state wire.old) (W.state wire.new)
         × T.takes taken rows.old rows.new behind.old behind.new) }
     ensures done { OnOk result ((E.standing evaluation.new).done ≡ true) }
     ensures failed { IfErr result (λ fault. (events : List Event) × (taken : List Places)
         × Failed E.suits E.account (keeps_both E.keeps_to E.keeps_small) E.standing E.is_true
-        (W.allows wire.old) evaluation.old (told_by bounds.entry) bounds.entry.budget fault events taken asks.old
+        (W.allows wire.old) evaluation.old (told_in bounds.entry) bounds.entry.budget fault events taken asks.old
         asks.new (W.state wire.old) (W.state wire.new)
         × T.takes_front taken rows.old rows.new behind.old behind.new
         × (IsLocal fault ⊎ T.takes taken rows.old rows.new behind.old behind.new)) }

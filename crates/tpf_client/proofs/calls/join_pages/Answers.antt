@@ -1,6 +1,6 @@
 -- An evaluation that begins meets a pool that holds nothing, and the rows that it gives till it is done are the solutions.
 use Rattle.std.proofs.Common.{[], ◌*◌, length, inl}
-use Rattle.tpf_client.specs.Told.{told_by}
+use Rattle.tpf_client.specs.Told.{told_in}
 use Rattle.tpf_client.specs.Turns.{Limits, keeps_both}
 use Rattle.tpf_client.proofs.Joining.{Begun, limits-of, begins-meets, joins-of, some-of}
 use Rattle.tpf_client.proofs.Shutting.{on-ok-two, if-err-from}
@@ -33,7 +33,7 @@ returns-in-Ok-clause-joins g c =
     (λ done went. (
       went.0,
       went.1,
-      joins-of g.E.Evaluates.suits g.E.Evaluates.account g.E.Evaluates.keeps_to g.E.Evaluates.keeps_small g.E.Evaluates.standing g.E.Evaluates.is_true g.E.Evaluates.fits g.E.Evaluates.rows g.E.Evaluates.plan g.E.Evaluates.reported (g.W.Wire.allows c.args.wire.now) c.args.query.now c.args.bounds.starts.now c.args.forms (told_by c.args.bounds) c.args.options.now.window c.args.options.now.block c.in-Ok.evaluation c.args.asks.now c.evaluate.new.asks (g.W.Wire.state c.args.wire.now) (g.W.Wire.state c.evaluate.new.wire)
+      joins-of g.E.Evaluates.suits g.E.Evaluates.account g.E.Evaluates.keeps_to g.E.Evaluates.keeps_small g.E.Evaluates.standing g.E.Evaluates.is_true g.E.Evaluates.fits g.E.Evaluates.rows g.E.Evaluates.plan g.E.Evaluates.reported (g.W.Wire.allows c.args.wire.now) c.args.query.now c.args.bounds.starts.now c.args.forms (told_in c.args.bounds) c.args.options.now.window c.args.options.now.block c.in-Ok.evaluation c.args.asks.now c.evaluate.new.asks (g.W.Wire.state c.args.wire.now) (g.W.Wire.state c.evaluate.new.wire)
           c.requires.none c.requires.no_fault (begins g c) g.met.E.Evaluates.done_owes_nothing g.met.E.Evaluates.done_is_quiet c.evaluate.new.evaluation went.0 went.1 done went.2,
       went.3,
     ))
@@ -44,7 +44,7 @@ returns-in-Ok-clause-some g c =
     (λ fault f. (
       f.0,
       f.1,
-      some-of g.E.Evaluates.suits g.E.Evaluates.account g.E.Evaluates.keeps_to g.E.Evaluates.keeps_small g.E.Evaluates.standing g.E.Evaluates.is_true g.E.Evaluates.fits g.E.Evaluates.rows g.E.Evaluates.plan g.E.Evaluates.reported (g.W.Wire.allows c.args.wire.now) c.args.query.now c.args.bounds.starts.now c.args.forms (told_by c.args.bounds) c.args.options.now.window c.args.options.now.block c.in-Ok.evaluation c.args.asks.now c.evaluate.new.asks (g.W.Wire.state c.args.wire.now) (g.W.Wire.state c.evaluate.new.wire)
+      some-of g.E.Evaluates.suits g.E.Evaluates.account g.E.Evaluates.keeps_to g.E.Evaluates.keeps_small g.E.Evaluates.standing g.E.Evaluates.is_true g.E.Evaluates.fits g.E.Evaluates.rows g.E.Evaluates.plan g.E.Evaluates.reported (g.W.Wire.allows c.args.wire.now) c.args.query.now c.args.bounds.starts.now c.args.forms (told_in c.args.bounds) c.args.options.now.window c.args.options.now.block c.in-Ok.evaluation c.args.asks.now c.evaluate.new.asks (g.W.Wire.state c.args.wire.now) (g.W.Wire.state c.evaluate.new.wire)
           c.requires.none c.requires.no_fault (begins g c) c.args.bounds.budget fault f.0 f.1 f.2,
       f.3,
       f.4,
@@ -54,7 +54,7 @@ pub returns-in-Err-clause-some : goal.returns-in-Err-clause-some
 returns-in-Err-clause-some g c = (
   [],
   [],
-  nothing-joined (g.W.Wire.allows c.args.wire.now) _ _ c.args.query.now c.args.bounds.starts.now c.args.forms (told_by c.args.bounds) c.args.bounds.budget c.args.asks.now (g.W.Wire.state c.args.wire.now) c.requires.none c.requires.suits,
+  nothing-joined (g.W.Wire.allows c.args.wire.now) _ _ c.args.query.now c.args.bounds.starts.now c.args.forms (told_in c.args.bounds) c.args.bounds.budget c.args.asks.now (g.W.Wire.state c.args.wire.now) c.requires.none c.requires.suits,
   g.met.T.TakesRows.front_all [] _ _ _ _ (g.met.T.TakesRows.takes_none c.args.rows.now c.args.behind.now),
   inl tt,
 )

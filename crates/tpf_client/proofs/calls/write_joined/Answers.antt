@@ -4,7 +4,7 @@ use Rattle.std.specs.Prelude.{Err}
 use Rattle.tpf_base.specs.declared.fault.Fault.{Fault}
 use Rattle.tpf_client.specs.Rows.{Text, WritesRows, WritesFront}
 use Rattle.tpf_client.specs.declared.fault.ClientFault.{ClientFault}
-use Rattle.tpf_client.specs.Told.{told_by}
+use Rattle.tpf_client.specs.Told.{told_in}
 use Rattle.tpf_client.specs.Causes.{IsLocal}
 use Rattle.tpf_client.specs.Calls.{PartOf, WholeOf}
 use Rattle.tpf_client.proofs.Texts.{whole-written, part-written, front-handed, all-given, some-given, rows-shown, count-is}
@@ -28,7 +28,7 @@ pub returns-in-Err-finish-clause-err : goal.returns-in-Err-finish-clause-err
 returns-in-Err-finish-clause-err g c =
     let j = c.in-Ok.ensures.joins in
     let w = subst (λ (x : Text). WritesRows j.1 x c.join_pages.new.rows (g.K.Sink.state c.args.out.now).taken (g.K.Sink.state c.join_pages.new.behind).taken) c.requires.fresh j.3 in
-    WholeOf j.0 j.1 j.2 (explains-local (told_by c.args.bounds) c.args.bounds.budget c.of_sink.result j.0 (subst (λ (f : ClientFault). IsLocal f) (sym c.of_sink.ensures) (sink-local c.in-Err-finish.fault)))
+    WholeOf j.0 j.1 j.2 (explains-local (told_in c.args.bounds) c.args.bounds.budget c.of_sink.result j.0 (subst (λ (f : ClientFault). IsLocal f) (sym c.of_sink.ensures) (sink-local c.in-Err-finish.fault)))
     (part-written c.args.query.now j.1 c.join_pages.new.rows _ _ _ c.pieces_make_the_text.ensures w c.in-Err-finish.ensures.writes.err)
 
 pub returns-in-Err-finish-clause-shown : goal.returns-in-Err-finish-clause-shown
@@ -36,7 +36,7 @@ returns-in-Err-finish-clause-shown g c =
     let j = c.in-Ok.ensures.joins in
     let w = subst (λ (x : Text). WritesRows j.1 x c.join_pages.new.rows (g.K.Sink.state c.args.out.now).taken (g.K.Sink.state c.join_pages.new.behind).taken) c.requires.fresh j.3 in
     let is = subst (λ (f : ClientFault). IsLocal f) (sym c.of_sink.ensures) (sink-local c.in-Err-finish.fault) in
-    (WholeOf j.0 j.1 j.2 (explains-local (told_by c.args.bounds) c.args.bounds.budget c.of_sink.result j.0 is) (part-written c.args.query.now j.1 c.join_pages.new.rows _ _ _ c.pieces_make_the_text.ensures w c.in-Err-finish.ensures.writes.err), is)
+    (WholeOf j.0 j.1 j.2 (explains-local (told_in c.args.bounds) c.args.bounds.budget c.of_sink.result j.0 is) (part-written c.args.query.now j.1 c.join_pages.new.rows _ _ _ c.pieces_make_the_text.ensures w c.in-Err-finish.ensures.writes.err), is)
 
 pub returns-in-Ok-give-clause-err : goal.returns-in-Ok-give-clause-err
 returns-in-Ok-give-clause-err g c =
