@@ -3,6 +3,7 @@ use Rattle.std.proofs.Common.{ℕ, suc, ◌≡◌, ◌<◌, ◌^◌, ◌++◌, B
 use Rattle.std.specs.List.{All, AllByRecursion, AllZip, flat_map}
 use Rattle.std.proofs.lemmas.Bool.{le-leb}
 use Rattle.std.proofs.lemmas.List.Elements.{All-head}
+use Rattle.list_laws.proofs.Each.{all_front, all_back}
 use Rattle.rdf_terms.specs.declared.term.Triple.{Triple}
 use Rattle.rdf_terms.specs.Selections.{Selection}
 use Rattle.tpf_base.specs.Addresses.{Address}
@@ -41,7 +42,7 @@ use Rattle.federated_query.specs.Servers.{AreApart, joint_sources}
 use Rattle.federated_query.specs.Limits.{first_versions}
 use Rattle.federated_query.proofs.Standing.{all-told, servers-stand, servers-number}
 use Rattle.federated_query.proofs.Numbers.{number_at, told-number, has-number}
-use Rattle.federated_query.proofs.Together.{Together, together, front-all, behind-all, some-page}
+use Rattle.federated_query.proofs.Together.{Together, together}
 
 -- ---- the first versions
 
@@ -87,7 +88,7 @@ has-forms [] are one forms h = record { first = λ s ask. record { addresses = h
 has-forms (w ∷ []) are one forms h = record {
   first = λ s ask. record {
     addresses = subst (λ (l : List Address). AreFirst forms s l)
-        (append-nil (addresses_at s 1 w) ∙ ap (λ (b : Bool). if b then (w.round s 1).addresses else []) (le-leb 1 (w.last s) (some-page (w.last s) ((All-head IsWorld w [] are).some s)))) (h s ask);
+        (append-nil (addresses_at s 1 w) ∙ ap (λ (b : Bool). if b then (w.round s 1).addresses else []) (le-leb 1 (w.last s) (let some = (All-head IsWorld w [] are).some s in omega (arith, some)))) (h s ask);
     none = ap (λ (r : RoundData). r.taken) (All-head IsOneServer w [] one s 1).1;
   };
 }
@@ -153,8 +154,8 @@ module _ (laws : Laws) (valid : VersionsAreValid) (allows : List ℕ → ℕ →
   pub choice-behind : (first later : List Event) (pool : Pooled) → RunsPool allows options since now (first ++ later) pool → AsksAt starts (first ++ later) → (told : List Page) (reads : ReadsStarts starts told first) → ChoiceBehind joint_sources (servers_offer publishers q starts) q starts first later told reads
   choice-behind first later pool r asks told reads =
       let any = any-of (first ++ later) pool r in
-      let t = together laws allows since publishers starts told first honest reads (front-all (IsAnyAnswer allows) first later any) in
-      let came = behind-all (CameFrom AtHome) first later (homes-of (first ++ later) pool r asks) in
+      let t = together laws allows since publishers starts told first honest reads (all_front (IsAnyAnswer allows) first later any) in
+      let came = all_back (CameFrom AtHome) first later (homes-of (first ++ later) pool r asks) in
       record {
         choice = t.versions;
         is_choice = t.are_versions;
@@ -169,7 +170,7 @@ module _ (laws : Laws) (valid : VersionsAreValid) (allows : List ℕ → ℕ →
             forms_are = has-forms (worlds_of publishers t.versions) t.worlds t.one (forms_of told) t.forms;
             row_by_row = by-rows publishers t.versions;
           };
-          pages = true-all told t later (behind-all (IsAnyAnswer allows) first later any) came;
+          pages = true-all told t later (all_back (IsAnyAnswer allows) first later any) came;
         };
         rows = ap (λ (triples : List Triple). solutions_of triples q) (data-are valid publishers t.versions (are-histories allows since starts publishers honest));
         addresses = whole-plan t.versions t.served;
@@ -179,7 +180,7 @@ module _ (laws : Laws) (valid : VersionsAreValid) (allows : List ℕ → ℕ →
   pub told-choice : (first later : List Event) (pool : Pooled) (r : RunsPool allows options since now (first ++ later) pool) (asks : AsksAt starts (first ++ later)) (told : List Page) (reads : ReadsStarts starts told first)
       → versions_of told ≡ map (λ n. Some n) (choice-behind first later pool r asks told reads).choice
   unfolding choice-behind
-  told-choice first later pool r asks told reads = (together laws allows since publishers starts told first honest reads (front-all (IsAnyAnswer allows) first later (any-of (first ++ later) pool r))).told_are
+  told-choice first later pool r asks told reads = (together laws allows since publishers starts told first honest reads (all_front (IsAnyAnswer allows) first later (any-of (first ++ later) pool r))).told_are
 
   pub servers-covered : Covered joint_sources (servers_offer publishers q starts) allows options since now starts q
   servers-covered = record {

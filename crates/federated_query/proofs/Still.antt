@@ -3,6 +3,7 @@ use Rattle.std.proofs.Common.{ℕ, ◌≡◌, ◌<◌, ◌^◌, ◌++◌, inl, i
 use Rattle.std.specs.Prelude.{Result, IfErr, IsErrOf}
 use Rattle.std.specs.List.{AllByRecursion, Contains}
 use Rattle.std.proofs.lemmas.Bool.{eqb-true}
+use Rattle.list_laws.proofs.Each.{all_front, all_back}
 use Rattle.list_laws.proofs.Members.{head_or_tail, none_in}
 use Rattle.tpf_base.specs.Addresses.{Address}
 use Rattle.tpf_base.specs.Links.{WireState}
@@ -17,7 +18,7 @@ use Rattle.join_core.specs.Evaluations.{HasHome}
 use Rattle.tpf_client.specs.declared.options.Options.{Options}
 use Rattle.tpf_client.specs.declared.fault.ClientFault.{ClientFault}
 use Rattle.tpf_client.specs.declared.fault.ClientFault.TheVariants as faults
-use Rattle.tpf_client.specs.Traffic.{Event, Came, EndsWith, IsLawful}
+use Rattle.tpf_client.specs.Traffic.{Event, Came, IsLawful}
 use Rattle.tpf_client.specs.Turns.{AsksAt}
 use Rattle.tpf_client.specs.Starts.{start_ask, ReadsStarts, versions_of}
 use Rattle.tpf_client.specs.Calls.{RunsPool, WritesSome, Happened, AreThese}
@@ -27,6 +28,7 @@ use Rattle.tpf_client.specs.Honest.{Laws}
 use Rattle.tpf_client.specs.Requests.{TrafficLaws}
 use Rattle.tpf_client.specs.Plans.{RisesFew, ChoiceFits}
 use Rattle.tpf_client.specs.Still.{only, AnswersOver, AnswerStill, IsWant}
+use Rattle.tpf_client.proofs.Came.{at-last}
 use Rattle.tpf_client.proofs.Covered.{ChoiceBehind, StandsThere, Covered}
 use Rattle.tpf_client.proofs.Honesty.{IsAnswerOfAny, IsAnyAnswer, over-share, any-over}
 use Rattle.tpf_client.proofs.Planned.{ExplainedRun, some-explained}
@@ -35,7 +37,6 @@ use Rattle.tpf_client.proofs.Still.{ServesOnly, wants}
 use Rattle.tpf_client.proofs.Truth.{reads}
 use Rattle.federated_query.specs.Servers.{AreApart, joint_sources}
 use Rattle.federated_query.proofs.Standing.{all-told, none-has, servers-number}
-use Rattle.federated_query.proofs.Together.{front-all, behind-all}
 use Rattle.federated_query.proofs.Covering.{any-of, begins-with, choice-behind, told-choice}
 
 -- ---- the versions
@@ -60,9 +61,6 @@ some-same (x ∷ xs) (y ∷ ys) e =
     both : (a b : ℕ) (more others : List ℕ) → a ≡ b → more ≡ others → a ∷ more ≡ b ∷ others
     both a b more others e f = cc
 
-all-last : (allows : List ℕ → ℕ → List ℕ → List ℕ → Type 0) (event : Event) (events : List Event) → EndsWith event events → AllByRecursion (IsAnyAnswer allows) events → IsAnyAnswer allows event
-all-last allows event events e h = (behind-all (IsAnyAnswer allows) e.before (event ∷ []) (subst (λ (l : List Event). AllByRecursion (IsAnyAnswer allows) l) e.is_last h)).0
-
 -- the start pages told them
 told-still : Laws → (allows : List ℕ → ℕ → List ℕ → List ℕ → Type 0) (starts : List Address) (publishers : List Publisher) (versions : List ℕ) (told : List Page) (events : List Event) → AnswerStill allows starts publishers versions → ReadsStarts starts told events → AllByRecursion (IsAnyAnswer allows) events
     → versions_of told ≡ map (λ n. Some n) versions
@@ -75,12 +73,12 @@ told-still laws allows (start ∷ starts) (p ∷ publishers) [] told events s r 
 told-still laws allows (start ∷ starts) (p ∷ publishers) (version ∷ versions) [] events s r all = absurd r
 told-still laws allows (start ∷ starts) (p ∷ publishers) (version ∷ versions) (page ∷ told) events s r all =
     let here = subst (λ (l : List Event). AllByRecursion (IsAnyAnswer allows) l) r.2 all in
-    let came : IsAnswerOfAny allows (start_ask start) r.3.reply = all-last allows (Came (start_ask start) r.3.reply) r.0 r.3.last (front-all (IsAnyAnswer allows) r.0 r.1 here) in
+    let came : IsAnswerOfAny allows (start_ask start) r.3.reply = at-last (IsAnyAnswer allows) (Came (start_ask start) r.3.reply) r.0 r.3.last (all_front (IsAnyAnswer allows) r.0 r.1 here) in
     let b : IsBodyOver p.history p.config (only version) start r.3.reply.body = came.over p.history p.config (only version) s.0.is_honest in
     let read = reads laws.given laws.answered laws.only laws.worlds laws.forms laws.pages laws.kept laws.addresses p.history p.config s.0.is_history s.0.is_config start r.3.reply.body page b.is_body r.3.taken in
     let first : page.version ≡ Some version = read.told ∙ ap (λ (n : ℕ). let o : Option ℕ = Some n in o) (eqb-true (version_at b.is_body.mark) version b.is_served) in
     ap (λ (o : Option ℕ). o ∷ versions_of told) first
-    ∙ ap (λ (l : List (Option ℕ)). Some version ∷ l) (told-still laws allows starts publishers versions told r.1 s.1 r.4 (behind-all (IsAnyAnswer allows) r.0 r.1 here))
+    ∙ ap (λ (l : List (Option ℕ)). Some version ∷ l) (told-still laws allows starts publishers versions told r.1 s.1 r.4 (all_back (IsAnyAnswer allows) r.0 r.1 here))
 
 -- ---- the servers
 
@@ -145,7 +143,7 @@ module _ (laws : Laws) (traffic : TrafficLaws) (valid : VersionsAreValid) (allow
   behind : (first later : List Event) (pool : Pooled) → RunsPool allows options since now (first ++ later) pool → AsksAt starts (first ++ later) → (told : List Page) (reads : ReadsStarts starts told first) → ChoiceBehind joint_sources still-offer q starts first later told reads
   behind first later pool r asks told reads =
       let c = choice-behind laws valid allows options since now lawful limit publishers starts some apart honest q first later pool r asks told reads in
-      let any = front-all (IsAnyAnswer allows) first later (any-of laws valid allows options since now lawful limit publishers starts some apart honest q (first ++ later) pool r) in
+      let any = all_front (IsAnyAnswer allows) first later (any-of laws valid allows options since now lawful limit publishers starts some apart honest q (first ++ later) pool r) in
       let mine = told-still laws allows starts publishers versions told first still reads any in
       let theirs = told-choice laws valid allows options since now lawful limit publishers starts some apart honest q first later pool r asks told reads in
       record {

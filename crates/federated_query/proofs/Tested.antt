@@ -1,22 +1,12 @@
 -- The test of authorities tells whether they are apart.
-use Rattle.std.proofs.Common.{◌≡◌, ◌&&◌, Bool, true, false, not, List, [], ◌∷◌, refl, sym}
+use Rattle.std.proofs.Common.{◌≡◌, Bool, true, false, not, List, [], ◌∷◌, refl, sym}
 use Rattle.std.specs.List.{All, list_any}
-use Rattle.std.proofs.lemmas.Bool.{false_from_ne_true}
+use Rattle.std.proofs.lemmas.Bool.{and_from, and_parts, false_from_ne_true}
 use Rattle.std.proofs.lemmas.Slice.Eq.{bytes_eq-Decides}
 use Rattle.std.proofs.lemmas.List.Elements.{All-contains, All-from_recursion}
 use Rattle.list_laws.proofs.Members.{all_from, any_of, some_of}
 use Rattle.tpf_base.specs.Addresses.{Address, authority_of}
 use Rattle.federated_query.specs.Servers.{AreApart, has_authority, none_shared}
-
-both-parts : (a b : Bool) → (a && b) ≡ true → (a ≡ true) × (b ≡ true)
-both-parts true true e = (refl, refl)
-both-parts true false e = cc
-both-parts false b e = cc
-
-both-true : (a b : Bool) → a ≡ true → b ≡ true → (a && b) ≡ true
-both-true true true e f = refl
-both-true true false e f = f
-both-true false b e f = e
 
 not-true : (b : Bool) → not b ≡ true → b ≡ true → ⊥
 not-true true e f = cc
@@ -32,7 +22,7 @@ same-text start other e = (bytes_eq-Decides (authority_of other) (authority_of s
 pub apart-so : (starts : List Address) → none_shared starts ≡ true → AreApart starts
 apart-so [] e = tt
 apart-so (start ∷ starts) e =
-    let parts = both-parts (not (list_any (has_authority start) starts)) (none_shared starts) e in (
+    let parts = and_parts (not (list_any (has_authority start) starts)) (none_shared starts) e in (
       All-from_recursion (λ other. authority_of start ≡ authority_of other → ⊥) starts
           (all_from (λ other. authority_of start ≡ authority_of other → ⊥) starts (λ other m same. not-true (list_any (has_authority start) starts) parts.0 (any_of (has_authority start) starts other m (same-text start other same)))),
       apart-so starts parts.1,
@@ -46,6 +36,6 @@ none-of start starts apart e =
 pub none-so : (starts : List Address) → AreApart starts → none_shared starts ≡ true
 none-so [] a = refl
 none-so (start ∷ starts) a =
-    both-true (not (list_any (has_authority start) starts)) (none_shared starts)
+    and_from (not (list_any (has_authority start) starts)) (none_shared starts)
     (not-false (list_any (has_authority start) starts) (false_from_ne_true (list_any (has_authority start) starts) (none-of start starts a.0)))
     (none-so starts a.1)

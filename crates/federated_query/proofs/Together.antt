@@ -1,10 +1,11 @@
 -- What honest servers have together, over the versions that their start pages told.
-use Rattle.std.proofs.Common.{ℕ, suc, ◌≡◌, ◌<◌, ◌≤◌, ◌++◌, ◌&&◌, Bool, true, false, if◌then◌else◌, List, [], ◌∷◌, map, length, Option, Some, refl, sym, ap, subst, ◌∙◌, ⊎_elim, arith}
+use Rattle.std.proofs.Common.{ℕ, suc, ◌≡◌, ◌≤◌, ◌++◌, ◌&&◌, Bool, true, false, if◌then◌else◌, List, [], ◌∷◌, map, length, Option, Some, refl, sym, ap, subst, ◌∙◌, ⊎_elim, arith}
 use Rattle.std.specs.Str.{bytes_eq}
 use Rattle.std.specs.List.{All, AllByRecursion, AllZip, Contains, flat_map}
-use Rattle.std.proofs.lemmas.Bool.{le-leb}
+use Rattle.std.proofs.lemmas.Bool.{and_from, le-leb}
 use Rattle.std.proofs.lemmas.Slice.Eq.{bytes_eq-Decides}
 use Rattle.std.proofs.lemmas.List.Elements.{All-nil, All-cons, All-head, All-tail}
+use Rattle.list_laws.proofs.Each.{all_front, all_back}
 use Rattle.list_laws.proofs.Members.{head_or_tail, none_in}
 use Rattle.rdf_terms.specs.declared.term.Triple.{Triple}
 use Rattle.rdf_terms.specs.Selections.{Selection}
@@ -28,31 +29,19 @@ use Rattle.join_core.specs.Worlds.{World, IsWorld, IsOneServer, IsPageAt}
 use Rattle.plan_laws.specs.JointWorlds.{addresses_at}
 use Rattle.plan_laws.specs.Servers.{asked_at, server_world}
 use Rattle.joint_pages.specs.Truths.{IsPageOfAll}
-use Rattle.tpf_client.specs.Traffic.{Event, Came, EndsWith}
+use Rattle.tpf_client.specs.Traffic.{Event, Came}
 use Rattle.tpf_client.specs.Told.{told_at}
 use Rattle.tpf_client.specs.Starts.{start_ask, ReadsStart, ReadsStarts, forms_of, versions_of}
 use Rattle.tpf_client.specs.Offers.{Publisher, IsVersionOf, AreVersions, is_served, are_served, worlds_of}
 use Rattle.tpf_client.specs.Ends.{AnswersAs}
 use Rattle.tpf_client.specs.Honest.{Laws}
+use Rattle.tpf_client.proofs.Came.{at-last}
 use Rattle.tpf_client.proofs.Honesty.{IsAnswerOfAny, IsAnyAnswer}
 use Rattle.tpf_client.proofs.Told.{first-so, other-so}
 use Rattle.tpf_client.proofs.Truth.{reads, true-page, start-served}
 use Rattle.federated_query.specs.Servers.{AreApart}
 use Rattle.federated_query.proofs.Standing.{same-authority, at-share}
 use Rattle.federated_query.proofs.Numbers.{is-here, not-here, is-behind, apart-from}
-
-pub front-all : {X : Type 0} (P : X → Type 0) (xs ys : List X) → AllByRecursion P (xs ++ ys) → AllByRecursion P xs
-front-all P [] ys h = tt
-front-all P (x ∷ xs) ys h = (h.0, front-all P xs ys h.1)
-
-pub behind-all : {X : Type 0} (P : X → Type 0) (xs ys : List X) → AllByRecursion P (xs ++ ys) → AllByRecursion P ys
-behind-all P [] ys h = h
-behind-all P (x ∷ xs) ys h = behind-all P xs ys h.1
-
-both-true : (a b : Bool) → a ≡ true → b ≡ true → (a && b) ≡ true
-both-true true true e f = refl
-both-true true false e f = f
-both-true false b e f = e
 
 is-served : (p : Publisher) (start : Address) (version : ℕ) → (is_answered p.history (Served version) p.config start && bytes_eq (authority_of start) (authority_of p.config.base)) ≡ true → is_served p start version ≡ true
 unfolding is_served
@@ -90,9 +79,6 @@ skip-so : (start home : Address) (starts : List Address) (version : Option ℕ) 
 skip-so start home [] version versions address m e = absurd (none_in home m)
 skip-so start home (next ∷ starts) version versions address m e = other-so start next starts version versions address e
 
-pub some-page : (n : ℕ) → 0 < n → 1 ≤ n
-some-page n h = omega (arith, h)
-
 -- one row at a time
 one-row : IsBlockSize 1
 one-row = (omega arith, omega arith)
@@ -100,9 +86,6 @@ one-row = (omega arith, omega arith)
 -- ---- the servers, start by start
 
 module _ (laws : Laws) (allows : List ℕ → ℕ → List ℕ → List ℕ → Type 0) (wire : WireState) where
-  all-last : (event : Event) (events : List Event) → EndsWith event events → AllByRecursion (IsAnyAnswer allows) events → IsAnyAnswer allows event
-  all-last event events e h = (behind-all (IsAnyAnswer allows) e.before (event ∷ []) (subst (λ (l : List Event). AllByRecursion (IsAnyAnswer allows) l) e.is_last h)).0
-
   -- the version of the server that the start page is of, which is served there
   record ServesStart (p : Publisher) (start : Address) (page : Page) : Type 0 where
     version : ℕ
@@ -114,7 +97,7 @@ module _ (laws : Laws) (allows : List ℕ → ℕ → List ℕ → List ℕ → 
 
   serves-start : (p : Publisher) (start : Address) (page : Page) (events : List Event) → AnswersAs allows wire start p → ReadsStart start page events → AllByRecursion (IsAnyAnswer allows) events → ServesStart p start page
   serves-start p start page events a s all =
-      let came : IsAnswerOfAny allows (start_ask start) s.reply = all-last (Came (start_ask start) s.reply) events s.last all in
+      let came : IsAnswerOfAny allows (start_ask start) s.reply = at-last (IsAnyAnswer allows) (Came (start_ask start) s.reply) events s.last all in
       let b : IsBodyOf p.history p.config start s.reply.body = came.body p.history p.config a.is_honest in
       let r = reads laws.given laws.answered laws.only laws.worlds laws.forms laws.pages laws.kept laws.addresses p.history p.config a.is_history a.is_config start s.reply.body page b s.taken in
       let v = version_at b.mark in
@@ -126,7 +109,7 @@ module _ (laws : Laws) (allows : List ℕ → ℕ → List ℕ → List ℕ → 
         is_version = r.is_version;
         told = r.told;
         form = r.form;
-        served = is-served p start v (both-true (is_answered p.history (Served v) p.config start) (bytes_eq (authority_of start) (authority_of p.config.base)) k.is_given
+        served = is-served p start v (and_from (is_answered p.history (Served v) p.config start) (bytes_eq (authority_of start) (authority_of p.config.base)) k.is_given
             ((bytes_eq-Decides (authority_of start) (authority_of p.config.base)).1 (same-authority start p.config.base own)));
         base = own;
       }
@@ -175,7 +158,7 @@ module _ (laws : Laws) (allows : List ℕ → ℕ → List ℕ → List ℕ → 
     first-pages asked ask =
         let form = laws.forms 1 (version_of p.history s.version) p.config page.form a.is_config s.form in
         let first = form.forms.first asked ask in
-        let has : 1 ≤ own-world.last asked = some-page (own-world.last asked) (is-world.some asked) in
+        let has : 1 ≤ own-world.last asked = (let some = is-world.some asked in omega (arith, some)) in
         subst (λ (b : Bool). AreFirst (page.form ∷ forms_of told) asked ((if b then address_of_page p.config.base asked 1 ∷ [] else []) ++ flat_map (addresses_at asked 1) worlds-behind)) (sym (le-leb 1 (own-world.last asked) has))
         (first.addresses.0, r.forms asked ask)
 
@@ -221,7 +204,7 @@ module _ (laws : Laws) (allows : List ℕ → ℕ → List ℕ → List ℕ → 
       versions = s.version ∷ r.versions;
       are_versions = (s.is_version, r.are_versions);
       told_are = ap (λ (o : Option ℕ). o ∷ versions_of told) s.told ∙ ap (λ (l : List (Option ℕ)). Some s.version ∷ l) r.told_are;
-      served = both-true (is_served p start s.version) (are_served publishers starts r.versions) s.served r.served;
+      served = and_from (is_served p start s.version) (are_served publishers starts r.versions) s.served r.served;
       as_many = ap (λ (n : ℕ). suc n) r.as_many;
       many_worlds = ap (λ (n : ℕ). suc n) r.many_worlds;
       worlds = All-cons IsWorld own-world worlds-behind is-world r.worlds;
@@ -239,4 +222,4 @@ module _ (laws : Laws) (allows : List ℕ → ℕ → List ℕ → List ℕ → 
   together (p ∷ publishers) (start ∷ starts) [] events a r all = absurd r
   together (p ∷ publishers) (start ∷ starts) (page ∷ told) events a r all =
       let here = subst (λ (l : List Event). AllByRecursion (IsAnyAnswer allows) l) r.2 all in
-      one-more p start page publishers starts told a.0 (serves-start p start page r.0 a.0 r.3 (front-all (IsAnyAnswer allows) r.0 r.1 here)) (together publishers starts told r.1 a.1 r.4 (behind-all (IsAnyAnswer allows) r.0 r.1 here))
+      one-more p start page publishers starts told a.0 (serves-start p start page r.0 a.0 r.3 (all_front (IsAnyAnswer allows) r.0 r.1 here)) (together publishers starts told r.1 a.1 r.4 (all_back (IsAnyAnswer allows) r.0 r.1 here))

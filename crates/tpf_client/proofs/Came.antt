@@ -1,9 +1,10 @@
--- What holds of the asks that were put holds of those whose replies came.
-use Rattle.std.proofs.Common.{ℕ, List, [], ◌∷◌}
+-- What holds of the asks that were put holds of those whose replies came, and what holds of all events of the last.
+use Rattle.std.proofs.Common.{ℕ, List, [], ◌∷◌, subst}
 use Rattle.std.specs.List.{AllByRecursion}
+use Rattle.list_laws.proofs.Each.{all_last}
 use Rattle.tpf_base.specs.Links.{WireState}
 use Rattle.request_pool.specs.Pools.{Pooled, Ask, held}
-use Rattle.tpf_client.specs.Traffic.{Event, Asked, Came, Waited, Broke, Moves, Travels, Comes}
+use Rattle.tpf_client.specs.Traffic.{Event, Asked, Came, Waited, Broke, Moves, Travels, Comes, EndsWith}
 use Rattle.tpf_client.specs.Turns.{asked_in}
 use Rattle.tpf_client.proofs.Keeping.{Between, all-permuted, between-after}
 use Rattle.tpf_client.proofs.Traveling.{one-event}
@@ -26,3 +27,7 @@ module _ (allows : List ℕ → ℕ → List ℕ → List ℕ → Type 0) (base 
       ((all-permuted P (held p) (ask ∷ held t.0.pool) h.others (b.are h.had_none)).0, came-from events t.0.pool q t.0.wire w (after (Came ask reply) p t.0.pool v t.0.wire tt b t.1) a t.2)
   came-from (Waited ∷ events) p q v w b a t = (tt, came-from events t.0.pool q t.0.wire w (after Waited p t.0.pool v t.0.wire tt b t.1) a t.2)
   came-from (Broke fault ∷ events) p q v w b a t = (tt, came-from events t.0.pool q t.0.wire w (after (Broke fault) p t.0.pool v t.0.wire tt b t.1) a t.2)
+
+-- what holds of all events holds of the last
+pub at-last : (P : Event → Type 0) (event : Event) (events : List Event) → EndsWith event events → AllByRecursion P events → P event
+at-last P event events e h = all_last P e.before event (subst (λ (l : List Event). AllByRecursion P l) e.is_last h)

@@ -36,9 +36,6 @@ use Rattle.tpf_client.proofs.Received.{replied-closed}
 use Rattle.tpf_client.proofs.Endings.{travels-onward, Ending, ending, lost-in, same-bounds}
 use Rattle.tpf_client.proofs.Going.{explains-later}
 
-rose-up : (x y n m : ℕ) → Rose y n → x ≤ y → n ≤ m → Rose x m
-rose-up x y n m r h i = omega (arith, r, h, i)
-
 still-below : (k n m : ℕ) → k < n → m ≡ n → k < m
 still-below k n m l e = omega (arith, l, e)
 
@@ -74,7 +71,8 @@ module _ (laws : Laws) (traffic : TrafficLaws) (allows : List ℕ → ℕ → Li
       let c : Rose x.between.faults r.between.faults = traffic.causes pool.Exchange x.mid (without_fault p) x.between r.between x.given x.suits x.knows.answers h.steps in
       let o = travels-onward allows x.before (begun options) x.mid since x.between x.first in
       let same = r.closes.faults in
-      rose-up since.faults x.between.faults r.between.faults now.faults c o.faults (omega (arith, same))
+      let early = o.faults in
+      omega (arith, c, early, same)
 
   idle-of : (events : List Event) (p : Pooled) → EndsWith (Broke pool.Stalled) events → RunsPool allows options since now events p → AsksAt starts events → (1000 ≤ now.idle) × (since.nature.lively ≡ true → ⊥)
   idle-of events p e r a =

@@ -1,6 +1,8 @@
 -- Where a plan fits and the faults of the wire are few, nothing is left over an honest and lively wire but want of memory and versions that differ.
 use Rattle.std.proofs.Common.{ℕ, ◌≡◌, ◌≤◌, ◌<◌, ◌+◌, ◌-◌, ◌^◌, List, length, refl, sym, ap, ◌∙◌, arith}
 use Rattle.std.specs.Prelude.{Result, Ok, Err, IfErr, IsErrOf}
+use Rattle.list_laws.proofs.Each.{all_so}
+use Rattle.list_laws.proofs.Told.{all_in}
 use Rattle.tpf_base.specs.Addresses.{Address}
 use Rattle.tpf_base.specs.Causes.{RoseBy}
 use Rattle.tpf_base.specs.Links.{WireState}
@@ -13,8 +15,6 @@ use Rattle.tpf_client.specs.declared.fault.ClientFault.{ClientFault}
 use Rattle.tpf_client.specs.declared.fault.ClientFault.TheVariants as faults
 use Rattle.tpf_client.specs.Offers.{Publisher, Offer}
 use Rattle.tpf_client.specs.Plans.{AtEach, IsAnswerable, IsReadByAll, IsSmallByAll, IsFit, answer_at, RefusesLong, MissesPage, OverrunsPlan, IsHonestCause, IsLivelyCause, PlanFits, RisesFew, MayStill}
-use Rattle.tpf_client.proofs.Homes.{all-so}
-use Rattle.tpf_client.proofs.Planned.{at-member}
 
 -- so many rises are not among so few
 pub not-so-many : (retries before now rise : ℕ) → now ≡ before + rise → now < 2 ^ 64 - 1 → rise ≤ retries → RoseBy (retries + 1) before now → ⊥
@@ -39,12 +39,12 @@ module _ (offer : Offer) (options : Options) (since now : WireState) (rise : ℕ
   not-refused fault received h =
       let addresses = offer.addresses h.choice in
       let all = fits.fit h.choice h.is_choice in
-      let long = h.long (all-so (AtEach offer (IsFit options.max_body)) (AtEach offer IsAnswerable) (λ address f. λ server stands. (f server stands).is_answered) addresses all) in
-      let f = at-member (AtEach offer (IsFit options.max_body)) addresses long.address all long.is_asked in
+      let long = h.long (all_so (AtEach offer (IsFit options.max_body)) (AtEach offer IsAnswerable) (λ address f. λ server stands. (f server stands).is_answered) addresses all) in
+      let f = all_in (AtEach offer (IsFit options.max_body)) addresses long.address all long.is_asked in
       not-long long.server long.address received long.long (f long.server long.stands).is_small
 
   not-missed : MissesPage offer → ⊥
-  not-missed h = h.unread (all-so (AtEach offer (IsFit options.max_body)) (AtEach offer IsReadByAll) (λ address f. λ server stands. (f server stands).is_read) (offer.addresses h.choice) (fits.fit h.choice h.is_choice))
+  not-missed h = h.unread (all_so (AtEach offer (IsFit options.max_body)) (AtEach offer IsReadByAll) (λ address f. λ server stands. (f server stands).is_read) (offer.addresses h.choice) (fits.fit h.choice h.is_choice))
 
   not-spent : OverrunsPlan offer options since now → ⊥
   not-spent h = not-over since.faults now.faults rise h.rises (length (offer.addresses h.choice)) options.budget few.is_rise few.counted h.rose (fits.within h.choice h.is_choice) h.over

@@ -54,7 +54,7 @@ others-differ a asks d =
 pub rest-distinct : (a : Ask) (asks : List Ask) → AreDistinct (a ∷ asks) → AreDistinct asks
 rest-distinct a asks d = record { once = λ t. let c = sum_by-cons (is_under t) a asks in let l = d.once t in omega arith }
 
-apart-from : (t : ℕ) (asks : List Ask) (b : Ask) → AllByRecursion (λ c. c.ticket ≢ t) asks → Contains asks b → b.ticket ≢ t
+pub apart-from : (t : ℕ) (asks : List Ask) (b : Ask) → AllByRecursion (λ c. c.ticket ≢ t) asks → Contains asks b → b.ticket ≢ t
 apart-from t [] b h c = absurd (none_in b c)
 apart-from t (x ∷ asks) b h c = ⊎_elim (λ (e : x ≡ b). subst (λ (y : Ask). y.ticket ≢ t) e h.0) (λ (m : Contains asks b). apart-from t asks b h.1 m) (head_or_tail x b asks c)
 

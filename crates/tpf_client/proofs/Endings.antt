@@ -18,7 +18,7 @@ use Rattle.tpf_client.specs.Requests.{TrafficLaws}
 use Rattle.tpf_client.proofs.Homes.{asks-front}
 use Rattle.tpf_client.proofs.Keeping.{between-after}
 use Rattle.tpf_client.proofs.Known.{Knows, begun, begun-between, knows-so}
-use Rattle.tpf_client.proofs.Received.{SameTold, closes-told, lost-asked}
+use Rattle.tpf_client.proofs.Received.{IsToldAlike, closes-told, lost-asked}
 use Rattle.tpf_client.proofs.Onward.{Onward, onward_same, onward_then, onward_step}
 
 -- events, and the last of them
@@ -66,7 +66,7 @@ module _ (laws : Laws) (traffic : TrafficLaws) (allows : List ℕ → ℕ → Li
     pub suits : SuitsWire mid between
     pub knows : Knows starts since (options.retries + 1) (length (asked_in before)) mid between
     pub limit : mid.limit ≡ options.max_body
-    pub told : (k : ℕ) → SameTold (r.between.links k) (now.links k)
+    pub told : (k : ℕ) → IsToldAlike (r.between.links k) (now.links k)
 
   pub ending : (events : List Event) (event : Event) (p : Pooled) → EndsWith event events → (r : RunsPool allows options since now events p) → AsksAt starts events → Ending events event p r
   ending events event p e r a =

@@ -1,6 +1,6 @@
 -- What stands at each exit of a call: its links, what was sent on them, and how many requests it made.
 use Rattle.std.proofs.Common.{ℕ, ◌≡◌, ◌≤◌, ◌<◌, ◌+◌, ◌*◌, ◌^◌, List, map, length, Option, refl, sym, subst, ◌∙◌, arith}
-use Rattle.std.proofs.Math.Nat.{mul-le-mul_left}
+use Rattle.std.proofs.Math.Nat.{le_trans, mul-le-mul_left}
 use Rattle.std.specs.Prelude.{Result, Ok, Err, IfOk, IfErr}
 use Rattle.tpf_base.specs.Addresses.{Address}
 use Rattle.tpf_base.specs.Causes.{RoseBy}
@@ -46,9 +46,6 @@ pub record RowsExit (options : Options) (report : Report) (events : List Event) 
   pub dials : DialsAtMost report.requests since now
   pub given : GivesAtMost report.requests since now
   pub answers : AnswersAll options report.requests events pool
-
-at-most : (a b c : ℕ) → a ≤ b → b ≤ c → a ≤ c
-at-most a b c l m = omega (arith, l, m)
 
 more-than : (a b c d : ℕ) → a ≤ b + c → c ≤ d → a ≤ b + d
 more-than a b c d l m = omega (arith, l, m)
@@ -111,7 +108,7 @@ module _ (laws : Laws) (traffic : TrafficLaws) (allows : List ℕ → ℕ → Li
 
   module _ (sources : Sources) (offer : Offer) (q : QueryData) (covered : Covered sources offer allows options since now starts q) where
     few-tries : (asked started most : ℕ) → started ≤ (options.retries + 1) * asked → asked ≤ most → started ≤ (options.retries + 1) * most
-    few-tries asked started most a b = at-most started ((options.retries + 1) * asked) ((options.retries + 1) * most) a (mul-le-mul_left (options.retries + 1) b)
+    few-tries asked started most a b = le_trans a (mul-le-mul_left (options.retries + 1) b)
 
     -- the requests of a run are tries of the addresses of its choice
     started-tries : (x : PlannedRun allows offer options since now starts) → x.run.pool.started ≤ tries_of options (offer.addresses x.choice)

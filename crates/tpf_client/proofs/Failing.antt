@@ -25,7 +25,7 @@ use Rattle.tpf_client.specs.Honest.{Laws}
 use Rattle.tpf_client.specs.Requests.{TrafficLaws}
 use Rattle.tpf_client.specs.Failing.{IsFailedOften}
 use Rattle.tpf_client.proofs.Caused.{some-caused}
-use Rattle.tpf_client.proofs.Received.{SameTold}
+use Rattle.tpf_client.proofs.Received.{IsToldAlike}
 use Rattle.tpf_client.proofs.Homes.{asks-front}
 use Rattle.tpf_client.proofs.Keeping.{IsKeptBy, Taken, taken, between-after, by-events}
 use Rattle.tpf_client.proofs.Known.{Knows, begun, begun-knows, begun-between, knows-put, knows-step, knows-fault}
@@ -86,7 +86,7 @@ module _ (laws : Laws) (traffic : TrafficLaws) (allows : List ℕ → ℕ → Li
     failing-so events p v a t = by-events allows (begun options) IsAt Failing failing-kept events (begun options) p since v (begun-between laws traffic starts options allows since lawful IsAt) a begun-failing t
 
     module _ (now : WireState) where
-      all-ended : (v : WireState) → now.given ≡ v.given → ((k : ℕ) → SameTold (v.links k) (now.links k)) → ended_links since now ≡ ended_links since v
+      all-ended : (v : WireState) → now.given ≡ v.given → ((k : ℕ) → IsToldAlike (v.links k) (now.links k)) → ended_links since now ≡ ended_links since v
       all-ended v given told =
           ap (λ (n : ℕ). over_links (λ k. times_ended (now.links k)) since.given (n - since.given)) given
           ∙ over-same (λ k. times_ended (now.links k)) (λ k. times_ended (v.links k)) (λ k. ap (λ (o : Option Bool). if is_ended o then 1 else 0) (told k).ended) since.given (v.given - since.given)

@@ -1,5 +1,6 @@
 -- How many asks wait for their replies at once.
 use Rattle.std.proofs.Common.{ℕ, suc, ◌≡◌, ◌+◌, ◌-◌, ◌≤◌, ◌++◌, List, [], ◌∷◌, map, length, None, refl, sym, ap, subst, arith}
+use Rattle.std.proofs.Math.Nat.{le_trans}
 use Rattle.std.specs.List.Sorted.{IsPermutation}
 use Rattle.std.proofs.lemmas.List.Sorted.{length_permutation}
 use Rattle.tpf_base.specs.Links.{WireState}
@@ -38,23 +39,17 @@ puts-count (ask ∷ asks) p q h = more-asked (length (held p)) (length (held h.0
 
 -- ---- events
 
-at-most : (a b c : ℕ) → a ≤ b → b ≤ c → a ≤ c
-at-most a b c l m = omega (arith, l, m)
-
 -- the same where more may wait
 pub few-more : (n m waiting : ℕ) (events : List Event) → n ≤ m → WaitFew n waiting events → WaitFew m waiting events
-few-more n m waiting [] l h = at-most waiting n m h l
-few-more n m waiting (Asked ask ∷ events) l h = (at-most waiting n m h.0 l, few-more n m (waiting + 1) events l h.1)
-few-more n m waiting (Came ask reply ∷ events) l h = (at-most waiting n m h.0 l, few-more n m (waiting - 1) events l h.1)
+few-more n m waiting [] l h = le_trans h l
+few-more n m waiting (Asked ask ∷ events) l h = (le_trans h.0 l, few-more n m (waiting + 1) events l h.1)
+few-more n m waiting (Came ask reply ∷ events) l h = (le_trans h.0 l, few-more n m (waiting - 1) events l h.1)
 few-more n m waiting (Waited ∷ events) l h = few-more n m waiting events l h
 few-more n m waiting (Broke fault ∷ events) l h = few-more n m waiting events l h
 
-no-less : (a b c : ℕ) → a + b ≤ c → a ≤ c
-no-less a b c h = omega (arith, h)
-
 -- where no more are asked than may wait still
 pub few-asked : (most waiting : ℕ) (events : List Event) → waiting + length (asked_in events) ≤ most → WaitFew most waiting events
-few-asked most waiting [] h = no-less waiting (length {A = Ask} []) most h
+few-asked most waiting [] h = let l : waiting + length {A = Ask} [] ≤ most = h in let few : waiting ≤ most = omega (arith, l) in few
 few-asked most waiting (Asked ask ∷ events) h =
     let s : length (ask ∷ asked_in events) ≡ suc (length (asked_in events)) = refl in
     let l : waiting + length (ask ∷ asked_in events) ≤ most = h in

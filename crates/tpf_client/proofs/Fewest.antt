@@ -14,14 +14,12 @@ use Rattle.pool_laws.specs.Counting.{tries, tries_waiting, tries_flying, FewFail
 use Rattle.tpf_client.specs.Traffic.{Event, Asked, Came, Waited, Broke, Travels, Puts, Comes, StepWaits, StepBreaks}
 use Rattle.tpf_client.specs.Turns.{asked_in}
 use Rattle.tpf_client.proofs.Distinct.{put-held}
+use Rattle.tpf_client.proofs.Keeping.{not-some}
 
 -- ---- a fault stays
 
 same-some : (a b : Option PoolFault) (fault : PoolFault) → b ≡ a → a ≡ Some fault → b ≡ Some fault
 same-some a b fault e f = e ∙ f
-
-not-some : (o : Option PoolFault) (fault : PoolFault) → o ≡ Some fault → o ≡ None → ⊥
-not-some o fault e n = let q : Some fault ≡ None = sym e ∙ n in cc
 
 pub fault-stays : (allows : List ℕ → ℕ → List ℕ → List ℕ → Type 0) (fault : PoolFault) (events : List Event) (p q : Pooled) (v w : WireState) → p.fault ≡ Some fault → Travels allows events p q v w → q.fault ≡ Some fault
 fault-stays allows fault [] p q v w f t = same-some p.fault q.fault fault (ap (λ (x : Pooled). x.fault) t.0) f

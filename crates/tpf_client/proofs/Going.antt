@@ -1,11 +1,10 @@
 -- Turns, one after another.
-use Rattle.std.proofs.Common.{ℕ, ◌≡◌, ◌≤◌, ◌++◌, List, [], ◌∷◌, map, length, refl, sym, ap, subst, ◌∙◌, append_assoc, ⊎_elim, arith}
+use Rattle.std.proofs.Common.{ℕ, ◌≡◌, ◌++◌, List, [], ◌∷◌, map, length, refl, sym, ap, subst, ◌∙◌, append_assoc, ⊎_elim}
 use Rattle.std.specs.Prelude.{◌⊎◌, Result, Ok, Err, OnOk, IfErr, IsErrOf}
 use Rattle.std.specs.List.{Contains}
 use Rattle.std.proofs.lemmas.List.Elements.{All-nil, All-append}
 use Rattle.std.proofs.lemmas.List.Sorted.{IsPermutation-trans, IsPermutation-append_right}
 use Rattle.tpf_base.specs.Addresses.{Address}
-use Rattle.tpf_base.specs.Causes.{Rose}
 use Rattle.tpf_base.specs.Links.{WireState, SameAllowed}
 use Rattle.bgp_core.specs.Solutions.{Places}
 use Rattle.fragment_page.specs.declared.page.Page.{Page}
@@ -105,9 +104,6 @@ explains-as f g budget faults.OutOfMemory events same e = tt
 pub sink-local : (fault : Fault) → IsLocal (sink_fault fault)
 sink-local failures.Failed = tt
 sink-local failures.OutOfMemory = tt
-
-pub rose-then : (a b c : ℕ) → a ≤ b → Rose b c → Rose a c
-rose-then a b c l r = omega (arith, l, r)
 
 err-is : (S : Type 0) (x y : ClientFault) → IsErrOf {T = S} (Err x) y → x ≡ y
 err-is S x y s = let t : ◌≡◌ {A = Result S ClientFault} (Err x) (Err y) = s in cc

@@ -1,8 +1,10 @@
 -- Over an honest wire to one server the pages that came are those of the version of the start page, which is served.
-use Rattle.std.proofs.Common.{ℕ, ◌≡◌, ◌<◌, ◌^◌, ◌++◌, ◌&&◌, Bool, true, false, List, [], ◌∷◌, Some, refl, sym, ap, subst, ◌∙◌, arith}
+use Rattle.std.proofs.Common.{ℕ, ◌≡◌, ◌<◌, ◌^◌, ◌++◌, ◌&&◌, Bool, true, List, [], ◌∷◌, Some, refl, sym, ap, ◌∙◌, arith}
+use Rattle.std.proofs.lemmas.Bool.{and_from}
 use Rattle.std.specs.Str.{bytes_eq}
 use Rattle.std.proofs.lemmas.Slice.Eq.{bytes_eq-Decides}
 use Rattle.std.specs.List.{AllByRecursion}
+use Rattle.list_laws.proofs.Each.{all_front, all_back}
 use Rattle.rdf_terms.specs.declared.term.Triple.{Triple}
 use Rattle.tpf_base.specs.Addresses.{Address, authority_text, authority_of}
 use Rattle.tpf_base.specs.Marks.{Served}
@@ -17,7 +19,7 @@ use Rattle.join_core.specs.Blocks.{IsBlockSize}
 use Rattle.join_core.specs.Evaluations.{HasHome}
 use Rattle.plan_laws.specs.Servers.{server_world}
 use Rattle.tpf_client.specs.declared.options.Options.{Options}
-use Rattle.tpf_client.specs.Traffic.{Event, Came, EndsWith, IsLawful}
+use Rattle.tpf_client.specs.Traffic.{Event, Came, IsLawful}
 use Rattle.fragment_page.specs.declared.page.Page.{Page}
 use Rattle.tpf_client.specs.Starts.{start_ask, ReadsStart}
 use Rattle.tpf_client.specs.Sources.{IsSourceOf, world_sources}
@@ -26,28 +28,11 @@ use Rattle.tpf_client.specs.Offers.{IsVersionOf}
 use Rattle.tpf_client.specs.Honest.{Laws}
 use Rattle.tpf_client.specs.Turns.{AsksAt}
 use Rattle.tpf_client.proofs.Answered.{replies-answer}
-use Rattle.tpf_client.proofs.Came.{CameFrom, came-from}
+use Rattle.tpf_client.proofs.Came.{CameFrom, came-from, at-last}
 use Rattle.tpf_client.proofs.Distinct.{none-distinct}
 use Rattle.tpf_client.proofs.Known.{begun}
 use Rattle.tpf_client.proofs.Honesty.{Keeps, IsAnswer, ServesAt, any-answers, all-answers}
 use Rattle.tpf_client.proofs.Truth.{IsServedStart, start-served, start-world}
-
-both-true : (a b : Bool) → a ≡ true → b ≡ true → (a && b) ≡ true
-both-true true true e f = refl
-both-true true false e f = f
-both-true false b e f = e
-
-module _ (history : List (List Triple)) (config : Config) (served : ℕ → Bool) where
-  answers-behind : (first later : List Event) → AllByRecursion (IsAnswer history config served) (first ++ later) → AllByRecursion (IsAnswer history config served) later
-  answers-behind [] later h = h
-  answers-behind (event ∷ first) later h = answers-behind first later h.1
-
-  answers-front : (first later : List Event) → AllByRecursion (IsAnswer history config served) (first ++ later) → AllByRecursion (IsAnswer history config served) first
-  answers-front [] later h = tt
-  answers-front (event ∷ first) later h = (h.0, answers-front first later h.1)
-
-  pub answer-last : (event : Event) (events : List Event) → EndsWith event events → AllByRecursion (IsAnswer history config served) events → IsAnswer history config served event
-  answer-last event events e h = (answers-behind e.before (event ∷ []) (subst (λ (l : List Event). AllByRecursion (IsAnswer history config served) l) e.is_last h)).0
 
 module _ (laws : Laws) (allows : List ℕ → ℕ → List ℕ → List ℕ → Type 0) (history : List (List Triple)) (config : Config) (served : ℕ → Bool) (options : Options) (since now : WireState) (start : Address) (honest : ServesAt allows start history config served since) (lawful : IsLawful allows since) (limit : options.max_body < 2 ^ 64) (block : ℕ) (sized : IsBlockSize block) where
   begins-so : Keeps allows laws.puts laws.steps laws.faults (empty_pool options.links options.retries options.budget options.max_body) since
@@ -79,7 +64,7 @@ module _ (laws : Laws) (allows : List ℕ → ℕ → List ℕ → List ℕ → 
   served-of : (first later : List Event) (pool : Pooled) (version : ℕ) → RunsPool allows options since now (first ++ later) pool → AsksAt (start ∷ []) (first ++ later) → (page : Page) (reads : ReadsStart start page first) → page.version ≡ Some version → StartIsServed first page reads version
   served-of first later pool version r asks page reads told =
       let all = all-of (first ++ later) pool r asks in
-      let b : IsBodyOver history config served start reads.reply.body = answer-last history config served (Came (start_ask start) reads.reply) first reads.last (answers-front history config served first later all) in
+      let b : IsBodyOver history config served start reads.reply.body = at-last (IsAnswer history config served) (Came (start_ask start) reads.reply) first reads.last (all_front (IsAnswer history config served) first later all) in
       start-served laws.given laws.answered laws.only laws.worlds laws.forms laws.pages laws.kept laws.addresses history config honest.is_history honest.is_config start reads.reply.body page version b.is_body reads.taken told
 
   same-port : (m n : ℕ) (h g : List ℕ) → h ≡ g → m ≡ n → authority_text h m ≡ authority_text g n
@@ -94,12 +79,12 @@ module _ (laws : Laws) (allows : List ℕ → ℕ → List ℕ → List ℕ → 
       let host : start.host ≡ config.base.host = sym reads.home.host ∙ ap (λ (a : Address). a.host) base in
       let port : start.port ≡ config.base.port = sym reads.home.port ∙ ap (λ (a : Address). a.port) base in
       let same : bytes_eq (authority_of start) (authority_of config.base) ≡ true = (bytes_eq-Decides (authority_of start) (authority_of config.base)).1 (same-port start.port config.base.port start.host config.base.host host port) in
-      both-true (is_answered history (Served version) config start) (bytes_eq (authority_of start) (authority_of config.base)) s.is_given same
+      and_from (is_answered history (Served version) config start) (bytes_eq (authority_of start) (authority_of config.base)) s.is_given same
 
   -- the world of the start page
   pub world-of : (first later : List Event) (pool : Pooled) → RunsPool allows options since now (first ++ later) pool → AsksAt (start ∷ []) (first ++ later) → (page : Page) (reads : ReadsStart start page first)
       → (version : ℕ) × IsVersionOf history version × (served version ≡ true) × (page.version ≡ Some version) × IsSourceOf (world_sources block) (server_world block (version_of history version) config) (page.form ∷ []) (λ address. page.version) later
   world-of first later pool r asks page reads =
       let all = all-of (first ++ later) pool r asks in
-      let b : IsBodyOver history config served start reads.reply.body = answer-last history config served (Came (start_ask start) reads.reply) first reads.last (answers-front history config served first later all) in
-      start-world laws.given laws.answered laws.only laws.worlds laws.forms laws.pages laws.kept laws.addresses history config honest.is_history honest.is_config block sized served start reads.reply.body page later honest.few b reads.taken (answers-behind history config served first later all)
+      let b : IsBodyOver history config served start reads.reply.body = at-last (IsAnswer history config served) (Came (start_ask start) reads.reply) first reads.last (all_front (IsAnswer history config served) first later all) in
+      start-world laws.given laws.answered laws.only laws.worlds laws.forms laws.pages laws.kept laws.addresses history config honest.is_history honest.is_config block sized served start reads.reply.body page later honest.few b reads.taken (all_back (IsAnswer history config served) first later all)

@@ -3,6 +3,7 @@ use Rattle.std.proofs.Common.{◌≡◌, List, [], ◌∷◌, ◌++◌, map, ref
 use Rattle.std.specs.List.{All, AllByRecursion, Contains}
 use Rattle.std.proofs.lemmas.List.Elements.{All-nil, All-cons, All-head, All-tail, Contains-append_left}
 use Rattle.std.proofs.lemmas.List.Sorted.{All-permutation}
+use Rattle.list_laws.proofs.Each.{all_append}
 use Rattle.list_laws.proofs.Members.{at_head, in_tail}
 use Rattle.tpf_base.specs.Addresses.{Address}
 use Rattle.fragment_page.specs.declared.page.Page.{Page}
@@ -16,14 +17,6 @@ use Rattle.tpf_client.specs.Turns.{AsksAt, asked_in}
 use Rattle.tpf_client.proofs.Accounting.{asked-append}
 use Rattle.tpf_client.proofs.Distinct.{put-held}
 
-pub all-then : {X : Type 0} (P : X → Type 0) (xs ys : List X) → AllByRecursion P xs → AllByRecursion P ys → AllByRecursion P (xs ++ ys)
-all-then P [] ys a b = b
-all-then P (x ∷ xs) ys a b = (a.0, all-then P xs ys a.1 b)
-
-pub all-so : {X : Type 0} (P Q : X → Type 0) → ((x : X) → P x → Q x) → (xs : List X) → AllByRecursion P xs → AllByRecursion Q xs
-all-so P Q f [] a = tt
-all-so P Q f (x ∷ xs) a = (f x a.0, all-so P Q f xs a.1)
-
 -- where what a pool holds has homes after asks were put, these have them
 puts-before : (P : Ask → Type 0) (asks : List Ask) (p q : Pooled) → PutsAll asks p q → All P (held q) → All P (held p) × AllByRecursion P asks
 puts-before P [] p q h a = (subst (λ (x : Pooled). All P (held x)) h a, tt)
@@ -36,7 +29,7 @@ pub puts-homes : (P : Ask → Type 0) (asks : List Ask) (p q : Pooled) → PutsA
 puts-homes P asks p q h a = (puts-before P asks p q h a).1
 
 pub homes-then : (P : Ask → Type 0) (first second : List Event) → AllByRecursion P (asked_in first) → AllByRecursion P (asked_in second) → AllByRecursion P (asked_in (first ++ second))
-homes-then P first second a b = subst (λ (l : List Ask). AllByRecursion P l) (sym (asked-append first second)) (all-then P (asked_in first) (asked_in second) a b)
+homes-then P first second a b = subst (λ (l : List Ask). AllByRecursion P l) (sym (asked-append first second)) (all_append P (asked_in first) (asked_in second) a b)
 
 pub homes-of : (P : Ask → Type 0) (events : List Event) (asks : List Ask) → asked_in events ≡ asks → AllByRecursion P asks → AllByRecursion P (asked_in events)
 homes-of P events asks e a = subst (λ (l : List Ask). AllByRecursion P l) (sym e) a

@@ -1,7 +1,9 @@
 -- Why a call that is covered by an offer fails.
-use Rattle.std.proofs.Common.{ℕ, ◌≡◌, ◌<◌, ◌^◌, ◌⊎◌, inl, inr, Bool, List, length, Option, Some, refl, sym, ap, subst, ◌∙◌}
+use Rattle.std.proofs.Common.{ℕ, ◌≡◌, ◌<◌, ◌^◌, ◌⊎◌, inl, inr, List, length, Option, Some, refl, sym, ap, subst, ◌∙◌}
 use Rattle.std.specs.List.{Contains}
+use Rattle.std.proofs.lemmas.Bool.{cases_eq}
 use Rattle.std.proofs.lemmas.List.Sorted.{IsPermutation-sym, Contains-permutation}
+use Rattle.list_laws.proofs.Told.{all_in}
 use Rattle.list_laws.proofs.Members.{at_head}
 use Rattle.tpf_base.specs.Addresses.{Address}
 use Rattle.tpf_base.specs.Links.{WireState}
@@ -11,7 +13,6 @@ use Rattle.http_wire.specs.declared.message.ReplyFault.{ReplyFault}
 use Rattle.http_wire.specs.declared.message.ReplyFault.TheVariants as refusals
 use Rattle.http_ends.specs.Requests.{asks}
 use Rattle.join_core.specs.Evaluations.{HasHome}
-use Rattle.template_fill.specs.Configurations.{IsConfig, IsHistory}
 use Rattle.template_fill.specs.HttpAnswer.{Answer}
 use Rattle.template_fill.specs.Answers.{answer_to}
 use Rattle.fragment_page.specs.declared.page.PageFault.{PageFault}
@@ -33,13 +34,13 @@ use Rattle.tpf_client.specs.Causes.{IsNoPage, IsChanged}
 use Rattle.tpf_client.specs.Plans.{AtEach, AtChosen, IsShort, IsAnswerable, IsAnsweredAt, IsReadByAll, IsLongAnswer, IsPageGone, RefusesLong, MissesPage, ChangesVersion, IsHonestCause, answer_at}
 use Rattle.tpf_client.specs.Acts.{IsHonestCauseOf}
 use Rattle.tpf_client.proofs.Endings.{ending, lost-in}
-use Rattle.tpf_client.proofs.Gone.{is-or-not, gone}
+use Rattle.tpf_client.proofs.Gone.{gone}
 use Rattle.tpf_client.proofs.Caused.{distinct-after}
 use Rattle.tpf_client.proofs.Distinct.{one-ask, none-distinct}
 use Rattle.tpf_client.proofs.Known.{begun, knows-so}
 use Rattle.tpf_client.proofs.Covered.{Covered}
 use Rattle.tpf_client.proofs.Answered.{replies-answer, refusals-long}
-use Rattle.tpf_client.proofs.Planned.{RunOf, ExplainedRun, at-member, in-plan}
+use Rattle.tpf_client.proofs.Planned.{RunOf, ExplainedRun, in-plan}
 use Rattle.tpf_client.proofs.Rises.{tells-on, small-limit}
 use Rattle.tpf_client.proofs.Truth.{ReadsVersion, reads}
 
@@ -50,7 +51,7 @@ module _ (laws : Laws) (traffic : TrafficLaws) (allows : List ℕ → ℕ → Li
 
   -- an ask of the call has the authority of a start
   pub own-ask : (run : RunOf allows options starts since now) (ask : Ask) → Contains (asked_in run.events) ask → HasHome starts ask.address
-  own-ask run ask c = at-member (λ (a : Ask). HasHome starts a.address) (asked_in run.events) ask run.asks c
+  own-ask run ask c = all_in (λ (a : Ask). HasHome starts a.address) (asked_in run.events) ask run.asks c
 
   -- ---- a refused reply
 
@@ -94,7 +95,7 @@ module _ (laws : Laws) (traffic : TrafficLaws) (allows : List ℕ → ℕ → Li
       let o = r.over at.short in
       let version = version_at o.mark in
       let same : (answer_to s.server.history o.mark s.server.config (asks r.address)).status ≡ (answer_at s.server version r.address).status = ap (λ (a : Answer). a.status) o.over in
-      elim (is-or-not (answer_to s.server.history o.mark s.server.config (asks r.address)).status 200) [
+      elim (cases_eq (answer_to s.server.history o.mark s.server.config (asks r.address)).status 200) [
         | inl ok ↦ (let l = o.page ok in inl (record { is_fault = l.fault_is; long = l.long }))
         | inr otherwise ↦ (
             let g = gone laws.answered s.server r.address (x.versions r.address) version at (λ e. otherwise (same ∙ e)) in
@@ -117,20 +118,20 @@ module _ (laws : Laws) (traffic : TrafficLaws) (allows : List ℕ → ℕ → Li
       record {
         choice = choice;
         is_choice = x.planned.of_plan.is_choice;
-        too_long = λ all. r.too_long (at-member (AtEach offer IsAnswerable) (offer.addresses choice) r.address all r.inside s.server s.stands);
+        too_long = λ all. r.too_long (all_in (AtEach offer IsAnswerable) (offer.addresses choice) r.address all r.inside s.server s.stands);
         long = λ all. record {
           address = r.address;
           is_asked = r.inside;
           server = s.server;
           stands = s.stands;
-          long = r.long (at-member (AtEach offer IsAnswerable) (offer.addresses choice) r.address all r.inside s.server s.stands);
+          long = r.long (all_in (AtEach offer IsAnswerable) (offer.addresses choice) r.address all r.inside s.server s.stands);
         };
         why = λ all. record {
           address = r.address;
           is_asked = r.inside;
           server = s.server;
           stands = s.stands;
-          why = why-refused fault received x r (at-member (AtChosen offer choice IsAnsweredAt) (offer.addresses choice) r.address all r.inside s.server (x.versions r.address) s.stands (x.has r.address r.own));
+          why = why-refused fault received x r (all_in (AtChosen offer choice IsAnsweredAt) (offer.addresses choice) r.address all r.inside s.server (x.versions r.address) s.stands (x.has r.address r.own));
         };
       }
 
@@ -188,7 +189,7 @@ module _ (laws : Laws) (traffic : TrafficLaws) (allows : List ℕ → ℕ → Li
       record {
         choice = choice;
         is_choice = x.planned.of_plan.is_choice;
-        unread = λ all. no-fault s.server n.ask.address n.reply.body body fault a.body.is_body n.body_is (at-member (AtEach offer IsReadByAll) (offer.addresses choice) n.ask.address all inside s.server s.stands) n.why;
+        unread = λ all. no-fault s.server n.ask.address n.reply.body body fault a.body.is_body n.body_is (all_in (AtEach offer IsReadByAll) (offer.addresses choice) n.ask.address all inside s.server s.stands) n.why;
       }
 
   -- ---- a version

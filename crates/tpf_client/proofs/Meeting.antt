@@ -14,7 +14,7 @@ use Rattle.join_core.specs.Evaluations.{Account, Standing, HasHome, NumbersAsk, 
 use Rattle.tpf_client.specs.Traffic.{is_under}
 use Rattle.tpf_client.specs.Asking.{PutsOne}
 use Rattle.tpf_client.specs.Turns.{Limits, most_waiting, Meets, IsOut, is_number, is_pair, pair_of}
-use Rattle.tpf_client.proofs.Distinct.{all-apart, under, fresh-distinct, distinct-permuted, rest-distinct, one-ask, put-held}
+use Rattle.tpf_client.proofs.Distinct.{all-apart, apart-from, under, fresh-distinct, distinct-permuted, rest-distinct, one-ask, put-held}
 
 -- ---- numbers of tickets
 
@@ -73,9 +73,6 @@ same-many (a ∷ asks) out h =
     let first : length (a ∷ asks) ≡ suc (length asks) = refl in
     omega (arith, more, whole, size, first)
 
-no-more : (n m most : ℕ) → n ≡ m → m ≤ most → n ≤ most
-no-more n m most e l = omega (arith, e, l)
-
 one-less : (n m most : ℕ) → suc n ≡ m → m ≤ most → n ≤ most
 one-less n m most e l = omega (arith, e, l)
 
@@ -101,7 +98,7 @@ module _ (limits : Limits) (K : Type 0) (s : Standing) (pool : Pooled) where
         homes = All-permutation (λ a. HasHome limits.terms.homes a.address) (ask ∷ held pool) (held pool') (IsPermutation-sym _ _ (put-held ask pool pool' p.puts)) (All-cons (λ a. HasHome limits.terms.homes a.address) ask (held pool) home m.homes);
         tickets = put-tickets s' pool' ask m p n;
         distinct = p.distinct (p.no_fault ∙ m.no_fault);
-        few = no-more (length (held pool')) (length s'.out) (most_waiting limits.sizes) (same-many (held pool') s'.out (put-tickets s' pool' ask m p n)) few;
+        few = subst (λ (k : ℕ). k ≤ most_waiting limits.sizes) (sym (same-many (held pool') s'.out (put-tickets s' pool' ask m p n))) few;
         no_fault = p.no_fault ∙ m.no_fault;
       }
 
@@ -167,14 +164,10 @@ ask-of-pair [] p h = absurd (none_in p h)
 ask-of-pair (a ∷ asks) p h =
     ⊎_elim (λ (e : pair_of a ≡ p). (a, at_head a asks, e)) (λ (m : Contains (map pair_of asks) p). let r = ask-of-pair asks p m in (r.0, in_tail a r.0 asks r.1, r.2)) (head_or_tail (pair_of a) p (map pair_of asks) h)
 
-apart-in : (t : ℕ) (asks : List Ask) (a : Ask) → AllByRecursion (λ b. b.ticket ≢ t) asks → Contains asks a → a.ticket ≢ t
-apart-in t [] a h m = absurd (none_in a m)
-apart-in t (b ∷ asks) a h m = ⊎_elim (λ (e : b ≡ a). subst (λ (x : Ask). x.ticket ≢ t) e h.0) (λ (n : Contains asks a). apart-in t asks a h.1 n) (head_or_tail b a asks m)
-
 ticket-apart : (t : ℕ) (asks : List Ask) (p : ℕ × Address) → AllByRecursion (λ b. b.ticket ≢ t) asks → Contains (map pair_of asks) p → p.0 ≢ t
 ticket-apart t asks p h m =
     let r = ask-of-pair asks p m in
-    subst (λ (x : ℕ × Address). x.0 ≢ t) r.2 (apart-in t asks r.0 h r.1)
+    subst (λ (x : ℕ × Address). x.0 ≢ t) r.2 (apart-from t asks r.0 h r.1)
 
 pub outs-put : (ask : Ask) (pool pool' : Pooled) (a b : Account) → PutsOne ask pool pool' → HandsOver a b ask.ticket ask.address → IsOut pool a → IsOut pool' b
 outs-put ask pool pool' a b p h o = record {

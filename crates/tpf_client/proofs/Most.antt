@@ -1,6 +1,7 @@
 -- At most so many exchanges are started as asks may be tried: each ask that is held has as many tries left as it may have but for those that it had.
 use Rattle.std.proofs.Common.{ℕ, ◌≡◌, ◌≢◌, ◌+◌, ◌<◌, ◌≤◌, ◌++◌, List, [], ◌∷◌, Option, Result, Ok, Err, refl, sym, ◌∙◌, ap, subst, arith}
 use Rattle.std.specs.List.{AllByRecursion}
+use Rattle.list_laws.proofs.Each.{all_append}
 use Rattle.tpf_base.specs.Addresses.{Address}
 use Rattle.tpf_base.specs.Links.{WireState}
 use Rattle.exchange.specs.Exchanges.{left_link}
@@ -17,7 +18,6 @@ use Rattle.request_pool.specs.Runs.{Begins, Starts, Overruns, Flies, Starves, Po
 use Rattle.request_pool.specs.Steps.{GivesUp}
 use Rattle.pool_laws.specs.Counting.{tries_waiting, tries_flying}
 use Rattle.pool_laws.proofs.KeptBySteps.{IsKept}
-use Rattle.tpf_client.proofs.Homes.{all-then}
 
 -- the tries that these may have
 abbrev pub room_waiting : ℕ → List Waiting → ℕ
@@ -96,7 +96,7 @@ module _ (k most : ℕ) where
       most_as _ q t.1 (record {
         is = h.is;
         waiting = h.waiting;
-        polled = all-then (λ (x : Flight). x.failed < k) p.polled (g ∷ []) h.polled (h.failed, tt);
+        polled = all_append (λ (x : Flight). x.failed < k) p.polled (g ∷ []) h.polled (h.failed, tt);
         due = h.due;
         few = omega (arith, h.few, room-append k p.polled (g ∷ []), tries-append p.polled (g ∷ []));
       })
@@ -138,7 +138,7 @@ module _ (k most : ℕ) where
 
   gives_up_most : (fault : PoolFault) (result : Result Stepped PoolFault) (p q : Pooled) (a b : WireState) → Most k most p → GivesUp fault result p q a b → Most k most q
   gives_up_most fault result p q a b h u =
-      let all = subst (λ (l : List Flight). AllByRecursion (λ x. x.failed < k) l) u.is_oldest (all-then (λ (x : Flight). x.failed < k) p.polled p.due h.polled h.due) in
+      let all = subst (λ (l : List Flight). AllByRecursion (λ x. x.failed < k) l) u.is_oldest (all_append (λ (x : Flight). x.failed < k) p.polled p.due h.polled h.due) in
       let r : room_flying k p.polled + room_flying k p.due ≡ k + room_flying k u.rest = sym (room-append k p.polled p.due) ∙ ap (room_flying k) u.is_oldest in
       let t : tries_flying p.polled + tries_flying p.due ≡ u.f.failed + 1 + tries_flying u.rest = sym (tries-append p.polled p.due) ∙ ap tries_flying u.is_oldest in
       fails_most fault result u.f (record p { polled = u.rest; due = [] }) q u.to (record { is = h.is; failed = all.0; waiting = h.waiting; polled = all.1; due = tt; few = omega (arith, h.few, r, t) })
@@ -151,13 +151,13 @@ module _ (k most : ℕ) where
       is = h.is;
       waiting = h.waiting;
       polled = tt;
-      due = all-then (λ (x : Flight). x.failed < k) p.polled p.due h.polled h.due;
+      due = all_append (λ (x : Flight). x.failed < k) p.polled p.due h.polled h.due;
       few = omega (arith, h.few, room-append k p.polled p.due, tries-append p.polled p.due);
     };
     gathers = λ p a h. record {
       is = h.is;
       waiting = h.waiting;
-      polled = all-then (λ (x : Flight). x.failed < k) p.polled p.due h.polled h.due;
+      polled = all_append (λ (x : Flight). x.failed < k) p.polled p.due h.polled h.due;
       due = tt;
       few = omega (arith, h.few, room-append k p.polled p.due, tries-append p.polled p.due);
     };
@@ -178,7 +178,7 @@ module _ (k most : ℕ) where
       let w : Waiting = record { ticket = ticket; address = address; failed = 0 } in
       record {
         is = h.is;
-        waiting = all-then (λ (x : Waiting). x.failed < k) p.waiting (w ∷ []) h.waiting (omega (arith, low), tt);
+        waiting = all_append (λ (x : Waiting). x.failed < k) p.waiting (w ∷ []) h.waiting (omega (arith, low), tt);
         polled = h.polled;
         due = h.due;
         few = omega (arith, h.few, room-waiting-append k p.waiting (w ∷ []), waiting-append p.waiting (w ∷ []));

@@ -1,9 +1,9 @@
 -- The run of a call, and what it asked for: a part of what one choice of its offer has to ask for.
 use Rattle.std.proofs.Common.{ℕ, ◌≡◌, ◌≤◌, ◌++◌, List, [], ◌∷◌, map, length, Option, Some, None, refl, sym, ap, subst, ◌∙◌, arith, append-nil, append_assoc}
-use Rattle.std.specs.List.{AllByRecursion, Contains}
+use Rattle.std.specs.List.{Contains}
 use Rattle.std.specs.List.Sorted.{IsPermutation}
 use Rattle.std.proofs.lemmas.List.{length-append, length-map, map-append}
-use Rattle.std.proofs.lemmas.List.Elements.{All-contains, All-from_recursion, Contains-append_left}
+use Rattle.std.proofs.lemmas.List.Elements.{Contains-append_left}
 use Rattle.std.proofs.lemmas.List.Sorted.{IsPermutation-refl, IsPermutation-sym, IsPermutation-append_right, Contains-permutation, length_permutation}
 use Rattle.list_laws.proofs.Members.{Contains-map}
 use Rattle.tpf_base.specs.Addresses.{Address}
@@ -34,9 +34,6 @@ use Rattle.tpf_client.proofs.Covered.{BeginsWith, ChoiceBehind, Covered}
 use Rattle.tpf_client.proofs.Known.{begun}
 
 -- what holds of all holds of each
-pub at-member : {X : Type 0} (P : X → Type 0) (xs : List X) (x : X) → AllByRecursion P xs → Contains xs x → P x
-at-member P xs x a c = All-contains P xs x (All-from_recursion P xs a) c
-
 -- what happened in a call
 abbrev pub RunOf : (List ℕ → ℕ → List ℕ → List ℕ → Type 0) → Options → List Address → WireState → WireState → Type 0
 RunOf allows options starts since now = Happened allows options starts since now

@@ -70,25 +70,25 @@ lost-asked allows before more p q r v w t e none a h =
 
 -- ---- what is told of a link stays when it is closed
 
-pub record SameTold (old new : Link) : Type 0 where
+pub record IsToldAlike (old new : Link) : Type 0 where
   pub peer : new.peer ≡ old.peer
   pub sent : new.sent ≡ old.sent
   pub received : new.received ≡ old.received
   pub ended : new.ended ≡ old.ended
 
-told-same : (old new : Link) → new ≡ old → SameTold old new
-told-same old new e = record { peer = ap (λ (x : Link). x.peer) e; sent = ap (λ (x : Link). x.sent) e; received = ap (λ (x : Link). x.received) e; ended = ap (λ (x : Link). x.ended) e }
+told-alike : (old new : Link) → new ≡ old → IsToldAlike old new
+told-alike old new e = record { peer = ap (λ (x : Link). x.peer) e; sent = ap (λ (x : Link). x.sent) e; received = ap (λ (x : Link). x.received) e; ended = ap (λ (x : Link). x.ended) e }
 
-told-closed : (old new : Link) → IsClosed old new → SameTold old new
+told-closed : (old new : Link) → IsClosed old new → IsToldAlike old new
 told-closed old new c = record { peer = c.peer; sent = c.sent; received = c.received; ended = c.ended }
 
 zero-or : (n : ℕ) → (0 ≡ n) ⊎ (0 < n)
 zero-or n = elim (cases_lt 0 n) [ inl low ↦ inr low | inr high ↦ inl (omega (arith, high)) ]
 
-pub closes-told : (p : Pooled) (v w : WireState) → ClosesSome (held_on p) (λ k. 0) v w → (k : ℕ) → SameTold (v.links k) (w.links k)
-closes-told p v w c k = ⊎_elim (λ (e : 0 ≡ held_on p k). told-same (v.links k) (w.links k) (c.others k e)) (λ (l : 0 < held_on p k). told-closed (v.links k) (w.links k) (c.closed k l)) (zero-or (held_on p k))
+pub closes-told : (p : Pooled) (v w : WireState) → ClosesSome (held_on p) (λ k. 0) v w → (k : ℕ) → IsToldAlike (v.links k) (w.links k)
+closes-told p v w c k = ⊎_elim (λ (e : 0 ≡ held_on p k). told-alike (v.links k) (w.links k) (c.others k e)) (λ (l : 0 < held_on p k). told-closed (v.links k) (w.links k) (c.closed k l)) (zero-or (held_on p k))
 
-abbrev pub replied-closed : (limit : ℕ) (address : Address) (received : List ℕ) (v w : WireState) → ((k : ℕ) → SameTold (v.links k) (w.links k)) → w.nature ≡ v.nature → RepliedOn limit address received v → RepliedOn limit address received w
+abbrev pub replied-closed : (limit : ℕ) (address : Address) (received : List ℕ) (v w : WireState) → ((k : ℕ) → IsToldAlike (v.links k) (w.links k)) → w.nature ≡ v.nature → RepliedOn limit address received v → RepliedOn limit address received w
 replied-closed limit address received v w same n r = record {
   k = r.k;
   is_address = r.is_address;

@@ -3,7 +3,6 @@ use Rattle.std.proofs.Common.{ℕ, zero, suc, ◌≡◌, ◌≤◌, ◌<◌, ◌
 use Rattle.std.proofs.Math.Nat.{mul-le-mul_left}
 use Rattle.std.specs.Prelude.{Ok, Err}
 use Rattle.std.proofs.lemmas.List.{map-append}
-use Rattle.std.proofs.lemmas.List.Sums.{sum_by-cons, sum_by-append}
 use Rattle.std.proofs.lemmas.List.Sorted.{sum_by-IsPermutation}
 use Rattle.tpf_base.specs.Addresses.{Address}
 use Rattle.tpf_base.specs.Links.{WireState}
@@ -13,6 +12,7 @@ use Rattle.request_pool.specs.Faults.{kept_of}
 use Rattle.request_pool.specs.Pools.{Pooled, Ask, held}
 use Rattle.pool_laws.specs.Requested.{LastRequest, NoneWhole, Unanswered, Replied, LinkRequests, TellsRequests, RequestedSince, AnsweredSince, SentByRises, addresses_of as links_addresses, last_whole, last_answered, whole_requests, whole_answers, over_links, count_sent, count_answered, any}
 use Rattle.pool_laws.specs.Rising.{FailuresRose}
+use Rattle.pool_laws.proofs.Counts.{count-cons, count-append, all_count}
 use Rattle.tpf_client.specs.declared.options.Options.{Options}
 use Rattle.tpf_client.specs.declared.options.Report.{Report}
 use Rattle.tpf_client.specs.Traffic.{IsLawful, without_fault}
@@ -30,16 +30,6 @@ use Rattle.tpf_client.proofs.Planned.{RunOf, OfPlan, PlannedRun, WholeRun, few-a
 use Rattle.tpf_client.proofs.LivelyCauses.{rises-of, no-rises}
 
 -- ---- counts over lists and links
-
-count-cons : (test : Address → Bool) (x : Address) (xs : List Address) → count_by test (x ∷ xs) ≡ cond (test x) 1 0 + count_by test xs
-count-cons test x xs = sum_by-cons (λ (y : Address). cond (test y) 1 0) x xs
-
-count-append : (test : Address → Bool) (xs ys : List Address) → count_by test (xs ++ ys) ≡ count_by test xs + count_by test ys
-count-append test xs ys = sum_by-append (λ (y : Address). cond (test y) 1 0) xs ys
-
-pub count-any : (xs : List Address) → count_by any xs ≡ length xs
-count-any [] = refl
-count-any (x ∷ xs) = let a = count-cons any x xs in let b = count-any xs in let c : length (x ∷ xs) ≡ suc (length xs) = refl in omega (arith, a, b, c)
 
 one-of : (v : Bool) → 1 ≡ cond v 1 0 + cond (not v) 1 0
 one-of true = refl
@@ -225,7 +215,7 @@ module _ (laws : Laws) (traffic : TrafficLaws) (allows : List ℕ → ℕ → Li
               let s = by-rises x h alive in
               let total : count_sent any h.requests since now ≤ length (addresses x) = at-most (count_sent any h.requests since now) (length (addresses x)) s.failures s.few (no-rises s.failures since.faults now.faults s.all none) in
               let whole = count-split test (addresses x) in
-              let lengths = count-any (addresses x) in
+              let lengths = all_count (addresses x) in
               exactly-so (count_sent any h.requests since now) (count_sent test h.requests since now) (count_sent (λ b. not (test b)) h.requests since now) (count_by test (addresses x)) (count_by (λ b. not (test b)) (addresses x))
               (all-split test h.requests since now) (omega (arith, total, whole, lengths)) (sent test) (sent (λ b. not (test b)));
         }

@@ -2,6 +2,7 @@
 use Rattle.std.proofs.Common.{ℕ, ◌≡◌, ◌<◌, ◌+◌, ◌^◌, List, [], ◌∷◌, length, true, sym, ap, subst, ◌∙◌, arith}
 use Rattle.std.specs.Prelude.{Result, Ok, Err}
 use Rattle.std.specs.List.{AllByRecursion}
+use Rattle.list_laws.proofs.Each.{all_so}
 use Rattle.tpf_base.specs.Addresses.{Address}
 use Rattle.tpf_base.specs.Links.{All, Nature, WireState}
 use Rattle.join_core.specs.Evaluations.{HasHome}
@@ -18,7 +19,7 @@ use Rattle.tpf_client.specs.Calls.{RunsPool}
 use Rattle.tpf_client.specs.Honest.{Laws}
 use Rattle.tpf_client.specs.Requests.{TrafficLaws}
 use Rattle.tpf_client.proofs.Answered.{failures-rise}
-use Rattle.tpf_client.proofs.Homes.{all-so, asks-front}
+use Rattle.tpf_client.proofs.Homes.{asks-front}
 use Rattle.tpf_client.proofs.Keeping.{IsKeptBy, Taken, taken, between-after, by-events}
 use Rattle.tpf_client.proofs.Known.{Knows, begun, begun-knows, begun-between, knows-put, knows-step, knows-fault}
 use Rattle.tpf_client.proofs.Endings.{ending}
@@ -42,7 +43,7 @@ module _ (laws : Laws) (traffic : TrafficLaws) (allows : List ℕ → ℕ → Li
     (all : since.nature.tells ≡ All) (served : IsServedAt allows starts) (limit : options.max_body < 2 ^ 64) where
   -- those that are held are served
   pub all-served : (p : Pooled) → AllByRecursion (IsOwn starts) (held p) → AllByRecursion (λ ask. IsServedBySome allows ask.address) (held p)
-  all-served p a = all-so (IsOwn starts) (λ (ask : Ask). IsServedBySome allows ask.address) (λ ask own. served ask.address own) (held p) a
+  all-served p a = all_so (IsOwn starts) (λ (ask : Ask). IsServedBySome allows ask.address) (λ ask own. served ask.address own) (held p) a
 
   -- what is known after so many asks, and that failures are rises
   pub record Rises (n : ℕ) (p : Pooled) (v : WireState) : Type 0 where

@@ -16,6 +16,7 @@ use Rattle.request_pool.specs.Faults.{kept_of}
 use Rattle.request_pool.specs.Pools.{Pooled, Ask, IsOverBudget, held}
 use Rattle.pool_laws.specs.Spending.{SpentSince, AnsweredMost}
 use Rattle.pool_laws.specs.Requested.{AnsweredSince, TellsRequests, count_answered, any}
+use Rattle.pool_laws.proofs.Counts.{all_count}
 use Rattle.tpf_client.specs.declared.options.Options.{Options}
 use Rattle.tpf_client.specs.declared.options.Report.{Report}
 use Rattle.tpf_client.specs.declared.fault.ClientFault.{ClientFault}
@@ -37,7 +38,7 @@ use Rattle.tpf_client.proofs.Known.{begun, begun-between, knows-so, exit-of}
 use Rattle.tpf_client.proofs.Most.{most_waits}
 use Rattle.tpf_client.proofs.Endings.{ending, same-pool, same-bounds}
 use Rattle.tpf_client.proofs.Planned.{RunOf, ExplainedRun, finished, few-asked}
-use Rattle.tpf_client.proofs.Requested.{shut, count-any, all-answers, WereAnswered, answered-kept, answered-so}
+use Rattle.tpf_client.proofs.Requested.{shut, all-answers, WereAnswered, answered-kept, answered-so}
 
 not-error : (answer : Stepped) → ◌≡◌ {A = Result Stepped PoolFault} (Ok answer) (Err pool.OutOfMemory) → ⊥
 not-error answer e = cc
@@ -170,7 +171,7 @@ module _ (laws : Laws) (traffic : TrafficLaws) (allows : List ℕ → ℕ → Li
       (λ e. traffic.empty_spend options.links options.retries options.budget options.max_body since) run.runs.travels none in
       let on = answered.requested.requests in
       let most = traffic.all_answered (map address_of asked) since (shut run.pool) now answered refl any in
-      let size = count-any (map address_of asked) ∙ length-map asked address_of in
+      let size = all_count (map address_of asked) ∙ length-map asked address_of in
       let given = given-less run.runs.between.given now.given since.given run.runs.closes.given in
       let few : run.pool.started + (length run.pool.spare + length (held run.pool)) ≤ (now.given - since.given) + spent.rises + length asked = same-given (run.pool.started + (length run.pool.spare + length (held run.pool))) (run.runs.between.given - since.given) (now.given - since.given) spent.rises (length asked) spent.few given in
       let enough : run.pool.started ≤ (now.given - since.given) + count_answered any on since now + spent.rises =

@@ -1,7 +1,7 @@
 -- Where each server answers over the version alone that one choice has of it, and what this has to ask for fits, a call over a lively wire ends with want of memory alone.
 use Rattle.std.proofs.Common.{ℕ, ◌≡◌, ◌<◌, ◌^◌, List, length, Option, Some, true, refl, sym, ap, subst, ◌∙◌}
 use Rattle.std.specs.Prelude.{Result, Ok, Err, IfErr, IsErrOf}
-use Rattle.std.specs.List.{Contains}
+use Rattle.list_laws.proofs.Told.{all_in}
 use Rattle.tpf_base.specs.Addresses.{Address}
 use Rattle.tpf_base.specs.Links.{WireState}
 use Rattle.tpf_base.specs.Marks.{Mark, version_at}
@@ -20,13 +20,13 @@ use Rattle.tpf_client.specs.Traffic.{IsLawful}
 use Rattle.tpf_client.specs.Turns.{asked_in}
 use Rattle.tpf_client.specs.Causes.{IsNoPage, IsChanged}
 use Rattle.tpf_client.specs.Sources.{Sources}
-use Rattle.tpf_client.specs.Offers.{Publisher, Offer}
+use Rattle.tpf_client.specs.Offers.{Offer}
 use Rattle.tpf_client.specs.Honest.{Laws}
 use Rattle.tpf_client.specs.Requests.{TrafficLaws}
 use Rattle.tpf_client.specs.Plans.{AtChosen, IsFitAt, ChoiceFits, RisesFew, OverrunsPlan, IsLivelyCause, answer_at}
 use Rattle.tpf_client.specs.Still.{IsWant}
 use Rattle.tpf_client.proofs.Covered.{Covered}
-use Rattle.tpf_client.proofs.Planned.{ExplainedRun, at-member, in-plan}
+use Rattle.tpf_client.proofs.Planned.{ExplainedRun, in-plan}
 use Rattle.tpf_client.proofs.HonestCauses.{refused-at, came-asked, answer-from}
 use Rattle.tpf_client.proofs.LivelyCauses.{lively-cause}
 use Rattle.tpf_client.proofs.Completing.{not-so-many, not-over, too-long}
@@ -49,7 +49,7 @@ module _ (laws : Laws) (traffic : TrafficLaws) (allows : List ℕ → ℕ → Li
         let choice = x.planned.choice in
         let r = refused-at laws traffic allows options since now lawful limit starts sources offer q covered fault received x in
         let s = covered.stands r.address r.own in
-        let f = at-member (AtChosen offer choice (IsFitAt options.max_body)) (offer.addresses choice) r.address fits.fit r.inside s.server in
+        let f = all_in (AtChosen offer choice (IsFitAt options.max_body)) (offer.addresses choice) r.address fits.fit r.inside s.server in
         let first = f (x.versions r.address) s.stands (x.has r.address r.own) in
         let o = r.over first.is_answered.short in
         let version = version_at o.mark in
@@ -70,7 +70,7 @@ module _ (laws : Laws) (traffic : TrafficLaws) (allows : List ℕ → ℕ → Li
         let s = covered.stands n.ask.address a.own in
         let b = a.body.is_body in
         let version = version_at b.mark in
-        let fit = at-member (AtChosen offer choice (IsFitAt options.max_body)) (offer.addresses choice) n.ask.address fits.fit inside s.server version s.stands (serves.served n.ask.address a.own version a.body.is_served) in
+        let fit = all_in (AtChosen offer choice (IsFitAt options.max_body)) (offer.addresses choice) n.ask.address fits.fit inside s.server version s.stands (serves.served n.ask.address a.own version a.body.is_served) in
         let is : (answer_at s.server version n.ask.address).body ≡ body = sym (ap (λ (x : Answer). x.body) b.served) ∙ (sym b.body_is ∙ n.body_is) in
         laws.never_both body n.ask.address fit.page fault (subst (λ (l : List ℕ). Takes l n.ask.address fit.page) is fit.is_read) n.why
 

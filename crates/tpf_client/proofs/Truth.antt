@@ -22,6 +22,7 @@ use Rattle.pool_laws.specs.Answers.{IsBodyOf, IsBodyOver}
 use Rattle.join_core.specs.Worlds.{IsPageAt}
 use Rattle.join_core.specs.Blocks.{IsBlockSize}
 use Rattle.plan_laws.specs.Servers.{asked_at, server_world, ServersAreWorlds, ServersHaveForms, ServersPagesAreTrue}
+use Rattle.plan_laws.proofs.Plans.{read_asked}
 use Rattle.plan_laws.proofs.Selections.{selection_kept}
 use Rattle.tpf_client.specs.Traffic.{Event, Asked, Came, Waited, Broke}
 use Rattle.tpf_client.specs.Turns.{AreTrue, IsTrueReply}
@@ -30,14 +31,6 @@ use Rattle.tpf_client.specs.Offers.{IsVersionOf}
 use Rattle.tpf_client.proofs.Honesty.{IsAnswer}
 
 -- ---- what is read of the addresses of pages
-
-read-twice : (rows : Bool) (s : Selection) → read_as rows (read_as rows s) ≡ read_as rows s
-read-twice true s = refl
-read-twice false s = refl
-
-read-asked : (rows : Bool) (s : Selection) (k : ℕ) → read_as rows (asked_at rows (suc k) s) ≡ read_as rows s
-read-asked rows s zero = refl
-read-asked rows s (suc k) = read-twice rows s
 
 kept-read : (rows : Bool) (s : Selection) → IsKeptSelection s → IsKeptSelection (read_as rows s)
 kept-read true s kept = kept
@@ -99,7 +92,7 @@ module _ (given : PagesAreGiven) (answered : AnsweredGivePages) (only : NothingE
       subst (λ (n : ℕ). IsPageAt (server_world block (version_of history n) config) address page) same
       (pages block history v config address page is_history (omega arith) is_config (λ s k valid ask at below.
       let asked : Selection = asked_at config.rows (suc k) s in
-      let is : read_as config.rows asked ≡ read_as config.rows s = read-asked config.rows s k in
+      let is : read_as config.rows asked ≡ read_as config.rows s = read_asked config.rows (suc k) s in
       let there : IsAddress (page_address config.base asked (suc k)) address = subst (λ (a : Address). IsAddress (page_address config.base asked (suc k)) a) (sym at) (addresses config.base asked (suc k) is_config.base) in
       let within : suc k ≤ selected_last (version_of history v) (read_as config.rows s) config.page_size = omega (arith, below) in
       let high : suc k ≤ selected_last (version_of history v) (read_as config.rows asked) config.page_size = subst (λ (r : Selection). suc k ≤ selected_last (version_of history v) r config.page_size) (sym is) within in

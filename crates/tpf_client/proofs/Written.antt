@@ -1,5 +1,6 @@
 -- The start pages, and then the rest of a call.
-use Rattle.std.proofs.Common.{ℕ, ◌≡◌, ◌≤◌, ◌<◌, ◌++◌, ◌*◌, max, List, [], length, Option, refl, sym, ap, subst, ◌∙◌, arith}
+use Rattle.std.proofs.Common.{ℕ, ◌≡◌, ◌≤◌, ◌<◌, ◌++◌, ◌*◌, List, [], length, Option, refl, sym, ap, subst, ◌∙◌, arith}
+use Rattle.std.proofs.Math.Nat.{le-max_left, le-max_right}
 use Rattle.std.proofs.lemmas.List.{length-map}
 use Rattle.std.proofs.lemmas.List.Sorted.{IsPermutation-refl}
 use Rattle.template_fill.specs.declared.form.Form.{Form}
@@ -50,17 +51,6 @@ module _ (allows : List ℕ → ℕ → List ℕ → List ℕ → Type 0) (start
   pub some-versions : 0 < length starts → 0 < length told.versions.items
   some-versions some = as-many (length starts) (length pages) (length told.versions.items) some (reads-many starts pages s.events s.reads) (ap (λ (l : List (Option ℕ)). length l) t.versions ∙ length-map pages (λ page. page.version))
 
--- ---- how many asks wait
-
-few-of-none : (n most : ℕ) → n ≡ 0 → n ≤ most
-few-of-none n most e = omega (arith, e)
-
-one-most : (n : ℕ) → 1 ≤ max 1 n
-one-most n = omega arith
-
-window-most : (n : ℕ) → n ≤ max 1 n
-window-most n = omega arith
-
 -- ---- the start pages, and what stands behind them
 
 module _ (allows between-allows : List ℕ → ℕ → List ℕ → List ℕ → Type 0) (same : SameAllowed allows between-allows) (sources : Sources) (options : Options) (q : QueryData) (starts : List Address) (pages : List Page) (told : StartPages) (old mid new : Pooled) (wire between wire' : WireState)
@@ -75,8 +65,8 @@ module _ (allows between-allows : List ℕ → ℕ → List ℕ → List ℕ →
   few-of : (later : List Event) → WaitFew behind (length (held mid)) later → WaitFew most (length (held old)) (s.events ++ later)
   few-of later few =
       let n = length q.patterns * (options.window * length starts) in
-      few-then allows most s.events later old mid wire between s.travels s.no_fault (few-more 1 most (length (held old)) s.events (one-most n) s.few)
-      (few-more n most (length (held mid)) later (window-most n)
+      few-then allows most s.events later old mid wire between s.travels s.no_fault (few-more 1 most (length (held old)) s.events (le-max_left 1 n) s.few)
+      (few-more n most (length (held mid)) later (le-max_right 1 n)
       (subst (λ (m : ℕ). WaitFew (length q.patterns * (options.window * m)) (length (held mid)) later) (forms-many allows starts pages told old mid wire between t s) few))
 
   ran-of : (later : List Event) → Travels between-allows later mid new between wire' → SuitsWire new wire' → WaitFew behind (length (held mid)) later → Ran allows most old new wire wire' (s.events ++ later) new
@@ -188,7 +178,7 @@ nothing-joined allows most sources q starts forms versions budget p w none s = r
   on_wire = s;
   explains = tt;
   asks = tt;
-  few = few-of-none (length (held p)) most (none-many p none);
+  few = let many = none-many p none in let low : length (held p) ≤ most = omega (arith, many) in low;
   gives = λ source is. record {
     more = sources.rows source q;
     rows_are = IsPermutation-refl (sources.rows source q);
@@ -222,7 +212,7 @@ none-written allows sources options q starts budget fault old new wire wire' t s
     is_pool = refl;
     travels = s.travels;
     on_wire = s.suits;
-    few = few-more 1 (most_over options q (length starts)) (length (held old)) s.events (one-most (length q.patterns * (options.window * length starts))) s.few;
+    few = few-more 1 (most_over options q (length starts)) (length (held old)) s.events (le-max_left 1 (length q.patterns * (options.window * length starts))) s.few;
   };
   asked = s.asked;
   explains = s.explains;

@@ -1,5 +1,6 @@
 -- What the servers offer together covers the call.
-use Rattle.std.proofs.Common.{ℕ, ◌≡◌, ◌≤◌, true, List, length, arith}
+use Rattle.std.proofs.Common.{ℕ, ◌≡◌, true, List, length}
+use Rattle.std.proofs.Math.Nat.{le_refl}
 use Rattle.std.specs.Prelude.{IfErr}
 use Rattle.tpf_base.specs.Causes.{Rose}
 use Rattle.request_pool.specs.Pools.{Pooled}
@@ -21,9 +22,6 @@ use Rattle.federated_query.proofs.Still.{still-wants}
 use Rattle.federated_query.proofs.call.federate.Given as given
 use Rattle.federated_query.proofs.call.federate.Goals as goal
 
-same-most : (n : ℕ) → n ≤ n
-same-most n = omega arith
-
 covers : (g : given.Over) (c : goal.After-evaluate_to g) (publishers : List Publisher) → AreHonestServers (g.W.Wire.allows c.args.wire.now) c.args.starts.now publishers (g.W.Wire.state c.args.wire.now)
     → Covered joint_sources (servers_offer publishers c.args.query.now c.args.starts.now) (g.W.Wire.allows c.args.wire.now) c.args.options.now (g.W.Wire.state c.args.wire.now) (g.W.Wire.state c.evaluate_to.new.wire) c.args.starts.now c.args.query.now
 covers g c publishers honest =
@@ -33,7 +31,7 @@ ended : (g : given.Over) (c : goal.After-evaluate_to g)
     → WritesOverEnds (g.W.Wire.allows c.args.wire.now) (servers_ends c.args.query.now c.args.starts.now) joint_sources c.args.query.now c.args.starts.now c.args.options.now (most_over c.args.options.now c.args.query.now (length c.args.starts.now)) c.evaluate_to.result (g.W.Wire.state c.args.wire.now) (g.W.Wire.state c.evaluate_to.new.wire) (g.K.Sink.state c.args.out.now) (g.K.Sink.state c.evaluate_to.new.out)
 ended g c =
     writes-over c.solutions_rest_on_laws.ensures c.traffic_rests_on_laws.ensures (g.W.Wire.allows c.args.wire.now) c.args.options.now (g.W.Wire.state c.args.wire.now) (g.W.Wire.state c.evaluate_to.new.wire) c.is_lawful.ensures c.args.starts.now joint_sources c.args.query.now c.is_bounded.ensures c.requires.some (servers_ends c.args.query.now c.args.starts.now) (covers g c)
-    (most_over c.args.options.now c.args.query.now (length c.args.starts.now)) (same-most (most_over c.args.options.now c.args.query.now (length c.args.starts.now))) c.evaluate_to.result (g.K.Sink.state c.args.out.now) (g.K.Sink.state c.evaluate_to.new.out) c.evaluate_to.ensures.ended
+    (most_over c.args.options.now c.args.query.now (length c.args.starts.now)) (le_refl (most_over c.args.options.now c.args.query.now (length c.args.starts.now))) c.evaluate_to.result (g.K.Sink.state c.args.out.now) (g.K.Sink.state c.evaluate_to.new.out) c.evaluate_to.ensures.ended
 
 -- what happened in it is a run of the pool
 abbrev runs : (g : given.Over) (c : goal.After-evaluate_to g) (events : List Event) (pool : Pooled) → AreThese (ended g c).acts.happened.events (ended g c).acts.happened.pool events pool

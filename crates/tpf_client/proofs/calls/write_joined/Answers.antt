@@ -2,6 +2,7 @@
 use Rattle.std.proofs.Common.{◌∙◌, sym, ap, subst, ⊎_elim}
 use Rattle.std.specs.Prelude.{Err}
 use Rattle.tpf_base.specs.declared.fault.Fault.{Fault}
+use Rattle.tpf_base.proofs.SendingLemmas.{rose_on}
 use Rattle.tpf_client.specs.Rows.{Text, WritesRows, WritesFront}
 use Rattle.tpf_client.specs.declared.fault.ClientFault.{ClientFault}
 use Rattle.tpf_client.specs.Told.{told_in}
@@ -9,7 +10,7 @@ use Rattle.tpf_client.specs.Causes.{IsLocal}
 use Rattle.tpf_client.specs.Calls.{PartOf, WholeOf}
 use Rattle.tpf_client.proofs.Texts.{whole-written, part-written, front-handed, all-given, some-given, rows-shown, count-is}
 use Rattle.tpf_client.proofs.Written.{with-fault}
-use Rattle.tpf_client.proofs.Going.{explains-local, sink-local, rose-then}
+use Rattle.tpf_client.proofs.Going.{explains-local, sink-local}
 use Rattle.tpf_client.proofs.Sinks.{leaves-ok, leaves-stays, leaves-behind, leaves-before, leaves-fault, leaves-failed, leaves-memory, stays-then, stays-ok, writes-keeps}
 use Rattle.tpf_client.proofs.calls.write_joined.Goals as goal
 
@@ -60,7 +61,7 @@ pub returns-in-Err-Failed-clause-shown : goal.returns-in-Err-Failed-clause-shown
 returns-in-Err-Failed-clause-shown g c =
     let s = c.in-Err.ensures.some in
     let w = subst (λ (x : Text). WritesFront s.1 x c.join_pages.new.rows (g.K.Sink.state c.args.out.now).taken (g.K.Sink.state c.join_pages.new.behind).taken) c.requires.fresh s.3 in
-    (PartOf s.0 s.1 s.2 (front-handed c.args.query.now s.1 c.join_pages.new.rows _ _ _ w (some-given c.join_pages.new.rows _ _ c.in-Err-Failed.ensures.writes.err)), λ other rose. absurd (rose (rose-then _ _ _ c.in-Err.ensures.sink.later (c.in-Err-Failed.ensures.writes.cause.failed (ap (λ (f : Fault). Err f) c.in-Err-Failed.field-0-is)))))
+    (PartOf s.0 s.1 s.2 (front-handed c.args.query.now s.1 c.join_pages.new.rows _ _ _ w (some-given c.join_pages.new.rows _ _ c.in-Err-Failed.ensures.writes.err)), λ other rose. absurd (rose (rose_on _ _ _ c.in-Err.ensures.sink.later (c.in-Err-Failed.ensures.writes.cause.failed (ap (λ (f : Fault). Err f) c.in-Err-Failed.field-0-is)))))
 
 pub returns-in-Err-OutOfMemory-clause-err : goal.returns-in-Err-OutOfMemory-clause-err
 returns-in-Err-OutOfMemory-clause-err g c =
