@@ -17,7 +17,6 @@ use bgp_core::Query;
 use federation::Federation;
 use plan_laws::{joint_plans_are_read, plans_are_read};
 use std::alloc::Global;
-use std::marker::PhantomData;
 use std::sync::Wait;
 use template_fill::{WebAddress, pages_are_answered, versions_are_valid};
 use tpf_base::{Dial, Sink};
@@ -105,14 +104,5 @@ pub fn federate<R: Wait, W: Dial, K: Sink>(
     joint_plans_are_read();
     pages_are_answered();
     versions_are_valid();
-    evaluate_to(
-        rt,
-        PhantomData::<Federation>,
-        alloc,
-        query,
-        starts,
-        options,
-        wire,
-        out,
-    )
+    evaluate_to::<_, Federation, _, _>(rt, alloc, query, starts, options, wire, out)
 }

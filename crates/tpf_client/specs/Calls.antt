@@ -169,9 +169,13 @@ pub record Ran (allows : List ℕ → ℕ → List ℕ → List ℕ → Type 0) 
   pub on_wire : SuitsWire new wire'
   pub few : WaitFew most (length (held old)) events
 
--- how many asks of a query may wait for their replies at once, where so many servers are asked: a start, and then for each row that is extended one for each pattern and server
+-- how many asks may wait for their replies at once behind the start pages, where so many servers are asked: for each row that is extended one for each pattern and server
+abbrev pub most_behind : Options → QueryData → ℕ → ℕ
+most_behind options q servers = length q.patterns * (options.window * servers)
+
+-- how many asks of a query may wait at once: a start, and then as many as behind the start pages
 abbrev pub most_over : Options → QueryData → ℕ → ℕ
-most_over options q servers = max 1 (length q.patterns * (options.window * servers))
+most_over options q servers = max 1 (most_behind options q servers)
 
 -- how many asks of a query may wait for their replies at once, where one server is asked: the start, and then for each row that is extended one for each pattern
 abbrev pub most_asked : Options → QueryData → ℕ

@@ -1,21 +1,10 @@
 // The calls.
-ghost use Rattle.std.specs.Prelude.{ℕ, ◌≡◌, ◌≤◌, ◌<◌, ◌⊎◌, ◌*◌, ◌^◌, [], ◌∷◌, List, length, true, IfOk, IfErr, OnOk, OnErr, IsErrOf, None};
-ghost use Rattle.std.specs.Io.KnownBytes.{Appends};
-ghost use Rattle.tpf_base.specs.Causes.{Rose, counted_by};
+ghost use Rattle.std.specs.Prelude.{ℕ, ◌≡◌, ◌≤◌, ◌<◌, ◌^◌, [], ◌∷◌, length, true, IfOk, IfErr, OnErr, IsErrOf};
+ghost use Rattle.tpf_base.specs.Causes.{Rose};
 ghost use Rattle.rdf_terms.specs.declared.limits.TheConstants.{MOST_ROWS};
-ghost use Rattle.result_json.specs.Results.{result_text};
-ghost use Rattle.tpf_client.specs.Rows.{begun};
 ghost use Rattle.tpf_base.specs.Links.{SameAllowed};
-ghost use Rattle.bgp_core.specs.Solutions.{Places};
-ghost use Rattle.request_pool.specs.Pools.{held};
-ghost use Rattle.request_pool.specs.Owned.{SuitsWire};
-ghost use Rattle.join_core.specs.Rounds.{FormsAtHome};
-ghost use Rattle.tpf_client.specs.Traffic.{Event};
-ghost use Rattle.tpf_client.specs.Calls.{Joins, JoinsSome, GathersRest, WritesRest, WritesLess, WritesAll, WritesSome, Returns, Ran, most_over, most_asked, WritesResult, WritesPrefix};
-ghost use Rattle.tpf_client.specs.Causes.{IsLocal};
+ghost use Rattle.tpf_client.specs.Calls.{most_asked, WritesResult, WritesPrefix};
 ghost use Rattle.tpf_client.specs.Sinks.{LeavesSink};
-ghost use Rattle.tpf_client.specs.Shown.{WritesShown, ShowsRest};
-ghost use Rattle.tpf_client.specs.Told.{told_at, told_in};
 ghost use Rattle.tpf_client.specs.Sources.{sources_of, world_sources};
 ghost use Rattle.tpf_client.specs.Offers.{publisher, offer_in_blocks};
 ghost use Rattle.tpf_client.specs.Ends.{ends_in_blocks};
@@ -26,16 +15,13 @@ ghost use Rattle.tpf_client.specs.Still.{SucceedsStill, PacesStill};
 ghost use Rattle.tpf_client.specs.Ended.{WritesEnded, GivesEnded, WritesOverEnds, GivesOverEnds};
 
 use crate::asks::{Asks, is_lawful};
-use crate::fault::of_sink;
-use crate::rows::{ResultText, RowList, TakesRows};
-use crate::start::{StartPages, ask_starts};
-use crate::turns::{Bounds, evaluate};
+use crate::results::{Call, gather, write_result};
 use crate::{ClientFault, Options, Report};
 use bgp_core::{Query, Row};
 use control_laws::controls_read_back;
 use control_reader::a_body_is_one_page;
 use http_ends::{a_reading_stays, a_response_is_cut, an_answer_is_read, requests_are_cut};
-use join_core::{BlockSize, Evaluates, FormList, Join};
+use join_core::{BlockSize, Evaluates, Join};
 use plan_laws::a_server_is_a_world;
 use pool_laws::{
     a_step_has_a_cause, asks_are_answered, exchanges_are_counted, failures_are_ends,
@@ -43,228 +29,14 @@ use pool_laws::{
     steps_provoke_nothing, whole_replies_come_first, whole_requests_are_sent,
 };
 use rdf_terms::askable_slots_are_kept;
-use result_json::{ResultWriter, pieces_make_the_text, rows_go_on};
+use result_json::{pieces_make_the_text, rows_go_on};
 use std::alloc::Global;
-use std::marker::PhantomData;
 use std::slice;
 use std::sync::Wait;
 use template_fill::{
     WebAddress, authorities_are_hosts_and_ports, pages_are_answered, pages_share_authority,
 };
-use tpf_base::{Dial, Fault, Sink};
-
-/// Joins the pages of a query whose start pages told forms.
-fn join_pages<R: Wait, E: Evaluates + Drop, W: Dial, B, T: TakesRows<B>>(
-    rt: &R,
-    how: PhantomData<E>,
-    alloc: Global,
-    query: &Query,
-    forms: FormList,
-    options: &Options,
-    bounds: Bounds<'_>,
-    asks: &mut Asks,
-    wire: &mut W,
-    rows: &mut T,
-    behind: &mut B,
-) -> Result<(), ClientFault>
-    requires window { 1 ≤ options.now.window }
-    requires some { 0 < length forms }
-    requires home { FormsAtHome bounds.starts.now forms }
-    requires none { held asks.old ≡ [] }
-    requires no_fault { asks.old.fault ≡ None }
-    requires suits { SuitsWire asks.old (W.state wire.old) }
-    ensures joins { OnOk result ((events : List Event) × (given : List Places)
-        × Joins (W.allows wire.old) (length query.now.patterns * (options.now.window * length forms))
-        (sources_of E.Source E.fits E.is_true E.rows E.plan E.reported options.now.block) query.now
-        bounds.entry.starts.now forms (told_in bounds.entry) events given asks.old asks.new (W.state wire.old)
-        (W.state wire.new)
-        × T.takes given rows.old rows.new behind.old behind.new) }
-    ensures some { IfErr result (λ fault. (events : List Event) × (given : List Places)
-        × JoinsSome (W.allows wire.old) (length query.now.patterns * (options.now.window * length forms))
-        (sources_of E.Source E.fits E.is_true E.rows E.plan E.reported options.now.block) query.now
-        bounds.entry.starts.now forms (told_in bounds.entry) bounds.entry.budget fault events given asks.old asks.new
-        (W.state wire.old) (W.state wire.new)
-        × T.takes_front given rows.old rows.new behind.old behind.new
-        × (IsLocal fault ⊎ T.takes given rows.old rows.new behind.old behind.new)) }
-    ensures sink { LeavesSink (T.sink behind.old) (T.sink behind.new) result }
-    ensures allowed { SameAllowed (W.allows wire.old) (W.allows wire.new) }
-{
-    match E::begin(alloc, query, forms, options.window, options.block) {
-        Err(_) => Err(ClientFault::OutOfMemory),
-        Ok(evaluation) => {
-            let mut evaluation = evaluation;
-            evaluate(rt, alloc, bounds, &mut evaluation, asks, wire, rows, behind)
-        }
-    }
-}
-
-/// Writes the result to its end: the rows that the join gives, and then the end of the text. At a
-/// fault what was made so far is given to the sink, and where that ends for want of memory the call
-/// does.
-fn write_joined<'a, 'b, R: Wait, E: Evaluates + Drop, W: Dial, K: Sink>(
-    rt: &R,
-    how: PhantomData<E>,
-    alloc: Global,
-    query: &Query,
-    forms: FormList,
-    bounds: Bounds<'b>,
-    options: &Options,
-    asks: &mut Asks,
-    wire: &mut W,
-    text: &mut ResultText<'a>,
-    out: &mut K,
-) -> Result<(), ClientFault>
-    requires window { 1 ≤ options.now.window }
-    requires some { 0 < length forms }
-    requires home { FormsAtHome bounds.starts.now forms }
-    requires none { held asks.old ≡ [] }
-    requires no_fault { asks.old.fault ≡ None }
-    requires suits { SuitsWire asks.old (W.state wire.old) }
-    requires fresh { text.old ≡ begun query.now }
-    ensures ok { OnOk result ((events : List Event) × (rows : List Places)
-        × Joins (W.allows wire.old) (length query.now.patterns * (options.now.window * length forms))
-        (sources_of E.Source E.fits E.is_true E.rows E.plan E.reported options.now.block) query.now
-        bounds.entry.starts.now forms (told_in bounds.entry) events rows asks.old asks.new (W.state wire.old)
-        (W.state wire.new)
-        × Appends (K.state out.old).taken (K.state out.new).taken (result_text query.now rows)
-        × (text.new.count ≡ counted_by (length rows) 0)) }
-    ensures err { IfErr result (λ fault. WritesLess (W.allows wire.old)
-        (length query.now.patterns * (options.now.window * length forms))
-        (sources_of E.Source E.fits E.is_true E.rows E.plan E.reported options.now.block) query.now
-        bounds.entry.starts.now forms (told_in bounds.entry) bounds.entry.budget fault asks.old asks.new
-        (W.state wire.old) (W.state wire.new) (K.state out.old).taken (K.state out.new).taken) }
-    ensures shown { IfErr result (λ fault. (less : WritesLess (W.allows wire.old)
-        (length query.now.patterns * (options.now.window * length forms))
-        (sources_of E.Source E.fits E.is_true E.rows E.plan E.reported options.now.block) query.now
-        bounds.entry.starts.now forms (told_in bounds.entry) bounds.entry.budget fault asks.old asks.new
-        (W.state wire.old) (W.state wire.new) (K.state out.old).taken (K.state out.new).taken)
-        × ShowsRest (W.allows wire.old) (length query.now.patterns * (options.now.window * length forms))
-        (sources_of E.Source E.fits E.is_true E.rows E.plan E.reported options.now.block) query.now
-        bounds.entry.starts.now forms (told_in bounds.entry) bounds.entry.budget fault asks.old asks.new
-        (W.state wire.old) (W.state wire.new) (K.state out.old).faults (K.state out.new).faults
-        (K.state out.old).taken (K.state out.new).taken less) }
-    ensures sink { LeavesSink (K.state out.old) (K.state out.new) result }
-    ensures allowed { SameAllowed (W.allows wire.old) (W.allows wire.new) }
-{
-    pieces_make_the_text();
-    match join_pages(
-        rt, how, alloc, query, forms, options, bounds, asks, wire, text, out,
-    ) {
-        Ok(()) => match text.finish(out) {
-            Ok(()) => Ok(()),
-            Err(fault) => Err(of_sink(fault)),
-        },
-        Err(fault) => match text.give(out) {
-            Ok(()) => Err(fault),
-            Err(Fault::Failed) => Err(fault),
-            Err(Fault::OutOfMemory) => Err(ClientFault::OutOfMemory),
-        },
-    }
-}
-
-/// Writes the result whose start pages are these.
-fn write_rows<R: Wait, E: Evaluates + Drop, W: Dial, K: Sink>(
-    rt: &R,
-    how: PhantomData<E>,
-    alloc: Global,
-    query: &Query,
-    starts: &[WebAddress],
-    pages: StartPages,
-    options: &Options,
-    asks: &mut Asks,
-    wire: &mut W,
-    out: &mut K,
-) -> Result<Report, ClientFault>
-    requires window { 1 ≤ options.now.window }
-    requires home { FormsAtHome starts.now pages.forms }
-    requires some { 0 < length pages.forms }
-    requires told { 0 < length pages.versions.items }
-    requires none { held asks.old ≡ [] }
-    requires no_fault { asks.old.fault ≡ None }
-    requires suits { SuitsWire asks.old (W.state wire.old) }
-    ensures ok { IfOk result (λ report. WritesRest (W.allows wire.old)
-        (length query.now.patterns * (options.now.window * length pages.forms))
-        (sources_of E.Source E.fits E.is_true E.rows E.plan E.reported options.now.block) query.now starts.now
-        pages.forms pages.versions.items report asks.old asks.new (W.state wire.old) (W.state wire.new)
-        (K.state out.old).taken (K.state out.new).taken) }
-    ensures err { IfErr result (λ fault. WritesLess (W.allows wire.old)
-        (length query.now.patterns * (options.now.window * length pages.forms))
-        (sources_of E.Source E.fits E.is_true E.rows E.plan E.reported options.now.block) query.now starts.now
-        pages.forms (told_at starts.now pages.versions.items) options.now.budget fault asks.old asks.new
-        (W.state wire.old) (W.state wire.new) (K.state out.old).taken (K.state out.new).taken) }
-    ensures shown { IfErr result (λ fault. (less : WritesLess (W.allows wire.old)
-        (length query.now.patterns * (options.now.window * length pages.forms))
-        (sources_of E.Source E.fits E.is_true E.rows E.plan E.reported options.now.block) query.now starts.now
-        pages.forms (told_at starts.now pages.versions.items) options.now.budget fault asks.old asks.new
-        (W.state wire.old) (W.state wire.new) (K.state out.old).taken (K.state out.new).taken)
-        × ShowsRest (W.allows wire.old) (length query.now.patterns * (options.now.window * length pages.forms))
-        (sources_of E.Source E.fits E.is_true E.rows E.plan E.reported options.now.block) query.now starts.now
-        pages.forms (told_at starts.now pages.versions.items) options.now.budget fault asks.old asks.new
-        (W.state wire.old) (W.state wire.new) (K.state out.old).faults (K.state out.new).faults
-        (K.state out.old).taken (K.state out.new).taken less) }
-    ensures sink { LeavesSink (K.state out.old) (K.state out.new) result }
-    ensures allowed { SameAllowed (W.allows wire.old) (W.allows wire.new) }
-{
-    let StartPages { forms, versions } = pages;
-    let bounds = Bounds {
-        starts,
-        versions: versions.as_slice(),
-        budget: options.budget,
-    };
-    match ResultWriter::begin(alloc, query) {
-        Err(_) => Err(ClientFault::OutOfMemory),
-        Ok(writer) => {
-            let mut text = ResultText::new(writer);
-            match write_joined(
-                rt, how, alloc, query, forms, bounds, options, asks, wire, &mut text, out,
-            ) {
-                Err(fault) => Err(fault),
-                Ok(()) => Ok(Report {
-                    requests: asks.started(),
-                    rows: text.count(),
-                    version: E::report_version(versions[0]),
-                }),
-            }
-        }
-    }
-}
-
-/// Asks for the start pages, and writes the result.
-fn write_result<R: Wait, E: Evaluates + Drop, W: Dial, K: Sink>(
-    rt: &R,
-    how: PhantomData<E>,
-    alloc: Global,
-    query: &Query,
-    starts: &[WebAddress],
-    options: &Options,
-    asks: &mut Asks,
-    wire: &mut W,
-    out: &mut K,
-) -> Result<Report, ClientFault>
-    requires starts { 0 < length starts.now }
-    requires window { 1 ≤ options.now.window }
-    requires none { held asks.old ≡ [] }
-    requires no_fault { asks.old.fault ≡ None }
-    requires suits { SuitsWire asks.old (W.state wire.old) }
-    ensures ok { IfOk result (λ report. WritesAll (Ran (W.allows wire.old)
-        (most_over options.now query.now (length starts.now)) asks.old asks.new (W.state wire.old) (W.state wire.new))
-        (sources_of E.Source E.fits E.is_true E.rows E.plan E.reported options.now.block) query.now starts.now report
-        (K.state out.old).taken (K.state out.new).taken) }
-    ensures err { IfErr result (λ fault. WritesShown (Ran (W.allows wire.old)
-        (most_over options.now query.now (length starts.now)) asks.old asks.new (W.state wire.old) (W.state wire.new))
-        (sources_of E.Source E.fits E.is_true E.rows E.plan E.reported options.now.block) query.now starts.now
-        options.now.budget fault (K.state out.old) (K.state out.new)) }
-    ensures suits { SuitsWire asks.new (W.state wire.new) }
-    ensures sink { LeavesSink (K.state out.old) (K.state out.new) result }
-    ensures allowed { SameAllowed (W.allows wire.old) (W.allows wire.new) }
-{
-    match ask_starts(rt, alloc, starts, options.budget, asks, wire) {
-        Ok(pages) => write_rows(
-            rt, how, alloc, query, starts, pages, options, asks, wire, out,
-        ),
-        Err(fault) => Err(fault),
-    }
-}
+use tpf_base::{Dial, Sink};
 
 /// The laws on which the solutions rest. It does nothing.
 pub fn solutions_rest_on_laws()
@@ -324,7 +96,6 @@ fn is_sized(block: BlockSize)
 /// the calls that use this one.
 pub fn evaluate_to<R: Wait, E: Evaluates + Drop, W: Dial, K: Sink>(
     rt: &R,
-    how: PhantomData<E>,
     alloc: Global,
     query: &Query,
     starts: &[WebAddress],
@@ -350,7 +121,13 @@ pub fn evaluate_to<R: Wait, E: Evaluates + Drop, W: Dial, K: Sink>(
     solutions_rest_on_laws();
     traffic_rests_on_laws(wire);
     let mut asks = Asks::new(alloc, options);
-    let ended = write_result(rt, how, alloc, query, starts, options, &mut asks, wire, out);
+    let call = Call {
+        alloc,
+        query,
+        starts,
+        options,
+    };
+    let ended = write_result::<_, E, _, _>(rt, call, &mut asks, wire, out);
     asks.close(wire);
     ended
 }
@@ -422,114 +199,7 @@ pub fn query<R: Wait, W: Dial, K: Sink>(
     traffic_rests_on_laws(wire);
     is_bounded(options.max_body);
     is_sized(options.block);
-    evaluate_to(
-        rt,
-        PhantomData::<Join>,
-        alloc,
-        query,
-        slice::from_ref(start),
-        options,
-        wire,
-        out,
-    )
-}
-
-/// Gathers the rows whose start pages are these.
-fn gather_rows<R: Wait, E: Evaluates + Drop, W: Dial>(
-    rt: &R,
-    how: PhantomData<E>,
-    alloc: Global,
-    query: &Query,
-    starts: &[WebAddress],
-    pages: StartPages,
-    options: &Options,
-    asks: &mut Asks,
-    wire: &mut W,
-) -> Result<(Vec<Row>, Report), ClientFault>
-    requires window { 1 ≤ options.now.window }
-    requires home { FormsAtHome starts.now pages.forms }
-    requires some { 0 < length pages.forms }
-    requires told { 0 < length pages.versions.items }
-    requires none { held asks.old ≡ [] }
-    requires no_fault { asks.old.fault ≡ None }
-    requires suits { SuitsWire asks.old (W.state wire.old) }
-    ensures ok { IfOk result (λ r. GathersRest (W.allows wire.old)
-        (length query.now.patterns * (options.now.window * length pages.forms))
-        (sources_of E.Source E.fits E.is_true E.rows E.plan E.reported options.now.block) query.now starts.now
-        pages.forms pages.versions.items r.1 r.0.items asks.old asks.new (W.state wire.old) (W.state wire.new)) }
-    ensures err { IfErr result (λ fault. WritesLess (W.allows wire.old)
-        (length query.now.patterns * (options.now.window * length pages.forms))
-        (sources_of E.Source E.fits E.is_true E.rows E.plan E.reported options.now.block) query.now starts.now
-        pages.forms (told_at starts.now pages.versions.items) options.now.budget fault asks.old asks.new
-        (W.state wire.old) (W.state wire.new) None None) }
-    ensures sink { IsErrOf result ClientFault.Sink → ⊥ }
-    ensures allowed { SameAllowed (W.allows wire.old) (W.allows wire.new) }
-{
-    let StartPages { forms, versions } = pages;
-    let bounds = Bounds {
-        starts,
-        versions: versions.as_slice(),
-        budget: options.budget,
-    };
-    let mut list = RowList::new(alloc);
-    match join_pages(
-        rt,
-        how,
-        alloc,
-        query,
-        forms,
-        options,
-        bounds,
-        asks,
-        wire,
-        &mut list,
-        &mut (),
-    ) {
-        Err(fault) => Err(fault),
-        Ok(()) => {
-            let rows = list.into_rows();
-            let report = Report {
-                requests: asks.started(),
-                rows: rows.len() as u64,
-                version: E::report_version(versions[0]),
-            };
-            Ok((rows, report))
-        }
-    }
-}
-
-/// Asks for the start pages, and gathers the rows.
-fn gather<R: Wait, E: Evaluates + Drop, W: Dial>(
-    rt: &R,
-    how: PhantomData<E>,
-    alloc: Global,
-    query: &Query,
-    starts: &[WebAddress],
-    options: &Options,
-    asks: &mut Asks,
-    wire: &mut W,
-) -> Result<(Vec<Row>, Report), ClientFault>
-    requires starts { 0 < length starts.now }
-    requires window { 1 ≤ options.now.window }
-    requires none { held asks.old ≡ [] }
-    requires no_fault { asks.old.fault ≡ None }
-    requires suits { SuitsWire asks.old (W.state wire.old) }
-    ensures ok { IfOk result (λ r. Returns (Ran (W.allows wire.old)
-        (most_over options.now query.now (length starts.now)) asks.old asks.new (W.state wire.old) (W.state wire.new))
-        (sources_of E.Source E.fits E.is_true E.rows E.plan E.reported options.now.block) query.now starts.now r.1
-        r.0.items) }
-    ensures err { IfErr result (λ fault. WritesSome (Ran (W.allows wire.old)
-        (most_over options.now query.now (length starts.now)) asks.old asks.new (W.state wire.old) (W.state wire.new))
-        (sources_of E.Source E.fits E.is_true E.rows E.plan E.reported options.now.block) query.now starts.now
-        options.now.budget fault None None) }
-    ensures suits { SuitsWire asks.new (W.state wire.new) }
-    ensures sink { IsErrOf result ClientFault.Sink → ⊥ }
-    ensures allowed { SameAllowed (W.allows wire.old) (W.allows wire.new) }
-{
-    match ask_starts(rt, alloc, starts, options.budget, asks, wire) {
-        Ok(pages) => gather_rows(rt, how, alloc, query, starts, pages, options, asks, wire),
-        Err(fault) => Err(fault),
-    }
+    evaluate_to::<_, Join, _, _>(rt, alloc, query, slice::from_ref(start), options, wire, out)
 }
 
 /// Asks the servers of the start pages for what a query needs, and gives the rows of its result (solution mappings) in a
@@ -537,7 +207,6 @@ fn gather<R: Wait, E: Evaluates + Drop, W: Dial>(
 /// no rows are given. Condition: there is a start.
 pub fn evaluate_rows<R: Wait, E: Evaluates + Drop, W: Dial>(
     rt: &R,
-    how: PhantomData<E>,
     alloc: Global,
     query: &Query,
     starts: &[WebAddress],
@@ -558,7 +227,13 @@ pub fn evaluate_rows<R: Wait, E: Evaluates + Drop, W: Dial>(
     solutions_rest_on_laws();
     traffic_rests_on_laws(wire);
     let mut asks = Asks::new(alloc, options);
-    let ended = gather(rt, how, alloc, query, starts, options, &mut asks, wire);
+    let call = Call {
+        alloc,
+        query,
+        starts,
+        options,
+    };
+    let ended = gather::<_, E, _>(rt, call, &mut asks, wire);
     asks.close(wire);
     ended
 }
@@ -601,13 +276,5 @@ pub fn collect<R: Wait, W: Dial>(
     traffic_rests_on_laws(wire);
     is_bounded(options.max_body);
     is_sized(options.block);
-    evaluate_rows(
-        rt,
-        PhantomData::<Join>,
-        alloc,
-        query,
-        slice::from_ref(start),
-        options,
-        wire,
-    )
+    evaluate_rows::<_, Join, _>(rt, alloc, query, slice::from_ref(start), options, wire)
 }

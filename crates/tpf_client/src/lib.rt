@@ -17,6 +17,7 @@ mod asks;
 mod calls;
 mod fault;
 mod options;
+mod results;
 mod rows;
 mod start;
 mod turns;

@@ -191,7 +191,6 @@ fn prepare<E: Evaluates, B, T: TakesRows<B>>(
 /// Waits for the next reply, and hands its page to the evaluation.
 fn take_next<R: Wait, E: Evaluates, W: Dial>(
     rt: &R,
-    alloc: Global,
     bounds: Bounds<'_>,
     evaluation: &mut E,
     asks: &mut Asks,
@@ -216,46 +215,51 @@ fn take_next<R: Wait, E: Evaluates, W: Dial>(
         Err(fault) => Err(shown(fault, bounds.budget)),
         Ok(arrived) => {
             let version = bounds.version_at(&arrived.address);
-            take_reply(alloc, evaluation, arrived, version)
+            take_reply(bounds.alloc, evaluation, arrived, version)
         }
     }
 }
 
 /// One turn: takes the rows that wait, hands over all asks and then takes the page of the next reply
 /// that comes. It says whether the evaluation was done before that.
-fn turn<R: Wait, E: Evaluates, W: Dial, B, T: TakesRows<B>>(
+fn turn<R: Wait, E: Evaluates + Drop, W: Dial, B, T: TakesRows<B>>(
     rt: &R,
-    alloc: Global,
     bounds: Bounds<'_>,
-    tickets: &mut u64,
-    evaluation: &mut E,
+    evaluation: &mut Evaluation<E>,
     asks: &mut Asks,
     wire: &mut W,
     rows: &mut T,
     behind: &mut B,
 ) -> Result<bool, ClientFault>
-    requires meets { (limits : Limits) × Meets limits (keeps_both E.keeps_to E.keeps_small limits evaluation.old)
-        (E.standing evaluation.old) asks.old }
-    requires given { tickets.old ≡ (E.standing evaluation.old).given }
+    requires meets { (limits : Limits) × Meets limits
+        (keeps_both E.keeps_to E.keeps_small limits evaluation.old.state) (E.standing evaluation.old.state) asks.old }
+    requires given { evaluation.old.tickets ≡ (E.standing evaluation.old.state).given }
     requires suits { SuitsWire asks.old (W.state wire.old) }
     ensures went { OnOk result ((events : List Event) × (taken : List Places)
         × Went E.suits E.account (keeps_both E.keeps_to E.keeps_small) E.standing E.is_true
-        (W.allows wire.old) evaluation.old evaluation.new (told_in bounds.entry) events taken asks.old asks.new
-        (W.state wire.old) (W.state wire.new)
+        (W.allows wire.old) evaluation.old.state evaluation.new.state (told_in bounds.entry) events taken
+        asks.old asks.new (W.state wire.old) (W.state wire.new)
         × T.takes taken rows.old rows.new behind.old behind.new) }
-    ensures given { OnOk result (tickets.new ≡ (E.standing evaluation.new).given) }
-    ensures done { result ≡ Ok true → (E.standing evaluation.new).done ≡ true }
+    ensures given { OnOk result (evaluation.new.tickets ≡ (E.standing evaluation.new.state).given) }
+    ensures done { result ≡ Ok true → (E.standing evaluation.new.state).done ≡ true }
     ensures failed { IfErr result (λ fault. (events : List Event) × (taken : List Places)
         × Failed E.suits E.account (keeps_both E.keeps_to E.keeps_small) E.standing E.is_true
-        (W.allows wire.old) evaluation.old (told_in bounds.entry) bounds.entry.budget fault events taken asks.old
-        asks.new (W.state wire.old) (W.state wire.new)
+        (W.allows wire.old) evaluation.old.state (told_in bounds.entry) bounds.entry.budget fault events taken
+        asks.old asks.new (W.state wire.old) (W.state wire.new)
         × T.takes_front taken rows.old rows.new behind.old behind.new
         × (IsLocal fault ⊎ T.takes taken rows.old rows.new behind.old behind.new)) }
     ensures sink { LeavesSink (T.sink behind.old) (T.sink behind.new) result }
     ensures allowed { SameAllowed (W.allows wire.old) (W.allows wire.new) }
 {
     is_lawful(wire);
-    match prepare(alloc, tickets, evaluation, asks, rows, behind) {
+    match prepare(
+        bounds.alloc,
+        &mut evaluation.tickets,
+        &mut evaluation.state,
+        asks,
+        rows,
+        behind,
+    ) {
         Err(fault) => Err(fault),
         Ok(done) => {
             if done {
@@ -263,7 +267,7 @@ fn turn<R: Wait, E: Evaluates, W: Dial, B, T: TakesRows<B>>(
             }
             match rows.hand_on(behind) {
                 Err(fault) => Err(of_sink(fault)),
-                Ok(()) => match take_next(rt, alloc, bounds, evaluation, asks, wire) {
+                Ok(()) => match take_next(rt, bounds, &mut evaluation.state, asks, wire) {
                     Err(fault) => Err(fault),
                     Ok(()) => Ok(false),
                 },
@@ -275,6 +279,7 @@ fn turn<R: Wait, E: Evaluates, W: Dial, B, T: TakesRows<B>>(
 /// What the turns of a call go by: the starts, the version that the page of each told, and the budget.
 #[derive(Clone, Copy)]
 pub(crate) struct Bounds<'a> {
+    pub(crate) alloc: Global,
     pub(crate) starts: &'a [WebAddress],
     pub(crate) versions: &'a [Option<u64>],
     pub(crate) budget: u64,
@@ -298,52 +303,47 @@ impl<'a> Bounds<'a> {
     }
 }
 
+/// An evaluation that runs, and how many tickets it gave; no memory holds more of them than a u64 counts.
+#[derive(Drop)]
+pub(crate) struct Evaluation<E: Drop> {
+    pub(crate) state: E,
+    pub(crate) tickets: u64,
+}
+
 /// Takes turns until the evaluation is done.
 ///
 /// Each turn takes the rows that wait, hands over all asks that there are, has what was made of the
 /// rows handed on, and waits for the next reply.
-pub(crate) fn evaluate<R: Wait, E: Evaluates, W: Dial, B, T: TakesRows<B>>(
+pub(crate) fn evaluate<R: Wait, E: Evaluates + Drop, W: Dial, B, T: TakesRows<B>>(
     rt: &R,
-    alloc: Global,
     bounds: Bounds<'_>,
-    evaluation: &mut E,
+    evaluation: &mut Evaluation<E>,
     asks: &mut Asks,
     wire: &mut W,
     rows: &mut T,
     behind: &mut B,
 ) -> Result<(), ClientFault>
-    requires meets { (limits : Limits) × Meets limits (keeps_both E.keeps_to E.keeps_small limits evaluation.old)
-        (E.standing evaluation.old) asks.old }
-    requires given { (E.standing evaluation.old).given ≡ 0 }
+    requires meets { (limits : Limits) × Meets limits
+        (keeps_both E.keeps_to E.keeps_small limits evaluation.old.state) (E.standing evaluation.old.state) asks.old }
+    requires given { evaluation.old.tickets ≡ (E.standing evaluation.old.state).given }
     requires suits { SuitsWire asks.old (W.state wire.old) }
     ensures went { OnOk result ((events : List Event) × (taken : List Places)
         × Went E.suits E.account (keeps_both E.keeps_to E.keeps_small) E.standing E.is_true
-        (W.allows wire.old) evaluation.old evaluation.new (told_in bounds.entry) events taken asks.old asks.new
-        (W.state wire.old) (W.state wire.new)
+        (W.allows wire.old) evaluation.old.state evaluation.new.state (told_in bounds.entry) events taken
+        asks.old asks.new (W.state wire.old) (W.state wire.new)
         × T.takes taken rows.old rows.new behind.old behind.new) }
-    ensures done { OnOk result ((E.standing evaluation.new).done ≡ true) }
+    ensures done { OnOk result ((E.standing evaluation.new.state).done ≡ true) }
     ensures failed { IfErr result (λ fault. (events : List Event) × (taken : List Places)
         × Failed E.suits E.account (keeps_both E.keeps_to E.keeps_small) E.standing E.is_true
-        (W.allows wire.old) evaluation.old (told_in bounds.entry) bounds.entry.budget fault events taken asks.old
-        asks.new (W.state wire.old) (W.state wire.new)
+        (W.allows wire.old) evaluation.old.state (told_in bounds.entry) bounds.entry.budget fault events taken
+        asks.old asks.new (W.state wire.old) (W.state wire.new)
         × T.takes_front taken rows.old rows.new behind.old behind.new
         × (IsLocal fault ⊎ T.takes taken rows.old rows.new behind.old behind.new)) }
     ensures sink { LeavesSink (T.sink behind.old) (T.sink behind.new) result }
     ensures allowed { SameAllowed (W.allows wire.old) (W.allows wire.new) }
 {
-    let mut tickets = 0;
     for _ in rt.forever() {
-        match turn(
-            rt,
-            alloc,
-            bounds,
-            &mut tickets,
-            evaluation,
-            asks,
-            wire,
-            rows,
-            behind,
-        ) {
+        match turn(rt, bounds, evaluation, asks, wire, rows, behind) {
             Err(fault) => return Err(fault),
             Ok(done) => {
                 if done {

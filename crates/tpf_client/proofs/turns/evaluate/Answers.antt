@@ -1,5 +1,5 @@
 -- One turn more.
-use Rattle.std.proofs.Common.{Bool, [], ◌++◌, ◌⊎◌, inl, inr, sym, ap}
+use Rattle.std.proofs.Common.{Bool, [], ◌++◌, ◌⊎◌, inl, inr, ap}
 use Rattle.std.specs.Prelude.{Ok}
 use Rattle.tpf_client.specs.Told.{told_in}
 use Rattle.tpf_client.specs.Turns.{keeps_both}
@@ -15,8 +15,8 @@ behind-takes A B C f (inr b) = inr (f b)
 
 pub loop-init : goal.loop-init
 loop-init g c = record {
-  went = ([], [], went-none g.E.Evaluates.suits g.E.Evaluates.account (keeps_both g.E.Evaluates.keeps_to g.E.Evaluates.keeps_small) g.E.Evaluates.standing g.E.Evaluates.is_true (told_in c.args.bounds) (g.W.Wire.allows c.args.wire.now) c.args.evaluation.now c.args.asks.now (g.W.Wire.state c.args.wire.now) c.requires.suits, g.met.T.TakesRows.takes_none c.args.rows.now c.args.behind.now);
-  counts = sym c.requires.given;
+  went = ([], [], went-none g.E.Evaluates.suits g.E.Evaluates.account (keeps_both g.E.Evaluates.keeps_to g.E.Evaluates.keeps_small) g.E.Evaluates.standing g.E.Evaluates.is_true (told_in c.args.bounds) (g.W.Wire.allows c.args.wire.now) c.args.evaluation.now.state c.args.asks.now (g.W.Wire.state c.args.wire.now) c.requires.suits, g.met.T.TakesRows.takes_none c.args.rows.now c.args.behind.now);
+  counts = c.requires.given;
   sink = stays-none (g.T.TakesRows.sink c.args.behind.now);
   allowed = same-allowed (g.W.Wire.allows c.args.wire.now);
 }
@@ -35,7 +35,7 @@ loop-preserved g c =
       went = (
         i.went.0 ++ t.0,
         i.went.1 ++ t.1,
-        went-then g.E.Evaluates.suits g.E.Evaluates.account (keeps_both g.E.Evaluates.keeps_to g.E.Evaluates.keeps_small) g.E.Evaluates.standing g.E.Evaluates.is_true (told_in c.args.bounds) (g.W.Wire.allows c.args.wire.now) (g.W.Wire.allows c.loop.wire) c.args.evaluation.now c.loop.evaluation c.turn.new.evaluation i.went.0 t.0 i.went.1 t.1 c.args.asks.now c.loop.asks c.turn.new.asks
+        went-then g.E.Evaluates.suits g.E.Evaluates.account (keeps_both g.E.Evaluates.keeps_to g.E.Evaluates.keeps_small) g.E.Evaluates.standing g.E.Evaluates.is_true (told_in c.args.bounds) (g.W.Wire.allows c.args.wire.now) (g.W.Wire.allows c.loop.wire) c.args.evaluation.now.state c.loop.evaluation.state c.turn.new.evaluation.state i.went.0 t.0 i.went.1 t.1 c.args.asks.now c.loop.asks c.turn.new.asks
             (g.W.Wire.state c.args.wire.now) (g.W.Wire.state c.loop.wire) (g.W.Wire.state c.turn.new.wire) i.allowed i.went.2 t.2,
         g.met.T.TakesRows.takes_then i.went.1 t.1 _ _ _ _ _ _ i.went.3 t.3,
       );
@@ -50,7 +50,7 @@ returns-then-done-clause-went g c =
     let t = c.in-Ok.ensures.went in (
       i.went.0 ++ t.0,
       i.went.1 ++ t.1,
-      went-then g.E.Evaluates.suits g.E.Evaluates.account (keeps_both g.E.Evaluates.keeps_to g.E.Evaluates.keeps_small) g.E.Evaluates.standing g.E.Evaluates.is_true (told_in c.args.bounds) (g.W.Wire.allows c.args.wire.now) (g.W.Wire.allows c.loop.wire) c.args.evaluation.now c.loop.evaluation c.turn.new.evaluation i.went.0 t.0 i.went.1 t.1 c.args.asks.now c.loop.asks c.turn.new.asks
+      went-then g.E.Evaluates.suits g.E.Evaluates.account (keeps_both g.E.Evaluates.keeps_to g.E.Evaluates.keeps_small) g.E.Evaluates.standing g.E.Evaluates.is_true (told_in c.args.bounds) (g.W.Wire.allows c.args.wire.now) (g.W.Wire.allows c.loop.wire) c.args.evaluation.now.state c.loop.evaluation.state c.turn.new.evaluation.state i.went.0 t.0 i.went.1 t.1 c.args.asks.now c.loop.asks c.turn.new.asks
           (g.W.Wire.state c.args.wire.now) (g.W.Wire.state c.loop.wire) (g.W.Wire.state c.turn.new.wire) i.allowed i.went.2 t.2,
       g.met.T.TakesRows.takes_then i.went.1 t.1 _ _ _ _ _ _ i.went.3 t.3,
     )
@@ -67,7 +67,7 @@ returns-in-Err-clause-failed g c =
     let t = c.in-Err.ensures.failed in (
       i.went.0 ++ t.0,
       i.went.1 ++ t.1,
-      failed-then g.E.Evaluates.suits g.E.Evaluates.account (keeps_both g.E.Evaluates.keeps_to g.E.Evaluates.keeps_small) g.E.Evaluates.standing g.E.Evaluates.is_true (told_in c.args.bounds) (g.W.Wire.allows c.args.wire.now) (g.W.Wire.allows c.loop.wire) c.args.evaluation.now c.loop.evaluation c.args.bounds.budget c.in-Err.fault i.went.0 t.0 i.went.1 t.1 c.args.asks.now c.loop.asks c.turn.new.asks
+      failed-then g.E.Evaluates.suits g.E.Evaluates.account (keeps_both g.E.Evaluates.keeps_to g.E.Evaluates.keeps_small) g.E.Evaluates.standing g.E.Evaluates.is_true (told_in c.args.bounds) (g.W.Wire.allows c.args.wire.now) (g.W.Wire.allows c.loop.wire) c.args.evaluation.now.state c.loop.evaluation.state c.args.bounds.budget c.in-Err.fault i.went.0 t.0 i.went.1 t.1 c.args.asks.now c.loop.asks c.turn.new.asks
           (g.W.Wire.state c.args.wire.now) (g.W.Wire.state c.loop.wire) (g.W.Wire.state c.turn.new.wire) i.allowed i.went.2 t.2,
       g.met.T.TakesRows.front_then i.went.1 t.1 _ _ _ _ _ _ i.went.3 t.3,
       behind-takes _ _ _ (g.met.T.TakesRows.takes_then i.went.1 t.1 _ _ _ _ _ _ i.went.3) t.4,
