@@ -11,7 +11,7 @@ ghost use Rattle.tpf_client.specs.Offers.{servers_offer};
 ghost use Rattle.tpf_client.specs.Plans.{RisesFew, PlanFits, MayStill};
 ghost use Rattle.tpf_client.specs.Sinks.{LeavesSink};
 ghost use Rattle.federated_query.specs.Servers.{AreApart, joint_sources, OverServers};
-ghost use Rattle.federated_query.specs.Limits.{ServersFit};
+ghost use Rattle.federated_query.specs.Limits.{ServersFit, SucceedsWithin};
 
 use bgp_core::Query;
 use federation::Federation;
@@ -46,7 +46,8 @@ fn is_bounded(max_body: u64)
 /// may be sent again, the answer is `Ok`, `OutOfMemory`, or `Changed` where the data of a server did change (`complete`); and
 /// `Ok` or `OutOfMemory` where each server answers over one version, whatever it served before the call (`still`). Each
 /// answer is a page where the data of no server change, each is within the limits of what is served and answers its start, and the
-/// starts and the terms of the query are short (`limits`).
+/// starts and the terms of the query are short (`limits`); and where one version of each server is so, over which it answers
+/// (`still_limits`).
 ///
 /// The faults come as with `query` of `tpf_client`; `Changed` where a page tells another version of the data than the start page
 /// of its own server.
@@ -90,6 +91,9 @@ pub fn federate<R: Wait, W: Dial, K: Sink>(
         → (Rose (K.state out.old).faults (K.state out.new).faults → ⊥)
         → IfErr result (MayStill (servers_offer publishers query.now starts.now))) }
     ensures still { SucceedsStillOver (W.allows wire.old) options.now query.now starts.now (W.state wire.old)
+        (W.state wire.new)
+        (Rose (K.state out.old).faults (K.state out.new).faults) result }
+    ensures still_limits { SucceedsWithin (W.allows wire.old) options.now query.now starts.now (W.state wire.old)
         (W.state wire.new)
         (Rose (K.state out.old).faults (K.state out.new).faults) result }
     ensures version { IfOk result (λ report. report.version ≡ None) }

@@ -1,23 +1,35 @@
--- What is read of a server with one version fits.
-use Rattle.std.proofs.Common.{ℕ, ◌≡◌, ◌==◌, true, subst, arith}
-use Rattle.std.proofs.lemmas.Bool.Decides.{nat_tests}
+-- What is read of a server fits: over one version, and over each where there is but one.
+use Rattle.std.proofs.Common.{ℕ, ◌≡◌, ◌≤◌, Bool, true, false, if◌then◌else◌, List, [], length, subst}
+use Rattle.std.specs.List.{AllByRecursion}
+use Rattle.std.proofs.lemmas.Bool.{eqb-true}
 use Rattle.tpf_base.specs.Addresses.{Address}
 use Rattle.tpf_base.specs.Marks.{Served}
 use Rattle.template_fill.specs.Answered.{address_answer}
 use Rattle.control_reader.specs.Takes.{Takes}
 use Rattle.plan_laws.specs.Fitting.{IsRead}
 use Rattle.tpf_client.specs.Offers.{Publisher, IsVersionOf}
-use Rattle.tpf_client.specs.Plans.{IsAnswerable, IsReadByAll, IsSmallByAll, IsFit, answer_at}
+use Rattle.tpf_client.specs.Plans.{IsAnswerable, IsReadByAll, IsSmallByAll, IsFit, IsFitAt, answer_at}
 
-is_200 : (n : ℕ) → n == 200 ≡ true → n ≡ 200
-is_200 n h = grind (arith, nat_tests)
+-- what holds of all addresses holds of those that are asked for
+pub where_asked : (P : Address → Type 0) (b : Bool) (list : List Address) → AllByRecursion P list → AllByRecursion P (if b then list else [])
+where_asked P true list h = h
+where_asked P false list h = tt
+
+-- what is read is fit where its body is small
+pub fit_at : (most : ℕ) (p : Publisher) (version : ℕ) (address : Address) → IsRead p.history (Served version) p.config address → length (answer_at p version address).body ≤ most → IsFitAt most p version address
+fit_at most p version address r small = record {
+  is_answered = record { short = r.short; answered = eqb-true (answer_at p version address).status 200 r.answered };
+  page = r.page;
+  is_read = r.taken;
+  is_small = small;
+}
 
 module _ (p : Publisher) (only : (version : ℕ) → IsVersionOf p.history version → 1 ≡ version) where
   abbrev Reads : Address → Type 0
   Reads = IsRead p.history (Served 1) p.config
 
   status_at : (address : Address) → Reads address → (version : ℕ) → 1 ≡ version → (answer_at p version address).status ≡ 200
-  status_at address r version is = subst (λ (v : ℕ). (answer_at p v address).status ≡ 200) is (is_200 (address_answer p.history (Served 1) p.config address).status r.answered)
+  status_at address r version is = subst (λ (v : ℕ). (answer_at p v address).status ≡ 200) is (eqb-true (address_answer p.history (Served 1) p.config address).status 200 r.answered)
 
   pub answered_of : (address : Address) → IsRead p.history (Served 1) p.config address → IsAnswerable p address
   answered_of address r = record { short = r.short; answered = λ version low high. status_at address r version (only version (record { low = low; high = high })) }

@@ -17,7 +17,7 @@ use Rattle.tpf_client.proofs.Completing.{completes}
 use Rattle.tpf_client.proofs.Covered.{Covered, solutions-written, front-written}
 use Rattle.federated_query.specs.Servers.{joint_sources}
 use Rattle.federated_query.proofs.Covering.{servers-covered}
-use Rattle.federated_query.proofs.Fitting.{plan-fits}
+use Rattle.federated_query.proofs.Fitting.{plan-fits, choice-fits}
 use Rattle.federated_query.proofs.Still.{still-wants}
 use Rattle.federated_query.proofs.call.federate.Given as given
 use Rattle.federated_query.proofs.call.federate.Goals as goal
@@ -76,3 +76,8 @@ pub returns-clause-still : goal.returns-clause-still
 returns-clause-still g c = λ publishers versions honest still alive rise few fits none.
     still-wants c.solutions_rest_on_laws.ensures c.traffic_rests_on_laws.ensures c.versions_are_valid.ensures.versions (g.W.Wire.allows c.args.wire.now) c.args.options.now (g.W.Wire.state c.args.wire.now) (g.W.Wire.state c.evaluate_to.new.wire) c.is_lawful.ensures c.is_bounded.ensures publishers c.args.starts.now c.requires.starts c.requires.apart honest c.args.query.now versions still
     (ended g c).acts.happened c.evaluate_to.result _ _ alive rise few fits (if-err c.evaluate_to.result _ _ (λ fault w. w.fails.some) (ended g c).err) (λ e. none (c.evaluate_to.ensures.sink.sink e))
+
+pub returns-clause-still_limits : goal.returns-clause-still_limits
+returns-clause-still_limits g c = λ publishers versions honest still alive rise few within none.
+    returns-clause-still g c publishers versions honest still alive rise few
+    (choice-fits c.joint_plans_are_read.ensures c.plans_are_read.ensures.start c.pages_are_answered.ensures.answered (g.W.Wire.allows c.args.wire.now) (g.W.Wire.state c.args.wire.now) publishers c.args.query.now c.args.starts.now c.args.options.now rise c.requires.starts c.requires.apart honest versions within) none
