@@ -1,5 +1,5 @@
 -- How a call ended, whose links are closed at last: all is said of one list of events.
-use Rattle.std.proofs.Common.{ℕ, ◌≡◌, List, length, Option, None}
+use Rattle.std.proofs.Common.{ℕ, ◌≡◌, List, length, None}
 use Rattle.std.specs.Prelude.{Result, IfOk, IfErr}
 use Rattle.tpf_base.specs.Addresses.{Address}
 use Rattle.tpf_base.specs.Links.{WireState}

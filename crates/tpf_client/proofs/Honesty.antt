@@ -7,7 +7,7 @@ use Rattle.list_laws.proofs.Members.{at_head, one_of}
 use Rattle.rdf_terms.specs.declared.term.Triple.{Triple}
 use Rattle.tpf_base.specs.Addresses.{Address, address_text}
 use Rattle.tpf_base.specs.Links.{All, WireState, OpensGiven}
-use Rattle.tpf_base.specs.Marks.{Mark, version_at}
+use Rattle.tpf_base.specs.Marks.{Mark}
 use Rattle.http_wire.specs.declared.message.Reply.{Reply}
 use Rattle.template_fill.specs.Metadata.{Config}
 use Rattle.template_fill.specs.Authorities.{ShareAuthority}

@@ -7,7 +7,7 @@ use Rattle.std.specs.List.Sorted.{IsPermutation}
 use Rattle.std.proofs.lemmas.List.Sorted.{IsPermutation-sym, Contains-permutation}
 use Rattle.list_laws.proofs.Members.{at_head, in_tail, head_or_tail, none_in}
 use Rattle.tpf_base.specs.Addresses.{Address}
-use Rattle.tpf_base.specs.Links.{Link, Nature, WireState, told_in}
+use Rattle.tpf_base.specs.Links.{Link, Nature, WireState, told_by}
 use Rattle.request_pool.specs.Faults.{kept_of}
 use Rattle.request_pool.specs.Pools.{Pooled, Ask, held}
 use Rattle.request_pool.specs.Owned.{held_on}
@@ -92,7 +92,7 @@ abbrev pub replied-closed : (limit : ℕ) (address : Address) (received : List �
 replied-closed limit address received v w same n r = record {
   k = r.k;
   is_address = r.is_address;
-  peer = (same r.k).peer ∙ subst (λ (x : Nature). (v.links r.k).peer ≡ told_in x.tells (address.host, address.port)) (sym n) r.peer;
+  peer = (same r.k).peer ∙ subst (λ (x : Nature). (v.links r.k).peer ≡ told_by x.tells (address.host, address.port)) (sym n) r.peer;
   before = r.before;
   replied = r.replied;
   sent_is = subst (λ (x : Option (List ℕ)). Holds x (bytes_of (sent_of r.before) ++ request_for address)) (sym (same r.k).sent) r.sent_is;

@@ -10,8 +10,8 @@ use Rattle.tpf_client.proofs.Texts.{nothing-written}
 use Rattle.tpf_client.proofs.Going.{err-as}
 use Rattle.tpf_client.proofs.results.gather_rows.Goals as goal
 
-pub returns-clause-ok : goal.returns-clause-ok
-returns-clause-ok g c =
+pub returns-in-Ok-clause-ok : goal.returns-in-Ok-clause-ok
+returns-in-Ok-clause-ok g c =
     let j = c.in-Ok.ensures.joins in
     let same : c.into_rows-rows.result.items ≡ j.1 = c.into_rows-rows.ensures ∙ (j.3 ∙ ap (λ (l : List Places). l ++ j.1) c.new-list.ensures) in
     record {
