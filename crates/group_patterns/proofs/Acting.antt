@@ -66,7 +66,7 @@ module _ (allows : List ℕ → ℕ → List ℕ → List ℕ → Type 0) (optio
   -- ---- a steady wire
 
   module _ (history : List (List Triple)) (config : Config) where
-    stops-spares : (done : List BlockRows) (rest : List (List Pattern)) (fault : ClientFault) (u v w : WireState) → IsHonestWire allows history config v → v.nature.steady ≡ true → Spared allows options start names history config u v (options.budget - requests_of done)
+    stops-spares : (done : List BlockRows) (rest : List (List Pattern)) (fault : ClientFault) (u v w : WireState) → IsHonestWire allows start history config v → v.nature.steady ≡ true → Spared allows options start names history config u v (options.budget - requests_of done)
         → Stops allows options start names done rest fault v w → SparesWire v w
     stops-spares done rest fault u v w honest steady s (InBlock ps more own r e ends) = ends.acts.plan.unprovoked (publisher history config) honest steady s.none s.few
     stops-spares done rest fault u v w honest steady s (IsSpent ps more r spent e is) = subst (SparesWire v) (sym is) (spares-none v)
@@ -74,15 +74,15 @@ module _ (allows : List ℕ → ℕ → List ℕ → List ℕ → Type 0) (optio
     stops-spares done rest fault u v w honest steady s (IsLacking e is) = subst (SparesWire v) (sym is) (spares-none v)
     stops-spares done rest fault u v w honest steady s (IsUnwritten r e is) = subst (SparesWire v) (sym is) (spares-none v)
 
-    all-spares : (blocks : List (List Pattern)) (done : List BlockRows) (u w : WireState) → GivesAll allows options start names options.budget blocks done u w → IsHonestWire allows history config u → StaysUnprovoked options u w
+    all-spares : (blocks : List (List Pattern)) (done : List BlockRows) (u w : WireState) → GivesAll allows options start names options.budget blocks done u w → IsHonestWire allows start history config u → StaysUnprovoked options u w
     all-spares blocks done u w g honest steady none few = (chain-spares allows options start names history config options.budget blocks done u w g honest steady none few).spares
 
-    some-spares : (blocks : List (List Pattern)) (fault : ClientFault) (u w : WireState) → AsksSome allows options start names blocks fault u w → IsHonestWire allows history config u → StaysUnprovoked options u w
+    some-spares : (blocks : List (List Pattern)) (fault : ClientFault) (u w : WireState) → AsksSome allows options start names blocks fault u w → IsHonestWire allows start history config u → StaysUnprovoked options u w
     some-spares blocks fault u w s honest steady none few =
         let before = chain-spares allows options start names history config options.budget s.asked s.done u s.between s.gives honest steady none few in
         let on = chain-onward allows options start names options.budget s.asked s.done u s.between s.gives in
         spares-then u s.between w on.moves before.spares
-        (stops-spares s.done s.rest fault u s.between w (honest-then allows history config u s.between on.moves honest) (ap (λ (x : Nature). x.steady) on.moves.nature ∙ steady) before s.stops)
+        (stops-spares s.done s.rest fault u s.between w (honest-then allows start history config u s.between on.moves honest) (ap (λ (x : Nature). x.steady) on.moves.nature ∙ steady) before s.stops)
 
 -- ---- whatever the other ends answer, at a fault
 
@@ -152,7 +152,7 @@ module _ (allows : List ℕ → ℕ → List ℕ → List ℕ → Type 0) (optio
     abbrev spent-by : Onward start (requests_of a.done) since now
     spent-by = chain-onward allows options start g.names options.budget (blocks_of (group_tree g)) a.done since now a.gives
 
-    module _ (p : Publisher) (honest : IsHonestWire allows p.history p.config since) where
+    module _ (p : Publisher) (honest : IsHonestWire allows start p.history p.config since) where
       abbrev chain : ChainDone p allows options start g.names (blocks_of (group_tree g)) a.done since now
       chain = chain-done p allows options start g.names options.budget (blocks_of (group_tree g)) a.done since now a.gives honest
 
@@ -242,7 +242,7 @@ module _ (allows : List ℕ → ℕ → List ℕ → List ℕ → Type 0) (optio
     }
 
   module _ (fault : ClientFault) (a : AsksSome allows options start g.names (blocks_of (group_tree g)) fault since now) where
-    ended : (p : Publisher) → IsHonestWire allows p.history p.config since → EndDone p allows options start g fault since now
+    ended : (p : Publisher) → IsHonestWire allows start p.history p.config since → EndDone p allows options start g fault since now
     ended p honest = end-done p allows options start g fault since now honest a (chain-done p allows options start g.names options.budget a.asked a.done since a.between a.gives honest)
 
     plan-err : ActsByPlan allows (group_ends g start) (StartedByBlocks allows options g since now) options (Err fault) (λ (told : Report). told) since now

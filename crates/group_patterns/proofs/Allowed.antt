@@ -42,10 +42,10 @@ with-cause told (Ok x) cause known holds h = tt
 with-cause told (Err fault) cause known holds h = h
 
 module _ (old new : List ℕ → ℕ → List ℕ → List ℕ → Type 0) (same : SameAllowed old new) where
-  pub honest-so : (history : List (List Triple)) (config : Config) (w : WireState) → IsHonestWire old history config w → IsHonestWire new history config w
-  honest-so history config w h = record {
+  pub honest-so : (start : Address) (history : List (List Triple)) (config : Config) (w : WireState) → IsHonestWire old start history config w → IsHonestWire new start history config w
+  honest-so start history config w h = record {
     tells = h.tells;
-    is_honest = λ host port sent owed is. h.is_honest host port sent owed ((same host port sent owed).0 is);
+    is_honest = λ sent owed is. h.is_honest sent owed ((same start.host start.port sent owed).0 is);
     is_history = h.is_history;
     is_config = h.is_config;
     few = h.few;
@@ -66,9 +66,9 @@ module _ (old new : List ℕ → ℕ → List ℕ → List ℕ → Type 0) (same
     -- ---- all of it
 
     module _ (start : Address) (q : QueryData) {A : Type 0} (told : A → Report) (r : Result A ClientFault) (a : ActsOnWire new (ends_in_blocks options.block q start) options (start ∷ []) (most_asked options q) r told since now) where
-      module _ (p : Publisher) (honest : IsHonestWire old p.history p.config since) where
-        abbrev by : IsHonestWire new p.history p.config since
-        by = honest-so p.history p.config since honest
+      module _ (p : Publisher) (honest : IsHonestWire old start p.history p.config since) where
+        abbrev by : IsHonestWire new start p.history p.config since
+        by = honest-so start p.history p.config since honest
 
       abbrev offer-of : Publisher → Offer
       offer-of p = offer_in_blocks options.block p q start
@@ -124,7 +124,7 @@ module _ (old new : List ℕ → ℕ → List ℕ → List ℕ → Type 0) (same
   gives-so options start q b since now g = record {
     some = g.some;
     acts = acts-so options since now start q (λ report. report) (Ok b.report) g.acts;
-    solutions = λ history config honest. g.solutions history config (honest-so history config since honest);
+    solutions = λ history config honest. g.solutions history config (honest-so start history config since honest);
     width = g.width;
     count = g.count;
     alone = g.alone;

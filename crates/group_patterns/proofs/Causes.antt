@@ -20,7 +20,7 @@ use Rattle.tpf_client.specs.Calls.{IsReceived, IsCause}
 use Rattle.tpf_client.specs.Honest.{IsHonestWire}
 use Rattle.tpf_client.specs.Offers.{Publisher, publisher, IsVersionOf, server_offer, addresses_of}
 use Rattle.tpf_client.specs.Requests.{MovesOn}
-use Rattle.tpf_client.specs.Plans.{AtEach, IsAnswered, IsReadByAll, RefusesLong, MissesPage, TellsVersions, ChangesVersion, IsHonestCause}
+use Rattle.tpf_client.specs.Plans.{AtEach, IsAnswerable, IsReadByAll, RefusesLong, MissesPage, TellsVersions, ChangesVersion, IsHonestCause}
 use Rattle.group_patterns.specs.Acts.{IsReceivedIn, IsGroupCause}
 use Rattle.group_patterns.specs.Blocks.{BlockRows, requests_of, with_budget, GivesAll, of_block, Stops, InBlock, IsSpent, Differs, IsLacking, IsUnwritten, AsksSome}
 use Rattle.group_patterns.specs.Plans.{group_plan, group_offer, OverOne, RefusesOf, MissesOf, IsHonestGroupCause}
@@ -91,9 +91,9 @@ module _ (p : Publisher) (options : Options) (g : GroupData) (start : Address) (
       version = h.choice;
       is_version = h.is_choice;
       holds = record {
-        too_long = λ all. h.too_long (all-own (AtEach (group_offer p g start) IsAnswered) h.choice all);
+        too_long = λ all. h.too_long (all-own (AtEach (group_offer p g start) IsAnswerable) h.choice all);
         long = λ all.
-            let k = h.long (all-own (AtEach (group_offer p g start) IsAnswered) h.choice all) in
+            let k = h.long (all-own (AtEach (group_offer p g start) IsAnswerable) h.choice all) in
             record {
               address = k.address;
               is_asked = in_flat_map (own-plan h.choice) (blocks_of (group_tree g)) ps k.address is k.is_asked;
@@ -124,7 +124,7 @@ module _ (p : Publisher) (options : Options) (g : GroupData) (start : Address) (
 
 -- the first block told one of the versions
 first-told : (allows : List ℕ → ℕ → List ℕ → List ℕ → Type 0) (options : Options) (start : Address) (names : List (List ℕ)) (history : List (List Triple)) (config : Config) (left : ℕ) (pss : List (List Pattern)) (bs : List BlockRows) (first : BlockRows) (later : List BlockRows) (u w : WireState)
-    → IsHonestWire allows history config u → GivesAll allows options start names left pss bs u w → bs ≡ first ∷ later → (version : ℕ) × IsVersionOf history version × (first.report.version ≡ Some version)
+    → IsHonestWire allows start history config u → GivesAll allows options start names left pss bs u w → bs ≡ first ∷ later → (version : ℕ) × IsVersionOf history version × (first.report.version ≡ Some version)
 first-told allows options start names history config left [] [] first later u w honest g e = cc
 first-told allows options start names history config left [] (b ∷ bs) first later u w honest g e = absurd g
 first-told allows options start names history config left (ps ∷ pss) [] first later u w honest g e = absurd g
@@ -134,7 +134,7 @@ first-told allows options start names history config left (ps ∷ pss) (b ∷ bs
     (s.choice, s.is_choice, subst (λ (x : BlockRows). x.report.version ≡ Some s.choice) same s.is_reported)
 
 pub honest-cause-of : (allows : List ℕ → ℕ → List ℕ → List ℕ → Type 0) (options : Options) (start : Address) (g : GroupData) (fault : ClientFault) (since now : WireState) (history : List (List Triple)) (config : Config)
-    → IsHonestWire allows history config since → AsksSome allows options start g.names (blocks_of (group_tree g)) fault since now → IsHonestGroupCause (publisher history config) options g start fault
+    → IsHonestWire allows start history config since → AsksSome allows options start g.names (blocks_of (group_tree g)) fault since now → IsHonestGroupCause (publisher history config) options g start fault
 honest-cause-of allows options start g fault since now history config honest s = by s.stops
   where
     on : Onward start (requests_of s.done) since s.between
@@ -144,11 +144,11 @@ honest-cause-of allows options start g fault since now history config honest s =
     by (InBlock ps more own r e ends) =
         let is : Contains (blocks_of (group_tree g)) ps = subst (λ (l : List (List Pattern)). Contains l ps) (sym (s.blocks_are ∙ ap (λ (l : List (List Pattern)). s.asked ++ l) r)) (member s.asked ps more) in
         subst (IsHonestGroupCause (publisher history config) options g start) (sym e)
-        (own-honest (publisher history config) options g start ps is (options.budget - requests_of s.done) own (ends.acts.plan.honest_cause (publisher history config) (honest-then allows history config since s.between on.moves honest)))
+        (own-honest (publisher history config) options g start ps is (options.budget - requests_of s.done) own (ends.acts.plan.honest_cause (publisher history config) (honest-then allows start history config since s.between on.moves honest)))
     by (IsSpent ps more r spent e is) = subst (IsHonestGroupCause (publisher history config) options g start) (sym e) tt
     by (Differs ps more first later b r d ne e gives) =
         let one = first-told allows options start g.names history config options.budget s.asked s.done first later since s.between honest s.gives d in
-        let two = gives.solutions history config (honest-then allows history config since s.between on.moves honest) in
+        let two = gives.solutions history config (honest-then allows start history config since s.between on.moves honest) in
         subst (IsHonestGroupCause (publisher history config) options g start) (sym e) (record {
           one = one.0;
           two = two.choice;

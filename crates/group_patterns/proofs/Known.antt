@@ -50,27 +50,27 @@ pub record Known (history : List (List Triple)) (names : List (List ℕ)) (pss :
   pub told : (version_told bs ≡ Some version) ⊎ ((pss ≡ []) × (version_told bs ≡ None))
   pub are : AreSolutions (version_of history version) names pss (rows_of bs)
 
-pub first-version : (allows : List ℕ → ℕ → List ℕ → List ℕ → Type 0) (history : List (List Triple)) (config : Config) (w : WireState) → IsHonestWire allows history config w → IsVersionOf history 1
-first-version allows history config w honest = record { low = omega arith; high = honest.is_history.low }
+pub first-version : (allows : List ℕ → ℕ → List ℕ → List ℕ → Type 0) (start : Address) (history : List (List Triple)) (config : Config) (w : WireState) → IsHonestWire allows start history config w → IsVersionOf history 1
+first-version allows start history config w honest = record { low = omega arith; high = honest.is_history.low }
 
 module _ (allows : List ℕ → ℕ → List ℕ → List ℕ → Type 0) (options : Options) (start : Address) (names : List (List ℕ)) (history : List (List Triple)) (config : Config) where
-  one-block : (left : ℕ) (ps : List Pattern) (b : BlockRows) (version : ℕ) (u v : WireState) → GivesRows allows (with_budget options left) start (block_query names ps) b u v → IsHonestWire allows history config u
+  one-block : (left : ℕ) (ps : List Pattern) (b : BlockRows) (version : ℕ) (u v : WireState) → GivesRows allows (with_budget options left) start (block_query names ps) b u v → IsHonestWire allows start history config u
       → b.report.version ≡ Some version → IsPermutation (solutions (version_of history version) ps (unbound names)) b.rows
   one-block left ps b version u v g honest told =
       let s = g.solutions history config honest in
       subst (λ (n : ℕ). IsPermutation (solutions (version_of history n) ps (unbound names)) b.rows) (one_value b.report.version s.is_reported told) s.rows_are
 
-  all-known : (left : ℕ) (pss : List (List Pattern)) (bs : List BlockRows) (version : ℕ) (u w : WireState) → GivesAll allows options start names left pss bs u w → IsHonestWire allows history config u
+  all-known : (left : ℕ) (pss : List (List Pattern)) (bs : List BlockRows) (version : ℕ) (u w : WireState) → GivesAll allows options start names left pss bs u w → IsHonestWire allows start history config u
       → AllByRecursion (λ (b : BlockRows). b.report.version ≡ Some version) bs → AreSolutions (version_of history version) names pss (rows_of bs)
   all-known left [] [] version u w g honest told = tt
   all-known left [] (b ∷ bs) version u w g honest told = absurd g
   all-known left (ps ∷ pss) [] version u w g honest told = absurd g
   all-known left (ps ∷ pss) (b ∷ bs) version u w g honest told =
       let on = row-onward allows options start names (block_query names ps) (with_budget options left) b u g.0 g.1 in
-      (one-block left ps b version u g.0 g.1 honest told.0, all-known (left - b.report.requests) pss bs version g.0 w g.2 (honest-then allows history config u g.0 on.moves honest) told.1)
+      (one-block left ps b version u g.0 g.1 honest told.0, all-known (left - b.report.requests) pss bs version g.0 w g.2 (honest-then allows start history config u g.0 on.moves honest) told.1)
 
-  pub chain-known : (left : ℕ) (pss : List (List Pattern)) (bs : List BlockRows) (u w : WireState) → GivesAll allows options start names left pss bs u w → TellOneVersion bs → IsHonestWire allows history config u → Known history names pss bs
-  chain-known left [] [] u w g one honest = record { version = 1; is_version = first-version allows history config u honest; told = inr (refl, refl); are = tt }
+  pub chain-known : (left : ℕ) (pss : List (List Pattern)) (bs : List BlockRows) (u w : WireState) → GivesAll allows options start names left pss bs u w → TellOneVersion bs → IsHonestWire allows start history config u → Known history names pss bs
+  chain-known left [] [] u w g one honest = record { version = 1; is_version = first-version allows start history config u honest; told = inr (refl, refl); are = tt }
   chain-known left [] (b ∷ bs) u w g one honest = absurd g
   chain-known left (ps ∷ pss) [] u w g one honest = absurd g
   chain-known left (ps ∷ pss) (b ∷ bs) u w g one honest =
@@ -87,7 +87,7 @@ is-reported g reported told version e (inl h) = inl (e ∙ h)
 is-reported g reported told version e (inr h) = inr (h.0, e ∙ h.1)
 
 pub answers-written : SolutionsSuffice → (allows : List ℕ → ℕ → List ℕ → List ℕ → Type 0) (options : Options) (start : Address) (g : GroupData) (report : Report) (since now : WireState) (t u : Option (List ℕ)) (history : List (List Triple)) (config : Config)
-    → IsHonestWire allows history config since → WritesGathered allows options start g report since now t u → WritesGroupAnswers history g report.version report.rows t u
+    → IsHonestWire allows start history config since → WritesGathered allows options start g report since now t u → WritesGroupAnswers history g report.version report.rows t u
 answers-written suffice allows options start g report since now t u history config honest w =
     let k = chain-known allows options start g.names history config options.budget (blocks_of (group_tree g)) w.asks.done since now w.asks.gives w.asks.one_version honest in
     record {
@@ -101,13 +101,13 @@ answers-written suffice allows options start g report since now t u history conf
     }
 
 pub front-written : SolutionsSuffice → (allows : List ℕ → ℕ → List ℕ → List ℕ → Type 0) (options : Options) (start : Address) (g : GroupData) (fault : ClientFault) (since now : WireState) (t u : Option (List ℕ)) (history : List (List Triple)) (config : Config)
-    → IsHonestWire allows history config since → WritesGatheredFront allows options start g fault since now t u → WritesGroupAnswersFront history g t u
+    → IsHonestWire allows start history config since → WritesGatheredFront allows options start g fault since now t u → WritesGroupAnswersFront history g t u
 front-written suffice allows options start g fault since now t u history config honest w = by w.text
   where
     by : (u ≡ t) ⊎ ((w.asks.rest ≡ []) × AppendsPrefix t u (result_text (shown_query g) (gathered_answers g (rows_of w.asks.done)))) → WritesGroupAnswersFront history g t u
     by (inl e) =
         let all = answers (version_of history 1) g in
-        record { version = 1; is_version = first-version allows history config since honest; rows = all; rows_are = IsPermutation-refl all; text = same-written (result_text (shown_query g) all) t u e }
+        record { version = 1; is_version = first-version allows start history config since honest; rows = all; rows_are = IsPermutation-refl all; text = same-written (result_text (shown_query g) all) t u e }
     by (inr p) =
         let k = chain-known allows options start g.names history config options.budget w.asks.asked w.asks.done since w.asks.between w.asks.gives w.asks.one_version honest in
         let all : w.asks.asked ≡ blocks_of (group_tree g) = sym (append-nil w.asks.asked) ∙ (ap (λ (l : List (List Pattern)). w.asks.asked ++ l) (sym p.0) ∙ sym w.asks.blocks_are) in

@@ -45,7 +45,7 @@ some-tries r n l = let a = mul-le-mul_left (r + 1) l in omega (arith, a)
 
 -- ---- a block
 
-module _ (p : Publisher) (allows : List ℕ → ℕ → List ℕ → List ℕ → Type 0) (options : Options) (start : Address) (names : List (List ℕ)) (ps : List Pattern) (left : ℕ) (u v : WireState) (honest : IsHonestWire allows p.history p.config u) (Started : ℕ → Type 0) where
+module _ (p : Publisher) (allows : List ℕ → ℕ → List ℕ → List ℕ → Type 0) (options : Options) (start : Address) (names : List (List ℕ)) (ps : List Pattern) (left : ℕ) (u v : WireState) (honest : IsHonestWire allows start p.history p.config u) (Started : ℕ → Type 0) where
   abbrev plan-at : ℕ → List Address
   plan-at version = addresses_of p (block_query names ps) start version
 
@@ -136,7 +136,7 @@ module _ (p : Publisher) (allows : List ℕ → ℕ → List ℕ → List ℕ �
   none-done : (u : WireState) → ChainDone [] [] u u
   none-done u = record { versions = []; each = tt; count = refl; told = tt; done = done-nothing options [] u; answered = answered-nothing options u }
 
-  pub chain-done : (left : ℕ) (pss : List (List Pattern)) (bs : List BlockRows) (u w : WireState) → GivesAll allows options start names left pss bs u w → IsHonestWire allows p.history p.config u → ChainDone pss bs u w
+  pub chain-done : (left : ℕ) (pss : List (List Pattern)) (bs : List BlockRows) (u w : WireState) → GivesAll allows options start names left pss bs u w → IsHonestWire allows start p.history p.config u → ChainDone pss bs u w
   chain-done left [] [] u w g honest = subst (λ (x : WireState). ChainDone [] [] u x) (sym g) (none-done u)
   chain-done left [] (b ∷ bs) u w g honest = absurd g
   chain-done left (ps ∷ pss) [] u w g honest = absurd g
@@ -144,7 +144,7 @@ module _ (p : Publisher) (allows : List ℕ → ℕ → List ℕ → List ℕ �
       let acts = g.1.acts.plan in
       let on = row-onward allows options start names (block_query names ps) (with_budget options left) b u g.0 g.1 in
       let further = chain-onward allows options start names (left - b.report.requests) pss bs g.0 w g.2 in
-      let more = chain-done (left - b.report.requests) pss bs g.0 w g.2 (honest-then allows p.history p.config u g.0 on.moves honest) in
+      let more = chain-done (left - b.report.requests) pss bs g.0 w g.2 (honest-then allows start p.history p.config u g.0 on.moves honest) in
       let version = version-asked p allows options start names ps left u g.0 honest _ (Ok b.report) acts in
       let own = addresses_of p (block_query names ps) start version in
       let rest = plans_over p start names pss more.versions in

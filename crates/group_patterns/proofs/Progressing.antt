@@ -42,7 +42,7 @@ have-width width [] a = tt
 have-width width (row ∷ rows) a = (sym (All-head (λ (r : Places). length r ≡ width) row rows a), have-width width rows (All-tail (λ (r : Places). length r ≡ width) row rows a))
 
 module _ (allows : List ℕ → ℕ → List ℕ → List ℕ → Type 0) (options : Options) (start : Address) (names : List (List ℕ)) (ps : List Pattern) (since now : WireState) (some : 1 ≤ options.budget) (alone : OpensGiven now) {A : Type 0} (told : A → Report) (rows : A → List Places) where
-  gave : (r : Result A ClientFault) → ActsOnWire allows (ends_in_blocks options.block (block_query names ps) start) options (start ∷ []) (most_asked options (block_query names ps)) r told since now → OverHonest allows since (λ history config. IfOk r (λ x. IsSolutions (offer_in_blocks options.block (publisher history config) (block_query names ps) start) (told x).version (rows x)))
+  gave : (r : Result A ClientFault) → ActsOnWire allows (ends_in_blocks options.block (block_query names ps) start) options (start ∷ []) (most_asked options (block_query names ps)) r told since now → OverHonest allows start since (λ history config. IfOk r (λ x. IsSolutions (offer_in_blocks options.block (publisher history config) (block_query names ps) start) (told x).version (rows x)))
       → (ran : List Event → Pooled → Type 0) → IfOk r (λ x. Returns ran (world_sources options.block) (block_query names ps) (start ∷ []) (told x) (rows x)) → IfOk r (λ x. GivesRows allows options start (block_query names ps) (record { report = told x; rows = rows x }) since now)
   gave (Ok x) acts solutions ran returns = record {
     some = some;
@@ -63,11 +63,11 @@ module _ (allows : List ℕ → ℕ → List ℕ → List ℕ → Type 0) (optio
     alone = alone;
   })
 
-  pub call-gave : (q : QueryData) → q ≡ block_query names ps → (r : Result A ClientFault) → ActsOnWire allows (ends_in_blocks options.block q start) options (start ∷ []) (most_asked options q) r told since now → OverHonest allows since (λ history config. IfOk r (λ x. IsSolutions (offer_in_blocks options.block (publisher history config) q start) (told x).version (rows x)))
+  pub call-gave : (q : QueryData) → q ≡ block_query names ps → (r : Result A ClientFault) → ActsOnWire allows (ends_in_blocks options.block q start) options (start ∷ []) (most_asked options q) r told since now → OverHonest allows start since (λ history config. IfOk r (λ x. IsSolutions (offer_in_blocks options.block (publisher history config) q start) (told x).version (rows x)))
       → (ran : List Event → Pooled → Type 0) → IfOk r (λ x. Returns ran (world_sources options.block) q (start ∷ []) (told x) (rows x)) → IfOk r (λ x. GivesRows allows options start (block_query names ps) (record { report = told x; rows = rows x }) since now)
   call-gave q e r acts solutions ran returns =
       gave r (subst (λ (x : QueryData). ActsOnWire allows (ends_in_blocks options.block x start) options (start ∷ []) (most_asked options x) r told since now) e acts)
-      (subst (λ (y : QueryData). OverHonest allows since (λ history config. IfOk r (λ x. IsSolutions (offer_in_blocks options.block (publisher history config) y start) (told x).version (rows x)))) e solutions)
+      (subst (λ (y : QueryData). OverHonest allows start since (λ history config. IfOk r (λ x. IsSolutions (offer_in_blocks options.block (publisher history config) y start) (told x).version (rows x)))) e solutions)
       ran (subst (λ (y : QueryData). IfOk r (λ x. Returns ran (world_sources options.block) y (start ∷ []) (told x) (rows x))) e returns)
 
   pub call-ended : (q : QueryData) → q ≡ block_query names ps → (r : Result A ClientFault) → ActsOnWire allows (ends_in_blocks options.block q start) options (start ∷ []) (most_asked options q) r told since now → (IsErrOf r faults.Sink → ⊥) → IfErr r (λ fault. CallEnds allows options start names ps fault since now)

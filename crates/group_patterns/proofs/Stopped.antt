@@ -19,10 +19,10 @@ use Rattle.tpf_client.specs.declared.fault.ClientFault.TheVariants as faults
 use Rattle.tpf_client.specs.Honest.{IsHonestWire}
 use Rattle.tpf_client.specs.Offers.{Publisher, IsVersionOf, server_offer, addresses_of}
 use Rattle.tpf_client.specs.Requests.{DialsAtMost, GivesAtMost, tries_of}
-use Rattle.tpf_client.specs.Plans.{AtEach, AtChosen, IsAnswered, IsAnsweredAt, IsReadByAll, IsLongAnswer, IsPageGone, StartedIn, IsHonestCause, IsLivelyCause}
+use Rattle.tpf_client.specs.Plans.{AtEach, AtChosen, IsAnswerable, IsAnsweredAt, IsReadByAll, IsLongAnswer, IsPageGone, StartedIn, IsHonestCause, IsLivelyCause}
 use Rattle.tpf_client.specs.Failing.{ForBudget, SpendsPlan}
 use Rattle.tpf_client.specs.Acts.{IsHonestCauseOf, IsLivelyCauseOf, IsSpentOf}
-use Rattle.tpf_client.proofs.Homes.{all-so}
+
 use Rattle.group_patterns.specs.Blocks.{BlockRows, requests_of, with_budget, left_by, GivesRows, EndsBlock, of_block, Stops, InBlock, IsSpent, Differs, IsLacking, IsUnwritten, AsksSome}
 use Rattle.group_patterns.specs.Plans.{plans_over, plan_over, AreVersions, group_offer, StartedInTurn, StartedByBlocks}
 use Rattle.group_patterns.proofs.LinkCounts.{rose-none, rose-later, rose-both}
@@ -97,7 +97,7 @@ module _ (p : Publisher) (allows : List ℕ → ℕ → List ℕ → List ℕ �
     pub lively : since.nature.lively ≡ true → (c : IsLivelyCause (group_offer p g start) options since now fault) × IsLivelyCauseOf (group_offer p g start) options since now versions fault c
     pub spent : (s : ForBudget (SpendsPlan (group_offer p g start) options) fault) × IsSpentOf (group_offer p g start) options versions fault s
 
-  module _ (fault : ClientFault) (since now : WireState) (honest : IsHonestWire allows p.history p.config since) (s : AsksSome allows options start g.names (blocks_of (group_tree g)) fault since now)
+  module _ (fault : ClientFault) (since now : WireState) (honest : IsHonestWire allows start p.history p.config since) (s : AsksSome allows options start g.names (blocks_of (group_tree g)) fault since now)
       (c : ChainDone p allows options start g.names s.asked s.done since s.between) where
     before : Onward start (requests_of s.done) since s.between
     before = chain-onward allows options start g.names options.budget s.asked s.done since s.between s.gives
@@ -108,14 +108,14 @@ module _ (p : Publisher) (allows : List ℕ → ℕ → List ℕ → List ℕ �
     behind : Onward start (options.budget - requests_of s.done) s.between now
     behind = stops-onward allows options start g.names s.done s.rest fault s.between now s.stops
 
-    honest-behind : IsHonestWire allows p.history p.config s.between
-    honest-behind = honest-then allows p.history p.config since s.between before.moves honest
+    honest-behind : IsHonestWire allows start p.history p.config s.between
+    honest-behind = honest-then allows start p.history p.config since s.between before.moves honest
 
     alive-behind : since.nature.lively ≡ true → s.between.nature.lively ≡ true
     alive-behind alive = ap (λ (x : Nature). x.lively) before.moves.nature ∙ alive
 
     one : IsVersionOf p.history 1
-    one = first-version allows p.history p.config since honest
+    one = first-version allows start p.history p.config since honest
 
     abbrev asked-plan : List Address
     asked-plan = plans_over p start g.names s.asked c.versions
@@ -352,9 +352,9 @@ module _ (p : Publisher) (allows : List ℕ → ℕ → List ℕ → List ℕ �
           record {
             choice = c.versions ++ later-with version;
             is_choice = are;
-            too_long = λ all. h.too_long (subst (λ (n : ℕ). AllByRecursion (AtEach (server_offer p (block_query g.names ps) start) IsAnswered) (own-at n)) (sym same) (all-own (AtEach (server_offer p (block_query g.names ps) start) IsAnswered) version all));
+            too_long = λ all. h.too_long (subst (λ (n : ℕ). AllByRecursion (AtEach (server_offer p (block_query g.names ps) start) IsAnswerable) (own-at n)) (sym same) (all-own (AtEach (server_offer p (block_query g.names ps) start) IsAnswerable) version all));
             long = λ all.
-                let k = h.long (subst (λ (n : ℕ). AllByRecursion (AtEach (server_offer p (block_query g.names ps) start) IsAnswered) (own-at n)) (sym same) (all-own (AtEach (server_offer p (block_query g.names ps) start) IsAnswered) version all)) in
+                let k = h.long (subst (λ (n : ℕ). AllByRecursion (AtEach (server_offer p (block_query g.names ps) start) IsAnswerable) (own-at n)) (sym same) (all-own (AtEach (server_offer p (block_query g.names ps) start) IsAnswerable) version all)) in
                 record {
                   address = k.address;
                   is_asked = among version k.address (subst (λ (n : ℕ). Contains (own-at n) k.address) same k.is_asked);

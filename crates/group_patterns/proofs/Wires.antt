@@ -156,8 +156,8 @@ module _ (allows : List ℕ → ℕ → List ℕ → List ℕ → Type 0) (optio
 
 -- ---- over an honest wire
 
-pub honest-then : (allows : List ℕ → ℕ → List ℕ → List ℕ → Type 0) (history : List (List Triple)) (config : Config) (a b : WireState) → MovesOn a b → IsHonestWire allows history config a → IsHonestWire allows history config b
-honest-then allows history config a b m h = record {
+pub honest-then : (allows : List ℕ → ℕ → List ℕ → List ℕ → Type 0) (start : Address) (history : List (List Triple)) (config : Config) (a b : WireState) → MovesOn a b → IsHonestWire allows start history config a → IsHonestWire allows start history config b
+honest-then allows start history config a b m h = record {
   tells = ap (λ (x : Nature). x.tells) m.nature ∙ h.tells;
   is_honest = h.is_honest;
   is_history = h.is_history;
@@ -192,7 +192,7 @@ module _ (allows : List ℕ → ℕ → List ℕ → List ℕ → Type 0) (optio
     pub none : NoneOpen w
     pub few : w.given + most < 2 ^ 63
 
-  pub chain-spares : (left : ℕ) (pss : List (List Pattern)) (bs : List BlockRows) (u w : WireState) → GivesAll allows options start names left pss bs u w → IsHonestWire allows history config u
+  pub chain-spares : (left : ℕ) (pss : List (List Pattern)) (bs : List BlockRows) (u w : WireState) → GivesAll allows options start names left pss bs u w → IsHonestWire allows start history config u
       → u.nature.steady ≡ true → NoneOpen u → u.given + left < 2 ^ 63 → Spared u w (left - requests_of bs)
   chain-spares left [] [] u w g honest steady none few = subst (λ (x : WireState). Spared u x (left - 0)) (sym g) (record { spares = spares-none u; none = none; few = omega (arith, few) })
   chain-spares left [] (b ∷ bs) u w g honest steady none few = absurd g
@@ -202,7 +202,7 @@ module _ (allows : List ℕ → ℕ → List ℕ → List ℕ → Type 0) (optio
       let on = row-onward allows options start names (block_query names ps) (with_budget options left) b u g.0 r in
       let given = on.given in
       let within : b.report.requests ≤ left = r.acts.within in
-      let more = chain-spares (left - b.report.requests) pss bs g.0 w g.2 (honest-then allows history config u g.0 on.moves honest) (ap (λ (x : Nature). x.steady) on.moves.nature ∙ steady)
+      let more = chain-spares (left - b.report.requests) pss bs g.0 w g.2 (honest-then allows start history config u g.0 on.moves honest) (ap (λ (x : Nature). x.steady) on.moves.nature ∙ steady)
       (none-open start b.report.requests u g.0 on none r.alone) (omega (arith, few, given, within)) in
       let last = more.few in
       record {

@@ -92,6 +92,6 @@ pub record ActsOnGroups (allows : List ℕ → ℕ → List ℕ → List ℕ →
   pub no_block : blocks_of (group_tree g) ≡ [] → now ≡ since
   pub plan : ActsByPlan allows (group_ends g start) (StartedByBlocks allows options g since now) options result (λ report. report) since now
   pub cause : IfErr result (IsGroupCause options since now before after)
-  pub honest_cause : OverHonest allows since (λ history config. IfErr result (IsHonestGroupCause (publisher history config) options g start))
+  pub honest_cause : OverHonest allows start since (λ history config. IfErr result (IsHonestGroupCause (publisher history config) options g start))
   pub failed_often : since.nature.lively ≡ true → IfErr result (IsFailedOften options since now)
   pub spent_requests : IfErr result (ForBudget (SpendsRequests options since now))

@@ -58,7 +58,7 @@ left_by options bs = with_budget options (options.budget - requests_of bs)
 pub record GivesRows (allows : List ℕ → ℕ → List ℕ → List ℕ → Type 0) (options : Options) (start : Address) (q : QueryData) (b : BlockRows) (since now : WireState) : Type 0 where
   pub some : 1 ≤ options.budget
   pub acts : ActsOnWire allows (ends_in_blocks options.block q start) options (start ∷ []) (most_asked options q) (Ok b.report) (λ report. report) since now
-  pub solutions : OverHonest allows since (λ history config. IsSolutions (offer_in_blocks options.block (publisher history config) q start) b.report.version b.rows)
+  pub solutions : OverHonest allows start since (λ history config. IsSolutions (offer_in_blocks options.block (publisher history config) q start) b.report.version b.rows)
   pub width : HaveWidth (length q.names) b.rows
   pub count : b.report.rows ≡ counted_by (length b.rows) 0
   pub alone : OpensGiven now

@@ -17,7 +17,7 @@ use Rattle.tpf_client.specs.declared.fault.ClientFault.TheVariants as faults
 use Rattle.tpf_client.specs.Calls.{solutions_of}
 use Rattle.tpf_client.specs.Offers.{Publisher, Offer, IsVersionOf, addresses_of}
 use Rattle.tpf_client.specs.Ends.{Ends, publisher_ends}
-use Rattle.tpf_client.specs.Plans.{AtEach, IsAnswered, IsReadByAll, HasLongPage, TellsVersions, StartedIn}
+use Rattle.tpf_client.specs.Plans.{AtEach, IsAnswerable, IsReadByAll, HasLongPage, TellsVersions, StartedIn}
 use Rattle.group_patterns.specs.Blocks.{with_budget}
 
 -- ---- the plan
@@ -66,9 +66,9 @@ group_offer p g start = record {
   HasVersion = λ versions address told. Contains versions told;
 }
 
--- one server, of which the blocks of a query are asked
+-- one server, which stands at a start, of which the blocks of a query are asked
 abbrev pub group_ends : GroupData → Address → Ends
-group_ends g start = publisher_ends (λ p. group_offer p g start)
+group_ends g start = publisher_ends start (λ p. group_offer p g start)
 
 -- ---- how many requests were started
 
@@ -95,8 +95,8 @@ pub record OverOne (p : Publisher) (g : GroupData) (start : Address) (says : Lis
 
 -- Where all these addresses are answered, the reply is too long.
 pub record RefusesOf (offer : Offer) (options : Options) (fault : ReplyFault) (received : List ℕ) (addresses : List Address) : Type 0 where
-  pub too_long : AllByRecursion (AtEach offer IsAnswered) addresses → fault ≡ refusals.TooLong
-  pub long : AllByRecursion (AtEach offer IsAnswered) addresses → HasLongPage offer options.max_body addresses received
+  pub too_long : AllByRecursion (AtEach offer IsAnswerable) addresses → fault ≡ refusals.TooLong
+  pub long : AllByRecursion (AtEach offer IsAnswerable) addresses → HasLongPage offer options.max_body addresses received
 
 -- not all these addresses are read as pages
 abbrev pub MissesOf : Offer → List Address → Type 0

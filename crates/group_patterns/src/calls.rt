@@ -139,8 +139,8 @@ fn write_answers<R: Wait, W: Dial, K: Sink>(
 /// connection (link) of this call is closed; each was dialled for the host and port of the start, and no more dials were
 /// made than the budget allows. Connections that were there before are left as they are.
 ///
-/// Over a wire whose other ends answer as a server does, `Ok` means that the sink took the text of the answers, in some
-/// order, over the version of the data that is reported.
+/// Over a wire whose other end at the host and port of the start answers as a server does, `Ok` means that the sink took
+/// the text of the answers, in some order, over the version of the data that is reported.
 ///
 /// `Budget`, with the whole budget, where a block has to be asked and nothing of the budget is left, or more requests are
 /// wanted for a block than are left; `Changed` where the start pages of two blocks tell different versions, or a page of a
@@ -165,15 +165,15 @@ pub fn answer<R: Wait, W: Dial, K: Sink>(
         (W.state wire.old) (W.state wire.new) (K.state out.old).taken (K.state out.new).taken) }
     ensures err { IfErr result (λ fault. WritesGatheredFront (W.allows wire.old) options.now start.now query.now fault
         (W.state wire.old) (W.state wire.new) (K.state out.old).taken (K.state out.new).taken) }
-    ensures headline { OverHonest (W.allows wire.old) (W.state wire.old)
+    ensures headline { OverHonest (W.allows wire.old) start.now (W.state wire.old)
         (λ history config. IfOk result (λ report. WritesGroupAnswers history query.now report.version report.rows
         (K.state out.old).taken (K.state out.new).taken)) }
-    ensures prefix { OverHonest (W.allows wire.old) (W.state wire.old)
+    ensures prefix { OverHonest (W.allows wire.old) start.now (W.state wire.old)
         (λ history config. OnErr result (WritesGroupAnswersFront history query.now (K.state out.old).taken
         (K.state out.new).taken)) }
     ensures acts { ActsOnGroups (W.allows wire.old) options.now start.now query.now result (W.state wire.old)
         (W.state wire.new) (K.state out.old).faults (K.state out.new).faults }
-    ensures complete { OverHonest (W.allows wire.old) (W.state wire.old)
+    ensures complete { OverHonest (W.allows wire.old) start.now (W.state wire.old)
         (λ history config. (W.state wire.old).nature.lively ≡ true → (rise : ℕ)
         → RisesFew options.now rise (W.state wire.old) (W.state wire.new)
         → PlanFits (group_offer (publisher history config) query.now start.now) options.now rise

@@ -16,7 +16,7 @@ use Rattle.plan_laws.specs.Fitting.{IsRead, AreServable, IsAskable, IsServable, 
 use Rattle.tpf_client.specs.Offers.{Publisher, IsVersionOf, publisher, is_served, addresses_in_blocks, offer_in_blocks}
 use Rattle.plan_laws.proofs.Starts.{base_of_start, target_of_start}
 use Rattle.tpf_client.specs.declared.options.Options.{Options}
-use Rattle.tpf_client.specs.Plans.{AtEach, AtChosen, TellsVersions, ChangesVersion, IsAnswered, IsReadByAll, IsSmallByAll, IsFit, IsFitAt, ChoiceFits, answer_at}
+use Rattle.tpf_client.specs.Plans.{AtEach, AtChosen, TellsVersions, ChangesVersion, IsAnswerable, IsReadByAll, IsSmallByAll, IsFit, IsFitAt, ChoiceFits, answer_at}
 use Rattle.tpf_client.proofs.Fitting.{answered_of, read_by_all, fit_of}
 use Rattle.tpf_client.proofs.Serving.{at-server}
 use Rattle.query_command.specs.Loops.{local_base}
@@ -54,7 +54,7 @@ module _ (triples : List Triple) (config : Config) where
   abbrev Reads : Address → Type 0
   Reads = IsRead (triples ∷ []) (Served 1) config
 
-  pub answered_one : (address : Address) → Reads address → IsAnswered (publisher (triples ∷ []) config) address
+  pub answered_one : (address : Address) → Reads address → IsAnswerable (publisher (triples ∷ []) config) address
   answered_one = answered_of (publisher (triples ∷ []) config) (one_version triples)
 
   pub read_one : (address : Address) → Reads address → IsReadByAll (publisher (triples ∷ []) config) address
@@ -63,15 +63,15 @@ module _ (triples : List Triple) (config : Config) where
   module _ (options : Options) (q : QueryData) (reads : AllByRecursion Reads (plan_of options triples config q)) where
     -- by each server that stands at an address, which is the one
     abbrev EachAnswers : Address → Type 0
-    EachAnswers = AtEach (offer_of options triples config q) IsAnswered
+    EachAnswers = AtEach (offer_of options triples config q) IsAnswerable
 
     abbrev EachReads : Address → Type 0
     EachReads = AtEach (offer_of options triples config q) IsReadByAll
 
-    pub all_answered : (version : ℕ) → IsVersionOf (triples ∷ []) version → AllByRecursion (AtEach (offer_of options triples config q) IsAnswered) (addresses_in_blocks options.block (publisher (triples ∷ []) config) q local_base version)
+    pub all_answered : (version : ℕ) → IsVersionOf (triples ∷ []) version → AllByRecursion (AtEach (offer_of options triples config q) IsAnswerable) (addresses_in_blocks options.block (publisher (triples ∷ []) config) q local_base version)
     all_answered version is =
         at_version options.block triples config q local_base (AllByRecursion EachAnswers) version is
-        (all_weaker Reads EachAnswers (λ address r. at-server options.block (publisher (triples ∷ []) config) q local_base IsAnswered address (answered_one address r)) (plan_of options triples config q) reads)
+        (all_weaker Reads EachAnswers (λ address r. at-server options.block (publisher (triples ∷ []) config) q local_base IsAnswerable address (answered_one address r)) (plan_of options triples config q) reads)
 
     pub all_read : (version : ℕ) → IsVersionOf (triples ∷ []) version → AllByRecursion (AtEach (offer_of options triples config q) IsReadByAll) (addresses_in_blocks options.block (publisher (triples ∷ []) config) q local_base version)
     all_read version is =

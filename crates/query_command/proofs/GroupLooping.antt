@@ -36,10 +36,10 @@ pub record Called (allows : List ℕ → ℕ → List ℕ → List ℕ → Type 
   pub front : OnErr result (WritesGroupPrefix g out.taken out'.taken)
   pub ok : IfOk result (λ report. WritesGathered allows options start g report since now out.taken out'.taken)
   pub err : IfErr result (λ fault. WritesGatheredFront allows options start g fault since now out.taken out'.taken)
-  pub headline : OverHonest allows since (λ history config. IfOk result (λ report. WritesGroupAnswers history g report.version report.rows out.taken out'.taken))
-  pub prefix : OverHonest allows since (λ history config. OnErr result (WritesGroupAnswersFront history g out.taken out'.taken))
+  pub headline : OverHonest allows start since (λ history config. IfOk result (λ report. WritesGroupAnswers history g report.version report.rows out.taken out'.taken))
+  pub prefix : OverHonest allows start since (λ history config. OnErr result (WritesGroupAnswersFront history g out.taken out'.taken))
   pub acts : ActsOnGroups allows options start g result since now out.faults out'.faults
-  pub complete : OverHonest allows since (λ history config. since.nature.lively ≡ true → (rise : ℕ) → RisesFew options rise since now → PlanFits (group_offer (publisher history config) g start) options rise → (Rose out.faults out'.faults → ⊥) → IfErr result (MayStill (group_offer (publisher history config) g start)))
+  pub complete : OverHonest allows start since (λ history config. since.nature.lively ≡ true → (rise : ℕ) → RisesFew options rise since now → PlanFits (group_offer (publisher history config) g start) options rise → (Rose out.faults out'.faults → ⊥) → IfErr result (MayStill (group_offer (publisher history config) g start)))
   pub sink : LeavesSink out out' result
 
 module _ (allows : List ℕ → ℕ → List ℕ → List ℕ → Type 0) (g : GroupData) (start : Address) (options : Options) (old new : WireState) (out out' : SinkState) where
@@ -73,7 +73,7 @@ from_begun server seed n old after is g options start same result out out' k =
     (subst (Called (allows_of old) g options result (wire_of old) (wire_of after) out out') same k)
 
 module _ (server : FragmentServer) (seed n : ℕ) (after : Looped FragmentServer) (g : GroupData) (options : Options) (out out' : SinkState)
-    (honest : IsHonestWire (allows_of (begun server seed n)) ((serving server).data_set ∷ []) (serving server).config (wire_of (begun server seed n))) where
+    (honest : IsHonestWire (allows_of (begun server seed n)) local_base ((serving server).data_set ∷ []) (serving server).config (wire_of (begun server seed n))) where
   abbrev Called_here : Result Report ClientFault → Type 0
   Called_here result = Called (allows_of (begun server seed n)) g options result (wire_of (begun server seed n)) (wire_of after) out out' local_base
 
@@ -124,7 +124,8 @@ pub asks_groups : (server : FragmentServer) (seed n : ℕ) (old after : Looped F
     → PlansAreRead → BasesAreRead → CountsDue after.counts.failing after.counts.dials after.counts.faults after.provoked → AsksGroups server seed n options g result (Some after) out out'
 asks_groups server seed n old after is g options start same result out out' called allowed blocks first base valid config few plans bases due =
     let k = from_begun server seed n old after is g options start same result out out' called in
-    let honest = honest_wire server seed n first valid config few in
+    let everywhere = honest_wire server seed n first valid config few in
+    let honest = everywhere local_base in
     let s = called.sink in
     record {
       valid = blocks;
@@ -136,7 +137,7 @@ asks_groups server seed n old after is g options start same result out out' call
       replied = replied_here server seed n after g options out out' honest result k;
       counted = counted_here server seed n after g options out out' honest due result k;
       ends = ends_here server seed n after g options out out' honest plans bases base valid config due result k;
-      honest = loops_honest server seed n old after is allowed honest;
+      honest = loops_honest server seed n old after is allowed everywhere;
       output = record { later = s.later; faultless = s.faultless; spared = λ fine. (s.spared fine).0 };
       spared = λ fine. (s.spared fine).1;
     }

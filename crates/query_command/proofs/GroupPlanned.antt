@@ -18,7 +18,7 @@ use Rattle.tpf_client.specs.declared.fault.ClientFault.{ClientFault}
 use Rattle.tpf_client.specs.declared.fault.ClientFault.TheVariants as faults
 use Rattle.tpf_client.specs.Honest.{IsHonestWire}
 use Rattle.tpf_client.specs.Offers.{publisher}
-use Rattle.tpf_client.specs.Plans.{AtEach, IsAnswered, IsReadByAll, HasLongPage, OverrunsPlan}
+use Rattle.tpf_client.specs.Plans.{AtEach, IsAnswerable, IsReadByAll, HasLongPage, OverrunsPlan}
 use Rattle.tpf_client.specs.Failing.{SpendsPlan}
 use Rattle.plan_laws.specs.Fitting.{IsRead}
 use Rattle.query_command.specs.Loops.{allows_of, wire_of, begun, local_base}
@@ -28,7 +28,7 @@ use Rattle.query_command.proofs.Failing.{FewFailed, few_failed, counts_requests,
 use Rattle.query_command.proofs.GroupPlans.{same_plan, over_each, group_answered, group_read, one_group_server}
 
 module _ (server : FragmentServer) (seed n : ℕ) (after : Looped FragmentServer) (g : GroupData) (options : Options)
-    (honest : IsHonestWire (allows_of (begun server seed n)) ((serving server).data_set ∷ []) (serving server).config (wire_of (begun server seed n)))
+    (honest : IsHonestWire (allows_of (begun server seed n)) local_base ((serving server).data_set ∷ []) (serving server).config (wire_of (begun server seed n)))
     (due : CountsDue after.counts.failing after.counts.dials after.counts.faults after.provoked) (small : options.budget < 2 ^ 63) (out out' : ℕ)
     (result : Result Report ClientFault) (acts : ActsOnGroups (allows_of (begun server seed n)) options local_base g result (wire_of (begun server seed n)) (wire_of after) out out') where
   abbrev triples : List Triple
@@ -62,7 +62,7 @@ module _ (server : FragmentServer) (seed n : ℕ) (after : Looped FragmentServer
 -- ---- an answer
 
 pub counts_group : (server : FragmentServer) (seed n : ℕ) (after : Looped FragmentServer) (g : GroupData) (options : Options)
-    → IsHonestWire (allows_of (begun server seed n)) ((serving server).data_set ∷ []) (serving server).config (wire_of (begun server seed n))
+    → IsHonestWire (allows_of (begun server seed n)) local_base ((serving server).data_set ∷ []) (serving server).config (wire_of (begun server seed n))
     → CountsDue after.counts.failing after.counts.dials after.counts.faults after.provoked → options.budget < 2 ^ 63 → (out out' : ℕ) (report : Report)
     → ActsOnGroups (allows_of (begun server seed n)) options local_base g (Ok report) (wire_of (begun server seed n)) (wire_of after) out out'
     → CountsRequests n options.retries (length (group_plan_of (serving server).data_set (serving server).config g)) report.requests
@@ -79,7 +79,7 @@ counts_group server seed n after g options honest due small out out' report acts
 -- ---- a fault
 
 module _ (server : FragmentServer) (seed n : ℕ) (after : Looped FragmentServer) (g : GroupData) (options : Options)
-    (honest : IsHonestWire (allows_of (begun server seed n)) ((serving server).data_set ∷ []) (serving server).config (wire_of (begun server seed n)))
+    (honest : IsHonestWire (allows_of (begun server seed n)) local_base ((serving server).data_set ∷ []) (serving server).config (wire_of (begun server seed n)))
     (reads : AllByRecursion (IsRead ((serving server).data_set ∷ []) (Served 1) (serving server).config) (group_plan_of (serving server).data_set (serving server).config g))
     (due : CountsDue after.counts.failing after.counts.dials after.counts.faults after.provoked) (small : options.budget < 2 ^ 63) (out out' : ℕ) where
   abbrev data_set : List Triple
@@ -108,7 +108,7 @@ module _ (server : FragmentServer) (seed n : ℕ) (after : Looped FragmentServer
       fails_often n options.retries (length (group_plan_of data_set server_config g)) (wire_of after).faults (few_at (faults.Cut received) acts) (acts.plan.lively_cause (publisher (data_set ∷ []) server_config) honest refl)
   may_end_group (faults.Reply fault received) acts =
       let c = acts.plan.honest_cause (publisher (data_set ∷ []) server_config) honest in
-      let answered = over_each data_set server_config g local_base (AllByRecursion (AtEach (group_offer_of data_set server_config g) IsAnswered)) c.choice c.is_choice (group_answered data_set server_config g local_base reads) in (
+      let answered = over_each data_set server_config g local_base (AllByRecursion (AtEach (group_offer_of data_set server_config g) IsAnswerable)) c.choice c.is_choice (group_answered data_set server_config g local_base reads) in (
         c.too_long answered,
         subst (λ (list : List Address). HasLongPage (group_offer_of data_set server_config g) options.max_body list received) (same_plan data_set server_config g local_base c.choice c.is_choice) (c.long answered),
       )

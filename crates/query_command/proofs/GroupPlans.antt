@@ -14,7 +14,7 @@ use Rattle.group_patterns.specs.Plans.{AreVersions, group_plan, group_offer, pla
 use Rattle.plan_laws.specs.Fitting.{IsRead, AreServable, IsAskable, PlansAreRead, BasesAreRead, StartsAreRead}
 use Rattle.tpf_client.specs.Offers.{Publisher, publisher, IsVersionOf, addresses_of}
 use Rattle.tpf_client.specs.declared.options.Options.{Options}
-use Rattle.tpf_client.specs.Plans.{AtEach, IsAnswered, IsReadByAll, IsFit, PlanFits, TellsVersions, ChangesVersion}
+use Rattle.tpf_client.specs.Plans.{AtEach, IsAnswerable, IsReadByAll, IsFit, PlanFits, TellsVersions, ChangesVersion}
 use Rattle.query_command.specs.Loops.{local_base}
 use Rattle.query_command.specs.Groups.{FitsGroupOver}
 use Rattle.query_command.specs.Over.{AreAskableBlocks}
@@ -56,9 +56,9 @@ module _ (triples : List Triple) (config : Config) (g : GroupData) (start : Addr
   at_each P address h = λ server stands. subst (λ (p : Publisher). P p address) (sym stands) h
 
   module _ (reads : AllByRecursion (IsRead (triples ∷ []) (Served 1) config) (group_plan (publisher (triples ∷ []) config) g start 1)) where
-    pub group_answered : AllByRecursion (AtEach (group_offer (publisher (triples ∷ []) config) g start) IsAnswered) (group_plan (publisher (triples ∷ []) config) g start 1)
+    pub group_answered : AllByRecursion (AtEach (group_offer (publisher (triples ∷ []) config) g start) IsAnswerable) (group_plan (publisher (triples ∷ []) config) g start 1)
     group_answered =
-        all_weaker (IsRead (triples ∷ []) (Served 1) config) (AtEach (group_offer (publisher (triples ∷ []) config) g start) IsAnswered) (λ address r. at_each IsAnswered address (answered_one triples config address r))
+        all_weaker (IsRead (triples ∷ []) (Served 1) config) (AtEach (group_offer (publisher (triples ∷ []) config) g start) IsAnswerable) (λ address r. at_each IsAnswerable address (answered_one triples config address r))
         (group_plan (publisher (triples ∷ []) config) g start 1) reads
 
     pub group_read : AllByRecursion (AtEach (group_offer (publisher (triples ∷ []) config) g start) IsReadByAll) (group_plan (publisher (triples ∷ []) config) g start 1)

@@ -27,32 +27,32 @@ pub honest : (s : Serving (List Triple) Config) → s.version ≡ 1 → IsHonest
 honest s first = λ host port sent owed is. owes_response s (s.data_set ∷ []) (record { count = sym first; before = []; last = refl }) sent owed is
 
 pub wires_are_honest : WiresAreHonest
-wires_are_honest wire history last valid config few = record {
+wires_are_honest wire address history last valid config few = record {
   tells = refl;
-  is_honest = λ host port sent owed is. owes_response (serving wire.server) history last sent owed is;
+  is_honest = λ sent owed is. owes_response (serving wire.server) history last sent owed is;
   is_history = valid;
   is_config = config;
   few = few;
 }
 
 -- what a wire allows no call changes
-honest_left : (old after : Looped FragmentServer) (history : List (List Triple)) (config : Config) → SameAllowed (allows_of old) (allows_of after) → IsHonestWire (allows_of old) history config (wire_of old)
-    → IsHonestWire (allows_of after) history config (wire_of after)
-honest_left old after history config same h = record {
+honest_left : (old after : Looped FragmentServer) (address : Address) (history : List (List Triple)) (config : Config) → SameAllowed (allows_of old) (allows_of after) → IsHonestWire (allows_of old) address history config (wire_of old)
+    → IsHonestWire (allows_of after) address history config (wire_of after)
+honest_left old after address history config same h = record {
   tells = refl;
-  is_honest = λ host port sent owed is. h.is_honest host port sent owed ((same host port sent owed).0 is);
+  is_honest = λ sent owed is. h.is_honest sent owed ((same address.host address.port sent owed).0 is);
   is_history = h.is_history;
   is_config = h.is_config;
   few = h.few;
 }
 
 pub loops_honest : (server : FragmentServer) (seed fail_every : ℕ) (old after : Looped FragmentServer) → old ≡ begun server seed fail_every → SameAllowed (allows_of old) (allows_of after)
-    → IsHonestWire (allows_of (begun server seed fail_every)) ((serving server).data_set ∷ []) (serving server).config (wire_of (begun server seed fail_every))
+    → ((address : Address) → IsHonestWire (allows_of (begun server seed fail_every)) address ((serving server).data_set ∷ []) (serving server).config (wire_of (begun server seed fail_every)))
     → LoopsServer server seed fail_every (Some after) LeavesHonest
 loops_honest server seed fail_every old after is same honest = record {
   after = after;
   is_inside = refl;
-  says = honest_left (begun server seed fail_every) after ((serving server).data_set ∷ []) (serving server).config (subst (λ (wire : Looped FragmentServer). SameAllowed (allows_of wire) (allows_of after)) is same) honest;
+  says = λ address. honest_left (begun server seed fail_every) after address ((serving server).data_set ∷ []) (serving server).config (subst (λ (wire : Looped FragmentServer). SameAllowed (allows_of wire) (allows_of after)) is same) (honest address);
 }
 
 few_if : (b : Bool) (triples : List Triple) → length triples < 2 ^ 64 → length (if b then triples else []) < 2 ^ 64
@@ -60,10 +60,10 @@ few_if true triples few = few
 few_if false triples few = omega (arith, few)
 
 pub honest_wire : (server : FragmentServer) (seed fail_every : ℕ) → (serving server).version ≡ 1 → IsValidDataSet (serving server).data_set → IsConfig (serving server).config → length (serving server).data_set < 2 ^ 64
-    → IsHonestWire (allows_of (begun server seed fail_every)) ((serving server).data_set ∷ []) (serving server).config (wire_of (begun server seed fail_every))
-honest_wire server seed fail_every first valid config few = record {
+    → (address : Address) → IsHonestWire (allows_of (begun server seed fail_every)) address ((serving server).data_set ∷ []) (serving server).config (wire_of (begun server seed fail_every))
+honest_wire server seed fail_every first valid config few address = record {
   tells = refl;
-  is_honest = honest (serving server) first;
+  is_honest = honest (serving server) first address.host address.port;
   is_history = record { data_sets = (valid, tt); low = omega arith; high = omega arith };
   is_config = config;
   few = λ version. few_if (nat_le version 1) (serving server).data_set few;

@@ -45,7 +45,7 @@ module _ (server : FragmentServer) (seed fail_every : ℕ) (old after : Looped F
       → IfOk result (λ report. WritesResult q report.rows taken taken')
       → (acts : ActsOnWire (allows_of old) (ends_in_blocks options.block q asked) options (asked ∷ []) (most_asked options q) result (λ report. report) (wire_of old) (wire_of after))
       → IfOk result (λ report. WritesAll (AreThese acts.happened.events acts.happened.pool) (world_sources options.block) q (asked ∷ []) report taken taken')
-      → ((history : List (List Triple)) (config : Config) → IsHonestWire (allows_of old) history config (wire_of old) → IfOk result (λ report. WritesSolutions (offer_in_blocks options.block (publisher history config) q asked) q report.version report.rows taken taken'))
+      → ((history : List (List Triple)) (config : Config) → IsHonestWire (allows_of old) asked history config (wire_of old) → IfOk result (λ report. WritesSolutions (offer_in_blocks options.block (publisher history config) q asked) q report.version report.rows taken taken'))
       → IfOk result (λ report. LoopsServer server seed fail_every (Some after) (λ wire wire'. WritesOver (allows_of wire) q start options report (wire_of wire) (wire_of wire') taken taken'))
   loops_ok (Ok report) whole acts all headline = record {
     after = after;
@@ -58,9 +58,9 @@ module _ (server : FragmentServer) (seed fail_every : ℕ) (old after : Looped F
       → OnErr result (WritesPrefix q taken taken')
       → (acts : ActsOnWire (allows_of old) (ends_in_blocks options.block q asked) options (asked ∷ []) (most_asked options q) result (λ report. report) (wire_of old) (wire_of after))
       → IfErr result (λ fault. FailsShown (AreThese acts.happened.events acts.happened.pool) acts.happened.pool.started (allows_of old) (ends_in_blocks options.block q asked) options (world_sources options.block) q (asked ∷ []) fault (wire_of old) (wire_of after) out out' taken taken')
-      → ((history : List (List Triple)) (config : Config) → IsHonestWire (allows_of old) history config (wire_of old) → OnErr result (WritesSolutionsFront (offer_in_blocks options.block (publisher history config) q asked) q taken taken'))
+      → ((history : List (List Triple)) (config : Config) → IsHonestWire (allows_of old) asked history config (wire_of old) → OnErr result (WritesSolutionsFront (offer_in_blocks options.block (publisher history config) q asked) q taken taken'))
       → (result ≡ Err clients.Sink → Rose out out')
-      → OverHonest (allows_of old) (wire_of old) (λ history config. (wire_of old).nature.lively ≡ true → (rise : ℕ) → RisesFew options rise (wire_of old) (wire_of after) → PlanFits (offer_in_blocks options.block (publisher history config) q asked) options rise → (Rose out out' → ⊥) → IfErr result (MayStill (offer_in_blocks options.block (publisher history config) q asked)))
+      → OverHonest (allows_of old) asked (wire_of old) (λ history config. (wire_of old).nature.lively ≡ true → (rise : ℕ) → RisesFew options rise (wire_of old) (wire_of after) → PlanFits (offer_in_blocks options.block (publisher history config) q asked) options rise → (Rose out out' → ⊥) → IfErr result (MayStill (offer_in_blocks options.block (publisher history config) q asked)))
       → SucceedsStill (allows_of old) options q asked (wire_of old) (wire_of after) (Rose out out') result
       → IfErr result (λ fault. LoopsServer server seed fail_every (Some after) (λ wire wire'. FailsOver (allows_of wire) q start options fault (wire_of wire) (wire_of wire') out out' taken taken'))
   loops_err (Ok report) front acts fails headline sink complete still = tt
@@ -79,20 +79,20 @@ module _ (server : FragmentServer) (seed fail_every : ℕ) (old after : Looped F
       (subst (λ (at : Address). ActsOnWire (allows_of old) (ends_in_blocks options.block q at) options (at ∷ []) (most_asked options q) result (λ (report : Report). report) (wire_of old) (wire_of after)) same acts)
 
   honest_old : (serving server).version ≡ 1 → IsValidDataSet (serving server).data_set → IsConfig (serving server).config → length (serving server).data_set < 2 ^ 64
-      → IsHonestWire (allows_of old) ((serving server).data_set ∷ []) (serving server).config (wire_of old)
+      → IsHonestWire (allows_of old) asked ((serving server).data_set ∷ []) (serving server).config (wire_of old)
   honest_old first valid config few =
-      subst (λ (wire : Looped FragmentServer). IsHonestWire (allows_of wire) ((serving server).data_set ∷ []) (serving server).config (wire_of wire)) (sym is) (honest_wire server seed fail_every first valid config few)
+      subst (λ (wire : Looped FragmentServer). IsHonestWire (allows_of wire) asked ((serving server).data_set ∷ []) (serving server).config (wire_of wire)) (sym is) (honest_wire server seed fail_every first valid config few asked)
 
   pub solves : (result : Result Report ClientFault)
       → (serving server).version ≡ 1 → IsValidDataSet (serving server).data_set → IsConfig (serving server).config → length (serving server).data_set < 2 ^ 64
-      → ((history : List (List Triple)) (config : Config) → IsHonestWire (allows_of old) history config (wire_of old) → IfOk result (λ report. WritesSolutions (offer_in_blocks options.block (publisher history config) q asked) q report.version report.rows taken taken'))
+      → ((history : List (List Triple)) (config : Config) → IsHonestWire (allows_of old) asked history config (wire_of old) → IfOk result (λ report. WritesSolutions (offer_in_blocks options.block (publisher history config) q asked) q report.version report.rows taken taken'))
       → IfOk result (λ report. WritesAnswer (serving server).data_set q report.rows taken taken')
   solves (Ok report) first valid config few headline = answer_of_one options.block (serving server).data_set (serving server).config q asked report taken taken' (headline ((serving server).data_set ∷ []) (serving server).config (honest_old first valid config few))
   solves (Err fault) first valid config few headline = tt
 
   pub solves_front : (result : Result Report ClientFault)
       → (serving server).version ≡ 1 → IsValidDataSet (serving server).data_set → IsConfig (serving server).config → length (serving server).data_set < 2 ^ 64
-      → ((history : List (List Triple)) (config : Config) → IsHonestWire (allows_of old) history config (wire_of old) → OnErr result (WritesSolutionsFront (offer_in_blocks options.block (publisher history config) q asked) q taken taken'))
+      → ((history : List (List Triple)) (config : Config) → IsHonestWire (allows_of old) asked history config (wire_of old) → OnErr result (WritesSolutionsFront (offer_in_blocks options.block (publisher history config) q asked) q taken taken'))
       → OnErr result (WritesAnswerFront (serving server).data_set q taken taken')
   solves_front (Ok report) first valid config few headline = tt
   solves_front (Err fault) first valid config few headline = front_of_one options.block (serving server).data_set (serving server).config q asked taken taken' (headline ((serving server).data_set ∷ []) (serving server).config (honest_old first valid config few))

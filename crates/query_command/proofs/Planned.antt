@@ -65,7 +65,7 @@ ActsThere server seed n after q options result =
     ActsOnWire (allows_of (begun server seed n)) (ends_in_blocks options.block q local_base) options (local_base ∷ []) (most_asked options q) result (λ report. report) (wire_of (begun server seed n)) (wire_of after)
 
 module _ (server : FragmentServer) (seed n : ℕ) (after : Looped FragmentServer) (q : QueryData) (options : Options)
-    (honest : IsHonestWire (allows_of (begun server seed n)) ((serving server).data_set ∷ []) (serving server).config (wire_of (begun server seed n)))
+    (honest : IsHonestWire (allows_of (begun server seed n)) local_base ((serving server).data_set ∷ []) (serving server).config (wire_of (begun server seed n)))
     (reads : AllByRecursion (IsRead ((serving server).data_set ∷ []) (Served 1) (serving server).config) (plan_of options (serving server).data_set (serving server).config q))
     (due : CountsDue after.counts.failing after.counts.dials after.counts.faults after.provoked) (small : options.budget < 2 ^ 63)
     (result : Result Report ClientFault) (acts : ActsThere server seed n after q options result) where
@@ -139,7 +139,7 @@ module _ (server : FragmentServer) (seed n : ℕ) (after : Looped FragmentServer
 
 pub sends_from : (server : FragmentServer) (seed n : ℕ) (after : Looped FragmentServer) (q : QueryData) (options : Options)
     → (result : Result Report ClientFault) → ActsThere server seed n after q options result
-    → IsHonestWire (allows_of (begun server seed n)) ((serving server).data_set ∷ []) (serving server).config (wire_of (begun server seed n))
+    → IsHonestWire (allows_of (begun server seed n)) local_base ((serving server).data_set ∷ []) (serving server).config (wire_of (begun server seed n))
     → LoopsServer server seed n (Some after) (λ old new. SendsPlan options (serving server).data_set (serving server).config q (wire_of new))
 sends_from server seed n after q options result acts honest = record {
   after = after;
@@ -149,7 +149,7 @@ sends_from server seed n after q options result acts honest = record {
 
 pub requests_from : (server : FragmentServer) (seed n : ℕ) (after : Looped FragmentServer) (q : QueryData) (options : Options)
     → (result : Result Report ClientFault) → ActsThere server seed n after q options result
-    → IsHonestWire (allows_of (begun server seed n)) ((serving server).data_set ∷ []) (serving server).config (wire_of (begun server seed n))
+    → IsHonestWire (allows_of (begun server seed n)) local_base ((serving server).data_set ∷ []) (serving server).config (wire_of (begun server seed n))
     → LoopsServer server seed n (Some after) (λ old new. BoundsRequests options (serving server).data_set (serving server).config q (wire_of new))
 requests_from server seed n after q options result acts honest = record {
   after = after;
@@ -161,7 +161,7 @@ same_some : {A : Type 0} (x y : A) → ◌≡◌ {A = Option A} (Some x) (Some y
 same_some x y e = cc
 
 pub ends_from : (server : FragmentServer) (seed n : ℕ) (after : Looped FragmentServer) (q : QueryData) (options : Options) (out out' : ℕ) (taken taken' : Option (List ℕ)) (result : Result Report ClientFault)
-    → IsHonestWire (allows_of (begun server seed n)) ((serving server).data_set ∷ []) (serving server).config (wire_of (begun server seed n))
+    → IsHonestWire (allows_of (begun server seed n)) local_base ((serving server).data_set ∷ []) (serving server).config (wire_of (begun server seed n))
     → AllByRecursion (IsRead ((serving server).data_set ∷ []) (Served 1) (serving server).config) (plan_of options (serving server).data_set (serving server).config q)
     → CountsDue after.counts.failing after.counts.dials after.counts.faults after.provoked → options.budget < 2 ^ 63
     → IfOk result (λ report. LoopsServer server seed n (Some after) (λ wire wire'. WritesOver (allows_of wire) q local_base options report (wire_of wire) (wire_of wire') taken taken'))
@@ -178,7 +178,7 @@ ends_from server seed n after q options out out' taken taken' (Err fault) honest
 
 -- what was answered
 pub answers_from : (server : FragmentServer) (seed n : ℕ) (after : Looped FragmentServer) (q : QueryData) (options : Options) (taken taken' : Option (List ℕ)) (result : Result Report ClientFault)
-    → IsHonestWire (allows_of (begun server seed n)) ((serving server).data_set ∷ []) (serving server).config (wire_of (begun server seed n))
+    → IsHonestWire (allows_of (begun server seed n)) local_base ((serving server).data_set ∷ []) (serving server).config (wire_of (begun server seed n))
     → IfOk result (λ report. LoopsServer server seed n (Some after) (λ wire wire'. WritesOver (allows_of wire) q local_base options report (wire_of wire) (wire_of wire') taken taken'))
     → IfOk result (λ report. LoopsServer server seed n (Some after) (λ wire wire'. AnswersPlan (offer_of options (serving server).data_set (serving server).config q) options report (wire_of wire) (wire_of wire')))
 answers_from server seed n after q options taken taken' (Ok report) honest ok = record { after = ok.after; is_inside = ok.is_inside; says = ok.says.acts.plan.replied (publisher ((serving server).data_set ∷ []) (serving server).config) honest }

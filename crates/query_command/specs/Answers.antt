@@ -42,16 +42,16 @@ pub record WritesOver (allows : List ℕ → ℕ → List ℕ → List ℕ → T
   pub whole : WritesResult q report.rows taken taken'
   pub acts : ActsOnWire allows (ends_in_blocks options.block q start) options (start ∷ []) (most_asked options q) (Ok report) (λ told. told) old new
   pub writes : WritesAll (AreThese acts.happened.events acts.happened.pool) (world_sources options.block) q (start ∷ []) report taken taken'
-  pub headline : (history : List (List Triple)) (config : Config) → IsHonestWire allows history config old → WritesSolutions (offer_in_blocks options.block (publisher history config) q start) q report.version report.rows taken taken'
+  pub headline : (history : List (List Triple)) (config : Config) → IsHonestWire allows start history config old → WritesSolutions (offer_in_blocks options.block (publisher history config) q start) q report.version report.rows taken taken'
 
 -- A front of such a text was written, and the call over the wire ended with this fault, with all rows that were given where neither the sink nor memory failed (`fails`). What the call did on the wire (`acts`), why it ended, and what it wrote are said of the same events; and over an honest wire of one version, that of the start page. Where the plan fits and the faults are few it is want of memory, or the data changed; and want of memory, where the data did not change in the call.
 pub record FailsOver (allows : List ℕ → ℕ → List ℕ → List ℕ → Type 0) (q : QueryData) (start : Address) (options : Options) (fault : ClientFault) (old new : WireState) (out out' : ℕ) (taken taken' : Option (List ℕ)) : Type 0 where
   pub front : WritesPrefix q taken taken'
   pub acts : ActsOnWire {A = Report} allows (ends_in_blocks options.block q start) options (start ∷ []) (most_asked options q) (Err fault) (λ told. told) old new
   pub fails : FailsShown (AreThese acts.happened.events acts.happened.pool) acts.happened.pool.started allows (ends_in_blocks options.block q start) options (world_sources options.block) q (start ∷ []) fault old new out out' taken taken'
-  pub headline : (history : List (List Triple)) (config : Config) → IsHonestWire allows history config old → WritesSolutionsFront (offer_in_blocks options.block (publisher history config) q start) q taken taken'
+  pub headline : (history : List (List Triple)) (config : Config) → IsHonestWire allows start history config old → WritesSolutionsFront (offer_in_blocks options.block (publisher history config) q start) q taken taken'
   pub sink : fault ≡ client_faults.Sink → Rose out out'
-  pub complete : OverHonest allows old (λ history config. old.nature.lively ≡ true → (rise : ℕ) → RisesFew options rise old new → PlanFits (offer_in_blocks options.block (publisher history config) q start) options rise → (Rose out out' → ⊥) → MayStill (offer_in_blocks options.block (publisher history config) q start) fault)
+  pub complete : OverHonest allows start old (λ history config. old.nature.lively ≡ true → (rise : ℕ) → RisesFew options rise old new → PlanFits (offer_in_blocks options.block (publisher history config) q start) options rise → (Rose out out' → ⊥) → MayStill (offer_in_blocks options.block (publisher history config) q start) fault)
   pub still : SucceedsStill {A = Report} allows options q start old new (Rose out out') (Err fault)
 
 -- the query of the file was asked, and the text of its result written

@@ -54,20 +54,20 @@ use Rattle.query_command.specs.Commands.{AsksFile, AsksGenerated}
 
 -- ---- over any wire
 
--- The result of a query with groups was written over a wire: the text of some rows, those that are gathered from the rows of the blocks; over a wire that is honest for a history, of the answers over one version, the one that is reported, or any where the query has no block. What was done on the wire, block after block, `acts` says.
+-- The result of a query with groups was written over a wire: the text of some rows, those that are gathered from the rows of the blocks; over a wire that is honest at the start for a history, of the answers over one version, the one that is reported, or any where the query has no block. What was done on the wire, block after block, `acts` says.
 pub record WritesGroupOver (allows : List ℕ → ℕ → List ℕ → List ℕ → Type 0) (g : GroupData) (start : Address) (options : Options) (report : Report) (old new : WireState) (out out' : ℕ) (taken taken' : Option (List ℕ)) : Type 0 where
   pub whole : WritesGroup g report.rows taken taken'
   pub gathered : WritesGathered allows options start g report old new taken taken'
-  pub headline : OverHonest allows old (λ history config. WritesGroupAnswers history g report.version report.rows taken taken')
+  pub headline : OverHonest allows start old (λ history config. WritesGroupAnswers history g report.version report.rows taken taken')
   pub acts : ActsOnGroups allows options start g (Ok report) old new out out'
 
 -- A front of such a text was written, nothing before all blocks gave their rows, and the call over the wire ended with this fault. Why, over any wire, an honest one and a lively one, `acts` says; over a lively one, where the plan of all blocks fits and the faults are few, it is want of memory, or the data changed.
 pub record FailsGroupOver (allows : List ℕ → ℕ → List ℕ → List ℕ → Type 0) (g : GroupData) (start : Address) (options : Options) (fault : ClientFault) (old new : WireState) (out out' : ℕ) (taken taken' : Option (List ℕ)) : Type 0 where
   pub front : WritesGroupPrefix g taken taken'
   pub gathered : WritesGatheredFront allows options start g fault old new taken taken'
-  pub headline : OverHonest allows old (λ history config. WritesGroupAnswersFront history g taken taken')
+  pub headline : OverHonest allows start old (λ history config. WritesGroupAnswersFront history g taken taken')
   pub sink : fault ≡ client_faults.Sink → Rose out out'
-  pub complete : OverHonest allows old (λ history config. old.nature.lively ≡ true → (rise : ℕ) → RisesFew options rise old new → PlanFits (group_offer (publisher history config) g start) options rise → (Rose out out' → ⊥) → MayStill (group_offer (publisher history config) g start) fault)
+  pub complete : OverHonest allows start old (λ history config. old.nature.lively ≡ true → (rise : ℕ) → RisesFew options rise old new → PlanFits (group_offer (publisher history config) g start) options rise → (Rose out out' → ⊥) → MayStill (group_offer (publisher history config) g start) fault)
   pub acts : ActsOnGroups allows options start g (Err fault) old new out out'
 
 -- why there is no whole answer over a wire: the query was read, so the call over the wire ended
@@ -76,9 +76,9 @@ GroupCause allows g start options wire wire' out out' (faults.Data fault) = ⊥
 GroupCause allows g start options wire wire' out out' (faults.Query fault) = ⊥
 GroupCause allows g start options wire wire' out out' (faults.Client fault) = FailsGroupOver allows g start options fault wire wire' out.faults out'.faults out.taken out'.taken
 
--- Nothing stands in the way of a query with groups over a wire: the other ends answer as a server of these data does, within the limits of the program; never 1000 waits follow one another; the server has the authority of the start and answers it with the status 200; the faults rise at most as often as a request may be asked again; each body of the plan is within the limit; and the addresses and the rise are within the budget.
+-- Nothing stands in the way of a query with groups over a wire: at the start the other end answers as a server of these data does, within the limits of the program; never 1000 waits follow one another; the server has the authority of the start and answers it with the status 200; the faults rise at most as often as a request may be asked again; each body of the plan is within the limit; and the addresses and the rise are within the budget.
 pub record FitsGroupOver (allows : List ℕ → ℕ → List ℕ → List ℕ → Type 0) (g : GroupData) (start : Address) (options : Options) (triples : List Triple) (config : Config) (old new : WireState) : Type 0 where
-  pub honest : IsHonestWire allows (triples ∷ []) config old
+  pub honest : IsHonestWire allows start (triples ∷ []) config old
   pub lively : old.nature.lively ≡ true
   pub servable : AreServable triples
   pub authority : authority_of start ≡ authority_of config.base

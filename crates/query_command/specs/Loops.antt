@@ -77,14 +77,14 @@ begun server seed fail_every = new_wire server (started 64 multiplier_64 seed (i
 
 -- ---- honesty
 
--- The law: a wire in one process answers as its server does, over each history of as many data sets as the number of the version that is served, of which the last is the one that is served. So it is however often it was called.
+-- The law: a wire in one process answers at every address as its server does, over each history of as many data sets as the number of the version that is served, of which the last is the one that is served. So it is however often it was called.
 abbrev pub WiresAreHonest : Type 0
-WiresAreHonest = (wire : Looped FragmentServer) (history : List (List Triple)) → numbered.IsHistory history (serving wire.server) → IsHistory history → IsConfig (serving wire.server).config
-    → ((version : ℕ) → length (version_of history version) < 2 ^ 64) → IsHonestWire (allows_of wire) history (serving wire.server).config (wire_of wire)
+WiresAreHonest = (wire : Looped FragmentServer) (address : Address) (history : List (List Triple)) → numbered.IsHistory history (serving wire.server) → IsHistory history → IsConfig (serving wire.server).config
+    → ((version : ℕ) → length (version_of history version) < 2 ^ 64) → IsHonestWire (allows_of wire) address history (serving wire.server).config (wire_of wire)
 
--- a wire to a server of version 1 was left so that it answers as the server does with which it was made, over the one data set of that
+-- a wire to a server of version 1 was left so that it answers at every address as the server does with which it was made, over the one data set of that
 abbrev pub LeavesHonest : Looped FragmentServer → Looped FragmentServer → Type 0
-LeavesHonest old new = IsHonestWire (allows_of new) ((serving old.server).data_set ∷ []) (serving old.server).config (wire_of new)
+LeavesHonest old new = (address : Address) → IsHonestWire (allows_of new) address ((serving old.server).data_set ∷ []) (serving old.server).config (wire_of new)
 
 -- ---- the answer
 

@@ -29,20 +29,20 @@ pub returns-clause-sent : goal.returns-clause-sent
 returns-clause-sent g c =
     sends_from c.args.server c.args.asked.now.seed c.args.asked.now.fail_every c.query-answer.new.wire c.args.query.now c.args.asked.now.options c.query-answer.result
     (keeps c.args.server c.args.asked.now.seed c.args.asked.now.fail_every c.new-wire.result c.query-answer.new.wire c.new-wire.ensures c.args.query.now c.args.asked.now.start.now local_base c.requires.start c.args.asked.now.options ((g.K.Sink.state c.args.out.now).faults) ((g.K.Sink.state c.query-answer.new.out).faults) ((g.K.Sink.state c.args.out.now).taken) ((g.K.Sink.state c.query-answer.new.out).taken) c.query-answer.result c.query-answer.ensures.ended.acts)
-    (honest_wire c.args.server c.args.asked.now.seed c.args.asked.now.fail_every c.requires.first (valid_served c.args.server c.server.result.now c.server.ensures c.is_valid.ensures.data_set) (config_served c.args.server c.server.result.now c.server.ensures c.is_valid.ensures.config) c.is_few.ensures)
+    (honest_wire c.args.server c.args.asked.now.seed c.args.asked.now.fail_every c.requires.first (valid_served c.args.server c.server.result.now c.server.ensures c.is_valid.ensures.data_set) (config_served c.args.server c.server.result.now c.server.ensures c.is_valid.ensures.config) c.is_few.ensures local_base)
 
 pub returns-clause-requested : goal.returns-clause-requested
 returns-clause-requested g c =
     requests_from c.args.server c.args.asked.now.seed c.args.asked.now.fail_every c.query-answer.new.wire c.args.query.now c.args.asked.now.options c.query-answer.result
     (keeps c.args.server c.args.asked.now.seed c.args.asked.now.fail_every c.new-wire.result c.query-answer.new.wire c.new-wire.ensures c.args.query.now c.args.asked.now.start.now local_base c.requires.start c.args.asked.now.options ((g.K.Sink.state c.args.out.now).faults) ((g.K.Sink.state c.query-answer.new.out).faults) ((g.K.Sink.state c.args.out.now).taken) ((g.K.Sink.state c.query-answer.new.out).taken) c.query-answer.result c.query-answer.ensures.ended.acts)
-    (honest_wire c.args.server c.args.asked.now.seed c.args.asked.now.fail_every c.requires.first (valid_served c.args.server c.server.result.now c.server.ensures c.is_valid.ensures.data_set) (config_served c.args.server c.server.result.now c.server.ensures c.is_valid.ensures.config) c.is_few.ensures)
+    (honest_wire c.args.server c.args.asked.now.seed c.args.asked.now.fail_every c.requires.first (valid_served c.args.server c.server.result.now c.server.ensures c.is_valid.ensures.data_set) (config_served c.args.server c.server.result.now c.server.ensures c.is_valid.ensures.config) c.is_few.ensures local_base)
 
 pub returns-clause-ends : goal.returns-clause-ends
 returns-clause-ends g c = λ servable askable small.
     let valid = valid_served c.args.server c.server.result.now c.server.ensures c.is_valid.ensures.data_set in
     let config = config_served c.args.server c.server.result.now c.server.ensures c.is_valid.ensures.config in
     ends_from c.args.server c.args.asked.now.seed c.args.asked.now.fail_every c.query-answer.new.wire c.args.query.now c.args.asked.now.options ((g.K.Sink.state c.args.out.now).faults) ((g.K.Sink.state c.query-answer.new.out).faults) ((g.K.Sink.state c.args.out.now).taken) ((g.K.Sink.state c.query-answer.new.out).taken) c.query-answer.result
-    (honest_wire c.args.server c.args.asked.now.seed c.args.asked.now.fail_every c.requires.first valid config c.is_few.ensures)
+    (honest_wire c.args.server c.args.asked.now.seed c.args.asked.now.fail_every c.requires.first valid config c.is_few.ensures local_base)
     (plan_is_read c.plans_are_read.ensures.plan c.plans_are_read.ensures.base c.args.asked.now.options.block (c.is_sized.ensures.low, c.is_sized.ensures.high) (serving c.args.server).data_set (serving c.args.server).config c.args.query.now c.requires.base valid config servable askable)
     c.fails_as_due.ensures small (returns-clause-answers g c) (returns-clause-cause g c)
 
@@ -54,7 +54,7 @@ returns-clause-honest g c =
 pub returns-clause-replied : goal.returns-clause-replied
 returns-clause-replied g c =
     answers_from c.args.server c.args.asked.now.seed c.args.asked.now.fail_every c.query-answer.new.wire c.args.query.now c.args.asked.now.options ((g.K.Sink.state c.args.out.now).taken) ((g.K.Sink.state c.query-answer.new.out).taken) c.query-answer.result
-    (honest_wire c.args.server c.args.asked.now.seed c.args.asked.now.fail_every c.requires.first (valid_served c.args.server c.server.result.now c.server.ensures c.is_valid.ensures.data_set) (config_served c.args.server c.server.result.now c.server.ensures c.is_valid.ensures.config) c.is_few.ensures)
+    (honest_wire c.args.server c.args.asked.now.seed c.args.asked.now.fail_every c.requires.first (valid_served c.args.server c.server.result.now c.server.ensures c.is_valid.ensures.data_set) (config_served c.args.server c.server.result.now c.server.ensures c.is_valid.ensures.config) c.is_few.ensures local_base)
     (returns-clause-answers g c)
 
 pub returns-clause-output : goal.returns-clause-output
