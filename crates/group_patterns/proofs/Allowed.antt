@@ -20,6 +20,7 @@ use Rattle.tpf_client.specs.Requested.{AnswersPlan}
 use Rattle.tpf_client.specs.Plans.{PacesRequests, IsHonestCause, IsLivelyCause}
 use Rattle.tpf_client.specs.Failing.{IsFailedOften, ForBudget, Spends, SpendsRequests, SpendsTries, SpendsPlan}
 use Rattle.tpf_client.specs.Acts.{WithCause, IsHonestCauseOf, IsLivelyCauseOf, ActsByPlan, ActsOnWire, IsSpentOf}
+use Rattle.tpf_client.specs.Still.{AnswersOver}
 use Rattle.tpf_client.proofs.Traveling.{travels-allowed}
 use Rattle.group_patterns.specs.Blocks.{BlockRows, GivesRows, EndsBlock}
 
@@ -49,6 +50,15 @@ module _ (old new : List ℕ → ℕ → List ℕ → List ℕ → Type 0) (same
     is_history = h.is_history;
     is_config = h.is_config;
     few = h.few;
+  }
+
+  answers-so : (start : Address) (p : Publisher) (version : ℕ) → AnswersOver old start p version → AnswersOver new start p version
+  answers-so start p version a = record {
+    is_history = a.is_history;
+    is_config = a.is_config;
+    is_version = a.is_version;
+    few = a.few;
+    is_honest = λ sent owed is. a.is_honest sent owed ((same start.host start.port sent owed).0 is);
   }
 
   module _ (options : Options) (since now : WireState) where
@@ -125,6 +135,7 @@ module _ (old new : List ℕ → ℕ → List ℕ → List ℕ → Type 0) (same
     some = g.some;
     acts = acts-so options since now start q (λ report. report) (Ok b.report) g.acts;
     solutions = λ history config honest. g.solutions history config (honest-so start history config since honest);
+    paced = λ p version over. g.paced p version (answers-so start p version over);
     width = g.width;
     count = g.count;
     alone = g.alone;
@@ -134,6 +145,7 @@ module _ (old new : List ℕ → ℕ → List ℕ → List ℕ → Type 0) (same
   ends-so options start q fault since now e = record {
     some = e.some;
     acts = acts-so options since now start q (λ report. report) (Err fault) e.acts;
+    still = λ p version over. e.still p version (answers-so start p version over);
     no_sink = e.no_sink;
     alone = e.alone;
   }

@@ -1,7 +1,8 @@
 -- Why the call of a query with groups ended with a fault.
 use Rattle.std.proofs.Common.{ℕ, ◌≡◌, ◌≢◌, ◌-◌, ◌++◌, List, [], ◌∷◌, Option, Some, refl, sym, ap, subst, ◌∙◌, arith}
 use Rattle.std.specs.List.{AllByRecursion, Contains}
-use Rattle.list_laws.proofs.Members.{at_head, in_tail, all_from, in_flat_map}
+use Rattle.std.proofs.lemmas.List.Elements.{Contains-append_right}
+use Rattle.list_laws.proofs.Members.{at_head, all_from, in_flat_map}
 use Rattle.list_laws.proofs.Told.{all_in}
 use Rattle.rdf_terms.specs.declared.term.Triple.{Triple}
 use Rattle.tpf_base.specs.Addresses.{Address}
@@ -74,10 +75,6 @@ cause-of allows options start names blocks fault since now before after sunk s =
 
 -- ---- over an honest wire
 
-member : {X : Type 0} (xs : List X) (x : X) (ys : List X) → Contains (xs ++ x ∷ ys) x
-member [] x ys = at_head x ys
-member (z ∷ xs) x ys = in_tail z x (xs ++ x ∷ ys) (member xs x ys)
-
 module _ (p : Publisher) (options : Options) (g : GroupData) (start : Address) (ps : List Pattern) (is : Contains (blocks_of (group_tree g)) ps) where
   abbrev own-plan : ℕ → List Pattern → List Address
   own-plan version qs = addresses_of p (block_query g.names qs) start version
@@ -142,7 +139,7 @@ honest-cause-of allows options start g fault since now history config honest s =
 
     by : Stops allows options start g.names s.done s.rest fault s.between now → IsHonestGroupCause (publisher history config) options g start fault
     by (InBlock ps more own r e ends) =
-        let is : Contains (blocks_of (group_tree g)) ps = subst (λ (l : List (List Pattern)). Contains l ps) (sym (s.blocks_are ∙ ap (λ (l : List (List Pattern)). s.asked ++ l) r)) (member s.asked ps more) in
+        let is : Contains (blocks_of (group_tree g)) ps = subst (λ (l : List (List Pattern)). Contains l ps) (sym (s.blocks_are ∙ ap (λ (l : List (List Pattern)). s.asked ++ l) r)) (Contains-append_right s.asked (ps ∷ more) ps (at_head ps more)) in
         subst (IsHonestGroupCause (publisher history config) options g start) (sym e)
         (own-honest (publisher history config) options g start ps is (options.budget - requests_of s.done) own (ends.acts.plan.honest_cause (publisher history config) (honest-then allows start history config since s.between on.moves honest)))
     by (IsSpent ps more r spent e is) = subst (IsHonestGroupCause (publisher history config) options g start) (sym e) tt

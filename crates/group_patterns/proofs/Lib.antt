@@ -8,6 +8,7 @@ mod Planned
 mod Stopped
 mod Known
 mod Causes
+mod Still
 mod Acting
 mod Writing
 mod Progressing

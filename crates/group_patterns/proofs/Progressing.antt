@@ -28,6 +28,7 @@ use Rattle.tpf_client.specs.Ends.{ends_in_blocks}
 use Rattle.tpf_client.specs.Honest.{IsSolutions}
 use Rattle.tpf_client.specs.Plans.{OverHonest}
 use Rattle.tpf_client.specs.Acts.{ActsOnWire}
+use Rattle.tpf_client.specs.Still.{SucceedsStill, PacesStill}
 use Rattle.tpf_client.proofs.Waiting.{same-allowed}
 use Rattle.group_patterns.specs.Blocks.{BlockRows, requests_of, with_budget, left_by, GivesRows, GivesAll, of_block, EndsBlock, Stops, InBlock, IsSpent, Differs, IsLacking, AsksSome}
 use Rattle.group_patterns.specs.Asking.{block_in, blocks_in, BlocksFit, Progress, no_progress, IsProgress, KeepsNot, CallEnds, Called, Lacking, AsksBlock, BlockEnds, NothingLeft, InCall, NotKept, AsksStep, StepEnds, AsksBlocks, AsksFirst, PutsTogether, Gathers}
@@ -42,36 +43,39 @@ have-width width [] a = tt
 have-width width (row ∷ rows) a = (sym (All-head (λ (r : Places). length r ≡ width) row rows a), have-width width rows (All-tail (λ (r : Places). length r ≡ width) row rows a))
 
 module _ (allows : List ℕ → ℕ → List ℕ → List ℕ → Type 0) (options : Options) (start : Address) (names : List (List ℕ)) (ps : List Pattern) (since now : WireState) (some : 1 ≤ options.budget) (alone : OpensGiven now) {A : Type 0} (told : A → Report) (rows : A → List Places) where
-  gave : (r : Result A ClientFault) → ActsOnWire allows (ends_in_blocks options.block (block_query names ps) start) options (start ∷ []) (most_asked options (block_query names ps)) r told since now → OverHonest allows start since (λ history config. IfOk r (λ x. IsSolutions (offer_in_blocks options.block (publisher history config) (block_query names ps) start) (told x).version (rows x)))
+  gave : (r : Result A ClientFault) → ActsOnWire allows (ends_in_blocks options.block (block_query names ps) start) options (start ∷ []) (most_asked options (block_query names ps)) r told since now → OverHonest allows start since (λ history config. IfOk r (λ x. IsSolutions (offer_in_blocks options.block (publisher history config) (block_query names ps) start) (told x).version (rows x))) → PacesStill allows options (block_query names ps) start since now told r
       → (ran : List Event → Pooled → Type 0) → IfOk r (λ x. Returns ran (world_sources options.block) (block_query names ps) (start ∷ []) (told x) (rows x)) → IfOk r (λ x. GivesRows allows options start (block_query names ps) (record { report = told x; rows = rows x }) since now)
-  gave (Ok x) acts solutions ran returns = record {
+  gave (Ok x) acts solutions paced ran returns = record {
     some = some;
     acts = acts-so allows allows (same-allowed allows) options since now start (block_query names ps) told (Ok x) acts;
     solutions = solutions;
+    paced = paced;
     width = have-width (length names) (rows x) returns.width;
     count = returns.count;
     alone = alone;
   }
-  gave (Err fault) acts solutions ran returns = tt
+  gave (Err fault) acts solutions paced ran returns = tt
 
-  ended : (r : Result A ClientFault) → ActsOnWire allows (ends_in_blocks options.block (block_query names ps) start) options (start ∷ []) (most_asked options (block_query names ps)) r told since now → (IsErrOf r faults.Sink → ⊥) → IfErr r (λ fault. CallEnds allows options start names ps fault since now)
-  ended (Ok x) acts sink = tt
-  ended (Err fault) acts sink = Called (record {
+  ended : (r : Result A ClientFault) → ActsOnWire allows (ends_in_blocks options.block (block_query names ps) start) options (start ∷ []) (most_asked options (block_query names ps)) r told since now → SucceedsStill allows options (block_query names ps) start since now ⊥ r → (IsErrOf r faults.Sink → ⊥) → IfErr r (λ fault. CallEnds allows options start names ps fault since now)
+  ended (Ok x) acts still sink = tt
+  ended (Err fault) acts still sink = Called (record {
     some = some;
     acts = acts-so allows allows (same-allowed allows) options since now start (block_query names ps) told (Err fault) acts;
+    still = still;
     no_sink = λ e. sink (ap (λ (f : ClientFault). let r : Result A ClientFault = Err f in r) e);
     alone = alone;
   })
 
-  pub call-gave : (q : QueryData) → q ≡ block_query names ps → (r : Result A ClientFault) → ActsOnWire allows (ends_in_blocks options.block q start) options (start ∷ []) (most_asked options q) r told since now → OverHonest allows start since (λ history config. IfOk r (λ x. IsSolutions (offer_in_blocks options.block (publisher history config) q start) (told x).version (rows x)))
+  pub call-gave : (q : QueryData) → q ≡ block_query names ps → (r : Result A ClientFault) → ActsOnWire allows (ends_in_blocks options.block q start) options (start ∷ []) (most_asked options q) r told since now → OverHonest allows start since (λ history config. IfOk r (λ x. IsSolutions (offer_in_blocks options.block (publisher history config) q start) (told x).version (rows x))) → PacesStill allows options q start since now told r
       → (ran : List Event → Pooled → Type 0) → IfOk r (λ x. Returns ran (world_sources options.block) q (start ∷ []) (told x) (rows x)) → IfOk r (λ x. GivesRows allows options start (block_query names ps) (record { report = told x; rows = rows x }) since now)
-  call-gave q e r acts solutions ran returns =
+  call-gave q e r acts solutions paced ran returns =
       gave r (subst (λ (x : QueryData). ActsOnWire allows (ends_in_blocks options.block x start) options (start ∷ []) (most_asked options x) r told since now) e acts)
       (subst (λ (y : QueryData). OverHonest allows start since (λ history config. IfOk r (λ x. IsSolutions (offer_in_blocks options.block (publisher history config) y start) (told x).version (rows x)))) e solutions)
+      (subst (λ (y : QueryData). PacesStill allows options y start since now told r) e paced)
       ran (subst (λ (y : QueryData). IfOk r (λ x. Returns ran (world_sources options.block) y (start ∷ []) (told x) (rows x))) e returns)
 
-  pub call-ended : (q : QueryData) → q ≡ block_query names ps → (r : Result A ClientFault) → ActsOnWire allows (ends_in_blocks options.block q start) options (start ∷ []) (most_asked options q) r told since now → (IsErrOf r faults.Sink → ⊥) → IfErr r (λ fault. CallEnds allows options start names ps fault since now)
-  call-ended q e r acts sink = ended r (subst (λ (x : QueryData). ActsOnWire allows (ends_in_blocks options.block x start) options (start ∷ []) (most_asked options x) r told since now) e acts) sink
+  pub call-ended : (q : QueryData) → q ≡ block_query names ps → (r : Result A ClientFault) → ActsOnWire allows (ends_in_blocks options.block q start) options (start ∷ []) (most_asked options q) r told since now → SucceedsStill allows options q start since now ⊥ r → (IsErrOf r faults.Sink → ⊥) → IfErr r (λ fault. CallEnds allows options start names ps fault since now)
+  call-ended q e r acts still sink = ended r (subst (λ (x : QueryData). ActsOnWire allows (ends_in_blocks options.block x start) options (start ∷ []) (most_asked options x) r told since now) e acts) (subst (λ (y : QueryData). SucceedsStill allows options y start since now ⊥ r) e still) sink
 
 -- ---- faults that are not the sink's
 

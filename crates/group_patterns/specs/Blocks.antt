@@ -18,6 +18,7 @@ use Rattle.tpf_client.specs.Offers.{publisher, offer_in_blocks}
 use Rattle.tpf_client.specs.Ends.{ends_in_blocks}
 use Rattle.tpf_client.specs.Honest.{IsSolutions}
 use Rattle.tpf_client.specs.Plans.{OverHonest}
+use Rattle.tpf_client.specs.Still.{SucceedsStill, PacesStill}
 use Rattle.tpf_client.specs.Acts.{ActsOnWire}
 
 -- ---- blocks that gave rows
@@ -54,11 +55,12 @@ with_budget options budget = record options { budget = budget; block = 1 }
 abbrev pub left_by : Options → List BlockRows → Options
 left_by options bs = with_budget options (options.budget - requests_of bs)
 
--- The call for a block gave these rows: there was something of the budget, and each row has a place for every name. What it did on its wire, where no link is open but those that were given; over honest other ends the rows are the block's solutions over the version that it told.
+-- The call for a block gave these rows: there was something of the budget, and each row has a place for every name. What it did on its wire, where no link is open but those that were given; over an honest other end the rows are the block's solutions over the version that it told; and where that answers over one version alone, this is told, and its plan paces the requests.
 pub record GivesRows (allows : List ℕ → ℕ → List ℕ → List ℕ → Type 0) (options : Options) (start : Address) (q : QueryData) (b : BlockRows) (since now : WireState) : Type 0 where
   pub some : 1 ≤ options.budget
   pub acts : ActsOnWire allows (ends_in_blocks options.block q start) options (start ∷ []) (most_asked options q) (Ok b.report) (λ report. report) since now
   pub solutions : OverHonest allows start since (λ history config. IsSolutions (offer_in_blocks options.block (publisher history config) q start) b.report.version b.rows)
+  pub paced : PacesStill allows options q start since now (λ report. report) (Ok b.report)
   pub width : HaveWidth (length q.names) b.rows
   pub count : b.report.rows ≡ counted_by (length b.rows) 0
   pub alone : OpensGiven now
@@ -94,10 +96,11 @@ of_block budget (faults.Budget n) = faults.Budget budget
 of_block budget faults.Sink = faults.Sink
 of_block budget faults.OutOfMemory = faults.OutOfMemory
 
--- The call for a block ended with a fault: there was something of the budget, and no sink. What it did on its wire, and the cause.
+-- The call for a block ended with a fault: there was something of the budget, and no sink. What it did on its wire, and the cause; where the other end answers over one version alone, whose plan fits, it is want of memory.
 pub record EndsBlock (allows : List ℕ → ℕ → List ℕ → List ℕ → Type 0) (options : Options) (start : Address) (q : QueryData) (fault : ClientFault) (since now : WireState) : Type 0 where
   pub some : 1 ≤ options.budget
   pub acts : ActsOnWire allows (ends_in_blocks options.block q start) options (start ∷ []) (most_asked options q) (Err fault) (λ (report : Report). report) since now
+  pub still : SucceedsStill {A = Report} allows options q start since now ⊥ (Err fault)
   pub no_sink : fault ≢ faults.Sink
   pub alone : OpensGiven now
 

@@ -2,5 +2,6 @@ pub mod Blocks
 pub mod Texts
 pub mod Plans
 pub mod Acts
+pub mod Still
 pub mod Asking
 pub mod Writing

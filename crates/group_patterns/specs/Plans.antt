@@ -1,5 +1,5 @@
 -- What a query with groups asks a server for, the plans of its blocks one after another, and what the server offers to it.
-use Rattle.std.specs.Prelude.{ℕ, ◌≡◌, ◌+◌, ◌-◌, ◌++◌, List, [], ◌∷◌, length, Option, Some, None}
+use Rattle.std.specs.Prelude.{ℕ, ◌≡◌, ◌+◌, ◌-◌, ◌++◌, List, [], ◌∷◌, length, map, Option, Some, None}
 use Rattle.std.specs.List.{flat_map, AllByRecursion, Contains}
 use Rattle.rdf_terms.specs.declared.term.Triple.{Triple}
 use Rattle.tpf_base.specs.Addresses.{Address}
@@ -40,6 +40,10 @@ pub record AreVersions (history : List (List Triple)) (g : GroupData) (versions 
 -- the plan where each block is asked over its version; where all are one version, this is the group's plan over it
 abbrev pub plan_over : Publisher → GroupData → Address → List ℕ → List Address
 plan_over p g start versions = plans_over p start g.names (blocks_of (group_tree g)) versions
+
+-- this version for each block
+abbrev pub versions_at : GroupData → ℕ → List ℕ
+versions_at g version = map (λ ps. version) (blocks_of (group_tree g))
 
 -- ---- the offer
 

@@ -12,6 +12,7 @@ ghost use Rattle.group_patterns.specs.Acts.{ActsOnGroups};
 ghost use Rattle.group_patterns.specs.Asking.{SuitsCalls, AsksBlocks, PutsTogether, Gathers};
 ghost use Rattle.group_patterns.specs.Blocks.{AsksSome};
 ghost use Rattle.group_patterns.specs.Plans.{group_offer};
+ghost use Rattle.group_patterns.specs.Still.{GroupSucceedsStill};
 ghost use Rattle.group_patterns.specs.Texts.{WritesGroup, WritesGroupPrefix, WritesGathered, WritesGatheredFront, WritesGroupAnswers, WritesGroupAnswersFront};
 
 use crate::asking::Asking;
@@ -142,6 +143,11 @@ fn write_answers<R: Wait, W: Dial, K: Sink>(
 /// Over a wire whose other end at the host and port of the start answers as a server does, `Ok` means that the sink took
 /// the text of the answers, in some order, over the version of the data that is reported.
 ///
+/// Where that end answers over one version of its data alone, such as a server that reads its data again before the call and
+/// not in it, all that the blocks have to ask for over this version is answered with pages within the limits and the budget,
+/// the faults of the wire rise at most as often as a request may be sent again, and the sink does not fail, the call ends with
+/// `Ok`, unless memory runs out (`still`).
+///
 /// `Budget`, with the whole budget, where a block has to be asked and nothing of the budget is left, or more requests are
 /// wanted for a block than are left; `Changed` where the start pages of two blocks tell different versions, or a page of a
 /// block another than its start page. `Exchange`, `Stalled`, `Cut`, `Reply` and `Page` come as they do of a query; `Sink`
@@ -179,6 +185,8 @@ pub fn answer<R: Wait, W: Dial, K: Sink>(
         → PlanFits (group_offer (publisher history config) query.now start.now) options.now rise
         → (Rose (K.state out.old).faults (K.state out.new).faults → ⊥)
         → IfErr result (MayStill (group_offer (publisher history config) query.now start.now))) }
+    ensures still { GroupSucceedsStill (W.allows wire.old) options.now query.now start.now (W.state wire.old)
+        (W.state wire.new) (Rose (K.state out.old).faults (K.state out.new).faults) result }
     ensures sink { LeavesSink (K.state out.old) (K.state out.new) result }
     ensures allowed { SameAllowed (W.allows wire.old) (W.allows wire.new) }
 {

@@ -5,6 +5,7 @@ use Rattle.tpf_client.proofs.Completing.{completes}
 use Rattle.group_patterns.specs.Plans.{group_offer}
 use Rattle.group_patterns.proofs.Known.{group-written, prefix-written, answers-written, front-written}
 use Rattle.group_patterns.proofs.Acting.{acts-on-groups}
+use Rattle.group_patterns.proofs.Still.{wants}
 use Rattle.group_patterns.proofs.calls.answer.Goals as goal
 
 pub write_answers-requires : goal.write_answers-requires
@@ -35,3 +36,8 @@ returns-clause-complete g c = λ history config honest alive rise few fits none.
     let acts = returns-clause-acts g c in
     completes (group_offer (publisher history config) c.args.query.now c.args.start.now) c.args.options.now (g.W.Wire.state c.args.wire.now) (g.W.Wire.state c.write_answers.new.wire) rise few fits c.write_answers.result
     (acts.plan.honest_cause (publisher history config) honest) (acts.plan.lively_cause (publisher history config) honest alive) (λ e. none (c.write_answers.ensures.sink.sink e))
+
+pub returns-clause-still : goal.returns-clause-still
+returns-clause-still g c = λ p version over tells alive rise few fits none.
+    wants (g.W.Wire.allows c.args.wire.now) c.args.options.now c.args.start.now c.args.query.now (g.W.Wire.state c.args.wire.now) (g.W.Wire.state c.write_answers.new.wire) p version over tells alive rise few fits
+    c.write_answers.result (if-err-from c.write_answers.result _ _ c.write_answers.ensures.err (λ fault w. w.asks)) (λ e. none (c.write_answers.ensures.sink.sink e))
