@@ -3,7 +3,7 @@ use Rattle.std.proofs.Common.{ℕ, ◌≡◌, ◌≢◌, ◌≤◌, ◌<◌, ◌
 use Rattle.std.specs.Prelude.{Ok, Err}
 use Rattle.std.specs.List.{AllByRecursion, Contains}
 use Rattle.std.proofs.lemmas.List.Elements.{Contains-append_left, Contains-append_right}
-use Rattle.list_laws.proofs.Each.{all_append}
+use Rattle.list_laws.proofs.Each.{all_append, all_so}
 use Rattle.list_laws.proofs.Lists.{snoc_append}
 use Rattle.list_laws.proofs.Members.{at_head, all_from}
 use Rattle.list_laws.proofs.Told.{all_in}
@@ -22,7 +22,6 @@ use Rattle.tpf_client.specs.Requests.{DialsAtMost, GivesAtMost, tries_of}
 use Rattle.tpf_client.specs.Plans.{AtEach, AtChosen, IsAnswerable, IsAnsweredAt, IsReadByAll, IsLongAnswer, IsPageGone, StartedIn, IsHonestCause, IsLivelyCause}
 use Rattle.tpf_client.specs.Failing.{ForBudget, SpendsPlan}
 use Rattle.tpf_client.specs.Acts.{IsHonestCauseOf, IsLivelyCauseOf, IsSpentOf}
-
 use Rattle.group_patterns.specs.Blocks.{BlockRows, requests_of, with_budget, left_by, GivesRows, EndsBlock, of_block, Stops, InBlock, IsSpent, Differs, IsLacking, IsUnwritten, AsksSome}
 use Rattle.group_patterns.specs.Plans.{plans_over, plan_over, AreVersions, group_offer, StartedInTurn, StartedByBlocks}
 use Rattle.group_patterns.proofs.LinkCounts.{rose-none, rose-later, rose-both}
@@ -327,7 +326,7 @@ module _ (p : Publisher) (allows : List ℕ → ℕ → List ℕ → List ℕ �
             → AllByRecursion (AtChosen (server_offer p (block_query g.names ps) start) choice IsAnsweredAt) (own-at choice)
         own-answered choice same all =
             subst (λ (n : ℕ). AllByRecursion (AtChosen (server_offer p (block_query g.names ps) start) n IsAnsweredAt) (own-at n)) (sym same)
-            (all-so (AtChosen (group_offer p g start) (c.versions ++ later-with version) IsAnsweredAt) (AtChosen (server_offer p (block_query g.names ps) start) version IsAnsweredAt)
+            (all_so (AtChosen (group_offer p g start) (c.versions ++ later-with version) IsAnsweredAt) (AtChosen (server_offer p (block_query g.names ps) start) version IsAnsweredAt)
             (λ address holds. λ server told stands has. holds server told stands (subst (λ (n : ℕ). Contains (c.versions ++ later-with version) n) (sym has) (in-versions version)))
             (own-at version) (all-own (AtChosen (group_offer p g start) (c.versions ++ later-with version) IsAnsweredAt) version all))
 

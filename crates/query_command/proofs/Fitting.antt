@@ -2,6 +2,7 @@
 use Rattle.std.proofs.Common.{ℕ, ◌≡◌, ◌≤◌, Bool, true, false, [], ◌∷◌, List, length, Option, if◌then◌else◌, sym, subst, ◌∙◌, arith, lit≤}
 use Rattle.std.specs.List.{AllByRecursion}
 use Rattle.std.proofs.lemmas.Bool.{eqb-true}
+use Rattle.list_laws.proofs.Each.{all_so, all_both}
 use Rattle.rdf_terms.specs.declared.term.Triple.{Triple}
 use Rattle.tpf_base.specs.Addresses.{Address, address_text, authority_of}
 use Rattle.tpf_base.specs.Links.{WireState}
@@ -16,8 +17,8 @@ use Rattle.plan_laws.specs.Fitting.{IsRead, AreServable, IsAskable, IsServable, 
 use Rattle.tpf_client.specs.Offers.{Publisher, IsVersionOf, publisher, is_served, addresses_in_blocks, offer_in_blocks}
 use Rattle.plan_laws.proofs.Starts.{base_of_start, target_of_start}
 use Rattle.tpf_client.specs.declared.options.Options.{Options}
-use Rattle.tpf_client.specs.Plans.{AtEach, AtChosen, TellsVersions, ChangesVersion, IsAnswerable, IsReadByAll, IsSmallByAll, IsFit, IsFitAt, ChoiceFits, answer_at}
-use Rattle.tpf_client.proofs.Fitting.{answered_of, read_by_all, fit_of}
+use Rattle.tpf_client.specs.Plans.{AtEach, AtChosen, TellsVersions, ChangesVersion, IsAnswerable, IsReadByAll, IsFitAt, ChoiceFits, answer_at}
+use Rattle.tpf_client.proofs.Fitting.{answered_of, read_by_all}
 use Rattle.tpf_client.proofs.Serving.{at-server}
 use Rattle.query_command.specs.Loops.{local_base}
 use Rattle.query_command.specs.Plans.{plan_of, offer_of}
@@ -40,10 +41,6 @@ one_server block triples config q start first other c = one_told triples first o
 pub at_version : (block : ℕ) (triples : List Triple) (config : Config) (q : QueryData) (start : Address) (P : List Address → Type 0) (version : ℕ) → IsVersionOf (triples ∷ []) version
     → P (addresses_in_blocks block (publisher (triples ∷ []) config) q start 1) → P (addresses_in_blocks block (publisher (triples ∷ []) config) q start version)
 at_version block triples config q start P version is h = subst (λ (v : ℕ). P (addresses_in_blocks block (publisher (triples ∷ []) config) q start v)) (one_version triples version is) h
-
-pub all_weaker : (P Q : Address → Type 0) → ((address : Address) → P address → Q address) → (list : List Address) → AllByRecursion P list → AllByRecursion Q list
-all_weaker P Q f [] h = tt
-all_weaker P Q f (address ∷ list) h = (f address h.0, all_weaker P Q f list h.1)
 
 -- what holds of all addresses holds of them where they are asked for
 if_all : (P : Address → Type 0) (b : Bool) (list : List Address) → AllByRecursion P list → AllByRecursion P (if b then list else [])
@@ -71,12 +68,12 @@ module _ (triples : List Triple) (config : Config) where
     pub all_answered : (version : ℕ) → IsVersionOf (triples ∷ []) version → AllByRecursion (AtEach (offer_of options triples config q) IsAnswerable) (addresses_in_blocks options.block (publisher (triples ∷ []) config) q local_base version)
     all_answered version is =
         at_version options.block triples config q local_base (AllByRecursion EachAnswers) version is
-        (all_weaker Reads EachAnswers (λ address r. at-server options.block (publisher (triples ∷ []) config) q local_base IsAnswerable address (answered_one address r)) (plan_of options triples config q) reads)
+        (all_so Reads EachAnswers (λ address r. at-server options.block (publisher (triples ∷ []) config) q local_base IsAnswerable address (answered_one address r)) (plan_of options triples config q) reads)
 
     pub all_read : (version : ℕ) → IsVersionOf (triples ∷ []) version → AllByRecursion (AtEach (offer_of options triples config q) IsReadByAll) (addresses_in_blocks options.block (publisher (triples ∷ []) config) q local_base version)
     all_read version is =
         at_version options.block triples config q local_base (AllByRecursion EachReads) version is
-        (all_weaker Reads EachReads (λ address r. at-server options.block (publisher (triples ∷ []) config) q local_base IsReadByAll address (read_one address r)) (plan_of options triples config q) reads)
+        (all_so Reads EachReads (λ address r. at-server options.block (publisher (triples ∷ []) config) q local_base IsReadByAll address (read_one address r)) (plan_of options triples config q) reads)
 
 base_short : (base : Address) → base ≡ local_base → length (address_text base) ≤ 65536
 base_short base is = subst (λ (b : Address). length (address_text b) ≤ 65536) (sym is) (lit≤ tt)
@@ -102,11 +99,6 @@ plan_is_read plans bases block sized triples config q base valid is_config serva
 
 -- ---- over a wire to a server elsewhere
 
-module _ (triples : List Triple) (config : Config) (most : ℕ) where
-  pub fits : (list : List Address) → AllByRecursion (IsRead (triples ∷ []) (Served 1) config) list → AllByRecursion (IsSmallByAll most (publisher (triples ∷ []) config)) list → AllByRecursion (IsFit most (publisher (triples ∷ []) config)) list
-  fits [] r s = tt
-  fits (address ∷ list) r s = (fit_of (publisher (triples ∷ []) config) (one_version triples) most address r.0 s.0, fits list r.1 s.1)
-
 -- the plan of a version from a start that it answers is read
 pub version_plan_is_read : PlansAreRead → StartsAreRead → AnsweredGivePages → (block : ℕ) → IsBlockSize block → (p : Publisher) (version : ℕ) (start : Address) (q : QueryData) → IsHistory p.history → IsConfig p.config → IsVersionOf p.history version
     → AreServable (version_of p.history version) → authority_of start ≡ authority_of p.config.base → is_answered p.history (Served version) p.config start ≡ true → length (address_text start) ≤ 65536
@@ -123,13 +115,6 @@ version_plan_is_read plans starts gives block sized p version start q is_history
       if_all (IsRead p.history (Served version) p.config) (is_served p start version) _ (plans block p.history (Served version) p.config q.patterns (length q.names) sized.0 sized.1 s askable),
     )
 
--- so it is of one data set
-pub start_plan_is_read : PlansAreRead → StartsAreRead → AnsweredGivePages → (block : ℕ) → IsBlockSize block → (triples : List Triple) (config : Config) (start : Address) (q : QueryData) → IsHistory (triples ∷ []) → IsConfig config → AreServable triples
-    → authority_of start ≡ authority_of config.base → is_answered (triples ∷ []) (Served 1) config start ≡ true → length (address_text start) ≤ 65536
-    → AllByRecursion IsAskable q.patterns → AllByRecursion (IsRead (triples ∷ []) (Served 1) config) (addresses_in_blocks block (publisher (triples ∷ []) config) q start 1)
-start_plan_is_read plans starts gives block sized triples config start q is_history is_config servable authority answered text askable =
-    version_plan_is_read plans starts gives block sized (publisher (triples ∷ []) config) 1 start q is_history is_config (record { low = omega arith; high = omega arith }) servable authority answered text askable
-
 -- what is read is fit where its body is small
 fit_at : (most : ℕ) (p : Publisher) (version : ℕ) (address : Address) → IsRead p.history (Served version) p.config address → length (answer_at p version address).body ≤ most → IsFitAt most p version address
 fit_at most p version address r small = record {
@@ -139,10 +124,9 @@ fit_at most p version address r small = record {
   is_small = small;
 }
 
-fit_all : (most : ℕ) (p : Publisher) (version : ℕ) (list : List Address) → AllByRecursion (IsRead p.history (Served version) p.config) list → AllByRecursion (λ address. length (answer_at p version address).body ≤ most) list
+pub fit_all : (most : ℕ) (p : Publisher) (version : ℕ) (list : List Address) → AllByRecursion (IsRead p.history (Served version) p.config) list → AllByRecursion (λ address. length (answer_at p version address).body ≤ most) list
     → AllByRecursion (IsFitAt most p version) list
-fit_all most p version [] r s = tt
-fit_all most p version (address ∷ list) r s = (fit_at most p version address r.0 s.0, fit_all most p version list r.1 s.1)
+fit_all most p version list = all_both (IsRead p.history (Served version) p.config) (λ address. length (answer_at p version address).body ≤ most) (IsFitAt most p version) (fit_at most p version) list
 
 -- at each server that stands there, which is the one, by the one version
 at_chosen : (block : ℕ) (p : Publisher) (q : QueryData) (start : Address) (version most : ℕ) (address : Address) → IsFitAt most p version address → AtChosen (offer_in_blocks block p q start) version (IsFitAt most) address
@@ -155,7 +139,7 @@ plan_fits plans starts gives allows q start options p version old new sized aska
     let list = addresses_in_blocks options.block p q start version in
     let reads = version_plan_is_read plans starts gives options.block sized p version start q f.answers.is_history f.answers.is_config f.answers.is_version f.servable f.authority f.answered text askable in
     record {
-      fit = all_weaker (IsFitAt options.max_body p version) (AtChosen (offer_in_blocks options.block p q start) version (IsFitAt options.max_body)) (at_chosen options.block p q start version options.max_body) list
+      fit = all_so (IsFitAt options.max_body p version) (AtChosen (offer_in_blocks options.block p q start) version (IsFitAt options.max_body)) (at_chosen options.block p q start version options.max_body) list
           (fit_all options.max_body p version list reads f.small);
       within = f.within;
     }

@@ -1,8 +1,8 @@
 -- What is said of the wire of a query with groups is said of the files of a command.
-use Rattle.std.proofs.Common.{ℕ, ◌≡◌, ◌≤◌, ◌<◌, ◌^◌, [], ◌∷◌, true, List, length, codes, Option, None, Result, Ok, Err, refl, ap, subst, ◌∙◌, arith}
+use Rattle.std.proofs.Common.{ℕ, ◌≡◌, ◌≤◌, ◌<◌, ◌^◌, [], true, List, length, codes, Option, None, Result, Ok, Err, refl, ap, subst, ◌∙◌, arith}
 use Rattle.std.proofs.lemmas.List.Sorted.{length_permutation}
 use Rattle.tpf_base.specs.Addresses.{Address}
-use Rattle.tpf_base.specs.Causes.{Rose, counted_by}
+use Rattle.tpf_base.specs.Causes.{counted_by}
 use Rattle.tpf_base.specs.Links.{WireState}
 use Rattle.tpf_base.specs.Outside.{ShelfState}
 use Rattle.tpf_base.specs.Wrote.{SinkState}
@@ -16,8 +16,6 @@ use Rattle.loop_wire.specs.Looped.{Looped}
 use Rattle.fragment_server.specs.declared.server.FragmentServer.{FragmentServer}
 use Rattle.generated_server.specs.Starts.{StartsGenerated}
 use Rattle.plan_laws.specs.Fitting.{AreServable, PlansAreRead, StartsAreRead}
-use Rattle.group_patterns.specs.Plans.{group_offer}
-use Rattle.tpf_client.specs.Offers.{publisher}
 use Rattle.tpf_client.specs.declared.options.Options.{Options}
 use Rattle.tpf_client.specs.declared.options.Report.{Report}
 use Rattle.tpf_client.specs.declared.fault.ClientFault.{ClientFault}
@@ -38,8 +36,7 @@ use Rattle.query_command.specs.Loops.{LocalView, IsServing, local_config}
 use Rattle.query_command.specs.Generated.{usual_options}
 use Rattle.query_command.specs.Groups.{group_plan_of, group_offer_of, AsksServerGroups, AsksFileGroups, AsksGeneratedGroups, CountsGroup, WritesGroupAnswer}
 use Rattle.query_command.specs.Over.{AreValidBlocks, AreAskableBlocks, AsksGroups, AsksGeneratedOver}
-use Rattle.query_command.proofs.Complete.{still_memory}
-use Rattle.query_command.proofs.GroupPlans.{group_fits, one_group_server}
+use Rattle.query_command.proofs.GroupPlans.{group_fits}
 use Rattle.query_command.proofs.Planned.{is_memory}
 use Rattle.query_command.proofs.GroupLooping.{Called, wrote, failed}
 
@@ -126,7 +123,7 @@ module _ (shelf shelf' : ShelfState) (name : List ℕ) (allows : List ℕ → �
         exact = group_decides (grammar_of options) shelf shelf' name g is_read;
         answers = wrote allows g start options wire wire' out out' report k;
         cause = tt;
-        complete = λ short fine triples config fits. tt;
+        complete = λ short fine p version fits. tt;
         reads = named;
         output = record { keeps = record { later = s.later; faultless = s.faultless; spared = λ fine. (s.spared fine).0 }; spared = λ fine. tt };
       }
@@ -141,8 +138,8 @@ module _ (shelf shelf' : ShelfState) (name : List ℕ) (allows : List ℕ → �
         exact = group_decides (grammar_of options) shelf shelf' name g is_read;
         answers = tt;
         cause = failed allows g start options wire wire' out out' fault k;
-        complete = λ short fine triples config fits.
-            still_memory (group_offer (publisher (triples ∷ []) config) g start) (one_group_server triples config g start) fault (k.complete (triples ∷ []) config fits.honest fits.lively fits.rise fits.rises (group_fits plans starts gives allows g start options triples config wire wire' blocks short fits) fine);
+        complete = λ short fine p version fits.
+            k.still p version fits.answers fits.tells fits.lively fits.rise fits.rises (group_fits p version g start plans starts gives allows options wire wire' blocks short fits) fine;
         reads = named;
         output = record { keeps = record { later = s.later; faultless = s.faultless; spared = λ fine. (s.spared fine).0 }; spared = λ fine is. (s.spared fine).1 (ap Err is) };
       }

@@ -12,6 +12,7 @@ use Rattle.group_rows.specs.Evaluation.{answers}
 use Rattle.group_patterns.specs.Texts.{WritesGroup, WritesGroupPrefix, WritesGathered, WritesGatheredFront, WritesGroupAnswers, WritesGroupAnswersFront}
 use Rattle.group_patterns.specs.Plans.{group_offer}
 use Rattle.group_patterns.specs.Acts.{ActsOnGroups}
+use Rattle.group_patterns.specs.Still.{GroupSucceedsStill}
 use Rattle.loop_wire.specs.Looped.{Looped, CountsDue}
 use Rattle.fragment_server.specs.declared.server.FragmentServer.{FragmentServer}
 use Rattle.plan_laws.specs.Fitting.{AreServable, PlansAreRead, BasesAreRead}
@@ -40,6 +41,7 @@ pub record Called (allows : List ℕ → ℕ → List ℕ → List ℕ → Type 
   pub prefix : OverHonest allows start since (λ history config. OnErr result (WritesGroupAnswersFront history g out.taken out'.taken))
   pub acts : ActsOnGroups allows options start g result since now out.faults out'.faults
   pub complete : OverHonest allows start since (λ history config. since.nature.lively ≡ true → (rise : ℕ) → RisesFew options rise since now → PlanFits (group_offer (publisher history config) g start) options rise → (Rose out.faults out'.faults → ⊥) → IfErr result (MayStill (group_offer (publisher history config) g start)))
+  pub still : GroupSucceedsStill allows options g start since now (Rose out.faults out'.faults) result
   pub sink : LeavesSink out out' result
 
 module _ (allows : List ℕ → ℕ → List ℕ → List ℕ → Type 0) (g : GroupData) (start : Address) (options : Options) (old new : WireState) (out out' : SinkState) where
@@ -47,7 +49,7 @@ module _ (allows : List ℕ → ℕ → List ℕ → List ℕ → Type 0) (g : G
   wrote report k = record { whole = k.whole; gathered = k.ok; headline = k.headline; acts = k.acts }
 
   pub failed : (fault : ClientFault) → Called allows g options (Err fault) old new out out' start → FailsGroupOver allows g start options fault old new out.faults out'.faults out.taken out'.taken
-  failed fault k = record { front = k.front; gathered = k.err; headline = k.prefix; sink = λ e. k.sink.sink (ap Err e); complete = k.complete; acts = k.acts }
+  failed fault k = record { front = k.front; gathered = k.err; headline = k.prefix; sink = λ e. k.sink.sink (ap Err e); complete = k.complete; still = k.still; acts = k.acts }
 
 -- the answers over the one data set
 answer_of_one : (triples : List Triple) (g : GroupData) (reported : Option ℕ) (n : ℕ) (taken taken' : Option (List ℕ)) → WritesGroupAnswers (triples ∷ []) g reported n taken taken' → WritesGroupAnswer triples g n taken taken'

@@ -2,6 +2,7 @@
 use Rattle.std.proofs.Common.{ℕ, zero, suc, ◌≡◌, ◌+◌, ◌≤◌, List, [], ◌∷◌, ◌++◌, Option, None, refl, sym, ap, subst, arith}
 use Rattle.std.specs.List.{AllByRecursion}
 use Rattle.std.proofs.lemmas.List.{append-nil}
+use Rattle.list_laws.proofs.Each.{all_append}
 use Rattle.bgp_core.specs.declared.pattern.Pattern.{Pattern}
 use Rattle.bgp_core.specs.Queries.{IsValidPattern}
 use Rattle.query_words.specs.declared.word.Word.{Word}
@@ -29,17 +30,13 @@ ShortBlocks bs = AllByRecursion (AllByRecursion IsShortPattern) bs
 abbrev ShortTree : Tree → Type 0
 ShortTree t = ShortBlocks (blocks_of t)
 
-both_short : (bs cs : List (List Pattern)) → ShortBlocks bs → ShortBlocks cs → ShortBlocks (bs ++ cs)
-both_short [] cs f g = g
-both_short (b ∷ bs) cs f g = (f.0, both_short bs cs f.1 g)
-
 blocks_joined : (a b : Tree) → blocks_of (joined a b) ≡ blocks_of a ++ blocks_of b
 blocks_joined empty b = refl
 blocks_joined a empty = sym (append-nil (blocks_of a))
 blocks_joined a b = refl
 
 joined_short : (a b : Tree) → ShortTree a → ShortTree b → ShortTree (joined a b)
-joined_short a b f g = subst ShortBlocks (sym (blocks_joined a b)) (both_short (blocks_of a) (blocks_of b) f g)
+joined_short a b f g = subst ShortBlocks (sym (blocks_joined a b)) (all_append (AllByRecursion IsShortPattern) (blocks_of a) (blocks_of b) f g)
 
 -- ---- groups, where the prefixes and the tokens have so many bytes
 
@@ -69,7 +66,7 @@ module _ (iri : Iri) (b : ℕ) (bound : Bound iri b) where
   unions_short G g (u ∷ ts) names ws names' t m f s =
       let rest : Few b (m.1 ++ m.2) = rest_few ws m.0 (m.1 ++ m.2) m.4 f in
       let one = g names m.1 u m.3 m.6 (front_few (m.1 ++ m.2) m.1 m.2 refl rest) in
-      unions_short G g ts m.3 m.2 names' (union t u) m.7 (back_few (m.1 ++ m.2) m.1 m.2 refl rest) (both_short (blocks_of t) (blocks_of u) s one)
+      unions_short G g ts m.3 m.2 names' (union t u) m.7 (back_few (m.1 ++ m.2) m.1 m.2 refl rest) (all_append (AllByRecursion IsShortPattern) (blocks_of t) (blocks_of u) s one)
 
   elements_short : (G : Reading Tree) → ShortGroups b G → (es : List Element) (names : List (List ℕ)) (ws : List Word) (names' : List (List ℕ)) (t : Tree) → AreElements iri G names ws es names' → Few b ws → ShortTree t → ShortTree (translated t es)
   elements_short G g [] names ws names' t m f s = s
@@ -87,7 +84,7 @@ module _ (iri : Iri) (b : ℕ) (bound : Bound iri b) where
       let k = m.4 in
       let front : Few b m.0 = front_few ws m.0 m.1 m.3 f in
       let one = g names k.group u m.2 k.is_group (front_few (k.group ++ k.dot) k.group k.dot refl (rest_few m.0 k.word (k.group ++ k.dot) k.words front)) in
-      elements_short G g es m.2 m.1 names' (optional t u) m.5 (back_few ws m.0 m.1 m.3 f) (both_short (blocks_of t) (blocks_of u) s one)
+      elements_short G g es m.2 m.1 names' (optional t u) m.5 (back_few ws m.0 m.1 m.3 f) (all_append (AllByRecursion IsShortPattern) (blocks_of t) (blocks_of u) s one)
 
   group_short : (n : ℕ) → ShortGroups b (IsGroup iri n)
   group_short zero names ws t names' m f = absurd m

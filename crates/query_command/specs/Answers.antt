@@ -98,8 +98,8 @@ IsClientWanting (faults.Data fault) = Unit {0}
 IsClientWanting (faults.Query fault) = Unit {0}
 IsClientWanting (faults.Client fault) = fault ≡ client_faults.OutOfMemory
 
--- Nothing stands in the way of a query over a wire: at the start the other end answers, over one version of its data, as a server of these within the limits of the program does; the wire tells all, and never 1000 waits follow one another; the server has the authority of the start, and this version answers it with the status 200; the faults rise at most as often as a request may be asked again; each body of the version's plan is within the limit; and the addresses and the rise are within the budget.
-pub record FitsOver (allows : List ℕ → ℕ → List ℕ → List ℕ → Type 0) (q : QueryData) (start : Address) (options : Options) (p : Publisher) (version : ℕ) (old new : WireState) : Type 0 where
+-- Nothing stands in the way of a call over a wire that has these addresses to ask for over one version: at the start the other end answers, over this version of its data, as a server of these within the limits of the program does; the wire tells all, and never 1000 waits follow one another; the server has the authority of the start, and this version answers it with the status 200; the faults rise at most as often as a request may be asked again; each body of the addresses is within the limit; and the addresses and the rise are within the budget.
+pub record FitsCall (allows : List ℕ → ℕ → List ℕ → List ℕ → Type 0) (start : Address) (options : Options) (p : Publisher) (version : ℕ) (addresses : List Address) (old new : WireState) : Type 0 where
   pub answers : AnswersOver allows start p version
   pub tells : old.nature.tells ≡ All
   pub lively : old.nature.lively ≡ true
@@ -108,8 +108,12 @@ pub record FitsOver (allows : List ℕ → ℕ → List ℕ → List ℕ → Typ
   pub answered : is_answered p.history (Served version) p.config start ≡ true
   pub rise : ℕ
   pub rises : RisesFew options rise old new
-  pub small : AllByRecursion (λ address. length (answer_at p version address).body ≤ options.max_body) (addresses_in_blocks options.block p q start version)
-  pub within : length (addresses_in_blocks options.block p q start version) + rise ≤ options.budget
+  pub small : AllByRecursion (λ address. length (answer_at p version address).body ≤ options.max_body) addresses
+  pub within : length addresses + rise ≤ options.budget
+
+-- of a query, by its plan over the version
+abbrev pub FitsOver : (List ℕ → ℕ → List ℕ → List ℕ → Type 0) → QueryData → Address → Options → Publisher → ℕ → WireState → WireState → Type 0
+FitsOver allows q start options p version old new = FitsCall allows start options p version (addresses_in_blocks options.block p q start version) old new
 
 -- of the query of a file, where the shelf tells it
 abbrev pub OfQuery : Option Files → List ℕ → (QueryData → Type 0) → Type 0

@@ -1,17 +1,14 @@
 -- What becomes of a query with groups of a file: over a wire that is handed in, and over one that is made in the process.
-use Rattle.std.specs.Prelude.{ℕ, ◌≡◌, ◌≢◌, ◌<◌, ◌≤◌, ◌+◌, ◌^◌, true, List, [], ◌∷◌, length, codes, Option, None, Result, Ok, Err, IfOk, IfErr}
+use Rattle.std.specs.Prelude.{ℕ, ◌≡◌, ◌≢◌, ◌<◌, ◌≤◌, ◌^◌, true, List, [], ◌∷◌, length, codes, Option, None, Result, Ok, Err, IfOk, IfErr}
 use Rattle.std.specs.Io.KnownBytes.{Appends}
-use Rattle.std.specs.List.{AllByRecursion}
 use Rattle.std.specs.List.Sorted.{IsPermutation}
 use Rattle.rdf_terms.specs.declared.term.Triple.{Triple}
-use Rattle.tpf_base.specs.Addresses.{Address, address_text, authority_of}
+use Rattle.tpf_base.specs.Addresses.{Address, address_text}
 use Rattle.tpf_base.specs.Causes.{Rose, counted_by}
 use Rattle.tpf_base.specs.Links.{WireState}
-use Rattle.tpf_base.specs.Marks.{Served}
 use Rattle.tpf_base.specs.Outside.{ShelfState}
 use Rattle.tpf_base.specs.Wrote.{SinkState, AppendsPrefix}
 use Rattle.template_fill.specs.Metadata.{Config}
-use Rattle.template_fill.specs.Answered.{is_answered}
 use Rattle.triple_table.specs.declared.choice.Choice.{Choice}
 use Rattle.triple_table.specs.declared.choice.Choice.TheVariants.{DefaultGraph}
 use Rattle.triple_table.specs.Chosen.{chosen}
@@ -23,7 +20,7 @@ use Rattle.group_rows.specs.Evaluation.{answers}
 use Rattle.group_patterns.specs.Texts.{WritesGroup, WritesGroupPrefix, WritesGathered, WritesGatheredFront, WritesGroupAnswers, WritesGroupAnswersFront}
 use Rattle.group_patterns.specs.Plans.{group_plan, group_offer}
 use Rattle.group_patterns.specs.Acts.{ActsOnGroups}
-use Rattle.plan_laws.specs.Fitting.{AreServable}
+use Rattle.group_patterns.specs.Still.{GroupSucceedsStill}
 use Rattle.loop_wire.specs.Looped.{Looped}
 use Rattle.fragment_server.specs.declared.server.FragmentServer.{FragmentServer}
 use Rattle.generated_data.specs.Generated.{generated}
@@ -31,9 +28,8 @@ use Rattle.tpf_client.specs.declared.options.Options.{Options}
 use Rattle.tpf_client.specs.declared.options.Report.{Report}
 use Rattle.tpf_client.specs.declared.fault.ClientFault.{ClientFault}
 use Rattle.tpf_client.specs.declared.fault.ClientFault.TheVariants as client_faults
-use Rattle.tpf_client.specs.Honest.{IsHonestWire}
-use Rattle.tpf_client.specs.Offers.{Offer, publisher}
-use Rattle.tpf_client.specs.Plans.{OverHonest, AsksPlan, RisesFew, PlanFits, MayStill, IsSmallByAll}
+use Rattle.tpf_client.specs.Offers.{Offer, Publisher, publisher}
+use Rattle.tpf_client.specs.Plans.{OverHonest, AsksPlan, RisesFew, PlanFits, MayStill}
 use Rattle.tpf_client.specs.Requested.{RequestsPlan, AnswersPlan}
 use Rattle.data_files.specs.declared.query.Grammar.TheVariants as grammars
 use Rattle.data_files.specs.Data.{Files, IsOfFile}
@@ -46,7 +42,7 @@ use Rattle.query_command.specs.declared.fault.AnswerFault.TheVariants as faults
 use Rattle.query_command.specs.declared.generated_query.Counts.{Counts}
 use Rattle.query_command.specs.Files.{FailsByFile, ReadsLocally, KeepsOutput}
 use Rattle.query_command.specs.Blocks.{grammar_of}
-use Rattle.query_command.specs.Answers.{IsWanting, AsksServer}
+use Rattle.query_command.specs.Answers.{IsWanting, FitsCall, AsksServer}
 use Rattle.query_command.specs.Loops.{LocalView, LoopsFile, IsServing, allows_of, wire_of, local_base}
 use Rattle.query_command.specs.Generated.{LoopsGenerated, usual_options}
 use Rattle.query_command.specs.Plans.{CountsRequests, MayEndBy, IsWithin, HonestFile, HonestGenerated}
@@ -61,13 +57,14 @@ pub record WritesGroupOver (allows : List ℕ → ℕ → List ℕ → List ℕ 
   pub headline : OverHonest allows start old (λ history config. WritesGroupAnswers history g report.version report.rows taken taken')
   pub acts : ActsOnGroups allows options start g (Ok report) old new out out'
 
--- A front of such a text was written, nothing before all blocks gave their rows, and the call over the wire ended with this fault. Why, over any wire, an honest one and a lively one, `acts` says; over a lively one, where the plan of all blocks fits and the faults are few, it is want of memory, or the data changed.
+-- A front of such a text was written, nothing before all blocks gave their rows, and the call over the wire ended with this fault. Why, over any wire, an honest one and a lively one, `acts` says; over a lively one, where the plan of all blocks fits and the faults are few, it is want of memory, or the data changed; and want of memory, where the data did not change in the call.
 pub record FailsGroupOver (allows : List ℕ → ℕ → List ℕ → List ℕ → Type 0) (g : GroupData) (start : Address) (options : Options) (fault : ClientFault) (old new : WireState) (out out' : ℕ) (taken taken' : Option (List ℕ)) : Type 0 where
   pub front : WritesGroupPrefix g taken taken'
   pub gathered : WritesGatheredFront allows options start g fault old new taken taken'
   pub headline : OverHonest allows start old (λ history config. WritesGroupAnswersFront history g taken taken')
   pub sink : fault ≡ client_faults.Sink → Rose out out'
   pub complete : OverHonest allows start old (λ history config. old.nature.lively ≡ true → (rise : ℕ) → RisesFew options rise old new → PlanFits (group_offer (publisher history config) g start) options rise → (Rose out out' → ⊥) → MayStill (group_offer (publisher history config) g start) fault)
+  pub still : GroupSucceedsStill allows options g start old new (Rose out out') (Err fault)
   pub acts : ActsOnGroups allows options start g (Err fault) old new out out'
 
 -- why there is no whole answer over a wire: the query was read, so the call over the wire ended
@@ -76,17 +73,9 @@ GroupCause allows g start options wire wire' out out' (faults.Data fault) = ⊥
 GroupCause allows g start options wire wire' out out' (faults.Query fault) = ⊥
 GroupCause allows g start options wire wire' out out' (faults.Client fault) = FailsGroupOver allows g start options fault wire wire' out.faults out'.faults out.taken out'.taken
 
--- Nothing stands in the way of a query with groups over a wire: at the start the other end answers as a server of these data does, within the limits of the program; never 1000 waits follow one another; the server has the authority of the start and answers it with the status 200; the faults rise at most as often as a request may be asked again; each body of the plan is within the limit; and the addresses and the rise are within the budget.
-pub record FitsGroupOver (allows : List ℕ → ℕ → List ℕ → List ℕ → Type 0) (g : GroupData) (start : Address) (options : Options) (triples : List Triple) (config : Config) (old new : WireState) : Type 0 where
-  pub honest : IsHonestWire allows start (triples ∷ []) config old
-  pub lively : old.nature.lively ≡ true
-  pub servable : AreServable triples
-  pub authority : authority_of start ≡ authority_of config.base
-  pub answered : is_answered (triples ∷ []) (Served 1) config start ≡ true
-  pub rise : ℕ
-  pub rises : RisesFew options rise old new
-  pub small : AllByRecursion (IsSmallByAll options.max_body (publisher (triples ∷ []) config)) (group_plan (publisher (triples ∷ []) config) g start 1)
-  pub within : length (group_plan (publisher (triples ∷ []) config) g start 1) + rise ≤ options.budget
+-- Nothing stands in the way of a query with groups over a wire, by the plan of all its blocks over one version.
+abbrev pub FitsGroupOver : (List ℕ → ℕ → List ℕ → List ℕ → Type 0) → GroupData → Address → Options → Publisher → ℕ → WireState → WireState → Type 0
+FitsGroupOver allows g start options p version old new = FitsCall allows start options p version (group_plan p g start version) old new
 
 -- What a query with groups of a file over a wire came to, and what it left of shelf, wire and output. Where the text of the start has at most 65536 bytes, nothing stands in the way and the output did not fail, it succeeds, or memory is wanting.
 pub record AsksServerGroups (shelf shelf' : ShelfState) (allows : List ℕ → ℕ → List ℕ → List ℕ → Type 0) (wire wire' : WireState) (out out' : SinkState) (name : List ℕ) (start : Address) (options : Options) (result : Result Report AnswerFault) (g : GroupData) : Type 0 where
@@ -94,7 +83,7 @@ pub record AsksServerGroups (shelf shelf' : ShelfState) (allows : List ℕ → �
   pub exact : QueryDecides (grammar_of options) shelf shelf' name (λ outcome. outcome ≡ reads_groups g)
   pub answers : IfOk result (λ report. WritesGroupOver allows g start options report wire wire' out.faults out'.faults out.taken out'.taken)
   pub cause : IfErr result (GroupCause allows g start options wire wire' out out')
-  pub complete : length (address_text start) ≤ 65536 → ¬ (Rose out.faults out'.faults) → (triples : List Triple) (config : Config) → FitsGroupOver allows g start options triples config wire wire' → IfErr result IsWanting
+  pub complete : length (address_text start) ≤ 65536 → ¬ (Rose out.faults out'.faults) → (p : Publisher) (version : ℕ) → FitsGroupOver allows g start options p version wire wire' → IfErr result IsWanting
   pub reads : ReadsNamed name shelf shelf' (FailsByFile result)
   pub output : KeepsOutput out out' result
 

@@ -12,6 +12,7 @@ use Rattle.triple_table.specs.Chosen.{chosen}
 use Rattle.triple_table.proofs.ServedData.{served_one}
 use Rattle.generated_data.specs.Generated.{generated}
 use Rattle.group_query.specs.Trees.{GroupData}
+use Rattle.tpf_client.specs.Offers.{Publisher}
 use Rattle.tpf_client.specs.declared.options.Report.{Report}
 use Rattle.tpf_client.specs.declared.fault.ClientFault.{ClientFault}
 use Rattle.tpf_client.specs.declared.fault.ClientFault.TheVariants as clients
@@ -95,16 +96,16 @@ module _ (a : Around) where
   -- ---- a query over a wire
 
   done_server : (name : List ℕ) (url : Address) (client : ClientWords) (answer : Result Report AnswerFault) → IsTyped url → ServerAsked a.shelf a.shelf' a.allows a.wire a.wire' a.out a.out' name url (options_of client) answer → ¬ (Rose a.shelf.faults a.shelf'.faults) → ¬ (Rose a.out.faults a.out'.faults)
-      → OfGroupQuery (grammar_of (options_of client)) a.shelf.told name (λ g. (triples : List Triple) (config : Config) → FitsGroupOver a.allows g url (options_of client) triples config a.wire a.wire' → IsDone (answer_status answer))
-  done_server name url client (Ok report) typed h quiet fine = λ files is g holds triples config fits. inl refl
+      → OfGroupQuery (grammar_of (options_of client)) a.shelf.told name (λ g. (p : Publisher) (version : ℕ) → FitsGroupOver a.allows g url (options_of client) p version a.wire a.wire' → IsDone (answer_status answer))
+  done_server name url client (Ok report) typed h quiet fine = λ files is g holds p version fits. inl refl
   done_server name url client (Err (answers.Data fault)) typed (Plain h) quiet fine = absurd h.cause
-  done_server name url client (Err (answers.Query fault)) typed (Plain h) quiet fine = λ files is g holds triples config fits. wanting_done (answers.Query fault) (group_memory g fault (h.exact quiet files is (reads_groups g) holds))
-  done_server name url client (Err (answers.Client fault)) typed (Plain h) quiet fine = λ files is g holds triples config fits. absurd (no_groups (grammar_of (options_of client)) a.shelf.told name h.cause.q h.cause.is_read files is g holds)
+  done_server name url client (Err (answers.Query fault)) typed (Plain h) quiet fine = λ files is g holds p version fits. wanting_done (answers.Query fault) (group_memory g fault (h.exact quiet files is (reads_groups g) holds))
+  done_server name url client (Err (answers.Client fault)) typed (Plain h) quiet fine = λ files is g holds p version fits. absurd (no_groups (grammar_of (options_of client)) a.shelf.told name h.cause.q h.cause.is_read files is g holds)
   done_server name url client (Err (answers.Data fault)) typed (Groups own h) quiet fine = absurd h.cause
   done_server name url client (Err (answers.Query fault)) typed (Groups own h) quiet fine = absurd h.cause
-  done_server name url client (Err (answers.Client fault)) typed (Groups own h) quiet fine = λ files is g holds triples config fits.
+  done_server name url client (Err (answers.Client fault)) typed (Groups own h) quiet fine = λ files is g holds p version fits.
       let asked = one_query (grammar_of (options_of client)) files name (reads_groups g) (reads_groups own) holds (h.is_read.tells files is) in
-      client_done fault (h.complete typed fine triples config (subst (λ (x : GroupData). FitsGroupOver a.allows x url (options_of client) triples config a.wire a.wire') (same_group g own asked) fits))
+      client_done fault (h.complete typed fine p version (subst (λ (x : GroupData). FitsGroupOver a.allows x url (options_of client) p version a.wire a.wire') (same_group g own asked) fits))
 
   -- ---- generated data
 
@@ -158,7 +159,7 @@ module _ (a : Around) where
   memory_done : (command : Option Command) → SucceedsGroupsOf a command 8
   memory_done None = tt
   memory_done (Some (local name query_name choice page client seed fail_every)) = λ quiet fine files is triples g serves holds within. inr refl
-  memory_done (Some (query url query_name client)) = λ quiet fine files is g holds triples config fits. inr refl
+  memory_done (Some (query url query_name client)) = λ quiet fine files is g holds p version fits. inr refl
   memory_done (Some (federate several)) = tt
   memory_done (Some (serve name base choice page stop_after reload rows)) = tt
   memory_done (Some (make count None)) = tt

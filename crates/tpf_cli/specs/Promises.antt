@@ -188,7 +188,7 @@ SucceedsOf a (Some (make count (Some asked_name))) status =
 abbrev pub OfGroupQuery : Grammar → Option Files → List ℕ → (GroupData → Type 0) → Type 0
 OfGroupQuery grammar told query_name holds = IfTold told (λ files. (g : GroupData) → HoldsGroup grammar files query_name g → holds g)
 
--- The same of a query with groups: in one process where none of the causes of its table is there; over the handed-in wire where that is as a server of some data makes it, and this plan fits.
+-- The same of a query with groups: in one process where none of the causes of its table is there; over the handed-in wire where that is as a server that answers over one version of its data makes it, and the plan of all blocks over this version fits.
 abbrev pub SucceedsGroupsOf : Around → Option Command → ℕ → Type 0
 SucceedsGroupsOf a None status = Unit {0}
 SucceedsGroupsOf a (Some (local name query_name choice page client seed fail_every)) status =
@@ -196,7 +196,7 @@ SucceedsGroupsOf a (Some (local name query_name choice page client seed fail_eve
     → OfGroupFiles a.shelf.told (view_of name query_name choice page client seed fail_every) (λ triples g. GroupIsWithin fail_every (options_of client) triples (local_config (options_of client) page) g → IsDone status)
 SucceedsGroupsOf a (Some (query url query_name client)) status =
     ¬ (Rose a.shelf.faults a.shelf'.faults) → ¬ (Rose a.out.faults a.out'.faults)
-    → OfGroupQuery (grammar_of (options_of client)) a.shelf.told query_name (λ g. (triples : List Triple) (config : Config) → FitsGroupOver a.allows g url (options_of client) triples config a.wire a.wire' → IsDone status)
+    → OfGroupQuery (grammar_of (options_of client)) a.shelf.told query_name (λ g. (p : Publisher) (version : ℕ) → FitsGroupOver a.allows g url (options_of client) p version a.wire a.wire' → IsDone status)
 SucceedsGroupsOf a (Some (federate several)) status = Unit {0}
 SucceedsGroupsOf a (Some (serve name base choice page stop_after reload rows)) status = Unit {0}
 SucceedsGroupsOf a (Some (make count None)) status = Unit {0}

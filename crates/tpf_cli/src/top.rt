@@ -214,8 +214,8 @@ fn ending_of<'a, R: Wait, F: Shelf, W: Dial + Accept, K: Sink>(
 /// all blocks passes `--budget` (`groups`). Of any query 4 comes only where its text has a fault, and always there, if
 /// the data were not refused before it (`refusal`). Where the files are read, none of these causes is there (of a
 /// query with groups: no dial fails), and no output or shelf fails, the status is 0 or 8; so it is of `query` and
-/// `federate` over a wire whose other ends answer as servers do, where the plan fits, of `serve` where the wire does not fail, and of
-/// `make` (`complete`, `groups_complete`).
+/// `federate` over a wire whose other ends answer as servers do, where the plan fits and no data change in the run, of
+/// `serve` where the wire does not fail, and of `make` (`complete`, `groups_complete`).
 ///
 /// Over any shelf, wire and output, whether they tell what they hold or not, a run ends with one of the statuses
 /// of its command (`among`): no words that are none with another than 2 and 8; `local` never with 11 and 12,
