@@ -19,7 +19,7 @@ use Rattle.tpf_client.specs.Failing.{Spends}
 use Rattle.tpf_client.specs.Plans.{SendsOnly}
 use Rattle.tpf_client.specs.Requests.{DialsAtMost, tries_of}
 use Rattle.group_patterns.proofs.LinkCounts.{rose-none, rose-later, rose-both, quiet-before, quiet-behind, over-parts, over-none, joined, joined-before, joined-behind, counted-parts}
-use Rattle.group_patterns.proofs.Wires.{Onward, onward-none, stays-closed}
+use Rattle.group_patterns.proofs.Wires.{Onward, not-both, onward-none, stays-closed}
 
 -- ---- what was done for addresses
 
@@ -69,9 +69,6 @@ pub record AnsweredFor (options : Options) (addresses : List Address) (requests 
 
 no-more : (n m : ℕ) → n ≡ 0 → n ≤ m
 no-more n m e = omega (arith, e)
-
-not-both : (k n : ℕ) → n ≤ k → k < n → ⊥
-not-both k n l m = omega (arith, l, m)
 
 -- no requests
 abbrev pub none-on : ℕ → LinkRequests

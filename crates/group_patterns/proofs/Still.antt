@@ -42,9 +42,6 @@ enough-left budget done rises asked own more rise later whole d r e w = omega (a
 some-left : (budget done rises asked own more rise later whole : ℕ) → done ≤ asked + rises → rises + later ≤ rise → whole ≡ asked + (own + more) → whole + rise ≤ budget → 1 ≤ own → done ≡ budget → ⊥
 some-left budget done rises asked own more rise later whole d r e w s n = omega (arith, d, r, e, w, s, n)
 
-same-faults : (between now : WireState) → now ≡ between → between.faults ≤ now.faults
-same-faults between now is = let e = ap (λ (x : WireState). x.faults) is in omega (arith, e)
-
 -- ---- plans over one version
 
 module _ (p : Publisher) (start : Address) (names : List (List ℕ)) (version : ℕ) where
@@ -218,7 +215,7 @@ module _ (allows : List ℕ → ℕ → List ℕ → List ℕ → Type 0) (optio
       where
         by : Stops allows options start g.names s.done s.rest fault s.between now → IsWant fault
         by (InBlock ps more own r e ends) = ended-in ps more r own e ends
-        by (IsSpent ps more r spent e is) = absurd (not-spent ps more r (same-faults s.between now is) spent)
+        by (IsSpent ps more r spent e is) = absurd (not-spent ps more r (let e = ap (λ (x : WireState). x.faults) is in omega (arith, e)) spent)
         by (Differs ps more first others b r d ne e gives) = absurd (ne (told-one ps more r first others b d gives))
         by (IsLacking e is) = e
         by (IsUnwritten r e is) = absurd (sink e)

@@ -49,7 +49,7 @@ pub record Onward (start : Address) (spent : ℕ) (since now : WireState) : Type
   pub dials : DialsAtMost spent since now
   pub given : GivesAtMost spent since now
 
-not-both : (k n : ℕ) → n ≤ k → k < n → ⊥
+pub not-both : (k n : ℕ) → n ≤ k → k < n → ⊥
 not-both k n l m = omega (arith, l, m)
 
 rose-none : (n : ℕ) → n < 2 ^ 64 → RoseBy 0 n n

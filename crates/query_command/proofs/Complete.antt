@@ -41,7 +41,7 @@ use Rattle.query_command.specs.Generated.{usual_options, GeneratedAnswers, Gener
 use Rattle.query_command.specs.Loops.{LocalView, LocalAnswers, LocalCause, GivesData, local_config}
 use Rattle.query_command.specs.Plans.{plan_of, offer_of, SendsInside, RequestsInside, MayFail, RepliesGenerated, EndsCounted, SendsLocally, RequestsLocally, RepliesLocally, EndsByPlan, SucceedsByPlan, OfGenerated, PlanIsWithin, EndsFile, EndsGenerated, HonestFile, HonestGenerated}
 use Rattle.query_command.specs.Commands.{AsksFile, AsksGenerated}
-use Rattle.query_command.proofs.Reading.{gives_answer, gives_data, gives_query_of}
+use Rattle.query_command.proofs.Reading.{same_query, gives_answer, gives_data, gives_query_of}
 use Rattle.query_command.proofs.Counting.{gives_counts}
 use Rattle.query_command.proofs.Fitting.{plan_fits}
 use Rattle.query_command.proofs.Planned.{is_memory}
@@ -94,9 +94,6 @@ still_memory offer one (clients.Changed first other) h = absurd (one first other
 still_memory offer one (clients.Budget n) h = absurd h
 still_memory offer one clients.Sink h = absurd h
 still_memory offer one clients.OutOfMemory h = refl
-
-same_query : (one other : QueryData) → reads one ≡ reads other → one ≡ other
-same_query one other e = cc
 
 module _ (told : Option Files) (name : List ℕ) (allows : List ℕ → ℕ → List ℕ → List ℕ → Type 0) (start : Address) (options : Options) (old new : WireState) (out out' : ℕ) (taken taken' : Option (List ℕ)) where
   -- a call that failed over a wire, and the valid patterns of its query

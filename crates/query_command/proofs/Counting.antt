@@ -38,6 +38,7 @@ use Rattle.query_command.specs.Limits.{GeneratedAreServable, QueriesAreAskable}
 use Rattle.tpf_client.specs.Requested.{AnswersPlan}
 use Rattle.query_command.specs.Plans.{offer_of, SendsPlan, SendsInside, BoundsRequests, RequestsInside, RepliesRows, RepliedGenerated, MayEnd, EndsOver, OfGenerated}
 use Rattle.query_command.specs.Loops.{LoopsServer, LeavesHonest, WritesAnswer, local_base, local_config, allows_of, wire_of, begun}
+use Rattle.query_command.proofs.Reading.{same_query}
 
 -- the served data are one list
 abbrev pub OneServed : Type 0
@@ -109,10 +110,7 @@ module _ (server : FragmentServer) (persons : ℕ) (starts : StartsGenerated per
 
 -- ---- of the query of a file
 
-same_query : (one other : QueryData) → reads one ≡ reads other → one ≡ other
-same_query one other e = cc
-
-never_rose : Rose 0 0 → ⊥
+pub never_rose : Rose 0 0 → ⊥
 never_rose h = omega (arith, h)
 
 -- of the wire that was left

@@ -1,7 +1,6 @@
 -- What a query asks of a server in the same process is answered with pages that are read, within the limits of the program.
-use Rattle.std.proofs.Common.{ℕ, ◌≡◌, ◌≤◌, Bool, true, false, [], ◌∷◌, List, length, Option, if◌then◌else◌, sym, subst, ◌∙◌, arith, lit≤}
+use Rattle.std.proofs.Common.{ℕ, ◌≡◌, ◌≤◌, true, [], ◌∷◌, List, length, Option, sym, subst, ◌∙◌, arith, lit≤}
 use Rattle.std.specs.List.{AllByRecursion}
-use Rattle.std.proofs.lemmas.Bool.{eqb-true}
 use Rattle.list_laws.proofs.Each.{all_so, all_both}
 use Rattle.rdf_terms.specs.declared.term.Triple.{Triple}
 use Rattle.tpf_base.specs.Addresses.{Address, address_text, authority_of}
@@ -18,7 +17,7 @@ use Rattle.tpf_client.specs.Offers.{Publisher, IsVersionOf, publisher, is_served
 use Rattle.plan_laws.proofs.Starts.{base_of_start, target_of_start}
 use Rattle.tpf_client.specs.declared.options.Options.{Options}
 use Rattle.tpf_client.specs.Plans.{AtEach, AtChosen, TellsVersions, ChangesVersion, IsAnswerable, IsReadByAll, IsFitAt, ChoiceFits, answer_at}
-use Rattle.tpf_client.proofs.Fitting.{answered_of, read_by_all}
+use Rattle.tpf_client.proofs.Fitting.{where_asked, fit_at, answered_of, read_by_all}
 use Rattle.tpf_client.proofs.Serving.{at-server}
 use Rattle.query_command.specs.Loops.{local_base}
 use Rattle.query_command.specs.Plans.{plan_of, offer_of}
@@ -41,11 +40,6 @@ one_server block triples config q start first other c = one_told triples first o
 pub at_version : (block : ℕ) (triples : List Triple) (config : Config) (q : QueryData) (start : Address) (P : List Address → Type 0) (version : ℕ) → IsVersionOf (triples ∷ []) version
     → P (addresses_in_blocks block (publisher (triples ∷ []) config) q start 1) → P (addresses_in_blocks block (publisher (triples ∷ []) config) q start version)
 at_version block triples config q start P version is h = subst (λ (v : ℕ). P (addresses_in_blocks block (publisher (triples ∷ []) config) q start v)) (one_version triples version is) h
-
--- what holds of all addresses holds of them where they are asked for
-if_all : (P : Address → Type 0) (b : Bool) (list : List Address) → AllByRecursion P list → AllByRecursion P (if b then list else [])
-if_all P true list h = h
-if_all P false list h = tt
 
 module _ (triples : List Triple) (config : Config) where
   abbrev Reads : Address → Type 0
@@ -94,7 +88,7 @@ plan_is_read plans bases block sized triples config q base valid is_config serva
       base = base_short config.base base;
     } in (
       subst (IsRead (triples ∷ []) (Served 1) config) base (bases (triples ∷ []) (Served 1) config s),
-      if_all (IsRead (triples ∷ []) (Served 1) config) (is_served (publisher (triples ∷ []) config) local_base 1) _ (plans block (triples ∷ []) (Served 1) config q.patterns (length q.names) sized.0 sized.1 s askable),
+      where_asked (IsRead (triples ∷ []) (Served 1) config) (is_served (publisher (triples ∷ []) config) local_base 1) _ (plans block (triples ∷ []) (Served 1) config q.patterns (length q.names) sized.0 sized.1 s askable),
     )
 
 -- ---- over a wire to a server elsewhere
@@ -112,18 +106,10 @@ version_plan_is_read plans starts gives block sized p version start q is_history
       base = base_of_start p.config.base start is_config.no_query authority ((gives p.history (Served version) p.config start).0 answered).gives.asks.path text;
     } in (
       starts p.history (Served version) p.config start s authority (target_of_start start text) answered,
-      if_all (IsRead p.history (Served version) p.config) (is_served p start version) _ (plans block p.history (Served version) p.config q.patterns (length q.names) sized.0 sized.1 s askable),
+      where_asked (IsRead p.history (Served version) p.config) (is_served p start version) _ (plans block p.history (Served version) p.config q.patterns (length q.names) sized.0 sized.1 s askable),
     )
 
 -- what is read is fit where its body is small
-fit_at : (most : ℕ) (p : Publisher) (version : ℕ) (address : Address) → IsRead p.history (Served version) p.config address → length (answer_at p version address).body ≤ most → IsFitAt most p version address
-fit_at most p version address r small = record {
-  is_answered = record { short = r.short; answered = eqb-true (answer_at p version address).status 200 r.answered };
-  page = r.page;
-  is_read = r.taken;
-  is_small = small;
-}
-
 pub fit_all : (most : ℕ) (p : Publisher) (version : ℕ) (list : List Address) → AllByRecursion (IsRead p.history (Served version) p.config) list → AllByRecursion (λ address. length (answer_at p version address).body ≤ most) list
     → AllByRecursion (IsFitAt most p version) list
 fit_all most p version list = all_both (IsRead p.history (Served version) p.config) (λ address. length (answer_at p version address).body ≤ most) (IsFitAt most p version) (fit_at most p version) list

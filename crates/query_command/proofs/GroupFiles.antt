@@ -36,6 +36,7 @@ use Rattle.query_command.specs.Loops.{LocalView, IsServing, local_config}
 use Rattle.query_command.specs.Generated.{usual_options}
 use Rattle.query_command.specs.Groups.{group_plan_of, group_offer_of, AsksServerGroups, AsksFileGroups, AsksGeneratedGroups, CountsGroup, WritesGroupAnswer}
 use Rattle.query_command.specs.Over.{AreValidBlocks, AreAskableBlocks, AsksGroups, AsksGeneratedOver}
+use Rattle.query_command.proofs.Counting.{never_rose}
 use Rattle.query_command.proofs.GroupPlans.{group_fits}
 use Rattle.query_command.proofs.Planned.{is_memory}
 use Rattle.query_command.proofs.GroupLooping.{Called, wrote, failed}
@@ -145,9 +146,6 @@ module _ (shelf shelf' : ShelfState) (name : List ℕ) (allows : List ℕ → �
       }
 
 -- ---- generated data
-
-never_rose : Rose 0 0 → ⊥
-never_rose h = omega (arith, h)
 
 abbrev Counted : FragmentServer → Options → GroupData → Result Report ClientFault → Option (Looped FragmentServer) → SinkState → SinkState → Type 0
 Counted server options g result inside out out' = AsksGroups server 0 0 options g result inside out out'

@@ -29,12 +29,10 @@ use Rattle.query_command.specs.Limits.{FilesAreServable, QueriesAreAskable}
 use Rattle.tpf_client.specs.Requested.{AnswersPlan}
 use Rattle.query_command.specs.Plans.{offer_of, SendsPlan, SendsInside, BoundsRequests, RequestsInside, RepliedInside, EndsAsPlanned, EndsOver, OfFiles}
 use Rattle.query_command.specs.Loops.{LocalView, LoopsServer, LoopsFile, LeavesHonest, AnswersFilesFront, WritesLooped, FailsLooped, WritesAnswer, WritesAnswerFront, LocalAnswers, allows_of, wire_of, begun, local_base, config_of, local_config}
+use Rattle.query_command.proofs.Reading.{same_query}
 
-same_data : (one other : List Triple) → served one ≡ served other → one ≡ other
+pub same_data : (one other : List Triple) → served one ≡ served other → one ≡ other
 same_data one other e = cc
-
-same_query : (one other : QueryData) → reads one ≡ reads other → one ≡ other
-same_query one other e = cc
 
 -- a configuration that reads rows where the client sends them
 pub is_config : (page : ℕ) (rows : Bool) (options : Options) (config : Config) → config ≡ config_of page rows → rows ≡ in_blocks options → config ≡ local_config options page

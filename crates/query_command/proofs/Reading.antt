@@ -1,11 +1,12 @@
 -- What the files hold decides how a query of them ends, where the shelf does not fail.
-use Rattle.std.proofs.Common.{ℕ, List, Option, Result, Ok, Err, IfOk, IfErr, codes}
+use Rattle.std.proofs.Common.{ℕ, ◌≡◌, List, Option, Result, Ok, Err, IfOk, IfErr, codes}
 use Rattle.tpf_base.specs.Addresses.{Address}
 use Rattle.tpf_base.specs.Outside.{ShelfState}
 use Rattle.tpf_base.specs.Wrote.{SinkState}
 use Rattle.tpf_base.specs.Links.{WireState}
 use Rattle.tpf_client.specs.declared.options.Options.{Options}
 use Rattle.tpf_client.specs.declared.options.Report.{Report}
+use Rattle.bgp_core.specs.Queries.{QueryData}
 use Rattle.loop_wire.specs.Looped.{Looped}
 use Rattle.fragment_server.specs.declared.server.FragmentServer.{FragmentServer}
 use Rattle.data_files.specs.Data.{served}
@@ -18,6 +19,9 @@ use Rattle.query_command.specs.declared.fault.AnswerFault.TheVariants as faults
 use Rattle.query_command.specs.Blocks.{grammar_of}
 use Rattle.query_command.specs.Answers.{Answers, AskCause, GivesAnswer}
 use Rattle.query_command.specs.Loops.{LocalView, LocalAnswers, LocalCause, GivesData}
+
+pub same_query : (one other : QueryData) → reads one ≡ reads other → one ≡ other
+same_query one other e = cc
 
 module _ (shelf shelf' : ShelfState) (name : List ℕ) (allows : List ℕ → ℕ → List ℕ → List ℕ → Type 0) (start : Address) (options : Options) (wire wire' : WireState) (out out' : SinkState) where
   pub gives_answer : (result : Result Report AnswerFault) → IfOk result (λ report. Answers shelf.told name allows start options report wire wire' out.taken out'.taken)

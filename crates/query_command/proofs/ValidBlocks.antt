@@ -2,6 +2,7 @@
 use Rattle.std.proofs.Common.{ℕ, ◌≡◌, ◌+◌, ◌<◌, List, [], ◌∷◌, ◌++◌, take, length, get_or, refl, sym, ap, ap₂, subst, ◌∙◌}
 use Rattle.std.specs.List.{AllByRecursion}
 use Rattle.std.proofs.lemmas.List.{take_more, append-nil}
+use Rattle.list_laws.proofs.Each as each
 use Rattle.bgp_core.specs.declared.pattern.Pattern.{Pattern}
 use Rattle.bgp_core.specs.Queries.{IsValidPattern}
 use Rattle.group_query.specs.declared.step.Step.{Step}
@@ -11,14 +12,10 @@ use Rattle.query_command.specs.Over.{IsValidStep}
 
 -- ---- element by element
 
-all_behind : {A : Type 0} (P : A → Type 0) (xs : List A) (x : A) → AllByRecursion P xs → P x → AllByRecursion P (xs ++ x ∷ [])
-all_behind P [] x f p = (p, tt)
-all_behind P (y ∷ xs) x f p = (f.0, all_behind P xs x f.1 p)
-
 pub all_more : {A : Type 0} (P : A → Type 0) (xs : List A) (i : ℕ) (x : A) → i < length xs → x ≡ get_or xs i x → AllByRecursion P (take i xs) → P x → AllByRecursion P (take (i + 1) xs)
 all_more {A} P xs i x below is f p =
     let more = take_more xs i x below ∙ ap (λ (y : A). take i xs ++ y ∷ []) (sym is) in
-    subst (AllByRecursion P) (sym more) (all_behind P (take i xs) x f p)
+    subst (AllByRecursion P) (sym more) (each.all_more P (take i xs) x f p)
 
 -- ---- the blocks of steps
 

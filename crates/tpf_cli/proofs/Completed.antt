@@ -43,7 +43,8 @@ use Rattle.tpf_cli.specs.Ranges.{IsInRange, IsTyped}
 use Rattle.tpf_cli.specs.Runs.{Around, WritesNumbers, CutsLine, CountsFile, Does, DoesOf, unwritten, wire_inside, options_of, view_of}
 use Rattle.tpf_cli.specs.Promises.{OfGroupFiles, OfGroupGenerated, OfGroupQuery, IsDone, SucceedsGroupsOf}
 use Rattle.tpf_cli.proofs.Grouped.{no_groups}
-use Rattle.tpf_cli.proofs.Refused.{carried, same_data, same_group}
+use Rattle.query_command.proofs.Locals.{same_data}
+use Rattle.tpf_cli.proofs.Refused.{carried, same_group}
 
 -- ---- want of memory
 

@@ -22,7 +22,8 @@ use Rattle.tpf_cli.specs.Runs.{Around, Does, DoesOf, wire_inside, view_of}
 use Rattle.tpf_cli.specs.Promises.{OfGroupFiles, TellsRequests, TellsGroupRequestsOf}
 use Rattle.tpf_cli.proofs.Grouped.{no_groups}
 use Rattle.tpf_cli.proofs.Statuses.{known_fault}
-use Rattle.tpf_cli.proofs.Refused.{carried, same_data, same_group}
+use Rattle.query_command.proofs.Locals.{same_data}
+use Rattle.tpf_cli.proofs.Refused.{carried, same_group}
 
 module _ (a : Around) where
   told_requests : (view : LocalView) (answer : Result Report AnswerFault) → view.options.budget < 2 ^ 63 → FileAsked a.shelf a.shelf' a.out a.out' (wire_inside a.inside') view answer → (data_name asked : List ℕ) (result : ℕ) (err err' : SinkState) → Says result (answered data_name asked answer) err err'

@@ -1,12 +1,13 @@
 -- The words of a command keep to their ranges.
-use Rattle.std.proofs.Common.{ℕ, ◌≡◌, ◌≤◌, ◌<◌, ◌⊎◌, inl, inr, List, [], ◌∷◌, Bool, true, false, not, ◌&&◌, ◌||◌, nat_le, length, is_some, Option, Some, None, codes, if◌then◌else◌, refl, sym, ap, ◌∙◌, subst, true≢false, option_map, arith}
+use Rattle.std.proofs.Common.{ℕ, ◌≡◌, ◌≤◌, ◌<◌, ◌⊎◌, inl, inr, List, [], ◌∷◌, Bool, true, false, not, ◌&&◌, nat_le, length, is_some, Option, Some, None, codes, if◌then◌else◌, refl, sym, ap, ◌∙◌, subst, true≢false, arith}
+use Rattle.std.proofs.lemmas.Bool.{and_parts, or_parts, not-true}
 use Rattle.std.proofs.lemmas.Bool.Decides.{nat_tests}
 use Rattle.std.proofs.lemmas.List.Elements.{All-nil, All-cons}
 use Rattle.std.proofs.lemmas.Slice.Eq.{bytes_eq-Decides}
 use Rattle.std.specs.Str.{bytes_eq}
 use Rattle.std.specs.List.{All, AllByRecursion, list_any}
 use Rattle.list_laws.specs.Options.{◌>>=◌, when}
-use Rattle.list_laws.proofs.Options.{bind_some}
+use Rattle.list_laws.proofs.Options.{some_same, bind_some, when_some, map_some}
 use Rattle.tpf_base.specs.Addresses.{Address, authority_of}
 use Rattle.template_fill.specs.Configurations.{HasReloadPath, is_reload_path}
 use Rattle.template_fill.specs.ReadAddress.{read_address}
@@ -17,37 +18,14 @@ use Rattle.federated_query.specs.Servers.{AreApart}
 use Rattle.tpf_cli.specs.Ranges.{IsClient, IsTyped, IsInRange}
 use Rattle.tpf_cli.proofs.Typed.{read_length}
 
-some_same : {A : Type 0} {x y : A} → Some x ≡ Some y → x ≡ y
-some_same e = cc
-
 -- ---- numbers
-
-passes : {A : Type 0} (b : Bool) (x y : A) → (if b then Some x else None) ≡ Some y → (b ≡ true) × (x ≡ y)
-passes true x y e = (refl, some_same e)
-passes false x y e = cc
-
-not_there : (b : Bool) → not b ≡ true → b ≡ false
-not_there true e = cc
-not_there false e = refl
-
-neither_there : (a b : Bool) → (a || b) ≡ false → (a ≡ false) × (b ≡ false)
-neither_there true b e = cc
-neither_there false b e = (refl, e)
-
-mapped : {A B : Type 0} (f : A → B) (o : Option A) (y : B) → option_map f o ≡ Some y → (x : A) × (o ≡ Some x) × (f x ≡ y)
-mapped f None y e = cc
-mapped f (Some x) y e = (x, refl, some_same e)
-
-both : (a b : Bool) → (a && b) ≡ true → (a ≡ true) × (b ≡ true)
-both true b e = (refl, e)
-both false b e = cc
 
 in_range : (low high usual n : ℕ) (given : Option Text) → low ≤ usual → usual ≤ high → number_or low high usual given ≡ Some n → (low ≤ n) × (n ≤ high)
 in_range low high usual n None a b e = let same : usual ≡ n = some_same e in (subst (λ (k : ℕ). low ≤ k) same a, subst (λ (k : ℕ). k ≤ high) same b)
 in_range low high usual n (Some text) a b e =
-    let p = passes (is_number text && (nat_le low (number_after 0 text) && nat_le (number_after 0 text) high)) (number_after 0 text) n e in
-    let q = both (is_number text) (nat_le low (number_after 0 text) && nat_le (number_after 0 text) high) p.0 in
-    let r = both (nat_le low (number_after 0 text)) (nat_le (number_after 0 text) high) q.1 in
+    let p = when_some (is_number text && (nat_le low (number_after 0 text) && nat_le (number_after 0 text) high)) (number_after 0 text) n e in
+    let q = and_parts (is_number text) (nat_le low (number_after 0 text) && nat_le (number_after 0 text) high) p.0 in
+    let r = and_parts (nat_le low (number_after 0 text)) (nat_le (number_after 0 text) high) q.1 in
     (subst (λ (k : ℕ). low ≤ k) p.1 (grind (arith, nat_tests, r.0)), subst (λ (k : ℕ). k ≤ high) p.1 (grind (arith, nat_tests, r.1)))
 
 -- one row, or as many as are given
@@ -97,7 +75,7 @@ local_range values c e =
 is_typed : (text : Text) (url : Address) → url_of text ≡ Some url → IsTyped url
 is_typed text url e =
     let given = bind_some (when (nat_le (length text) 2048) text) read_address url e in
-    let p = passes (nat_le (length text) 2048) text given.0 given.1 in
+    let p = when_some (nat_le (length text) 2048) text given.0 given.1 in
     let short : length text ≤ 2048 = grind (arith, nat_tests, p.0) in
     omega (arith, short, ap length p.1, read_length given.0 url given.2)
 
@@ -113,15 +91,15 @@ query_range values c e =
 apart_here : (url : Address) (others : List Address) → list_any (has_authority url) others ≡ false → All (λ other. authority_of url ≡ authority_of other → ⊥) others
 apart_here url [] e = All-nil (λ other. authority_of url ≡ authority_of other → ⊥)
 apart_here url (other ∷ others) e =
-    let p = neither_there (has_authority url other) (list_any (has_authority url) others) e in
+    let p = or_parts (has_authority url other) (list_any (has_authority url) others) e in
     All-cons (λ x. authority_of url ≡ authority_of x → ⊥) other others
     (λ same. true≢false (sym ((bytes_eq-Decides (authority_of other) (authority_of url)).1 (sym same)) ∙ p.0)) (apart_here url others p.1)
 
 apart_all : (urls : List Address) → are_apart urls ≡ true → AreApart urls
 apart_all [] e = tt
 apart_all (url ∷ urls) e =
-    let p = both (not (list_any (has_authority url) urls)) (are_apart urls) e in
-    (apart_here url urls (not_there (list_any (has_authority url) urls) p.0), apart_all urls p.1)
+    let p = and_parts (not (list_any (has_authority url) urls)) (are_apart urls) e in
+    (apart_here url urls (not-true (list_any (has_authority url) urls) p.0), apart_all urls p.1)
 
 -- each address that is given is typed
 all_typed : (values : Values) (names : List Text) (urls : List Address) → urls_in values names ≡ Some urls → AllByRecursion IsTyped urls
@@ -132,18 +110,18 @@ all_typed values (name ∷ names) urls e = by (values name) (λ us f. all_typed 
     by None rest f = subst (AllByRecursion IsTyped) (some_same f) tt
     by (Some text) rest f =
         let url = bind_some (url_of text) _ urls f in
-        let more = mapped (λ (us : List Address). url.0 ∷ us) (urls_in values names) urls url.2 in
+        let more = map_some (λ (us : List Address). url.0 ∷ us) (urls_in values names) urls url.2 in
         subst (AllByRecursion IsTyped) more.2 (is_typed text url.0 url.1, rest more.0 more.1)
 
 federate_range : (values : Values) (c : Command) → federate_from values ≡ Some c → IsInRange c
 federate_range values c e =
-    let found = mapped (λ several. federate several) (federate_with values (servers_in values) (client_in values)) c e in
+    let found = map_some (λ several. federate several) (federate_with values (servers_in values) (client_in values)) c e in
     let urls = bind_some (servers_in values) _ found.0 found.1 in
     let asked = bind_some (values (codes "QUERYFILE")) _ found.0 urls.2 in
     let client = bind_some (client_in values) _ found.0 asked.2 in
     let typed = bind_some (urls_in values url_names) _ urls.0 urls.1 in
-    let p = passes (nat_le 1 (length typed.0) && are_apart typed.0) typed.0 urls.0 typed.2 in
-    let q = both (nat_le 1 (length typed.0)) (are_apart typed.0) p.0 in
+    let p = when_some (nat_le 1 (length typed.0) && are_apart typed.0) typed.0 urls.0 typed.2 in
+    let q = and_parts (nat_le 1 (length typed.0)) (are_apart typed.0) p.0 in
     let some : 0 < length typed.0 = grind (arith, nat_tests, q.0) in
     subst IsInRange found.2 (subst (λ (s : Federated). IsInRange (federate s)) (some_same client.2) (
       subst (λ (us : List Address). 0 < length us) p.1 some,
@@ -159,12 +137,12 @@ none_there (Some x) e = cc
 no_query : (found : Option Address) (base : Address) → without_query found ≡ Some base → base.query ≡ None
 no_query None base e = cc
 no_query (Some address) base e =
-    let p = passes (not (is_some address.query)) address base e in
+    let p = when_some (not (is_some address.query)) address base e in
     none_there base.query (subst (λ (a : Address). not (is_some a.query) ≡ true) p.1 p.0)
 
 has_path : (base : Address) (given reload : Option Text) → reload_of base given ≡ Some reload → HasReloadPath base reload
 has_path base None reload e = subst (HasReloadPath base) (some_same e) tt
-has_path base (Some path) reload e = let p = passes (is_reload_path base path) (Some path) reload e in subst (HasReloadPath base) p.1 p.0
+has_path base (Some path) reload e = let p = when_some (is_reload_path base path) (Some path) reload e in subst (HasReloadPath base) p.1 p.0
 
 serve_range : (values : Values) (c : Command) → serve_from values ≡ Some c → IsInRange c
 serve_range values c e =

@@ -42,14 +42,12 @@ use Rattle.tpf_cli.specs.Endings.{EndOfRun, usage, no_words, answered, made, cou
 use Rattle.tpf_cli.specs.Ranges.{IsInRange}
 use Rattle.tpf_cli.specs.Runs.{Around, WritesNumbers, CountsFile, IsRead, GivesEnd, Does, DoesOf, unwritten, wire_inside, options_of, view_of}
 use Rattle.tpf_cli.specs.Promises.{KeepsGroupTable, KeepsGroupTableOf, OfGroupFiles, OfGroupGenerated, RefusesBy, RefusesQuery, RefusesOf}
+use Rattle.query_command.proofs.Locals.{same_data}
 use Rattle.tpf_cli.proofs.Statuses.{not_four}
 use Rattle.tpf_cli.proofs.Tables.{done_table, memory_table, data_table, query_table, client_table, cut_table}
 use Rattle.tpf_cli.proofs.Grouped.{no_groups, file_gives, server_gives}
 
 -- ---- the table
-
-pub same_data : (one other : List Triple) → served one ≡ served other → one ≡ other
-same_data one other e = cc
 
 pub same_group : (one other : GroupData) → reads_groups one ≡ reads_groups other → one ≡ other
 same_group one other e = cc
